@@ -1,0 +1,45 @@
+-- The payloads of the command phase of the MySQL client/server protocol: commands, OK, EOF and ERR packets.
+use Rattle.std.specs.Prelude.{ℕ, List, [], ◌∷◌, ◌++◌, Option, Some, None, ◌==◌, if◌then◌else◌}
+use Rattle.vt_value.specs.declared.refusal.Refusal.{Refusal}
+use Rattle.vt_value.specs.Refusals.{code_of, state_of, message_of}
+use Rattle.mysql_packet.specs.Numbers.{little_endian, length_encoded}
+use Rattle.mysql_message.specs.declared.Command.{Command}
+use Rattle.mysql_message.specs.declared.Command.TheVariants.{Quit, Query, Ping}
+
+-- SERVER_STATUS_AUTOCOMMIT
+abbrev pub autocommit : ℕ
+autocommit = 2
+
+-- OK: the affected rows, the last insert id, which is 0, the status, no warnings
+abbrev pub ok_payload : ℕ → ℕ → List ℕ
+ok_payload affected status =
+    0x00 ∷ length_encoded affected ++ length_encoded 0 ++ little_endian 2 status ++ little_endian 2 0
+
+-- EOF: no warnings, the status
+abbrev pub eof_payload : ℕ → List ℕ
+eof_payload status = 0xFE ∷ little_endian 2 0 ++ little_endian 2 status
+
+-- ERR: the code, `#` and the SQL state, the message
+abbrev pub err_payload : Refusal → List ℕ
+err_payload r = 0xFF ∷ little_endian 2 (code_of r) ++ 0x23 ∷ state_of r ++ message_of r
+
+-- what a client asks for
+pub data Request : Type 0 where
+  quit : Request
+  query : List ℕ → Request
+  ping : Request
+
+abbrev pub request_of : Command → Request
+request_of Quit = quit
+request_of (Query text) = query text.now
+request_of Ping = ping
+
+-- The command that a payload is, if it is one: COM_QUIT, COM_QUERY, COM_PING. What follows the byte of COM_QUIT or COM_PING
+-- isn't looked at.
+abbrev pub command_of : List ℕ → Option Request
+command_of [] = None
+command_of (b ∷ bytes) =
+    if b == 0x01 then Some quit
+    else if b == 0x03 then Some (query bytes)
+    else if b == 0x0E then Some ping
+    else None

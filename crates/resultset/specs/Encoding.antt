@@ -1,0 +1,84 @@
+-- The packets of a result: the text protocol of the MySQL client/server protocol, with EOF packets.
+use Rattle.std.specs.Prelude.{◌≡◌, ℕ, ℤ, pos, negsuc, neg_ℤ, ◌^◌, ◌<◌, ◌≤◌, ◌≤ℤ◌, List, [], ◌∷◌, ◌++◌, length, map, flat_map, codes}
+use Rattle.std.specs.Fmt.{signed_decimal}
+use Rattle.std.specs.List.{AllByRecursion}
+use Rattle.vt_value.specs.declared.value.Value.{Value}
+use Rattle.vt_value.specs.declared.value.Value.TheVariants.{Null, Int, Bytes}
+use Rattle.vt_value.specs.Values.{Row}
+use Rattle.mysql_packet.specs.Numbers.{little_endian, length_encoded, length_encoded_string}
+use Rattle.mysql_packet.specs.Frames.{frames_from}
+use Rattle.mysql_message.specs.Messages.{ok_payload, eof_payload, err_payload}
+use Rattle.resultset.specs.declared.Kind.{Kind}
+use Rattle.resultset.specs.declared.Kind.TheVariants.{BigInt, BigIntUnsigned, VarBinary, Count as count_kind, Sum}
+use Rattle.resultset.specs.declared.Column.{Column}
+use Rattle.resultset.specs.declared.ResultSet.{ResultSet}
+use Rattle.resultset.specs.declared.Outcome.{Outcome}
+use Rattle.resultset.specs.declared.Outcome.TheVariants.{Rows, Count, Refused}
+use Rattle.resultset.specs.Flags.{type_of, length_of}
+
+-- a value in a text row: NULL is the byte FB, a number its plain decimal, a text itself
+abbrev pub value_bytes : Value → List ℕ
+value_bytes Null = 0xFB ∷ []
+value_bytes (Int n) = length_encoded_string (signed_decimal n)
+value_bytes (Bytes t) = length_encoded_string t
+
+abbrev pub row_payload : Row → List ℕ
+row_payload row = flat_map value_bytes row
+
+-- a column definition: the names, and the fixed fields, with the character set binary and no decimals
+abbrev pub definition_payload : Column → List ℕ
+definition_payload c =
+    length_encoded_string (codes "def") ++ length_encoded_string c.schema
+    ++ length_encoded_string c.table ++ length_encoded_string c.table
+    ++ length_encoded_string c.name ++ length_encoded_string c.org_name
+    ++ 0x0C ∷ little_endian 2 63 ++ little_endian 4 (length_of c.kind)
+    ++ type_of c.kind ∷ little_endian 2 c.flags ++ 0 ∷ 0 ∷ 0 ∷ []
+
+-- a result set: the number of columns, each definition, EOF, each row, EOF
+abbrev pub set_payloads : ResultSet → ℕ → List (List ℕ)
+set_payloads set status =
+    length_encoded (length set.columns) ∷ map definition_payload set.columns
+    ++ eof_payload status ∷ map row_payload set.rows ++ eof_payload status ∷ []
+
+abbrev pub payloads_of : Outcome → ℕ → List (List ℕ)
+payloads_of (Rows set) status = set_payloads set status
+payloads_of (Count n) status = ok_payload n status ∷ []
+payloads_of (Refused r) status = err_payload r ∷ []
+
+-- the one spelling of a result, from its first sequence number
+abbrev pub encoded : Outcome → ℕ → ℕ → List ℕ
+encoded outcome number status = frames_from number (payloads_of outcome status)
+
+abbrev pub Encodes : Outcome → ℕ → ℕ → List ℕ → Type 0
+Encodes outcome number status bytes = bytes ≡ encoded outcome number status
+
+-- SUM over a table of 2 ^ 60 numbers lies far within these bounds
+abbrev pub sum_bound : ℤ
+sum_bound = pos (2 ^ 124)
+
+-- a value that a column of the kind may hold
+abbrev pub FitsKind : Kind → Value → Type 0
+FitsKind kind Null = Unit {0}
+FitsKind BigInt (Int n) = (negsuc 9223372036854775807 ≤ℤ n) × (n ≤ℤ pos 9223372036854775807)
+FitsKind BigIntUnsigned (Int n) = (pos 0 ≤ℤ n) × (n ≤ℤ pos 18446744073709551615)
+FitsKind (VarBinary most) (Int n) = ⊥
+FitsKind count_kind (Int n) = (pos 0 ≤ℤ n) × (n ≤ℤ pos 9223372036854775807)
+FitsKind Sum (Int n) = (neg_ℤ sum_bound ≤ℤ n) × (n ≤ℤ sum_bound)
+FitsKind BigInt (Bytes t) = ⊥
+FitsKind BigIntUnsigned (Bytes t) = ⊥
+FitsKind (VarBinary most) (Bytes t) = length t ≤ most
+FitsKind count_kind (Bytes t) = ⊥
+FitsKind Sum (Bytes t) = ⊥
+
+-- a row has a value for each column, of its kind
+abbrev pub RowFits : List Column → Row → Type 0
+RowFits [] [] = Unit {0}
+RowFits [] (v ∷ row) = ⊥
+RowFits (c ∷ columns) [] = ⊥
+RowFits (c ∷ columns) (v ∷ row) = FitsKind c.kind v × RowFits columns row
+
+-- what a statement may give: at least one column, and rows that fit them
+abbrev pub IsResult : Outcome → Type 0
+IsResult (Rows set) = (0 < length set.columns) × AllByRecursion (RowFits set.columns) set.rows
+IsResult (Count n) = n < 2 ^ 64
+IsResult (Refused r) = Unit {0}
