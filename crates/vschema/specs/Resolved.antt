@@ -1,0 +1,42 @@
+-- Conditions and select lists with columns by their places in the table.
+use Rattle.std.specs.Prelude.{ℕ, ◌+◌, List, [], ◌∷◌, map, unwrap_or}
+use Rattle.sql_tree.specs.declared.Operand.{Operand}
+use Rattle.sql_tree.specs.declared.Operand.TheVariants.{Column, Literal}
+use Rattle.sql_tree.specs.declared.Condition as N
+use Rattle.sql_tree.specs.declared.Condition.{Condition, Condition-F, fold-Condition}
+use Rattle.sql_tree.specs.declared.Condition.TheOpen.{Compare, In, IsNull, Not, And, Or}
+use Rattle.sql_tree.specs.declared.SelectList.{SelectList}
+use Rattle.sql_tree.specs.declared.SelectList.TheVariants.{All, Columns}
+use Rattle.vschema.specs.declared.schema.Table.{Table}
+use Rattle.vschema.specs.Schema.{column_place}
+
+abbrev pub Name : Type 0
+Name = List ℕ
+
+-- the place of a column; that it is there is a check of its own
+abbrev pub place : Table → Name → ℕ
+place t name = unwrap_or (column_place t name) 0
+
+abbrev pub places_from : {X : Type 0} → ℕ → List X → List ℕ
+places_from n [] = []
+places_from n (x ∷ xs) = n ∷ places_from (n + 1) xs
+
+abbrev pub resolved_operand : Table → Operand Name → Operand ℕ
+resolved_operand t (Column name) = Column (place t name)
+resolved_operand t (Literal v) = Literal v
+
+abbrev pub resolved_node : Table → Condition-F Name (Condition ℕ) → Condition ℕ
+resolved_node t (Compare op a b) = N.Compare op (resolved_operand t a) (resolved_operand t b)
+resolved_node t (In a members) = N.In (resolved_operand t a) members
+resolved_node t (IsNull a) = N.IsNull (resolved_operand t a)
+resolved_node t (Not c) = N.Not c
+resolved_node t (And cs) = N.And cs
+resolved_node t (Or cs) = N.Or cs
+
+abbrev pub resolved_condition : Table → Condition Name → Condition ℕ
+resolved_condition t c = fold-Condition Name (Condition ℕ) (resolved_node t) c
+
+-- `*` is all columns in their order
+abbrev pub resolved_list : Table → SelectList → List ℕ
+resolved_list t All = places_from 0 t.columns
+resolved_list t (Columns names) = map (place t) names

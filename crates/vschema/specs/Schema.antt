@@ -1,0 +1,23 @@
+-- Tables and columns by name.
+use Rattle.std.specs.Prelude.{ℕ, ◌+◌, Bool, List, [], ◌∷◌, bytes_eq, slice_index_or, Option, Some, None, if◌then◌else◌}
+use Rattle.vt_value.specs.declared.value.Value.{Value}
+use Rattle.vt_value.specs.declared.value.Value.TheVariants.{Null}
+use Rattle.vt_value.specs.Values.{Row}
+use Rattle.vschema.specs.declared.schema.Table.{Table}
+use Rattle.vschema.specs.declared.schema.VSchema.{VSchema}
+
+-- the place of the first element that passes the test, counted from a number
+abbrev pub place_from : {X : Type 0} → (X → Bool) → ℕ → List X → Option ℕ
+place_from test n [] = None
+place_from test n (x ∷ xs) = if test x then Some n else place_from test (n + 1) xs
+
+-- names are compared byte by byte
+abbrev pub column_place : Table → List ℕ → Option ℕ
+column_place t name = place_from (λ c. bytes_eq c.name name) 0 t.columns
+
+abbrev pub table_place : VSchema → List ℕ → Option ℕ
+table_place schema name = place_from (λ t. bytes_eq t.name name) 0 schema.tables
+
+-- a row has NULL behind its last value
+abbrev pub value_at : Row → ℕ → Value
+value_at row n = slice_index_or row n Null

@@ -1,0 +1,55 @@
+use sql_tree::{Condition, Name};
+use vt_value::Items;
+
+/// The type of a column.
+#[derive(Clone, Copy, Debug, PartialEq, Eq)]
+pub enum ColumnType {
+    BigInt,
+    BigIntUnsigned,
+    /// Texts of at most so many bytes.
+    VarBinary(u8),
+}
+
+/// A column of a table. It may hold NULL only where it is nullable.
+#[derive(Debug, Drop)]
+pub struct Column {
+    pub name: Name,
+    pub kind: ColumnType,
+    pub nullable: bool,
+}
+
+/// A table. Its keyspace and the columns of its primary key are told by their places.
+#[derive(Debug, Drop)]
+pub struct Table {
+    pub name: Name,
+    pub keyspace: usize,
+    pub columns: Items<Column>,
+    pub primary_key: Items<usize>,
+}
+
+/// A keyspace, by its name.
+#[derive(Debug, Drop)]
+pub struct Keyspace {
+    pub name: Name,
+}
+
+/// What the router knows of its keyspaces and tables.
+#[derive(Debug, Drop)]
+pub struct VSchema {
+    pub keyspaces: Items<Keyspace>,
+    pub tables: Items<Table>,
+}
+
+/// A query. Its table is told by its place in the VSchema, its columns by their places in the table.
+#[derive(Drop)]
+pub struct Query {
+    pub table: usize,
+    pub items: Items<usize>,
+    pub filter: Option<Condition<usize>>,
+}
+
+/// A statement with its names resolved.
+#[derive(Drop)]
+pub enum Typed {
+    Select(Query),
+}
