@@ -1,0 +1,6 @@
+//! The engine that runs the text of a statement.
+#![tactic(auto)]
+
+mod engine;
+
+pub use engine::Reply;

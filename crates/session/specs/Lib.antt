@@ -1,0 +1,4 @@
+pub mod Columns
+pub mod Outcomes
+pub mod Talk
+pub mod Sessions
