@@ -1,5 +1,5 @@
 -- Messages of documented examples.
-use Rattle.std.proofs.Common.{[], ◌∷◌, ◌++◌, ◌≡◌, refl, Some, None}
+use Rattle.std.proofs.Common.{[], ◌∷◌, ◌≡◌, refl, Some, None}
 use Rattle.std.specs.Prelude.{codes}
 use Rattle.vt_value.specs.declared.refusal.Refusal.TheVariants.{SyntaxError, DuplicateKey, PacketsOutOfOrder}
 use Rattle.mysql_packet.specs.Frames.{frame}

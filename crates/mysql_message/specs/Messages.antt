@@ -3,8 +3,8 @@ use Rattle.std.specs.Prelude.{ℕ, List, [], ◌∷◌, ◌++◌, Option, Some, 
 use Rattle.vt_value.specs.declared.refusal.Refusal.{Refusal}
 use Rattle.vt_value.specs.Refusals.{code_of, state_of, message_of}
 use Rattle.mysql_packet.specs.Numbers.{little_endian, length_encoded}
-use Rattle.mysql_message.specs.declared.Command.{Command}
-use Rattle.mysql_message.specs.declared.Command.TheVariants.{Quit, Query, Ping}
+use Rattle.mysql_message.specs.declared.command.Command.{Command}
+use Rattle.mysql_message.specs.declared.command.Command.TheVariants.{Quit, Query, Ping}
 
 -- SERVER_STATUS_AUTOCOMMIT
 abbrev pub autocommit : ℕ

@@ -82,7 +82,7 @@ IsPartial limit rest =
   where
     IsPartOf : ℕ → ℕ → ℕ → List ℕ → Type 0
     IsPartOf limit first come tail =
-        (len number : ℕ) × (part : List ℕ) × (tail ≡ header len number ++ part) × (length part < len)
+        (len number : ℕ) × (part : List ℕ) × (len < 2 ^ 24) × (tail ≡ header len number ++ part) × (length part < len)
         × (header_fault limit first come len number ≡ None)
 
 -- a payload that the limit allows

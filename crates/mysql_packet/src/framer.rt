@@ -1,3 +1,10 @@
+ghost use Rattle.std.specs.Prelude.{◌≡◌, ◌↔◌, IsTrue, ℕ, [], ◌≤◌, ◌++◌, List, None, Some, drop, IfErr, IfOk, IfSome, IsNone, OnErr, vec_len};
+ghost use Rattle.mysql_packet.specs.Frames.{IsRefusedAfter};
+ghost use Rattle.mysql_packet.specs.Framing.{HasRead};
+ghost use Rattle.mysql_packet.specs.declared.framer.Payload.{Payload};
+ghost use Rattle.vt_value.specs.declared.refusal.Refusal.{Refusal};
+
+use crate::front::take_payloads;
 use std::alloc::Global;
 use std::marker::Model;
 use vt_value::{Items, Refusal};
@@ -38,4 +45,86 @@ impl Model for Framer {
     ghost Value = { Framing };
 
     ghost view = { λ f. record { limit = f.limit; rest = f.pending.items; fault = f.fault } };
+}
+
+/// Drops the first `used` bytes.
+fn drop_front(pending: &mut Vec<u8>, used: usize)
+    requires { used ≤ vec_len pending.old }
+    ensures { pending.new.items ≡ drop used pending.old.items }
+{
+    if used > 0 {
+        let left = pending.len() - used;
+        pending.copy_within(used.., 0);
+        pending.truncate(left);
+    }
+}
+
+impl Framer {
+    /// At the beginning of a stream, for payloads of at most `limit` bytes.
+    pub fn new(alloc: Global, limit: usize) -> Framer
+        ensures value { result ≡ record { limit = limit; rest = []; fault = None } }
+        // Nothing has been read.
+        ensures start { HasRead result [] [] }
+    {
+        Framer {
+            limit,
+            pending: Vec::new(alloc),
+            fault: None,
+        }
+    }
+
+    /// Whether the stream so far ends with a whole payload, or has no byte yet.
+    pub fn is_between_payloads(&self) -> bool
+        ensures { IsTrue result ↔ (self.now.rest ≡ []) }
+    {
+        self.pending.is_empty()
+    }
+
+    /// Takes the next piece of the stream: gives each payload that is whole now, in order, and behind them the fault,
+    /// if a header is refused there. A payload's packets are numbered one after another, modulo 256, from any first
+    /// number, and together have at most as many bytes as the limit. A header is refused as soon as it has come, its
+    /// number before its length, and after it the stream gives nothing more. Refuses only for want of memory, and the
+    /// piece then counts as not fed.
+    pub fn feed(&mut self, piece: &[u8]) -> Result<Fed, Refusal>
+        // However the stream was cut before, it is the payloads before and these so far, and less than one more.
+        ensures payloads { IfOk result (λ fed. IsNone fed.fault → (stream : List ℕ) (before : List Payload) →
+            HasRead self.old stream before →
+            HasRead self.new (stream ++ piece.now) (before ++ fed.payloads)) }
+        // A fault comes only where a refused header stands in a part's place behind them.
+        ensures fault { IfOk result (λ fed. IfSome fed.fault (λ f. (stream : List ℕ) (before : List Payload) →
+            HasRead self.old stream before →
+            IsRefusedAfter self.old.limit (stream ++ piece.now) (before ++ fed.payloads) f)) }
+        ensures stopped { IfOk result (λ fed. self.new.fault ≡ fed.fault) }
+        // After a fault every later piece gives that fault alone.
+        ensures again { IfOk result (λ fed. IfSome self.old.fault (λ f.
+            (fed ≡ record { payloads = []; fault = Some f }) × (self.new ≡ self.old))) }
+        ensures limit { self.new.limit ≡ self.old.limit }
+        // Refused for memory, the piece counts as not fed.
+        ensures err { OnErr result (self.new ≡ self.old) }
+        ensures memory { IfErr result (λ e. e ≡ Refusal.OutOfMemory) }
+    {
+        let alloc = *self.pending.allocator();
+        if let Some(fault) = self.fault {
+            return Ok(Fed {
+                payloads: Items::new(alloc),
+                fault: Some(fault),
+            });
+        }
+        let before = self.pending.len();
+        self.pending.extend_from_slice(piece)?;
+        match take_payloads(alloc, self.limit, &self.pending) {
+            Ok(taken) => {
+                drop_front(&mut self.pending, taken.used);
+                self.fault = taken.fault;
+                Ok(Fed {
+                    payloads: taken.payloads,
+                    fault: taken.fault,
+                })
+            }
+            Err(error) => {
+                self.pending.truncate(before);
+                Err(Refusal::from(error))
+            }
+        }
+    }
 }

@@ -1,5 +1,5 @@
 -- Result sets of documented examples.
-use Rattle.std.proofs.Common.{[], ◌∷◌, ◌++◌, ◌≡◌, refl, replicate, pos, negsuc, ◌≤◌, ap, ◌∙◌, lit<}
+use Rattle.std.proofs.Common.{[], ◌∷◌, ◌++◌, ◌≡◌, refl, replicate, pos, negsuc, neg_ℤ, ◌+◌, ◌^◌, ◌≤◌, ◌≤ℤ◌, ap, ◌∙◌, lit<}
 use Rattle.std.specs.Fmt.{decimal, digits}
 use Rattle.std.proofs.lemmas.Fmt.{decimal_digit}
 use Rattle.mysql_packet.specs.Numbers.{length_encoded_string}
@@ -10,7 +10,7 @@ use Rattle.mysql_packet.specs.Frames.{frames_from, number_after_all}
 use Rattle.resultset.specs.declared.Kind.TheVariants.{BigInt, BigIntUnsigned, VarBinary, Count, Sum}
 use Rattle.resultset.specs.declared.Column.{Column}
 use Rattle.resultset.specs.declared.Outcome.TheVariants.{Rows}
-use Rattle.resultset.specs.Encoding.{value_bytes, row_payload, encoded, definition_payload, FitsKind}
+use Rattle.resultset.specs.Encoding.{value_bytes, row_payload, encoded, definition_payload, fixed_fields, FitsKind}
 
 -- t.id, a BIGINT UNSIGNED primary key, and t.c, which may be NULL
 abbrev id : Column
@@ -77,3 +77,11 @@ twenty_digits = refl
 negative : value_bytes (Int (negsuc 41)) ≡ 3 ∷ codes "-42"
 unfolding digits
 negative = refl
+
+-- a length is spelled in four bytes, so two that differ by 2 ^ 32 are spelled alike
+same_spelling : fixed_fields (VarBinary 5) 128 ≡ fixed_fields (VarBinary (2 ^ 32 + 5)) 128
+same_spelling = refl
+
+-- SUM may exceed 64 bits, COUNT may not
+large_sum : FitsKind Sum (Int (pos (2 ^ 124))) ≡ ((neg_ℤ (pos (2 ^ 124)) ≤ℤ pos (2 ^ 124)) × (pos (2 ^ 124) ≤ℤ pos (2 ^ 124)))
+large_sum = refl

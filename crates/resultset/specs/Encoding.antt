@@ -25,14 +25,23 @@ value_bytes (Bytes t) = length_encoded_string t
 abbrev pub row_payload : Row → List ℕ
 row_payload row = flat_map value_bytes row
 
--- a column definition: the names, and the fixed fields, with the character set binary and no decimals
-abbrev pub definition_payload : Column → List ℕ
-definition_payload c =
+-- the names of a column definition: the catalog, the schema, the table's two names and the column's two
+abbrev pub name_fields : Column → List ℕ
+name_fields c =
     length_encoded_string (codes "def") ++ length_encoded_string c.schema
     ++ length_encoded_string c.table ++ length_encoded_string c.table
     ++ length_encoded_string c.name ++ length_encoded_string c.org_name
-    ++ 0x0C ∷ little_endian 2 63 ++ little_endian 4 (length_of c.kind)
-    ++ type_of c.kind ∷ little_endian 2 c.flags ++ 0 ∷ 0 ∷ 0 ∷ []
+
+-- its fixed fields: how many bytes they are, the character set binary, the length, the type, the flags, no decimals,
+-- two unused bytes
+abbrev pub fixed_fields : Kind → ℕ → List ℕ
+fixed_fields kind flags =
+    0x0C ∷ little_endian 2 63 ++ little_endian 4 (length_of kind)
+    ++ type_of kind ∷ little_endian 2 flags ++ 0 ∷ 0 ∷ 0 ∷ []
+
+-- a column definition
+abbrev pub definition_payload : Column → List ℕ
+definition_payload c = name_fields c ++ fixed_fields c.kind c.flags
 
 -- a result set: the number of columns, each definition, EOF, each row, EOF
 abbrev pub set_payloads : ResultSet → ℕ → List (List ℕ)
@@ -82,3 +91,23 @@ abbrev pub IsResult : Outcome → Type 0
 IsResult (Rows set) = (0 < length set.columns) × AllByRecursion (RowFits set.columns) set.rows
 IsResult (Count n) = n < 2 ^ 64
 IsResult (Refused r) = Unit {0}
+
+-- a result whose one packet is short
+abbrev pub IsSmall : Outcome → Type 0
+IsSmall (Rows set) = ⊥
+IsSmall (Count n) = Unit {0}
+IsSmall (Refused r) = Unit {0}
+
+-- The length of a VARBINARY column is a byte in the code, and a number of any size in a definition. This says that it
+-- is a byte: longer ones have no column, and two that differ by 2 ^ 32 have one spelling.
+abbrev pub IsByteLong : Kind → Type 0
+IsByteLong BigInt = Unit {0}
+IsByteLong BigIntUnsigned = Unit {0}
+IsByteLong (VarBinary most) = most < 256
+IsByteLong count_kind = Unit {0}
+IsByteLong Sum = Unit {0}
+
+abbrev pub IsTyped : Outcome → Type 0
+IsTyped (Rows set) = AllByRecursion (λ c. IsByteLong c.kind) set.columns
+IsTyped (Count n) = Unit {0}
+IsTyped (Refused r) = Unit {0}

@@ -3,4 +3,4 @@
 
 mod engine;
 
-pub use engine::Reply;
+pub use engine::{Engine, Reply};

@@ -7,7 +7,7 @@ use Rattle.mysql_packet.specs.declared.framer.Fault.{Fault}
 use Rattle.mysql_packet.specs.Frames.{IsPartial, Splits}
 use Rattle.vt_value.specs.declared.refusal.Refusal.TheVariants.{PacketTooLarge}
 use Rattle.resultset.specs.declared.Outcome.{Outcome}
-use Rattle.session.specs.declared.core.End.TheVariants.{Quit, Closed, Broken}
+use Rattle.session.specs.declared.end.End.TheVariants.{Quit, Closed, Broken}
 use Rattle.session.specs.Talk.{Talk}
 use Rattle.session.specs.Talk as t
 

@@ -1,13 +1,19 @@
 -- What a session knows between two pieces of its input.
-use Rattle.std.specs.Prelude.{◌≡◌, ℕ, List, Option, None}
+use Rattle.std.specs.Prelude.{◌≡◌, ℕ, List, ◌++◌, Option, Some, None}
 use Rattle.mysql_packet.specs.declared.framer.Payload.{Payload}
+use Rattle.mysql_packet.specs.declared.framer.Fault.{Fault}
+use Rattle.mysql_packet.specs.declared.framer.Fed.{Fed}
+use Rattle.mysql_packet.specs.Frames.{IsRefusedAfter}
 use Rattle.mysql_packet.specs.Framing.{Framing, HasRead}
 use Rattle.resultset.specs.declared.Outcome.{Outcome}
-use Rattle.session.specs.declared.core.End.{End}
-use Rattle.session.specs.Talk.{Replies}
+use Rattle.session.specs.declared.end.End.{End}
+use Rattle.session.specs.declared.end.End.TheVariants.{Broken}
+use Rattle.session.specs.Talk.{Replies, Talk, refusal_bytes}
 
--- what its framer knows, and how it ended, if it did
+-- the id of its connection and the capabilities that both sides set, what its framer knows, and how it ended, if it did
 pub record SessionState : Type 0 where
+  pub id : ℕ
+  pub capabilities : ℕ
   pub framing : Framing
   pub ended : Option End
 
@@ -17,3 +23,28 @@ pub record HasTalked (May : List ℕ → Outcome → Type 0) (s : SessionState) 
   pub goes_on : s.ended ≡ None
   pub read : HasRead s.framing bytes payloads
   pub replies : Replies May payloads out None
+
+-- What is written for the payloads and the fault that a piece gave, and how that ends the session, if it does.
+pub data AnswersFed (May : List ℕ → Outcome → Type 0) (fed : Fed) : List ℕ → Option End → Type 0 where
+  ended : {out : List ℕ} {end : End} → Replies May fed.payloads out (Some end) → AnswersFed May fed out (Some end)
+  goes_on : {out : List ℕ} → fed.fault ≡ None → Replies May fed.payloads out None → AnswersFed May fed out None
+  refused : {out : List ℕ} (fault : Fault) → fed.fault ≡ Some fault → Replies May fed.payloads out None
+      → AnswersFed May fed (out ++ refusal_bytes fault.number fault.refusal) (Some Broken)
+
+-- The session goes on, or has had its whole conversation over the bytes.
+abbrev pub HasTalkedOn : (List ℕ → Outcome → Type 0) → SessionState → List ℕ → List ℕ → Option End → Type 0
+HasTalkedOn May s bytes out None = HasTalked May s bytes out
+HasTalkedOn May s bytes out (Some end) = Talk s.framing.limit May bytes out end
+
+-- the state after a piece: its framer has the same limit, and the connection is the same
+pub record IsNext (old new : SessionState) : Type 0 where
+  pub id : new.id ≡ old.id
+  pub capabilities : new.capabilities ≡ old.capabilities
+  pub limit : new.framing.limit ≡ old.framing.limit
+
+-- What its framer says of a piece: these payloads and the fault behind them, however the stream was cut before.
+pub record FedBy (old new : Framing) (piece : List ℕ) (fed : Fed) : Type 0 where
+  pub payloads : fed.fault ≡ None → (stream : List ℕ) (before : List Payload) → HasRead old stream before → HasRead new (stream ++ piece) (before ++ fed.payloads)
+  pub fault : (f : Fault) → fed.fault ≡ Some f → (stream : List ℕ) (before : List Payload) → HasRead old stream before
+      → IsRefusedAfter old.limit (stream ++ piece) (before ++ fed.payloads) f
+  pub limit : new.limit ≡ old.limit

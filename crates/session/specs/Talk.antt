@@ -8,8 +8,8 @@ use Rattle.mysql_packet.specs.Frames.{frame, Splits, IsRefusedAfter}
 use Rattle.mysql_message.specs.Messages.{quit, query, ping, command_of, ok_payload, err_payload, autocommit}
 use Rattle.resultset.specs.declared.Outcome.{Outcome}
 use Rattle.resultset.specs.Encoding.{encoded}
-use Rattle.session.specs.declared.core.End.{End}
-use Rattle.session.specs.declared.core.End.TheVariants.{Quit, Closed, Truncated, Broken}
+use Rattle.session.specs.declared.end.End.{End}
+use Rattle.session.specs.declared.end.End.TheVariants.{Quit, Closed, Truncated, Broken}
 
 -- the ERR packet for a header that is refused, by that header's number
 abbrev pub refusal_bytes : ℕ → Refusal → List ℕ
@@ -48,3 +48,16 @@ pub data Talk (limit : ℕ) (May : List ℕ → Outcome → Type 0) : List ℕ �
       → Splits limit bytes payloads [] → Replies May payloads out None → Talk limit May bytes out Closed
   truncated : {bytes out : List ℕ} (payloads : List Payload) (b : ℕ) (rest : List ℕ)
       → Splits limit bytes payloads (b ∷ rest) → Replies May payloads out None → Talk limit May bytes out Truncated
+
+-- a command or a fault ended the session, or the end of its input did
+abbrev pub IsByCommand : End → Type 0
+IsByCommand Quit = Unit {0}
+IsByCommand Broken = Unit {0}
+IsByCommand Closed = ⊥
+IsByCommand Truncated = ⊥
+
+abbrev pub IsByInput : End → Type 0
+IsByInput Quit = ⊥
+IsByInput Broken = ⊥
+IsByInput Closed = Unit {0}
+IsByInput Truncated = Unit {0}

@@ -1,12 +1,181 @@
-/// How a session ended.
-#[derive(Clone, Copy, Debug, PartialEq, Eq)]
-pub enum End {
-    /// By COM_QUIT.
-    Quit,
-    /// The input ended between two payloads.
-    Closed,
-    /// The input ended within a payload.
-    Truncated,
-    /// By a packet that is too large or out of order, or by a fault.
-    Broken,
+ghost use Rattle.std.specs.Prelude.{◌≡◌, ℕ, ◌+◌, ◌≤◌, true, false, List, length, IfOk, OnErr};
+ghost use Rattle.std.specs.Io.KnownBytes.{Appends};
+ghost use Rattle.mysql_packet.specs.declared.framer.Fed.{Fed};
+ghost use Rattle.session.specs.Outcomes.{Means};
+ghost use Rattle.session.specs.Sessions.{AnswersFed, FedBy};
+
+use crate::answers::answer_fed;
+use crate::devices::Sink;
+use crate::end::{End, SessionFault};
+use crate::reply::REPLY_ROOM;
+use bytes::BytesMut;
+use mysql_packet::Framer;
+use route_engine::Engine;
+use std::alloc::Global;
+use std::marker::Model;
+use vt_value::Refusal;
+
+/// The most bytes of a command's payload.
+pub const COMMAND_LIMIT: usize = 1 << 20;
+
+/// The replies to a piece of the input.
+fn feed_parts<W: Sink>(
+    alloc: Global,
+    engine: &Engine,
+    piece: &[u8],
+    framer: &mut Framer,
+    reply: &mut BytesMut,
+    sink: &mut W,
+) -> Result<Option<End>, SessionFault>
+    requires { REPLY_ROOM ≤ length reply.old.items + reply.old.spare }
+    ensures answers { IfOk result (λ end. (fed : Fed) × FedBy framer.old framer.new piece.now fed × ((out : List ℕ)
+        × Appends (W.taken sink.old) (W.taken sink.new) out × AnswersFed (Means engine.now) fed out end)) }
+    ensures limit { framer.new.limit ≡ framer.old.limit }
+    ensures room { REPLY_ROOM ≤ length reply.new.items + reply.new.spare }
+{
+    let Ok(fed) = framer.feed(piece) else {
+        return Err(SessionFault::Memory);
+    };
+    match answer_fed(alloc, engine, &fed, reply, sink) {
+        Ok(end) => Ok(end),
+        Err(_) => Err(SessionFault::Write),
+    }
+}
+
+/// A session, without the devices that its bytes come from and go to. Contracts see what it knows of its input, and how it ended.
+#[derive(Drop)]
+pub struct Core {
+    framer: Framer,
+    reply: BytesMut,
+    ended: Option<End>,
+    id: u32,
+    capabilities: u32,
+}
+
+impl Model for Core {
+    ghost use Rattle.std.specs.Prelude.{◌+◌, ◌≤◌, length};
+    ghost use Rattle.session.specs.declared.reply.TheConstants.{REPLY_ROOM};
+    ghost use Rattle.session.specs.Sessions.{SessionState};
+
+    ghost Value = { SessionState };
+
+    ghost view = { λ c. record { id = c.id; capabilities = c.capabilities; framing = c.framer; ended = c.ended } };
+
+    // The refusal of a command always has room.
+    ghost invariant = { λ c. REPLY_ROOM ≤ length c.reply.items + c.reply.spare };
+}
+
+fn end_between(is_between_payloads: bool) -> End
+    ensures between { is_between_payloads ≡ true → result ≡ End.Closed }
+    ensures within { is_between_payloads ≡ false → result ≡ End.Truncated }
+{
+    if is_between_payloads {
+        End::Closed
+    } else {
+        End::Truncated
+    }
+}
+
+/// How a session stands after a piece.
+fn ended_by(answer: Result<Option<End>, SessionFault>) -> Option<End>
+    ensures ok { IfOk answer (λ end. result ≡ end) }
+    ensures err { OnErr answer (result ≡ Some End.Broken) }
+{
+    match answer {
+        Ok(end) => end,
+        Err(_) => Some(End::Broken),
+    }
+}
+
+impl Core {
+    ghost use Rattle.std.specs.Prelude.{◌≡◌, ℕ, List, [], ◌++◌, None, Some, Ok, IfOk, IfErr, IfSome, OnErr};
+    ghost use Rattle.std.specs.Io.KnownBytes.{Appends};
+    ghost use Rattle.route_engine.specs.Answers.{Served};
+    ghost use Rattle.session.specs.Outcomes.{Means};
+    ghost use Rattle.session.specs.Talk.{Talk, IsByCommand};
+    ghost use Rattle.session.specs.Sessions.{HasTalked, HasTalkedOn, IsNext};
+
+    /// A session that begins in the command phase, without a handshake: of the connection with this id, and with the
+    /// capabilities that both sides set. Makes room for the refusal of a command, and refuses only where it can't.
+    pub fn commands(alloc: Global, id: u32, capabilities: u32) -> Result<Core, Refusal>
+        // Nothing has been read or written.
+        ensures begins { IfOk result (λ core. (s : Served) → HasTalked (Means s) core [] []) }
+        ensures limit { IfOk result (λ core. core.framing.limit ≡ COMMAND_LIMIT) }
+        ensures id { IfOk result (λ core. core.id ≡ id) }
+        ensures capabilities { IfOk result (λ core. core.capabilities ≡ capabilities) }
+        ensures err { IfErr result (λ e. e ≡ Refusal.OutOfMemory) }
+    {
+        let reply = BytesMut::with_capacity(alloc, REPLY_ROOM)?;
+        Ok(Core {
+            framer: Framer::new(alloc, COMMAND_LIMIT),
+            reply,
+            ended: None,
+            id,
+            capabilities,
+        })
+    }
+
+    /// The id of the connection.
+    pub fn id(&self) -> u32
+        ensures { result ≡ self.now.id }
+    {
+        self.id
+    }
+
+    /// The capabilities that both sides set.
+    pub fn capabilities(&self) -> u32
+        ensures { result ≡ self.now.capabilities }
+    {
+        self.capabilities
+    }
+
+    /// How the session ends where its input ends here, unless it has ended before: between two payloads, or within one.
+    pub fn end_of_input(&self) -> End
+        ensures ended { IfSome self.now.ended (λ end. result ≡ end) }
+        // The conversation is then whole.
+        ensures whole { (s : Served) (bytes out : List ℕ) → HasTalked (Means s) self.now bytes out →
+            Talk self.now.framing.limit (Means s) bytes out result }
+    {
+        match self.ended {
+            Some(end) => end,
+            None => end_between(self.framer.is_between_payloads()),
+        }
+    }
+
+    /// Takes the next piece of the input, and writes the replies to the commands that it completes, each once it is known
+    /// whole. `None` says that the session goes on. A session that has ended takes nothing and writes nothing, and tells
+    /// again how it ended: after a fault as `End::Broken`.
+    pub fn feed<W: Sink>(
+        &mut self,
+        alloc: Global,
+        engine: &Engine,
+        piece: &[u8],
+        sink: &mut W,
+    ) -> Result<Option<End>, SessionFault>
+        // However the input was cut before: of the bytes so far exactly the conversation over them has been written, where each
+        // query has an outcome that its text may have over the rows of the tables.
+        ensures talk { IfOk result (λ end. (bytes out : List ℕ) → HasTalked (Means engine.now) self.old bytes out →
+            (written : List ℕ) × Appends (W.taken sink.old) (W.taken sink.new) written
+            × HasTalkedOn (Means engine.now) self.new (bytes ++ piece.now) (out ++ written) end) }
+        ensures ended { IfOk result (λ end. self.new.ended ≡ end) }
+        // A piece ends no session as the end of the input does.
+        ensures by_command { self.old.ended ≡ None → IfOk result (λ end. IfSome end IsByCommand) }
+        ensures fault { OnErr result (self.new.ended ≡ Some End.Broken) }
+        ensures again { IfSome self.old.ended (λ end. (result ≡ Ok (Some end)) × (self.new ≡ self.old) × (sink.new ≡ sink.old)) }
+        ensures next { IsNext self.old self.new }
+    {
+        if let Some(end) = self.ended {
+            return Ok(Some(end));
+        }
+        let result = feed_parts(
+            alloc,
+            engine,
+            piece,
+            &mut self.framer,
+            &mut self.reply,
+            sink,
+        );
+        self.ended = ended_by(result);
+        result
+    }
 }

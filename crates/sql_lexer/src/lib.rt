@@ -1,6 +1,13 @@
 //! Texts of SQL statements as tokens.
 #![tactic(auto)]
 
+mod body;
+mod byte;
+mod keyword;
+mod lexing;
+#[cfg(test)]
+mod tests;
 mod token;
 
+pub use lexing::{lex, longest, one_lexing};
 pub use token::{Keyword, Sign, Token, TokenKind};

@@ -1,5 +1,6 @@
 use vt_value::Comparison;
 
+/// A keyword, which stands in a text in any case.
 #[derive(Clone, Copy, Debug, PartialEq, Eq)]
 pub enum Keyword {
     And,
@@ -36,6 +37,7 @@ pub enum Keyword {
     Where,
 }
 
+/// A sign of one byte that is no operator.
 #[derive(Clone, Copy, Debug, PartialEq, Eq)]
 pub enum Sign {
     LeftParenthesis,
@@ -46,6 +48,7 @@ pub enum Sign {
     Minus,
 }
 
+/// What a token is; what it says stands in its bytes.
 #[derive(Clone, Copy, Debug, PartialEq, Eq)]
 pub enum TokenKind {
     Keyword(Keyword),
@@ -53,13 +56,16 @@ pub enum TokenKind {
     Word,
     /// A word between backquotes.
     Quoted,
+    /// Decimal digits, any number of them.
     Number,
+    /// A text between single quotes.
     Text,
     Sign(Sign),
+    /// A comparison; `!=` and `<>` are one.
     Operator(Comparison),
 }
 
-/// A token, and the place of its bytes in the text.
+/// A token, whose bytes stand in its text from `start` up to `end`.
 #[derive(Clone, Copy, Debug, PartialEq, Eq)]
 pub struct Token {
     pub kind: TokenKind,

@@ -1,0 +1,62 @@
+-- OK, EOF and ERR packets are short.
+use Rattle.std.proofs.Common.{ℕ, ◌≤◌, List, length, arith, lit≤}
+use Rattle.vt_value.specs.declared.refusal.Refusal.{Refusal}
+use Rattle.vt_value.specs.declared.refusal.Refusal.TheVariants.{OutOfMemory, SyntaxError, NotSupported, UnknownTable, UnknownColumn, UnknownKeyspace, AccessDenied, UnknownCommand, PacketTooLarge, PacketsOutOfOrder, BadHandshake, DuplicateKey, NullNotAllowed, NoDefaultValue, OutOfRange, TooLong, WrongValueCount, ColumnNamedTwice, NotGrouped, SeveralShards, Conflict, BufferFull, ShardMoved, ShardFull}
+use Rattle.vt_value.specs.Refusals.{state_of, message_of}
+use Rattle.mysql_packet.specs.Frames.{frame}
+use Rattle.mysql_packet.proofs.FrameLemmas.{length-frame}
+
+pub length_short_frame : (number : ℕ) (payload : List ℕ) → length payload ≤ 60 → length (frame number payload) ≤ 64
+length_short_frame number payload short = omega (arith, length-frame number payload)
+
+pub short_state : (r : Refusal) → length (state_of r) ≤ 5
+short_state OutOfMemory = lit≤ tt
+short_state SyntaxError = lit≤ tt
+short_state NotSupported = lit≤ tt
+short_state UnknownTable = lit≤ tt
+short_state UnknownColumn = lit≤ tt
+short_state UnknownKeyspace = lit≤ tt
+short_state AccessDenied = lit≤ tt
+short_state UnknownCommand = lit≤ tt
+short_state PacketTooLarge = lit≤ tt
+short_state PacketsOutOfOrder = lit≤ tt
+short_state BadHandshake = lit≤ tt
+short_state DuplicateKey = lit≤ tt
+short_state NullNotAllowed = lit≤ tt
+short_state NoDefaultValue = lit≤ tt
+short_state OutOfRange = lit≤ tt
+short_state TooLong = lit≤ tt
+short_state WrongValueCount = lit≤ tt
+short_state ColumnNamedTwice = lit≤ tt
+short_state NotGrouped = lit≤ tt
+short_state SeveralShards = lit≤ tt
+short_state Conflict = lit≤ tt
+short_state BufferFull = lit≤ tt
+short_state ShardMoved = lit≤ tt
+short_state ShardFull = lit≤ tt
+
+pub short_message : (r : Refusal) → length (message_of r) ≤ 24
+short_message OutOfMemory = lit≤ tt
+short_message SyntaxError = lit≤ tt
+short_message NotSupported = lit≤ tt
+short_message UnknownTable = lit≤ tt
+short_message UnknownColumn = lit≤ tt
+short_message UnknownKeyspace = lit≤ tt
+short_message AccessDenied = lit≤ tt
+short_message UnknownCommand = lit≤ tt
+short_message PacketTooLarge = lit≤ tt
+short_message PacketsOutOfOrder = lit≤ tt
+short_message BadHandshake = lit≤ tt
+short_message DuplicateKey = lit≤ tt
+short_message NullNotAllowed = lit≤ tt
+short_message NoDefaultValue = lit≤ tt
+short_message OutOfRange = lit≤ tt
+short_message TooLong = lit≤ tt
+short_message WrongValueCount = lit≤ tt
+short_message ColumnNamedTwice = lit≤ tt
+short_message NotGrouped = lit≤ tt
+short_message SeveralShards = lit≤ tt
+short_message Conflict = lit≤ tt
+short_message BufferFull = lit≤ tt
+short_message ShardMoved = lit≤ tt
+short_message ShardFull = lit≤ tt

@@ -1,0 +1,104 @@
+ghost use Rattle.std.specs.Prelude.{◌≡◌, ◌+◌, ◌≤◌, ◌++◌, length, IfErr, IfOk, IsOk, OnErr, OnOk};
+ghost use Rattle.mysql_packet.specs.Frames.{frame, number_after};
+ghost use Rattle.mysql_message.specs.Messages.{ok_payload, eof_payload, err_payload};
+
+use crate::numbers::{length_encoded, little_endian};
+use arrayvec::ArrayVec;
+use bytes::BytesMut;
+use mysql_packet::put_payload;
+use vt_value::Refusal;
+
+/// More than the payload of an OK, an EOF or an ERR packet takes.
+const MAX_PAYLOAD: usize = 60;
+
+/// Appends an OK packet: so many affected rows, 0 as the last insert id, the status, no warnings. It gives the
+/// sequence number after it. It refuses only for want of memory, and then leaves the buffer as it was.
+pub fn put_ok(number: u8, affected: u64, status: u16, out: &mut BytesMut) -> Result<u8, Refusal>
+    ensures ok { OnOk result (out.new.items ≡ out.old.items ++ frame number (ok_payload affected status)) }
+    ensures next { IfOk result (λ n. n ≡ number_after number (ok_payload affected status)) }
+    ensures err { OnErr result (out.new.items ≡ out.old.items) }
+    ensures memory { IfErr result (λ e. e ≡ Refusal.OutOfMemory) }
+    // With that much room it can't fail.
+    ensures room { 64 ≤ out.old.spare → IsOk result }
+    // No room is ever lost.
+    ensures capacity { length out.old.items + out.old.spare ≤ length out.new.items + out.new.spare }
+{
+    let payload = ok_payload(affected, status);
+    put_short(number, payload.as_slice(), out)
+}
+
+/// Appends an EOF packet: no warnings, the status. It gives the sequence number after it. It refuses only for want of
+/// memory, and then leaves the buffer as it was.
+pub fn put_eof(number: u8, status: u16, out: &mut BytesMut) -> Result<u8, Refusal>
+    ensures ok { OnOk result (out.new.items ≡ out.old.items ++ frame number (eof_payload status)) }
+    ensures next { IfOk result (λ n. n ≡ number_after number (eof_payload status)) }
+    ensures err { OnErr result (out.new.items ≡ out.old.items) }
+    ensures memory { IfErr result (λ e. e ≡ Refusal.OutOfMemory) }
+    // With that much room it can't fail.
+    ensures room { 64 ≤ out.old.spare → IsOk result }
+    // No room is ever lost.
+    ensures capacity { length out.old.items + out.old.spare ≤ length out.new.items + out.new.spare }
+{
+    let [low, high, ..] = little_endian(u64::from(status));
+    put_short(number, &[0xFE, 0x00, 0x00, low, high], out)
+}
+
+/// Appends an ERR packet: the error code, `#` and the SQL state, and the message of the refusal. It gives the sequence
+/// number after it. It refuses only for want of memory, and then leaves the buffer as it was.
+pub fn put_err(number: u8, refusal: Refusal, out: &mut BytesMut) -> Result<u8, Refusal>
+    ensures ok { OnOk result (out.new.items ≡ out.old.items ++ frame number (err_payload refusal)) }
+    ensures next { IfOk result (λ n. n ≡ number_after number (err_payload refusal)) }
+    ensures err { OnErr result (out.new.items ≡ out.old.items) }
+    ensures memory { IfErr result (λ e. e ≡ Refusal.OutOfMemory) }
+    // With that much room it can't fail.
+    ensures room { 64 ≤ out.old.spare → IsOk result }
+    // No room is ever lost.
+    ensures capacity { length out.old.items + out.old.spare ≤ length out.new.items + out.new.spare }
+{
+    let payload = err_payload(refusal);
+    put_short(number, payload.as_slice(), out)
+}
+
+fn ok_payload(affected: u64, status: u16) -> ArrayVec<u8, MAX_PAYLOAD>
+    ensures { result.items ≡ ok_payload affected status }
+{
+    let [low, high, ..] = little_endian(u64::from(status));
+    let mut payload = ArrayVec::new();
+    payload.push(0x00);
+    extend(&mut payload, length_encoded(affected).as_slice());
+    extend(&mut payload, &[0x00, low, high, 0x00, 0x00]);
+    payload
+}
+
+#[tactic(auto, using(crate::proofs::Short::short_state, crate::proofs::Short::short_message))]
+fn err_payload(refusal: Refusal) -> ArrayVec<u8, MAX_PAYLOAD>
+    ensures { result.items ≡ err_payload refusal }
+{
+    let [low, high, ..] = little_endian(u64::from(refusal.code()));
+    let mut payload = ArrayVec::new();
+    payload.push(0xFF);
+    extend(&mut payload, &[low, high, b'#']);
+    extend(&mut payload, refusal.state().as_bytes());
+    extend(&mut payload, refusal.message().as_bytes());
+    payload
+}
+
+fn extend(payload: &mut ArrayVec<u8, MAX_PAYLOAD>, more: &[u8])
+    requires { length payload.old.items + length more.now ≤ 60 }
+    ensures { payload.new.items ≡ payload.old.items ++ more.now }
+{
+    let _ = payload.try_extend_from_slice(more);
+}
+
+#[tactic(auto, using(crate::proofs::Short::length_short_frame))]
+fn put_short(number: u8, payload: &[u8], out: &mut BytesMut) -> Result<u8, Refusal>
+    requires { length payload.now ≤ 60 }
+    ensures ok { OnOk result (out.new.items ≡ out.old.items ++ frame number payload.now) }
+    ensures next { IfOk result (λ n. n ≡ number_after number payload.now) }
+    ensures err { OnErr result (out.new.items ≡ out.old.items) }
+    ensures memory { IfErr result (λ e. e ≡ Refusal.OutOfMemory) }
+    ensures room { 64 ≤ out.old.spare → IsOk result }
+    ensures capacity { length out.old.items + out.old.spare ≤ length out.new.items + out.new.spare }
+{
+    put_payload(number, payload, out)
+}

@@ -1,0 +1,218 @@
+ghost use Rattle.std.specs.Prelude.{◌≡◌, ◌+◌, ◌≤◌, ◌∷◌, [], ◌++◌, length, map, take, IfErr, IfOk, IsOk, OnErr, OnOk};
+ghost use Rattle.mysql_packet.specs.Numbers.{little_endian, length_encoded};
+ghost use Rattle.mysql_packet.specs.Frames.{frame, frames_from, number_after, number_after_all};
+ghost use Rattle.resultset.specs.Flags.{type_of, length_of};
+ghost use Rattle.resultset.specs.Encoding.{value_bytes, row_payload, definition_payload, name_fields};
+ghost use Rattle.resultset.specs.Encoding.{fixed_fields, set_payloads, payloads_of, encoded, IsSmall};
+
+use crate::{Column, Kind, Outcome, ResultSet};
+use bytes::BytesMut;
+use itoa::Buffer;
+use mysql_message::numbers::{little_endian, put_length_encoded, put_length_encoded_string};
+use mysql_message::{put_eof, put_err, put_ok};
+use mysql_packet::put_payload;
+use std::alloc::Global;
+use vt_value::{Refusal, Row, Value};
+
+/// Appends the packets of a result, the first with this sequence number, and gives the number after the last. A count
+/// is an OK packet and a refusal an ERR packet. A result set is the number of its columns, a definition of each, EOF,
+/// its rows, EOF, a packet for each. It refuses only for want of memory, and then leaves the buffer as it was.
+pub fn encode(
+    alloc: Global,
+    outcome: &Outcome,
+    number: u8,
+    status: u16,
+    out: &mut BytesMut,
+) -> Result<u8, Refusal>
+    ensures ok { OnOk result (out.new.items ≡ out.old.items ++ encoded outcome.now number status) }
+    ensures next { IfOk result (λ n. n ≡ number_after_all number (payloads_of outcome.now status)) }
+    ensures err { OnErr result (out.new.items ≡ out.old.items) }
+    ensures memory { IfErr result (λ e. e ≡ Refusal.OutOfMemory) }
+    // With that much room a count or a refusal can't fail.
+    ensures room { IsSmall outcome.now → 64 ≤ out.old.spare → IsOk result }
+    // No room is ever lost.
+    ensures capacity { length out.old.items + out.old.spare ≤ length out.new.items + out.new.spare }
+{
+    match outcome {
+        Outcome::Rows(set) => put_set_or_nothing(alloc, set, number, status, out),
+        Outcome::Count(affected) => put_ok(number, *affected, status, out),
+        Outcome::Refused(refusal) => put_err(number, *refusal, out),
+    }
+}
+
+fn put_set_or_nothing(
+    alloc: Global,
+    set: &ResultSet,
+    number: u8,
+    status: u16,
+    out: &mut BytesMut,
+) -> Result<u8, Refusal>
+    ensures ok { OnOk result (out.new.items ≡ out.old.items ++ frames_from number (set_payloads set.now status)) }
+    ensures next { IfOk result (λ n. n ≡ number_after_all number (set_payloads set.now status)) }
+    ensures err { OnErr result (out.new.items ≡ out.old.items) }
+    ensures memory { IfErr result (λ e. e ≡ Refusal.OutOfMemory) }
+    ensures capacity { length out.old.items + out.old.spare ≤ length out.new.items + out.new.spare }
+{
+    let len = out.len();
+    let result = put_set(alloc, set, number, status, out);
+    if result.is_err() {
+        out.truncate(len);
+    }
+    result
+}
+
+fn put_set(
+    alloc: Global,
+    set: &ResultSet,
+    number: u8,
+    status: u16,
+    out: &mut BytesMut,
+) -> Result<u8, Refusal>
+    ensures ok { OnOk result (out.new.items ≡ out.old.items ++ frames_from number (set_payloads set.now status)) }
+    ensures next { IfOk result (λ n. n ≡ number_after_all number (set_payloads set.now status)) }
+    ensures err { OnErr result (take (length out.old.items) out.new.items ≡ out.old.items) }
+    ensures memory { IfErr result (λ e. e ≡ Refusal.OutOfMemory) }
+    ensures capacity { length out.old.items + out.old.spare ≤ length out.new.items + out.new.spare }
+{
+    let mut payload = Vec::new(alloc);
+    put_length_encoded(set.columns.len() as u64, &mut payload)?;
+    let number = put_payload(number, &payload, out)?;
+    let number = put_definitions(set.columns.as_slice(), number, &mut payload, out)?;
+    let number = put_eof(number, status, out)?;
+    let number = put_rows(set.rows.as_slice(), number, &mut payload, out)?;
+    put_eof(number, status, out)
+}
+
+/// Appends a packet for each definition. The payload is scratch, for its memory.
+fn put_definitions(
+    columns: &[Column],
+    number: u8,
+    payload: &mut Vec<u8>,
+    out: &mut BytesMut,
+) -> Result<u8, Refusal>
+    ensures ok { OnOk result (out.new.items
+        ≡ out.old.items ++ frames_from number (map definition_payload columns.now)) }
+    ensures next { IfOk result (λ n. n ≡ number_after_all number (map definition_payload columns.now)) }
+    ensures err { OnErr result (take (length out.old.items) out.new.items ≡ out.old.items) }
+    ensures memory { IfErr result (λ e. e ≡ Refusal.OutOfMemory) }
+    ensures capacity { length out.old.items + out.old.spare ≤ length out.new.items + out.new.spare }
+{
+    let mut next = number;
+    for column in columns {
+        payload.clear();
+        put_definition(column, payload)?;
+        next = put_payload(next, payload, out)?;
+    }
+    Ok(next)
+}
+
+/// Appends a packet for each row. The payload is scratch, for its memory.
+fn put_rows(
+    rows: &[Row],
+    number: u8,
+    payload: &mut Vec<u8>,
+    out: &mut BytesMut,
+) -> Result<u8, Refusal>
+    ensures ok { OnOk result (out.new.items ≡ out.old.items ++ frames_from number (map row_payload rows.now)) }
+    ensures next { IfOk result (λ n. n ≡ number_after_all number (map row_payload rows.now)) }
+    ensures err { OnErr result (take (length out.old.items) out.new.items ≡ out.old.items) }
+    ensures memory { IfErr result (λ e. e ≡ Refusal.OutOfMemory) }
+    ensures capacity { length out.old.items + out.old.spare ≤ length out.new.items + out.new.spare }
+{
+    let mut next = number;
+    for row in rows {
+        payload.clear();
+        put_row(row.as_slice(), payload)?;
+        next = put_payload(next, payload, out)?;
+    }
+    Ok(next)
+}
+
+fn put_definition(column: &Column, payload: &mut Vec<u8>) -> Result<(), Refusal>
+    ensures ok { OnOk result (payload.new.items ≡ payload.old.items ++ definition_payload column.now) }
+    ensures memory { IfErr result (λ e. e ≡ Refusal.OutOfMemory) }
+{
+    put_names(column, payload)?;
+    put_fixed_fields(column.kind, column.flags, payload)
+}
+
+/// Appends the catalog, which is `def`, and the names: each of the table's and the column's has two.
+fn put_names(column: &Column, payload: &mut Vec<u8>) -> Result<(), Refusal>
+    ensures ok { OnOk result (payload.new.items ≡ payload.old.items ++ name_fields column.now) }
+    ensures memory { IfErr result (λ e. e ≡ Refusal.OutOfMemory) }
+{
+    put_length_encoded_string(b"def", payload)?;
+    put_length_encoded_string(column.schema.as_slice(), payload)?;
+    put_length_encoded_string(column.table.as_slice(), payload)?;
+    put_length_encoded_string(column.table.as_slice(), payload)?;
+    put_length_encoded_string(column.name.as_slice(), payload)?;
+    put_length_encoded_string(column.org_name.as_slice(), payload)?;
+    Ok(())
+}
+
+/// Appends the fields of a fixed length: the character set binary, the length, the type, the flags, no decimals.
+fn put_fixed_fields(kind: Kind, flags: u16, payload: &mut Vec<u8>) -> Result<(), Refusal>
+    ensures ok { OnOk result (payload.new.items ≡ payload.old.items ++ fixed_fields kind flags) }
+    ensures memory { IfErr result (λ e. e ≡ Refusal.OutOfMemory) }
+{
+    let [low, high, ..] = little_endian(u64::from(flags));
+    payload.extend_from_slice(&[
+        0x0C,
+        63,
+        0,
+        length_of(kind),
+        0,
+        0,
+        0,
+        type_of(kind),
+        low,
+        high,
+        0,
+        0,
+        0,
+    ])?;
+    Ok(())
+}
+
+fn type_of(kind: Kind) -> u8
+    ensures { result ≡ type_of kind }
+{
+    match kind {
+        Kind::BigInt | Kind::BigIntUnsigned | Kind::Count => 0x08,
+        Kind::VarBinary(_) => 0xFD,
+        Kind::Sum => 0xF6,
+    }
+}
+
+fn length_of(kind: Kind) -> u8
+    ensures { result ≡ length_of kind }
+{
+    match kind {
+        Kind::BigInt | Kind::BigIntUnsigned => 20,
+        Kind::VarBinary(most) => most,
+        Kind::Count => 21,
+        Kind::Sum => 41,
+    }
+}
+
+fn put_row(row: &[Value], payload: &mut Vec<u8>) -> Result<(), Refusal>
+    ensures ok { OnOk result (payload.new.items ≡ payload.old.items ++ row_payload row.now) }
+    ensures memory { IfErr result (λ e. e ≡ Refusal.OutOfMemory) }
+{
+    for value in row {
+        put_value(value, payload)?;
+    }
+    Ok(())
+}
+
+fn put_value(value: &Value, payload: &mut Vec<u8>) -> Result<(), Refusal>
+    ensures ok { OnOk result (payload.new.items ≡ payload.old.items ++ value_bytes value.now) }
+    ensures memory { IfErr result (λ e. e ≡ Refusal.OutOfMemory) }
+{
+    match value {
+        Value::Null => payload.push(0xFB)?,
+        Value::Int(n) => put_length_encoded_string(Buffer::new().format(*n).as_bytes(), payload)?,
+        Value::Bytes(text) => put_length_encoded_string(text.as_slice(), payload)?,
+    }
+    Ok(())
+}

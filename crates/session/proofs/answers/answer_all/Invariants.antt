@@ -1,0 +1,13 @@
+use Rattle.std.proofs.Common.{ℕ, List, ◌+◌, ◌≤◌, length, take, None}
+use Rattle.std.specs.Io.KnownBytes.{Appends}
+use Rattle.session.specs.declared.reply.TheConstants.{REPLY_ROOM}
+use Rattle.session.specs.Outcomes.{Means}
+use Rattle.session.specs.Talk.{Replies}
+use Rattle.session.proofs.answers.answer_all.Given as goal
+
+abbrev pub invariant-loop-payload : goal.invariant-loop-payload
+invariant-loop-payload g l = record {
+  room : REPLY_ROOM ≤ length l.reply.items + l.reply.spare;
+  replies : (out : List ℕ) × Appends (g.W.Sink.taken l.initial.sink) (g.W.Sink.taken l.sink) out
+      × Replies (Means l.engine) (take l.payload-index l.payloads) out None;
+}

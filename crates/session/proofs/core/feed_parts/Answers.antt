@@ -1,0 +1,9 @@
+use Rattle.session.proofs.Conversations.{fed_by}
+use Rattle.session.proofs.core.feed_parts.Goals as goal
+
+pub returns-in-Ok-answer_fed-clause-answers : goal.returns-in-Ok-answer_fed-clause-answers
+returns-in-Ok-answer_fed-clause-answers g c = (
+  c.in-Ok.fed,
+  fed_by c.args.framer.now c.feed.new.self c.args.piece.now c.in-Ok.fed c.in-Ok.ensures.payloads c.in-Ok.ensures.fault c.in-Ok.ensures.limit,
+  c.in-Ok-answer_fed.ensures.answers,
+)

@@ -1,0 +1,15 @@
+use Rattle.std.proofs.Common.{◌≡◌, ℕ, List, vec_len}
+use Rattle.std.specs.Io.KnownBytes.{Appends, Consumes}
+use Rattle.session.specs.declared.core.TheConstants.{COMMAND_LIMIT}
+use Rattle.session.specs.declared.serving.TheConstants.{PIECE}
+use Rattle.session.specs.Outcomes.{Means}
+use Rattle.session.specs.Sessions.{HasTalked}
+use Rattle.session.proofs.serving.serve.Given as goal
+
+abbrev pub invariant-loop : goal.invariant-loop
+invariant-loop g l = record {
+  buffer : vec_len l.buffer ≡ PIECE;
+  limit : l.core.framing.limit ≡ COMMAND_LIMIT;
+  talked : (read : List ℕ) × (written : List ℕ) × Consumes (g.R.Source.unread l.initial.source) (g.R.Source.unread l.source) read
+      × Appends (g.W.Sink.taken l.initial.sink) (g.W.Sink.taken l.sink) written × HasTalked (Means l.engine) l.core read written;
+}

@@ -1,0 +1,153 @@
+ghost use Rattle.std.specs.Prelude.{◌≡◌, ◌==◌, IfOk, IfErr, slice_index_or};
+ghost use Rattle.std.specs.List.{list_any};
+ghost use Rattle.session.specs.Columns.{kind_of, base_flags, flags_of, no_keyspace, no_table, no_column, Defines, DefinesAt, AllDefined, AreColumns};
+
+use resultset::{Column as ResultColumn, Kind};
+use sql_tree::Name;
+use std::alloc::Global;
+use vschema::{Column, ColumnType, Table, VSchema};
+use vt_value::{Items, Refusal};
+
+fn kind_of(kind: ColumnType) -> Kind
+    ensures { result ≡ kind_of kind }
+{
+    match kind {
+        ColumnType::BigInt => Kind::BigInt,
+        ColumnType::BigIntUnsigned => Kind::BigIntUnsigned,
+        ColumnType::VarBinary(most) => Kind::VarBinary(most),
+    }
+}
+
+fn base_flags(kind: ColumnType) -> u16
+    ensures { result ≡ base_flags kind }
+{
+    match kind {
+        ColumnType::BigInt | ColumnType::VarBinary(_) => 128,
+        ColumnType::BigIntUnsigned => 160,
+    }
+}
+
+fn has_place(places: &[usize], place: usize) -> bool
+    ensures { result ≡ list_any (λ key. key == place) places.now }
+{
+    places.iter().any(|key| *key == place)
+}
+
+fn flags_of(table: &Table, place: usize, column: &Column) -> u16
+    ensures { result ≡ flags_of table.now place column.now }
+{
+    let base = base_flags(column.kind);
+    if has_place(table.primary_key.as_slice(), place) {
+        base + 3
+    } else if column.nullable {
+        base
+    } else {
+        base + 1
+    }
+}
+
+fn keyspace_name<'a>(schema: &'a VSchema, table: &Table) -> &'a [u8]
+    ensures { result.now ≡ (slice_index_or schema.now.keyspaces table.now.keyspace no_keyspace).name }
+{
+    match schema.keyspaces.as_slice().get(table.keyspace) {
+        Some(keyspace) => keyspace.name.as_slice(),
+        None => &[],
+    }
+}
+
+fn copy_name(alloc: Global, name: &[u8]) -> Result<Name, Refusal>
+    ensures ok { IfOk result (λ n. n ≡ name.now) }
+    ensures err { IfErr result (λ e. e ≡ Refusal.OutOfMemory) }
+{
+    let copied = Items::from_slice(alloc, name)?;
+    Ok(copied)
+}
+
+fn define(
+    alloc: Global,
+    schema: &VSchema,
+    table: &Table,
+    place: usize,
+    column: &Column,
+) -> Result<ResultColumn, Refusal>
+    ensures ok { IfOk result (Defines schema.now table.now place column.now) }
+    ensures err { IfErr result (λ e. e ≡ Refusal.OutOfMemory) }
+{
+    Ok(ResultColumn {
+        schema: copy_name(alloc, keyspace_name(schema, table))?,
+        table: copy_name(alloc, table.name.as_slice())?,
+        name: copy_name(alloc, column.name.as_slice())?,
+        org_name: copy_name(alloc, column.name.as_slice())?,
+        kind: kind_of(column.kind),
+        flags: flags_of(table, place, column),
+    })
+}
+
+fn missing_column(alloc: Global) -> Column
+    ensures { result ≡ no_column }
+{
+    Column {
+        name: Items::new(alloc),
+        kind: ColumnType::BigInt,
+        nullable: true,
+    }
+}
+
+fn missing_table(alloc: Global) -> Table
+    ensures { result ≡ no_table }
+{
+    Table {
+        name: Items::new(alloc),
+        keyspace: 0,
+        columns: Items::new(alloc),
+        primary_key: Items::new(alloc),
+    }
+}
+
+fn define_at(
+    alloc: Global,
+    schema: &VSchema,
+    table: &Table,
+    place: usize,
+) -> Result<ResultColumn, Refusal>
+    ensures ok { IfOk result (DefinesAt schema.now table.now place) }
+    ensures err { IfErr result (λ e. e ≡ Refusal.OutOfMemory) }
+{
+    match table.columns.as_slice().get(place) {
+        Some(column) => define(alloc, schema, table, place, column),
+        None => define(alloc, schema, table, place, &missing_column(alloc)),
+    }
+}
+
+fn define_all(
+    alloc: Global,
+    schema: &VSchema,
+    table: &Table,
+    places: &[usize],
+) -> Result<Items<ResultColumn>, Refusal>
+    ensures ok { IfOk result (AllDefined schema.now table.now places.now) }
+    ensures err { IfErr result (λ e. e ≡ Refusal.OutOfMemory) }
+{
+    let mut columns = Items::new(alloc);
+    for place in places {
+        let column = define_at(alloc, schema, table, *place)?;
+        columns.push(column)?;
+    }
+    Ok(columns)
+}
+
+/// The definitions of the columns at these places of the table at a place of the VSchema.
+pub fn columns_of(
+    alloc: Global,
+    schema: &VSchema,
+    table: usize,
+    places: &[usize],
+) -> Result<Items<ResultColumn>, Refusal>
+    ensures ok { IfOk result (AreColumns schema.now table places.now) }
+    ensures err { IfErr result (λ e. e ≡ Refusal.OutOfMemory) }
+{
+    match schema.tables.as_slice().get(table) {
+        Some(table) => define_all(alloc, schema, table, places),
+        None => define_all(alloc, schema, &missing_table(alloc), places),
+    }
+}

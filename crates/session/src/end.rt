@@ -1,0 +1,20 @@
+/// How a session ended.
+#[derive(Clone, Copy, Debug, PartialEq, Eq)]
+pub enum End {
+    /// By COM_QUIT.
+    Quit,
+    /// The input ended between two payloads.
+    Closed,
+    /// The input ended within a payload.
+    Truncated,
+    /// By a packet that is too large or out of order, or by a fault.
+    Broken,
+}
+
+/// Why a session can't go on: a device failed, or there is no memory to take its input.
+#[derive(Clone, Copy, Debug, PartialEq, Eq)]
+pub enum SessionFault {
+    Read,
+    Write,
+    Memory,
+}

@@ -1,0 +1,116 @@
+ghost use Rattle.std.specs.Prelude.{◌≡◌, ◌+◌, ◌≤◌, ◌⊎◌, [], ◌∷◌, length, IfOk, IfErr, Option};
+ghost use Rattle.mysql_message.specs.Messages.{autocommit};
+ghost use Rattle.mysql_packet.specs.Frames.{frame};
+ghost use Rattle.mysql_message.specs.Messages.{ok_payload, err_payload};
+ghost use Rattle.resultset.specs.declared.Outcome.{Outcome};
+ghost use Rattle.resultset.specs.Encoding.{encoded};
+ghost use Rattle.session.specs.declared.end.End.{End};
+ghost use Rattle.session.specs.Columns.{AreColumns};
+ghost use Rattle.session.specs.Outcomes.{Means};
+ghost use Rattle.session.specs.Talk.{Replies};
+
+use crate::columns::columns_of;
+use crate::end::End;
+use bytes::BytesMut;
+use mysql_message::{Command, put_err, put_ok, read_command};
+use mysql_packet::Payload;
+use resultset::{Outcome, ResultSet, encode};
+use route_engine::{Engine, Reply};
+use std::alloc::Global;
+use vschema::VSchema;
+use vt_value::Refusal;
+
+/// SERVER_STATUS_AUTOCOMMIT.
+const AUTOCOMMIT: u16 = 2;
+
+/// The room that a reply's buffer has at least: an OK or an ERR packet fits in it.
+pub const REPLY_ROOM: usize = 64;
+
+pub fn put_refusal(number: u8, refusal: Refusal, reply: &mut BytesMut)
+    requires empty { reply.old.items ≡ [] }
+    requires room { REPLY_ROOM ≤ reply.old.spare }
+    ensures bytes { reply.new.items ≡ frame number (err_payload refusal) }
+    ensures room { REPLY_ROOM ≤ length reply.new.items + reply.new.spare }
+{
+    let _ = put_err(number, refusal, reply).unwrap();
+}
+
+fn put_pong(number: u8, reply: &mut BytesMut)
+    requires empty { reply.old.items ≡ [] }
+    requires room { REPLY_ROOM ≤ reply.old.spare }
+    ensures bytes { reply.new.items ≡ frame number (ok_payload 0 autocommit) }
+    ensures room { REPLY_ROOM ≤ length reply.new.items + reply.new.spare }
+{
+    let _ = put_ok(number, 0, AUTOCOMMIT, reply).unwrap();
+}
+
+fn result_set(alloc: Global, schema: &VSchema, reply: Reply) -> Result<ResultSet, Refusal>
+    ensures columns { IfOk result (λ set. AreColumns schema.now reply.table reply.items set.columns) }
+    ensures rows { IfOk result (λ set. set.rows ≡ reply.rows) }
+    ensures err { IfErr result (λ e. e ≡ Refusal.OutOfMemory) }
+{
+    let columns = columns_of(alloc, schema, reply.table, reply.items.as_slice())?;
+    Ok(ResultSet {
+        columns,
+        rows: reply.rows,
+    })
+}
+
+/// What the text of a query gives its client.
+fn outcome_of(alloc: Global, engine: &Engine, text: &[u8]) -> Outcome
+    ensures { Means engine.now text.now result }
+{
+    match engine.execute(alloc, text) {
+        Ok(reply) => match result_set(alloc, engine.schema(), reply) {
+            Ok(set) => Outcome::Rows(set),
+            Err(refusal) => Outcome::Refused(refusal),
+        },
+        Err(refusal) => Outcome::Refused(refusal),
+    }
+}
+
+/// The reply to a query, or, where there is no memory for it, the refusal that says so.
+fn put_outcome(alloc: Global, outcome: &Outcome, number: u8, reply: &mut BytesMut)
+    requires empty { reply.old.items ≡ [] }
+    requires room { REPLY_ROOM ≤ reply.old.spare }
+    ensures bytes { (reply.new.items ≡ encoded outcome.now number autocommit)
+        ⊎ (reply.new.items ≡ encoded (Outcome.Refused Refusal.OutOfMemory) number autocommit) }
+    ensures room { REPLY_ROOM ≤ length reply.new.items + reply.new.spare }
+{
+    if encode(alloc, outcome, number, AUTOCOMMIT, reply).is_err() {
+        put_refusal(number, Refusal::OutOfMemory, reply);
+    }
+}
+
+/// The reply to one command, and the end of the session, if it ends it.
+pub fn put_reply(
+    alloc: Global,
+    engine: &Engine,
+    payload: &Payload,
+    reply: &mut BytesMut,
+) -> Option<End>
+    requires empty { reply.old.items ≡ [] }
+    requires room { REPLY_ROOM ≤ reply.old.spare }
+    ensures replies { Replies (Means engine.now) (payload.now ∷ []) reply.new.items result }
+    ensures room { REPLY_ROOM ≤ length reply.new.items + reply.new.spare }
+{
+    if payload.first != 0 {
+        put_refusal(
+            payload.first.wrapping_add(1),
+            Refusal::PacketsOutOfOrder,
+            reply,
+        );
+        return Some(End::Broken);
+    }
+    let number = payload.last.wrapping_add(1);
+    match read_command(payload.bytes.as_slice()) {
+        Err(refusal) => put_refusal(number, refusal, reply),
+        Ok(Command::Quit) => return Some(End::Quit),
+        Ok(Command::Ping) => put_pong(number, reply),
+        Ok(Command::Query(text)) => {
+            let outcome = outcome_of(alloc, engine, text);
+            put_outcome(alloc, &outcome, number, reply);
+        }
+    }
+    None
+}

@@ -1,0 +1,89 @@
+ghost use Rattle.std.specs.Prelude.{◌≡◌, ℕ, ◌<◌, List, ◌++◌, IfOk, IfSome, length, vec_len};
+ghost use Rattle.std.specs.Io.{ReadsAtMost};
+ghost use Rattle.std.specs.Io.KnownBytes.{Appends, Consumes, IsAtEnd, ReadConsumes};
+ghost use Rattle.session.specs.Outcomes.{Means};
+ghost use Rattle.session.specs.Sessions.{HasTalked, HasTalkedOn};
+ghost use Rattle.session.specs.Talk.{Talk, IsByInput};
+
+use crate::core::{COMMAND_LIMIT, Core};
+use crate::devices::{Sink, Source};
+use crate::end::{End, SessionFault};
+use route_engine::Engine;
+use std::alloc::{AllocError, Global};
+
+/// How many bytes are asked of a source at once.
+const PIECE: usize = 1 << 16;
+
+fn zeroed(alloc: Global, len: usize) -> Result<Vec<u8>, AllocError>
+    ensures { IfOk result (λ bytes. vec_len bytes ≡ len) }
+{
+    vec![in alloc; 0u8; len]
+}
+
+/// Reads the next piece of the input to the front of the buffer.
+fn read_piece<R: Source>(source: &mut R, buffer: &mut [u8]) -> Result<usize, SessionFault>
+    ensures bytes { ReadConsumes (R.unread source.old) (R.unread source.new) result buffer.new }
+    ensures bound { ReadsAtMost result buffer.new }
+{
+    match source.read(buffer) {
+        Ok(n) => Ok(n),
+        Err(_) => Err(SessionFault::Read),
+    }
+}
+
+/// Reads one piece of the input, and answers the commands that it completes, or ends the session with the input.
+fn serve_piece<R: Source, W: Sink>(
+    alloc: Global,
+    engine: &Engine,
+    core: &mut Core,
+    buffer: &mut [u8],
+    source: &mut R,
+    sink: &mut W,
+) -> Result<Option<End>, SessionFault>
+    requires room { 0 < length buffer.old }
+    requires open_session { core.old.ended ≡ None }
+    ensures talk { IfOk result (λ end. (bytes out : List ℕ) → HasTalked (Means engine.now) core.old bytes out →
+        (read : List ℕ) × (written : List ℕ)
+        × Consumes (R.unread source.old) (R.unread source.new) read × Appends (W.taken sink.old) (W.taken sink.new) written
+        × HasTalkedOn (Means engine.now) core.new (bytes ++ read) (out ++ written) end) }
+    ensures at_end { IfOk result (λ end. IfSome end (λ e. IsByInput e → IsAtEnd (R.unread source.new))) }
+    ensures limit { core.new.framing.limit ≡ core.old.framing.limit }
+{
+    let n = read_piece(source, buffer)?;
+    if n == 0 {
+        return Ok(Some(core.end_of_input()));
+    }
+    core.feed(alloc, engine, &buffer[..n], sink)
+}
+
+/// Serves one connection from its command phase on, until it ends: reads commands from the source, and writes their replies to
+/// the sink. A source that gave 2^64 - 1 pieces counts as failed.
+pub fn serve<R: Source, W: Sink>(
+    alloc: Global,
+    engine: &Engine,
+    id: u32,
+    capabilities: u32,
+    source: &mut R,
+    sink: &mut W,
+) -> Result<End, SessionFault>
+    // Exactly the conversation over the bytes that were read is written, where each query has an outcome that its text may have
+    // over the rows of the tables.
+    ensures talk { IfOk result (λ end. (read : List ℕ) × (written : List ℕ)
+        × Consumes (R.unread source.old) (R.unread source.new) read × Appends (W.taken sink.old) (W.taken sink.new) written
+        × Talk COMMAND_LIMIT (Means engine.now) read written end) }
+    // It ends before the end of the input only by a command or a fault.
+    ensures at_end { IfOk result (λ end. IsByInput end → IsAtEnd (R.unread source.new)) }
+{
+    let Ok(mut core) = Core::commands(alloc, id, capabilities) else {
+        return Err(SessionFault::Memory);
+    };
+    let Ok(mut buffer) = zeroed(alloc, PIECE) else {
+        return Err(SessionFault::Memory);
+    };
+    for _ in 0..u64::MAX {
+        if let Some(end) = serve_piece(alloc, engine, &mut core, &mut buffer, source, sink)? {
+            return Ok(end);
+        }
+    }
+    Err(SessionFault::Read)
+}

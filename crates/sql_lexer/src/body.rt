@@ -1,0 +1,46 @@
+//! Where a text in single quotes ends.
+ghost use Rattle.std.specs.Prelude.{◌≡◌, ◌≤◌, length, IfSome};
+ghost use Rattle.sql_lexer.specs.declared.body.Place.TheVariants.{Inside};
+ghost use Rattle.sql_lexer.specs.Scanning.{after_byte, text_len};
+
+/// A place in a text in single quotes.
+#[derive(Clone, Copy, Debug, PartialEq, Eq)]
+pub enum Place {
+    Inside,
+    /// Behind a quote, which closes the text or is the first of a pair.
+    BehindQuote,
+    /// Behind a backslash, which escapes the next byte.
+    BehindBackslash,
+}
+
+/// The place behind a byte, unless the text ended before it.
+fn after_byte(place: Place, byte: u8) -> Option<Place>
+    ensures { result ≡ after_byte place byte }
+{
+    match place {
+        Place::Inside if byte == b'\'' => Some(Place::BehindQuote),
+        Place::Inside if byte == b'\\' => Some(Place::BehindBackslash),
+        Place::BehindQuote if byte != b'\'' => None,
+        _ => Some(Place::Inside),
+    }
+}
+
+/// How many bytes a text has behind its first quote, where it is closed.
+#[tactic(auto, unfolding(crate::specs::Scanning::text_len))]
+pub fn text_len(bytes: &[u8]) -> Option<usize>
+    ensures value { result ≡ text_len 0 Inside bytes.now }
+    ensures within { IfSome result (λ n. n ≤ length bytes.now) }
+{
+    let mut place = Place::Inside;
+    for (count, byte) in bytes.iter().enumerate() {
+        let Some(next) = after_byte(place, *byte) else {
+            return Some(count);
+        };
+        place = next;
+    }
+    if place == Place::BehindQuote {
+        Some(bytes.len())
+    } else {
+        None
+    }
+}

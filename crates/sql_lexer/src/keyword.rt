@@ -1,0 +1,99 @@
+//! The keywords, in any case.
+ghost use Rattle.std.specs.Prelude.{◌≡◌};
+ghost use Rattle.sql_lexer.specs.Keywords.{keyword_text};
+ghost use Rattle.sql_lexer.specs.Lexemes.{is_spelling_of};
+ghost use Rattle.sql_lexer.specs.Scanning.{keyword_at};
+
+use crate::token::Keyword;
+
+const KEYWORDS: [Keyword; 32] = [
+    Keyword::And,
+    Keyword::Asc,
+    Keyword::Begin,
+    Keyword::By,
+    Keyword::Commit,
+    Keyword::Count,
+    Keyword::Delete,
+    Keyword::Desc,
+    Keyword::From,
+    Keyword::Group,
+    Keyword::In,
+    Keyword::Insert,
+    Keyword::Into,
+    Keyword::Is,
+    Keyword::Limit,
+    Keyword::Max,
+    Keyword::Min,
+    Keyword::Names,
+    Keyword::Not,
+    Keyword::Null,
+    Keyword::Offset,
+    Keyword::Or,
+    Keyword::Order,
+    Keyword::Rollback,
+    Keyword::Select,
+    Keyword::Set,
+    Keyword::Start,
+    Keyword::Sum,
+    Keyword::Transaction,
+    Keyword::Update,
+    Keyword::Values,
+    Keyword::Where,
+];
+
+/// The keyword in upper case.
+fn text_of(keyword: Keyword) -> &'static str
+    ensures { result.now ≡ keyword_text keyword }
+{
+    match keyword {
+        Keyword::And => "AND",
+        Keyword::Asc => "ASC",
+        Keyword::Begin => "BEGIN",
+        Keyword::By => "BY",
+        Keyword::Commit => "COMMIT",
+        Keyword::Count => "COUNT",
+        Keyword::Delete => "DELETE",
+        Keyword::Desc => "DESC",
+        Keyword::From => "FROM",
+        Keyword::Group => "GROUP",
+        Keyword::In => "IN",
+        Keyword::Insert => "INSERT",
+        Keyword::Into => "INTO",
+        Keyword::Is => "IS",
+        Keyword::Limit => "LIMIT",
+        Keyword::Max => "MAX",
+        Keyword::Min => "MIN",
+        Keyword::Names => "NAMES",
+        Keyword::Not => "NOT",
+        Keyword::Null => "NULL",
+        Keyword::Offset => "OFFSET",
+        Keyword::Or => "OR",
+        Keyword::Order => "ORDER",
+        Keyword::Rollback => "ROLLBACK",
+        Keyword::Select => "SELECT",
+        Keyword::Set => "SET",
+        Keyword::Start => "START",
+        Keyword::Sum => "SUM",
+        Keyword::Transaction => "TRANSACTION",
+        Keyword::Update => "UPDATE",
+        Keyword::Values => "VALUES",
+        Keyword::Where => "WHERE",
+    }
+}
+
+fn is_spelling_of(word: &[u8], keyword: Keyword) -> bool
+    ensures { result ≡ is_spelling_of word.now keyword }
+{
+    word.eq_ignore_ascii_case(text_of(keyword).as_bytes())
+}
+
+/// The keyword that the word is in some case.
+#[tactic(auto, unfolding(crate::specs::Scanning::keyword_at))]
+pub fn keyword_of(word: &[u8]) -> Option<Keyword>
+    ensures { result ≡ keyword_at word.now }
+{
+    KEYWORDS
+        .iter()
+        .copied()
+        .find(|keyword| is_spelling_of(word, *keyword))
+}

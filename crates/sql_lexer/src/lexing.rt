@@ -1,0 +1,195 @@
+ghost use Rattle.std.specs.Prelude.{◌≡◌, ◌≤◌, ◌++◌, ◌⊎◌, ℕ, List, IfOk, IfErr, MatchResult, true, length, drop};
+ghost use Rattle.sql_lexer.specs.declared.token.Token.{Token};
+ghost use Rattle.sql_lexer.specs.declared.token.TokenKind.{TokenKind};
+ghost use Rattle.sql_lexer.specs.Lexemes.{Spells, ends};
+ghost use Rattle.sql_lexer.specs.Tokens.{Lexes};
+ghost use Rattle.sql_lexer.specs.Results.{Gives};
+ghost use Rattle.sql_lexer.specs.Scanning.{word_at, number_at, quoted_at, text_at, sign_at, operator_at, mark_at};
+ghost use Rattle.sql_lexer.specs.Scanning.{token_at, lex_at};
+
+use crate::body::text_len;
+use crate::byte::{
+    begins_blank, begins_letter, begins_word_byte, is_digit, is_letter, number_len, word_len,
+};
+use crate::keyword::keyword_of;
+use crate::token::{Sign, Token, TokenKind};
+use std::alloc::Global;
+use vt_value::{Comparison, Refusal};
+
+/// How many bytes a word has at most.
+const MAX_WORD: usize = 64;
+
+/// The kind of the token at a text's front, and how many bytes it has.
+type Front = (TokenKind, usize);
+
+#[tactic(auto, unfolding(crate::specs::Scanning::word_at))]
+fn word(rest: &[u8]) -> Option<Front>
+    ensures { result ≡ word_at rest.now }
+{
+    let length = word_len(rest);
+    if length > MAX_WORD {
+        return None;
+    }
+    match keyword_of(&rest[..length]) {
+        Some(keyword) => Some((TokenKind::Keyword(keyword), length)),
+        None => Some((TokenKind::Word, length)),
+    }
+}
+
+#[tactic(auto, unfolding(crate::specs::Scanning::number_at))]
+fn number(rest: &[u8]) -> Option<Front>
+    ensures { result ≡ number_at rest.now }
+{
+    let length = number_len(rest);
+    if begins_word_byte(rest_from(rest, length)) {
+        return None;
+    }
+    Some((TokenKind::Number, length))
+}
+
+/// A word between backquotes, behind the first.
+#[tactic(auto, unfolding(crate::specs::Scanning::quoted_at))]
+fn quoted(rest: &[u8]) -> Option<Front>
+    ensures { result ≡ quoted_at rest.now }
+{
+    let length = word_len(rest);
+    if !begins_letter(rest) || length > MAX_WORD {
+        return None;
+    }
+    match rest_from(rest, length) {
+        [b'`', ..] => Some((TokenKind::Quoted, length + 2)),
+        _ => None,
+    }
+}
+
+/// A text in single quotes, behind the first.
+#[tactic(auto, unfolding(crate::specs::Scanning::text_at))]
+fn text(rest: &[u8]) -> Option<Front>
+    ensures { result ≡ text_at rest.now }
+{
+    let length = text_len(rest)?;
+    Some((TokenKind::Text, length + 1))
+}
+
+fn sign(first: u8) -> Option<Sign>
+    ensures { result ≡ sign_at first }
+{
+    match first {
+        b'(' => Some(Sign::LeftParenthesis),
+        b')' => Some(Sign::RightParenthesis),
+        b',' => Some(Sign::Comma),
+        b';' => Some(Sign::Semicolon),
+        b'*' => Some(Sign::Star),
+        b'-' => Some(Sign::Minus),
+        _ => None,
+    }
+}
+
+/// The operator that begins with this byte, and how many bytes it has.
+fn operator(first: u8, after: &[u8]) -> Option<(Comparison, usize)>
+    ensures { result ≡ operator_at first after.now }
+{
+    let second = after.first().copied();
+    match (first, second) {
+        (b'<', Some(b'=')) => Some((Comparison::Le, 2)),
+        (b'<', Some(b'>')) => Some((Comparison::Ne, 2)),
+        (b'<', _) => Some((Comparison::Lt, 1)),
+        (b'>', Some(b'=')) => Some((Comparison::Ge, 2)),
+        (b'>', _) => Some((Comparison::Gt, 1)),
+        (b'!', Some(b'=')) => Some((Comparison::Ne, 2)),
+        (b'=', _) => Some((Comparison::Eq, 1)),
+        _ => None,
+    }
+}
+
+/// A sign or an operator that begins with this byte.
+#[tactic(auto, unfolding(crate::specs::Scanning::mark_at))]
+fn mark(first: u8, after: &[u8]) -> Option<Front>
+    ensures { result ≡ mark_at first after.now }
+{
+    if let Some(sign) = sign(first) {
+        return Some((TokenKind::Sign(sign), 1));
+    }
+    let (comparison, length) = operator(first, after)?;
+    Some((TokenKind::Operator(comparison), length))
+}
+
+/// The token at the front.
+#[tactic(auto, unfolding(crate::specs::Scanning::token_at))]
+fn token(rest: &[u8]) -> Option<Front>
+    ensures { result ≡ token_at rest.now }
+{
+    match rest {
+        [] => None,
+        [b'`', after @ ..] => quoted(after),
+        [b'\'', after @ ..] => text(after),
+        [first, after @ ..] => {
+            if is_letter(*first) {
+                word(rest)
+            } else if is_digit(*first) {
+                number(rest)
+            } else {
+                mark(*first, after)
+            }
+        }
+    }
+}
+
+fn rest_from(text: &[u8], at: usize) -> &[u8]
+    requires { at ≤ length text.now }
+    ensures { result.now ≡ drop at text.now }
+{
+    &text[at..]
+}
+
+fn tokens(alloc: Global, text: &[u8]) -> Result<Vec<Token>, Refusal>
+    ensures { Gives (λ v. v.items) result (lex_at (length text.now) 0 text.now) }
+{
+    let mut tokens = Vec::new(alloc);
+    let mut at = 0;
+    while at < text.len() {
+        let rest = rest_from(text, at);
+        if begins_blank(rest) {
+            at += 1;
+        } else {
+            let Some((kind, length)) = token(rest) else {
+                return Err(Refusal::SyntaxError);
+            };
+            let end = at + length;
+            tokens.push(Token {
+                kind,
+                start: at,
+                end,
+            })?;
+            at = end;
+        }
+    }
+    Ok(tokens)
+}
+
+/// The tokens of a text: words of at most 64 bytes, keywords in any case, words in backquotes, numbers, texts in single
+/// quotes, signs and operators, each as long as possible, with blanks between them. A text with anything else in it, or
+/// with a letter right behind a number, is a syntax error.
+pub fn lex(alloc: Global, text: &[u8]) -> Result<Vec<Token>, Refusal>
+    // What is given are the text's tokens.
+    ensures found { IfOk result (λ v. Lexes text.now v.items) }
+    // A text that has tokens is read, unless memory runs out; so a syntax error comes only where it is no tokens and
+    // blanks.
+    ensures only { (tokens : List Token) → Lexes text.now tokens
+        → MatchResult result (λ v. v.items ≡ tokens) (λ e. e ≡ Refusal.OutOfMemory) }
+    ensures err { IfErr result (λ e. (e ≡ Refusal.OutOfMemory) ⊎ (e ≡ Refusal.SyntaxError)) }
+{
+    tokens(alloc, text)
+}
+
+/// A text has its tokens in one way.
+pub fn one_lexing()
+    ensures { (text : List ℕ) (ts us : List Token) → Lexes text ts → Lexes text us → ts ≡ us }
+{}
+
+/// No token that stands at a text's front is longer than one that may end before what follows it.
+pub fn longest()
+    ensures { (bytes rest front back : List ℕ) (kind other : TokenKind)
+        → Spells bytes kind → ends kind rest ≡ true → bytes ++ rest ≡ front ++ back → Spells front other
+        → length front ≤ length bytes }
+{}

@@ -1,0 +1,66 @@
+//! What tokens say.
+ghost use Rattle.std.specs.Prelude.{◌≡◌, ◌+◌, ◌-◌, ◌*◌, slice_range};
+ghost use Rattle.std.specs.Option.{option_copied};
+ghost use Rattle.sql_lexer.specs.Lexemes.{digits_onto, inner};
+ghost use Rattle.sql_parser.specs.Reading.{said, identifier_of, number_of, fitting};
+
+use sql_lexer::{Token, TokenKind};
+
+/// The bytes of a token.
+fn bytes_of<'s>(text: &'s [u8], token: &Token) -> &'s [u8]
+    ensures { result.now ≡ slice_range text.now token.now.start token.now.end }
+{
+    let end = token.end.min(text.len());
+    let start = token.start.min(end);
+    &text[start..end]
+}
+
+/// The bytes between a first and a last one.
+fn inner(bytes: &[u8]) -> &[u8]
+    ensures { result.now ≡ inner bytes.now }
+{
+    match bytes {
+        [_, inner @ .., _] => inner,
+        _ => &[],
+    }
+}
+
+/// The name that a token says.
+pub fn identifier<'s>(text: &'s [u8], token: &Token) -> Option<&'s [u8]>
+    ensures { option_copied result ≡ identifier_of (said text.now token.now) }
+{
+    match token.kind {
+        TokenKind::Word => Some(bytes_of(text, token)),
+        TokenKind::Quoted => Some(inner(bytes_of(text, token))),
+        _ => None,
+    }
+}
+
+/// The value of digits with one more, if 64 bits hold it.
+fn with_digit(value: u64, digit: u8) -> Option<u64>
+    ensures { result ≡ fitting (value * 10 + (digit - 0x30)) }
+{
+    let digit = u64::from(digit.saturating_sub(b'0'));
+    value.checked_mul(10)?.checked_add(digit)
+}
+
+/// The value of decimal digits, if 64 bits hold it.
+fn value_of(digits: &[u8]) -> Option<u64>
+    ensures { result ≡ fitting (digits_onto 0 digits.now) }
+{
+    let mut value = 0;
+    for digit in digits {
+        value = with_digit(value, *digit)?;
+    }
+    Some(value)
+}
+
+/// The number that a token says, if 64 bits hold it.
+pub fn number(text: &[u8], token: &Token) -> Option<u64>
+    ensures { result ≡ number_of (said text.now token.now) }
+{
+    match token.kind {
+        TokenKind::Number => value_of(bytes_of(text, token)),
+        _ => None,
+    }
+}

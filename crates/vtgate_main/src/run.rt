@@ -1,0 +1,94 @@
+ghost use Rattle.std.specs.Prelude.{◌≡◌, ◌≢◌, ℕ, List, false, IsTrue, IfOk, bytes_eq, map};
+ghost use Rattle.std.specs.String.{string_bytes};
+ghost use Rattle.std.specs.Io.KnownBytes.{Appends, Consumes};
+ghost use Rattle.session.specs.declared.end.End.{End};
+ghost use Rattle.session.specs.Outcomes.{Means};
+ghost use Rattle.session.specs.Talk.{Talk};
+ghost use Rattle.vtgate_main.specs.First.{first_served, is_first};
+
+use crate::first::first_engine;
+use session::{COMMAND_LIMIT, End, Sink, Source, serve};
+use std::alloc::Global;
+
+/// The status of a run that did its work.
+const SUCCESS: u8 = 0;
+
+/// The status of a run that failed.
+const FAILURE: u8 = 1;
+
+/// The status of a run whose words are wrong.
+const WRONG_WORDS: u8 = 2;
+
+/// How to call the program.
+const USAGE: &[u8] = b"usage: vtgate serve|plan|script\n";
+
+const FAILED: &[u8] = b"failed\n";
+
+/// A run could not do its work.
+#[derive(Clone, Copy)]
+struct Failed;
+
+fn is_word(word: &String, bytes: &[u8]) -> bool
+    ensures { result ≡ bytes_eq (string_bytes word.now) bytes.now }
+{
+    word.as_bytes() == bytes
+}
+
+fn is_first(words: &[String]) -> bool
+    ensures { result ≡ is_first (map string_bytes words.now) }
+{
+    match words {
+        [word] => is_word(word, b"first"),
+        _ => false,
+    }
+}
+
+/// Serves the command phase of one connection over the first tables.
+fn serve_first<I: Source, O: Sink>(
+    alloc: Global,
+    input: &mut I,
+    output: &mut O,
+) -> Result<End, Failed>
+    ensures { IfOk result (λ end. (read : List ℕ) × (written : List ℕ)
+        × Consumes (I.unread input.old) (I.unread input.new) read × Appends (O.taken output.old) (O.taken output.new) written
+        × Talk COMMAND_LIMIT (Means first_served) read written end) }
+{
+    let Ok(engine) = first_engine(alloc) else {
+        return Err(Failed);
+    };
+    match serve(alloc, &engine, 1, 0, input, output) {
+        Ok(end) => Ok(end),
+        Err(_) => Err(Failed),
+    }
+}
+
+/// Runs the program with the words of its command line, and gives its exit status. `first` reads the bytes of a client's
+/// command phase from the input and writes the replies to the output, over the first tables: 0, or 1 where a device fails or there
+/// is no memory. Any other words are wrong: the usage is told, and the status is 2.
+pub fn run<I: Source, O: Sink, E: Sink>(
+    alloc: Global,
+    words: &[String],
+    input: &mut I,
+    output: &mut O,
+    errors: &mut E,
+) -> u8
+    ensures first { IsTrue (is_first (map string_bytes words.now)) → result ≡ SUCCESS →
+        (read : List ℕ) × (written : List ℕ) × (end : End)
+        × Consumes (I.unread input.old) (I.unread input.new) read × Appends (O.taken output.old) (O.taken output.new) written
+        × Talk COMMAND_LIMIT (Means first_served) read written end }
+    ensures status { IsTrue (is_first (map string_bytes words.now)) → result ≢ WRONG_WORDS }
+    ensures wrong { is_first (map string_bytes words.now) ≡ false →
+        (result ≡ WRONG_WORDS) × (input.new ≡ input.old) × (output.new ≡ output.old) }
+{
+    if !is_first(words) {
+        let _ = errors.write(USAGE);
+        return WRONG_WORDS;
+    }
+    match serve_first(alloc, input, output) {
+        Ok(_) => SUCCESS,
+        Err(_) => {
+            let _ = errors.write(FAILED);
+            FAILURE
+        }
+    }
+}
