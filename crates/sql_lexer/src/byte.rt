@@ -3,24 +3,28 @@ ghost use Rattle.std.specs.Prelude.{◌≡◌, ◌≤◌, length};
 ghost use Rattle.sql_lexer.specs.Lexemes.{is_blank, is_letter, is_digit, is_word_byte};
 ghost use Rattle.sql_lexer.specs.Scanning.{run, begins};
 
+/// A blank, tab, line feed, vertical tab, form feed or carriage return.
 fn is_blank(byte: u8) -> bool
     ensures { result ≡ is_blank byte }
 {
     byte == b' ' || (b'\t' <= byte && byte <= b'\r')
 }
 
+/// An ASCII letter or `_`.
 pub fn is_letter(byte: u8) -> bool
     ensures { result ≡ is_letter byte }
 {
     (b'A' <= byte && byte <= b'Z') || (b'a' <= byte && byte <= b'z') || byte == b'_'
 }
 
+/// A decimal digit.
 pub fn is_digit(byte: u8) -> bool
     ensures { result ≡ is_digit byte }
 {
     b'0' <= byte && byte <= b'9'
 }
 
+/// A letter, `_` or a digit.
 pub fn is_word_byte(byte: u8) -> bool
     ensures { result ≡ is_word_byte byte }
 {

@@ -6,7 +6,7 @@ ghost use Rattle.sql_parser.specs.Reading.{said, identifier_of, number_of, fitti
 
 use sql_lexer::{Token, TokenKind};
 
-/// The bytes of a token.
+/// The bytes of a token, as far as the text has them.
 fn bytes_of<'s>(text: &'s [u8], token: &Token) -> &'s [u8]
     ensures { result.now ≡ slice_range text.now token.now.start token.now.end }
 {
