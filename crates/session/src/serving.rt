@@ -5,9 +5,9 @@ ghost use Rattle.session.specs.Outcomes.{Means};
 ghost use Rattle.session.specs.Sessions.{HasTalked, HasTalkedOn};
 ghost use Rattle.session.specs.Talk.{Talk, IsByInput};
 
-use crate::core::{COMMAND_LIMIT, Core};
 use crate::devices::{Sink, Source};
 use crate::end::{End, SessionFault};
+use crate::session_core::{COMMAND_LIMIT, Core};
 use route_engine::Engine;
 use std::alloc::{AllocError, Global};
 

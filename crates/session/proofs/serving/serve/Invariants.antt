@@ -1,6 +1,6 @@
 use Rattle.std.proofs.Common.{◌≡◌, ℕ, List, vec_len}
 use Rattle.std.specs.Io.KnownBytes.{Appends, Consumes}
-use Rattle.session.specs.declared.core.TheConstants.{COMMAND_LIMIT}
+use Rattle.session.specs.declared.session_core.TheConstants.{COMMAND_LIMIT}
 use Rattle.session.specs.declared.serving.TheConstants.{PIECE}
 use Rattle.session.specs.Outcomes.{Means}
 use Rattle.session.specs.Sessions.{HasTalked}

@@ -1,6 +1,6 @@
 use Rattle.std.proofs.Common.{◌≡◌, List, ℕ, [], true, false, Bool, refl}
 use Rattle.session.proofs.Conversations.{whole_end, is_end}
-use Rattle.session.proofs.core.Core.end_of_input.Goals as goal
+use Rattle.session.proofs.session_core.Core.end_of_input.Goals as goal
 
 pub returns-in-None-clause-whole : goal.returns-in-None-clause-whole
 returns-in-None-clause-whole c =

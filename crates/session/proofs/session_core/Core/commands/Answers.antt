@@ -1,6 +1,6 @@
 use Rattle.std.proofs.Common.{[], refl}
 use Rattle.session.specs.Talk as t
-use Rattle.session.proofs.core.Core.commands.Goals as goal
+use Rattle.session.proofs.session_core.Core.commands.Goals as goal
 
 pub returns-clause-begins : goal.returns-clause-begins
 returns-clause-begins c = λ s. record { payloads = []; goes_on = refl; read = c.new.ensures.start; replies = t.none }

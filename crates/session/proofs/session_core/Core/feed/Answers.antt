@@ -1,5 +1,5 @@
 use Rattle.session.proofs.Conversations.{talked, ends_by_command}
-use Rattle.session.proofs.core.Core.feed.Goals as goal
+use Rattle.session.proofs.session_core.Core.feed.Goals as goal
 
 pub returns-clause-talk : goal.returns-clause-talk
 returns-clause-talk g c =

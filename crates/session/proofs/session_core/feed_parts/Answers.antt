@@ -1,5 +1,5 @@
 use Rattle.session.proofs.Conversations.{fed_by}
-use Rattle.session.proofs.core.feed_parts.Goals as goal
+use Rattle.session.proofs.session_core.feed_parts.Goals as goal
 
 pub returns-in-Ok-answer_fed-clause-answers : goal.returns-in-Ok-answer_fed-clause-answers
 returns-in-Ok-answer_fed-clause-answers g c = (
