@@ -1,4 +1,4 @@
-ghost use Rattle.std.specs.Prelude.{◌≡◌, ℕ, ◌+◌, ◌≤◌, true, false, List, length, IfOk, OnErr};
+ghost use Rattle.std.specs.Prelude.{◌≡◌, ℕ, ◌+◌, ◌≤◌, true, false, List, length, IfOk, IfErr, OnErr, ◌⊎◌};
 ghost use Rattle.std.specs.Io.KnownBytes.{Appends};
 ghost use Rattle.mysql_packet.specs.declared.framer.Fed.{Fed};
 ghost use Rattle.session.specs.Outcomes.{Means};
@@ -32,6 +32,7 @@ fn feed_parts<W: Sink>(
         × Appends (W.taken sink.old) (W.taken sink.new) out × AnswersFed (Means engine.now) fed out end)) }
     ensures limit { framer.new.limit ≡ framer.old.limit }
     ensures room { REPLY_ROOM ≤ length reply.new.items + reply.new.spare }
+    ensures cause { IfErr result (λ e. (e ≡ SessionFault.Memory) ⊎ (e ≡ SessionFault.Write)) }
 {
     let Ok(fed) = framer.feed(piece) else {
         return Err(SessionFault::Memory);
@@ -88,7 +89,7 @@ fn ended_by(answer: Result<Option<End>, SessionFault>) -> Option<End>
 }
 
 impl Core {
-    ghost use Rattle.std.specs.Prelude.{◌≡◌, ℕ, List, [], ◌++◌, None, Some, Ok, IfOk, IfErr, IfSome, OnErr};
+    ghost use Rattle.std.specs.Prelude.{◌≡◌, ℕ, List, [], ◌++◌, None, Some, Ok, IfOk, IfErr, IfSome, OnErr, ◌⊎◌};
     ghost use Rattle.std.specs.Io.KnownBytes.{Appends};
     ghost use Rattle.route_engine.specs.Answers.{Served};
     ghost use Rattle.session.specs.Outcomes.{Means};
@@ -161,6 +162,7 @@ impl Core {
         // A piece ends no session as the end of the input does.
         ensures by_command { self.old.ended ≡ None → IfOk result (λ end. IfSome end IsByCommand) }
         ensures fault { OnErr result (self.new.ended ≡ Some End.Broken) }
+        ensures cause { IfErr result (λ e. (e ≡ SessionFault.Memory) ⊎ (e ≡ SessionFault.Write)) }
         ensures again { IfSome self.old.ended (λ end. (result ≡ Ok (Some end)) × (self.new ≡ self.old) × (sink.new ≡ sink.old)) }
         ensures next { IsNext self.old self.new }
     {
