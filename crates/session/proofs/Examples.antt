@@ -1,10 +1,10 @@
 -- Conversations of documented examples: a ping and a quit, an order of packets that is wrong, a header that is too large, an empty
 -- payload.
-use Rattle.std.proofs.Common.{ℕ, List, [], ◌∷◌, ◌++◌, refl, lit<, lit≤, inl}
+use Rattle.std.proofs.Common.{ℕ, List, [], ◌∷◌, refl, lit<, lit≤, inl}
 use Rattle.std.specs.Prelude.{codes}
 use Rattle.mysql_packet.specs.declared.framer.Payload.{Payload}
 use Rattle.mysql_packet.specs.declared.framer.Fault.{Fault}
-use Rattle.mysql_packet.specs.Frames.{IsPartial, Splits}
+use Rattle.mysql_packet.specs.Frames.{IsPartial}
 use Rattle.vt_value.specs.declared.refusal.Refusal.TheVariants.{PacketTooLarge}
 use Rattle.resultset.specs.declared.Outcome.{Outcome}
 use Rattle.session.specs.declared.end.End.TheVariants.{Quit, Closed, Broken}

@@ -1,5 +1,5 @@
 -- How the columns of a query's result are defined.
-use Rattle.std.specs.Prelude.{◌≡◌, ℕ, ◌+◌, Bool, ◌==◌, List, [], ◌∷◌, slice_index_or, if◌then◌else◌}
+use Rattle.std.specs.Prelude.{◌≡◌, ℕ, ◌+◌, true, false, ◌==◌, List, [], ◌∷◌, slice_index_or, if◌then◌else◌}
 use Rattle.std.specs.List.{list_any}
 use Rattle.vschema.specs.declared.schema.ColumnType.{ColumnType}
 use Rattle.vschema.specs.declared.schema.ColumnType.TheVariants as type
@@ -7,6 +7,7 @@ use Rattle.vschema.specs.declared.schema.Keyspace.{Keyspace}
 use Rattle.vschema.specs.declared.schema.Table.{Table}
 use Rattle.vschema.specs.declared.schema.VSchema.{VSchema}
 use Rattle.vschema.specs.declared.schema.Column as C
+use Rattle.vschema.specs.Schema.{no_table}
 use Rattle.resultset.specs.declared.Kind.{Kind}
 use Rattle.resultset.specs.declared.Kind.TheVariants.{BigInt, BigIntUnsigned, VarBinary}
 use Rattle.resultset.specs.declared.Column as R
@@ -30,13 +31,10 @@ flags_of t place c =
     else base_flags c.kind + 1
 
 abbrev pub no_keyspace : Keyspace
-no_keyspace = record { name = [] }
-
-abbrev pub no_table : Table
-no_table = record { name = []; keyspace = 0; columns = []; primary_key = [] }
+no_keyspace = record { name = []; sharded = false }
 
 abbrev pub no_column : C.Column
-no_column = record { name = []; kind = type.BigInt; nullable = Rattle.std.specs.Prelude.true }
+no_column = record { name = []; kind = type.BigInt; nullable = true }
 
 -- the definition of the column at a place of a table
 pub record Defines (schema : VSchema) (t : Table) (place : ℕ) (column : C.Column) (defined : R.Column) : Type 0 where

@@ -1,6 +1,7 @@
 ghost use Rattle.std.specs.Prelude.{◌≡◌, ◌==◌, IfOk, IfErr, slice_index_or};
 ghost use Rattle.std.specs.List.{list_any};
-ghost use Rattle.session.specs.Columns.{kind_of, base_flags, flags_of, no_keyspace, no_table, no_column, Defines, DefinesAt, AllDefined, AreColumns};
+ghost use Rattle.vschema.specs.Schema.{no_table};
+ghost use Rattle.session.specs.Columns.{kind_of, base_flags, flags_of, no_keyspace, no_column, Defines, DefinesAt, AllDefined, AreColumns};
 
 use resultset::{Column as ResultColumn, Kind};
 use sql_tree::Name;
@@ -101,6 +102,7 @@ fn missing_table(alloc: Global) -> Table
         keyspace: 0,
         columns: Items::new(alloc),
         primary_key: Items::new(alloc),
+        vindex: None,
     }
 }
 

@@ -39,6 +39,36 @@ pub struct Select {
     pub filter: Option<Condition<Name>>,
 }
 
+/// An INSERT. Without a list of columns its rows have a value for each column of the table.
+#[derive(Debug, Drop)]
+pub struct Insert {
+    pub table: Name,
+    pub columns: Option<Items<Name>>,
+    pub rows: Items<Items<Value>>,
+}
+
+/// What a SET stores in a column, as `C` says it.
+#[derive(Debug, Drop)]
+pub struct Assignment<C> {
+    pub column: C,
+    pub value: Value,
+}
+
+/// An UPDATE of the rows that the filter keeps, of all rows without one.
+#[derive(Drop)]
+pub struct Update {
+    pub table: Name,
+    pub assignments: Items<Assignment<Name>>,
+    pub filter: Option<Condition<Name>>,
+}
+
+/// A DELETE of the rows that the filter keeps, of all rows without one.
+#[derive(Drop)]
+pub struct Delete {
+    pub table: Name,
+    pub filter: Option<Condition<Name>>,
+}
+
 #[derive(Drop)]
 pub enum Statement {
     Select(Select),

@@ -1,25 +1,45 @@
--- A VSchema with one unsharded keyspace `shop` and two tables.
-use Rattle.std.proofs.Common.{[], ◌∷◌, true, false}
+-- A VSchema with a sharded keyspace `shop` (tables t and b) and an unsharded one `base` (table u).
+use Rattle.std.proofs.Common.{ℕ, Bool, List, [], ◌∷◌, Some, None, true, false}
 use Rattle.std.specs.Prelude.{codes}
-use Rattle.vschema.specs.declared.schema.ColumnType.TheVariants.{BigIntUnsigned, VarBinary}
+use Rattle.vindex.specs.declared.AnyVindex.TheVariants.{ReverseBits, BinaryMd5}
+use Rattle.vschema.specs.declared.schema.Column.{Column}
+use Rattle.vschema.specs.declared.schema.ColumnType.{ColumnType}
+use Rattle.vschema.specs.declared.schema.ColumnType.TheVariants.{BigInt, BigIntUnsigned, VarBinary}
 use Rattle.vschema.specs.declared.schema.Table.{Table}
 use Rattle.vschema.specs.declared.schema.VSchema.{VSchema}
+
+abbrev column : List ℕ → ColumnType → Bool → Column
+column name kind nullable = record { name = name; kind = kind; nullable = nullable }
 
 abbrev pub t : Table
 t = record {
   name = codes "t";
   keyspace = 0;
-  columns = record { name = codes "id"; kind = BigIntUnsigned; nullable = false } ∷ record { name = codes "c"; kind = BigIntUnsigned; nullable = true } ∷ [];
+  columns = column (codes "id") BigIntUnsigned false ∷ column (codes "c") BigIntUnsigned true ∷ [];
   primary_key = 0 ∷ [];
+  vindex = Some (record { column = 0; vindex = ReverseBits });
 }
 
 abbrev pub b : Table
 b = record {
   name = codes "b";
   keyspace = 0;
-  columns = record { name = codes "k"; kind = VarBinary 255; nullable = false } ∷ record { name = codes "v"; kind = VarBinary 255; nullable = true } ∷ [];
+  columns = column (codes "k") (VarBinary 255) false ∷ column (codes "v") (VarBinary 255) true ∷ [];
   primary_key = 0 ∷ [];
+  vindex = Some (record { column = 0; vindex = BinaryMd5 });
+}
+
+abbrev pub u : Table
+u = record {
+  name = codes "u";
+  keyspace = 1;
+  columns = column (codes "n") BigInt false ∷ column (codes "name") (VarBinary 32) true ∷ [];
+  primary_key = 0 ∷ [];
+  vindex = None;
 }
 
 abbrev pub schema : VSchema
-schema = record { keyspaces = record { name = codes "shop" } ∷ []; tables = t ∷ b ∷ [] }
+schema = record {
+  keyspaces = record { name = codes "shop"; sharded = true } ∷ record { name = codes "base"; sharded = false } ∷ [];
+  tables = t ∷ b ∷ u ∷ [];
+}

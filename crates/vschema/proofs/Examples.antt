@@ -22,7 +22,11 @@ abbrev select : SelectList → Name → Option (Condition Name) → Statement
 select list table filter = statement.Select (record { list = list; table = table; filter = filter })
 
 all_of_t : typed_statement schema (select All (codes "t") (equals (codes "id") 5))
-    ≡ Ok (Select (record { table = 0; items = 0 ∷ 1 ∷ []; filter = Some (Compare Eq (Column 0) (Literal (Int (pos 5)))) }))
+    ≡ Ok (Select (record {
+      table = 0;
+      items = 0 ∷ 1 ∷ [];
+      filter = Some (Compare Eq (Column 0) (Literal (Int (pos 5))));
+    }))
 all_of_t = search (rules, the_lemmas)
 
 columns_of_b : typed_statement schema (select (Columns (codes "v" ∷ codes "k" ∷ codes "v" ∷ [])) (codes "b") None)
@@ -36,7 +40,8 @@ unknown_column : typed_statement schema (select All (codes "b") (equals (codes "
 unknown_column = search (rules, the_lemmas)
 
 -- an unknown column comes before a comparison of a text with a number
-unknown_in_list : typed_statement schema (select (Columns (codes "K" ∷ [])) (codes "b") (equals (codes "k") 5)) ≡ Err UnknownColumn
+unknown_in_list :
+    typed_statement schema (select (Columns (codes "K" ∷ [])) (codes "b") (equals (codes "k") 5)) ≡ Err UnknownColumn
 unknown_in_list = search (rules, the_lemmas)
 
 text_with_number : typed_statement schema (select All (codes "b") (equals (codes "k") 5)) ≡ Err NotSupported

@@ -2,4 +2,8 @@ pub mod Schema
 pub mod Resolved
 pub mod Checks
 pub mod TypedStatement
+pub mod WriteChecks
+pub mod TypedWrites
 pub mod Database
+pub mod Storable
+pub mod WellFormed

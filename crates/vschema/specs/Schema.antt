@@ -1,8 +1,10 @@
--- Tables and columns by name.
-use Rattle.std.specs.Prelude.{ℕ, ◌+◌, Bool, List, [], ◌∷◌, bytes_eq, slice_index_or, Option, Some, None, if◌then◌else◌}
+-- Tables and columns by name, and the keyspace id of a row.
+use Rattle.std.specs.Prelude.{ℕ, ◌+◌, Bool, List, [], ◌∷◌, bytes_eq, slice_index_or, map, Option, Some, None, if◌then◌else◌}
 use Rattle.vt_value.specs.declared.value.Value.{Value}
 use Rattle.vt_value.specs.declared.value.Value.TheVariants.{Null}
 use Rattle.vt_value.specs.Values.{Row}
+use Rattle.vindex.specs.KeyspaceIds.{keyspace_id}
+use Rattle.vschema.specs.declared.schema.ColumnVindex.{ColumnVindex}
 use Rattle.vschema.specs.declared.schema.Table.{Table}
 use Rattle.vschema.specs.declared.schema.VSchema.{VSchema}
 
@@ -21,3 +23,19 @@ table_place schema name = place_from (λ t. bytes_eq t.name name) 0 schema.table
 -- a row has NULL behind its last value
 abbrev pub value_at : Row → ℕ → Value
 value_at row n = slice_index_or row n Null
+
+-- a row's primary key
+abbrev pub key_of : Table → Row → List Value
+key_of t row = map (value_at row) t.primary_key
+
+-- the keyspace id of a row: the vindex applied to the vindex column. A row of a table without one has the empty id.
+abbrev pub row_id : Table → Row → List ℕ
+row_id t row = id_by t.vindex row
+  where
+    id_by : Option ColumnVindex → Row → List ℕ
+    id_by None r = []
+    id_by (Some v) r = keyspace_id v.vindex (value_at r v.column)
+
+-- the table at a place that the VSchema doesn't have
+abbrev pub no_table : Table
+no_table = record { name = []; keyspace = 0; columns = []; primary_key = []; vindex = None }

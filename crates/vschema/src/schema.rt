@@ -1,4 +1,6 @@
+use keyrange::KeyRange;
 use sql_tree::{Condition, Name};
+use vindex::AnyVindex;
 use vt_value::Items;
 
 /// The type of a column.
@@ -18,19 +20,29 @@ pub struct Column {
     pub nullable: bool,
 }
 
-/// A table. Its keyspace and the columns of its primary key are told by their places.
+/// The column that decides the shard of a row, by its place, and how.
+#[derive(Clone, Copy, Debug, PartialEq, Eq)]
+pub struct ColumnVindex {
+    pub column: usize,
+    pub vindex: AnyVindex,
+}
+
+/// A table. Its keyspace and the columns of its primary key are told by their places. It has a vindex where its keyspace
+/// is sharded.
 #[derive(Debug, Drop)]
 pub struct Table {
     pub name: Name,
     pub keyspace: usize,
     pub columns: Items<Column>,
     pub primary_key: Items<usize>,
+    pub vindex: Option<ColumnVindex>,
 }
 
-/// A keyspace, by its name.
+/// A keyspace, by its name. The rows of a sharded one lie on several shards.
 #[derive(Debug, Drop)]
 pub struct Keyspace {
     pub name: Name,
+    pub sharded: bool,
 }
 
 /// What the router knows of its keyspaces and tables.
@@ -38,6 +50,13 @@ pub struct Keyspace {
 pub struct VSchema {
     pub keyspaces: Items<Keyspace>,
     pub tables: Items<Table>,
+}
+
+/// A keyspace, by its place, and a range of its ids.
+#[derive(Drop)]
+pub struct Place {
+    pub keyspace: usize,
+    pub range: KeyRange,
 }
 
 /// A query. Its table is told by its place in the VSchema, its columns by their places in the table.

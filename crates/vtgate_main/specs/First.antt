@@ -1,5 +1,5 @@
 -- What `vtgate first` serves: the unsharded keyspace `shop` with the table t, and its first rows on the shard `0`.
-use Rattle.std.specs.Prelude.{ℕ, Bool, List, [], ◌∷◌, codes, bytes_eq, pos, true, false}
+use Rattle.std.specs.Prelude.{ℕ, Bool, List, [], ◌∷◌, codes, bytes_eq, pos, true, false, None}
 use Rattle.vt_value.specs.declared.value.Value.{Value}
 use Rattle.vt_value.specs.declared.value.Value.TheVariants.{Null, Int}
 use Rattle.vt_value.specs.Values.{Row}
@@ -10,12 +10,13 @@ use Rattle.route_engine.specs.Answers.{Served}
 -- CREATE TABLE t (id BIGINT UNSIGNED NOT NULL PRIMARY KEY, c BIGINT UNSIGNED)
 abbrev pub first_schema : VSchema
 first_schema = record {
-  keyspaces = record { name = codes "shop" } ∷ [];
+  keyspaces = record { name = codes "shop"; sharded = false } ∷ [];
   tables = record {
     name = codes "t";
     keyspace = 0;
     columns = record { name = codes "id"; kind = BigIntUnsigned; nullable = false } ∷ record { name = codes "c"; kind = BigIntUnsigned; nullable = true } ∷ [];
     primary_key = 0 ∷ [];
+    vindex = None;
   }
       ∷ [];
 }

@@ -39,6 +39,7 @@ fn first_schema(alloc: Global) -> Result<VSchema, AllocError>
 {
     let keyspace = Keyspace {
         name: Items::from_slice(alloc, b"shop")?,
+        sharded: false,
     };
     let id = column(alloc, b"id", false)?;
     let c = column(alloc, b"c", true)?;
@@ -47,6 +48,7 @@ fn first_schema(alloc: Global) -> Result<VSchema, AllocError>
         keyspace: 0,
         columns: two(alloc, id, c)?,
         primary_key: one(alloc, 0)?,
+        vindex: None,
     };
     Ok(VSchema {
         keyspaces: one(alloc, keyspace)?,

@@ -1,4 +1,3 @@
-use Rattle.std.proofs.Common.{arith, ◌<◌, length}
 use Rattle.std.proofs.lemmas.List.{take_more}
 use Rattle.session.proofs.ColumnLemmas.{AllDefined-push}
 use Rattle.session.proofs.columns.define_all.Goals as goal

@@ -1,4 +1,4 @@
-use Rattle.std.proofs.Common.{ap, sym, subst}
+use Rattle.std.proofs.Common.{subst}
 use Rattle.vschema.specs.declared.schema.VSchema.{VSchema}
 use Rattle.session.specs.Columns.{AreColumns}
 use Rattle.session.specs.Outcomes as o

@@ -4,7 +4,6 @@ use Rattle.vt_value.specs.declared.refusal.Refusal.{Refusal}
 use Rattle.mysql_packet.specs.Frames.{frame}
 use Rattle.mysql_message.specs.Messages.{command_of, err_payload}
 use Rattle.session.specs.Talk.{reply_number}
-use Rattle.session.specs.Outcomes.{Means}
 use Rattle.session.proofs.RepliesLemmas.{one_out_of_order, one_quit, one_unknown, one_ping, one_query_or_refusal}
 use Rattle.session.proofs.reply.put_reply.Goals as goal
 

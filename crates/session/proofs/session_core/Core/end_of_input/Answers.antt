@@ -1,4 +1,3 @@
-use Rattle.std.proofs.Common.{◌≡◌, List, ℕ, [], true, false, Bool, refl}
 use Rattle.session.proofs.Conversations.{whole_end, is_end}
 use Rattle.session.proofs.session_core.Core.end_of_input.Goals as goal
 

@@ -1,0 +1,21 @@
+use sql_tree::{Assignment, Condition};
+use vt_value::{Items, Row};
+
+/// A write with its names resolved. Its table is told by its place in the VSchema, its columns by their places in the
+/// table.
+#[derive(Drop)]
+pub enum Write {
+    /// Whole rows, in the order of the table's columns.
+    Insert(usize, Items<Row>),
+    Update(usize, Items<Assignment<usize>>, Option<Condition<usize>>),
+    Delete(usize, Option<Condition<usize>>),
+}
+
+/// What a write does to one row of the table at a place.
+#[derive(Debug, Drop)]
+pub enum RowChange {
+    Added(usize, Row),
+    /// The old row, and the new one in its place.
+    Replaced(usize, Row, Row),
+    Removed(usize, Row),
+}
