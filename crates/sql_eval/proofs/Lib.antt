@@ -1,2 +1,3 @@
 pub mod ConditionLemmas
 pub mod Examples
+pub mod WriteExamples
