@@ -1,0 +1,10 @@
+use Rattle.std.proofs.Common.{arith, sym, ◌∙◌}
+use Rattle.journal.proofs.Keeps.{looks}
+use Rattle.journal.proofs.words.Words.see.Goals as goal
+
+pub load-requires : goal.load-requires
+load-requires g c = (
+  c.requires.table ∙ sym c.args.self.now.named,
+  omega (arith, c.args.self.now.long, c.requires.slot),
+  looks _ _ _ _ _ c.args.seat.now.me c.args.slot c.requires.slot,
+)

@@ -1,0 +1,6 @@
+pub mod Runs
+pub mod Names
+pub mod Rules
+pub mod Views
+pub mod Laws
+pub mod Held

@@ -1,0 +1,97 @@
+ghost use Rattle.std.specs.Prelude.{◌≡◌, [], None, IfOk, IfErr};
+ghost use Rattle.vt_value.specs.declared.refusal.Refusal.TheVariants.{OutOfMemory};
+
+use crate::law::{Law, Naming};
+use crate::opener::Opener;
+use crate::pass::Pass;
+use crate::rule::{Rule, View};
+use crate::seat::ShardSeat;
+use crate::words::{Knower, Words};
+use atomic_table::Table;
+use std::alloc::Global;
+use std::marker::{Model, PhantomData};
+use std::sync::Arc;
+use vt_value::Refusal;
+
+/// How many slots a table has.
+pub const SLOTS: usize = 64;
+
+/// A table of words with an empty run, which has no name yet. Contracts see it as its identity, by which a call picks
+/// the name.
+#[derive(Drop)]
+pub struct Opened<L: Law> {
+    table: Table<L::Entry, View<L::Entry>, (), Rule<L>, Global>,
+    seat: Knower<L>,
+}
+
+impl<L: Law> Model for Opened<L> {
+    ghost use Rattle.std.specs.Prelude.{◌≡◌, []};
+    ghost use Rattle.atomic_table.specs.Seated.{TableId, table_id_coded};
+    ghost use Rattle.journal.specs.Rules.{opening_view};
+
+    ghost Value = { TableId };
+
+    ghost coded = { table_id_coded };
+
+    ghost view = { λ o. o.table.shared.table_id };
+
+    ghost invariant = { λ o. (o.table.shared.table_id.words ≡ 64) × (o.seat.table_id ≡ o.table.shared.table_id) × (o.seat.me ≡ (opening_view, [])) };
+}
+
+impl<L: Law> Opened<L> {
+    ghost use Rattle.journal.specs.Views.{new_pass, fresh_seats};
+
+    /// Opens a table, each word 0. It refuses `OutOfMemory` where no block is given.
+    pub fn new(alloc: Global) -> Result<Opened<L>, Refusal>
+        ensures refused { IfErr result (λ e. e ≡ OutOfMemory) }
+    {
+        let (table, seat) = Table::of_words(alloc, &[0; 64], &())?;
+        Ok(Opened { table, seat })
+    }
+
+    /// The seats of the slots in order, the opener, which gives number 0 first, and a first pass without a session
+    /// number, all under the table's name. It refuses `OutOfMemory` where no block is given.
+    pub fn named<J: Naming>(
+        self,
+        alloc: Global,
+    ) -> Result<(Vec<ShardSeat<L, J>>, Opener<L, J>, Pass<L, J>), Refusal>
+        requires name { self ≡ J.table }
+        ensures seats { IfOk result (λ r. r.0.items ≡ fresh_seats 64) }
+        ensures opener { IfOk result (λ r. r.1 ≡ 0) }
+        ensures pass { IfOk result (λ r. r.2 ≡ new_pass [] None) }
+        ensures refused { IfErr result (λ e. e ≡ OutOfMemory) }
+    {
+        let Opened { table, mut seat } = self;
+        let words = Arc::new(
+            alloc,
+            Words {
+                table,
+                of: PhantomData,
+            },
+        )?;
+        let mut seats = Vec::with_capacity(alloc, SLOTS)?;
+        for slot in 0..SLOTS {
+            let own = Arc::try_clone(&words)?;
+            let first = own.deal(&mut seat);
+            seats.push(ShardSeat {
+                words: own,
+                seat: first,
+                slot,
+            })?;
+        }
+        let own = Arc::try_clone(&words)?;
+        let first = own.note(&mut seat);
+        let pass = Pass {
+            words: own,
+            seat: first,
+            number: None,
+            statements: 0,
+        };
+        let opener = Opener {
+            words,
+            seat,
+            next: 0,
+        };
+        Ok((seats, opener, pass))
+    }
+}
