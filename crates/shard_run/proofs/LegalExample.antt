@@ -46,10 +46,22 @@ is_legal = (
     record { slot = lit< tt; range = low_named; same = (λ e. absurd (omega (arith, e)), tt); opening = λ e. cc; target = λ _ e. cc },
     record { following = refl; of_source = (0, lit< tt, refl); next = refl; entry = four; stored = refl; filtered = refl },
     (
-      record { slot = lit< tt; range = low_named; same = (λ _. refl, (λ e. absurd (omega (arith, e)), tt)); opening = λ _. (0, lit< tt, refl); target = λ e. cc },
+      record {
+        slot = lit< tt;
+        range = low_named;
+        same = (λ _. refl, (λ e. absurd (omega (arith, e)), tt));
+        opening = λ _. (0, lit< tt, refl);
+        target = λ e. cc;
+      },
       refl,
       (
-        record { slot = lit< tt; range = low_named; same = (λ _. refl, (λ e. absurd (omega (arith, e)), (λ _. refl, tt))); opening = λ _. (0, lit< tt, refl); target = λ e. cc },
+        record {
+          slot = lit< tt;
+          range = low_named;
+          same = (λ _. refl, (λ e. absurd (omega (arith, e)), (λ _. refl, tt)));
+          opening = λ _. (0, lit< tt, refl);
+          target = λ e. cc;
+        },
         record {
           frozen = refl;
           of_source = ((0, lit< tt, refl), tt);

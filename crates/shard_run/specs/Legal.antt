@@ -21,7 +21,8 @@ use Rattle.shard_run.specs.Runs.{Run, Opening, one, mode, stored_on, stored_chan
 
 -- the changes are those of one write over the database, in any order
 abbrev pub IsChangeOf : VSchema → Write → Database → List RowChange → Type 0
-IsChangeOf schema w db changes = (exact : List RowChange) × (changes_of schema w db ≡ Ok exact) × IsPermutation exact changes
+IsChangeOf schema w db changes =
+    (exact : List RowChange) × (changes_of schema w db ≡ Ok exact) × IsPermutation exact changes
 
 -- the changes are those of the writes, one after the other
 abbrev pub AreChangesOf : VSchema → List Write → Database → List RowChange → Type 0
@@ -35,8 +36,8 @@ abbrev pub is_late : ℕ → ℕ → Event → Bool
 is_late session number (Commit c) = (c.session == session) && not (nat_lt c.number number)
 is_late session number _ = false
 
--- A commit: the shard is Serving; each statement is what some statement means; the changes are what they make of the one
--- database's rows in the shard's place, and lie there too; the number is above all earlier ones of the session.
+-- A commit: the shard is Serving; its writes are each what some statement means; the changes are what they make of the
+-- one database's rows in the shard's place, and lie there too; the number is above all earlier ones of the session.
 pub record MayCommit (o : Opening) (before : Run) (s : Shard) (c : C.Commit) : Type 0 where
   pub serving : mode o before s.slot ≡ Serving
   pub inside : IsTrue (list_all (change_lies_in o.schema s.place) c.changes)

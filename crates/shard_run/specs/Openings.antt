@@ -30,4 +30,5 @@ pub record OpensWith (schema : VSchema) (s : Shard) (db : Database) : Type 0 whe
 pub record IsOpening (o : Opening) : Type 0 where
   pub each : AllByRecursion (λ p. OpensWith o.schema p.0 p.1) o.shards
   pub slots : AllPairs (λ a b. a.slot ≢ b.slot) (map (λ p. p.0) o.shards)
-  pub ranges : (keyspace : ℕ) → keyspace < length o.schema.keyspaces → Cover (map (λ s. s.place.range) (shards_in o keyspace))
+  pub ranges : (keyspace : ℕ) → keyspace < length o.schema.keyspaces
+      → Cover (map (λ s. s.place.range) (shards_in o keyspace))

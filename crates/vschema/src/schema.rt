@@ -27,8 +27,8 @@ pub struct ColumnVindex {
     pub vindex: AnyVindex,
 }
 
-/// A table. Its keyspace and the columns of its primary key are told by their places. It has a vindex where its keyspace
-/// is sharded.
+/// A table. Its keyspace and the columns of its primary key are told by their places. It has a vindex where its
+/// keyspace is sharded.
 #[derive(Debug, Drop)]
 pub struct Table {
     pub name: Name,

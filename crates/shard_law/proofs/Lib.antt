@@ -1,0 +1,14 @@
+pub mod Rows
+pub mod Databases
+pub mod Lists
+pub mod Edges
+pub mod Typed
+pub mod Keeps
+pub mod Runs
+pub mod Parts
+pub mod AtOneId
+pub mod Steps
+pub mod Law
+pub mod Lost
+pub mod First
+pub mod Merge
