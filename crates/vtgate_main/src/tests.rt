@@ -1,3 +1,5 @@
+ghost use Rattle.std.specs.Prelude.{None};
+
 use crate::first::first_engine;
 use crate::run::run;
 use session::{Core, DeviceFailed, End, Reader, SessionFault, Sink, Source, Writer, serve};
@@ -170,30 +172,30 @@ fn pieces_of_one_byte_give_the_same_replies(rt: HostRuntime) -> Result<(), Fail>
     Ok(())
 }
 
+fn tells_its_usage(rt: &impl Abort, alloc: Global, words: &[String]) -> Result<(), Fail> {
+    let mut input = Reader(PING);
+    let mut output = Writer(Vec::new(alloc));
+    let mut errors = Writer(Vec::new(alloc));
+    let status = run(alloc, words, &mut input, &mut output, &mut errors);
+    assert_eq!(rt; status, 2);
+    assert_eq!(rt; output.0.as_slice(), b"".as_slice());
+    assert_eq!(rt;
+        errors.0.as_slice(),
+        b"usage: vtgate serve|plan|script\n".as_slice()
+    );
+    Ok(())
+}
+
 #[test]
 fn the_program_tells_its_usage(rt: HostRuntime) -> Result<(), Fail> {
     let alloc = rt.alloc();
-    for words in [
-        [].as_slice(),
-        ["x"].as_slice(),
-        ["first", "first"].as_slice(),
-    ] {
-        let mut owned = Vec::new(alloc);
-        for word in words {
-            owned.push(String::from_str(alloc, word)?)?;
-        }
-        let mut input = Reader(PING);
-        let mut output = Writer(Vec::new(alloc));
-        let mut errors = Writer(Vec::new(alloc));
-        let status = run(alloc, &owned, &mut input, &mut output, &mut errors);
-        assert_eq!(rt; status, 2);
-        assert_eq!(rt; output.0.as_slice(), b"".as_slice());
-        assert_eq!(rt;
-            errors.0.as_slice(),
-            b"usage: vtgate serve|plan|script\n".as_slice()
-        );
-    }
-    Ok(())
+    let mut words = Vec::new(alloc);
+    tells_its_usage(&rt, alloc, words.as_slice())?;
+    words.push(String::from_str(alloc, "x")?)?;
+    tells_its_usage(&rt, alloc, words.as_slice())?;
+    let mut words = vec![in alloc; String::from_str(alloc, "first")?]?;
+    words.push(String::from_str(alloc, "first")?)?;
+    tells_its_usage(&rt, alloc, words.as_slice())
 }
 
 #[test]
