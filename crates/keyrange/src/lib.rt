@@ -27,3 +27,18 @@ pub struct KeyRange {
     pub begin: Edge,
     pub end: Option<Edge>,
 }
+
+impl KeyRange {
+    ghost use Rattle.std.specs.Prelude.{◌≡◌, [], None};
+
+    /// The range of all ids.
+    pub fn full() -> KeyRange
+        ensures { result ≡ record { begin = []; end = None } }
+    {
+        let begin = Edge {
+            bytes: [0; 8],
+            len: 0,
+        };
+        KeyRange { begin, end: None }
+    }
+}

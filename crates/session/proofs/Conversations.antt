@@ -30,57 +30,57 @@ Known = Option (List ℕ)
 abbrev pub Written : Known → Known → (List ℕ → Type 0) → Type 0
 Written a b P = (out : List ℕ) × Appends a b out × P out
 
-module _ (May : List ℕ → Outcome → Type 0) where
-  pub nothing_yet : (a : Known) → Written a a (λ out. Replies May [] out None)
+module _ {S : Type 0} (May : S → List ℕ → Outcome → S → Type 0) (first : S) where
+  pub nothing_yet : (a : Known) → Written a a (λ out. Replies May first [] out None first)
   nothing_yet a = ([], Appends-nil a, t.none)
 
-  pub next_reply : (a b c : Known) (i : ℕ) (ps : List Payload) (p : Payload) (end : Option End) → i < length ps → p ≡ get_or ps i p
-      → Written a b (λ out. Replies May (take i ps) out None) → Written b c (λ out. Replies May (p ∷ []) out end)
-      → Written a c (λ out. Replies May (take (i + 1) ps) out end)
-  next_reply a b c i ps p end lt is r q =
+  pub next_reply : (mid now : S) (a b c : Known) (i : ℕ) (ps : List Payload) (p : Payload) (end : Option End) → i < length ps → p ≡ get_or ps i p
+      → Written a b (λ out. Replies May first (take i ps) out None mid) → Written b c (λ out. Replies May mid (p ∷ []) out end now)
+      → Written a c (λ out. Replies May first (take (i + 1) ps) out end now)
+  next_reply mid now a b c i ps p end lt is r q =
       let front : take i ps ++ p ∷ [] ≡ take (i + 1) ps = ap (λ (x : Payload). take i ps ++ x ∷ []) is ∙ sym (take_more ps i p lt) in
-      let P : List Payload → Type 0 = λ qs. Replies May qs (r.0 ++ q.0) end in
-      (r.0 ++ q.0, Appends-trans a b c r.0 q.0 r.1 q.1, subst P front (go_on May (take i ps) (p ∷ []) r.0 q.0 None end refl r.2 q.2))
+      let P : List Payload → Type 0 = λ qs. Replies May first qs (r.0 ++ q.0) end now in
+      (r.0 ++ q.0, Appends-trans a b c r.0 q.0 r.1 q.1, subst P front (go_on May first mid now (take i ps) (p ∷ []) r.0 q.0 None end refl r.2 q.2))
 
-  pub all_ended : (a b : Known) (n : ℕ) (ps : List Payload) (end : Option End) → is_some end ≡ true
-      → Written a b (λ out. Replies May (take n ps) out end) → Written a b (λ out. Replies May ps out end)
-  all_ended a b n ps None some r = absurd cc
-  all_ended a b n ps (Some e) some r =
-      let P : List Payload → Type 0 = λ qs. Replies May qs r.0 (Some e) in
-      (r.0, r.1, subst P (take-append-drop n ps) (stay_ended May (take n ps) (drop n ps) r.0 (Some e) e refl r.2))
+  pub all_ended : (now : S) (a b : Known) (n : ℕ) (ps : List Payload) (end : Option End) → is_some end ≡ true
+      → Written a b (λ out. Replies May first (take n ps) out end now) → Written a b (λ out. Replies May first ps out end now)
+  all_ended now a b n ps None some r = absurd cc
+  all_ended now a b n ps (Some e) some r =
+      let P : List Payload → Type 0 = λ qs. Replies May first qs r.0 (Some e) now in
+      (r.0, r.1, subst P (take-append-drop n ps) (stay_ended May first now (take n ps) (drop n ps) r.0 (Some e) e refl r.2))
 
-  pub not_ended : (a b : Known) (ps : List Payload) (end : Option End) → is_some end ≡ false
-      → Written a b (λ out. Replies May ps out end) → Written a b (λ out. Replies May ps out None)
-  not_ended a b ps end none r =
-      let P : Option End → Type 0 = λ e. Replies May ps r.0 e in
+  pub not_ended : (now : S) (a b : Known) (ps : List Payload) (end : Option End) → is_some end ≡ false
+      → Written a b (λ out. Replies May first ps out end now) → Written a b (λ out. Replies May first ps out None now)
+  not_ended now a b ps end none r =
+      let P : Option End → Type 0 = λ e. Replies May first ps r.0 e now in
       (r.0, r.1, subst P (none_is end none) r.2)
 
-  pub fed_ended : (a b : Known) (fed : Fed) (end : Option End) → is_some end ≡ true
-      → Written a b (λ out. Replies May fed.payloads out end) → Written a b (λ out. AnswersFed May fed out end)
-  fed_ended a b fed None some r = absurd cc
-  fed_ended a b fed (Some e) some r = (r.0, r.1, s.ended r.2)
+  pub fed_ended : (now : S) (a b : Known) (fed : Fed) (end : Option End) → is_some end ≡ true
+      → Written a b (λ out. Replies May first fed.payloads out end now) → Written a b (λ out. AnswersFed May first fed out end now)
+  fed_ended now a b fed None some r = absurd cc
+  fed_ended now a b fed (Some e) some r = (r.0, r.1, s.ended r.2)
 
-  pub fed_goes_on : (a b : Known) (fed : Fed) (end : Option End) → is_some end ≡ false → fed.fault ≡ None
-      → Written a b (λ out. Replies May fed.payloads out end) → Written a b (λ out. AnswersFed May fed out None)
-  fed_goes_on a b fed end none no_fault r = let q = not_ended a b fed.payloads end none r in (q.0, q.1, s.goes_on no_fault q.2)
+  pub fed_goes_on : (now : S) (a b : Known) (fed : Fed) (end : Option End) → is_some end ≡ false → fed.fault ≡ None
+      → Written a b (λ out. Replies May first fed.payloads out end now) → Written a b (λ out. AnswersFed May first fed out None now)
+  fed_goes_on now a b fed end none no_fault r = let q = not_ended now a b fed.payloads end none r in (q.0, q.1, s.goes_on no_fault q.2)
 
-  pub fed_refused : (a b c : Known) (fed : Fed) (fault : Fault) (end : Option End) → is_some end ≡ false → fed.fault ≡ Some fault
-      → Written a b (λ out. Replies May fed.payloads out end) → Appends b c (refusal_bytes fault.number fault.refusal)
-      → Written a c (λ out. AnswersFed May fed out (Some Broken))
-  fed_refused a b c fed fault end none is r told =
-      let q = not_ended a b fed.payloads end none r in
+  pub fed_refused : (now : S) (a b c : Known) (fed : Fed) (fault : Fault) (end : Option End) → is_some end ≡ false → fed.fault ≡ Some fault
+      → Written a b (λ out. Replies May first fed.payloads out end now) → Appends b c (refusal_bytes fault.number fault.refusal)
+      → Written a c (λ out. AnswersFed May first fed out (Some Broken) now)
+  fed_refused now a b c fed fault end none is r told =
+      let q = not_ended now a b fed.payloads end none r in
       (q.0 ++ refusal_bytes fault.number fault.refusal, Appends-trans a b c q.0 (refusal_bytes fault.number fault.refusal) q.1 told, s.refused fault is q.2)
 
-module _ (May : List ℕ → Outcome → Type 0) (old new : SessionState) (piece : List ℕ) (fed : Fed) (by : FedBy old.framing new.framing piece fed)
-    (stream out : List ℕ) (before : HasTalked May old stream out) where
+module _ {S : Type 0} (May : S → List ℕ → Outcome → S → Type 0) (old new : SessionState) (piece : List ℕ) (fed : Fed)
+    (by : FedBy old.framing new.framing piece fed) (first mid now : S) (stream out : List ℕ) (before : HasTalked May old first stream out mid) where
   abbrev payloads : List Payload
   payloads = before.payloads ++ fed.payloads
 
-  joined : (written : List ℕ) (end : Option End) → Replies May fed.payloads written end → Replies May payloads (out ++ written) end
-  joined written end r = go_on May before.payloads fed.payloads out written None end refl before.replies r
+  joined : (written : List ℕ) (end : Option End) → Replies May mid fed.payloads written end now → Replies May first payloads (out ++ written) end now
+  joined written end r = go_on May first mid now before.payloads fed.payloads out written None end refl before.replies r
 
-  ended_by : (written : List ℕ) (e : End) → Replies May payloads (out ++ written) (Some e) → (o : Option Fault) → fed.fault ≡ o
-      → Talk old.framing.limit May (stream ++ piece) (out ++ written) e
+  ended_by : (written : List ℕ) (e : End) → Replies May first payloads (out ++ written) (Some e) now → (o : Option Fault) → fed.fault ≡ o
+      → Talk old.framing.limit May first (stream ++ piece) (out ++ written) e now
   ended_by written e r None is =
       let read = by.payloads is stream before.payloads before.read in
       let L : ℕ → Type 0 = λ n. Splits n (stream ++ piece) payloads new.framing.rest in
@@ -88,10 +88,10 @@ module _ (May : List ℕ → Outcome → Type 0) (old new : SessionState) (piece
   ended_by written e r (Some f) is = t.ended_before payloads f (by.fault f is stream before.payloads before.read) r
 
   abbrev Limited : ℕ → List ℕ → End → Type 0
-  Limited n bytes e = Talk n May (stream ++ piece) bytes e
+  Limited n bytes e = Talk n May first (stream ++ piece) bytes e now
 
-  pub talked_on : (written : List ℕ) (end : Option End) → new.ended ≡ end → AnswersFed May fed written end
-      → HasTalkedOn May new (stream ++ piece) (out ++ written) end
+  pub talked_on : (written : List ℕ) (end : Option End) → new.ended ≡ end → AnswersFed May mid fed written end now
+      → HasTalkedOn May new first (stream ++ piece) (out ++ written) end now
   talked_on written _ is (s.ended {end = e} r) =
       let L : ℕ → Type 0 = λ n. Limited n (out ++ written) e in
       subst L (sym by.limit) (ended_by written e (joined written (Some e) r) fed.fault refl)
@@ -105,12 +105,15 @@ module _ (May : List ℕ → Outcome → Type 0) (old new : SessionState) (piece
       (subst P (append_assoc out said told) (t.refused payloads f (by.fault f fault stream before.payloads before.read) (joined said None r)))
 
 -- the end of the input, between two payloads or within one
-pub whole_end : (May : List ℕ → Outcome → Type 0) (limit : ℕ) (bytes out : List ℕ) (payloads : List Payload) (rest : List ℕ) (end : End)
-    → Splits limit bytes payloads rest → Replies May payloads out None → (rest ≡ [] → end ≡ Closed) → ((rest ≡ [] → ⊥) → end ≡ Truncated)
-    → Talk limit May bytes out end
-whole_end May limit bytes out payloads [] end splits replies closed truncated = subst (Talk limit May bytes out) (sym (closed refl)) (t.closed payloads splits replies)
-whole_end May limit bytes out payloads (b ∷ rest) end splits replies closed truncated =
-    subst (Talk limit May bytes out) (sym (truncated (λ e. cc))) (t.truncated payloads b rest splits replies)
+pub whole_end : {S : Type 0} (May : S → List ℕ → Outcome → S → Type 0) (s now : S) (limit : ℕ) (bytes out : List ℕ) (payloads : List Payload) (rest : List ℕ) (end : End)
+    → Splits limit bytes payloads rest → Replies May s payloads out None now → (rest ≡ [] → end ≡ Closed) → ((rest ≡ [] → ⊥) → end ≡ Truncated)
+    → Talk limit May s bytes out end now
+whole_end {S} May s now limit bytes out payloads [] end splits replies closed truncated =
+    let P : End → Type 0 = λ e. Talk limit May s bytes out e now in
+    subst P (sym (closed refl)) (t.closed payloads splits replies)
+whole_end {S} May s now limit bytes out payloads (b ∷ rest) end splits replies closed truncated =
+    let P : End → Type 0 = λ e. Talk limit May s bytes out e now in
+    subst P (sym (truncated (λ e. cc))) (t.truncated payloads b rest splits replies)
 
 -- what the clauses of the framer say, as equations
 pub fed_by : (old new : Framing) (piece : List ℕ) (fed : Fed)
@@ -124,14 +127,14 @@ fed_by old new piece fed ok refused limit = record {
 }
 
 -- the answer to a piece, in a session that knows what its framer said
-pub talked : (May : List ℕ → Outcome → Type 0) (old new : SessionState) (piece : List ℕ) (a b : Known) (r : Result (Option End) SessionFault)
-    → IfOk r (λ end. (fed : Fed) × FedBy old.framing new.framing piece fed × ((out : List ℕ) × Appends a b out × AnswersFed May fed out end))
+pub talked : {S : Type 0} (May : S → List ℕ → Outcome → S → Type 0) (mid now : S) (old new : SessionState) (piece : List ℕ) (a b : Known) (r : Result (Option End) SessionFault)
+    → IfOk r (λ end. (fed : Fed) × FedBy old.framing new.framing piece fed × ((out : List ℕ) × Appends a b out × AnswersFed May mid fed out end now))
     → IfOk r (λ end. new.ended ≡ end)
-    → IfOk r (λ end. (bytes out : List ℕ) → HasTalked May old bytes out
-    → (written : List ℕ) × Appends a b written × HasTalkedOn May new (bytes ++ piece) (out ++ written) end)
-talked May old new piece a b (Ok end) said is =
-    λ bytes out before. (said.2.0, said.2.1, talked_on May old new piece said.0 said.1 bytes out before said.2.0 end is said.2.2)
-talked May old new piece a b (Err e) said is = tt
+    → IfOk r (λ end. (first : S) (bytes out : List ℕ) → HasTalked May old first bytes out mid
+    → (written : List ℕ) × Appends a b written × HasTalkedOn May new first (bytes ++ piece) (out ++ written) end now)
+talked May mid now old new piece a b (Ok end) said is =
+    λ first bytes out before. (said.2.0, said.2.1, talked_on May old new piece said.0 said.1 first mid now bytes out before said.2.0 end is said.2.2)
+talked May mid now old new piece a b (Err e) said is = tt
 
 pub is_end : (between : Bool) (rest : List ℕ) (end : End) → IsTrue between ↔ (rest ≡ []) → (between ≡ true → end ≡ Closed) → (between ≡ false → end ≡ Truncated)
     → (rest ≡ [] → end ≡ Closed) × ((rest ≡ [] → ⊥) → end ≡ Truncated)
@@ -139,32 +142,34 @@ is_end true rest end both closed truncated = (λ is. closed refl, λ not. absurd
 is_end false rest end both closed truncated = (λ is. absurd (let wrong : IsTrue false = both.1 is in cc), λ not. truncated refl)
 
 -- replies end by a command
-pub replies_end : (May : List ℕ → Outcome → Type 0) (ps : List Payload) (out : List ℕ) (end : Option End) → Replies May ps out end → IfSome end IsByCommand
-replies_end May _ _ _ t.none = tt
-replies_end May _ _ _ (t.out_of_order first) = tt
-replies_end May _ _ _ (t.quits first command) = tt
-replies_end May _ _ _ (t.unknown {more = ps} {out} {end} first command r) = replies_end May ps out end r
-replies_end May _ _ _ (t.pinged {more = ps} {out} {end} first command r) = replies_end May ps out end r
-replies_end May _ _ _ (t.queried {more = ps} {out} {end} text outcome first command may r) = replies_end May ps out end r
+pub replies_end : {S : Type 0} (May : S → List ℕ → Outcome → S → Type 0) (s now : S) (ps : List Payload) (out : List ℕ) (end : Option End)
+    → Replies May s ps out end now → IfSome end IsByCommand
+replies_end May _ _ _ _ _ t.none = tt
+replies_end May _ _ _ _ _ (t.out_of_order first) = tt
+replies_end May _ _ _ _ _ (t.quits first command) = tt
+replies_end May _ _ _ _ _ (t.unknown {s} {t = now} {more = ps} {out} {end} first command r) = replies_end May s now ps out end r
+replies_end May _ _ _ _ _ (t.pinged {s} {t = now} {more = ps} {out} {end} first command r) = replies_end May s now ps out end r
+replies_end May _ _ _ _ _ (t.queried {mid} {t = now} {more = ps} {out} {end} text outcome first command may r) = replies_end May mid now ps out end r
 
-fed_ends : (May : List ℕ → Outcome → Type 0) (fed : Fed) (out : List ℕ) (end : Option End) → AnswersFed May fed out end → IfSome end IsByCommand
-fed_ends May fed _ _ (s.ended {out} {end} r) = replies_end May fed.payloads out (Some end) r
-fed_ends May fed _ _ (s.goes_on no_fault r) = tt
-fed_ends May fed _ _ (s.refused fault is r) = tt
+fed_ends : {S : Type 0} (May : S → List ℕ → Outcome → S → Type 0) (mid now : S) (fed : Fed) (out : List ℕ) (end : Option End)
+    → AnswersFed May mid fed out end now → IfSome end IsByCommand
+fed_ends May mid _ fed _ _ (s.ended {out} {end} {now} r) = replies_end May mid now fed.payloads out (Some end) r
+fed_ends May mid _ fed _ _ (s.goes_on no_fault r) = tt
+fed_ends May mid _ fed _ _ (s.refused fault is r) = tt
 
-pub ends_by_command : (May : List ℕ → Outcome → Type 0) (old new : Framing) (piece : List ℕ) (a b : Known) (r : Result (Option End) SessionFault)
-    → IfOk r (λ end. (fed : Fed) × FedBy old new piece fed × ((out : List ℕ) × Appends a b out × AnswersFed May fed out end))
+pub ends_by_command : {S : Type 0} (May : S → List ℕ → Outcome → S → Type 0) (mid now : S) (old new : Framing) (piece : List ℕ) (a b : Known) (r : Result (Option End) SessionFault)
+    → IfOk r (λ end. (fed : Fed) × FedBy old new piece fed × ((out : List ℕ) × Appends a b out × AnswersFed May mid fed out end now))
     → IfOk r (λ end. IfSome end IsByCommand)
-ends_by_command May old new piece a b (Ok end) said = fed_ends May said.0 said.2.0 end said.2.2
-ends_by_command May old new piece a b (Err e) said = tt
+ends_by_command May mid now old new piece a b (Ok end) said = fed_ends May mid now said.0 said.2.0 end said.2.2
+ends_by_command May mid now old new piece a b (Err e) said = tt
 
-pub served : (May : List ℕ → Outcome → Type 0) (old new : SessionState) (a b c d : Known) (piece : List ℕ) (r : Result (Option End) SessionFault) → Consumes a b piece
-    → IfOk r (λ end. (bytes out : List ℕ) → HasTalked May old bytes out
-    → (written : List ℕ) × Appends c d written × HasTalkedOn May new (bytes ++ piece) (out ++ written) end)
-    → IfOk r (λ end. (bytes out : List ℕ) → HasTalked May old bytes out
-    → (read : List ℕ) × (written : List ℕ) × Consumes a b read × Appends c d written × HasTalkedOn May new (bytes ++ read) (out ++ written) end)
-served May old new a b c d piece (Ok end) takes said = λ bytes out before. let q = said bytes out before in (piece, q.0, takes, q.1, q.2)
-served May old new a b c d piece (Err e) takes said = tt
+pub served : {S : Type 0} (May : S → List ℕ → Outcome → S → Type 0) (mid now : S) (old new : SessionState) (a b c d : Known) (piece : List ℕ) (r : Result (Option End) SessionFault) → Consumes a b piece
+    → IfOk r (λ end. (first : S) (bytes out : List ℕ) → HasTalked May old first bytes out mid
+    → (written : List ℕ) × Appends c d written × HasTalkedOn May new first (bytes ++ piece) (out ++ written) end now)
+    → IfOk r (λ end. (first : S) (bytes out : List ℕ) → HasTalked May old first bytes out mid
+    → (read : List ℕ) × (written : List ℕ) × Consumes a b read × Appends c d written × HasTalkedOn May new first (bytes ++ read) (out ++ written) end now)
+served May mid now old new a b c d piece (Ok end) takes said = λ first bytes out before. let q = said first bytes out before in (piece, q.0, takes, q.1, q.2)
+served May mid now old new a b c d piece (Err e) takes said = tt
 
 pub not_by_input : (X : Type 0) (r : Result (Option End) SessionFault) → IfOk r (λ end. IfSome end IsByCommand) → IfOk r (λ end. IfSome end (λ e. IsByInput e → X))
 not_by_input X (Err e) by = tt
@@ -178,22 +183,23 @@ not_by_input X (Ok (Some Truncated)) by = absurd by
 abbrev pub SoFar : Known → Known → Known → Known → (List ℕ → List ℕ → Type 0) → Type 0
 SoFar a b c d P = (read : List ℕ) × (written : List ℕ) × Consumes a b read × Appends c d written × P read written
 
-pub one_more : (May : List ℕ → Outcome → Type 0) (old new : SessionState) (a b c d e f : Known) (end : Option End) → SoFar a b d e (HasTalked May old)
-    → ((bytes out : List ℕ) → HasTalked May old bytes out → SoFar b c e f (λ read written. HasTalkedOn May new (bytes ++ read) (out ++ written) end))
-    → SoFar a c d f (λ read written. HasTalkedOn May new read written end)
-one_more May old new a b c d e f end before said =
-    let next = said before.0 before.1 before.4 in
-    (before.0 ++ next.0, before.1 ++ next.1, Consumes-trans a b c before.0 next.0 before.2 next.2, Appends-trans d e f before.1 next.1 before.3 next.3, next.4)
+module _ {S : Type 0} (May : S → List ℕ → Outcome → S → Type 0) (first : S) where
+  pub one_more : (mid now : S) (old new : SessionState) (a b c d e f : Known) (end : Option End) → SoFar a b d e (λ read written. HasTalked May old first read written mid)
+      → ((first : S) (bytes out : List ℕ) → HasTalked May old first bytes out mid → SoFar b c e f (λ read written. HasTalkedOn May new first (bytes ++ read) (out ++ written) end now))
+      → SoFar a c d f (λ read written. HasTalkedOn May new first read written end now)
+  one_more mid now old new a b c d e f end before said =
+      let next = said first before.0 before.1 before.4 in
+      (before.0 ++ next.0, before.1 ++ next.1, Consumes-trans a b c before.0 next.0 before.2 next.2, Appends-trans d e f before.1 next.1 before.3 next.3, next.4)
 
-pub still_goes_on : (May : List ℕ → Outcome → Type 0) (new : SessionState) (a c d f : Known) (end : Option End) → end ≡ None
-    → SoFar a c d f (λ read written. HasTalkedOn May new read written end) → SoFar a c d f (HasTalked May new)
-still_goes_on May new a c d f end is r =
-    let P : Option End → Type 0 = λ o. HasTalkedOn May new r.0 r.1 o in
-    (r.0, r.1, r.2, r.3, subst P is r.4)
+  pub still_goes_on : (now : S) (new : SessionState) (a c d f : Known) (end : Option End) → end ≡ None
+      → SoFar a c d f (λ read written. HasTalkedOn May new first read written end now) → SoFar a c d f (λ read written. HasTalked May new first read written now)
+  still_goes_on now new a c d f end is r =
+      let P : Option End → Type 0 = λ o. HasTalkedOn May new first r.0 r.1 o now in
+      (r.0, r.1, r.2, r.3, subst P is r.4)
 
-pub has_ended : (May : List ℕ → Outcome → Type 0) (new : SessionState) (a c d f : Known) (limit : ℕ) (o : Option End) (end : End) → o ≡ Some end → new.framing.limit ≡ limit
-    → SoFar a c d f (λ read written. HasTalkedOn May new read written o) → SoFar a c d f (λ read written. Talk limit May read written end)
-has_ended May new a c d f limit o end is same r =
-    let P : Option End → Type 0 = λ x. HasTalkedOn May new r.0 r.1 x in
-    let L : ℕ → Type 0 = λ n. Talk n May r.0 r.1 end in
-    (r.0, r.1, r.2, r.3, subst L same (subst P is r.4))
+  pub has_ended : (now : S) (new : SessionState) (a c d f : Known) (limit : ℕ) (o : Option End) (end : End) → o ≡ Some end → new.framing.limit ≡ limit
+      → SoFar a c d f (λ read written. HasTalkedOn May new first read written o now) → SoFar a c d f (λ read written. Talk limit May first read written end now)
+  has_ended now new a c d f limit o end is same r =
+      let P : Option End → Type 0 = λ x. HasTalkedOn May new first r.0 r.1 x now in
+      let L : ℕ → Type 0 = λ n. Talk n May first r.0 r.1 end now in
+      (r.0, r.1, r.2, r.3, subst L same (subst P is r.4))

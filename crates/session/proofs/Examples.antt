@@ -11,8 +11,8 @@ use Rattle.session.specs.declared.end.End.TheVariants.{Quit, Closed, Broken}
 use Rattle.session.specs.Talk.{Talk}
 use Rattle.session.specs.Talk as t
 
-abbrev Never : List ℕ → Outcome → Type 0
-Never text outcome = ⊥
+abbrev Never : Unit {0} → List ℕ → Outcome → Unit {0} → Type 0
+Never s text outcome now = ⊥
 
 abbrev payload : ℕ → List ℕ → Payload
 payload number bytes = record { first = number; last = number; bytes = bytes }
@@ -20,22 +20,22 @@ payload number bytes = record { first = number; last = number; bytes = bytes }
 nothing_left : IsPartial 1048576 []
 nothing_left = (0, [], [], lit< tt, (tt, lit≤ tt), refl, inl (lit< tt))
 
-ping_then_quit : Talk 1048576 Never (1 ∷ 0 ∷ 0 ∷ 0 ∷ 0x0E ∷ 1 ∷ 0 ∷ 0 ∷ 0 ∷ 1 ∷ []) (7 ∷ 0 ∷ 0 ∷ 1 ∷ 0 ∷ 0 ∷ 0 ∷ 2 ∷ 0 ∷ 0 ∷ 0 ∷ []) Quit
+ping_then_quit : Talk 1048576 Never tt (1 ∷ 0 ∷ 0 ∷ 0 ∷ 0x0E ∷ 1 ∷ 0 ∷ 0 ∷ 0 ∷ 1 ∷ []) (7 ∷ 0 ∷ 0 ∷ 1 ∷ 0 ∷ 0 ∷ 0 ∷ 2 ∷ 0 ∷ 0 ∷ 0 ∷ []) Quit tt
 ping_then_quit =
     t.ended (payload 0 (0x0E ∷ []) ∷ payload 0 (1 ∷ []) ∷ []) []
     (record { whole = refl; each = (((lit< tt, refl), lit≤ tt), (((lit< tt, refl), lit≤ tt), tt)); partial = nothing_left })
     (t.pinged refl refl (t.quits refl refl))
 
 -- a command whose first number is 1
-wrong_number : Talk 1048576 Never (1 ∷ 0 ∷ 0 ∷ 1 ∷ 0x0E ∷ [])
-    (0x1D ∷ 0 ∷ 0 ∷ 2 ∷ 0xFF ∷ 0x84 ∷ 0x04 ∷ 0x23 ∷ 0x30 ∷ 0x38 ∷ 0x53 ∷ 0x30 ∷ 0x31 ∷ codes "packets out of order") Broken
+wrong_number : Talk 1048576 Never tt (1 ∷ 0 ∷ 0 ∷ 1 ∷ 0x0E ∷ [])
+    (0x1D ∷ 0 ∷ 0 ∷ 2 ∷ 0xFF ∷ 0x84 ∷ 0x04 ∷ 0x23 ∷ 0x30 ∷ 0x38 ∷ 0x53 ∷ 0x30 ∷ 0x31 ∷ codes "packets out of order") Broken tt
 wrong_number =
     t.ended (payload 1 (0x0E ∷ []) ∷ []) []
     (record { whole = refl; each = (((lit< tt, refl), lit≤ tt), tt); partial = nothing_left }) (t.out_of_order refl)
 
 -- a first header that tells 2 ^ 20 + 1 bytes
-too_large : Talk 1048576 Never (1 ∷ 0 ∷ 0x10 ∷ 0 ∷ [])
-    (0x19 ∷ 0 ∷ 0 ∷ 1 ∷ 0xFF ∷ 0x81 ∷ 0x04 ∷ 0x23 ∷ 0x30 ∷ 0x38 ∷ 0x53 ∷ 0x30 ∷ 0x31 ∷ codes "packet too large") Broken
+too_large : Talk 1048576 Never tt (1 ∷ 0 ∷ 0x10 ∷ 0 ∷ [])
+    (0x19 ∷ 0 ∷ 0 ∷ 1 ∷ 0xFF ∷ 0x81 ∷ 0x04 ∷ 0x23 ∷ 0x30 ∷ 0x38 ∷ 0x53 ∷ 0x30 ∷ 0x31 ∷ codes "packet too large") Broken tt
 too_large =
     let fault : Fault = record { refusal = PacketTooLarge; number = 0 } in
     t.refused [] fault
@@ -53,8 +53,8 @@ too_large =
     t.none
 
 -- an empty payload is an unknown command, and the session goes on
-unknown : Talk 1048576 Never (0 ∷ 0 ∷ 0 ∷ 0 ∷ [])
-    (0x18 ∷ 0 ∷ 0 ∷ 1 ∷ 0xFF ∷ 0x17 ∷ 0x04 ∷ 0x23 ∷ 0x30 ∷ 0x38 ∷ 0x53 ∷ 0x30 ∷ 0x31 ∷ codes "unknown command") Closed
+unknown : Talk 1048576 Never tt (0 ∷ 0 ∷ 0 ∷ 0 ∷ [])
+    (0x18 ∷ 0 ∷ 0 ∷ 1 ∷ 0xFF ∷ 0x17 ∷ 0x04 ∷ 0x23 ∷ 0x30 ∷ 0x38 ∷ 0x53 ∷ 0x30 ∷ 0x31 ∷ codes "unknown command") Closed tt
 unknown =
     t.closed (payload 0 [] ∷ [])
     (record { whole = refl; each = (((lit< tt, refl), lit≤ tt), tt); partial = nothing_left }) (t.unknown refl refl t.none)

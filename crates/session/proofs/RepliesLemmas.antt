@@ -12,71 +12,94 @@ use Rattle.vt_value.specs.Values.{Row}
 use Rattle.route_engine.specs.declared.engine.Reply.{Reply}
 use Rattle.session.specs.Columns.{AreColumns}
 use Rattle.resultset.specs.Encoding.{encoded}
-use Rattle.route_engine.specs.Answers.{Served, IsReply}
+use Rattle.shard_run.specs.Runs.{Opening}
+use Rattle.shard.specs.Shards.{HasSeen}
+use Rattle.shard.specs.Shards as h
+use Rattle.route_engine.specs.Answers.{IsReply}
 use Rattle.route_engine.specs.Answers as a
 use Rattle.session.specs.declared.end.End.{End}
 use Rattle.session.specs.declared.end.End.TheVariants.{Quit, Broken}
-use Rattle.session.specs.Outcomes.{Means}
-use Rattle.session.specs.Outcomes as o
+use Rattle.session.specs.Outcomes.{Means, Seen}
+use Rattle.session.specs.Outcomes as q
 use Rattle.session.specs.Talk.{Replies, refusal_bytes, reply_number}
 use Rattle.session.specs.Talk as t
 
-module _ (May : List ℕ → Outcome → Type 0) where
-  pub one_ping : (p : Payload) (out : List ℕ) → p.first == 0 ≡ true → command_of p.bytes ≡ Some ping
-      → out ≡ frame (reply_number p) (ok_payload 0 autocommit) → Replies May (p ∷ []) out None
-  one_ping p out first is e = subst (λ (bs : List ℕ). Replies May (p ∷ []) bs None) (append-nil _ ∙ sym e) (t.pinged first is t.none)
+module _ {S : Type 0} (May : S → List ℕ → Outcome → S → Type 0) where
+  pub one_ping : (s : S) (p : Payload) (out : List ℕ) → p.first == 0 ≡ true → command_of p.bytes ≡ Some ping
+      → out ≡ frame (reply_number p) (ok_payload 0 autocommit) → Replies May s (p ∷ []) out None s
+  one_ping s p out first is e = subst (λ (bs : List ℕ). Replies May s (p ∷ []) bs None s) (append-nil _ ∙ sym e) (t.pinged first is t.none)
 
-  pub one_unknown : (p : Payload) (out : List ℕ) → p.first == 0 ≡ true → command_of p.bytes ≡ None
-      → out ≡ frame (reply_number p) (err_payload UnknownCommand) → Replies May (p ∷ []) out None
-  one_unknown p out first is e = subst (λ (bs : List ℕ). Replies May (p ∷ []) bs None) (append-nil _ ∙ sym e) (t.unknown first is t.none)
+  pub one_unknown : (s : S) (p : Payload) (out : List ℕ) → p.first == 0 ≡ true → command_of p.bytes ≡ None
+      → out ≡ frame (reply_number p) (err_payload UnknownCommand) → Replies May s (p ∷ []) out None s
+  one_unknown s p out first is e = subst (λ (bs : List ℕ). Replies May s (p ∷ []) bs None s) (append-nil _ ∙ sym e) (t.unknown first is t.none)
 
-  pub one_query : (p : Payload) (out text : List ℕ) (outcome : Outcome) → p.first == 0 ≡ true → command_of p.bytes ≡ Some (query text)
-      → May text outcome → out ≡ encoded outcome (reply_number p) autocommit → Replies May (p ∷ []) out None
-  one_query p out text outcome first is may e =
-      subst (λ (bs : List ℕ). Replies May (p ∷ []) bs None) (append-nil _ ∙ sym e) (t.queried text outcome first is may t.none)
+  pub one_query : (s now : S) (p : Payload) (out text : List ℕ) (outcome : Outcome) → p.first == 0 ≡ true → command_of p.bytes ≡ Some (query text)
+      → May s text outcome now → out ≡ encoded outcome (reply_number p) autocommit → Replies May s (p ∷ []) out None now
+  one_query s now p out text outcome first is may e =
+      subst (λ (bs : List ℕ). Replies May s (p ∷ []) bs None now) (append-nil _ ∙ sym e) (t.queried text outcome first is may t.none)
 
-  pub one_quit : (p : Payload) (out : List ℕ) → p.first == 0 ≡ true → command_of p.bytes ≡ Some quit → out ≡ [] → Replies May (p ∷ []) out (Some Quit)
-  one_quit p out first is e = subst (λ (bs : List ℕ). Replies May (p ∷ []) bs (Some Quit)) (sym e) (t.quits first is)
+  pub one_quit : (s : S) (p : Payload) (out : List ℕ) → p.first == 0 ≡ true → command_of p.bytes ≡ Some quit → out ≡ [] → Replies May s (p ∷ []) out (Some Quit) s
+  one_quit s p out first is e = subst (λ (bs : List ℕ). Replies May s (p ∷ []) bs (Some Quit) s) (sym e) (t.quits first is)
 
-  pub one_out_of_order : (p : Payload) (out : List ℕ) → p.first == 0 ≡ false → out ≡ refusal_bytes p.first PacketsOutOfOrder
-      → Replies May (p ∷ []) out (Some Broken)
-  one_out_of_order p out first e = subst (λ (bs : List ℕ). Replies May (p ∷ []) bs (Some Broken)) (sym e) (t.out_of_order first)
+  pub one_out_of_order : (s : S) (p : Payload) (out : List ℕ) → p.first == 0 ≡ false → out ≡ refusal_bytes p.first PacketsOutOfOrder
+      → Replies May s (p ∷ []) out (Some Broken) s
+  one_out_of_order s p out first e = subst (λ (bs : List ℕ). Replies May s (p ∷ []) bs (Some Broken) s) (sym e) (t.out_of_order first)
 
   -- the commands behind those that are answered
-  pub go_on : (ps qs : List Payload) (out more : List ℕ) (end end' : Option End) → end ≡ None → Replies May ps out end → Replies May qs more end'
-      → Replies May (ps ++ qs) (out ++ more) end'
-  go_on _ qs _ more _ end' is t.none rest = rest
-  go_on _ qs _ more _ end' is (t.out_of_order first) rest = absurd (cc)
-  go_on _ qs _ more _ end' is (t.quits first command) rest = absurd (cc)
-  go_on _ qs _ more _ end' is (t.unknown {p} {more = ps} {out} first command r) rest =
-      subst (λ (bs : List ℕ). Replies May (p ∷ ps ++ qs) bs end') (sym (append_assoc (frame (reply_number p) (err_payload UnknownCommand)) out more)) (t.unknown first command (go_on ps qs out more _ end' is r rest))
-  go_on _ qs _ more _ end' is (t.pinged {p} {more = ps} {out} first command r) rest =
-      subst (λ (bs : List ℕ). Replies May (p ∷ ps ++ qs) bs end') (sym (append_assoc (frame (reply_number p) (ok_payload 0 autocommit)) out more)) (t.pinged first command (go_on ps qs out more _ end' is r rest))
-  go_on _ qs _ more _ end' is (t.queried {p} {more = ps} {out} text outcome first command may r) rest =
-      subst (λ (bs : List ℕ). Replies May (p ∷ ps ++ qs) bs end') (sym (append_assoc (encoded outcome (reply_number p) autocommit) out more)) (t.queried text outcome first command may (go_on ps qs out more _ end' is r rest))
+  pub go_on : (s mid now : S) (ps qs : List Payload) (out more : List ℕ) (end end' : Option End) → end ≡ None → Replies May s ps out end mid
+      → Replies May mid qs more end' now → Replies May s (ps ++ qs) (out ++ more) end' now
+  go_on _ _ now _ qs _ more _ end' is t.none rest = rest
+  go_on _ _ now _ qs _ more _ end' is (t.out_of_order first) rest = absurd (cc)
+  go_on _ _ now _ qs _ more _ end' is (t.quits first command) rest = absurd (cc)
+  go_on _ _ now _ qs _ more _ end' is (t.unknown {s} {t = mid} {p} {more = ps} {out} first command r) rest =
+      subst (λ (bs : List ℕ). Replies May s (p ∷ ps ++ qs) bs end' now) (sym (append_assoc (frame (reply_number p) (err_payload UnknownCommand)) out more))
+      (t.unknown first command (go_on s mid now ps qs out more _ end' is r rest))
+  go_on _ _ now _ qs _ more _ end' is (t.pinged {s} {t = mid} {p} {more = ps} {out} first command r) rest =
+      subst (λ (bs : List ℕ). Replies May s (p ∷ ps ++ qs) bs end' now) (sym (append_assoc (frame (reply_number p) (ok_payload 0 autocommit)) out more))
+      (t.pinged first command (go_on s mid now ps qs out more _ end' is r rest))
+  go_on _ _ now _ qs _ more _ end' is (t.queried {s} {mid = then} {t = mid} {p} {more = ps} {out} text outcome first command may r) rest =
+      subst (λ (bs : List ℕ). Replies May s (p ∷ ps ++ qs) bs end' now) (sym (append_assoc (encoded outcome (reply_number p) autocommit) out more))
+      (t.queried text outcome first command may (go_on then mid now ps qs out more _ end' is r rest))
 
   -- commands behind the end are not answered
-  pub stay_ended : (ps qs : List Payload) (out : List ℕ) (end : Option End) (e : End) → end ≡ Some e → Replies May ps out end → Replies May (ps ++ qs) out end
-  stay_ended _ qs _ _ e is t.none = absurd (cc)
-  stay_ended _ qs _ _ e is (t.out_of_order first) = t.out_of_order first
-  stay_ended _ qs _ _ e is (t.quits first command) = t.quits first command
-  stay_ended _ qs _ _ e is (t.unknown {more = ps} {out} {end} first command r) = t.unknown first command (stay_ended ps qs out end e is r)
-  stay_ended _ qs _ _ e is (t.pinged {more = ps} {out} {end} first command r) = t.pinged first command (stay_ended ps qs out end e is r)
-  stay_ended _ qs _ _ e is (t.queried {more = ps} {out} {end} text outcome first command may r) = t.queried text outcome first command may (stay_ended ps qs out end e is r)
+  pub stay_ended : (s now : S) (ps qs : List Payload) (out : List ℕ) (end : Option End) (e : End) → end ≡ Some e → Replies May s ps out end now
+      → Replies May s (ps ++ qs) out end now
+  stay_ended _ _ _ qs _ _ e is t.none = absurd (cc)
+  stay_ended _ _ _ qs _ _ e is (t.out_of_order first) = t.out_of_order first
+  stay_ended _ _ _ qs _ _ e is (t.quits first command) = t.quits first command
+  stay_ended _ _ _ qs _ _ e is (t.unknown {s} {t = now} {more = ps} {out} {end} first command r) =
+      t.unknown first command (stay_ended s now ps qs out end e is r)
+  stay_ended _ _ _ qs _ _ e is (t.pinged {s} {t = now} {more = ps} {out} {end} first command r) =
+      t.pinged first command (stay_ended s now ps qs out end e is r)
+  stay_ended _ _ _ qs _ _ e is (t.queried {mid = then} {t = now} {more = ps} {out} {end} text outcome first command may r) =
+      t.queried text outcome first command may (stay_ended then now ps qs out end e is r)
+
+-- what a statement's answer says of the pass
+seen : (o : Opening) (p : Seen) (text : List ℕ) (outcome : Outcome) (now : Seen) → Means o p text outcome now → HasSeen o p now
+seen o p text _ _ (q.answered reply is columns) = h.looked is.shard is.opening is.looked
+seen o p text _ _ (q.refused (a.no_memory has)) = has
+seen o p text _ _ (q.refused (a.no_tree none)) = h.same
+seen o p text _ _ (q.refused (a.not_typed tree reads typed)) = h.same
 
 -- a query may always be refused for want of memory
-pub no_memory : (s : Served) (text : List ℕ) → Means s text (Refused OutOfMemory)
-no_memory s text = o.refused a.no_memory
+pub no_memory : (o : Opening) (p : Seen) (text : List ℕ) (now : Seen) → HasSeen o p now → Means o p text (Refused OutOfMemory) now
+no_memory o p text now seen = q.refused (a.no_memory seen)
 
-pub one_query_or_refusal : (s : Served) (p : Payload) (out text : List ℕ) (outcome : Outcome) → p.first == 0 ≡ true → command_of p.bytes ≡ Some (query text)
-    → Means s text outcome
-    → (out ≡ encoded outcome (reply_number p) autocommit) ⊎ (out ≡ encoded (Refused OutOfMemory) (reply_number p) autocommit) → Replies (Means s) (p ∷ []) out None
-one_query_or_refusal s p out text outcome first is may (inl e) = one_query (Means s) p out text outcome first is may e
-one_query_or_refusal s p out text outcome first is may (inr e) = one_query (Means s) p out text (Refused OutOfMemory) first is (no_memory s text) e
+pub one_query_or_refusal : (o : Opening) (s now : Seen) (p : Payload) (out text : List ℕ) (outcome : Outcome) → p.first == 0 ≡ true
+    → command_of p.bytes ≡ Some (query text) → Means o s text outcome now
+    → (out ≡ encoded outcome (reply_number p) autocommit) ⊎ (out ≡ encoded (Refused OutOfMemory) (reply_number p) autocommit)
+    → Replies (Means o) s (p ∷ []) out None now
+one_query_or_refusal o s now p out text outcome first is may (inl e) = one_query (Means o) s now p out text outcome first is may e
+one_query_or_refusal o s now p out text outcome first is may (inr e) =
+    one_query (Means o) s now p out text (Refused OutOfMemory) first is (no_memory o s text now (seen o s text outcome now may)) e
 
 -- a result set with a reply's columns and rows
-pub shows : (s : Served) (text : List ℕ) (reply : Reply) (set : ResultSet) → IsReply s text reply → AreColumns s.schema reply.table reply.items set.columns
-    → set.rows ≡ reply.rows → Means s text (Rows set)
-shows s text reply set is columns rows =
-    let E : List Row → Type 0 = λ rs. Means s text (Rows (record { columns = set.columns; rows = rs })) in
-    subst E (sym rows) (o.answered reply is columns)
+pub shows : (o : Opening) (p now : Seen) (text : List ℕ) (reply : Reply) (set : ResultSet) → IsReply o p text reply now
+    → AreColumns o.schema reply.table reply.items set.columns → set.rows ≡ reply.rows → Means o p text (Rows set) now
+shows o p now text reply set is columns rows =
+    let E : List Row → Type 0 = λ rs. Means o p text (Rows (record { columns = set.columns; rows = rs })) now in
+    subst E (sym rows) (q.answered reply is columns)
+
+-- a reply whose columns found no memory
+pub replied_no_memory : (o : Opening) (p now : Seen) (text : List ℕ) (reply : Reply) → IsReply o p text reply now → Means o p text (Refused OutOfMemory) now
+replied_no_memory o p now text reply is = no_memory o p text now (h.looked is.shard is.opening is.looked)

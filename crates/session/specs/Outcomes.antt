@@ -4,13 +4,20 @@ use Rattle.vt_value.specs.declared.refusal.Refusal.{Refusal}
 use Rattle.resultset.specs.declared.Column.{Column}
 use Rattle.resultset.specs.declared.Outcome.{Outcome}
 use Rattle.resultset.specs.declared.Outcome.TheVariants.{Rows, Refused}
+use Rattle.journal.specs.Views.{PassView}
+use Rattle.shard_run.specs.declared.Entry.{Entry}
+use Rattle.shard_run.specs.Runs.{Opening}
 use Rattle.route_engine.specs.declared.engine.Reply.{Reply}
-use Rattle.route_engine.specs.Answers.{Served, IsReply, IsRefusal}
+use Rattle.route_engine.specs.Answers.{IsReply, IsRefusal}
 use Rattle.session.specs.Columns.{AreColumns}
 
--- rows that the text may answer over the rows of the tables, under the definitions of the columns that it shows, or a refusal for
--- its cause
-pub data Means (s : Served) (text : List ℕ) : Outcome → Type 0 where
-  answered : {columns : List Column} (reply : Reply) → IsReply s text reply → AreColumns s.schema reply.table reply.items columns
-      → Means s text (Rows (record { columns = columns; rows = reply.rows }))
-  refused : {r : Refusal} → IsRefusal s text r → Means s text (Refused r)
+-- what the session's pass has seen
+abbrev pub Seen : Type 0
+Seen = PassView Entry
+
+-- rows that the text may answer over what the run leaves at a look of the pass, under the definitions of the columns that it shows, or a
+-- refusal for its cause; and what the pass then has seen
+pub data Means (o : Opening) (p : Seen) (text : List ℕ) : Outcome → Seen → Type 0 where
+  answered : {columns : List Column} {now : Seen} (reply : Reply) → IsReply o p text reply now → AreColumns o.schema reply.table reply.items columns
+      → Means o p text (Rows (record { columns = columns; rows = reply.rows })) now
+  refused : {r : Refusal} {now : Seen} → IsRefusal o p text r now → Means o p text (Refused r) now

@@ -19,35 +19,37 @@ refusal_bytes number r = frame ((number + 1) % 256) (err_payload r)
 abbrev pub reply_number : Payload → ℕ
 reply_number p = (p.last + 1) % 256
 
--- What is written for the commands, where a query's text may give these outcomes, and how that ends the session, if it does. A
--- command whose first number isn't 0 is out of order, which ends it, as COM_QUIT does. Commands behind the end are not answered.
-pub data Replies (May : List ℕ → Outcome → Type 0) : List Payload → List ℕ → Option End → Type 0 where
-  none : Replies May [] [] None
-  out_of_order : {p : Payload} {more : List Payload} → p.first == 0 ≡ false
-      → Replies May (p ∷ more) (refusal_bytes p.first PacketsOutOfOrder) (Some Broken)
-  quits : {p : Payload} {more : List Payload} → p.first == 0 ≡ true → command_of p.bytes ≡ Some quit → Replies May (p ∷ more) [] (Some Quit)
-  unknown : {p : Payload} {more : List Payload} {out : List ℕ} {end : Option End} → p.first == 0 ≡ true → command_of p.bytes ≡ None
-      → Replies May more out end → Replies May (p ∷ more) (frame (reply_number p) (err_payload UnknownCommand) ++ out) end
-  pinged : {p : Payload} {more : List Payload} {out : List ℕ} {end : Option End} → p.first == 0 ≡ true → command_of p.bytes ≡ Some ping
-      → Replies May more out end → Replies May (p ∷ more) (frame (reply_number p) (ok_payload 0 autocommit) ++ out) end
-  queried : {p : Payload} {more : List Payload} {out : List ℕ} {end : Option End} (text : List ℕ) (outcome : Outcome)
-      → p.first == 0 ≡ true → command_of p.bytes ≡ Some (query text) → May text outcome
-      → Replies May more out end → Replies May (p ∷ more) (encoded outcome (reply_number p) autocommit ++ out) end
+-- What is written for the commands, and how that ends the session, if it does. A query has an outcome that its text may have, and that
+-- leads from what the session had seen to what it then has seen. A command whose first number isn't 0 is out of order, which ends the
+-- session, as COM_QUIT does. Commands behind the end are not answered.
+pub data Replies {S : Type 0} (May : S → List ℕ → Outcome → S → Type 0) : S → List Payload → List ℕ → Option End → S → Type 0 where
+  none : {s : S} → Replies May s [] [] None s
+  out_of_order : {s : S} {p : Payload} {more : List Payload} → p.first == 0 ≡ false
+      → Replies May s (p ∷ more) (refusal_bytes p.first PacketsOutOfOrder) (Some Broken) s
+  quits : {s : S} {p : Payload} {more : List Payload} → p.first == 0 ≡ true → command_of p.bytes ≡ Some quit
+      → Replies May s (p ∷ more) [] (Some Quit) s
+  unknown : {s t : S} {p : Payload} {more : List Payload} {out : List ℕ} {end : Option End} → p.first == 0 ≡ true → command_of p.bytes ≡ None
+      → Replies May s more out end t → Replies May s (p ∷ more) (frame (reply_number p) (err_payload UnknownCommand) ++ out) end t
+  pinged : {s t : S} {p : Payload} {more : List Payload} {out : List ℕ} {end : Option End} → p.first == 0 ≡ true → command_of p.bytes ≡ Some ping
+      → Replies May s more out end t → Replies May s (p ∷ more) (frame (reply_number p) (ok_payload 0 autocommit) ++ out) end t
+  queried : {s mid t : S} {p : Payload} {more : List Payload} {out : List ℕ} {end : Option End} (text : List ℕ) (outcome : Outcome)
+      → p.first == 0 ≡ true → command_of p.bytes ≡ Some (query text) → May s text outcome mid
+      → Replies May mid more out end t → Replies May s (p ∷ more) (encoded outcome (reply_number p) autocommit ++ out) end t
 
 -- The whole conversation over the bytes that were read, and its end. A header that is refused has its ERR packet behind the replies,
 -- and ends it. Where nothing ends it before, the end of the input does: between two payloads, or within one.
-pub data Talk (limit : ℕ) (May : List ℕ → Outcome → Type 0) : List ℕ → List ℕ → End → Type 0 where
-  ended : {bytes out : List ℕ} {end : End} (payloads : List Payload) (rest : List ℕ)
-      → Splits limit bytes payloads rest → Replies May payloads out (Some end) → Talk limit May bytes out end
-  ended_before : {bytes out : List ℕ} {end : End} (payloads : List Payload) (fault : Fault)
-      → IsRefusedAfter limit bytes payloads fault → Replies May payloads out (Some end) → Talk limit May bytes out end
-  refused : {bytes out : List ℕ} (payloads : List Payload) (fault : Fault)
-      → IsRefusedAfter limit bytes payloads fault → Replies May payloads out None
-      → Talk limit May bytes (out ++ refusal_bytes fault.number fault.refusal) Broken
-  closed : {bytes out : List ℕ} (payloads : List Payload)
-      → Splits limit bytes payloads [] → Replies May payloads out None → Talk limit May bytes out Closed
-  truncated : {bytes out : List ℕ} (payloads : List Payload) (b : ℕ) (rest : List ℕ)
-      → Splits limit bytes payloads (b ∷ rest) → Replies May payloads out None → Talk limit May bytes out Truncated
+pub data Talk (limit : ℕ) {S : Type 0} (May : S → List ℕ → Outcome → S → Type 0) (s : S) : List ℕ → List ℕ → End → S → Type 0 where
+  ended : {bytes out : List ℕ} {end : End} {t : S} (payloads : List Payload) (rest : List ℕ)
+      → Splits limit bytes payloads rest → Replies May s payloads out (Some end) t → Talk limit May s bytes out end t
+  ended_before : {bytes out : List ℕ} {end : End} {t : S} (payloads : List Payload) (fault : Fault)
+      → IsRefusedAfter limit bytes payloads fault → Replies May s payloads out (Some end) t → Talk limit May s bytes out end t
+  refused : {bytes out : List ℕ} {t : S} (payloads : List Payload) (fault : Fault)
+      → IsRefusedAfter limit bytes payloads fault → Replies May s payloads out None t
+      → Talk limit May s bytes (out ++ refusal_bytes fault.number fault.refusal) Broken t
+  closed : {bytes out : List ℕ} {t : S} (payloads : List Payload)
+      → Splits limit bytes payloads [] → Replies May s payloads out None t → Talk limit May s bytes out Closed t
+  truncated : {bytes out : List ℕ} {t : S} (payloads : List Payload) (b : ℕ) (rest : List ℕ)
+      → Splits limit bytes payloads (b ∷ rest) → Replies May s payloads out None t → Talk limit May s bytes out Truncated t
 
 -- a command or a fault ended the session, or the end of its input did
 abbrev pub IsByCommand : End → Type 0

@@ -8,43 +8,50 @@ use crate::devices::{DeviceFailed, Sink};
 use crate::end::End;
 use crate::reply::{REPLY_ROOM, put_refusal, put_reply};
 use bytes::BytesMut;
+use journal::{Naming, Pass};
 use mysql_packet::{Fault, Fed, Payload};
 use route_engine::Engine;
+use shard::{ShardLaw, World};
 use std::alloc::Global;
+use std::sync::Wait;
 
 /// Writes the reply to one command, once it is known whole.
-fn answer<W: Sink>(
+fn answer<W: World, J: Naming, S: Sink>(
+    rt: &impl Wait,
     alloc: Global,
-    engine: &Engine,
+    engine: &Engine<W, J>,
+    pass: &mut Pass<ShardLaw<W>, J>,
     payload: &Payload,
     reply: &mut BytesMut,
-    sink: &mut W,
+    sink: &mut S,
 ) -> Result<Option<End>, DeviceFailed>
     requires { REPLY_ROOM ≤ length reply.old.items + reply.old.spare }
-    ensures replies { IfOk result (λ end. (out : List ℕ) × Appends (W.taken sink.old) (W.taken sink.new) out
-        × Replies (Means engine.now) (payload.now ∷ []) out end) }
+    ensures replies { IfOk result (λ end. (out : List ℕ) × Appends (S.taken sink.old) (S.taken sink.new) out
+        × Replies (Means W.opening) pass.old (payload.now ∷ []) out end pass.new) }
     ensures room { REPLY_ROOM ≤ length reply.new.items + reply.new.spare }
 {
     reply.clear();
-    let end = put_reply(alloc, engine, payload, reply);
+    let end = put_reply(rt, alloc, engine, pass, payload, reply);
     sink.write(reply.as_slice())?;
     Ok(end)
 }
 
-fn answer_all<W: Sink>(
+fn answer_all<W: World, J: Naming, S: Sink>(
+    rt: &impl Wait,
     alloc: Global,
-    engine: &Engine,
+    engine: &Engine<W, J>,
+    pass: &mut Pass<ShardLaw<W>, J>,
     payloads: &[Payload],
     reply: &mut BytesMut,
-    sink: &mut W,
+    sink: &mut S,
 ) -> Result<Option<End>, DeviceFailed>
     requires { REPLY_ROOM ≤ length reply.old.items + reply.old.spare }
-    ensures replies { IfOk result (λ end. (out : List ℕ) × Appends (W.taken sink.old) (W.taken sink.new) out
-        × Replies (Means engine.now) payloads.now out end) }
+    ensures replies { IfOk result (λ end. (out : List ℕ) × Appends (S.taken sink.old) (S.taken sink.new) out
+        × Replies (Means W.opening) pass.old payloads.now out end pass.new) }
     ensures room { REPLY_ROOM ≤ length reply.new.items + reply.new.spare }
 {
     for payload in payloads {
-        let end = answer(alloc, engine, payload, reply, sink)?;
+        let end = answer(rt, alloc, engine, pass, payload, reply, sink)?;
         if end.is_some() {
             return Ok(end);
         }
@@ -52,13 +59,13 @@ fn answer_all<W: Sink>(
     Ok(None)
 }
 
-fn answer_fault<W: Sink>(
+fn answer_fault<S: Sink>(
     fault: Fault,
     reply: &mut BytesMut,
-    sink: &mut W,
+    sink: &mut S,
 ) -> Result<(), DeviceFailed>
     requires { REPLY_ROOM ≤ length reply.old.items + reply.old.spare }
-    ensures refusal { IfOk result (λ _. Appends (W.taken sink.old) (W.taken sink.new) (refusal_bytes fault.number fault.refusal)) }
+    ensures refusal { IfOk result (λ _. Appends (S.taken sink.old) (S.taken sink.new) (refusal_bytes fault.number fault.refusal)) }
     ensures room { REPLY_ROOM ≤ length reply.new.items + reply.new.spare }
 {
     reply.clear();
@@ -67,19 +74,29 @@ fn answer_fault<W: Sink>(
 }
 
 /// Writes the replies to the payloads that a piece gave, and the refusal of its fault behind them.
-pub fn answer_fed<W: Sink>(
+pub fn answer_fed<W: World, J: Naming, S: Sink>(
+    rt: &impl Wait,
     alloc: Global,
-    engine: &Engine,
+    engine: &Engine<W, J>,
+    pass: &mut Pass<ShardLaw<W>, J>,
     fed: &Fed,
     reply: &mut BytesMut,
-    sink: &mut W,
+    sink: &mut S,
 ) -> Result<Option<End>, DeviceFailed>
     requires { REPLY_ROOM ≤ length reply.old.items + reply.old.spare }
-    ensures answers { IfOk result (λ end. (out : List ℕ) × Appends (W.taken sink.old) (W.taken sink.new) out
-        × AnswersFed (Means engine.now) fed.now out end) }
+    ensures answers { IfOk result (λ end. (out : List ℕ) × Appends (S.taken sink.old) (S.taken sink.new) out
+        × AnswersFed (Means W.opening) pass.old fed.now out end pass.new) }
     ensures room { REPLY_ROOM ≤ length reply.new.items + reply.new.spare }
 {
-    let end = answer_all(alloc, engine, fed.payloads.as_slice(), reply, sink)?;
+    let end = answer_all(
+        rt,
+        alloc,
+        engine,
+        pass,
+        fed.payloads.as_slice(),
+        reply,
+        sink,
+    )?;
     if end.is_some() {
         return Ok(end);
     }

@@ -12,11 +12,14 @@ ghost use Rattle.session.specs.Talk.{Replies};
 use crate::columns::columns_of;
 use crate::end::End;
 use bytes::BytesMut;
+use journal::{Naming, Pass};
 use mysql_message::{Command, put_err, put_ok, read_command};
 use mysql_packet::Payload;
 use resultset::{Outcome, ResultSet, encode};
 use route_engine::{Engine, Reply};
+use shard::{ShardLaw, World};
 use std::alloc::Global;
+use std::sync::Wait;
 use vschema::VSchema;
 use vt_value::Refusal;
 
@@ -57,10 +60,16 @@ fn result_set(alloc: Global, schema: &VSchema, reply: Reply) -> Result<ResultSet
 }
 
 /// What the text of a query gives its client.
-fn outcome_of(alloc: Global, engine: &Engine, text: &[u8]) -> Outcome
-    ensures { Means engine.now text.now result }
+fn outcome_of<W: World, J: Naming>(
+    rt: &impl Wait,
+    alloc: Global,
+    engine: &Engine<W, J>,
+    pass: &mut Pass<ShardLaw<W>, J>,
+    text: &[u8],
+) -> Outcome
+    ensures { Means W.opening pass.old text.now result pass.new }
 {
-    match engine.execute(alloc, text) {
+    match engine.execute(rt, alloc, pass, text) {
         Ok(reply) => match result_set(alloc, engine.schema(), reply) {
             Ok(set) => Outcome::Rows(set),
             Err(refusal) => Outcome::Refused(refusal),
@@ -83,15 +92,17 @@ fn put_outcome(alloc: Global, outcome: &Outcome, number: u8, reply: &mut BytesMu
 }
 
 /// The reply to one command, and the end of the session, if it ends it.
-pub fn put_reply(
+pub fn put_reply<W: World, J: Naming>(
+    rt: &impl Wait,
     alloc: Global,
-    engine: &Engine,
+    engine: &Engine<W, J>,
+    pass: &mut Pass<ShardLaw<W>, J>,
     payload: &Payload,
     reply: &mut BytesMut,
 ) -> Option<End>
     requires empty { reply.old.items ≡ [] }
     requires room { REPLY_ROOM ≤ reply.old.spare }
-    ensures replies { Replies (Means engine.now) (payload.now ∷ []) reply.new.items result }
+    ensures replies { Replies (Means W.opening) pass.old (payload.now ∷ []) reply.new.items result pass.new }
     ensures room { REPLY_ROOM ≤ length reply.new.items + reply.new.spare }
 {
     if payload.first != 0 {
@@ -108,7 +119,7 @@ pub fn put_reply(
         Ok(Command::Quit) => return Some(End::Quit),
         Ok(Command::Ping) => put_pong(number, reply),
         Ok(Command::Query(text)) => {
-            let outcome = outcome_of(alloc, engine, text);
+            let outcome = outcome_of(rt, alloc, engine, pass, text);
             put_outcome(alloc, &outcome, number, reply);
         }
     }

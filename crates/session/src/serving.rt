@@ -1,15 +1,18 @@
 ghost use Rattle.std.specs.Prelude.{◌≡◌, ℕ, ◌<◌, List, ◌++◌, IfOk, IfSome, length, vec_len};
 ghost use Rattle.std.specs.Io.{ReadsAtMost};
 ghost use Rattle.std.specs.Io.KnownBytes.{Appends, Consumes, IsAtEnd, ReadConsumes};
-ghost use Rattle.session.specs.Outcomes.{Means};
+ghost use Rattle.session.specs.Outcomes.{Means, Seen};
 ghost use Rattle.session.specs.Sessions.{HasTalked, HasTalkedOn};
 ghost use Rattle.session.specs.Talk.{Talk, IsByInput};
 
 use crate::devices::{Sink, Source};
 use crate::end::{End, SessionFault};
 use crate::session_core::{COMMAND_LIMIT, Core};
+use journal::{Naming, Pass};
 use route_engine::Engine;
+use shard::{ShardLaw, World};
 use std::alloc::{AllocError, Global};
+use std::sync::Wait;
 
 /// How many bytes are asked of a source at once.
 const PIECE: usize = 1 << 16;
@@ -32,20 +35,22 @@ fn read_piece<R: Source>(source: &mut R, buffer: &mut [u8]) -> Result<usize, Ses
 }
 
 /// Reads one piece of the input, and answers the commands that it completes, or ends the session with the input.
-fn serve_piece<R: Source, W: Sink>(
+fn serve_piece<W: World, J: Naming, R: Source, S: Sink>(
+    rt: &impl Wait,
     alloc: Global,
-    engine: &Engine,
+    engine: &Engine<W, J>,
+    pass: &mut Pass<ShardLaw<W>, J>,
     core: &mut Core,
     buffer: &mut [u8],
     source: &mut R,
-    sink: &mut W,
+    sink: &mut S,
 ) -> Result<Option<End>, SessionFault>
     requires room { 0 < length buffer.old }
     requires open_session { core.old.ended ≡ None }
-    ensures talk { IfOk result (λ end. (bytes out : List ℕ) → HasTalked (Means engine.now) core.old bytes out →
+    ensures talk { IfOk result (λ end. (first : Seen) (bytes out : List ℕ) → HasTalked (Means W.opening) core.old first bytes out pass.old →
         (read : List ℕ) × (written : List ℕ)
-        × Consumes (R.unread source.old) (R.unread source.new) read × Appends (W.taken sink.old) (W.taken sink.new) written
-        × HasTalkedOn (Means engine.now) core.new (bytes ++ read) (out ++ written) end) }
+        × Consumes (R.unread source.old) (R.unread source.new) read × Appends (S.taken sink.old) (S.taken sink.new) written
+        × HasTalkedOn (Means W.opening) core.new first (bytes ++ read) (out ++ written) end pass.new) }
     ensures at_end { IfOk result (λ end. IfSome end (λ e. IsByInput e → IsAtEnd (R.unread source.new))) }
     ensures limit { core.new.framing.limit ≡ core.old.framing.limit }
 {
@@ -53,24 +58,26 @@ fn serve_piece<R: Source, W: Sink>(
     if n == 0 {
         return Ok(Some(core.end_of_input()));
     }
-    core.feed(alloc, engine, &buffer[..n], sink)
+    core.feed(rt, alloc, engine, pass, &buffer[..n], sink)
 }
 
 /// Serves one connection from its command phase on, until it ends: reads commands from the source, and writes their replies to
 /// the sink. A source that gave 2^64 - 1 pieces counts as failed.
-pub fn serve<R: Source, W: Sink>(
+pub fn serve<W: World, J: Naming, R: Source, S: Sink>(
+    rt: &impl Wait,
     alloc: Global,
-    engine: &Engine,
+    engine: &Engine<W, J>,
+    pass: &mut Pass<ShardLaw<W>, J>,
     id: u32,
     capabilities: u32,
     source: &mut R,
-    sink: &mut W,
+    sink: &mut S,
 ) -> Result<End, SessionFault>
     // Exactly the conversation over the bytes that were read is written, where each query has an outcome that its text may have
-    // over the rows of the tables.
+    // over what the run leaves at a look of the pass, each behind the one before.
     ensures talk { IfOk result (λ end. (read : List ℕ) × (written : List ℕ)
-        × Consumes (R.unread source.old) (R.unread source.new) read × Appends (W.taken sink.old) (W.taken sink.new) written
-        × Talk COMMAND_LIMIT (Means engine.now) read written end) }
+        × Consumes (R.unread source.old) (R.unread source.new) read × Appends (S.taken sink.old) (S.taken sink.new) written
+        × Talk COMMAND_LIMIT (Means W.opening) pass.old read written end pass.new) }
     // It ends before the end of the input only by a command or a fault.
     ensures at_end { IfOk result (λ end. IsByInput end → IsAtEnd (R.unread source.new)) }
 {
@@ -81,7 +88,16 @@ pub fn serve<R: Source, W: Sink>(
         return Err(SessionFault::Memory);
     };
     for _ in 0..u64::MAX {
-        if let Some(end) = serve_piece(alloc, engine, &mut core, &mut buffer, source, sink)? {
+        if let Some(end) = serve_piece(
+            rt,
+            alloc,
+            engine,
+            pass,
+            &mut core,
+            &mut buffer,
+            source,
+            sink,
+        )? {
             return Ok(end);
         }
     }

@@ -9,27 +9,32 @@ use crate::devices::Sink;
 use crate::end::{End, SessionFault};
 use crate::reply::REPLY_ROOM;
 use bytes::BytesMut;
+use journal::{Naming, Pass};
 use mysql_packet::Framer;
 use route_engine::Engine;
+use shard::{ShardLaw, World};
 use std::alloc::Global;
 use std::marker::Model;
+use std::sync::Wait;
 use vt_value::Refusal;
 
 /// The most bytes of a command's payload.
 pub const COMMAND_LIMIT: usize = 1 << 20;
 
 /// The replies to a piece of the input.
-fn feed_parts<W: Sink>(
+fn feed_parts<W: World, J: Naming, S: Sink>(
+    rt: &impl Wait,
     alloc: Global,
-    engine: &Engine,
+    engine: &Engine<W, J>,
+    pass: &mut Pass<ShardLaw<W>, J>,
     piece: &[u8],
     framer: &mut Framer,
     reply: &mut BytesMut,
-    sink: &mut W,
+    sink: &mut S,
 ) -> Result<Option<End>, SessionFault>
     requires { REPLY_ROOM ≤ length reply.old.items + reply.old.spare }
     ensures answers { IfOk result (λ end. (fed : Fed) × FedBy framer.old framer.new piece.now fed × ((out : List ℕ)
-        × Appends (W.taken sink.old) (W.taken sink.new) out × AnswersFed (Means engine.now) fed out end)) }
+        × Appends (S.taken sink.old) (S.taken sink.new) out × AnswersFed (Means W.opening) pass.old fed out end pass.new)) }
     ensures limit { framer.new.limit ≡ framer.old.limit }
     ensures room { REPLY_ROOM ≤ length reply.new.items + reply.new.spare }
     ensures cause { IfErr result (λ e. (e ≡ SessionFault.Memory) ⊎ (e ≡ SessionFault.Write)) }
@@ -37,7 +42,7 @@ fn feed_parts<W: Sink>(
     let Ok(fed) = framer.feed(piece) else {
         return Err(SessionFault::Memory);
     };
-    match answer_fed(alloc, engine, &fed, reply, sink) {
+    match answer_fed(rt, alloc, engine, pass, &fed, reply, sink) {
         Ok(end) => Ok(end),
         Err(_) => Err(SessionFault::Write),
     }
@@ -91,8 +96,8 @@ fn ended_by(answer: Result<Option<End>, SessionFault>) -> Option<End>
 impl Core {
     ghost use Rattle.std.specs.Prelude.{◌≡◌, ℕ, List, [], ◌++◌, None, Some, Ok, IfOk, IfErr, IfSome, OnErr, ◌⊎◌};
     ghost use Rattle.std.specs.Io.KnownBytes.{Appends};
-    ghost use Rattle.route_engine.specs.Answers.{Served};
-    ghost use Rattle.session.specs.Outcomes.{Means};
+    ghost use Rattle.shard_run.specs.Runs.{Opening};
+    ghost use Rattle.session.specs.Outcomes.{Means, Seen};
     ghost use Rattle.session.specs.Talk.{Talk, IsByCommand};
     ghost use Rattle.session.specs.Sessions.{HasTalked, HasTalkedOn, IsNext};
 
@@ -100,7 +105,7 @@ impl Core {
     /// capabilities that both sides set. Makes room for the refusal of a command, and refuses only where it can't.
     pub fn commands(alloc: Global, id: u32, capabilities: u32) -> Result<Core, Refusal>
         // Nothing has been read or written.
-        ensures begins { IfOk result (λ core. (s : Served) → HasTalked (Means s) core [] []) }
+        ensures begins { IfOk result (λ core. (o : Opening) (p : Seen) → HasTalked (Means o) core p [] [] p) }
         ensures limit { IfOk result (λ core. core.framing.limit ≡ COMMAND_LIMIT) }
         ensures id { IfOk result (λ core. core.id ≡ id) }
         ensures capabilities { IfOk result (λ core. core.capabilities ≡ capabilities) }
@@ -134,8 +139,8 @@ impl Core {
     pub fn end_of_input(&self) -> End
         ensures ended { IfSome self.now.ended (λ end. result ≡ end) }
         // The conversation is then whole.
-        ensures whole { (s : Served) (bytes out : List ℕ) → HasTalked (Means s) self.now bytes out →
-            Talk self.now.framing.limit (Means s) bytes out result }
+        ensures whole { (o : Opening) (first now : Seen) (bytes out : List ℕ) → HasTalked (Means o) self.now first bytes out now →
+            Talk self.now.framing.limit (Means o) first bytes out result now }
     {
         match self.ended {
             Some(end) => end,
@@ -146,32 +151,36 @@ impl Core {
     /// Takes the next piece of the input, and writes the replies to the commands that it completes, each once it is known
     /// whole. `None` says that the session goes on. A session that has ended takes nothing and writes nothing, and tells
     /// again how it ended: after a fault as `End::Broken`.
-    pub fn feed<W: Sink>(
+    pub fn feed<W: World, J: Naming, S: Sink>(
         &mut self,
+        rt: &impl Wait,
         alloc: Global,
-        engine: &Engine,
+        engine: &Engine<W, J>,
+        pass: &mut Pass<ShardLaw<W>, J>,
         piece: &[u8],
-        sink: &mut W,
+        sink: &mut S,
     ) -> Result<Option<End>, SessionFault>
         // However the input was cut before: of the bytes so far exactly the conversation over them has been written, where each
-        // query has an outcome that its text may have over the rows of the tables.
-        ensures talk { IfOk result (λ end. (bytes out : List ℕ) → HasTalked (Means engine.now) self.old bytes out →
-            (written : List ℕ) × Appends (W.taken sink.old) (W.taken sink.new) written
-            × HasTalkedOn (Means engine.now) self.new (bytes ++ piece.now) (out ++ written) end) }
+        // query has an outcome that its text may have over what the run leaves at a look of the pass, each behind the one before.
+        ensures talk { IfOk result (λ end. (first : Seen) (bytes out : List ℕ) → HasTalked (Means W.opening) self.old first bytes out pass.old →
+            (written : List ℕ) × Appends (S.taken sink.old) (S.taken sink.new) written
+            × HasTalkedOn (Means W.opening) self.new first (bytes ++ piece.now) (out ++ written) end pass.new) }
         ensures ended { IfOk result (λ end. self.new.ended ≡ end) }
         // A piece ends no session as the end of the input does.
         ensures by_command { self.old.ended ≡ None → IfOk result (λ end. IfSome end IsByCommand) }
         ensures fault { OnErr result (self.new.ended ≡ Some End.Broken) }
         ensures cause { IfErr result (λ e. (e ≡ SessionFault.Memory) ⊎ (e ≡ SessionFault.Write)) }
-        ensures again { IfSome self.old.ended (λ end. (result ≡ Ok (Some end)) × (self.new ≡ self.old) × (sink.new ≡ sink.old)) }
+        ensures again { IfSome self.old.ended (λ end. (result ≡ Ok (Some end)) × (self.new ≡ self.old) × (sink.new ≡ sink.old) × (pass.new ≡ pass.old)) }
         ensures next { IsNext self.old self.new }
     {
         if let Some(end) = self.ended {
             return Ok(Some(end));
         }
         let result = feed_parts(
+            rt,
             alloc,
             engine,
+            pass,
             piece,
             &mut self.framer,
             &mut self.reply,

@@ -1,6 +1,13 @@
-//! A shard: the rows that it holds, and what a query gives over them.
+//! A shard: what it holds after the entries on it, and what a query gives over that.
+//!
+//! [`ShardState`] lies under the shard's lock, a [`Shard`]. It holds the shard's seat at the journal, and its type keeps
+//! that its rows, its mode and its stored entries are those that the run which the seat has seen leaves on the shard.
 #![tactic(auto)]
 
+mod locked;
 mod state;
+mod world;
 
-pub use state::ShardState;
+pub use locked::Shard;
+pub use state::{Reading, ShardState};
+pub use world::{ShardLaw, World};

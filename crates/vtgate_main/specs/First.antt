@@ -5,7 +5,8 @@ use Rattle.vt_value.specs.declared.value.Value.TheVariants.{Null, Int}
 use Rattle.vt_value.specs.Values.{Row}
 use Rattle.vschema.specs.declared.schema.ColumnType.TheVariants.{BigIntUnsigned}
 use Rattle.vschema.specs.declared.schema.VSchema.{VSchema}
-use Rattle.route_engine.specs.Answers.{Served}
+use Rattle.shard_run.specs.declared.Shard.{Shard}
+use Rattle.shard_run.specs.Runs.{Opening}
 
 -- CREATE TABLE t (id BIGINT UNSIGNED NOT NULL PRIMARY KEY, c BIGINT UNSIGNED)
 abbrev pub first_schema : VSchema
@@ -29,8 +30,12 @@ first_rows =
     (number 1 ∷ Null ∷ []) ∷ (number 2 ∷ Null ∷ []) ∷ (number 3 ∷ number 7 ∷ []) ∷ (number 4 ∷ number 7 ∷ [])
     ∷ (number 5 ∷ number 9 ∷ []) ∷ (number 6 ∷ number 1 ∷ []) ∷ []
 
-abbrev pub first_served : Served
-first_served = record { schema = first_schema; rows = first_rows ∷ [] }
+-- the one shard, of all keyspace ids
+abbrev pub first_shard : Shard
+first_shard = record { slot = 0; place = record { keyspace = 0; range = record { begin = []; end = None } }; sources = [] }
+
+abbrev pub first_opening : Opening
+first_opening = record { schema = first_schema; shards = (first_shard, first_rows ∷ []) ∷ [] }
 
 -- the words of the command line that ask for it
 abbrev pub is_first : List (List ℕ) → Bool

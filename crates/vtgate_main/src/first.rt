@@ -1,11 +1,14 @@
-ghost use Rattle.std.specs.Prelude.{◌≡◌, ◌^◌, ◌<◌, [], ◌∷◌, ◌++◌, IfOk, OnOk, pos};
-ghost use Rattle.vtgate_main.specs.First.{first_schema, first_rows, first_served, number};
+ghost use Rattle.std.specs.Prelude.{◌≡◌, ◌^◌, ◌<◌, [], ◌∷◌, ◌++◌, Some, IfOk, OnOk, pos};
+ghost use Rattle.journal.specs.Views.{fresh_seats, new_pass};
+ghost use Rattle.vtgate_main.specs.First.{first_schema, first_rows, first_shard, number};
 
+use journal::{Naming, Opened, Pass, ShardSeat};
+use keyrange::KeyRange;
 use route_engine::Engine;
-use shard::ShardState;
+use shard::{Shard, ShardLaw, ShardState, World};
 use std::alloc::{AllocError, Global};
-use vschema::{Column, ColumnType, Keyspace, Table, VSchema};
-use vt_value::{Items, Row, Value};
+use vschema::{Column, ColumnType, Keyspace, Place, Table, VSchema};
+use vt_value::{Items, Refusal, Row, Value};
 
 fn one<T: Drop>(alloc: Global, item: T) -> Result<Items<T>, AllocError>
     ensures { IfOk result (λ items. items ≡ item ∷ []) }
@@ -82,12 +85,62 @@ fn first_rows(alloc: Global) -> Result<Items<Row>, AllocError>
     Ok(rows)
 }
 
-/// The engine of `vtgate first`: the keyspace `shop` with the table t and its first rows, on one shard.
-pub fn first_engine(alloc: Global) -> Result<Engine, AllocError>
-    ensures { IfOk result (λ engine. engine ≡ first_served) }
+/// What `vtgate first` begins with: the keyspace `shop` with the table t and its first rows, on one shard.
+pub struct First;
+
+impl World for First {
+    ghost use Rattle.vtgate_main.specs.First.{first_opening};
+
+    ghost opening = { first_opening };
+}
+
+fn first_shard(alloc: Global) -> shard_run::Shard
+    ensures { result ≡ first_shard }
+{
+    shard_run::Shard {
+        slot: 0,
+        place: Place {
+            keyspace: 0,
+            range: KeyRange::full(),
+        },
+        sources: Items::new(alloc),
+    }
+}
+
+/// The engine, whose shard has the seat of slot 0.
+fn first_engine<J: Naming>(
+    alloc: Global,
+    seat: ShardSeat<ShardLaw<First>, J>,
+) -> Result<Engine<First, J>, AllocError>
+    requires { seat ≡ record { seen = []; slot = 0 } }
+    ensures { IfOk result (λ engine. engine ≡ first_schema) }
 {
     let schema = first_schema(alloc)?;
     let rows = first_rows(alloc)?;
     let tables = one(alloc, rows)?;
-    Ok(Engine::new(schema, ShardState::new(tables)))
+    let state = ShardState::new(alloc, seat, first_shard(alloc), tables);
+    Ok(Engine::new(schema, Shard::new(state)))
+}
+
+/// The seat of slot 0.
+fn first_seat<J: Naming>(seats: Vec<ShardSeat<ShardLaw<First>, J>>) -> ShardSeat<ShardLaw<First>, J>
+    requires { seats.items ≡ fresh_seats 64 }
+    ensures { result ≡ record { seen = []; slot = 0 } }
+{
+    seats.into_iter().next().unwrap()
+}
+
+/// The engine of `vtgate first` and a session's pass, in the journal that was opened.
+pub fn first_router<J: Naming>(
+    alloc: Global,
+    opened: Opened<ShardLaw<First>>,
+) -> Result<(Engine<First, J>, Pass<ShardLaw<First>, J>), Refusal>
+    requires { opened ≡ J.table }
+    ensures schema { IfOk result (λ r. r.0 ≡ first_schema) }
+    ensures pass { IfOk result (λ r. r.1 ≡ new_pass [] (Some 0)) }
+{
+    let (seats, mut opener, mut first) = opened.named::<J>(alloc)?;
+    let engine = first_engine(alloc, first_seat(seats))?;
+    let pass = opener.open(&mut first)?;
+    Ok((engine, pass))
 }

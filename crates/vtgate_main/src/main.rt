@@ -26,6 +26,13 @@ fn main(rt: HostRuntime) -> io::Result<ExitCode> {
     let mut input = Reader(rt.stdin());
     let mut output = Writer(rt.stdout());
     let mut errors = Writer(rt.stderr());
-    let status = run(rt.alloc(), &words, &mut input, &mut output, &mut errors);
+    let status = run(
+        &rt,
+        rt.alloc(),
+        &words,
+        &mut input,
+        &mut output,
+        &mut errors,
+    );
     Ok(ExitCode::from(status))
 }

@@ -1,10 +1,14 @@
-ghost use Rattle.std.specs.Prelude.{None};
+ghost use Rattle.std.specs.Prelude.{◌≡◌, None};
 
-use crate::first::first_engine;
+use crate::first::{First, first_router};
 use crate::run::run;
+use journal::{Naming, Opened};
 use session::{Core, DeviceFailed, End, Reader, SessionFault, Sink, Source, Writer, serve};
+use shard::ShardLaw;
 use std::alloc::Global;
+use std::marker::Brand;
 use std::process::Abort;
+use std::sync::Wait;
 use std::test::Fail;
 
 const PING: &[u8] = b"\x01\x00\x00\x00\x0e";
@@ -50,14 +54,34 @@ fn query(alloc: Global, text: &[u8]) -> Result<Vec<u8>, Fail> {
     Ok(packet)
 }
 
-/// What the session writes for the input, and how it ends.
-fn talk(alloc: Global, input: &[u8]) -> Result<(Vec<u8>, Result<End, SessionFault>), Fail> {
-    let engine = first_engine(alloc)?;
+fn open(alloc: Global) -> Result<Opened<ShardLaw<First>>, Fail> {
+    Ok(Opened::new(alloc).ok().ok_or("no memory")?)
+}
+
+fn talk_opened<J: Naming>(
+    rt: &impl Wait,
+    alloc: Global,
+    opened: Opened<ShardLaw<First>>,
+    input: &[u8],
+) -> Result<(Vec<u8>, Result<End, SessionFault>), Fail>
+    requires { opened ≡ J.table }
+{
+    let (engine, mut pass) = first_router::<J>(alloc, opened).ok().ok_or("no memory")?;
     let mut source = Reader(input);
     let mut sink = Writer(Vec::new(alloc));
-    let end = serve(alloc, &engine, 1, 0, &mut source, &mut sink);
+    let end = serve(rt, alloc, &engine, &mut pass, 1, 0, &mut source, &mut sink);
     let Writer(written) = sink;
     Ok((written, end))
+}
+
+/// What the session writes for the input, and how it ends.
+fn talk(
+    rt: &impl Wait,
+    alloc: Global,
+    input: &[u8],
+) -> Result<(Vec<u8>, Result<End, SessionFault>), Fail> {
+    let opened = open(alloc)?;
+    talk_opened::<Brand>(rt, alloc, opened, input)
 }
 
 #[test]
@@ -88,7 +112,7 @@ fn commands_have_their_replies(rt: HostRuntime) -> Result<(), Fail> {
     cases.push((b"\x01\x00\x00\x00\x16".to_vec(alloc)?, UNKNOWN_COMMAND))?;
     cases.push((b"\x05\x00\x00\x00\x02shop".to_vec(alloc)?, UNKNOWN_COMMAND))?;
     for (packet, reply) in &cases {
-        let (written, end) = talk(alloc, packet)?;
+        let (written, end) = talk(&rt, alloc, packet)?;
         assert_eq!(rt; written.as_slice(), *reply);
         assert_eq!(rt; end, Ok(End::Closed));
     }
@@ -119,7 +143,7 @@ fn conversations_end(rt: HostRuntime) -> Result<(), Fail> {
         (b"\xff\xff\xff\x00", TOO_LARGE, End::Broken),
     ];
     for (input, replies, how) in cases {
-        let (written, end) = talk(alloc, input)?;
+        let (written, end) = talk(&rt, alloc, input)?;
         assert_eq!(rt; written.as_slice(), replies);
         assert_eq!(rt; end, Ok(how));
     }
@@ -136,27 +160,31 @@ fn a_padded_text_is_read(rt: HostRuntime) -> Result<(), Fail> {
         packet.as_slice().get(..4),
         Some(b"\x2d\x01\x00\x00".as_slice())
     );
-    let (written, _) = talk(alloc, &packet)?;
+    let (written, _) = talk(&rt, alloc, &packet)?;
     assert_eq!(rt; written.as_slice(), ONE_COLUMN);
     Ok(())
 }
 
-#[test]
-fn pieces_of_one_byte_give_the_same_replies(rt: HostRuntime) -> Result<(), Fail> {
-    let alloc = rt.alloc();
-    let engine = first_engine(alloc)?;
+fn feed_bytes<J: Naming, R: Abort + Wait>(
+    rt: &R,
+    alloc: Global,
+    opened: Opened<ShardLaw<First>>,
+) -> Result<(), Fail>
+    requires { opened ≡ J.table }
+{
+    let (engine, mut pass) = first_router::<J>(alloc, opened).ok().ok_or("no memory")?;
     let mut input = query(alloc, b"SELECT * FROM t WHERE id = 5")?;
     input.extend_from_slice(PING)?;
     input.extend_from_slice(QUIT)?;
     input.extend_from_slice(PING)?;
-    let (whole, _) = talk(alloc, &input)?;
+    let (whole, _) = talk(rt, alloc, &input)?;
     let mut core = Core::commands(alloc, 7, 0).ok().ok_or("no memory")?;
     assert_eq!(rt; core.id(), 7);
     assert_eq!(rt; core.capabilities(), 0);
     let mut sink = Writer(Vec::new(alloc));
     let mut ends = 0u32;
     for byte in &input {
-        match core.feed(alloc, &engine, &[*byte], &mut sink) {
+        match core.feed(rt, alloc, &engine, &mut pass, &[*byte], &mut sink) {
             Ok(None) => assert_eq!(rt; core.end_of_input() == End::Quit, false),
             Ok(Some(end)) => {
                 assert_eq!(rt; end, End::Quit);
@@ -172,11 +200,17 @@ fn pieces_of_one_byte_give_the_same_replies(rt: HostRuntime) -> Result<(), Fail>
     Ok(())
 }
 
-fn tells_its_usage(rt: &impl Abort, alloc: Global, words: &[String]) -> Result<(), Fail> {
+#[test]
+fn pieces_of_one_byte_give_the_same_replies(rt: HostRuntime) -> Result<(), Fail> {
+    let opened = open(rt.alloc())?;
+    feed_bytes::<Brand, HostRuntime>(&rt, rt.alloc(), opened)
+}
+
+fn tells_its_usage<R: Abort + Wait>(rt: &R, alloc: Global, words: &[String]) -> Result<(), Fail> {
     let mut input = Reader(PING);
     let mut output = Writer(Vec::new(alloc));
     let mut errors = Writer(Vec::new(alloc));
-    let status = run(alloc, words, &mut input, &mut output, &mut errors);
+    let status = run(rt, alloc, words, &mut input, &mut output, &mut errors);
     assert_eq!(rt; status, 2);
     assert_eq!(rt; output.0.as_slice(), b"".as_slice());
     assert_eq!(rt;
@@ -205,7 +239,7 @@ fn the_program_serves_the_first_tables(rt: HostRuntime) -> Result<(), Fail> {
     let mut input = Reader(PING);
     let mut output = Writer(Vec::new(alloc));
     let mut errors = Writer(Vec::new(alloc));
-    let status = run(alloc, &words, &mut input, &mut output, &mut errors);
+    let status = run(&rt, alloc, &words, &mut input, &mut output, &mut errors);
     assert_eq!(rt; status, 0);
     assert_eq!(rt; output.0.as_slice(), PONG);
     assert_eq!(rt; errors.0.as_slice(), b"".as_slice());
@@ -249,28 +283,41 @@ impl Sink for FailingSink {
     }
 }
 
-#[test]
-fn failing_devices_end_a_session(rt: HostRuntime) -> Result<(), Fail> {
-    let alloc = rt.alloc();
-    let engine = first_engine(alloc)?;
+fn fail_devices<J: Naming, R: Abort + Wait>(
+    rt: &R,
+    alloc: Global,
+    opened: Opened<ShardLaw<First>>,
+) -> Result<(), Fail>
+    requires { opened ≡ J.table }
+{
+    let (engine, mut pass) = first_router::<J>(alloc, opened).ok().ok_or("no memory")?;
     let mut source = FailingSource(PING);
     let mut sink = Writer(Vec::new(alloc));
-    let end = serve(alloc, &engine, 1, 0, &mut source, &mut sink);
+    let end = serve(rt, alloc, &engine, &mut pass, 1, 0, &mut source, &mut sink);
     assert_eq!(rt; end, Err(SessionFault::Read));
     assert_eq!(rt; sink.0.as_slice(), PONG);
 
     let mut core = Core::commands(alloc, 1, 0).ok().ok_or("no memory")?;
     let mut sink = FailingSink { writes_left: 1 };
-    assert_eq!(rt; core.feed(alloc, &engine, PING, &mut sink), Ok(None));
     assert_eq!(rt;
-        core.feed(alloc, &engine, PING, &mut sink),
+        core.feed(rt, alloc, &engine, &mut pass, PING, &mut sink),
+        Ok(None)
+    );
+    assert_eq!(rt;
+        core.feed(rt, alloc, &engine, &mut pass, PING, &mut sink),
         Err(SessionFault::Write)
     );
     sink.writes_left = 1;
     assert_eq!(rt;
-        core.feed(alloc, &engine, PING, &mut sink),
+        core.feed(rt, alloc, &engine, &mut pass, PING, &mut sink),
         Ok(Some(End::Broken))
     );
     assert_eq!(rt; sink.writes_left, 1);
     Ok(())
+}
+
+#[test]
+fn failing_devices_end_a_session(rt: HostRuntime) -> Result<(), Fail> {
+    let opened = open(rt.alloc())?;
+    fail_devices::<Brand, HostRuntime>(&rt, rt.alloc(), opened)
 }

@@ -8,6 +8,6 @@ use Rattle.session.proofs.answers.answer_all.Given as goal
 abbrev pub invariant-loop-payload : goal.invariant-loop-payload
 invariant-loop-payload g l = record {
   room : REPLY_ROOM ≤ length l.reply.items + l.reply.spare;
-  replies : (out : List ℕ) × Appends (g.W.Sink.taken l.initial.sink) (g.W.Sink.taken l.sink) out
-      × Replies (Means l.engine) (take l.payload-index l.payloads) out None;
+  replies : (out : List ℕ) × Appends (g.S.Sink.taken l.initial.sink) (g.S.Sink.taken l.sink) out
+      × Replies (Means g.W.World.opening) l.initial.pass (take l.payload-index l.payloads) out None l.pass;
 }
