@@ -45,6 +45,13 @@ impl<L: Law, J: Naming> Pass<L, J> {
         self.number
     }
 
+    /// How many statements of its session were numbered.
+    pub fn statements(&self) -> u64
+        ensures { result ≡ self.now.statements }
+    {
+        self.statements
+    }
+
     /// The number of the session's next statement, from 1 on. It is above those of all commits of its session that the
     /// pass has seen. It refuses `ShardFull` once 2^62 statements were numbered; then nothing has changed.
     pub fn next_statement(&mut self) -> Result<u64, Refusal>

@@ -1,36 +1,50 @@
 -- Why a text is refused, from why each step refuses.
-use Rattle.std.proofs.Common.{◌≡◌, ◌⊎◌, inl, inr, ℕ, List, Err, sym, subst, ◌∙◌}
-use Rattle.std.specs.Prelude.{Contains}
+use Rattle.std.proofs.Common.{◌≡◌, ◌⊎◌, inl, inr, ℕ, List, Ok, Err, false, ap, sym, subst, ◌∙◌}
+use Rattle.std.specs.Prelude.{not}
 use Rattle.vt_value.specs.declared.refusal.Refusal.{Refusal}
-use Rattle.vt_value.specs.declared.refusal.Refusal.TheVariants.{OutOfMemory, SyntaxError}
+use Rattle.vt_value.specs.declared.refusal.Refusal.TheVariants.{OutOfMemory, SyntaxError, NotSupported}
 use Rattle.sql_tree.specs.declared.Statement.{Statement}
 use Rattle.sql_parser.specs.Grammar.{Reads}
 use Rattle.vschema.specs.declared.schema.VSchema.{VSchema}
+use Rattle.vschema.specs.declared.schema.Query.{Query}
+use Rattle.vschema.specs.declared.schema.Typed.{Typed}
+use Rattle.vschema.specs.declared.schema.Typed.TheVariants.{Select, Write}
+use Rattle.vschema.specs.declared.changes.Write as W
 use Rattle.vschema.specs.TypedStatement.{typed_statement}
 use Rattle.journal.specs.Views.{PassView}
-use Rattle.shard_run.specs.declared.Shard.{Shard}
 use Rattle.shard_run.specs.declared.Entry.{Entry}
 use Rattle.shard_run.specs.Runs.{Opening}
-use Rattle.shard.specs.Shards.{HasLooked, opening_shards}
+use Rattle.shard.specs.declared.limits.Limits.{Limits}
 use Rattle.shard.specs.Shards as s
 use Rattle.route_engine.specs.Answers as a
-use Rattle.route_engine.specs.Answers.{IsRefusal}
+use Rattle.route_engine.specs.Answers.{IsRefused, MaySelectRefuse, MayWriteRefuse, is_run}
 
-module _ (o : Opening) (p : PassView Entry) (text : List ℕ) where
+module _ (o : Opening) (limits : Limits) (p : PassView Entry) (text : List ℕ) where
   abbrev For : PassView Entry → Refusal → Type 0
-  For now e = IsRefusal o p text e now
+  For now e = IsRefused o limits p text e now
 
   pub from_parse : (e : Refusal) → ((e ≡ OutOfMemory) ⊎ (e ≡ SyntaxError)) → ((tree : Statement) → Reads text tree → e ≡ OutOfMemory)
-      → IsRefusal o p text e p
+      → IsRefused o limits p text e p
   from_parse e (inl is) only = subst (For p) (sym is) (a.no_memory s.same)
   from_parse e (inr is) only = subst (For p) (sym is) (a.no_tree (λ tree reads. let wrong : SyntaxError ≡ OutOfMemory = sym is ∙ only tree reads in cc))
 
   pub from_resolve : (schema : VSchema) (tree : Statement) (e : Refusal) → schema ≡ o.schema → Reads text tree
-      → ((e ≡ OutOfMemory) ⊎ (typed_statement schema tree ≡ Err e)) → IsRefusal o p text e p
+      → ((e ≡ OutOfMemory) ⊎ (typed_statement schema tree ≡ Err e)) → IsRefused o limits p text e p
   from_resolve schema tree e served reads (inl is) = subst (For p) (sym is) (a.no_memory s.same)
   from_resolve schema tree e served reads (inr is) =
       a.not_typed tree reads (subst (λ (v : VSchema). typed_statement v tree ≡ Err e) served is)
 
-  pub from_memory : (now : PassView Entry) (e : Refusal) (shard : Shard) → Contains (opening_shards o) shard → HasLooked o shard.slot p now
-      → e ≡ OutOfMemory → IsRefusal o p text e now
-  from_memory now e shard opening looked is = subst (For now) (sym is) (a.no_memory (s.looked shard opening looked))
+  pub not_run : (schema : VSchema) (tree : Statement) (typed : Typed) → schema ≡ o.schema → Reads text tree
+      → typed_statement schema tree ≡ Ok typed → is_run typed ≡ false → IsRefused o limits p text NotSupported p
+  not_run schema tree typed served reads is none =
+      a.not_run tree typed reads (subst (λ (v : VSchema). typed_statement v tree ≡ Ok typed) served is) none
+
+  pub from_select : (schema : VSchema) (tree : Statement) (query : Query) (now : PassView Entry) (e : Refusal) → schema ≡ o.schema → Reads text tree
+      → typed_statement schema tree ≡ Ok (Select query) → MaySelectRefuse o p query e now → IsRefused o limits p text e now
+  from_select schema tree query _ _ served reads is (a.aggregated so) = not_run schema tree (Select query) served reads is (ap not so)
+  from_select schema tree query _ _ served reads is (a.full seen) = a.no_memory seen
+
+  pub from_write : (schema : VSchema) (tree : Statement) (w : W.Write) (now : PassView Entry) (e : Refusal) → schema ≡ o.schema → Reads text tree
+      → typed_statement schema tree ≡ Ok (Write w) → MayWriteRefuse o limits p w e now → IsRefused o limits p text e now
+  from_write schema tree w now e served reads is why =
+      a.not_written tree w reads (subst (λ (v : VSchema). typed_statement v tree ≡ Ok (Write w)) served is) why

@@ -3,4 +3,4 @@
 
 mod engine;
 
-pub use engine::{Engine, Reply};
+pub use engine::{Answer, Engine, Reply, Selected};

@@ -15,11 +15,17 @@ use Rattle.resultset.specs.Encoding.{encoded}
 use Rattle.shard_run.specs.Runs.{Opening}
 use Rattle.shard.specs.Shards.{HasSeen}
 use Rattle.shard.specs.Shards as h
-use Rattle.route_engine.specs.Answers.{IsReply}
+use Rattle.route_engine.specs.declared.engine.Selected.{Selected}
+use Rattle.shard.specs.declared.limits.Limits.{Limits}
+use Rattle.route_engine.specs.declared.engine.Answer.{Answer}
+use Rattle.route_engine.specs.declared.engine.Answer.TheVariants as answer
+use Rattle.route_engine.specs.Answers.{IsReply, Gives}
 use Rattle.route_engine.specs.Answers as a
+use Rattle.vschema.specs.declared.schema.VSchema.{VSchema}
+use Rattle.vschema.specs.declared.schema.Typed.{Typed}
 use Rattle.session.specs.declared.end.End.{End}
 use Rattle.session.specs.declared.end.End.TheVariants.{Quit, Broken}
-use Rattle.session.specs.Outcomes.{Means, Seen}
+use Rattle.session.specs.Outcomes.{Means, Seen, Shows, HasRows, IsRows}
 use Rattle.session.specs.Outcomes as q
 use Rattle.session.specs.Talk.{Replies, refusal_bytes, reply_number}
 use Rattle.session.specs.Talk as t
@@ -74,32 +80,46 @@ module _ {S : Type 0} (May : S → List ℕ → Outcome → S → Type 0) where
   stay_ended _ _ _ qs _ _ e is (t.queried {mid = then} {t = now} {more = ps} {out} {end} text outcome first command may r) =
       t.queried text outcome first command may (stay_ended then now ps qs out end e is r)
 
--- what a statement's answer says of the pass
-seen : (o : Opening) (p : Seen) (text : List ℕ) (outcome : Outcome) (now : Seen) → Means o p text outcome now → HasSeen o p now
-seen o p text _ _ (q.answered reply is columns) = h.looked is.shard is.opening is.looked
-seen o p text _ _ (q.refused (a.no_memory has)) = has
-seen o p text _ _ (q.refused (a.no_tree none)) = h.same
-seen o p text _ _ (q.refused (a.not_typed tree reads typed)) = h.same
+-- a reply with rows only looked
+rows_read : (o : Opening) (l : Limits) (p : Seen) (t : Typed) (reply : Reply) (now : Seen) → Gives o l p t reply now → HasRows reply.answer → HasSeen o p now
+rows_read o l p _ _ _ (a.selects (a.read is)) rows = h.looked is.shard is.opening is.looked
+rows_read o l p _ _ _ (a.writes (a.wrote s opening committed)) rows = absurd rows
+rows_read o l p _ _ _ a.sets_names rows = absurd rows
 
--- a query may always be refused for want of memory
-pub no_memory : (o : Opening) (p : Seen) (text : List ℕ) (now : Seen) → HasSeen o p now → Means o p text (Refused OutOfMemory) now
-no_memory o p text now seen = q.refused (a.no_memory seen)
+shows_rows : (schema : VSchema) (x : Answer) (outcome : Outcome) → Shows schema x outcome → IsRows outcome → HasRows x
+shows_rows schema _ _ (q.rows columns) rows = tt
+shows_rows schema _ _ q.count rows = absurd rows
 
-pub one_query_or_refusal : (o : Opening) (s now : Seen) (p : Payload) (out text : List ℕ) (outcome : Outcome) → p.first == 0 ≡ true
-    → command_of p.bytes ≡ Some (query text) → Means o s text outcome now
-    → (out ≡ encoded outcome (reply_number p) autocommit) ⊎ (out ≡ encoded (Refused OutOfMemory) (reply_number p) autocommit)
-    → Replies (Means o) s (p ∷ []) out None now
-one_query_or_refusal o s now p out text outcome first is may (inl e) = one_query (Means o) s now p out text outcome first is may e
-one_query_or_refusal o s now p out text outcome first is may (inr e) =
-    one_query (Means o) s now p out text (Refused OutOfMemory) first is (no_memory o s text now (seen o s text outcome now may)) e
+no_room : (o : Opening) (l : Limits) (p : Seen) (text : List ℕ) (reply : Reply) (now : Seen) → IsReply o l (a.counted p) text reply now → HasRows reply.answer
+    → Means o l p text (Refused OutOfMemory) now
+no_room o l p text reply now is rows = q.refused (a.numbered (a.no_memory (rows_read o l (a.counted p) is.typed reply now is.gives rows)))
 
--- a result set with a reply's columns and rows
-pub shows : (o : Opening) (p now : Seen) (text : List ℕ) (reply : Reply) (set : ResultSet) → IsReply o p text reply now
-    → AreColumns o.schema reply.table reply.items set.columns → set.rows ≡ reply.rows → Means o p text (Rows set) now
-shows o p now text reply set is columns rows =
-    let E : List Row → Type 0 = λ rs. Means o p text (Rows (record { columns = set.columns; rows = rs })) now in
-    subst E (sym rows) (q.answered reply is columns)
+-- rows for which there is no memory
+unshown : (o : Opening) (l : Limits) (p : Seen) (text : List ℕ) (outcome : Outcome) (now : Seen) → Means o l p text outcome now → IsRows outcome
+    → Means o l p text (Refused OutOfMemory) now
+unshown o l p text outcome now (q.answered reply is shows) rows = no_room o l p text reply now is (shows_rows o.schema reply.answer outcome shows rows)
+unshown o l p text _ now (q.refused why) rows = absurd rows
 
--- a reply whose columns found no memory
-pub replied_no_memory : (o : Opening) (p now : Seen) (text : List ℕ) (reply : Reply) → IsReply o p text reply now → Means o p text (Refused OutOfMemory) now
-replied_no_memory o p now text reply is = no_memory o p text now (h.looked is.shard is.opening is.looked)
+pub one_query_or_refusal : (o : Opening) (l : Limits) (s now : Seen) (p : Payload) (out text : List ℕ) (outcome : Outcome) → p.first == 0 ≡ true
+    → command_of p.bytes ≡ Some (query text) → Means o l s text outcome now
+    → (out ≡ encoded outcome (reply_number p) autocommit) ⊎ (IsRows outcome × (out ≡ encoded (Refused OutOfMemory) (reply_number p) autocommit))
+    → Replies (Means o l) s (p ∷ []) out None now
+one_query_or_refusal o l s now p out text outcome first is may (inl e) = one_query (Means o l) s now p out text outcome first is may e
+one_query_or_refusal o l s now p out text outcome first is may (inr (rows, e)) =
+    one_query (Means o l) s now p out text (Refused OutOfMemory) first is (unshown o l s text outcome now may rows) e
+
+-- a result set with the columns and rows of an answer
+pub shows : (schema : VSchema) (selected : Selected) (set : ResultSet) → AreColumns schema selected.table selected.items set.columns
+    → set.rows ≡ selected.rows → Shows schema (answer.Rows selected) (Rows set)
+shows schema selected set columns rows =
+    let E : List Row → Type 0 = λ rs. Shows schema (answer.Rows selected) (Rows (record { columns = set.columns; rows = rs })) in
+    subst E (sym rows) (q.rows columns)
+
+-- a reply as its client is told it
+pub replied : (o : Opening) (l : Limits) (p now : Seen) (text : List ℕ) (reply : Reply) (outcome : Outcome) (schema : VSchema) → schema ≡ o.schema
+    → IsReply o l (a.counted p) text reply now → Shows schema reply.answer outcome ⊎ (HasRows reply.answer × (outcome ≡ Refused OutOfMemory))
+    → Means o l p text outcome now
+replied o l p now text reply outcome schema served is (inl shows) =
+    q.answered reply is (subst (λ (s : VSchema). Shows s reply.answer outcome) served shows)
+replied o l p now text reply outcome schema served is (inr (rows, full)) =
+    subst (λ (x : Outcome). Means o l p text x now) (sym full) (no_room o l p text reply now is rows)

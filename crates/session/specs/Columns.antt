@@ -1,6 +1,9 @@
 -- How the columns of a query's result are defined.
 use Rattle.std.specs.Prelude.{◌≡◌, ℕ, ◌+◌, true, false, ◌==◌, List, [], ◌∷◌, slice_index_or, if◌then◌else◌}
 use Rattle.std.specs.List.{list_any}
+use Rattle.sql_tree.specs.declared.Item.{Item}
+use Rattle.sql_tree.specs.declared.Item.TheVariants as item
+use Rattle.sql_tree.specs.Printing.{item_text}
 use Rattle.vschema.specs.declared.schema.ColumnType.{ColumnType}
 use Rattle.vschema.specs.declared.schema.ColumnType.TheVariants as type
 use Rattle.vschema.specs.declared.schema.Keyspace.{Keyspace}
@@ -9,7 +12,7 @@ use Rattle.vschema.specs.declared.schema.VSchema.{VSchema}
 use Rattle.vschema.specs.declared.schema.Column as C
 use Rattle.vschema.specs.Schema.{no_table}
 use Rattle.resultset.specs.declared.Kind.{Kind}
-use Rattle.resultset.specs.declared.Kind.TheVariants.{BigInt, BigIntUnsigned, VarBinary}
+use Rattle.resultset.specs.declared.Kind.TheVariants.{BigInt, BigIntUnsigned, VarBinary, Count, Sum}
 use Rattle.resultset.specs.declared.Column as R
 
 abbrev pub kind_of : ColumnType → Kind
@@ -45,16 +48,63 @@ pub record Defines (schema : VSchema) (t : Table) (place : ℕ) (column : C.Colu
   pub kind : defined.kind ≡ kind_of column.kind
   pub flags : defined.flags ≡ flags_of t place column
 
-abbrev pub DefinesAt : VSchema → Table → ℕ → R.Column → Type 0
-DefinesAt schema t place defined = Defines schema t place (slice_index_or t.columns place no_column) defined
+abbrev pub column_at : Table → ℕ → C.Column
+column_at t place = slice_index_or t.columns place no_column
 
--- a definition for each place, in order
-abbrev pub AllDefined : VSchema → Table → List ℕ → List R.Column → Type 0
+abbrev pub DefinesAt : VSchema → Table → ℕ → R.Column → Type 0
+DefinesAt schema t place defined = Defines schema t place (column_at t place) defined
+
+-- an item with the names of its columns
+abbrev pub named_item : Table → Item ℕ → Item (List ℕ)
+named_item t (item.Column n) = item.Column (column_at t n).name
+named_item t item.CountRows = item.CountRows
+named_item t (item.Count n) = item.Count (column_at t n).name
+named_item t (item.Sum n) = item.Sum (column_at t n).name
+named_item t (item.Min n) = item.Min (column_at t n).name
+named_item t (item.Max n) = item.Max (column_at t n).name
+
+-- a count is counted, a sum is summed, and the least and the greatest are of their column's type
+abbrev pub item_kind : Table → Item ℕ → Kind
+item_kind t (item.Column n) = kind_of (column_at t n).kind
+item_kind t item.CountRows = Count
+item_kind t (item.Count n) = Count
+item_kind t (item.Sum n) = Sum
+item_kind t (item.Min n) = kind_of (column_at t n).kind
+item_kind t (item.Max n) = kind_of (column_at t n).kind
+
+-- a count is never NULL
+abbrev pub item_flags : Table → Item ℕ → ℕ
+item_flags t (item.Column n) = base_flags (column_at t n).kind
+item_flags t item.CountRows = 128 + 1
+item_flags t (item.Count n) = 128 + 1
+item_flags t (item.Sum n) = 128
+item_flags t (item.Min n) = base_flags (column_at t n).kind
+item_flags t (item.Max n) = base_flags (column_at t n).kind
+
+-- the definition of an aggregate: no keyspace or table has it, and it is named as it is printed
+pub record DefinesAggregate (t : Table) (shown : Item ℕ) (defined : R.Column) : Type 0 where
+  pub schema_name : defined.schema ≡ []
+  pub table_name : defined.table ≡ []
+  pub name : defined.name ≡ item_text (named_item t shown)
+  pub org_name : defined.org_name ≡ []
+  pub kind : defined.kind ≡ item_kind t shown
+  pub flags : defined.flags ≡ item_flags t shown
+
+abbrev pub DefinesItem : VSchema → Table → Item ℕ → R.Column → Type 0
+DefinesItem schema t (item.Column n) defined = DefinesAt schema t n defined
+DefinesItem schema t item.CountRows defined = DefinesAggregate t item.CountRows defined
+DefinesItem schema t (item.Count n) defined = DefinesAggregate t (item.Count n) defined
+DefinesItem schema t (item.Sum n) defined = DefinesAggregate t (item.Sum n) defined
+DefinesItem schema t (item.Min n) defined = DefinesAggregate t (item.Min n) defined
+DefinesItem schema t (item.Max n) defined = DefinesAggregate t (item.Max n) defined
+
+-- a definition for each item, in order
+abbrev pub AllDefined : VSchema → Table → List (Item ℕ) → List R.Column → Type 0
 AllDefined schema t [] [] = Unit {0}
 AllDefined schema t [] (d ∷ defined) = ⊥
-AllDefined schema t (n ∷ places) [] = ⊥
-AllDefined schema t (n ∷ places) (d ∷ defined) = DefinesAt schema t n d × AllDefined schema t places defined
+AllDefined schema t (i ∷ items) [] = ⊥
+AllDefined schema t (i ∷ items) (d ∷ defined) = DefinesItem schema t i d × AllDefined schema t items defined
 
 -- the definitions of the columns that a query of the table at this place shows
-abbrev pub AreColumns : VSchema → ℕ → List ℕ → List R.Column → Type 0
-AreColumns schema table places defined = AllDefined schema (slice_index_or schema.tables table no_table) places defined
+abbrev pub AreColumns : VSchema → ℕ → List (Item ℕ) → List R.Column → Type 0
+AreColumns schema table items defined = AllDefined schema (slice_index_or schema.tables table no_table) items defined

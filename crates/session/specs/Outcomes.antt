@@ -1,23 +1,43 @@
--- What the text of a query may give its client.
+-- What the text of a statement may give its client.
 use Rattle.std.specs.Prelude.{ℕ, List}
 use Rattle.vt_value.specs.declared.refusal.Refusal.{Refusal}
 use Rattle.resultset.specs.declared.Column.{Column}
 use Rattle.resultset.specs.declared.Outcome.{Outcome}
-use Rattle.resultset.specs.declared.Outcome.TheVariants.{Rows, Refused}
+use Rattle.resultset.specs.declared.Outcome.TheVariants.{Rows, Count, Refused}
 use Rattle.journal.specs.Views.{PassView}
 use Rattle.shard_run.specs.declared.Entry.{Entry}
 use Rattle.shard_run.specs.Runs.{Opening}
+use Rattle.vschema.specs.declared.schema.VSchema.{VSchema}
+use Rattle.route_engine.specs.declared.engine.Selected.{Selected}
+use Rattle.route_engine.specs.declared.engine.Answer.{Answer}
+use Rattle.route_engine.specs.declared.engine.Answer.TheVariants as a
 use Rattle.route_engine.specs.declared.engine.Reply.{Reply}
-use Rattle.route_engine.specs.Answers.{IsReply, IsRefusal}
+use Rattle.shard.specs.declared.limits.Limits.{Limits}
+use Rattle.route_engine.specs.Answers.{counted, IsReply, IsRefusal}
 use Rattle.session.specs.Columns.{AreColumns}
 
 -- what the session's pass has seen
 abbrev pub Seen : Type 0
 Seen = PassView Entry
 
--- rows that the text may answer over what the run leaves at a look of the pass, under the definitions of the columns that it shows, or a
--- refusal for its cause; and what the pass then has seen
-pub data Means (o : Opening) (p : Seen) (text : List ℕ) : Outcome → Seen → Type 0 where
-  answered : {columns : List Column} {now : Seen} (reply : Reply) → IsReply o p text reply now → AreColumns o.schema reply.table reply.items columns
-      → Means o p text (Rows (record { columns = columns; rows = reply.rows })) now
-  refused : {r : Refusal} {now : Seen} → IsRefusal o p text r now → Means o p text (Refused r) now
+-- how an answer is told: rows under the definitions of the columns that they show, or a count
+pub data Shows (schema : VSchema) : Answer → Outcome → Type 0 where
+  rows : {columns : List Column} {selected : Selected} → AreColumns schema selected.table selected.items columns
+      → Shows schema (a.Rows selected) (Rows (record { columns = columns; rows = selected.rows }))
+  count : {n : ℕ} → Shows schema (a.Count n) (Count n)
+
+abbrev pub HasRows : Answer → Type 0
+HasRows (a.Rows selected) = Unit {0}
+HasRows (a.Count n) = ⊥
+
+abbrev pub IsRows : Outcome → Type 0
+IsRows (Rows set) = Unit {0}
+IsRows (Count n) = ⊥
+IsRows (Refused r) = ⊥
+
+-- What the text of a statement may give its client: an answer that it may have, or a refusal for its cause; and what the pass then has
+-- seen. Rows of a reply for which there is no memory are refused for that.
+pub data Means (o : Opening) (limits : Limits) (p : Seen) (text : List ℕ) : Outcome → Seen → Type 0 where
+  answered : {outcome : Outcome} {now : Seen} (reply : Reply) → IsReply o limits (counted p) text reply now → Shows o.schema reply.answer outcome
+      → Means o limits p text outcome now
+  refused : {r : Refusal} {now : Seen} → IsRefusal o limits p text r now → Means o limits p text (Refused r) now

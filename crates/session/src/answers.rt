@@ -1,4 +1,4 @@
-ghost use Rattle.std.specs.Prelude.{◌≡◌, ◌+◌, ◌≤◌, ℕ, List, [], ◌∷◌, length, IfOk};
+ghost use Rattle.std.specs.Prelude.{◌≡◌, ◌+◌, ◌≤◌, ℕ, List, [], ◌∷◌, length, IsSome, IfOk};
 ghost use Rattle.std.specs.Io.KnownBytes.{Appends};
 ghost use Rattle.session.specs.Outcomes.{Means};
 ghost use Rattle.session.specs.Talk.{Replies, refusal_bytes};
@@ -25,10 +25,12 @@ fn answer<W: World, J: Naming, S: Sink>(
     reply: &mut BytesMut,
     sink: &mut S,
 ) -> Result<Option<End>, DeviceFailed>
-    requires { REPLY_ROOM ≤ length reply.old.items + reply.old.spare }
+    requires room { REPLY_ROOM ≤ length reply.old.items + reply.old.spare }
+    requires session { IsSome pass.old.session }
     ensures replies { IfOk result (λ end. (out : List ℕ) × Appends (S.taken sink.old) (S.taken sink.new) out
-        × Replies (Means W.opening) pass.old (payload.now ∷ []) out end pass.new) }
+        × Replies (Means W.opening W.limits) pass.old (payload.now ∷ []) out end pass.new) }
     ensures room { REPLY_ROOM ≤ length reply.new.items + reply.new.spare }
+    ensures session { pass.new.session ≡ pass.old.session }
 {
     reply.clear();
     let end = put_reply(rt, alloc, engine, pass, payload, reply);
@@ -45,10 +47,12 @@ fn answer_all<W: World, J: Naming, S: Sink>(
     reply: &mut BytesMut,
     sink: &mut S,
 ) -> Result<Option<End>, DeviceFailed>
-    requires { REPLY_ROOM ≤ length reply.old.items + reply.old.spare }
+    requires room { REPLY_ROOM ≤ length reply.old.items + reply.old.spare }
+    requires session { IsSome pass.old.session }
     ensures replies { IfOk result (λ end. (out : List ℕ) × Appends (S.taken sink.old) (S.taken sink.new) out
-        × Replies (Means W.opening) pass.old payloads.now out end pass.new) }
+        × Replies (Means W.opening W.limits) pass.old payloads.now out end pass.new) }
     ensures room { REPLY_ROOM ≤ length reply.new.items + reply.new.spare }
+    ensures session { pass.new.session ≡ pass.old.session }
 {
     for payload in payloads {
         let end = answer(rt, alloc, engine, pass, payload, reply, sink)?;
@@ -83,10 +87,12 @@ pub fn answer_fed<W: World, J: Naming, S: Sink>(
     reply: &mut BytesMut,
     sink: &mut S,
 ) -> Result<Option<End>, DeviceFailed>
-    requires { REPLY_ROOM ≤ length reply.old.items + reply.old.spare }
+    requires room { REPLY_ROOM ≤ length reply.old.items + reply.old.spare }
+    requires session { IsSome pass.old.session }
     ensures answers { IfOk result (λ end. (out : List ℕ) × Appends (S.taken sink.old) (S.taken sink.new) out
-        × AnswersFed (Means W.opening) pass.old fed.now out end pass.new) }
+        × AnswersFed (Means W.opening W.limits) pass.old fed.now out end pass.new) }
     ensures room { REPLY_ROOM ≤ length reply.new.items + reply.new.spare }
+    ensures session { pass.new.session ≡ pass.old.session }
 {
     let end = answer_all(
         rt,

@@ -1,10 +1,10 @@
 ghost use Rattle.std.specs.Prelude.{◌≡◌, ◌==◌, IfOk, IfErr, slice_index_or};
 ghost use Rattle.std.specs.List.{list_any};
 ghost use Rattle.vschema.specs.Schema.{no_table};
-ghost use Rattle.session.specs.Columns.{kind_of, base_flags, flags_of, no_keyspace, no_column, Defines, DefinesAt, AllDefined, AreColumns};
+ghost use Rattle.session.specs.Columns.{kind_of, base_flags, flags_of, no_keyspace, no_column, column_at, Defines, DefinesAt, named_item, item_kind, item_flags, DefinesAggregate, DefinesItem, AllDefined, AreColumns};
 
 use resultset::{Column as ResultColumn, Kind};
-use sql_tree::Name;
+use sql_tree::{Item, Name, print_item};
 use std::alloc::Global;
 use vschema::{Column, ColumnType, Table, VSchema};
 use vt_value::{Items, Refusal};
@@ -121,35 +121,142 @@ fn define_at(
     }
 }
 
+fn type_at(table: &Table, place: usize) -> ColumnType
+    ensures { result ≡ (column_at table.now place).kind }
+{
+    match table.columns.as_slice().get(place) {
+        Some(column) => column.kind,
+        None => ColumnType::BigInt,
+    }
+}
+
+fn name_at(alloc: Global, table: &Table, place: usize) -> Result<Name, Refusal>
+    ensures ok { IfOk result (λ n. n ≡ (column_at table.now place).name) }
+    ensures err { IfErr result (λ e. e ≡ Refusal.OutOfMemory) }
+{
+    match table.columns.as_slice().get(place) {
+        Some(column) => copy_name(alloc, column.name.as_slice()),
+        None => Ok(Items::new(alloc)),
+    }
+}
+
+fn named_item(alloc: Global, table: &Table, item: &Item<usize>) -> Result<Item<Name>, Refusal>
+    ensures ok { IfOk result (λ i. i ≡ named_item table.now item.now) }
+    ensures err { IfErr result (λ e. e ≡ Refusal.OutOfMemory) }
+{
+    match item {
+        Item::Column(place) => {
+            let name = name_at(alloc, table, *place)?;
+            Ok(Item::Column(name))
+        }
+        Item::CountRows => Ok(Item::CountRows),
+        Item::Count(place) => {
+            let name = name_at(alloc, table, *place)?;
+            Ok(Item::Count(name))
+        }
+        Item::Sum(place) => {
+            let name = name_at(alloc, table, *place)?;
+            Ok(Item::Sum(name))
+        }
+        Item::Min(place) => {
+            let name = name_at(alloc, table, *place)?;
+            Ok(Item::Min(name))
+        }
+        Item::Max(place) => {
+            let name = name_at(alloc, table, *place)?;
+            Ok(Item::Max(name))
+        }
+    }
+}
+
+fn item_kind(table: &Table, item: &Item<usize>) -> Kind
+    ensures { result ≡ item_kind table.now item.now }
+{
+    match item {
+        Item::CountRows | Item::Count(_) => Kind::Count,
+        Item::Sum(_) => Kind::Sum,
+        Item::Column(place) | Item::Min(place) | Item::Max(place) => kind_of(type_at(
+            table, *place,
+        )),
+    }
+}
+
+fn item_flags(table: &Table, item: &Item<usize>) -> u16
+    ensures { result ≡ item_flags table.now item.now }
+{
+    match item {
+        Item::CountRows | Item::Count(_) => 129,
+        Item::Sum(_) => 128,
+        Item::Column(place) | Item::Min(place) | Item::Max(place) => {
+            base_flags(type_at(table, *place))
+        }
+    }
+}
+
+fn define_aggregate(
+    alloc: Global,
+    table: &Table,
+    item: &Item<usize>,
+) -> Result<ResultColumn, Refusal>
+    ensures ok { IfOk result (DefinesAggregate table.now item.now) }
+    ensures err { IfErr result (λ e. e ≡ Refusal.OutOfMemory) }
+{
+    let named = named_item(alloc, table, item)?;
+    let printed = print_item(alloc, &named)?;
+    Ok(ResultColumn {
+        schema: Items::new(alloc),
+        table: Items::new(alloc),
+        name: Items::from_vec(printed),
+        org_name: Items::new(alloc),
+        kind: item_kind(table, item),
+        flags: item_flags(table, item),
+    })
+}
+
+fn define_item(
+    alloc: Global,
+    schema: &VSchema,
+    table: &Table,
+    item: &Item<usize>,
+) -> Result<ResultColumn, Refusal>
+    ensures ok { IfOk result (DefinesItem schema.now table.now item.now) }
+    ensures err { IfErr result (λ e. e ≡ Refusal.OutOfMemory) }
+{
+    match item {
+        Item::Column(place) => define_at(alloc, schema, table, *place),
+        _ => define_aggregate(alloc, table, item),
+    }
+}
+
 fn define_all(
     alloc: Global,
     schema: &VSchema,
     table: &Table,
-    places: &[usize],
+    wanted: &[Item<usize>],
 ) -> Result<Items<ResultColumn>, Refusal>
-    ensures ok { IfOk result (AllDefined schema.now table.now places.now) }
+    ensures ok { IfOk result (AllDefined schema.now table.now wanted.now) }
     ensures err { IfErr result (λ e. e ≡ Refusal.OutOfMemory) }
 {
     let mut columns = Items::new(alloc);
-    for place in places {
-        let column = define_at(alloc, schema, table, *place)?;
+    for item in wanted {
+        let column = define_item(alloc, schema, table, item)?;
         columns.push(column)?;
     }
     Ok(columns)
 }
 
-/// The definitions of the columns at these places of the table at a place of the VSchema.
+/// The definitions of the columns that these items of the table at a place of the VSchema are.
 pub fn columns_of(
     alloc: Global,
     schema: &VSchema,
     table: usize,
-    places: &[usize],
+    items: &[Item<usize>],
 ) -> Result<Items<ResultColumn>, Refusal>
-    ensures ok { IfOk result (AreColumns schema.now table places.now) }
+    ensures ok { IfOk result (AreColumns schema.now table items.now) }
     ensures err { IfErr result (λ e. e ≡ Refusal.OutOfMemory) }
 {
     match schema.tables.as_slice().get(table) {
-        Some(table) => define_all(alloc, schema, table, places),
-        None => define_all(alloc, schema, &missing_table(alloc), places),
+        Some(table) => define_all(alloc, schema, table, items),
+        None => define_all(alloc, schema, &missing_table(alloc), items),
     }
 }

@@ -1,4 +1,4 @@
-ghost use Rattle.std.specs.Prelude.{◌≡◌, ◌+◌, ◌≤◌, ◌⊎◌, [], ◌∷◌, length, IfOk, IfErr, Option};
+ghost use Rattle.std.specs.Prelude.{◌≡◌, ◌+◌, ◌≤◌, ◌⊎◌, [], ◌∷◌, length, IsSome, IfOk, IfErr, Option};
 ghost use Rattle.mysql_message.specs.Messages.{autocommit};
 ghost use Rattle.mysql_packet.specs.Frames.{frame};
 ghost use Rattle.mysql_message.specs.Messages.{ok_payload, err_payload};
@@ -6,7 +6,7 @@ ghost use Rattle.resultset.specs.declared.Outcome.{Outcome};
 ghost use Rattle.resultset.specs.Encoding.{encoded};
 ghost use Rattle.session.specs.declared.end.End.{End};
 ghost use Rattle.session.specs.Columns.{AreColumns};
-ghost use Rattle.session.specs.Outcomes.{Means};
+ghost use Rattle.session.specs.Outcomes.{Means, Shows, HasRows, IsRows};
 ghost use Rattle.session.specs.Talk.{Replies};
 
 use crate::columns::columns_of;
@@ -16,7 +16,7 @@ use journal::{Naming, Pass};
 use mysql_message::{Command, put_err, put_ok, read_command};
 use mysql_packet::Payload;
 use resultset::{Outcome, ResultSet, encode};
-use route_engine::{Engine, Reply};
+use route_engine::{Answer, Engine, Selected};
 use shard::{ShardLaw, World};
 use std::alloc::Global;
 use std::sync::Wait;
@@ -47,19 +47,32 @@ fn put_pong(number: u8, reply: &mut BytesMut)
     let _ = put_ok(number, 0, AUTOCOMMIT, reply).unwrap();
 }
 
-fn result_set(alloc: Global, schema: &VSchema, reply: Reply) -> Result<ResultSet, Refusal>
-    ensures columns { IfOk result (λ set. AreColumns schema.now reply.table reply.items set.columns) }
-    ensures rows { IfOk result (λ set. set.rows ≡ reply.rows) }
+fn result_set(alloc: Global, schema: &VSchema, selected: Selected) -> Result<ResultSet, Refusal>
+    ensures columns { IfOk result (λ set. AreColumns schema.now selected.table selected.items set.columns) }
+    ensures rows { IfOk result (λ set. set.rows ≡ selected.rows) }
     ensures err { IfErr result (λ e. e ≡ Refusal.OutOfMemory) }
 {
-    let columns = columns_of(alloc, schema, reply.table, reply.items.as_slice())?;
+    let columns = columns_of(alloc, schema, selected.table, selected.items.as_slice())?;
     Ok(ResultSet {
         columns,
-        rows: reply.rows,
+        rows: selected.rows,
     })
 }
 
-/// What the text of a query gives its client.
+/// An answer as its client is told it, or, where there is no memory for rows, the refusal that says so.
+fn shown(alloc: Global, schema: &VSchema, answer: Answer) -> Outcome
+    ensures { Shows schema.now answer result ⊎ (HasRows answer × (result ≡ Outcome.Refused Refusal.OutOfMemory)) }
+{
+    match answer {
+        Answer::Count(count) => Outcome::Count(count),
+        Answer::Rows(selected) => match result_set(alloc, schema, selected) {
+            Ok(set) => Outcome::Rows(set),
+            Err(refusal) => Outcome::Refused(refusal),
+        },
+    }
+}
+
+/// What the text of a statement gives its client.
 fn outcome_of<W: World, J: Naming>(
     rt: &impl Wait,
     alloc: Global,
@@ -67,19 +80,26 @@ fn outcome_of<W: World, J: Naming>(
     pass: &mut Pass<ShardLaw<W>, J>,
     text: &[u8],
 ) -> Outcome
-    ensures { Means W.opening pass.old text.now result pass.new }
+    requires session { IsSome pass.old.session }
+    ensures means { Means W.opening W.limits pass.old text.now result pass.new }
+    ensures session { pass.new.session ≡ pass.old.session }
 {
     match engine.execute(rt, alloc, pass, text) {
-        Ok(reply) => match result_set(alloc, engine.schema(), reply) {
-            Ok(set) => Outcome::Rows(set),
-            Err(refusal) => Outcome::Refused(refusal),
-        },
+        Ok(reply) => shown(alloc, engine.schema(), reply.answer),
         Err(refusal) => Outcome::Refused(refusal),
     }
 }
 
-/// The reply to a query, or, where there is no memory for it, the refusal that says so.
-fn put_outcome(alloc: Global, outcome: &Outcome, number: u8, reply: &mut BytesMut)
+fn put_count(number: u8, count: u64, reply: &mut BytesMut)
+    requires empty { reply.old.items ≡ [] }
+    requires room { REPLY_ROOM ≤ reply.old.spare }
+    ensures bytes { reply.new.items ≡ frame number (ok_payload count autocommit) }
+    ensures room { REPLY_ROOM ≤ length reply.new.items + reply.new.spare }
+{
+    let _ = put_ok(number, count, AUTOCOMMIT, reply).unwrap();
+}
+
+fn put_rows(alloc: Global, outcome: &Outcome, number: u8, reply: &mut BytesMut)
     requires empty { reply.old.items ≡ [] }
     requires room { REPLY_ROOM ≤ reply.old.spare }
     ensures bytes { (reply.new.items ≡ encoded outcome.now number autocommit)
@@ -88,6 +108,21 @@ fn put_outcome(alloc: Global, outcome: &Outcome, number: u8, reply: &mut BytesMu
 {
     if encode(alloc, outcome, number, AUTOCOMMIT, reply).is_err() {
         put_refusal(number, Refusal::OutOfMemory, reply);
+    }
+}
+
+/// The reply to a statement. Where there is no memory for its rows, it is the refusal that says so; a count always has room.
+fn put_outcome(alloc: Global, outcome: &Outcome, number: u8, reply: &mut BytesMut)
+    requires empty { reply.old.items ≡ [] }
+    requires room { REPLY_ROOM ≤ reply.old.spare }
+    ensures bytes { (reply.new.items ≡ encoded outcome.now number autocommit)
+        ⊎ (IsRows outcome.now × (reply.new.items ≡ encoded (Outcome.Refused Refusal.OutOfMemory) number autocommit)) }
+    ensures room { REPLY_ROOM ≤ length reply.new.items + reply.new.spare }
+{
+    match outcome {
+        Outcome::Count(count) => put_count(number, *count, reply),
+        Outcome::Refused(refusal) => put_refusal(number, *refusal, reply),
+        Outcome::Rows(_) => put_rows(alloc, outcome, number, reply),
     }
 }
 
@@ -102,8 +137,10 @@ pub fn put_reply<W: World, J: Naming>(
 ) -> Option<End>
     requires empty { reply.old.items ≡ [] }
     requires room { REPLY_ROOM ≤ reply.old.spare }
-    ensures replies { Replies (Means W.opening) pass.old (payload.now ∷ []) reply.new.items result pass.new }
+    requires session { IsSome pass.old.session }
+    ensures replies { Replies (Means W.opening W.limits) pass.old (payload.now ∷ []) reply.new.items result pass.new }
     ensures room { REPLY_ROOM ≤ length reply.new.items + reply.new.spare }
+    ensures session { pass.new.session ≡ pass.old.session }
 {
     if payload.first != 0 {
         put_refusal(

@@ -1,4 +1,4 @@
-ghost use Rattle.std.specs.Prelude.{◌≡◌, ℕ, ◌<◌, List, ◌++◌, IfOk, IfSome, length, vec_len};
+ghost use Rattle.std.specs.Prelude.{◌≡◌, ℕ, ◌<◌, List, ◌++◌, IsSome, IfOk, IfSome, length, vec_len};
 ghost use Rattle.std.specs.Io.{ReadsAtMost};
 ghost use Rattle.std.specs.Io.KnownBytes.{Appends, Consumes, IsAtEnd, ReadConsumes};
 ghost use Rattle.session.specs.Outcomes.{Means, Seen};
@@ -47,12 +47,14 @@ fn serve_piece<W: World, J: Naming, R: Source, S: Sink>(
 ) -> Result<Option<End>, SessionFault>
     requires room { 0 < length buffer.old }
     requires open_session { core.old.ended ≡ None }
-    ensures talk { IfOk result (λ end. (first : Seen) (bytes out : List ℕ) → HasTalked (Means W.opening) core.old first bytes out pass.old →
+    requires session { IsSome pass.old.session }
+    ensures talk { IfOk result (λ end. (first : Seen) (bytes out : List ℕ) → HasTalked (Means W.opening W.limits) core.old first bytes out pass.old →
         (read : List ℕ) × (written : List ℕ)
         × Consumes (R.unread source.old) (R.unread source.new) read × Appends (S.taken sink.old) (S.taken sink.new) written
-        × HasTalkedOn (Means W.opening) core.new first (bytes ++ read) (out ++ written) end pass.new) }
+        × HasTalkedOn (Means W.opening W.limits) core.new first (bytes ++ read) (out ++ written) end pass.new) }
     ensures at_end { IfOk result (λ end. IfSome end (λ e. IsByInput e → IsAtEnd (R.unread source.new))) }
     ensures limit { core.new.framing.limit ≡ core.old.framing.limit }
+    ensures session { pass.new.session ≡ pass.old.session }
 {
     let n = read_piece(source, buffer)?;
     if n == 0 {
@@ -73,13 +75,16 @@ pub fn serve<W: World, J: Naming, R: Source, S: Sink>(
     source: &mut R,
     sink: &mut S,
 ) -> Result<End, SessionFault>
+    requires session { IsSome pass.old.session }
     // Exactly the conversation over the bytes that were read is written, where each query has an outcome that its text may have
     // over what the run leaves at a look of the pass, each behind the one before.
     ensures talk { IfOk result (λ end. (read : List ℕ) × (written : List ℕ)
         × Consumes (R.unread source.old) (R.unread source.new) read × Appends (S.taken sink.old) (S.taken sink.new) written
-        × Talk COMMAND_LIMIT (Means W.opening) pass.old read written end pass.new) }
+        × Talk COMMAND_LIMIT (Means W.opening W.limits) pass.old read written end pass.new) }
     // It ends before the end of the input only by a command or a fault.
     ensures at_end { IfOk result (λ end. IsByInput end → IsAtEnd (R.unread source.new)) }
+    // Whatever happened, the pass is still its session's.
+    ensures session { pass.new.session ≡ pass.old.session }
 {
     let Ok(mut core) = Core::commands(alloc, id, capabilities) else {
         return Err(SessionFault::Memory);

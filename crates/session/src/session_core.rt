@@ -1,4 +1,4 @@
-ghost use Rattle.std.specs.Prelude.{◌≡◌, ℕ, ◌+◌, ◌≤◌, true, false, List, length, IfOk, IfErr, OnErr, ◌⊎◌};
+ghost use Rattle.std.specs.Prelude.{◌≡◌, ℕ, ◌+◌, ◌≤◌, true, false, List, length, IsSome, IfOk, IfErr, OnErr, ◌⊎◌};
 ghost use Rattle.std.specs.Io.KnownBytes.{Appends};
 ghost use Rattle.mysql_packet.specs.declared.framer.Fed.{Fed};
 ghost use Rattle.session.specs.Outcomes.{Means};
@@ -32,12 +32,14 @@ fn feed_parts<W: World, J: Naming, S: Sink>(
     reply: &mut BytesMut,
     sink: &mut S,
 ) -> Result<Option<End>, SessionFault>
-    requires { REPLY_ROOM ≤ length reply.old.items + reply.old.spare }
+    requires room { REPLY_ROOM ≤ length reply.old.items + reply.old.spare }
+    requires session { IsSome pass.old.session }
     ensures answers { IfOk result (λ end. (fed : Fed) × FedBy framer.old framer.new piece.now fed × ((out : List ℕ)
-        × Appends (S.taken sink.old) (S.taken sink.new) out × AnswersFed (Means W.opening) pass.old fed out end pass.new)) }
+        × Appends (S.taken sink.old) (S.taken sink.new) out × AnswersFed (Means W.opening W.limits) pass.old fed out end pass.new)) }
     ensures limit { framer.new.limit ≡ framer.old.limit }
     ensures room { REPLY_ROOM ≤ length reply.new.items + reply.new.spare }
     ensures cause { IfErr result (λ e. (e ≡ SessionFault.Memory) ⊎ (e ≡ SessionFault.Write)) }
+    ensures session { pass.new.session ≡ pass.old.session }
 {
     let Ok(fed) = framer.feed(piece) else {
         return Err(SessionFault::Memory);
@@ -94,9 +96,10 @@ fn ended_by(answer: Result<Option<End>, SessionFault>) -> Option<End>
 }
 
 impl Core {
-    ghost use Rattle.std.specs.Prelude.{◌≡◌, ℕ, List, [], ◌++◌, None, Some, Ok, IfOk, IfErr, IfSome, OnErr, ◌⊎◌};
+    ghost use Rattle.std.specs.Prelude.{◌≡◌, ℕ, List, [], ◌++◌, None, Some, Ok, IsSome, IfOk, IfErr, IfSome, OnErr, ◌⊎◌};
     ghost use Rattle.std.specs.Io.KnownBytes.{Appends};
     ghost use Rattle.shard_run.specs.Runs.{Opening};
+    ghost use Rattle.shard.specs.declared.limits.Limits.{Limits};
     ghost use Rattle.session.specs.Outcomes.{Means, Seen};
     ghost use Rattle.session.specs.Talk.{Talk, IsByCommand};
     ghost use Rattle.session.specs.Sessions.{HasTalked, HasTalkedOn, IsNext};
@@ -105,7 +108,7 @@ impl Core {
     /// capabilities that both sides set. Makes room for the refusal of a command, and refuses only where it can't.
     pub fn commands(alloc: Global, id: u32, capabilities: u32) -> Result<Core, Refusal>
         // Nothing has been read or written.
-        ensures begins { IfOk result (λ core. (o : Opening) (p : Seen) → HasTalked (Means o) core p [] [] p) }
+        ensures begins { IfOk result (λ core. (o : Opening) (l : Limits) (p : Seen) → HasTalked (Means o l) core p [] [] p) }
         ensures limit { IfOk result (λ core. core.framing.limit ≡ COMMAND_LIMIT) }
         ensures id { IfOk result (λ core. core.id ≡ id) }
         ensures capabilities { IfOk result (λ core. core.capabilities ≡ capabilities) }
@@ -139,8 +142,8 @@ impl Core {
     pub fn end_of_input(&self) -> End
         ensures ended { IfSome self.now.ended (λ end. result ≡ end) }
         // The conversation is then whole.
-        ensures whole { (o : Opening) (first now : Seen) (bytes out : List ℕ) → HasTalked (Means o) self.now first bytes out now →
-            Talk self.now.framing.limit (Means o) first bytes out result now }
+        ensures whole { (o : Opening) (l : Limits) (first now : Seen) (bytes out : List ℕ) → HasTalked (Means o l) self.now first bytes out now →
+            Talk self.now.framing.limit (Means o l) first bytes out result now }
     {
         match self.ended {
             Some(end) => end,
@@ -160,11 +163,12 @@ impl Core {
         piece: &[u8],
         sink: &mut S,
     ) -> Result<Option<End>, SessionFault>
+        requires session { IsSome pass.old.session }
         // However the input was cut before: of the bytes so far exactly the conversation over them has been written, where each
         // query has an outcome that its text may have over what the run leaves at a look of the pass, each behind the one before.
-        ensures talk { IfOk result (λ end. (first : Seen) (bytes out : List ℕ) → HasTalked (Means W.opening) self.old first bytes out pass.old →
+        ensures talk { IfOk result (λ end. (first : Seen) (bytes out : List ℕ) → HasTalked (Means W.opening W.limits) self.old first bytes out pass.old →
             (written : List ℕ) × Appends (S.taken sink.old) (S.taken sink.new) written
-            × HasTalkedOn (Means W.opening) self.new first (bytes ++ piece.now) (out ++ written) end pass.new) }
+            × HasTalkedOn (Means W.opening W.limits) self.new first (bytes ++ piece.now) (out ++ written) end pass.new) }
         ensures ended { IfOk result (λ end. self.new.ended ≡ end) }
         // A piece ends no session as the end of the input does.
         ensures by_command { self.old.ended ≡ None → IfOk result (λ end. IfSome end IsByCommand) }
@@ -172,6 +176,7 @@ impl Core {
         ensures cause { IfErr result (λ e. (e ≡ SessionFault.Memory) ⊎ (e ≡ SessionFault.Write)) }
         ensures again { IfSome self.old.ended (λ end. (result ≡ Ok (Some end)) × (self.new ≡ self.old) × (sink.new ≡ sink.old) × (pass.new ≡ pass.old)) }
         ensures next { IsNext self.old self.new }
+        ensures session { pass.new.session ≡ pass.old.session }
     {
         if let Some(end) = self.ended {
             return Ok(Some(end));

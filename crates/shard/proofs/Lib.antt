@@ -1,1 +1,9 @@
 pub mod States
+pub mod Stores
+pub mod Changes
+pub mod Legality
+pub mod Counts
+pub mod Places
+pub mod Commits
+pub mod Steps
+pub mod SmallWorld

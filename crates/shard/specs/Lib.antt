@@ -1,1 +1,4 @@
+pub mod Stores
 pub mod Shards
+pub mod Commits
+pub mod SmallWorld

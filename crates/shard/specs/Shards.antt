@@ -1,17 +1,19 @@
 -- What stands on a slot, which entry may come next, and what a shard's state says of them.
-use Rattle.std.specs.Prelude.{◌≡◌, ℕ, List, [], ◌∷◌, ◌++◌, map, length, Contains, Option, Some, None}
+use Rattle.std.specs.Prelude.{◌≡◌, ℕ, ◌≤◌, ◌^◌, List, [], ◌∷◌, ◌++◌, map, length, Contains, Option, Some, None}
 use Rattle.std.specs.List.{filter}
 use mathlib.Core.List.{IsPrefix}
-use Rattle.vschema.specs.Database.{Database}
 use Rattle.journal.specs.Runs.{IsLegal, by_session}
 use Rattle.journal.specs.Views.{SeatView, PassView}
 use Rattle.shard_run.specs.declared.Shard.{Shard}
-use Rattle.shard_run.specs.declared.Mode.{Mode}
+use Rattle.shard_run.specs.declared.Mode.TheVariants.{Serving}
 use Rattle.shard_run.specs.declared.Event.{Event}
 use Rattle.shard_run.specs.declared.Event.TheVariants.{Commit}
 use Rattle.shard_run.specs.declared.Entry.{Entry}
 use Rattle.shard_run.specs.Runs.{Opening, held, mode, stored_on}
+use Rattle.shard_run.specs.Openings.{IsOpening, row_count}
 use Rattle.shard_run.specs.Legal.{IsOnItsSlot, May}
+use Rattle.shard.specs.declared.limits.Limits.{Limits}
+use Rattle.shard.specs.declared.contents.Contents.{Contents}
 
 abbrev pub slot_of : Entry → ℕ
 slot_of e = e.shard.slot
@@ -38,13 +40,18 @@ seat_of s = record { seen = s.seen; slot = s.shard.slot }
 abbrev pub opening_shards : Opening → List Shard
 opening_shards o = map (λ p. p.0) o.shards
 
--- it is an opening shard; the rows, the mode and the stored entries are those that the run leaves on the shard
-pub record IsAfter (o : Opening) (seat : SeatView Entry) (s : Shard) (db : Database) (m : Mode) (entries : List Entry) : Type 0 where
-  pub opening : Contains (opening_shards o) s
-  pub slot : seat.slot ≡ s.slot
-  pub rows : db ≡ held o seat.seen s
-  pub mode : m ≡ mode o seat.seen s.slot
-  pub stored : entries ≡ stored_on s.slot seat.seen
+-- What a shard's state keeps: it is a shard of a right opening, its rows, its mode and the entries that it stores are those that the run
+-- leaves on it, it serves, and its rows are within the limits.
+pub record IsAfter (o : Opening) (most : Limits) (seat : SeatView Entry) (c : Contents) : Type 0 where
+  pub opens : IsOpening o
+  pub opening : Contains (opening_shards o) c.shard
+  pub slot : seat.slot ≡ c.shard.slot
+  pub rows : c.store.rows ≡ held o seat.seen c.shard
+  pub mode : c.mode ≡ mode o seat.seen c.shard.slot
+  pub stored : c.stored.items ≡ stored_on c.shard.slot seat.seen
+  pub serving : c.mode ≡ Serving
+  pub limits : c.limits ≡ most
+  pub within : row_count c.store.rows ≤ most.rows
 
 -- After one look on the slot the pass has seen a legal run, which begins with what it had seen and has no other commit of its session,
 -- and keeps the look.
@@ -62,3 +69,7 @@ pub data HasSeen (o : Opening) (p : PassView Entry) : PassView Entry → Type 0 
 -- an opening of nothing
 abbrev pub no_opening : Opening
 no_opening = record { schema = record { keyspaces = []; tables = [] }; shards = [] }
+
+-- the limits of every shard that serves
+abbrev pub most_limits : Limits
+most_limits = record { rows = 2 ^ 20; stored = 2 ^ 20 }

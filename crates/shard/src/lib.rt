@@ -4,10 +4,19 @@
 //! that its rows, its mode and its stored entries are those that the run which the seat has seen leaves on the shard.
 #![tactic(auto)]
 
+mod contents;
+mod copies;
+mod limits;
 mod locked;
 mod state;
+mod store;
 mod world;
 
+pub use limits::{Limits, MOST_ENTRIES, MOST_ROWS, MOST_STORED};
 pub use locked::Shard;
 pub use state::{Reading, ShardState};
+pub use store::Store;
 pub use world::{ShardLaw, World};
+
+#[cfg(test)]
+mod tests;

@@ -1,15 +1,19 @@
-ghost use Rattle.std.specs.Prelude.{◌≡◌, IfOk, IfErr, Contains, length};
+ghost use Rattle.std.specs.Prelude.{false, ◌≡◌, ℕ, Some, IsSome, IfOk, IfErr, MatchResult, Contains, length};
+ghost use Rattle.vschema.specs.TypedWrites.{IsTypedWrite};
+ghost use Rattle.vschema.specs.Checks.{is_aggregated};
 ghost use Rattle.sql_eval.specs.Queries.{Allowed};
 ghost use Rattle.shard_run.specs.declared.Shard as which;
 ghost use Rattle.shard_run.specs.Runs.{held, entries_on};
-ghost use Rattle.shard.specs.Shards.{HasLooked, opening_shards};
+ghost use Rattle.journal.specs.Runs.{NumbersBelow};
+ghost use Rattle.shard.specs.Shards.{commit_of, HasLooked, opening_shards};
+ghost use Rattle.shard.specs.Commits.{IsPlaced, HasCommitted, IsCommitRefusal};
 
 use crate::state::{Reading, ShardState};
 use crate::world::{ShardLaw, World};
 use journal::{Naming, Pass};
 use std::alloc::Global;
 use std::sync::{Mutex, Wait};
-use vschema::Query;
+use vschema::{Query, VSchema, Write};
 use vt_value::Refusal;
 
 /// A shard that many sessions share: its state under its lock.
@@ -31,10 +35,34 @@ impl<W: World, J: Naming> Shard<W, J> {
         pass: &mut Pass<ShardLaw<W>, J>,
         query: &Query,
     ) -> Result<Reading, Refusal>
+        requires plain { is_aggregated query.now ≡ false }
         ensures read { (s : which.Shard) × Contains (opening_shards W.opening) s × HasLooked W.opening s.slot pass.old pass.new
             × IfOk result (λ r. Allowed query.now (held W.opening pass.new.seen s) r.rows × (r.entries ≡ length (entries_on s.slot pass.new.seen))) }
         ensures err { IfErr result (λ e. e ≡ Refusal.OutOfMemory) }
     {
         self.0.lock(rt).read(alloc, pass, query)
+    }
+
+    /// Commits one write of the pass's session under the shard's lock, under the number of its statement: one look, which the
+    /// pass keeps, and then one entry. Answers how many rows it added, removed or really changed. It refuses a primary key that
+    /// is there already, what would pass a limit of the shard, and for want of memory; then the look was made, and nothing else.
+    pub fn commit(
+        &self,
+        rt: &impl Wait,
+        alloc: Global,
+        pass: &mut Pass<ShardLaw<W>, J>,
+        schema: &VSchema,
+        write: Write,
+    ) -> Result<u64, Refusal>
+        requires schema { schema.now ≡ W.opening.schema }
+        requires typed { IsTypedWrite W.opening.schema write }
+        requires placed { (s : which.Shard) → Contains (opening_shards W.opening) s → IsPlaced W.opening.schema s.place write }
+        requires session { IsSome pass.old.session }
+        requires above { (n : ℕ) → pass.old.session ≡ Some n → NumbersBelow commit_of n pass.old.statements pass.old.seen }
+        ensures commit { (s : which.Shard) × Contains (opening_shards W.opening) s
+            × MatchResult result (λ count. HasCommitted W.opening W.limits s pass.old write count pass.new)
+            (λ e. HasLooked W.opening s.slot pass.old pass.new × IsCommitRefusal W.opening W.limits s pass.new.seen write e) }
+    {
+        self.0.lock(rt).commit(alloc, pass, schema, write)
     }
 }

@@ -25,7 +25,8 @@ None_in p [] db = Unit {0}
 None_in p (t ∷ tables) [] = Unit {0}
 None_in p (t ∷ tables) (rows ∷ db) = (filter (lies_in p t) rows ≡ []) × None_in p tables db
 
-long : (tables : List Table) (db : Database) → is_database tables db ≡ true → length db ≡ length tables
+-- a list of rows for each table
+pub long : (tables : List Table) (db : Database) → is_database tables db ≡ true → length db ≡ length tables
 long [] [] e = refl
 long [] (rows ∷ db) e = absurd (false≢true e)
 long (t ∷ tables) [] e = absurd (false≢true e)

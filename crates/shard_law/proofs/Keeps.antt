@@ -8,7 +8,7 @@ use Rattle.std.proofs.lemmas.List.Sorted.{All-permutation}
 use Rattle.vt_value.specs.declared.value.Value.TheVariants.{Null}
 use Rattle.vt_value.specs.declared.refusal.Refusal.{Refusal}
 use Rattle.vt_value.specs.declared.refusal.Refusal.TheVariants.{DuplicateKey}
-use Rattle.vt_value.specs.Values.{Row}
+use Rattle.vt_value.specs.Values.{Row, value_at}
 use Rattle.sql_tree.specs.declared.Assignment.{Assignment}
 use Rattle.sql_tree.specs.declared.Condition.{Condition}
 use Rattle.vschema.specs.declared.schema.ColumnVindex.{ColumnVindex}
@@ -19,7 +19,7 @@ use Rattle.vschema.specs.declared.changes.Write.TheVariants.{Insert, Update, Del
 use Rattle.vschema.specs.declared.changes.RowChange.{RowChange}
 use Rattle.vschema.specs.declared.changes.RowChange.TheVariants.{Added, Replaced, Removed}
 use Rattle.vschema.specs.WriteChecks.{is_vindex_column}
-use Rattle.vschema.specs.Schema.{row_id, value_at}
+use Rattle.vschema.specs.Schema.{row_id}
 use Rattle.vschema.specs.Schema.{no_table}
 use Rattle.vschema.specs.Database.{Database, rows_of, same_row, all_applied}
 use Rattle.sql_eval.specs.Conditions.{is_kept}
@@ -43,7 +43,8 @@ value_kept column (a ∷ assignments) h row =
     value_kept column assignments g.1 (set row a.column a.value)
     ∙ get_or-set_other row a.column column a.value Null (eqb-false column a.column (not-true (column == a.column) g.0))
 
-id_kept : (t : Table) (v : Option ColumnVindex) (assignments : List (Assignment ℕ))
+-- assignments that leave the vindex column leave the keyspace id
+pub id_kept : (t : Table) (v : Option ColumnVindex) (assignments : List (Assignment ℕ))
     → list_all (λ a. not (is_vindex_column v a.column)) assignments ≡ true → (row : Row)
     → row_id (record t { vindex = v }) row ≡ row_id (record t { vindex = v }) (assigned assignments row)
 id_kept t None assignments h row = refl

@@ -1,8 +1,8 @@
 -- What a statement means leaves the vindex column.
-use Rattle.std.proofs.Common.{◌≡◌, ℕ, Bool, true, false, not, ◌||◌, get_or, List, [], ◌∷◌, map, slice_get, Option, Some, None, Result, Ok, Err, refl, sym, ap, subst, inl, inr}
+use Rattle.std.proofs.Common.{◌≡◌, ℕ, ◌<◌, length, Bool, true, false, not, ◌||◌, get_or, List, [], ◌∷◌, map, slice_get, Option, Some, None, Result, Ok, Err, refl, sym, ap, subst, inl, inr}
 use Rattle.std.specs.List.{list_any, list_all}
 use Rattle.std.proofs.lemmas.Bool.{or_parts, and_from, not_from_false}
-use Rattle.std.proofs.lemmas.Option.{get_or_from_slice_get}
+use Rattle.std.proofs.lemmas.Option.{get_or_from_slice_get, slice_get_within}
 use Rattle.vt_value.specs.declared.refusal.Refusal.{Refusal}
 use Rattle.vt_value.specs.declared.refusal.Refusal.TheVariants.{NotSupported}
 use Rattle.sql_tree.specs.declared.Assignment.{Assignment}
@@ -12,9 +12,10 @@ use Rattle.vschema.specs.declared.changes.Write.{Write}
 use Rattle.vschema.specs.declared.changes.Write.TheVariants.{Update}
 use Rattle.vschema.specs.Schema.{table_place, no_table}
 use Rattle.vschema.specs.Resolved.{Name, place}
-use Rattle.vschema.specs.Checks.{filter_has, condition_mixes}
-use Rattle.vschema.specs.WriteChecks.{has_number, is_vindex_column, is_key_column, sets_key, has_other_kind, assigned_values, update_is_not_supported}
+use Rattle.vschema.specs.Checks.{has_number, filter_has, condition_mixes}
+use Rattle.vschema.specs.WriteChecks.{is_vindex_column, is_key_column, sets_key, has_other_kind, assigned_values, update_is_not_supported}
 use Rattle.vschema.specs.TypedWrites.{IsTypedWrite, insert, update, delete, unless_refused, insert_checks, update_checks, delete_checks, insert_over, update_over, delete_over, resolved_assignment, on_table, on_name}
+use Rattle.sql_eval.specs.Writes.{written_table}
 use Rattle.shard_law.proofs.Lists.{In}
 
 -- a write leaves each row's vindex column as it is
@@ -90,3 +91,18 @@ module _ (schema : VSchema) (w : Write) where
       subst (λ w. keeps_vindex schema w ≡ true) (unrefused (update_checks f.t s) (update_over f.n f.t s) w f.means)
       (subst (λ z. list_all (leaves z) (map (resolved_assignment f.t) s.assignments) ≡ true) (sym j)
       (assignments_keep f.t s.assignments k))
+
+  -- the table of a write is one of the VSchema's
+  pub table_there : IsTypedWrite schema w → written_table w < length schema.tables
+  table_there (insert s h) =
+      let f = found s.table (λ n t. unless_refused (insert_checks t s) (insert_over n t s)) h in
+      subst (λ w. written_table w < length schema.tables) (unrefused (insert_checks f.t s) (insert_over f.n f.t s) w f.means)
+      (slice_get_within schema.tables f.n f.t f.there)
+  table_there (update s h) =
+      let f = found s.table (λ n t. unless_refused (update_checks t s) (update_over n t s)) h in
+      subst (λ w. written_table w < length schema.tables) (unrefused (update_checks f.t s) (update_over f.n f.t s) w f.means)
+      (slice_get_within schema.tables f.n f.t f.there)
+  table_there (delete s h) =
+      let f = found s.table (λ n t. unless_refused (delete_checks t s) (delete_over n t s)) h in
+      subst (λ w. written_table w < length schema.tables) (unrefused (delete_checks f.t s) (delete_over f.n f.t s) w f.means)
+      (slice_get_within schema.tables f.n f.t f.there)

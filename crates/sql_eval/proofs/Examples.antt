@@ -1,16 +1,16 @@
 -- Queries over six rows of t: (1, NULL), (2, NULL), (3, 7), (4, 7), (5, 9), (6, 1).
-use Rattle.std.proofs.Common.{◌≡◌, ℕ, List, [], ◌∷◌, filter, refl, ap, ◌∙◌, Some, None, Option, pos, Bool}
+use Rattle.std.proofs.Common.{◌≡◌, ℕ, List, [], ◌∷◌, map, filter, refl, ap, ◌∙◌, Some, None, Option, pos, Bool}
 use Rattle.vt_value.specs.declared.value.Value.{Value}
 use Rattle.vt_value.specs.declared.value.Value.TheVariants.{Null, Int}
 use Rattle.vt_value.specs.declared.value.Comparison.TheVariants.{Eq}
-use Rattle.vt_value.specs.Values.{Row, compare, in_list, is_true, truth_not}
+use Rattle.vt_value.specs.Values.{Row, value_at, compare, in_list, is_true, truth_not}
 use Rattle.sql_tree.specs.declared.Operand.TheVariants.{Column, Literal}
 use Rattle.sql_tree.specs.declared.Condition.{Condition, Compare, In, Not}
 use Rattle.vschema.specs.declared.schema.Query.{Query}
-use Rattle.vschema.specs.Schema.{value_at}
 use Rattle.vschema.specs.Database.{Database}
 use Rattle.sql_eval.specs.Conditions.{is_kept}
-use Rattle.sql_eval.specs.Queries.{kept, shown}
+use Rattle.sql_eval.specs.Queries.{Keyed, kept, keyed_row}
+use Rattle.sql_tree.specs.declared.Item.TheVariants as item
 use Rattle.sql_eval.proofs.ConditionLemmas.{truth_at-Compare, truth_at-In, truth_at-Not}
 
 abbrev n : ℕ → Value
@@ -23,21 +23,25 @@ abbrev db : Database
 db = t_rows ∷ []
 
 abbrev query : List ℕ → Option (Condition ℕ) → Query
-query items filter' = record { table = 0; items = items; filter = filter' }
+query places filter' = record { table = 0; items = map item.Column places; filter = filter'; group_by = []; order_by = []; limit = None }
 
 -- which rows a condition keeps, by its plain test
 kept_by : (c : Condition ℕ) (p : Row → Bool) → ((row : Row) → is_kept (Some c) row ≡ p row) → filter (is_kept (Some c)) t_rows ≡ filter p t_rows
 kept_by c p same = ap (λ test. filter test t_rows) (λ i row. same row i)
 
-all_ids : kept (query (0 ∷ []) None) db ≡ (n 1 ∷ []) ∷ (n 2 ∷ []) ∷ (n 3 ∷ []) ∷ (n 4 ∷ []) ∷ (n 5 ∷ []) ∷ (n 6 ∷ []) ∷ []
+-- a row without sort keys
+abbrev alone : Row → Keyed
+alone row = (row, [])
+
+all_ids : kept (query (0 ∷ []) None) db ≡ map alone ((n 1 ∷ []) ∷ (n 2 ∷ []) ∷ (n 3 ∷ []) ∷ (n 4 ∷ []) ∷ (n 5 ∷ []) ∷ (n 6 ∷ []) ∷ [])
 all_ids = refl
 
 abbrev id_is_5 : Condition ℕ
 id_is_5 = Compare Eq (Column 0) (Literal (n 5))
 
-one_row : kept (query (0 ∷ 1 ∷ []) (Some id_is_5)) db ≡ (n 5 ∷ n 9 ∷ []) ∷ []
+one_row : kept (query (0 ∷ 1 ∷ []) (Some id_is_5)) db ≡ alone (n 5 ∷ n 9 ∷ []) ∷ []
 one_row =
-    ap (λ rows. Rattle.std.proofs.Common.map (shown (query (0 ∷ 1 ∷ []) (Some id_is_5))) rows)
+    ap (map (keyed_row (query (0 ∷ 1 ∷ []) (Some id_is_5))))
     (kept_by id_is_5 (λ row. is_true (compare Eq (value_at row 0) (n 5))) (λ row. ap is_true (truth_at-Compare row Eq (Column 0) (Literal (n 5)))))
 
 -- c = NULL keeps no row

@@ -4,12 +4,11 @@ use Rattle.vt_value.specs.declared.value.Value.{Value}
 use Rattle.vt_value.specs.declared.value.Value.TheVariants.{Null, Int}
 use Rattle.vt_value.specs.declared.value.Comparison.TheVariants.{Eq}
 use Rattle.vt_value.specs.declared.refusal.Refusal.TheVariants.{DuplicateKey}
-use Rattle.vt_value.specs.Values.{Row, compare, is_true}
+use Rattle.vt_value.specs.Values.{Row, value_at, compare, is_true}
 use Rattle.sql_tree.specs.declared.Operand.TheVariants.{Column, Literal}
 use Rattle.sql_tree.specs.declared.Condition.{Condition, Compare}
 use Rattle.vschema.specs.declared.changes.Write.TheVariants.{Insert, Update, Delete}
 use Rattle.vschema.specs.declared.changes.RowChange.TheVariants.{Added, Replaced, Removed}
-use Rattle.vschema.specs.Schema.{value_at}
 use Rattle.vschema.specs.Database.{Database}
 use Rattle.vschema.proofs.Example.{schema}
 use Rattle.sql_eval.specs.Conditions.{is_kept}

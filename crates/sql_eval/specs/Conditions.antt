@@ -2,12 +2,11 @@
 use Rattle.std.specs.Prelude.{ℕ, Bool, true, Option, Some, None}
 use Rattle.vt_value.specs.declared.value.Value.{Value}
 use Rattle.vt_value.specs.declared.value.Truth.{Truth}
-use Rattle.vt_value.specs.Values.{Row, truth_not, all_true, any_true, truth_of, is_true, is_null, compare, in_list}
+use Rattle.vt_value.specs.Values.{Row, value_at, truth_not, all_true, any_true, truth_of, is_true, is_null, compare, in_list}
 use Rattle.sql_tree.specs.declared.Operand.{Operand}
 use Rattle.sql_tree.specs.declared.Operand.TheVariants.{Column, Literal}
 use Rattle.sql_tree.specs.declared.Condition.{Condition, Condition-F, fold-Condition}
 use Rattle.sql_tree.specs.declared.Condition.TheOpen.{Compare, In, IsNull, Not, And, Or}
-use Rattle.vschema.specs.Schema.{value_at}
 
 abbrev pub operand_value : Row → Operand ℕ → Value
 operand_value row (Column n) = value_at row n

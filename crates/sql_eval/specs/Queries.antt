@@ -1,25 +1,50 @@
--- What a query may answer over a database.
-use Rattle.std.specs.Prelude.{List, map, filter, IsPermutation}
-use Rattle.vt_value.specs.Values.{Row}
+-- What a query may answer over a database. So far no query is aggregated: each row is shown for itself.
+use Rattle.std.specs.Prelude.{◌≡◌, ℕ, List, map, filter, IsPermutation, IsSorted}
+use Rattle.vt_value.specs.declared.value.Value.{Value}
+use Rattle.vt_value.specs.declared.value.Value.TheVariants.{Null}
+use Rattle.vt_value.specs.Values.{Row, value_at}
+use Rattle.sql_tree.specs.declared.Item.{Item}
+use Rattle.sql_tree.specs.declared.Item.TheVariants.{Column}
+use Rattle.operators.specs.Orders.{keys_cmp, sort_values}
+use Rattle.operators.specs.Slices.{sliced}
 use Rattle.vschema.specs.declared.schema.Query.{Query}
-use Rattle.vschema.specs.Schema.{value_at}
 use Rattle.vschema.specs.Database.{Database, rows_of}
 use Rattle.sql_eval.specs.Conditions.{is_kept}
 
+-- a row of the answer beside its sort keys, a value for each key of ORDER BY
+abbrev pub Keyed : Type 0
+Keyed = Row × List Value
+
+-- what an item shows of one row
+abbrev pub shown_value : Row → Item ℕ → Value
+shown_value row (Column n) = value_at row n
+shown_value row _ = Null
+
+-- the place of the column that an item shows, where it shows one
+abbrev pub shown_place : Item ℕ → ℕ
+shown_place (Column n) = n
+shown_place _ = 0
+
 -- what a query shows of a row
 abbrev pub shown : Query → Row → Row
-shown q row = map (value_at row) q.items
+shown q row = map (shown_value row) q.items
 
--- the bag of the whole answer: the rows whose condition is true, as they are shown
-abbrev pub kept_rows : Query → List Row → List Row
-kept_rows q rows = map (shown q) (filter (is_kept q.filter) rows)
+abbrev pub keyed_row : Query → Row → Keyed
+keyed_row q row = (shown q row, sort_values q.order_by row)
 
-abbrev pub kept : Query → Database → List Row
+-- the bag of the whole answer: the rows whose condition is true, as they are shown, each beside its sort keys
+abbrev pub kept_rows : Query → List Row → List Keyed
+kept_rows q rows = map (keyed_row q) (filter (is_kept q.filter) rows)
+
+abbrev pub kept : Query → Database → List Keyed
 kept q db = kept_rows q (rows_of db q.table)
 
--- the list is an answer of the query over the rows of its table: the whole answer in some order
+-- The list is an answer of the query over the rows of its table: some arrangement of the whole answer is sorted by its keys, and the
+-- list is its slice.
 abbrev pub IsAnswer : Query → List Row → List Row → Type 0
-IsAnswer q rows list = IsPermutation (kept_rows q rows) list
+IsAnswer q rows list =
+    (arranged : List Keyed) × IsPermutation (kept_rows q rows) arranged
+    × IsSorted (λ a b. keys_cmp q.order_by a.1 b.1) arranged × (list ≡ map (λ r. r.0) (sliced q.limit arranged))
 
 -- the same over a database
 abbrev pub Allowed : Query → Database → List Row → Type 0

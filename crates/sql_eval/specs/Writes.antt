@@ -34,13 +34,22 @@ row_updates n assignments filter' row =
     (if same_row row (assigned assignments row) then [] else Replaced n row (assigned assignments row) ∷ [])
     else []
 
--- the changes of a write, or the refusal of a primary key that is there already
+-- the place of the table that a write names
+abbrev pub written_table : Write → ℕ
+written_table (Insert n new) = n
+written_table (Update n assignments filter') = n
+written_table (Delete n filter') = n
+
+-- the changes of a write over the rows of its table, or the refusal of a primary key that is there already
+abbrev pub changes_over : Table → Write → List Row → Result (List RowChange) Refusal
+changes_over t (Insert n new) rows = if has_duplicate t rows new then Err DuplicateKey else Ok (map (Added n) new)
+changes_over t (Update n assignments filter') rows = Ok (flat_map (row_updates n assignments filter') rows)
+changes_over t (Delete n filter') rows = Ok (map (Removed n) (filter (is_kept filter') rows))
+
+-- the same over a database
 abbrev pub changes_of : VSchema → Write → Database → Result (List RowChange) Refusal
-changes_of schema (Insert n new) db =
-    if has_duplicate (slice_index_or schema.tables n no_table) (rows_of db n) new then Err DuplicateKey
-    else Ok (map (Added n) new)
-changes_of schema (Update n assignments filter') db = Ok (flat_map (row_updates n assignments filter') (rows_of db n))
-changes_of schema (Delete n filter') db = Ok (map (Removed n) (filter (is_kept filter') (rows_of db n)))
+changes_of schema w db =
+    changes_over (slice_index_or schema.tables (written_table w) no_table) w (rows_of db (written_table w))
 
 -- the database after a write, and the count that its client is told: the rows added, removed or really changed
 abbrev pub change : VSchema → Write → Database → Result (Database × ℕ) Refusal

@@ -3,6 +3,7 @@ ghost use Rattle.std.specs.List.{list_any};
 ghost use Rattle.vt_value.specs.Values.{in_list, is_null, is_true, all_true, any_true};
 ghost use Rattle.sql_eval.specs.Conditions.{truth_at, operand_value, is_kept};
 
+use crate::rows::value_at;
 use sql_tree::{Condition, Operand};
 use vt_value::{Comparison, Row, Truth, Value, compare};
 
@@ -47,10 +48,7 @@ fn operand<'a>(o: &'a Operand<usize>, row: &'a Row, null: &'a Value) -> &'a Valu
     ensures { result.now ≡ operand_value row.now o.now }
 {
     match o {
-        Operand::Column(n) => match row.as_slice().get(*n) {
-            Some(v) => v,
-            None => null,
-        },
+        Operand::Column(n) => value_at(row, *n, null),
         Operand::Literal(v) => v,
     }
 }

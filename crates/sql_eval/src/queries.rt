@@ -1,51 +1,75 @@
-ghost use Rattle.std.specs.Prelude.{◌≡◌, IfOk, IfErr, map};
-ghost use Rattle.vschema.specs.Schema.{value_at};
-ghost use Rattle.sql_eval.specs.Queries.{shown, kept_rows, IsAnswer};
+ghost use Rattle.std.specs.Prelude.{◌≡◌, IfOk, IfErr, map, filter, false};
+ghost use Rattle.operators.specs.Slices.{sliced, columns_of};
+ghost use Rattle.operators.specs.Orders.{row_cmp};
+ghost use Rattle.vschema.specs.Checks.{is_aggregated};
+ghost use Rattle.sql_eval.specs.Conditions.{is_kept};
+ghost use Rattle.sql_eval.specs.Queries.{shown_place, IsAnswer};
 
 use crate::conditions::keeps;
+use operators::{Limit, Project, Rows, collect, sort_rows};
+use sql_tree::{Condition, Item};
 use std::alloc::Global;
 use vschema::Query;
-use vt_value::{Items, Refusal, Row, Value, copy};
+use vt_value::{Items, Refusal, Row, copy_row};
 
-fn copy_at(alloc: Global, row: &Row, place: usize) -> Result<Value, Refusal>
-    ensures ok { IfOk result (λ v. v ≡ value_at row.now place) }
-    ensures err { IfErr result (λ e. e ≡ Refusal.OutOfMemory) }
-{
-    match row.as_slice().get(place) {
-        Some(value) => copy(alloc, value),
-        None => Ok(Value::Null),
-    }
-}
-
-fn show(alloc: Global, places: &[usize], row: &Row) -> Result<Row, Refusal>
-    ensures ok { IfOk result (λ r. r ≡ map (value_at row.now) places.now) }
-    ensures err { IfErr result (λ e. e ≡ Refusal.OutOfMemory) }
-{
-    let mut values = Items::new(alloc);
-    for place in places {
-        values.push(copy_at(alloc, row, *place)?)?;
-    }
-    Ok(values)
-}
-
-fn kept(alloc: Global, query: &Query, rows: &[Row]) -> Result<Items<Row>, Refusal>
-    ensures ok { IfOk result (λ list. list ≡ kept_rows query.now rows.now) }
+/// Copies of the rows whose condition is true.
+fn kept(
+    alloc: Global,
+    condition: &Option<Condition<usize>>,
+    rows: &[Row],
+) -> Result<Items<Row>, Refusal>
+    ensures ok { IfOk result (λ list. list ≡ filter (is_kept condition.now) rows.now) }
     ensures err { IfErr result (λ e. e ≡ Refusal.OutOfMemory) }
 {
     let mut list = Items::new(alloc);
     for row in rows {
-        if keeps(&query.filter, row) {
-            list.push(show(alloc, query.items.as_slice(), row)?)?;
+        if keeps(condition, row) {
+            let row = copy_row(alloc, row)?;
+            list.push(row)?;
         }
     }
     Ok(list)
 }
 
-/// What a query gives over the rows of its table: those whose condition is true, each by the columns that the query shows, in
-/// some order. Refuses only for want of memory.
+fn shown_place(item: &Item<usize>) -> usize
+    ensures { result ≡ shown_place item.now }
+{
+    match item {
+        Item::Column(place) => *place,
+        _ => 0,
+    }
+}
+
+fn shown_places(alloc: Global, items: &[Item<usize>]) -> Result<Items<usize>, Refusal>
+    ensures ok { IfOk result (λ places. places ≡ map shown_place items.now) }
+    ensures err { IfErr result (λ e. e ≡ Refusal.OutOfMemory) }
+{
+    let mut places = Items::new(alloc);
+    for item in items {
+        places.push(shown_place(item))?;
+    }
+    Ok(places)
+}
+
+/// The slice that LIMIT leaves of the rows, each by its shown columns.
+fn sliced(alloc: Global, query: &Query, rows: Items<Row>) -> Result<Items<Row>, Refusal>
+    ensures ok { IfOk result (λ list. list ≡ map (columns_of (map shown_place query.now.items)) (sliced query.now.limit rows)) }
+    ensures err { IfErr result (λ e. e ≡ Refusal.OutOfMemory) }
+{
+    let places = shown_places(alloc, query.items.as_slice())?;
+    let limited = Limit::new(Rows::new(alloc, rows)?, query.limit);
+    let mut shown = Project::new(limited, places);
+    collect(alloc, &mut shown)
+}
+
+/// What a query gives over the rows of its table: those whose condition is true, each by the columns that the query shows, in an
+/// order that its ORDER BY allows, and of these what its LIMIT leaves. Refuses only for want of memory.
 pub fn select_local(alloc: Global, query: &Query, rows: &[Row]) -> Result<Items<Row>, Refusal>
+    requires plain { is_aggregated query.now ≡ false }
     ensures ok { IfOk result (IsAnswer query.now rows.now) }
     ensures err { IfErr result (λ e. e ≡ Refusal.OutOfMemory) }
 {
-    kept(alloc, query, rows)
+    let list = kept(alloc, &query.filter, rows)?;
+    let sorted = sort_rows(alloc, list, query.order_by.as_slice())?;
+    sliced(alloc, query, sorted)
 }

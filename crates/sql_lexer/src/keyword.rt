@@ -1,7 +1,7 @@
 //! The keywords, in any case.
 ghost use Rattle.std.specs.Prelude.{◌≡◌};
 ghost use Rattle.sql_lexer.specs.Keywords.{keyword_text};
-ghost use Rattle.sql_lexer.specs.Lexemes.{is_spelling_of};
+ghost use Rattle.sql_lexer.specs.Lexemes.{is_spelling_of, is_keyword};
 ghost use Rattle.sql_lexer.specs.Scanning.{keyword_at};
 
 use crate::token::Keyword;
@@ -96,4 +96,13 @@ pub fn keyword_of(word: &[u8]) -> Option<Keyword>
         .iter()
         .copied()
         .find(|keyword| is_spelling_of(word, *keyword))
+}
+
+/// Whether the word is a keyword in some case, so that as an identifier it stands in backquotes.
+pub fn is_keyword(word: &[u8]) -> bool
+    ensures { result ≡ is_keyword word.now }
+{
+    KEYWORDS
+        .iter()
+        .any(|keyword| is_spelling_of(word, *keyword))
 }

@@ -9,5 +9,6 @@ mod lexing;
 mod tests;
 mod token;
 
+pub use keyword::is_keyword;
 pub use lexing::{lex, longest, one_lexing};
 pub use token::{Keyword, Sign, Token, TokenKind};

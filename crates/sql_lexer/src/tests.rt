@@ -1,4 +1,4 @@
-use crate::{Keyword, Sign, TokenKind, lex, longest, one_lexing};
+use crate::{Keyword, Sign, TokenKind, is_keyword, lex, longest, one_lexing};
 use std::alloc::Global;
 use std::test::Fail;
 use vt_value::{Comparison, Refusal};
@@ -132,4 +132,12 @@ fn refused(rt: HostRuntime) -> Result<(), Fail> {
         assert!(rt; is_syntax_error(rt.alloc(), text)?, "{text:?}");
     }
     Ok(())
+}
+
+#[test]
+fn keywords_stand_in_any_case(rt: HostRuntime) {
+    assert!(rt; is_keyword(b"from"));
+    assert!(rt; is_keyword(b"TransAction"));
+    assert!(rt; !is_keyword(b"form"));
+    assert!(rt; !is_keyword(b""));
 }

@@ -1,5 +1,5 @@
 -- Texts and their trees.
-use Rattle.std.proofs.Common.{ℕ, List, [], ◌∷◌, refl, Some, pos, lit<}
+use Rattle.std.proofs.Common.{◌≡◌, rules, ℕ, List, [], ◌∷◌, refl, Some, None, pos, lit<, lit≤}
 use Rattle.std.specs.Prelude.{codes}
 use Rattle.vt_value.specs.declared.value.Value.TheVariants.{Int}
 use Rattle.vt_value.specs.declared.value.Comparison.TheVariants.{Eq}
@@ -12,10 +12,11 @@ use Rattle.sql_lexer.specs.Lexemes as s
 use Rattle.sql_lexer.specs.Tokens.{Lexes}
 use Rattle.sql_lexer.specs.Tokens as t
 use Rattle.sql_tree.specs.declared.Operand.TheVariants.{Column, Literal}
-use Rattle.sql_tree.specs.declared.Condition.{Compare}
+use Rattle.sql_tree.specs.declared.Condition.{Compare, the_lemmas}
 use Rattle.sql_tree.specs.declared.SelectList.TheVariants.{All}
 use Rattle.sql_tree.specs.declared.Statement.{Statement}
 use Rattle.sql_tree.specs.declared.Statement.TheVariants.{Select}
+use Rattle.sql_tree.specs.Literals.{literals_of}
 use Rattle.sql_parser.specs.Grammar as g
 use Rattle.sql_parser.specs.Grammar.{Reads}
 
@@ -23,7 +24,14 @@ abbrev token : TokenKind → ℕ → ℕ → Token
 token kind start end = record { kind = kind; start = start; end = end }
 
 abbrev by_id : Statement
-by_id = Select (record { list = All; table = codes "t"; filter = Some (Compare Eq (Column (codes "id")) (Literal (Int (pos 5)))) })
+by_id = Select (record {
+  list = All;
+  table = codes "t";
+  filter = Some (Compare Eq (Column (codes "id")) (Literal (Int (pos 5))));
+  group_by = [];
+  order_by = [];
+  limit = None;
+})
 
 abbrev tokens : List Token
 tokens =
@@ -44,5 +52,14 @@ lexed =
     (t.token {bytes = codes "="} (s.comparison Eq) refl (t.blank refl
     (t.token {bytes = codes "5"} (s.digits refl refl) refl t.end))))))))))))))
 
+one_literal : literals_of by_id ≡ 1
+one_literal = search (rules, the_lemmas)
+
 read : Reads a_text by_id
-read = (tokens, lexed, g.select (g.select g.star (g.present (g.filter (g.equal (codes "id") 5 (lit< tt))))))
+read = (
+  tokens,
+  lexed,
+  g.statement (g.select_is (g.select g.star (g.present (g.filter (g.single (g.single (g.test
+      (g.compare (g.column (codes "id")) (g.literal (g.natural 5 (lit< tt))))))))) g.without g.without g.absent)),
+  rw one_literal (lit≤ tt),
+)

@@ -1,176 +1,160 @@
 -- The two laws for whole texts: what is read is in the grammar, and what is in the grammar is read.
-use Rattle.std.proofs.Common.{◌≡◌, ℕ, ◌<◌, ◌^◌, true, List, [], ◌∷◌, ◌++◌, Option, Some, None, refl, sym, ap, subst, ◌∙◌, append_assoc}
+use Rattle.std.proofs.Common.{◌≡◌, ◌≤◌, true, [], ◌∷◌, ◌++◌, Some, refl, sym, ap, subst, ◌∙◌, append_assoc, arith, Option}
 use Rattle.std.proofs.lemmas.List.{append-nil}
-use Rattle.vt_value.specs.declared.value.Comparison.TheVariants.{Eq}
+use Rattle.std.proofs.lemmas.Bool.{leb-true, le-leb, and_parts}
 use Rattle.sql_lexer.specs.declared.token.Keyword.TheVariants as k
-use Rattle.sql_lexer.specs.declared.token.Sign.TheVariants.{Star}
-use Rattle.sql_lexer.specs.Lexemes.{keyword, identifier, number, sign, operator}
+use Rattle.sql_lexer.specs.declared.token.Sign.TheVariants.{Semicolon}
+use Rattle.sql_lexer.specs.Lexemes.{keyword, identifier, text, sign}
 use Rattle.sql_lexer.specs.Results.{◌>>=◌}
 use Rattle.sql_lexer.proofs.Options.{some_is, bound, guard_some}
-use Rattle.sql_tree.specs.declared.Condition.{Condition}
-use Rattle.sql_tree.specs.declared.SelectList.{SelectList}
-use Rattle.sql_tree.specs.declared.SelectList.TheVariants.{All, Columns}
+use Rattle.sql_tree.specs.declared.CharacterSet.{CharacterSet}
+use Rattle.sql_tree.specs.declared.CharacterSet.TheVariants as charset
 use Rattle.sql_tree.specs.declared.Select as S
 use Rattle.sql_tree.specs.declared.Statement.{Statement}
-use Rattle.sql_parser.specs.Grammar.{Name, Lexemes, Follows, Listed, Optional, ReadsName, ReadsList, ReadsTest, ReadsWhere, ReadsSelect, ReadsText}
+use Rattle.sql_tree.specs.declared.Statement.TheVariants.{Select, Insert, Update, Delete, Begin, Commit, Rollback}
+use Rattle.sql_tree.specs.Literals.{literals_of}
+use Rattle.sql_parser.specs.Grammar.{Lexemes, max_literals, ReadsSelect, ReadsCharacterSet, ReadsStatement, ReadsText}
 use Rattle.sql_parser.specs.Grammar as g
-use Rattle.sql_parser.specs.Reading.{is_comma, after_at, listed_at, name_at, number_at, list_at, from_at, equals_at, test_at, where_at, select_at, statement_at, is_end, text_at}
-use Rattle.sql_parser.proofs.Digits.{fits, fitting_is}
-use Rattle.sql_parser.proofs.Sound.{Front, glue, listed_sound}
-use Rattle.sql_parser.proofs.Again.{listed_again}
+use Rattle.sql_parser.specs.Reading.{select_at, insert_at, update_at, delete_at, from_at, name_at, charset_at, control_at, statement_at, is_end, is_text, text_at}
+use Rattle.sql_parser.proofs.Sound.{Front, glue}
+use Rattle.sql_parser.proofs.ClauseLaws.{list_sound, from_is, where_sound, group_sound, order_sound, limit_sound, list_again, where_again, group_again, order_again, limit_again}
+use Rattle.sql_parser.proofs.WriteLaws.{insert_sound, update_sound, delete_sound, insert_again, update_again, delete_again}
+use Rattle.sql_parser.proofs.Behind.{Behind, earlier, end, semicolon, group_behind, order_behind, limit_behind}
 
 -- ---- what is read is in the grammar
 
-name_is : (ts : Lexemes) (x : Name × Lexemes) → name_at ts ≡ Some x → ts ≡ identifier x.0 ∷ x.1
-unfolding name_at
-name_is (identifier bytes ∷ ts) x e = ap (λ (y : Name × Lexemes). identifier y.0 ∷ y.1) (some_is (bytes, ts) x e)
-name_is _ x e = absurd cc
-
-pub name_sound : (ts : Lexemes) (x : Name × Lexemes) → name_at ts ≡ Some x → Front ReadsName ts x
-name_sound ts x e = record { front = identifier x.0 ∷ []; parts = name_is ts x e; reads = g.name x.0 }
-
-number_is : (ts : Lexemes) (x : ℕ × Lexemes) → number_at ts ≡ Some x → (x.0 < 2 ^ 64) × (ts ≡ number x.0 ∷ x.1)
-unfolding number_at
-number_is (number n ∷ ts) x e =
-    bound _ _ _ e (λ m p e1.
-    let f = fitting_is n m p in
-    let same : (m, ts) ≡ x = some_is _ x e1 in
-    (subst (λ i. i < 2 ^ 64) (ap (λ (y : ℕ × Lexemes). y.0) same) f.0, ap (λ i. number i ∷ ts) f.1 ∙ ap (λ (y : ℕ × Lexemes). number y.0 ∷ y.1) same))
-number_is _ x e = absurd cc
-
-columns_sound : (ts : Lexemes) (x : SelectList × Lexemes) → (listed_at name_at ts >>= λ names. Some (Columns names.0, names.1)) ≡ Some x
-    → Front ReadsList ts x
-columns_sound ts x e =
-    bound _ _ _ e (λ names p e1.
-    let f = listed_sound name_at ReadsName name_sound ts names p in
-    subst (Front ReadsList ts) (some_is _ x e1) (record { front = f.front; parts = f.parts; reads = g.columns f.reads }))
-
-list_sound : (ts : Lexemes) (x : SelectList × Lexemes) → list_at ts ≡ Some x → Front ReadsList ts x
-unfolding list_at
-list_sound (sign Star ∷ ts) x e = subst (Front ReadsList (sign Star ∷ ts)) (some_is (All, ts) x e) (record {
-  front = sign Star ∷ [];
-  parts = refl;
-  reads = g.star;
-})
-list_sound ts x e = columns_sound ts x e
-
-from_is : (ts : Lexemes) (x : Name × Lexemes) → from_at ts ≡ Some x → ts ≡ keyword k.From ∷ identifier x.0 ∷ x.1
-unfolding from_at
-from_is (keyword k.From ∷ ts) x e = ap (λ (us : Lexemes). keyword k.From ∷ us) (name_is ts x e)
-from_is _ x e = absurd cc
-
-equals_is : (ts rest : Lexemes) → equals_at ts ≡ Some rest → ts ≡ operator Eq ∷ rest
-unfolding equals_at
-equals_is (operator Eq ∷ ts) rest e = ap (λ (us : Lexemes). operator Eq ∷ us) (some_is ts rest e)
-equals_is _ rest e = absurd cc
-
-test_parts : (ts us vs ws : Lexemes) (column : Name) (n : ℕ) → ts ≡ identifier column ∷ us → us ≡ operator Eq ∷ vs → vs ≡ number n ∷ ws
-    → ts ≡ identifier column ∷ operator Eq ∷ number n ∷ ws
-test_parts ts us vs ws column n e f h = e ∙ ap (λ (xs : Lexemes). identifier column ∷ xs) (f ∙ ap (λ (xs : Lexemes). operator Eq ∷ xs) h)
-
-test_sound : (ts : Lexemes) (x : Condition Name × Lexemes) → test_at ts ≡ Some x → Front ReadsTest ts x
-unfolding test_at
-test_sound ts x e =
-    bound _ _ _ e (λ column p e1. bound _ _ _ e1 (λ rest q e2. bound _ _ _ e2 (λ n r e3.
-    let size = number_is rest n r in
-    let parts = test_parts ts column.1 rest n.1 column.0 n.0 (name_is ts column p) (equals_is column.1 rest q) size.1 in
-    let reads = g.equal column.0 n.0 size.0 in
-    subst (Front ReadsTest ts) (some_is _ x e3) (record { front = identifier column.0 ∷ operator Eq ∷ number n.0 ∷ []; parts = parts; reads = reads }))))
-
-where_sound : (ts : Lexemes) (x : Option (Condition Name) × Lexemes) → where_at ts ≡ Some x → Front (Optional ReadsWhere) ts x
-unfolding where_at
-where_sound (keyword k.Where ∷ ts) x e =
-    bound _ _ _ e (λ test p e1.
-    let f = test_sound ts test p in
-    subst (Front (Optional ReadsWhere) (keyword k.Where ∷ ts)) (some_is _ x e1)
-    (record { front = keyword k.Where ∷ f.front; parts = ap (λ (us : Lexemes). keyword k.Where ∷ us) f.parts; reads = g.present (g.filter f.reads) }))
-where_sound ts x e = subst (Front (Optional ReadsWhere) ts) (some_is (None, ts) x e) (record { front = []; parts = refl; reads = g.absent })
-
-select_sound : (ts : Lexemes) (x : S.Select × Lexemes) → select_at ts ≡ Some x → Front ReadsSelect ts x
+select_sound : (ts : Lexemes) (x : S.Select × Lexemes) → select_at ts ≡ Some x → Front ReadsSelect (keyword k.Select ∷ ts) x
 unfolding select_at
-select_sound (keyword k.Select ∷ ts) x e =
-    bound _ _ _ e (λ list p e1. bound _ _ _ e1 (λ table q e2. bound _ _ _ e2 (λ filter r e3.
+select_sound ts x e =
+    bound _ _ _ e (λ list p e1. bound _ _ _ e1 (λ table q e2. bound _ _ _ e2 (λ filter r e3. bound _ _ _ e3 (λ group s e4. bound _ _ _ e4 (λ order t e5.
+    bound _ _ _ e5 (λ limit u e6.
     let f = list_sound ts list p in
-    let h = where_sound table.1 filter r in
-    let behind = keyword k.From ∷ identifier table.0 ∷ h.front in
-    let tail : list.1 ≡ behind ++ filter.1 = from_is list.1 table q ∙ ap (λ (us : Lexemes). keyword k.From ∷ identifier table.0 ∷ us) h.parts in
-    let parts = glue ts f.front list.1 behind filter.1 f.parts tail in
-    subst (Front ReadsSelect (keyword k.Select ∷ ts)) (some_is _ x e3) (record {
+    let filters = where_sound table.1 filter r in
+    let groups = group_sound filter.1 group s in
+    let orders = order_sound group.1 order t in
+    let limits = limit_sound order.1 limit u in
+    let a = glue group.1 orders.front order.1 limits.front limit.1 orders.parts limits.parts in
+    let b = glue filter.1 groups.front group.1 (orders.front ++ limits.front) limit.1 groups.parts a in
+    let c = glue table.1 filters.front filter.1 (groups.front ++ (orders.front ++ limits.front)) limit.1 filters.parts b in
+    let behind = keyword k.From ∷ identifier table.0 ∷ filters.front ++ (groups.front ++ (orders.front ++ limits.front)) in
+    let tail : list.1 ≡ behind ++ limit.1 = from_is list.1 table q ∙ ap (λ (us : Lexemes). keyword k.From ∷ identifier table.0 ∷ us) c in
+    let parts = glue ts f.front list.1 behind limit.1 f.parts tail in
+    subst (Front ReadsSelect (keyword k.Select ∷ ts)) (some_is _ x e6) (record {
       front = keyword k.Select ∷ f.front ++ behind;
       parts = ap (λ (us : Lexemes). keyword k.Select ∷ us) parts;
-      reads = g.select f.reads h.reads;
-    }))))
-select_sound _ x e = absurd cc
+      reads = g.select f.reads filters.reads groups.reads orders.reads limits.reads;
+    })))))))
 
-statement_sound : (ts : Lexemes) (x : Statement × Lexemes) → statement_at ts ≡ Some x → Front ReadsText ts x
+charset_sound : (ts : Lexemes) (x : CharacterSet × Lexemes) → charset_at ts ≡ Some x → Front ReadsCharacterSet ts x
+unfolding charset_at
+charset_sound (identifier bytes ∷ ts) x e =
+    subst (Front ReadsCharacterSet (identifier bytes ∷ ts)) (some_is (charset.Identifier bytes, ts) x e)
+    (record { front = identifier bytes ∷ []; parts = refl; reads = g.by_identifier bytes })
+charset_sound (text bytes ∷ ts) x e =
+    subst (Front ReadsCharacterSet (text bytes ∷ ts)) (some_is (charset.Text bytes, ts) x e)
+    (record { front = text bytes ∷ []; parts = refl; reads = g.by_text bytes })
+charset_sound _ x e = absurd cc
+
+control_sound : (ts : Lexemes) (x : Statement × Lexemes) → control_at ts ≡ Some x → Front ReadsStatement ts x
+unfolding control_at
+control_sound (keyword k.Begin ∷ ts) x e =
+    subst (Front ReadsStatement (keyword k.Begin ∷ ts)) (some_is (Begin, ts) x e) (record { front = keyword k.Begin ∷ []; parts = refl; reads = g.begin })
+control_sound (keyword k.Start ∷ keyword k.Transaction ∷ ts) x e =
+    subst (Front ReadsStatement (keyword k.Start ∷ keyword k.Transaction ∷ ts)) (some_is (Begin, ts) x e)
+    (record { front = keyword k.Start ∷ keyword k.Transaction ∷ []; parts = refl; reads = g.start_transaction })
+control_sound (keyword k.Commit ∷ ts) x e =
+    subst (Front ReadsStatement (keyword k.Commit ∷ ts)) (some_is (Commit, ts) x e) (record { front = keyword k.Commit ∷ []; parts = refl; reads = g.commit })
+control_sound (keyword k.Rollback ∷ ts) x e =
+    subst (Front ReadsStatement (keyword k.Rollback ∷ ts)) (some_is (Rollback, ts) x e)
+    (record { front = keyword k.Rollback ∷ []; parts = refl; reads = g.rollback })
+control_sound (keyword k.Set ∷ keyword k.Names ∷ ts) x e =
+    bound _ _ _ e (λ set p e1.
+    let f = charset_sound ts set p in
+    subst (Front ReadsStatement (keyword k.Set ∷ keyword k.Names ∷ ts)) (some_is _ x e1) (record {
+      front = keyword k.Set ∷ keyword k.Names ∷ f.front;
+      parts = ap (λ (us : Lexemes). keyword k.Set ∷ keyword k.Names ∷ us) f.parts;
+      reads = g.set_names f.reads;
+    }))
+control_sound _ x e = absurd cc
+
+-- a statement of one kind
+one_kind : {A : Type 0} (Reads : Lexemes → A → Type 0) (node : A → Statement) → ((us : Lexemes) (y : A) → Reads us y → ReadsStatement us (node y))
+    → (ts : Lexemes) (read : Option (A × Lexemes)) → ((y : A × Lexemes) → read ≡ Some y → Front Reads ts y)
+    → (x : Statement × Lexemes) → (read >>= λ y. Some (node y.0, y.1)) ≡ Some x → Front ReadsStatement ts x
+one_kind Reads node is ts read sound x e =
+    bound _ _ _ e (λ y p e1.
+    let f = sound y p in
+    subst (Front ReadsStatement ts) (some_is _ x e1) (record { front = f.front; parts = f.parts; reads = is f.front y.0 f.reads }))
+
+statement_sound : (ts : Lexemes) (x : Statement × Lexemes) → statement_at ts ≡ Some x → Front ReadsStatement ts x
 unfolding statement_at
-statement_sound ts x e =
-    bound _ _ _ e (λ select p e1.
-    let f = select_sound ts select p in
-    subst (Front ReadsText ts) (some_is _ x e1) (record { front = f.front; parts = f.parts; reads = g.select f.reads }))
+statement_sound (keyword k.Select ∷ ts) x e =
+    one_kind ReadsSelect Select (λ us y r. g.select_is r) (keyword k.Select ∷ ts) (select_at ts) (select_sound ts) x e
+statement_sound (keyword k.Insert ∷ keyword k.Into ∷ ts) x e =
+    one_kind g.ReadsInsert Insert (λ us y r. g.insert_is r) (keyword k.Insert ∷ keyword k.Into ∷ ts) (insert_at ts) (insert_sound ts) x e
+statement_sound (keyword k.Update ∷ ts) x e =
+    one_kind g.ReadsUpdate Update (λ us y r. g.update_is r) (keyword k.Update ∷ ts) (update_at ts) (update_sound ts) x e
+statement_sound (keyword k.Delete ∷ ts) x e =
+    one_kind g.ReadsDelete Delete (λ us y r. g.delete_is r) (keyword k.Delete ∷ ts) (delete_at ts) (delete_sound ts) x e
+statement_sound ts x e = control_sound ts x e
 
-all_read : (ts front rest : Lexemes) (x : Statement) → ts ≡ front ++ rest → ReadsText front x → is_end rest ≡ true → ReadsText ts x
-all_read ts front [] x e r end = subst (λ (us : Lexemes). ReadsText us x) (sym (e ∙ append-nil front)) r
-all_read ts front (_ ∷ _) x e r end = absurd cc
+all_read : (ts front rest : Lexemes) (x : Statement) → ts ≡ front ++ rest → ReadsStatement front x → is_end rest ≡ true → ReadsText ts x
+all_read ts front [] x e r done = subst (λ (us : Lexemes). ReadsText us x) (sym (e ∙ append-nil front)) (g.statement r)
+all_read ts front (sign Semicolon ∷ []) x e r done = subst (λ (us : Lexemes). ReadsText us x) (sym e) (g.semicolon r)
+all_read ts front _ x e r done = absurd cc
 
-pub text_sound : (ts : Lexemes) (x : Statement) → text_at ts ≡ Some x → ReadsText ts x
+pub text_sound : (ts : Lexemes) (x : Statement) → text_at ts ≡ Some x → ReadsText ts x × (literals_of x ≤ max_literals)
 unfolding text_at
 text_sound ts x e =
     bound _ _ _ e (λ statement p e1.
     let f = statement_sound ts statement p in
-    let b = guard_some (is_end statement.1) statement.0 x e1 in
-    subst (ReadsText ts) b.1 (all_read ts f.front statement.1 statement.0 f.parts f.reads b.0))
+    let b = guard_some (is_text statement) statement.0 x e1 in
+    let both = and_parts (is_end statement.1) _ b.0 in
+    subst (λ (y : Statement). ReadsText ts y × (literals_of y ≤ max_literals)) b.1
+    (all_read ts f.front statement.1 statement.0 f.parts f.reads both.0, leb-true _ _ both.1))
 
 -- ---- what is in the grammar is read
 
-pub name_again : (ts : Lexemes) (x : Name) → ReadsName ts x → (rest : Lexemes) → name_at (ts ++ rest) ≡ Some (x, rest)
-unfolding name_at
-name_again _ _ (g.name bytes) rest = refl
-
-number_again : (n : ℕ) → n < 2 ^ 64 → (rest : Lexemes) → number_at (number n ∷ rest) ≡ Some (n, rest)
-unfolding number_at
-number_again n lt rest = rw (fits n lt) refl
-
-names_again : (ts : Lexemes) (names : List Name) → Listed ReadsName ts names → (rest : Lexemes) → after_at is_comma rest ≡ None
-    → listed_at name_at (ts ++ rest) ≡ Some (names, rest)
-names_again ts names r rest none = listed_again name_at ReadsName (λ _. Unit {0}) (λ _. tt) (λ us y q rest h. name_again us y q rest) ts names r rest tt none
-
-list_again : (ts : Lexemes) (x : SelectList) → ReadsList ts x → (rest : Lexemes) → list_at (ts ++ keyword k.From ∷ rest) ≡ Some (x, keyword k.From ∷ rest)
-unfolding list_at
-list_again _ _ g.star rest = refl
-list_again _ _ (g.columns (g.items {us = us} {xs = xs} (g.name bytes) s)) rest =
-    rw (names_again (identifier bytes ∷ us) (bytes ∷ xs) (g.items (g.name bytes) s) (keyword k.From ∷ rest) refl) refl
-
-test_again : (ts : Lexemes) (x : Condition Name) → ReadsTest ts x → (rest : Lexemes) → test_at (ts ++ rest) ≡ Some (x, rest)
-unfolding test_at equals_at name_at
-test_again _ _ (g.equal column n lt) rest = rw (number_again n lt rest) refl
-
--- what stands behind a WHERE or where none stands
-pub record IsPlain (ts : Lexemes) : Type 0 where
-  pub no_where : where_at ts ≡ Some (None, ts)
-
-where_again : (us : Lexemes) (x : Option (Condition Name)) → Optional ReadsWhere us x → (rest : Lexemes) → IsPlain rest → where_at (us ++ rest) ≡ Some (x, rest)
-unfolding where_at
-where_again _ _ g.absent rest p = p.no_where
-where_again _ _ (g.present (g.filter {ts} {x} r)) rest p = rw (test_again ts x r rest) refl
-
-select_again : (ts : Lexemes) (x : S.Select) → ReadsSelect ts x → (rest : Lexemes) → IsPlain rest → select_at (ts ++ rest) ≡ Some (x, rest)
+select_again : (ts : Lexemes) (x : S.Select) → ReadsSelect ts x → (rest : Lexemes) → Behind 4 rest
+    → (us : Lexemes) × (ts ++ rest ≡ keyword k.Select ∷ us) × (select_at us ≡ Some (x, rest))
 unfolding select_at from_at name_at
-select_again _ _ (g.select {ts} {us} {list} {table} {filter} p q) rest plain =
-    let front : (ts ++ (keyword k.From ∷ identifier table ∷ us)) ++ rest ≡ ts ++ (keyword k.From ∷ identifier table ∷ us ++ rest) =
-    append_assoc ts (keyword k.From ∷ identifier table ∷ us) rest in
-    rw (front, list_again ts list p (identifier table ∷ us ++ rest), where_again us filter q rest plain) refl
+select_again _ _ (g.select {list_tokens} {filter_tokens} {group_tokens} {order_tokens} {limit_tokens} {list} {table} {filter} {group_by} {order_by} {limit} p q r s t) rest b =
+    let b3 = limit_behind limit_tokens limit t rest b in
+    let b2 = order_behind order_tokens order_by s (limit_tokens ++ rest) b3 in
+    let b1 = group_behind group_tokens group_by r (order_tokens ++ (limit_tokens ++ rest)) b2 in
+    let behind : Lexemes = filter_tokens ++ (group_tokens ++ (order_tokens ++ (limit_tokens ++ rest))) in (
+      list_tokens ++ keyword k.From ∷ identifier table ∷ behind,
+      simp append_assoc,
+      rw (
+        list_again list_tokens list p (keyword k.From ∷ identifier table ∷ behind) refl,
+        where_again filter_tokens filter q _ b1,
+        group_again group_tokens group_by r _ b2,
+        order_again order_tokens order_by s _ b3,
+        limit_again limit_tokens limit t rest b,
+      ) refl,
+    )
 
-end_plain : IsPlain []
-unfolding where_at
-end_plain = record { no_where = refl }
+charset_again : (ts : Lexemes) (x : CharacterSet) → ReadsCharacterSet ts x → (rest : Lexemes) → charset_at (ts ++ rest) ≡ Some (x, rest)
+unfolding charset_at
+charset_again _ _ (g.by_identifier bytes) rest = refl
+charset_again _ _ (g.by_text bytes) rest = refl
 
-statement_again : (ts : Lexemes) (x : Statement) → ReadsText ts x → statement_at ts ≡ Some (x, [])
-unfolding statement_at
-statement_again _ _ (g.select {ts} {s} r) =
-    let e : select_at ts ≡ Some (s, []) = subst (λ (us : Lexemes). select_at us ≡ Some (s, [])) (append-nil ts) (select_again ts s r [] end_plain) in
-    rw e refl
+statement_again : (ts : Lexemes) (x : Statement) → ReadsStatement ts x → (rest : Lexemes) → Behind 4 rest → statement_at (ts ++ rest) ≡ Some (x, rest)
+unfolding statement_at control_at
+statement_again _ _ (g.select_is {ts} {s} r) rest b = let m = select_again ts s r rest b in rw (m.1, m.2) refl
+statement_again _ _ (g.insert_is {ts} {s} r) rest b = let m = insert_again ts s r rest (earlier 4 0 (omega arith) rest b) in rw (m.1, m.2) refl
+statement_again _ _ (g.update_is {ts} {s} r) rest b = let m = update_again ts s r rest (earlier 4 1 (omega arith) rest b) in rw (m.1, m.2) refl
+statement_again _ _ (g.delete_is {ts} {s} r) rest b = let m = delete_again ts s r rest (earlier 4 1 (omega arith) rest b) in rw (m.1, m.2) refl
+statement_again _ _ g.begin rest b = refl
+statement_again _ _ g.start_transaction rest b = refl
+statement_again _ _ g.commit rest b = refl
+statement_again _ _ g.rollback rest b = refl
+statement_again _ _ (g.set_names {ts} {set} r) rest b = rw (charset_again ts set r rest) refl
 
-pub text_again : (ts : Lexemes) (x : Statement) → ReadsText ts x → text_at ts ≡ Some x
+pub text_again : (ts : Lexemes) (x : Statement) → ReadsText ts x → literals_of x ≤ max_literals → text_at ts ≡ Some x
 unfolding text_at
-text_again ts x r = rw (statement_again ts x r) refl
+text_again _ _ (g.statement {ts} {s} r) le =
+    let e : statement_at ts ≡ Some (s, []) = subst (λ (us : Lexemes). statement_at us ≡ Some (s, [])) (append-nil ts) (statement_again ts s r [] end) in
+    rw (e, le-leb (literals_of s) max_literals le) refl
+text_again _ _ (g.semicolon {ts} {s} r) le =
+    rw (statement_again ts s r (sign Semicolon ∷ []) semicolon, le-leb (literals_of s) max_literals le) refl

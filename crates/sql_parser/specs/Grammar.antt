@@ -1,27 +1,46 @@
--- The grammar of statements, by cases over whole lists of tokens. So far it is
---     statement = SELECT (* | column,..) FROM name [WHERE column = number]
-use Rattle.std.specs.Prelude.{ℕ, ◌<◌, ◌^◌, pos, List, [], ◌∷◌, ◌++◌, Option, Some, None}
-use Rattle.vt_value.specs.declared.value.Value.TheVariants.{Int}
+-- The grammar of statements, by cases over whole lists of tokens.
+use Rattle.std.specs.Prelude.{ℕ, zero, suc, ◌<◌, ◌≤◌, ◌^◌, true, false, pos, neg_ℤ, List, [], ◌∷◌, ◌++◌, Option, Some, None}
+use Rattle.vt_value.specs.declared.value.Value.{Value}
+use Rattle.vt_value.specs.declared.value.Value.TheVariants.{Null, Int, Bytes}
+use Rattle.vt_value.specs.declared.value.Comparison.{Comparison}
 use Rattle.vt_value.specs.declared.value.Comparison.TheVariants.{Eq}
 use Rattle.sql_lexer.specs.declared.token.Token.{Token}
+use Rattle.sql_lexer.specs.declared.token.Keyword.{Keyword}
 use Rattle.sql_lexer.specs.declared.token.Keyword.TheVariants as K
-use Rattle.sql_lexer.specs.declared.token.Sign.TheVariants.{Star, Comma}
-use Rattle.sql_lexer.specs.Lexemes.{Lexeme, keyword, identifier, number, sign, operator, lexemes_of}
+use Rattle.sql_lexer.specs.declared.token.Sign.TheVariants.{LeftParenthesis, RightParenthesis, Star, Comma, Semicolon, Minus}
+use Rattle.sql_lexer.specs.Lexemes.{Lexeme, keyword, identifier, number, text, sign, operator, lexemes_of}
 use Rattle.sql_lexer.specs.Tokens.{Lexes}
+use Rattle.sql_tree.specs.declared.Operand.{Operand}
 use Rattle.sql_tree.specs.declared.Operand.TheVariants.{Column, Literal}
-use Rattle.sql_tree.specs.declared.Condition.{Condition, Compare}
+use Rattle.sql_tree.specs.declared.Condition.{Condition, Compare, In, IsNull, Not, And, Or}
+use Rattle.sql_tree.specs.declared.Item.{Item}
+use Rattle.sql_tree.specs.declared.Item.TheVariants as shown
 use Rattle.sql_tree.specs.declared.SelectList.{SelectList}
-use Rattle.sql_tree.specs.declared.SelectList.TheVariants.{All, Columns}
+use Rattle.sql_tree.specs.declared.SelectList.TheVariants.{All, Items}
+use Rattle.sql_tree.specs.declared.Key.{Key}
+use Rattle.sql_tree.specs.declared.Limit.{Limit}
+use Rattle.sql_tree.specs.declared.Assignment.{Assignment}
+use Rattle.sql_tree.specs.declared.CharacterSet.{CharacterSet}
+use Rattle.sql_tree.specs.declared.CharacterSet.TheVariants as charset
 use Rattle.sql_tree.specs.declared.Select as S
+use Rattle.sql_tree.specs.declared.Insert as I
+use Rattle.sql_tree.specs.declared.Update as U
+use Rattle.sql_tree.specs.declared.Delete as D
 use Rattle.sql_tree.specs.declared.Statement.{Statement}
-use Rattle.sql_tree.specs.declared.Statement.TheVariants.{Select}
-
--- the name of a table or a column
-abbrev pub Name : Type 0
-Name = List ℕ
+use Rattle.sql_tree.specs.declared.Statement.TheVariants.{Select, Insert, Update, Delete, Begin, Commit, Rollback, SetNames}
+use Rattle.sql_tree.specs.Literals.{Name, literals_of}
 
 abbrev pub Lexemes : Type 0
 Lexemes = List Lexeme
+
+-- how many open parentheses and NOTs may stand on one path, and how many literals in a statement
+abbrev pub max_depth : ℕ
+max_depth = 64
+
+abbrev pub max_literals : ℕ
+max_literals = 4096
+
+-- ---- lists and options of any rule
 
 -- what follows the first of several items: sep item sep item ..
 pub data Follows {A : Type 0} (sep : Lexeme) (Item : Lexemes → A → Type 0) : Lexemes → List A → Type 0 where
@@ -32,39 +51,181 @@ pub data Follows {A : Type 0} (sep : Lexeme) (Item : Lexemes → A → Type 0) :
 pub data Listed {A : Type 0} (Item : Lexemes → A → Type 0) : Lexemes → List A → Type 0 where
   items : {ts us : Lexemes} {x : A} {xs : List A} → Item ts x → Follows (sign Comma) Item us xs → Listed Item (ts ++ us) (x ∷ xs)
 
+-- (x,..)
+pub data Bracketed {A : Type 0} (Item : Lexemes → A → Type 0) : Lexemes → List A → Type 0 where
+  brackets : {ts : Lexemes} {xs : List A} → Listed Item ts xs → Bracketed Item (sign LeftParenthesis ∷ ts ++ sign RightParenthesis ∷ []) xs
+
 -- [x]
 pub data Optional {A : Type 0} (Item : Lexemes → A → Type 0) : Lexemes → Option A → Type 0 where
   absent : Optional Item [] None
   present : {ts : Lexemes} {x : A} → Item ts x → Optional Item ts (Some x)
 
+-- ---- names and literals
+
 -- column = identifier
 pub data ReadsName : Lexemes → Name → Type 0 where
   name : (bytes : Name) → ReadsName (identifier bytes ∷ []) bytes
 
--- * | column,..
+-- literal = number | - number | string | NULL, where a number with its sign is one of - 2 ^ 63 to 2 ^ 64 - 1
+pub data ReadsLiteral : Lexemes → Value → Type 0 where
+  null : ReadsLiteral (keyword K.Null ∷ []) Null
+  natural : (n : ℕ) → n < 2 ^ 64 → ReadsLiteral (number n ∷ []) (Int (pos n))
+  negative : (n : ℕ) → n ≤ 2 ^ 63 → ReadsLiteral (sign Minus ∷ number n ∷ []) (Int (neg_ℤ (pos n)))
+  string : (bytes : List ℕ) → ReadsLiteral (text bytes ∷ []) (Bytes bytes)
+
+-- operand = column | literal
+pub data ReadsOperand : Lexemes → Operand Name → Type 0 where
+  column : (bytes : Name) → ReadsOperand (identifier bytes ∷ []) (Column bytes)
+  literal : {ts : Lexemes} {v : Value} → ReadsLiteral ts v → ReadsOperand ts (Literal v)
+
+-- ---- conditions
+
+-- operand op operand | operand IN (literal,..) | operand IS NULL
+pub data ReadsTest : Lexemes → Condition Name → Type 0 where
+  compare : {ts us : Lexemes} {left right : Operand Name} {op : Comparison} → ReadsOperand ts left → ReadsOperand us right
+      → ReadsTest (ts ++ operator op ∷ us) (Compare op left right)
+  in_list : {ts us : Lexemes} {left : Operand Name} {members : List Value} → ReadsOperand ts left → Bracketed ReadsLiteral us members
+      → ReadsTest (ts ++ keyword K.In ∷ us) (In left members)
+  is_null : {ts : Lexemes} {left : Operand Name} → ReadsOperand ts left → ReadsTest (ts ++ keyword K.Is ∷ keyword K.Null ∷ []) (IsNull left)
+
+-- x | x AND x AND .. , and the same with OR: two or more are a node of the tree
+pub data Joined (sep : Lexeme) (node : List (Condition Name) → Condition Name) (Item : Lexemes → Condition Name → Type 0) : Lexemes → Condition Name → Type 0 where
+  single : {ts : Lexemes} {x : Condition Name} → Item ts x → Joined sep node Item ts x
+  several : {ts us : Lexemes} {x y : Condition Name} {zs : List (Condition Name)} → Item ts x → Follows sep Item us (y ∷ zs)
+      → Joined sep node Item (ts ++ us) (node (x ∷ y ∷ zs))
+
+-- or = and | and OR and OR .. , and = not | not AND not AND ..
+abbrev pub OrOf : (Lexemes → Condition Name → Type 0) → Lexemes → Condition Name → Type 0
+OrOf Negation = Joined (keyword K.Or) Or (Joined (keyword K.And) And Negation)
+
+-- not = NOT not | operand NOT IN (literal,..) | operand IS NOT NULL | ( or ) | a test, where Deeper reads what stands one NOT or one
+-- parenthesis deeper. A NOT IN and an IS NOT NULL are a NOT in the tree, and parentheses leave no node.
+pub data NotOf (Deeper : Lexemes → Condition Name → Type 0) : Lexemes → Condition Name → Type 0 where
+  test : {ts : Lexemes} {x : Condition Name} → ReadsTest ts x → NotOf Deeper ts x
+  negated : {ts : Lexemes} {x : Condition Name} → Deeper ts x → NotOf Deeper (keyword K.Not ∷ ts) (Not x)
+  not_in : {ts us : Lexemes} {left : Operand Name} {members : List Value} → ReadsOperand ts left → Bracketed ReadsLiteral us members
+      → NotOf Deeper (ts ++ keyword K.Not ∷ keyword K.In ∷ us) (Not (In left members))
+  is_not_null : {ts : Lexemes} {left : Operand Name} → ReadsOperand ts left
+      → NotOf Deeper (ts ++ keyword K.Is ∷ keyword K.Not ∷ keyword K.Null ∷ []) (Not (IsNull left))
+  parentheses : {ts : Lexemes} {x : Condition Name} → OrOf Deeper ts x → NotOf Deeper (sign LeftParenthesis ∷ ts ++ sign RightParenthesis ∷ []) x
+
+-- not, where at most so many open parentheses and NOTs stand on one path
+abbrev pub ReadsNot : ℕ → Lexemes → Condition Name → Type 0
+ReadsNot zero = ReadsTest
+ReadsNot (suc depth) = NotOf (ReadsNot depth)
+
+abbrev pub ReadsAnd : ℕ → Lexemes → Condition Name → Type 0
+ReadsAnd depth = Joined (keyword K.And) And (ReadsNot depth)
+
+abbrev pub ReadsOr : ℕ → Lexemes → Condition Name → Type 0
+ReadsOr depth = OrOf (ReadsNot depth)
+
+-- WHERE or
+pub data ReadsWhere : Lexemes → Condition Name → Type 0 where
+  filter : {ts : Lexemes} {x : Condition Name} → ReadsOr max_depth ts x → ReadsWhere (keyword K.Where ∷ ts) x
+
+-- ---- the parts of statements
+
+-- an aggregate of a column
+abbrev pub call : Keyword → Lexeme → Lexemes
+call f inside = keyword f ∷ sign LeftParenthesis ∷ inside ∷ sign RightParenthesis ∷ []
+
+-- item = column | COUNT(*) | COUNT(column) | SUM(column) | MIN(column) | MAX(column)
+pub data ReadsItem : Lexemes → Item Name → Type 0 where
+  column_item : (bytes : Name) → ReadsItem (identifier bytes ∷ []) (shown.Column bytes)
+  count_rows : ReadsItem (call K.Count (sign Star)) shown.CountRows
+  count_item : (bytes : Name) → ReadsItem (call K.Count (identifier bytes)) (shown.Count bytes)
+  sum_item : (bytes : Name) → ReadsItem (call K.Sum (identifier bytes)) (shown.Sum bytes)
+  min_item : (bytes : Name) → ReadsItem (call K.Min (identifier bytes)) (shown.Min bytes)
+  max_item : (bytes : Name) → ReadsItem (call K.Max (identifier bytes)) (shown.Max bytes)
+
+-- * | item,..
 pub data ReadsList : Lexemes → SelectList → Type 0 where
   star : ReadsList (sign Star ∷ []) All
-  columns : {ts : Lexemes} {names : List Name} → Listed ReadsName ts names → ReadsList ts (Columns names)
+  listed : {ts : Lexemes} {xs : List (Item Name)} → Listed ReadsItem ts xs → ReadsList ts (Items xs)
 
--- a comparison of a column with a number of 0 to 2 ^ 64 - 1
-pub data ReadsTest : Lexemes → Condition Name → Type 0 where
-  equal : (column : Name) (n : ℕ) → n < 2 ^ 64
-      → ReadsTest (identifier column ∷ operator Eq ∷ number n ∷ []) (Compare Eq (Column column) (Literal (Int (pos n))))
+-- key = column [ASC | DESC]
+pub data ReadsKey : Lexemes → Key Name → Type 0 where
+  plain_key : (bytes : Name) → ReadsKey (identifier bytes ∷ []) (record { column = bytes; descending = false })
+  ascending_key : (bytes : Name) → ReadsKey (identifier bytes ∷ keyword K.Asc ∷ []) (record { column = bytes; descending = false })
+  descending_key : (bytes : Name) → ReadsKey (identifier bytes ∷ keyword K.Desc ∷ []) (record { column = bytes; descending = true })
 
--- WHERE test
-pub data ReadsWhere : Lexemes → Condition Name → Type 0 where
-  filter : {ts : Lexemes} {x : Condition Name} → ReadsTest ts x → ReadsWhere (keyword K.Where ∷ ts) x
+-- [words x,..], a list that is empty where the clause isn't there
+pub data Clause {A : Type 0} (words : Lexemes) (Item : Lexemes → A → Type 0) : Lexemes → List A → Type 0 where
+  without : Clause words Item [] []
+  clause : {ts : Lexemes} {xs : List A} → Listed Item ts xs → Clause words Item (words ++ ts) xs
 
--- SELECT list FROM name [WHERE test]
+abbrev pub ReadsGroup : Lexemes → List Name → Type 0
+ReadsGroup = Clause (keyword K.Group ∷ keyword K.By ∷ []) ReadsName
+
+abbrev pub ReadsOrder : Lexemes → List (Key Name) → Type 0
+ReadsOrder = Clause (keyword K.Order ∷ keyword K.By ∷ []) ReadsKey
+
+-- LIMIT count [OFFSET count], whose counts are less than 2 ^ 64. Without an OFFSET it is 0.
+pub data ReadsLimit : Lexemes → Limit → Type 0 where
+  limit : (n : ℕ) → n < 2 ^ 64 → ReadsLimit (keyword K.Limit ∷ number n ∷ []) (record { count = n; offset = 0 })
+  offset : (n m : ℕ) → n < 2 ^ 64 → m < 2 ^ 64
+      → ReadsLimit (keyword K.Limit ∷ number n ∷ keyword K.Offset ∷ number m ∷ []) (record { count = n; offset = m })
+
+-- column = literal
+pub data ReadsAssignment : Lexemes → Assignment Name → Type 0 where
+  assignment : (bytes : Name) {ts : Lexemes} {v : Value} → ReadsLiteral ts v
+      → ReadsAssignment (identifier bytes ∷ operator Eq ∷ ts) (record { column = bytes; value = v })
+
+-- identifier | string
+pub data ReadsCharacterSet : Lexemes → CharacterSet → Type 0 where
+  by_identifier : (bytes : List ℕ) → ReadsCharacterSet (identifier bytes ∷ []) (charset.Identifier bytes)
+  by_text : (bytes : List ℕ) → ReadsCharacterSet (text bytes ∷ []) (charset.Text bytes)
+
+-- ---- statements
+
+-- SELECT list FROM name [WHERE or] [GROUP BY column,..] [ORDER BY key,..] [LIMIT count [OFFSET count]]
 pub data ReadsSelect : Lexemes → S.Select → Type 0 where
-  select : {ts us : Lexemes} {list : SelectList} {table : Name} {filter : Option (Condition Name)}
-      → ReadsList ts list → Optional ReadsWhere us filter
-      → ReadsSelect (keyword K.Select ∷ ts ++ (keyword K.From ∷ identifier table ∷ us)) (record { list = list; table = table; filter = filter })
+  select : {list_tokens filter_tokens group_tokens order_tokens limit_tokens : Lexemes} {list : SelectList} {table : Name} {filter : Option (Condition Name)}
+      {group_by : List Name} {order_by : List (Key Name)} {limit : Option Limit}
+      → ReadsList list_tokens list → Optional ReadsWhere filter_tokens filter → ReadsGroup group_tokens group_by → ReadsOrder order_tokens order_by
+      → Optional ReadsLimit limit_tokens limit
+      → ReadsSelect
+      (keyword K.Select ∷ list_tokens
+      ++ (keyword K.From ∷ identifier table ∷ filter_tokens ++ (group_tokens ++ (order_tokens ++ limit_tokens))))
+      (record { list = list; table = table; filter = filter; group_by = group_by; order_by = order_by; limit = limit })
 
--- a text is one statement
+-- INSERT INTO name [(column,..)] VALUES (literal,..),..
+pub data ReadsInsert : Lexemes → I.Insert → Type 0 where
+  insert : {column_tokens row_tokens : Lexemes} {table : Name} {columns : Option (List Name)} {rows : List (List Value)}
+      → Optional (Bracketed ReadsName) column_tokens columns → Listed (Bracketed ReadsLiteral) row_tokens rows
+      → ReadsInsert (keyword K.Insert ∷ keyword K.Into ∷ identifier table ∷ column_tokens ++ (keyword K.Values ∷ row_tokens))
+      (record { table = table; columns = columns; rows = rows })
+
+-- UPDATE name SET column = literal,.. [WHERE or]
+pub data ReadsUpdate : Lexemes → U.Update → Type 0 where
+  update : {assignment_tokens filter_tokens : Lexemes} {table : Name} {assignments : List (Assignment Name)} {filter : Option (Condition Name)}
+      → Listed ReadsAssignment assignment_tokens assignments → Optional ReadsWhere filter_tokens filter
+      → ReadsUpdate (keyword K.Update ∷ identifier table ∷ keyword K.Set ∷ assignment_tokens ++ filter_tokens)
+      (record { table = table; assignments = assignments; filter = filter })
+
+-- DELETE FROM name [WHERE or]
+pub data ReadsDelete : Lexemes → D.Delete → Type 0 where
+  delete : {filter_tokens : Lexemes} {table : Name} {filter : Option (Condition Name)} → Optional ReadsWhere filter_tokens filter
+      → ReadsDelete (keyword K.Delete ∷ keyword K.From ∷ identifier table ∷ filter_tokens) (record { table = table; filter = filter })
+
+-- START TRANSACTION is a second spelling of BEGIN
+pub data ReadsStatement : Lexemes → Statement → Type 0 where
+  select_is : {ts : Lexemes} {s : S.Select} → ReadsSelect ts s → ReadsStatement ts (Select s)
+  insert_is : {ts : Lexemes} {s : I.Insert} → ReadsInsert ts s → ReadsStatement ts (Insert s)
+  update_is : {ts : Lexemes} {s : U.Update} → ReadsUpdate ts s → ReadsStatement ts (Update s)
+  delete_is : {ts : Lexemes} {s : D.Delete} → ReadsDelete ts s → ReadsStatement ts (Delete s)
+  begin : ReadsStatement (keyword K.Begin ∷ []) Begin
+  start_transaction : ReadsStatement (keyword K.Start ∷ keyword K.Transaction ∷ []) Begin
+  commit : ReadsStatement (keyword K.Commit ∷ []) Commit
+  rollback : ReadsStatement (keyword K.Rollback ∷ []) Rollback
+  set_names : {ts : Lexemes} {set : CharacterSet} → ReadsCharacterSet ts set → ReadsStatement (keyword K.Set ∷ keyword K.Names ∷ ts) (SetNames set)
+
+-- a statement, and at most one semicolon
 pub data ReadsText : Lexemes → Statement → Type 0 where
-  select : {ts : Lexemes} {s : S.Select} → ReadsSelect ts s → ReadsText ts (Select s)
+  statement : {ts : Lexemes} {s : Statement} → ReadsStatement ts s → ReadsText ts s
+  semicolon : {ts : Lexemes} {s : Statement} → ReadsStatement ts s → ReadsText (ts ++ sign Semicolon ∷ []) s
 
--- the tokens of the text stand for this statement
+-- the tokens of the text stand for this statement, which has no more literals than it may
 abbrev pub Reads : List ℕ → Statement → Type 0
-Reads text s = (tokens : List Token) × Lexes text tokens × ReadsText (lexemes_of text tokens) s
+Reads bytes s = (tokens : List Token) × Lexes bytes tokens × ReadsText (lexemes_of bytes tokens) s × (literals_of s ≤ max_literals)

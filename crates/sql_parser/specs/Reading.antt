@@ -1,20 +1,33 @@
 -- Reading statements from left to right. No public clause cites this file: the code is shown to be as it says, and it to agree with the grammar.
-use Rattle.std.specs.Prelude.{ℕ, zero, suc, ◌^◌, nat_lt, Bool, true, false, List, [], ◌∷◌, ◌++◌, length, slice_range, Option, Some, None, pos, if◌then◌else◌}
-use Rattle.vt_value.specs.declared.value.Value.TheVariants.{Int}
+use Rattle.std.specs.Prelude.{ℕ, zero, suc, ◌^◌, ◌&&◌, nat_lt, nat_le, Bool, true, false, List, [], ◌∷◌, ◌++◌, length, slice_range, Option, Some, None, is_some, pos, neg_ℤ, if◌then◌else◌}
+use Rattle.vt_value.specs.declared.value.Value.{Value}
+use Rattle.vt_value.specs.declared.value.Value.TheVariants.{Null, Int, Bytes}
 use Rattle.vt_value.specs.declared.value.Comparison.TheVariants.{Eq}
 use Rattle.sql_lexer.specs.declared.token.Token.{Token}
 use Rattle.sql_lexer.specs.declared.token.Keyword.TheVariants as k
-use Rattle.sql_lexer.specs.declared.token.Sign.TheVariants.{Star, Comma}
-use Rattle.sql_lexer.specs.Lexemes.{Lexeme, keyword, identifier, number, sign, operator, said_by}
+use Rattle.sql_lexer.specs.declared.token.Sign.TheVariants.{LeftParenthesis, RightParenthesis, Star, Comma, Semicolon, Minus}
+use Rattle.sql_lexer.specs.Lexemes.{Lexeme, keyword, identifier, number, text, sign, operator, said_by}
 use Rattle.sql_lexer.specs.Results.{◌>>=◌}
+use Rattle.sql_tree.specs.declared.Operand.{Operand}
 use Rattle.sql_tree.specs.declared.Operand.TheVariants.{Column, Literal}
-use Rattle.sql_tree.specs.declared.Condition.{Condition, Compare}
+use Rattle.sql_tree.specs.declared.Condition.{Condition, Compare, In, IsNull, Not, And, Or}
+use Rattle.sql_tree.specs.declared.Item.{Item}
+use Rattle.sql_tree.specs.declared.Item.TheVariants as shown
 use Rattle.sql_tree.specs.declared.SelectList.{SelectList}
-use Rattle.sql_tree.specs.declared.SelectList.TheVariants.{All, Columns}
+use Rattle.sql_tree.specs.declared.SelectList.TheVariants.{All, Items}
+use Rattle.sql_tree.specs.declared.Key.{Key}
+use Rattle.sql_tree.specs.declared.Limit.{Limit}
+use Rattle.sql_tree.specs.declared.Assignment.{Assignment}
+use Rattle.sql_tree.specs.declared.CharacterSet.{CharacterSet}
+use Rattle.sql_tree.specs.declared.CharacterSet.TheVariants as charset
 use Rattle.sql_tree.specs.declared.Select as S
+use Rattle.sql_tree.specs.declared.Insert as I
+use Rattle.sql_tree.specs.declared.Update as U
+use Rattle.sql_tree.specs.declared.Delete as D
 use Rattle.sql_tree.specs.declared.Statement.{Statement}
-use Rattle.sql_tree.specs.declared.Statement.TheVariants.{Select}
-use Rattle.sql_parser.specs.Grammar.{Name, Lexemes}
+use Rattle.sql_tree.specs.declared.Statement.TheVariants.{Select, Insert, Update, Delete, Begin, Commit, Rollback, SetNames}
+use Rattle.sql_tree.specs.Literals.{Name, literals_of}
+use Rattle.sql_parser.specs.Grammar.{Lexemes, max_depth, max_literals}
 
 -- what is read at the front, and what stands behind it
 abbrev pub Read : Type 0 → Type 0
@@ -22,11 +35,19 @@ Read A = Option (A × Lexemes)
 
 -- what a token of the text says
 abbrev pub said : List ℕ → Token → Lexeme
-said text t = said_by t.kind (slice_range text t.start t.end)
+said bytes t = said_by t.kind (slice_range bytes t.start t.end)
 
 abbrev pub is_comma : Lexeme → Bool
 is_comma (sign Comma) = true
 is_comma _ = false
+
+abbrev pub is_and : Lexeme → Bool
+is_and (keyword k.And) = true
+is_and _ = false
+
+abbrev pub is_or : Lexeme → Bool
+is_or (keyword k.Or) = true
+is_or _ = false
 
 -- what stands behind a token, where that stands there
 abbrev pub after_at : (Lexeme → Bool) → Lexemes → Option Lexemes
@@ -70,43 +91,242 @@ unfoldable pub number_at : Lexemes → Read ℕ
 number_at [] = None
 number_at (t ∷ rest) = number_of t >>= λ n. Some (n, rest)
 
+-- ---- literals
+
+unfoldable pub close_at : Lexemes → Option Lexemes
+close_at (sign RightParenthesis ∷ rest) = Some rest
+close_at _ = None
+
+unfoldable pub open_at : Lexemes → Option Lexemes
+open_at (sign LeftParenthesis ∷ rest) = Some rest
+open_at _ = None
+
+unfoldable pub natural_at : Lexemes → Read Value
+natural_at ts = number_at ts >>= λ n. Some (Int (pos n.0), n.1)
+
+-- behind the minus
+unfoldable pub negative_at : Lexemes → Read Value
+negative_at ts = number_at ts >>= λ n. if nat_le n.0 (2 ^ 63) then Some (Int (neg_ℤ (pos n.0)), n.1) else None
+
+unfoldable pub literal_at : Lexemes → Read Value
+literal_at (keyword k.Null ∷ rest) = Some (Null, rest)
+literal_at (sign Minus ∷ rest) = negative_at rest
+literal_at (text bytes ∷ rest) = Some (Bytes bytes, rest)
+literal_at ts = natural_at ts
+
+unfoldable pub operand_at : Lexemes → Read (Operand Name)
+operand_at [] = None
+operand_at (identifier bytes ∷ rest) = Some (Column bytes, rest)
+operand_at ts = literal_at ts >>= λ v. Some (Literal v.0, v.1)
+
+-- (x,..)
+unfoldable pub bracketed_at : {A : Type 0} → (Lexemes → Read A) → Lexemes → Read (List A)
+bracketed_at item ts = do
+  inside ← open_at ts
+  xs ← listed_at item inside
+  rest ← close_at xs.1
+  Some (xs.0, rest)
+
+abbrev pub members_at : Lexemes → Read (List Value)
+members_at = bracketed_at literal_at
+
+-- ---- conditions
+
+unfoldable pub in_at : Operand Name → Lexemes → Read (Condition Name)
+in_at left (keyword k.In ∷ rest) = members_at rest >>= λ members. Some (In left members.0, members.1)
+in_at left _ = None
+
+unfoldable pub null_at : Operand Name → Lexemes → Read (Condition Name)
+null_at left (keyword k.Null ∷ rest) = Some (IsNull left, rest)
+null_at left _ = None
+
+-- behind an IS, with a NOT only where one may stand
+unfoldable pub is_at : Bool → Operand Name → Lexemes → Read (Condition Name)
+is_at true left (keyword k.Not ∷ rest) = null_at left rest >>= λ x. Some (Not x.0, x.1)
+is_at may left ts = null_at left ts
+
+-- what stands behind an operand, with a NOT only where one may stand
+unfoldable pub test_at : Bool → Operand Name → Lexemes → Read (Condition Name)
+test_at may left (operator op ∷ rest) = operand_at rest >>= λ right. Some (Compare op left right.0, right.1)
+test_at may left (keyword k.Is ∷ rest) = is_at may left rest
+test_at true left (keyword k.Not ∷ rest) = in_at left rest >>= λ x. Some (Not x.0, x.1)
+test_at may left ts = in_at left ts
+
+unfoldable pub predicate_at : Bool → Lexemes → Read (Condition Name)
+predicate_at may ts = operand_at ts >>= λ x. test_at may x.0 x.1
+
+unfoldable pub joined_at : (Lexeme → Bool) → (List (Condition Name) → Condition Name) → (Lexemes → Read (Condition Name)) → Lexemes → Read (Condition Name)
+joined_at sep node item ts = do
+  x ← item ts
+  if is_some (after_at sep x.1) then (all_follow sep item (x.0 ∷ []) x.1 >>= λ xs. Some (node xs.0, xs.1)) else Some x
+
+abbrev pub or_of : (Lexemes → Read (Condition Name)) → Lexemes → Read (Condition Name)
+or_of negation = joined_at is_or Or (joined_at is_and And negation)
+
+-- where a NOT or a parenthesis may stand, behind which deeper reads
+unfoldable pub negation_at : (Lexemes → Read (Condition Name)) → Lexemes → Read (Condition Name)
+negation_at deeper (keyword k.Not ∷ rest) = deeper rest >>= λ x. Some (Not x.0, x.1)
+negation_at deeper (sign LeftParenthesis ∷ rest) = or_of deeper rest >>= λ x. close_at x.1 >>= λ rest. Some (x.0, rest)
+negation_at deeper ts = predicate_at true ts
+
+unfoldable pub not_at : ℕ → Lexemes → Read (Condition Name)
+not_at zero = predicate_at false
+not_at (suc depth) = negation_at (not_at depth)
+
+abbrev pub and_at : ℕ → Lexemes → Read (Condition Name)
+and_at depth = joined_at is_and And (not_at depth)
+
+abbrev pub or_at : ℕ → Lexemes → Read (Condition Name)
+or_at depth = or_of (not_at depth)
+
+-- ---- the parts of statements
+
+-- (column)
+unfoldable pub argument_at : Lexemes → Read Name
+argument_at ts = do
+  inside ← open_at ts
+  column ← name_at inside
+  rest ← close_at column.1
+  Some (column.0, rest)
+
+-- behind COUNT
+unfoldable pub count_at : Lexemes → Read (Item Name)
+count_at (sign LeftParenthesis ∷ sign Star ∷ sign RightParenthesis ∷ rest) = Some (shown.CountRows, rest)
+count_at ts = argument_at ts >>= λ column. Some (shown.Count column.0, column.1)
+
+unfoldable pub item_at : Lexemes → Read (Item Name)
+item_at (keyword k.Count ∷ rest) = count_at rest
+item_at (keyword k.Sum ∷ rest) = argument_at rest >>= λ column. Some (shown.Sum column.0, column.1)
+item_at (keyword k.Min ∷ rest) = argument_at rest >>= λ column. Some (shown.Min column.0, column.1)
+item_at (keyword k.Max ∷ rest) = argument_at rest >>= λ column. Some (shown.Max column.0, column.1)
+item_at ts = name_at ts >>= λ column. Some (shown.Column column.0, column.1)
+
 unfoldable pub list_at : Lexemes → Read SelectList
 list_at (sign Star ∷ rest) = Some (All, rest)
-list_at ts = listed_at name_at ts >>= λ names. Some (Columns names.0, names.1)
+list_at ts = listed_at item_at ts >>= λ items. Some (Items items.0, items.1)
 
 unfoldable pub from_at : Lexemes → Read Name
 from_at (keyword k.From ∷ rest) = name_at rest
 from_at _ = None
 
+unfoldable pub where_at : Lexemes → Read (Option (Condition Name))
+where_at (keyword k.Where ∷ rest) = or_at max_depth rest >>= λ x. Some (Some x.0, x.1)
+where_at ts = Some (None, ts)
+
+unfoldable pub group_at : Lexemes → Read (List Name)
+group_at (keyword k.Group ∷ keyword k.By ∷ rest) = listed_at name_at rest
+group_at ts = Some ([], ts)
+
+-- whether a key is descending
+unfoldable pub direction_at : Lexemes → Bool × Lexemes
+direction_at (keyword k.Asc ∷ rest) = (false, rest)
+direction_at (keyword k.Desc ∷ rest) = (true, rest)
+direction_at ts = (false, ts)
+
+unfoldable pub key_at : Lexemes → Read (Key Name)
+key_at ts = name_at ts >>= λ column. Some (record { column = column.0; descending = (direction_at column.1).0 }, (direction_at column.1).1)
+
+unfoldable pub order_at : Lexemes → Read (List (Key Name))
+order_at (keyword k.Order ∷ keyword k.By ∷ rest) = listed_at key_at rest
+order_at ts = Some ([], ts)
+
+unfoldable pub offset_at : Lexemes → Read ℕ
+offset_at (keyword k.Offset ∷ rest) = number_at rest
+offset_at ts = Some (0, ts)
+
+unfoldable pub limit_at : Lexemes → Read (Option Limit)
+limit_at (keyword k.Limit ∷ rest) = do
+  count ← number_at rest
+  offset ← offset_at count.1
+  Some (Some (record { count = count.0; offset = offset.0 }), offset.1)
+limit_at ts = Some (None, ts)
+
+-- [(column,..)]
+unfoldable pub columns_at : Lexemes → Read (Option (List Name))
+columns_at (sign LeftParenthesis ∷ rest) = bracketed_at name_at (sign LeftParenthesis ∷ rest) >>= λ names. Some (Some names.0, names.1)
+columns_at ts = Some (None, ts)
+
+unfoldable pub values_at : Lexemes → Option Lexemes
+values_at (keyword k.Values ∷ rest) = Some rest
+values_at _ = None
+
+unfoldable pub set_at : Lexemes → Option Lexemes
+set_at (keyword k.Set ∷ rest) = Some rest
+set_at _ = None
+
 unfoldable pub equals_at : Lexemes → Option Lexemes
 equals_at (operator Eq ∷ rest) = Some rest
 equals_at _ = None
 
-unfoldable pub test_at : Lexemes → Read (Condition Name)
-test_at ts = do
+unfoldable pub assignment_at : Lexemes → Read (Assignment Name)
+assignment_at ts = do
   column ← name_at ts
   rest ← equals_at column.1
-  n ← number_at rest
-  Some (Compare Eq (Column column.0) (Literal (Int (pos n.0))), n.1)
+  value ← literal_at rest
+  Some (record { column = column.0; value = value.0 }, value.1)
 
-unfoldable pub where_at : Lexemes → Read (Option (Condition Name))
-where_at (keyword k.Where ∷ rest) = test_at rest >>= λ x. Some (Some x.0, x.1)
-where_at ts = Some (None, ts)
+-- ---- statements, each behind its first words
 
 unfoldable pub select_at : Lexemes → Read S.Select
-select_at (keyword k.Select ∷ rest) = do
-  list ← list_at rest
+select_at ts = do
+  list ← list_at ts
   table ← from_at list.1
   filter ← where_at table.1
-  Some (record { list = list.0; table = table.0; filter = filter.0 }, filter.1)
-select_at _ = None
+  group_by ← group_at filter.1
+  order_by ← order_at group_by.1
+  limit ← limit_at order_by.1
+  Some (record { list = list.0; table = table.0; filter = filter.0; group_by = group_by.0; order_by = order_by.0; limit = limit.0 }, limit.1)
+
+unfoldable pub insert_at : Lexemes → Read I.Insert
+insert_at ts = do
+  table ← name_at ts
+  columns ← columns_at table.1
+  values ← values_at columns.1
+  rows ← listed_at members_at values
+  Some (record { table = table.0; columns = columns.0; rows = rows.0 }, rows.1)
+
+unfoldable pub update_at : Lexemes → Read U.Update
+update_at ts = do
+  table ← name_at ts
+  rest ← set_at table.1
+  assignments ← listed_at assignment_at rest
+  filter ← where_at assignments.1
+  Some (record { table = table.0; assignments = assignments.0; filter = filter.0 }, filter.1)
+
+unfoldable pub delete_at : Lexemes → Read D.Delete
+delete_at ts = do
+  table ← from_at ts
+  filter ← where_at table.1
+  Some (record { table = table.0; filter = filter.0 }, filter.1)
+
+unfoldable pub charset_at : Lexemes → Read CharacterSet
+charset_at (identifier bytes ∷ rest) = Some (charset.Identifier bytes, rest)
+charset_at (text bytes ∷ rest) = Some (charset.Text bytes, rest)
+charset_at _ = None
+
+-- a statement of sessions and transactions
+unfoldable pub control_at : Lexemes → Read Statement
+control_at (keyword k.Begin ∷ rest) = Some (Begin, rest)
+control_at (keyword k.Start ∷ keyword k.Transaction ∷ rest) = Some (Begin, rest)
+control_at (keyword k.Commit ∷ rest) = Some (Commit, rest)
+control_at (keyword k.Rollback ∷ rest) = Some (Rollback, rest)
+control_at (keyword k.Set ∷ keyword k.Names ∷ rest) = charset_at rest >>= λ set. Some (SetNames set.0, set.1)
+control_at _ = None
 
 unfoldable pub statement_at : Lexemes → Read Statement
-statement_at ts = select_at ts >>= λ x. Some (Select x.0, x.1)
+statement_at (keyword k.Select ∷ rest) = select_at rest >>= λ x. Some (Select x.0, x.1)
+statement_at (keyword k.Insert ∷ keyword k.Into ∷ rest) = insert_at rest >>= λ x. Some (Insert x.0, x.1)
+statement_at (keyword k.Update ∷ rest) = update_at rest >>= λ x. Some (Update x.0, x.1)
+statement_at (keyword k.Delete ∷ rest) = delete_at rest >>= λ x. Some (Delete x.0, x.1)
+statement_at ts = control_at ts
 
 abbrev pub is_end : Lexemes → Bool
 is_end [] = true
-is_end (t ∷ ts) = false
+is_end (sign Semicolon ∷ []) = true
+is_end _ = false
+
+abbrev pub is_text : Statement × Lexemes → Bool
+is_text x = is_end x.1 && nat_le (literals_of x.0) max_literals
 
 unfoldable pub text_at : Lexemes → Option Statement
-text_at ts = statement_at ts >>= λ x. if is_end x.1 then Some x.0 else None
+text_at ts = statement_at ts >>= λ x. if is_text x then Some x.0 else None

@@ -1,153 +1,26 @@
-ghost use Rattle.std.specs.Prelude.{◌≡◌, ◌⊎◌, ℕ, IfOk, IfErr, MatchResult, List, option_map};
-ghost use Rattle.std.specs.Option.{option_copied};
+ghost use Rattle.std.specs.Prelude.{◌≡◌, ◌⊎◌, ℕ, IfOk, IfErr, MatchResult, List};
 ghost use Rattle.sql_lexer.specs.Lexemes.{lexemes_of};
 ghost use Rattle.sql_lexer.specs.Results.{Gives};
 ghost use Rattle.sql_tree.specs.declared.Statement.{Statement};
+ghost use Rattle.sql_tree.specs.Printing.{printed};
 ghost use Rattle.sql_parser.specs.Grammar.{Reads};
-ghost use Rattle.sql_parser.specs.Reading.{is_comma, after_at, listed_at, name_at, number_at, list_at};
-ghost use Rattle.sql_parser.specs.Reading.{from_at, equals_at, test_at, where_at, select_at, statement_at, text_at};
+ghost use Rattle.sql_parser.specs.Reading.{select_at, charset_at, control_at, statement_at, is_end, is_text, text_at};
 
-use crate::kinds::{COMMA, EQUAL, FROM, SELECT, STAR, WHERE};
+use crate::clauses::{filter, from, group, limit, order};
+use crate::counting::has_few_literals;
+use crate::items::list;
+use crate::kinds::{
+    BEGIN, COMMIT, DELETE, INSERT, INTO, NAMES, ROLLBACK, SELECT, SEMICOLON, SET, START,
+    TRANSACTION, UPDATE,
+};
 use crate::said;
-use sql_lexer::{Token, lex};
-use sql_tree::{Condition, Name, Operand, Select, SelectList, Statement};
+use crate::writes::{delete, insert, update};
+use sql_lexer::{Token, TokenKind, lex};
+use sql_tree::{CharacterSet, Select, Statement};
 use std::alloc::Global;
-use vt_value::{Comparison, Items, Refusal, Value};
+use vt_value::{Items, Refusal};
 
-fn after_comma(tokens: &[Token]) -> Option<&[Token]>
-    ensures { (text : List ℕ)
-        → option_map (lexemes_of text) (option_copied result) ≡ after_at is_comma (lexemes_of text tokens.now) }
-{
-    match tokens {
-        [Token { kind: COMMA, .. }, rest @ ..] => Some(rest),
-        _ => None,
-    }
-}
-
-#[tactic(auto, unfolding(crate::specs::Reading::equals_at))]
-fn equals(tokens: &[Token]) -> Result<&[Token], Refusal>
-    ensures { (text : List ℕ)
-        → Gives (λ rest. lexemes_of text rest.now) result (equals_at (lexemes_of text tokens.now)) }
-{
-    match tokens {
-        [Token { kind: EQUAL, .. }, rest @ ..] => Ok(rest),
-        _ => Err(Refusal::SyntaxError),
-    }
-}
-
-#[tactic(auto, unfolding(crate::specs::Reading::name_at))]
-fn name<'s>(alloc: Global, text: &[u8], tokens: &'s [Token]) -> Result<(Name, &'s [Token]), Refusal>
-    ensures { Gives (λ x. (x.0, lexemes_of text.now x.1.now)) result (name_at (lexemes_of text.now tokens.now)) }
-{
-    let [first, rest @ ..] = tokens else {
-        return Err(Refusal::SyntaxError);
-    };
-    let Some(bytes) = said::identifier(text, first) else {
-        return Err(Refusal::SyntaxError);
-    };
-    Ok((Items::from_slice(alloc, bytes)?, rest))
-}
-
-#[tactic(auto, unfolding(crate::specs::Reading::number_at))]
-fn number<'s>(text: &[u8], tokens: &'s [Token]) -> Result<(u64, &'s [Token]), Refusal>
-    ensures { Gives (λ x. (x.0, lexemes_of text.now x.1.now)) result (number_at (lexemes_of text.now tokens.now)) }
-{
-    let [first, rest @ ..] = tokens else {
-        return Err(Refusal::SyntaxError);
-    };
-    let Some(value) = said::number(text, first) else {
-        return Err(Refusal::SyntaxError);
-    };
-    Ok((value, rest))
-}
-
-/// name,..
-fn names<'s>(
-    alloc: Global,
-    text: &[u8],
-    tokens: &'s [Token],
-) -> Result<(Items<Name>, &'s [Token]), Refusal>
-    ensures { Gives (λ x. (x.0, lexemes_of text.now x.1.now)) result
-        (listed_at name_at (lexemes_of text.now tokens.now)) }
-{
-    let (first, mut rest) = name(alloc, text, tokens)?;
-    let mut names = Items::new(alloc);
-    names.push(first)?;
-    while let Some(after) = after_comma(rest) {
-        let (next, after) = name(alloc, text, after)?;
-        names.push(next)?;
-        rest = after;
-    }
-    Ok((names, rest))
-}
-
-/// list = * | column,..
-#[tactic(auto, unfolding(crate::specs::Reading::list_at))]
-fn list<'s>(
-    alloc: Global,
-    text: &[u8],
-    tokens: &'s [Token],
-) -> Result<(SelectList, &'s [Token]), Refusal>
-    ensures { Gives (λ x. (x.0, lexemes_of text.now x.1.now)) result (list_at (lexemes_of text.now tokens.now)) }
-{
-    match tokens {
-        [Token { kind: STAR, .. }, rest @ ..] => Ok((SelectList::All, rest)),
-        _ => {
-            let (names, rest) = names(alloc, text, tokens)?;
-            Ok((SelectList::Columns(names), rest))
-        }
-    }
-}
-
-/// FROM name
-#[tactic(auto, unfolding(crate::specs::Reading::from_at))]
-fn from<'s>(alloc: Global, text: &[u8], tokens: &'s [Token]) -> Result<(Name, &'s [Token]), Refusal>
-    ensures { Gives (λ x. (x.0, lexemes_of text.now x.1.now)) result (from_at (lexemes_of text.now tokens.now)) }
-{
-    match tokens {
-        [Token { kind: FROM, .. }, rest @ ..] => name(alloc, text, rest),
-        _ => Err(Refusal::SyntaxError),
-    }
-}
-
-/// test = column = number
-#[tactic(auto, unfolding(crate::specs::Reading::test_at))]
-fn test<'s>(
-    alloc: Global,
-    text: &[u8],
-    tokens: &'s [Token],
-) -> Result<(Condition<Name>, &'s [Token]), Refusal>
-    ensures { Gives (λ x. (x.0, lexemes_of text.now x.1.now)) result (test_at (lexemes_of text.now tokens.now)) }
-{
-    let (column, rest) = name(alloc, text, tokens)?;
-    let rest = equals(rest)?;
-    let (value, rest) = number(text, rest)?;
-    let literal = Operand::Literal(Value::Int(i128::from(value)));
-    Ok((
-        Condition::Compare(Comparison::Eq, Operand::Column(column), literal),
-        rest,
-    ))
-}
-
-/// [WHERE test]
-#[tactic(auto, unfolding(crate::specs::Reading::where_at))]
-fn filter<'s>(
-    alloc: Global,
-    text: &[u8],
-    tokens: &'s [Token],
-) -> Result<(Option<Condition<Name>>, &'s [Token]), Refusal>
-    ensures { Gives (λ x. (x.0, lexemes_of text.now x.1.now)) result (where_at (lexemes_of text.now tokens.now)) }
-{
-    match tokens {
-        [Token { kind: WHERE, .. }, rest @ ..] => {
-            let (condition, rest) = test(alloc, text, rest)?;
-            Ok((Some(condition), rest))
-        }
-        _ => Ok((None, tokens)),
-    }
-}
-
-/// SELECT list FROM name [WHERE test]
+/// list FROM name and the clauses behind it, behind SELECT.
 #[tactic(auto, unfolding(crate::specs::Reading::select_at))]
 fn select<'s>(
     alloc: Global,
@@ -156,37 +29,156 @@ fn select<'s>(
 ) -> Result<(Select, &'s [Token]), Refusal>
     ensures { Gives (λ x. (x.0, lexemes_of text.now x.1.now)) result (select_at (lexemes_of text.now tokens.now)) }
 {
+    let (list, rest) = list(alloc, text, tokens)?;
+    let (table, rest) = from(alloc, text, rest)?;
+    let (filter, rest) = filter(alloc, text, rest)?;
+    let (group_by, rest) = group(alloc, text, rest)?;
+    let (order_by, rest) = order(alloc, text, rest)?;
+    let (limit, rest) = limit(text, rest)?;
+    let select = Select {
+        list,
+        table,
+        filter,
+        group_by,
+        order_by,
+        limit,
+    };
+    Ok((select, rest))
+}
+
+/// identifier | string
+#[tactic(auto, unfolding(crate::specs::Reading::charset_at))]
+fn character_set<'s>(
+    alloc: Global,
+    text: &[u8],
+    tokens: &'s [Token],
+) -> Result<(CharacterSet, &'s [Token]), Refusal>
+    ensures { Gives (λ x. (x.0, lexemes_of text.now x.1.now)) result (charset_at (lexemes_of text.now tokens.now)) }
+{
     match tokens {
-        [Token { kind: SELECT, .. }, rest @ ..] => {
-            let (list, rest) = list(alloc, text, rest)?;
-            let (table, rest) = from(alloc, text, rest)?;
-            let (filter, rest) = filter(alloc, text, rest)?;
-            Ok((
-                Select {
-                    list,
-                    table,
-                    filter,
-                },
-                rest,
-            ))
+        [
+            first @ Token {
+                kind: TokenKind::Text,
+                ..
+            },
+            rest @ ..,
+        ] => { Ok((CharacterSet::Text(said::string(alloc, text, first)?), rest)) }
+        [first, rest @ ..] => {
+            let Some(bytes) = said::identifier(text, first) else {
+                return Err(Refusal::SyntaxError);
+            };
+            let name = Items::from_slice(alloc, bytes)?;
+            Ok((CharacterSet::Identifier(name), rest))
+        }
+        [] => Err(Refusal::SyntaxError),
+    }
+}
+
+/// BEGIN | START TRANSACTION | COMMIT | ROLLBACK | SET NAMES (identifier | string)
+#[tactic(auto, unfolding(crate::specs::Reading::control_at))]
+fn control<'s>(
+    alloc: Global,
+    text: &[u8],
+    tokens: &'s [Token],
+) -> Result<(Statement, &'s [Token]), Refusal>
+    ensures { Gives (λ x. (x.0, lexemes_of text.now x.1.now)) result (control_at (lexemes_of text.now tokens.now)) }
+{
+    match tokens {
+        [Token { kind: BEGIN, .. }, rest @ ..] => Ok((Statement::Begin, rest)),
+        [
+            Token { kind: START, .. },
+            Token {
+                kind: TRANSACTION,
+                ..
+            },
+            rest @ ..,
+        ] => { Ok((Statement::Begin, rest)) }
+        [Token { kind: COMMIT, .. }, rest @ ..] => Ok((Statement::Commit, rest)),
+        [Token { kind: ROLLBACK, .. }, rest @ ..] => Ok((Statement::Rollback, rest)),
+        [
+            Token { kind: SET, .. },
+            Token { kind: NAMES, .. },
+            rest @ ..,
+        ] => {
+            let (set, rest) = character_set(alloc, text, rest)?;
+            Ok((Statement::SetNames(set), rest))
         }
         _ => Err(Refusal::SyntaxError),
     }
 }
 
-/// The statement that all of the tokens are.
-#[tactic(auto, unfolding(crate::specs::Reading::text_at, crate::specs::Reading::statement_at))]
-fn statement(alloc: Global, text: &[u8], tokens: &[Token]) -> Result<Statement, Refusal>
-    ensures { Gives (λ x. x) result (text_at (lexemes_of text.now tokens.now)) }
+/// statement = select | insert | update | delete | one of sessions and transactions
+#[tactic(auto, unfolding(crate::specs::Reading::statement_at))]
+fn statement<'s>(
+    alloc: Global,
+    text: &[u8],
+    tokens: &'s [Token],
+) -> Result<(Statement, &'s [Token]), Refusal>
+    ensures { Gives (λ x. (x.0, lexemes_of text.now x.1.now)) result (statement_at (lexemes_of text.now tokens.now)) }
 {
-    let (select, rest) = select(alloc, text, tokens)?;
-    if !rest.is_empty() {
-        return Err(Refusal::SyntaxError);
+    match tokens {
+        [Token { kind: SELECT, .. }, rest @ ..] => {
+            let (select, rest) = select(alloc, text, rest)?;
+            Ok((Statement::Select(select), rest))
+        }
+        [
+            Token { kind: INSERT, .. },
+            Token { kind: INTO, .. },
+            rest @ ..,
+        ] => {
+            let (insert, rest) = insert(alloc, text, rest)?;
+            Ok((Statement::Insert(insert), rest))
+        }
+        [Token { kind: UPDATE, .. }, rest @ ..] => {
+            let (update, rest) = update(alloc, text, rest)?;
+            Ok((Statement::Update(update), rest))
+        }
+        [Token { kind: DELETE, .. }, rest @ ..] => {
+            let (delete, rest) = delete(alloc, text, rest)?;
+            Ok((Statement::Delete(delete), rest))
+        }
+        _ => control(alloc, text, tokens),
     }
-    Ok(Statement::Select(select))
 }
 
-/// The tree of a text, which is one statement of the grammar. Any other text is a syntax error.
+/// Whether nothing is left but one semicolon at most.
+fn is_end(tokens: &[Token]) -> bool
+    ensures { (text : List ℕ) → result ≡ is_end (lexemes_of text tokens.now) }
+{
+    match tokens {
+        [] => true,
+        [
+            Token {
+                kind: SEMICOLON,
+                ..
+            },
+        ] => true,
+        _ => false,
+    }
+}
+
+/// Whether a statement with this behind it is a whole text, and within the limit on literals.
+fn is_text(statement: &Statement, rest: &[Token]) -> bool
+    ensures { (text : List ℕ) → result ≡ is_text (statement.now, lexemes_of text rest.now) }
+{
+    is_end(rest) && has_few_literals(statement)
+}
+
+/// The statement that all of the tokens are.
+#[tactic(auto, unfolding(crate::specs::Reading::text_at))]
+fn whole(alloc: Global, text: &[u8], tokens: &[Token]) -> Result<Statement, Refusal>
+    ensures { Gives (λ x. x) result (text_at (lexemes_of text.now tokens.now)) }
+{
+    let (statement, rest) = statement(alloc, text, tokens)?;
+    if !is_text(&statement, rest) {
+        return Err(Refusal::SyntaxError);
+    }
+    Ok(statement)
+}
+
+/// The tree of a text, which is one statement of the grammar with at most one semicolon behind it. Any other text is a
+/// syntax error, and so is one that passes a limit: 64 open parentheses and NOTs on one path of a condition, 4096
+/// literals, numbers from -2^63 to 2^64 - 1.
 pub fn parse(alloc: Global, text: &[u8]) -> Result<Statement, Refusal>
     // What is given is the text's tree.
     ensures found { IfOk result (λ tree. Reads text.now tree) }
@@ -196,10 +188,15 @@ pub fn parse(alloc: Global, text: &[u8]) -> Result<Statement, Refusal>
     ensures err { IfErr result (λ e. (e ≡ Refusal.OutOfMemory) ⊎ (e ≡ Refusal.SyntaxError)) }
 {
     let tokens = lex(alloc, text)?;
-    statement(alloc, text, &tokens)
+    whole(alloc, text, &tokens)
 }
 
 /// A text has one tree at most.
 pub fn one_tree()
     ensures { (text : List ℕ) (x y : Statement) → Reads text x → Reads text y → x ≡ y }
+{}
+
+/// The printed form of a text's tree is a text of that tree.
+pub fn print_reads()
+    ensures { (text : List ℕ) (tree : Statement) → Reads text tree → Reads (printed tree) tree }
 {}

@@ -1,10 +1,13 @@
 //! What tokens say.
-ghost use Rattle.std.specs.Prelude.{◌≡◌, ◌+◌, ◌-◌, ◌*◌, slice_range};
+ghost use Rattle.std.specs.Prelude.{◌≡◌, ◌+◌, ◌-◌, ◌*◌, slice_range, IfOk, IfErr};
 ghost use Rattle.std.specs.Option.{option_copied};
-ghost use Rattle.sql_lexer.specs.Lexemes.{digits_onto, inner};
+ghost use Rattle.sql_lexer.specs.Lexemes.{digits_onto, inner, unescaped};
 ghost use Rattle.sql_parser.specs.Reading.{said, identifier_of, number_of, fitting};
 
+use crate::unescaping::unescaped;
 use sql_lexer::{Token, TokenKind};
+use std::alloc::Global;
+use vt_value::{Items, Refusal};
 
 /// The bytes of a token, as far as the text has them.
 fn bytes_of<'s>(text: &'s [u8], token: &Token) -> &'s [u8]
@@ -63,4 +66,12 @@ pub fn number(text: &[u8], token: &Token) -> Option<u64>
         TokenKind::Number => value_of(bytes_of(text, token)),
         _ => None,
     }
+}
+
+/// What a text token says.
+pub fn string(alloc: Global, text: &[u8], token: &Token) -> Result<Items<u8>, Refusal>
+    ensures ok { IfOk result (λ said. said ≡ unescaped (inner (slice_range text.now token.now.start token.now.end))) }
+    ensures err { IfErr result (λ e. e ≡ Refusal.OutOfMemory) }
+{
+    unescaped(alloc, inner(bytes_of(text, token)))
 }

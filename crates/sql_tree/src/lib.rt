@@ -1,6 +1,14 @@
 //! Trees of SQL statements.
 #![tactic(auto)]
 
+mod conditions;
+mod lists;
+mod literals;
+mod printing;
+#[cfg(test)]
+mod tests;
+
+pub use printing::{print, print_item};
 use vt_value::{Boxed, Comparison, Items, Value};
 
 /// The name of a table or a column, byte by byte as it was written.
@@ -13,8 +21,8 @@ pub enum Operand<C> {
     Literal(Value),
 }
 
-/// A condition over columns, as `C` says them: by name in a parsed tree, by place once it is resolved. `And` and `Or`
-/// have two or more members.
+/// A condition over columns, as `C` says them: by name in a parsed tree, by place once it is resolved. `And` and
+/// `Or` have two or more members.
 #[derive(Drop)]
 pub enum Condition<C> {
     Compare(Comparison, Operand<C>, Operand<C>),
@@ -25,18 +33,47 @@ pub enum Condition<C> {
     Or(Items<Condition<C>>),
 }
 
-/// What a SELECT shows: `*`, or columns by name.
+/// What a select list shows in one column.
+#[derive(Debug, Drop)]
+pub enum Item<C> {
+    Column(C),
+    CountRows,
+    Count(C),
+    Sum(C),
+    Min(C),
+    Max(C),
+}
+
+/// What a SELECT shows: `*`, or items, one or more.
 #[derive(Debug, Drop)]
 pub enum SelectList {
     All,
-    Columns(Items<Name>),
+    Items(Items<Item<Name>>),
 }
 
+/// A column to order by.
+#[derive(Debug, Drop)]
+pub struct Key<C> {
+    pub column: C,
+    pub descending: bool,
+}
+
+/// How many rows are wanted, and how many are passed over before them.
+#[derive(Clone, Copy, Debug, PartialEq, Eq)]
+pub struct Limit {
+    pub count: u64,
+    pub offset: u64,
+}
+
+/// A SELECT. `group_by` and `order_by` are empty where it has no such clause.
 #[derive(Drop)]
 pub struct Select {
     pub list: SelectList,
     pub table: Name,
     pub filter: Option<Condition<Name>>,
+    pub group_by: Items<Name>,
+    pub order_by: Items<Key<Name>>,
+    pub limit: Option<Limit>,
 }
 
 /// An INSERT. Without a list of columns its rows have a value for each column of the table.
@@ -69,7 +106,22 @@ pub struct Delete {
     pub filter: Option<Condition<Name>>,
 }
 
+/// A character set as it is named.
+#[derive(Debug, Drop)]
+pub enum CharacterSet {
+    Identifier(Name),
+    Text(Items<u8>),
+}
+
+/// A statement. START TRANSACTION is `Begin`.
 #[derive(Drop)]
 pub enum Statement {
     Select(Select),
+    Insert(Insert),
+    Update(Update),
+    Delete(Delete),
+    Begin,
+    Commit,
+    Rollback,
+    SetNames(CharacterSet),
 }

@@ -1,16 +1,18 @@
 -- Statements on the tables t and b: what they mean, or their first refusals.
-use Rattle.std.proofs.Common.{ℕ, [], ◌∷◌, ◌≡◌, Option, Some, None, Ok, Err, pos, rules}
+use Rattle.std.proofs.Common.{ℕ, List, [], ◌∷◌, map, ◌≡◌, Option, Some, None, Ok, Err, pos, rules}
 use Rattle.std.specs.Prelude.{codes}
 use Rattle.vt_value.specs.declared.value.Value.TheVariants.{Int}
 use Rattle.vt_value.specs.declared.value.Comparison.TheVariants.{Eq}
-use Rattle.vt_value.specs.declared.refusal.Refusal.TheVariants.{UnknownTable, UnknownColumn, NotSupported}
+use Rattle.vt_value.specs.declared.refusal.Refusal.TheVariants.{UnknownTable, UnknownColumn, NotSupported, NotGrouped}
 use Rattle.sql_tree.specs.declared.Operand.TheVariants.{Column, Literal}
 use Rattle.sql_tree.specs.declared.Condition.{Condition, Compare, the_lemmas}
 use Rattle.sql_tree.specs.declared.SelectList.{SelectList}
-use Rattle.sql_tree.specs.declared.SelectList.TheVariants.{All, Columns}
+use Rattle.sql_tree.specs.declared.SelectList.TheVariants.{All, Items}
+use Rattle.sql_tree.specs.declared.Item.{Item}
+use Rattle.sql_tree.specs.declared.Item.TheVariants as item
 use Rattle.sql_tree.specs.declared.Statement.{Statement}
 use Rattle.sql_tree.specs.declared.Statement.TheVariants as statement
-use Rattle.vschema.specs.declared.schema.Typed.TheVariants.{Select}
+use Rattle.vschema.specs.declared.schema.Typed.TheVariants.{Select, Rollback}
 use Rattle.vschema.specs.Resolved.{Name}
 use Rattle.vschema.specs.TypedStatement.{typed_statement}
 use Rattle.vschema.proofs.Example.{schema}
@@ -19,18 +21,24 @@ abbrev equals : Name → ℕ → Option (Condition Name)
 equals column n = Some (Compare Eq (Column column) (Literal (Int (pos n))))
 
 abbrev select : SelectList → Name → Option (Condition Name) → Statement
-select list table filter = statement.Select (record { list = list; table = table; filter = filter })
+select list table filter = statement.Select (record { list = list; table = table; filter = filter; group_by = []; order_by = []; limit = None })
+
+abbrev columns : List Name → SelectList
+columns names = Items (map (λ name. item.Column name) names)
 
 all_of_t : typed_statement schema (select All (codes "t") (equals (codes "id") 5))
     ≡ Ok (Select (record {
       table = 0;
-      items = 0 ∷ 1 ∷ [];
+      items = item.Column 0 ∷ item.Column 1 ∷ [];
       filter = Some (Compare Eq (Column 0) (Literal (Int (pos 5))));
+      group_by = [];
+      order_by = [];
+      limit = None;
     }))
 all_of_t = search (rules, the_lemmas)
 
-columns_of_b : typed_statement schema (select (Columns (codes "v" ∷ codes "k" ∷ codes "v" ∷ [])) (codes "b") None)
-    ≡ Ok (Select (record { table = 1; items = 1 ∷ 0 ∷ 1 ∷ []; filter = None }))
+columns_of_b : typed_statement schema (select (columns (codes "v" ∷ codes "k" ∷ codes "v" ∷ [])) (codes "b") None)
+    ≡ Ok (Select (record { table = 1; items = item.Column 1 ∷ item.Column 0 ∷ item.Column 1 ∷ []; filter = None; group_by = []; order_by = []; limit = None }))
 columns_of_b = search (rules, the_lemmas)
 
 unknown_table : typed_statement schema (select All (codes "x") (equals (codes "zz") 5)) ≡ Err UnknownTable
@@ -41,8 +49,25 @@ unknown_column = search (rules, the_lemmas)
 
 -- an unknown column comes before a comparison of a text with a number
 unknown_in_list :
-    typed_statement schema (select (Columns (codes "K" ∷ [])) (codes "b") (equals (codes "k") 5)) ≡ Err UnknownColumn
+    typed_statement schema (select (columns (codes "K" ∷ [])) (codes "b") (equals (codes "k") 5)) ≡ Err UnknownColumn
 unknown_in_list = search (rules, the_lemmas)
 
 text_with_number : typed_statement schema (select All (codes "b") (equals (codes "k") 5)) ≡ Err NotSupported
 text_with_number = search (rules, the_lemmas)
+
+abbrev grouped : List (Item Name) → List Name → Statement
+grouped items names = statement.Select (record { list = Items items; table = codes "t"; filter = None; group_by = names; order_by = []; limit = None })
+
+count_of_b : typed_statement schema (select (Items (item.CountRows ∷ [])) (codes "b") None)
+    ≡ Ok (Select (record { table = 1; items = item.CountRows ∷ []; filter = None; group_by = []; order_by = []; limit = None }))
+count_of_b = search (rules, the_lemmas)
+
+-- id is neither grouped nor aggregated
+ungrouped : typed_statement schema (grouped (item.Column (codes "id") ∷ item.CountRows ∷ []) (codes "c" ∷ [])) ≡ Err NotGrouped
+ungrouped = search (rules, the_lemmas)
+
+sum_of_texts : typed_statement schema (select (Items (item.Sum (codes "v") ∷ [])) (codes "b") None) ≡ Err NotSupported
+sum_of_texts = search (rules, the_lemmas)
+
+rollback : typed_statement schema statement.Rollback ≡ Ok Rollback
+rollback = search (rules, the_lemmas)

@@ -1,5 +1,5 @@
 -- The checks of a statement against its table, each of the whole statement.
-use Rattle.std.specs.Prelude.{ℕ, Bool, true, false, ◌||◌, slice_get, Option, Some, None, option_map, is_none}
+use Rattle.std.specs.Prelude.{ℕ, Bool, true, false, not, ◌||◌, ◌&&◌, ◌==◌, List, [], ◌∷◌, slice_get, Option, Some, None, option_map, is_none}
 use Rattle.std.specs.List.{list_any}
 use Rattle.vt_value.specs.declared.value.Value.{Value}
 use Rattle.vt_value.specs.declared.value.Value.TheVariants.{Null, Int, Bytes}
@@ -9,10 +9,13 @@ use Rattle.sql_tree.specs.declared.Condition.{Condition, Condition-F, fold-Condi
 use Rattle.sql_tree.specs.declared.Condition.TheOpen.{Compare, In, IsNull, Not, And, Or}
 use Rattle.sql_tree.specs.declared.Select.{Select}
 use Rattle.sql_tree.specs.declared.SelectList.{SelectList}
-use Rattle.sql_tree.specs.declared.SelectList.TheVariants.{All, Columns}
+use Rattle.sql_tree.specs.declared.SelectList.TheVariants.{All, Items}
+use Rattle.sql_tree.specs.declared.Item.{Item}
+use Rattle.sql_tree.specs.declared.Item.TheVariants as item
 use Rattle.vschema.specs.declared.schema.ColumnType.{ColumnType}
 use Rattle.vschema.specs.declared.schema.ColumnType.TheVariants.{BigInt, BigIntUnsigned, VarBinary}
 use Rattle.vschema.specs.declared.schema.Table.{Table}
+use Rattle.vschema.specs.declared.schema.Query.{Query}
 use Rattle.vschema.specs.Schema.{column_place}
 use Rattle.vschema.specs.Resolved.{Name, place}
 
@@ -35,9 +38,17 @@ node_names_unknown t (Or bs) = list_any (λ b. b) bs
 abbrev pub condition_names_unknown : Table → Condition Name → Bool
 condition_names_unknown t c = fold-Condition Name Bool (node_names_unknown t) c
 
+abbrev pub item_names_unknown : Table → Item Name → Bool
+item_names_unknown t (item.Column name) = is_unknown t name
+item_names_unknown t item.CountRows = false
+item_names_unknown t (item.Count name) = is_unknown t name
+item_names_unknown t (item.Sum name) = is_unknown t name
+item_names_unknown t (item.Min name) = is_unknown t name
+item_names_unknown t (item.Max name) = is_unknown t name
+
 abbrev pub list_names_unknown : Table → SelectList → Bool
 list_names_unknown t All = false
-list_names_unknown t (Columns names) = list_any (is_unknown t) names
+list_names_unknown t (Items items) = list_any (item_names_unknown t) items
 
 abbrev pub filter_has : (Condition Name → Bool) → Option (Condition Name) → Bool
 filter_has test None = false
@@ -45,7 +56,9 @@ filter_has test (Some c) = test c
 
 -- the statement names a column that the table doesn't have
 abbrev pub names_unknown_column : Table → Select → Bool
-names_unknown_column t s = list_names_unknown t s.list || filter_has (condition_names_unknown t) s.filter
+names_unknown_column t s =
+    list_names_unknown t s.list || filter_has (condition_names_unknown t) s.filter || list_any (is_unknown t) s.group_by
+    || list_any (λ k. is_unknown t k.column) s.order_by
 
 -- whether it is a text, if it is a number or a text
 abbrev pub is_text_type : ColumnType → Bool
@@ -85,3 +98,41 @@ condition_mixes t c = fold-Condition Name Bool (node_mixes t) c
 
 abbrev pub mixes_kinds : Table → Select → Bool
 mixes_kinds t s = filter_has (condition_mixes t) s.filter
+
+-- SUM of a column of texts
+abbrev pub is_text_sum : Table → Item Name → Bool
+is_text_sum t (item.Sum name) = differ (column_is_text t (place t name)) (Some false)
+is_text_sum t _ = false
+
+abbrev pub sums_text : Table → SelectList → Bool
+sums_text t All = false
+sums_text t (Items items) = list_any (is_text_sum t) items
+
+-- a comparison mixes kinds, or a text is summed
+abbrev pub select_is_not_supported : Table → Select → Bool
+select_is_not_supported t s = mixes_kinds t s || sums_text t s.list
+
+abbrev pub has_number : List ℕ → ℕ → Bool
+has_number ns n = list_any (λ m. m == n) ns
+
+abbrev pub is_aggregate : Item ℕ → Bool
+is_aggregate (item.Column n) = false
+is_aggregate _ = true
+
+-- a query is aggregated where it shows an aggregate or has a GROUP BY
+abbrev pub is_aggregated : Query → Bool
+is_aggregated q = list_any is_aggregate q.items || not (is_nil q.group_by)
+  where
+    is_nil : List ℕ → Bool
+    is_nil [] = true
+    is_nil (n ∷ ns) = false
+
+abbrev pub is_ungrouped : List ℕ → Item ℕ → Bool
+is_ungrouped group_by (item.Column n) = not (has_number group_by n)
+is_ungrouped group_by _ = false
+
+-- an aggregated query shows a plain column, or orders by one, that isn't in GROUP BY
+abbrev pub shows_ungrouped : Query → Bool
+shows_ungrouped q =
+    is_aggregated q
+    && (list_any (is_ungrouped q.group_by) q.items || list_any (λ k. not (has_number q.group_by k.column)) q.order_by)

@@ -1,9 +1,14 @@
 pub mod Schema
 pub mod Resolved
 pub mod Checks
-pub mod TypedStatement
 pub mod WriteChecks
+pub mod StoredChecks
 pub mod TypedWrites
+pub mod TypedStatement
 pub mod Database
 pub mod Storable
 pub mod WellFormed
+pub mod Json
+pub mod Documents
+pub mod Faults
+pub mod Refused

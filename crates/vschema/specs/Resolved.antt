@@ -6,7 +6,10 @@ use Rattle.sql_tree.specs.declared.Condition as N
 use Rattle.sql_tree.specs.declared.Condition.{Condition, Condition-F, fold-Condition}
 use Rattle.sql_tree.specs.declared.Condition.TheOpen.{Compare, In, IsNull, Not, And, Or}
 use Rattle.sql_tree.specs.declared.SelectList.{SelectList}
-use Rattle.sql_tree.specs.declared.SelectList.TheVariants.{All, Columns}
+use Rattle.sql_tree.specs.declared.SelectList.TheVariants.{All, Items}
+use Rattle.sql_tree.specs.declared.Item.{Item}
+use Rattle.sql_tree.specs.declared.Item.TheVariants as item
+use Rattle.sql_tree.specs.declared.Key.{Key}
 use Rattle.vschema.specs.declared.schema.Table.{Table}
 use Rattle.vschema.specs.Schema.{column_place}
 
@@ -36,7 +39,18 @@ resolved_node t (Or cs) = N.Or cs
 abbrev pub resolved_condition : Table → Condition Name → Condition ℕ
 resolved_condition t c = fold-Condition Name (Condition ℕ) (resolved_node t) c
 
+abbrev pub resolved_item : Table → Item Name → Item ℕ
+resolved_item t (item.Column name) = item.Column (place t name)
+resolved_item t item.CountRows = item.CountRows
+resolved_item t (item.Count name) = item.Count (place t name)
+resolved_item t (item.Sum name) = item.Sum (place t name)
+resolved_item t (item.Min name) = item.Min (place t name)
+resolved_item t (item.Max name) = item.Max (place t name)
+
 -- `*` is all columns in their order
-abbrev pub resolved_list : Table → SelectList → List ℕ
-resolved_list t All = places_from 0 t.columns
-resolved_list t (Columns names) = map (place t) names
+abbrev pub resolved_list : Table → SelectList → List (Item ℕ)
+resolved_list t All = map item.Column (places_from 0 t.columns)
+resolved_list t (Items items) = map (resolved_item t) items
+
+abbrev pub resolved_key : Table → Key Name → Key ℕ
+resolved_key t k = record { column = place t k.column; descending = k.descending }

@@ -1,8 +1,7 @@
 -- Tables and columns by name, and the keyspace id of a row.
-use Rattle.std.specs.Prelude.{ℕ, ◌+◌, Bool, List, [], ◌∷◌, bytes_eq, slice_index_or, map, Option, Some, None, if◌then◌else◌}
+use Rattle.std.specs.Prelude.{ℕ, ◌+◌, Bool, List, [], ◌∷◌, bytes_eq, map, Option, Some, None, if◌then◌else◌}
 use Rattle.vt_value.specs.declared.value.Value.{Value}
-use Rattle.vt_value.specs.declared.value.Value.TheVariants.{Null}
-use Rattle.vt_value.specs.Values.{Row}
+use Rattle.vt_value.specs.Values.{Row, value_at}
 use Rattle.vindex.specs.KeyspaceIds.{keyspace_id}
 use Rattle.vschema.specs.declared.schema.ColumnVindex.{ColumnVindex}
 use Rattle.vschema.specs.declared.schema.Table.{Table}
@@ -19,10 +18,6 @@ column_place t name = place_from (λ c. bytes_eq c.name name) 0 t.columns
 
 abbrev pub table_place : VSchema → List ℕ → Option ℕ
 table_place schema name = place_from (λ t. bytes_eq t.name name) 0 schema.tables
-
--- a row has NULL behind its last value
-abbrev pub value_at : Row → ℕ → Value
-value_at row n = slice_index_or row n Null
 
 -- a row's primary key
 abbrev pub key_of : Table → Row → List Value

@@ -16,35 +16,39 @@ use Rattle.vschema.specs.declared.changes.Write.{Write}
 use Rattle.vschema.specs.declared.changes.Write.TheVariants.{Insert, Update, Delete}
 use Rattle.vschema.specs.Schema.{table_place, place_from}
 use Rattle.vschema.specs.Resolved.{Name, place, places_from, resolved_condition}
-use Rattle.vschema.specs.WriteChecks.{has_twice, insert_names, insert_places, has_wrong_count, insert_names_unknown, update_names_unknown, delete_names_unknown, inserted_values, assigned_values, has_other_kind, has_wrong_null, has_out_of_range, has_too_long, leaves_out_column, update_is_not_supported, delete_is_not_supported}
+use Rattle.vschema.specs.WriteChecks.{Stored, has_twice, sets_twice, insert_names, insert_places, has_wrong_count, insert_names_unknown, update_names_unknown, delete_names_unknown, inserted_values, assigned_values, has_other_kind, has_wrong_null, has_out_of_range, has_too_long, leaves_out_column, update_is_not_supported, delete_is_not_supported}
 
 -- the write, or the refusal of the first check that fails
 abbrev pub unless_refused : List (Bool × Refusal) → Write → Result Write Refusal
 unless_refused [] w = Ok w
 unless_refused ((fails, r) ∷ checks) w = if fails then Err r else unless_refused checks w
 
+-- the checks of what is stored, behind that of its kinds
+abbrev pub stored_checks : Stored → List (Bool × Refusal)
+stored_checks stored =
+    (has_wrong_null stored, NullNotAllowed) ∷ (has_out_of_range stored, OutOfRange) ∷ (has_too_long stored, TooLong) ∷ []
+
 abbrev pub insert_checks : Table → I.Insert → List (Bool × Refusal)
 insert_checks t s =
     (has_twice (insert_names s), ColumnNamedTwice) ∷ (has_wrong_count t s, WrongValueCount)
     ∷ (insert_names_unknown t s, UnknownColumn) ∷ (has_other_kind (inserted_values t s), NotSupported)
-    ∷ (leaves_out_column t s, NoDefaultValue) ∷ (has_wrong_null (inserted_values t s), NullNotAllowed)
-    ∷ (has_out_of_range (inserted_values t s), OutOfRange) ∷ (has_too_long (inserted_values t s), TooLong) ∷ []
+    ∷ (leaves_out_column t s, NoDefaultValue) ∷ stored_checks (inserted_values t s)
 
 abbrev pub update_checks : Table → U.Update → List (Bool × Refusal)
 update_checks t s =
-    (has_twice (map (λ a. a.column) s.assignments), ColumnNamedTwice) ∷ (update_names_unknown t s, UnknownColumn)
-    ∷ (update_is_not_supported t s, NotSupported) ∷ (has_wrong_null (assigned_values t s), NullNotAllowed)
-    ∷ (has_out_of_range (assigned_values t s), OutOfRange) ∷ (has_too_long (assigned_values t s), TooLong) ∷ []
+    (sets_twice s.assignments, ColumnNamedTwice) ∷ (update_names_unknown t s, UnknownColumn)
+    ∷ (update_is_not_supported t s, NotSupported) ∷ stored_checks (assigned_values t s)
 
 abbrev pub delete_checks : Table → D.Delete → List (Bool × Refusal)
 delete_checks t s = (delete_names_unknown t s, UnknownColumn) ∷ (delete_is_not_supported t s, NotSupported) ∷ []
 
--- a row of INSERT in the order of the table's columns, with NULL for a column that isn't named
+-- the value of INSERT's row for a column, NULL where it isn't named
+abbrev pub value_for : List ℕ → List Value → ℕ → Value
+value_for places values n = unwrap_or (option_and_then (slice_get values) (place_from (λ m. m == n) 0 places)) Null
+
+-- a row of INSERT in the order of the table's columns
 abbrev pub whole_row : Table → List ℕ → List Value → Row
-whole_row t places values = map value_of (places_from 0 t.columns)
-  where
-    value_of : ℕ → Value
-    value_of n = unwrap_or (option_and_then (slice_get values) (place_from (λ m. m == n) 0 places)) Null
+whole_row t places values = map (value_for places values) (places_from 0 t.columns)
 
 abbrev pub resolved_assignment : Table → Assignment Name → Assignment ℕ
 resolved_assignment t a = record { column = place t a.column; value = a.value }

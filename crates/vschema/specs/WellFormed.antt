@@ -11,7 +11,8 @@ use Rattle.vschema.specs.declared.schema.ColumnVindex.{ColumnVindex}
 use Rattle.vschema.specs.declared.schema.Keyspace.{Keyspace}
 use Rattle.vschema.specs.declared.schema.Table.{Table}
 use Rattle.vschema.specs.declared.schema.VSchema.{VSchema}
-use Rattle.vschema.specs.WriteChecks.{has_twice, has_number}
+use Rattle.vschema.specs.Checks.{has_number}
+use Rattle.vschema.specs.WriteChecks.{has_twice}
 
 abbrev pub has_number_twice : List ℕ → Bool
 has_number_twice [] = false

@@ -4,6 +4,7 @@ use Rattle.std.specs.List.{list_any}
 use Rattle.vt_value.specs.declared.value.Value.{Value}
 use Rattle.vt_value.specs.declared.value.Value.TheVariants.{Int, Bytes}
 use Rattle.vt_value.specs.Values.{is_null}
+use Rattle.sql_tree.specs.declared.Assignment.{Assignment}
 use Rattle.sql_tree.specs.declared.Insert.{Insert}
 use Rattle.sql_tree.specs.declared.Update.{Update}
 use Rattle.sql_tree.specs.declared.Delete.{Delete}
@@ -13,22 +14,24 @@ use Rattle.vschema.specs.declared.schema.ColumnType.TheVariants.{BigInt, BigIntU
 use Rattle.vschema.specs.declared.schema.ColumnVindex.{ColumnVindex}
 use Rattle.vschema.specs.declared.schema.Table.{Table}
 use Rattle.vschema.specs.Resolved.{Name, place, places_from}
-use Rattle.vschema.specs.Checks.{is_unknown, filter_has, condition_names_unknown, condition_mixes, is_text_type, value_is_text, differ}
+use Rattle.vschema.specs.Checks.{is_unknown, filter_has, condition_names_unknown, condition_mixes, is_text_type, value_is_text, differ, has_number}
 
 abbrev pub has_twice : List Name → Bool
 has_twice [] = false
 has_twice (n ∷ names) = list_any (bytes_eq n) names || has_twice names
 
-abbrev pub has_number : List ℕ → ℕ → Bool
-has_number ns n = list_any (λ m. m == n) ns
+-- SET names a column twice
+abbrev pub sets_twice : List (Assignment Name) → Bool
+sets_twice [] = false
+sets_twice (a ∷ assignments) = list_any (λ b. bytes_eq a.column b.column) assignments || sets_twice assignments
+
+abbrev pub named : Option (List Name) → List Name
+named None = []
+named (Some names) = names
 
 -- the columns that INSERT names
 abbrev pub insert_names : Insert → List Name
 insert_names s = named s.columns
-  where
-    named : Option (List Name) → List Name
-    named None = []
-    named (Some names) = names
 
 -- the places of INSERT's columns: all of them, in their order, where none is named
 abbrev pub insert_places : Table → Option (List Name) → List ℕ

@@ -1,11 +1,13 @@
-ghost use Rattle.std.specs.Prelude.{◌≡◌, map};
+ghost use Rattle.std.specs.Prelude.{◌≡◌, map, not};
 ghost use Rattle.std.specs.List.{list_any};
 ghost use Rattle.vschema.specs.Resolved.{place};
-ghost use Rattle.vschema.specs.Checks.{is_unknown, operand_is_unknown, condition_names_unknown, list_names_unknown, names_unknown_column, is_text_type, value_is_text, operand_is_text, differ, condition_mixes, mixes_kinds};
+ghost use Rattle.vschema.specs.Checks.{is_unknown, operand_is_unknown, condition_names_unknown, filter_has, item_names_unknown, list_names_unknown, names_unknown_column};
+ghost use Rattle.vschema.specs.Checks.{is_text_type, value_is_text, column_is_text, operand_is_text, differ, condition_mixes, is_text_sum, sums_text, select_is_not_supported};
+ghost use Rattle.vschema.specs.Checks.{has_number, is_aggregate, is_ungrouped, shows_ungrouped};
 
 use crate::names::{column_place, is_unknown};
-use crate::schema::{ColumnType, Table};
-use sql_tree::{Condition, Name, Operand, Select, SelectList};
+use crate::schema::{ColumnType, Query, Table};
+use sql_tree::{Condition, Item, Key, Name, Operand, Select, SelectList};
 use vt_value::Value;
 
 fn operand_is_unknown(table: &Table, operand: &Operand<Name>) -> bool
@@ -43,10 +45,36 @@ fn any_names_unknown(table: &Table, members: &[Condition<Name>]) -> bool
     false
 }
 
-fn some_unknown(table: &Table, names: &[Name]) -> bool
+/// Whether one of the names is no column of the table.
+pub fn some_unknown(table: &Table, names: &[Name]) -> bool
     ensures { result ≡ list_any (is_unknown table.now) names.now }
 {
     names.iter().any(|name| is_unknown(table, name))
+}
+
+fn item_names_unknown(table: &Table, item: &Item<Name>) -> bool
+    ensures { result ≡ item_names_unknown table.now item.now }
+{
+    match item {
+        Item::CountRows => false,
+        Item::Column(name)
+        | Item::Count(name)
+        | Item::Sum(name)
+        | Item::Min(name)
+        | Item::Max(name) => is_unknown(table, name),
+    }
+}
+
+fn some_item_unknown(table: &Table, items: &[Item<Name>]) -> bool
+    ensures { result ≡ list_any (item_names_unknown table.now) items.now }
+{
+    items.iter().any(|item| item_names_unknown(table, item))
+}
+
+fn some_key_unknown(table: &Table, keys: &[Key<Name>]) -> bool
+    ensures { result ≡ list_any (λ k. is_unknown table.now k.column) keys.now }
+{
+    keys.iter().any(|key| is_unknown(table, &key.column))
 }
 
 fn list_names_unknown(table: &Table, list: &SelectList) -> bool
@@ -54,7 +82,16 @@ fn list_names_unknown(table: &Table, list: &SelectList) -> bool
 {
     match list {
         SelectList::All => false,
-        SelectList::Columns(names) => some_unknown(table, names.as_slice()),
+        SelectList::Items(items) => some_item_unknown(table, items.as_slice()),
+    }
+}
+
+pub fn filter_names_unknown(table: &Table, filter: &Option<Condition<Name>>) -> bool
+    ensures { result ≡ filter_has (condition_names_unknown table.now) filter.now }
+{
+    match filter {
+        None => false,
+        Some(condition) => condition_names_unknown(table, condition),
     }
 }
 
@@ -62,22 +99,19 @@ fn list_names_unknown(table: &Table, list: &SelectList) -> bool
 pub fn names_unknown_column(table: &Table, select: &Select) -> bool
     ensures { result ≡ names_unknown_column table.now select.now }
 {
-    if list_names_unknown(table, &select.list) {
-        return true;
-    }
-    match &select.filter {
-        None => false,
-        Some(condition) => condition_names_unknown(table, condition),
-    }
+    list_names_unknown(table, &select.list)
+        || filter_names_unknown(table, &select.filter)
+        || some_unknown(table, select.group_by.as_slice())
+        || some_key_unknown(table, select.order_by.as_slice())
 }
 
-fn is_text_type(kind: ColumnType) -> bool
+pub fn is_text_type(kind: ColumnType) -> bool
     ensures { result ≡ is_text_type kind }
 {
     matches!(kind, ColumnType::VarBinary(_))
 }
 
-fn value_is_text(value: &Value) -> Option<bool>
+pub fn value_is_text(value: &Value) -> Option<bool>
     ensures { result ≡ value_is_text value.now }
 {
     match value {
@@ -87,22 +121,28 @@ fn value_is_text(value: &Value) -> Option<bool>
     }
 }
 
+fn column_is_text(table: &Table, place: usize) -> Option<bool>
+    ensures { result ≡ column_is_text table.now place }
+{
+    match table.columns.as_slice().get(place) {
+        Some(column) => Some(is_text_type(column.kind)),
+        None => None,
+    }
+}
+
 fn operand_is_text(table: &Table, operand: &Operand<Name>) -> Option<bool>
     ensures { result ≡ operand_is_text table.now operand.now }
 {
     match operand {
         Operand::Column(name) => {
             let place = column_place(table, name).unwrap_or(0);
-            match table.columns.as_slice().get(place) {
-                Some(column) => Some(is_text_type(column.kind)),
-                None => None,
-            }
+            column_is_text(table, place)
         }
         Operand::Literal(value) => value_is_text(value),
     }
 }
 
-fn differ(a: Option<bool>, b: Option<bool>) -> bool
+pub fn differ(a: Option<bool>, b: Option<bool>) -> bool
     ensures { result ≡ differ a b }
 {
     match (a, b) {
@@ -151,12 +191,108 @@ fn any_mixes(table: &Table, members: &[Condition<Name>]) -> bool
     false
 }
 
-/// Whether a comparison of the statement has a number on one side and a text on the other.
-pub fn mixes_kinds(table: &Table, select: &Select) -> bool
-    ensures { result ≡ mixes_kinds table.now select.now }
+fn is_text_sum(table: &Table, item: &Item<Name>) -> bool
+    ensures { result ≡ is_text_sum table.now item.now }
 {
-    match &select.filter {
+    match item {
+        Item::Sum(name) => {
+            let place = column_place(table, name).unwrap_or(0);
+            differ(column_is_text(table, place), Some(false))
+        }
+        _ => false,
+    }
+}
+
+fn some_text_sum(table: &Table, items: &[Item<Name>]) -> bool
+    ensures { result ≡ list_any (is_text_sum table.now) items.now }
+{
+    items.iter().any(|item| is_text_sum(table, item))
+}
+
+fn sums_text(table: &Table, list: &SelectList) -> bool
+    ensures { result ≡ sums_text table.now list.now }
+{
+    match list {
+        SelectList::All => false,
+        SelectList::Items(items) => some_text_sum(table, items.as_slice()),
+    }
+}
+
+/// Whether a comparison of a condition has a number on one side and a text on the other.
+pub fn filter_mixes(table: &Table, filter: &Option<Condition<Name>>) -> bool
+    ensures { result ≡ filter_has (condition_mixes table.now) filter.now }
+{
+    match filter {
         None => false,
         Some(condition) => condition_mixes(table, condition),
     }
+}
+
+/// Whether a comparison of the query has a number on one side and a text on the other, or a text is summed.
+pub fn is_not_supported(table: &Table, select: &Select) -> bool
+    ensures { result ≡ select_is_not_supported table.now select.now }
+{
+    filter_mixes(table, &select.filter) || sums_text(table, &select.list)
+}
+
+/// Whether the number is one of these.
+pub fn has_number(numbers: &[usize], number: usize) -> bool
+    ensures { result ≡ has_number numbers.now number }
+{
+    numbers.iter().any(|other| *other == number)
+}
+
+fn is_aggregate(item: &Item<usize>) -> bool
+    ensures { result ≡ is_aggregate item.now }
+{
+    !matches!(item, Item::Column(_))
+}
+
+fn some_aggregate(items: &[Item<usize>]) -> bool
+    ensures { result ≡ list_any is_aggregate items.now }
+{
+    items.iter().any(|item| is_aggregate(item))
+}
+
+impl Query {
+    ghost use Rattle.std.specs.Prelude.{◌≡◌};
+    ghost use Rattle.vschema.specs.Checks.{is_aggregated};
+
+    /// Whether the query shows an aggregate or has a GROUP BY.
+    pub fn is_aggregated(&self) -> bool
+        ensures { result ≡ is_aggregated self.now }
+    {
+        some_aggregate(self.items.as_slice()) || !self.group_by.as_slice().is_empty()
+    }
+}
+
+fn is_ungrouped(group_by: &[usize], item: &Item<usize>) -> bool
+    ensures { result ≡ is_ungrouped group_by.now item.now }
+{
+    match item {
+        Item::Column(place) => !has_number(group_by, *place),
+        _ => false,
+    }
+}
+
+fn some_item_ungrouped(group_by: &[usize], items: &[Item<usize>]) -> bool
+    ensures { result ≡ list_any (is_ungrouped group_by.now) items.now }
+{
+    items.iter().any(|item| is_ungrouped(group_by, item))
+}
+
+fn some_key_ungrouped(group_by: &[usize], keys: &[Key<usize>]) -> bool
+    ensures { result ≡ list_any (λ k. not (has_number group_by.now k.column)) keys.now }
+{
+    keys.iter().any(|key| !has_number(group_by, key.column))
+}
+
+/// Whether an aggregated query shows a plain column, or orders by one, that isn't in its GROUP BY.
+pub fn shows_ungrouped(query: &Query) -> bool
+    ensures { result ≡ shows_ungrouped query.now }
+{
+    let group_by = query.group_by.as_slice();
+    query.is_aggregated()
+        && (some_item_ungrouped(group_by, query.items.as_slice())
+            || some_key_ungrouped(group_by, query.order_by.as_slice()))
 }

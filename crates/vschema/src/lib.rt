@@ -3,9 +3,24 @@
 
 mod changes;
 mod checks;
+mod document;
+mod fault;
+mod faults;
+mod json;
+mod lookups;
+mod meaning;
 mod names;
+mod parts;
+mod reading;
 mod resolve;
 mod schema;
+#[cfg(test)]
+mod tests;
+mod whole;
+mod words;
+mod write_checks;
+mod writes;
 
 pub use changes::{RowChange, Write};
+pub use fault::SchemaFault;
 pub use schema::{Column, ColumnType, ColumnVindex, Keyspace, Place, Query, Table, Typed, VSchema};

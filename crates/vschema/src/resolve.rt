@@ -1,15 +1,17 @@
 ghost use Rattle.std.specs.Prelude.{◌≡◌, ◌⊎◌, IfOk, IfErr, map, slice_get, option_map, Ok, Err};
-ghost use Rattle.vschema.specs.Resolved.{place, places_from, resolved_operand, resolved_condition, resolved_list};
+ghost use Rattle.vschema.specs.Resolved.{place, places_from, resolved_operand, resolved_condition, resolved_item, resolved_list, resolved_key};
 ghost use Rattle.vschema.specs.TypedStatement.{over, checked, typed_select, typed_statement};
 
-use crate::checks::{mixes_kinds, names_unknown_column};
+use crate::checks::{is_not_supported, names_unknown_column, shows_ungrouped};
 use crate::names::{column_place, table_place};
 use crate::schema::{Query, Table, Typed, VSchema};
-use sql_tree::{Condition, Name, Operand, Select, SelectList, Statement};
+use crate::writes::{resolve_delete, resolve_insert, resolve_update};
+use sql_tree::{Condition, Item, Key, Name, Operand, Select, SelectList, Statement};
 use std::alloc::Global;
 use vt_value::{Boxed, Items, Refusal, Value, copy};
 
-fn place(table: &Table, name: &Name) -> usize
+/// The place of a column; that it is there is a check of its own.
+pub fn place(table: &Table, name: &Name) -> usize
     ensures { result ≡ place table.now name.now }
 {
     column_place(table, name).unwrap_or(0)
@@ -99,18 +101,61 @@ fn resolve_members(
     Ok(resolved)
 }
 
-fn all_places(alloc: Global, table: &Table) -> Result<Items<usize>, Refusal>
-    ensures ok { IfOk result (λ r. r ≡ places_from 0 table.now.columns) }
+fn all_columns(alloc: Global, table: &Table) -> Result<Items<Item<usize>>, Refusal>
+    ensures ok { IfOk result (λ r. r ≡ map Item.Column (places_from 0 table.now.columns)) }
     ensures err { IfErr result (λ e. e ≡ Refusal.OutOfMemory) }
 {
-    let mut places = Items::new(alloc);
+    let mut shown = Items::new(alloc);
     for (place, _) in table.columns.as_slice().iter().enumerate() {
-        places.push(place)?;
+        shown.push(Item::Column(place))?;
     }
-    Ok(places)
+    Ok(shown)
 }
 
-fn named_places(alloc: Global, table: &Table, names: &[Name]) -> Result<Items<usize>, Refusal>
+fn resolve_item(table: &Table, item: &Item<Name>) -> Item<usize>
+    ensures { result ≡ resolved_item table.now item.now }
+{
+    match item {
+        Item::Column(name) => Item::Column(place(table, name)),
+        Item::CountRows => Item::CountRows,
+        Item::Count(name) => Item::Count(place(table, name)),
+        Item::Sum(name) => Item::Sum(place(table, name)),
+        Item::Min(name) => Item::Min(place(table, name)),
+        Item::Max(name) => Item::Max(place(table, name)),
+    }
+}
+
+fn resolve_items(
+    alloc: Global,
+    table: &Table,
+    items: &[Item<Name>],
+) -> Result<Items<Item<usize>>, Refusal>
+    ensures ok { IfOk result (λ r. r ≡ map (resolved_item table.now) items.now) }
+    ensures err { IfErr result (λ e. e ≡ Refusal.OutOfMemory) }
+{
+    let mut resolved = Items::new(alloc);
+    for item in items {
+        resolved.push(resolve_item(table, item))?;
+    }
+    Ok(resolved)
+}
+
+fn resolve_list(
+    alloc: Global,
+    table: &Table,
+    list: &SelectList,
+) -> Result<Items<Item<usize>>, Refusal>
+    ensures ok { IfOk result (λ r. r ≡ resolved_list table.now list.now) }
+    ensures err { IfErr result (λ e. e ≡ Refusal.OutOfMemory) }
+{
+    match list {
+        SelectList::All => all_columns(alloc, table),
+        SelectList::Items(items) => resolve_items(alloc, table, items.as_slice()),
+    }
+}
+
+/// The places of these columns.
+pub fn resolve_names(alloc: Global, table: &Table, names: &[Name]) -> Result<Items<usize>, Refusal>
     ensures ok { IfOk result (λ r. r ≡ map (place table.now) names.now) }
     ensures err { IfErr result (λ e. e ≡ Refusal.OutOfMemory) }
 {
@@ -121,17 +166,32 @@ fn named_places(alloc: Global, table: &Table, names: &[Name]) -> Result<Items<us
     Ok(places)
 }
 
-fn resolve_list(alloc: Global, table: &Table, list: &SelectList) -> Result<Items<usize>, Refusal>
-    ensures ok { IfOk result (λ r. r ≡ resolved_list table.now list.now) }
-    ensures err { IfErr result (λ e. e ≡ Refusal.OutOfMemory) }
+fn resolve_key(table: &Table, key: &Key<Name>) -> Key<usize>
+    ensures { result ≡ resolved_key table.now key.now }
 {
-    match list {
-        SelectList::All => all_places(alloc, table),
-        SelectList::Columns(names) => named_places(alloc, table, names.as_slice()),
+    Key {
+        column: place(table, &key.column),
+        descending: key.descending,
     }
 }
 
-fn resolve_filter(
+fn resolve_keys(
+    alloc: Global,
+    table: &Table,
+    keys: &[Key<Name>],
+) -> Result<Items<Key<usize>>, Refusal>
+    ensures ok { IfOk result (λ r. r ≡ map (resolved_key table.now) keys.now) }
+    ensures err { IfErr result (λ e. e ≡ Refusal.OutOfMemory) }
+{
+    let mut resolved = Items::new(alloc);
+    for key in keys {
+        resolved.push(resolve_key(table, key))?;
+    }
+    Ok(resolved)
+}
+
+/// The condition with its columns by their places, where there is one.
+pub fn resolve_filter(
     alloc: Global,
     table: &Table,
     filter: &Option<Condition<Name>>,
@@ -154,10 +214,15 @@ fn query_over(alloc: Global, place: usize, table: &Table, select: &Select) -> Re
 {
     let items = resolve_list(alloc, table, &select.list)?;
     let filter = resolve_filter(alloc, table, &select.filter)?;
+    let group_by = resolve_names(alloc, table, select.group_by.as_slice())?;
+    let order_by = resolve_keys(alloc, table, select.order_by.as_slice())?;
     Ok(Query {
         table: place,
         items,
         filter,
+        group_by,
+        order_by,
+        limit: select.limit,
     })
 }
 
@@ -171,12 +236,16 @@ fn resolve_over(
     ensures err { IfErr result (λ e. (e ≡ Refusal.OutOfMemory) ⊎ (checked place select.now (Some table.now) ≡ Err e)) }
 {
     if names_unknown_column(table, select) {
-        Err(Refusal::UnknownColumn)
-    } else if mixes_kinds(table, select) {
-        Err(Refusal::NotSupported)
-    } else {
-        query_over(alloc, place, table, select)
+        return Err(Refusal::UnknownColumn);
     }
+    if is_not_supported(table, select) {
+        return Err(Refusal::NotSupported);
+    }
+    let query = query_over(alloc, place, table, select)?;
+    if shows_ungrouped(&query) {
+        return Err(Refusal::NotGrouped);
+    }
+    Ok(query)
 }
 
 fn resolve_select(alloc: Global, schema: &VSchema, select: &Select) -> Result<Query, Refusal>
@@ -196,14 +265,36 @@ impl VSchema {
     ghost use Rattle.std.specs.Prelude.{◌≡◌, ◌⊎◌, IfOk, IfErr, Ok, Err};
     ghost use Rattle.vschema.specs.TypedStatement.{typed_statement};
 
-    /// The statement with its names resolved, or the first refusal that applies: an unknown table, an unknown column, a
-    /// comparison of a number with a text. Beside these it refuses only for want of memory.
+    /// The statement with its names resolved, or the first refusal that applies, in this order: an unknown table; a column
+    /// named twice in INSERT's list or in SET; a row with another number of values than columns; an unknown column; a number
+    /// with a text, a SUM of texts, or SET of a key; a column of an aggregated query that isn't grouped; a column that INSERT
+    /// leaves out and that needs a value; NULL, a number out of range or a text too long for its column. Beside these it
+    /// refuses only for want of memory.
     pub fn resolve(&self, alloc: Global, statement: Statement) -> Result<Typed, Refusal>
         ensures ok { IfOk result (λ typed. typed_statement self.now statement ≡ Ok typed) }
         ensures err { IfErr result (λ e. (e ≡ Refusal.OutOfMemory) ⊎ (typed_statement self.now statement ≡ Err e)) }
     {
-        let Statement::Select(select) = statement;
-        let query = resolve_select(alloc, self, &select)?;
-        Ok(Typed::Select(query))
+        match statement {
+            Statement::Select(select) => {
+                let query = resolve_select(alloc, self, &select)?;
+                Ok(Typed::Select(query))
+            }
+            Statement::Insert(insert) => {
+                let write = resolve_insert(alloc, self, &insert)?;
+                Ok(Typed::Write(write))
+            }
+            Statement::Update(update) => {
+                let write = resolve_update(alloc, self, &update)?;
+                Ok(Typed::Write(write))
+            }
+            Statement::Delete(delete) => {
+                let write = resolve_delete(alloc, self, &delete)?;
+                Ok(Typed::Write(write))
+            }
+            Statement::Begin => Ok(Typed::Begin),
+            Statement::Commit => Ok(Typed::Commit),
+            Statement::Rollback => Ok(Typed::Rollback),
+            Statement::SetNames(_) => Ok(Typed::SetNames),
+        }
     }
 }

@@ -1,5 +1,6 @@
+use crate::changes::Write;
 use keyrange::KeyRange;
-use sql_tree::{Condition, Name};
+use sql_tree::{Condition, Item, Key, Limit, Name};
 use vindex::AnyVindex;
 use vt_value::Items;
 
@@ -60,15 +61,25 @@ pub struct Place {
 }
 
 /// A query. Its table is told by its place in the VSchema, its columns by their places in the table.
+/// `group_by` and `order_by` are empty where it has no such clause.
 #[derive(Drop)]
 pub struct Query {
     pub table: usize,
-    pub items: Items<usize>,
+    pub items: Items<Item<usize>>,
     pub filter: Option<Condition<usize>>,
+    pub group_by: Items<usize>,
+    pub order_by: Items<Key<usize>>,
+    pub limit: Option<Limit>,
 }
 
 /// A statement with its names resolved.
 #[derive(Drop)]
 pub enum Typed {
     Select(Query),
+    Write(Write),
+    Begin,
+    Commit,
+    Rollback,
+    /// SET NAMES, which changes nothing.
+    SetNames,
 }

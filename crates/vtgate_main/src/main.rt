@@ -1,7 +1,6 @@
 //! The router's program.
 #![tactic(auto)]
 
-mod first;
 mod run;
 #[cfg(test)]
 mod tests;

@@ -3,12 +3,14 @@ ghost use Rattle.std.specs.String.{string_bytes};
 ghost use Rattle.std.specs.Io.KnownBytes.{Appends, Consumes};
 ghost use Rattle.session.specs.declared.end.End.{End};
 ghost use Rattle.session.specs.Outcomes.{Means};
+ghost use Rattle.shard.specs.Shards.{most_limits};
 ghost use Rattle.session.specs.Talk.{Talk};
 ghost use Rattle.journal.specs.Views.{new_pass};
 ghost use Rattle.session.specs.Outcomes.{Seen};
-ghost use Rattle.vtgate_main.specs.First.{first_opening, is_first};
+ghost use Rattle.first_world.specs.First.{first_opening};
+ghost use Rattle.vtgate_main.specs.Words.{is_first};
 
-use crate::first::{First, first_router};
+use first_world::{First, first_router};
 use journal::{Naming, Opened};
 use session::{COMMAND_LIMIT, End, Sink, Source, serve};
 use shard::ShardLaw;
@@ -60,7 +62,7 @@ fn serve_opened<J: Naming, I: Source, O: Sink>(
     requires { opened ≡ J.table }
     ensures { IfOk result (λ end. (read : List ℕ) × (written : List ℕ) × (seen : Seen)
         × Consumes (I.unread input.old) (I.unread input.new) read × Appends (O.taken output.old) (O.taken output.new) written
-        × Talk COMMAND_LIMIT (Means first_opening) (new_pass [] (Some 0)) read written end seen) }
+        × Talk COMMAND_LIMIT (Means first_opening most_limits) (new_pass [] (Some 0)) read written end seen) }
 {
     let Ok((engine, mut pass)) = first_router::<J>(alloc, opened) else {
         return Err(Failed);
@@ -80,7 +82,7 @@ fn serve_first<I: Source, O: Sink>(
 ) -> Result<End, Failed>
     ensures { IfOk result (λ end. (read : List ℕ) × (written : List ℕ) × (seen : Seen)
         × Consumes (I.unread input.old) (I.unread input.new) read × Appends (O.taken output.old) (O.taken output.new) written
-        × Talk COMMAND_LIMIT (Means first_opening) (new_pass [] (Some 0)) read written end seen) }
+        × Talk COMMAND_LIMIT (Means first_opening most_limits) (new_pass [] (Some 0)) read written end seen) }
 {
     let Ok(opened) = Opened::new(alloc) else {
         return Err(Failed);
@@ -102,7 +104,7 @@ pub fn run<I: Source, O: Sink, E: Sink>(
     ensures first { IsTrue (is_first (map string_bytes words.now)) → result ≡ SUCCESS →
         (read : List ℕ) × (written : List ℕ) × (end : End) × (seen : Seen)
         × Consumes (I.unread input.old) (I.unread input.new) read × Appends (O.taken output.old) (O.taken output.new) written
-        × Talk COMMAND_LIMIT (Means first_opening) (new_pass [] (Some 0)) read written end seen }
+        × Talk COMMAND_LIMIT (Means first_opening most_limits) (new_pass [] (Some 0)) read written end seen }
     ensures status { IsTrue (is_first (map string_bytes words.now)) → result ≢ WRONG_WORDS }
     ensures wrong { is_first (map string_bytes words.now) ≡ false →
         (result ≡ WRONG_WORDS) × (input.new ≡ input.old) × (output.new ≡ output.old) }

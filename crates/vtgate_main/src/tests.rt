@@ -1,8 +1,9 @@
-ghost use Rattle.std.specs.Prelude.{◌≡◌, None};
+ghost use Rattle.std.specs.Prelude.{◌≡◌, None, IsSome, IfOk};
 
-use crate::first::{First, first_router};
 use crate::run::run;
-use journal::{Naming, Opened};
+use first_world::{First, first_engine, first_router, first_seat};
+use journal::{Naming, Opened, Pass};
+use route_engine::{Answer, Engine};
 use session::{Core, DeviceFailed, End, Reader, SessionFault, Sink, Source, Writer, serve};
 use shard::ShardLaw;
 use std::alloc::Global;
@@ -10,6 +11,8 @@ use std::marker::Brand;
 use std::process::Abort;
 use std::sync::Wait;
 use std::test::Fail;
+use std::thread::{Threads, join};
+use vt_value::Refusal;
 
 const PING: &[u8] = b"\x01\x00\x00\x00\x0e";
 
@@ -33,6 +36,8 @@ const TWO_COLUMNS: &[u8] = b"\x01\x00\x00\x01\x02\
     \x05\x00\x00\x06\xfe\x00\x00\x02\x00";
 
 const SYNTAX_ERROR: &[u8] = b"\x15\x00\x00\x01\xff\x28\x04#42000syntax error";
+
+const NOT_SUPPORTED: &[u8] = b"\x16\x00\x00\x01\xff\xd3\x04#42000not supported";
 
 const NO_SUCH_TABLE: &[u8] = b"\x16\x00\x00\x01\xff\x7a\x04#42S02no such table";
 
@@ -84,35 +89,233 @@ fn talk(
     talk_opened::<Brand>(rt, alloc, opened, input)
 }
 
+/// Texts of queries, and their replies.
+const QUERIES: [(&[u8], &[u8]); 20] = [
+    (b"SELECT id FROM t WHERE id = 5", ONE_COLUMN),
+    (b"SELECT * FROM t WHERE id = 5", TWO_COLUMNS),
+    (b"select  id , c\tfrom`t`where`id`=5", TWO_COLUMNS),
+    (b"SELECT * FROM t WHERE id = 5;", TWO_COLUMNS),
+    (
+        b"SELECT * FROM t WHERE NOT (id <> 5 OR id IN (1, 2))",
+        TWO_COLUMNS,
+    ),
+    (b"SELECT id FROM t ORDER BY c DESC LIMIT 1", ONE_COLUMN),
+    (
+        b"SELECT id FROM t ORDER BY c, id LIMIT 1 OFFSET 5",
+        ONE_COLUMN,
+    ),
+    (b"SELEC", SYNTAX_ERROR),
+    (b"", SYNTAX_ERROR),
+    (b"SELECT * FROM t WHERE id = 5;;", SYNTAX_ERROR),
+    (b"SET NAMES", SYNTAX_ERROR),
+    (b"SET NAMES 'utf8mb4'", PONG),
+    (b"set names utf8;", PONG),
+    (b"SELECT * FROM x", NO_SUCH_TABLE),
+    (b"SELECT zz FROM x", NO_SUCH_TABLE),
+    (b"SELECT zz FROM t", NO_SUCH_COLUMN),
+    (b"SELECT * FROM t WHERE zz = 5", NO_SUCH_COLUMN),
+    (b"SELECT id FROM t ORDER BY zz", NO_SUCH_COLUMN),
+    (b"SELECT COUNT(*) FROM t", NOT_SUPPORTED),
+    (b"BEGIN", NOT_SUPPORTED),
+];
+
+#[test]
+fn queries_have_their_replies(rt: HostRuntime) -> Result<(), Fail> {
+    let alloc = rt.alloc();
+    for (text, reply) in &QUERIES {
+        let (written, end) = talk(&rt, alloc, &query(alloc, text)?)?;
+        assert_eq!(rt; written.as_slice(), *reply);
+        assert_eq!(rt; end, Ok(End::Closed));
+    }
+    Ok(())
+}
+
 #[test]
 fn commands_have_their_replies(rt: HostRuntime) -> Result<(), Fail> {
-    let alloc = rt.alloc();
-    let mut cases = Vec::new(alloc);
-    cases.push((query(alloc, b"SELECT id FROM t WHERE id = 5")?, ONE_COLUMN))?;
-    cases.push((query(alloc, b"SELECT * FROM t WHERE id = 5")?, TWO_COLUMNS))?;
-    cases.push((
-        query(alloc, b"select  id , c\tfrom`t`where`id`=5")?,
-        TWO_COLUMNS,
-    ))?;
-    cases.push((query(alloc, b"SELEC")?, SYNTAX_ERROR))?;
-    cases.push((query(alloc, b"")?, SYNTAX_ERROR))?;
-    cases.push((
-        query(alloc, b"SELECT * FROM t WHERE id = 5;")?,
-        SYNTAX_ERROR,
-    ))?;
-    cases.push((query(alloc, b"SELECT * FROM x")?, NO_SUCH_TABLE))?;
-    cases.push((query(alloc, b"SELECT zz FROM x")?, NO_SUCH_TABLE))?;
-    cases.push((query(alloc, b"SELECT zz FROM t")?, NO_SUCH_COLUMN))?;
-    cases.push((
-        query(alloc, b"SELECT * FROM t WHERE zz = 5")?,
-        NO_SUCH_COLUMN,
-    ))?;
-    cases.push((PING.to_vec(alloc)?, PONG))?;
-    cases.push((b"\x00\x00\x00\x00".to_vec(alloc)?, UNKNOWN_COMMAND))?;
-    cases.push((b"\x01\x00\x00\x00\x16".to_vec(alloc)?, UNKNOWN_COMMAND))?;
-    cases.push((b"\x05\x00\x00\x00\x02shop".to_vec(alloc)?, UNKNOWN_COMMAND))?;
+    let cases: [(&[u8], &[u8]); 4] = [
+        (PING, PONG),
+        (b"\x00\x00\x00\x00", UNKNOWN_COMMAND),
+        (b"\x01\x00\x00\x00\x16", UNKNOWN_COMMAND),
+        (b"\x05\x00\x00\x00\x02shop", UNKNOWN_COMMAND),
+    ];
     for (packet, reply) in &cases {
-        let (written, end) = talk(&rt, alloc, packet)?;
+        let (written, end) = talk(&rt, rt.alloc(), packet)?;
+        assert_eq!(rt; written.as_slice(), *reply);
+        assert_eq!(rt; end, Ok(End::Closed));
+    }
+    Ok(())
+}
+
+/// The OK of one changed row.
+const ONE_CHANGED: &[u8] = b"\x07\x00\x00\x01\x00\x01\x00\x02\x00\x00\x00";
+
+const DUPLICATE_KEY: &[u8] = b"\x16\x00\x00\x01\xff\x26\x04#23000duplicate key";
+
+/// What one session sends, and its replies.
+const WRITES: [(&[u8], &[u8]); 9] = [
+    (b"INSERT INTO t (id, c) VALUES (7, 1)", ONE_CHANGED),
+    (b"INSERT INTO t (id, c) VALUES (7, 1)", DUPLICATE_KEY),
+    (
+        b"INSERT INTO t (id, c) VALUES (8, 1), (2, 1)",
+        DUPLICATE_KEY,
+    ),
+    (b"DELETE FROM t WHERE id = 8", PONG),
+    (b"UPDATE t SET c = 7 WHERE id = 3", PONG),
+    (b"UPDATE t SET c = 9 WHERE id = 3", ONE_CHANGED),
+    (b"DELETE FROM t WHERE id = 5", ONE_CHANGED),
+    (b"INSERT INTO t VALUES (5, 9)", ONE_CHANGED),
+    (b"SELECT id, c FROM t WHERE id = 5", TWO_COLUMNS),
+];
+
+#[test]
+fn writes_have_their_replies(rt: HostRuntime) -> Result<(), Fail> {
+    let alloc = rt.alloc();
+    let mut input = Vec::new(alloc);
+    let mut wanted = Vec::new(alloc);
+    for (text, reply) in &WRITES {
+        let packet = query(alloc, text)?;
+        input.extend_from_slice(&packet)?;
+        wanted.extend_from_slice(reply)?;
+    }
+    let (written, end) = talk(&rt, alloc, &input)?;
+    assert_eq!(rt; written.as_slice(), wanted.as_slice());
+    assert_eq!(rt; end, Ok(End::Closed));
+    Ok(())
+}
+
+/// How many rows a statement gave, or changed.
+fn told<J: Naming>(
+    rt: &impl Wait,
+    alloc: Global,
+    engine: &Engine<First, J>,
+    pass: &mut Pass<ShardLaw<First>, J>,
+    text: &[u8],
+) -> Result<u64, Refusal>
+    requires { IsSome pass.old.session }
+    ensures { pass.new.session ≡ pass.old.session }
+{
+    match engine.execute(rt, alloc, pass, text)?.answer {
+        Answer::Rows(selected) => Ok(selected.rows.len() as u64),
+        Answer::Count(count) => Ok(count),
+    }
+}
+
+/// Runs the texts one after the other. Tells the pass, and how many rows they gave or changed together.
+fn run_all<J: Naming>(
+    rt: &impl Wait,
+    alloc: Global,
+    engine: &Engine<First, J>,
+    mut pass: Pass<ShardLaw<First>, J>,
+    texts: &[&[u8]],
+) -> Result<(Pass<ShardLaw<First>, J>, u64), Refusal>
+    requires { IsSome pass.session }
+    ensures { IfOk result (λ r. r.0.session ≡ pass.session) }
+{
+    let mut total = 0u64;
+    for text in texts {
+        total = total.wrapping_add(told(rt, alloc, engine, &mut pass, text)?);
+    }
+    Ok((pass, total))
+}
+
+const ONE_SESSION: [&[u8]; 4] = [
+    b"INSERT INTO t (id, c) VALUES (7, 1)",
+    b"INSERT INTO t (id, c) VALUES (9, 1), (11, 1)",
+    b"UPDATE t SET c = 2 WHERE id = 7",
+    b"SELECT id FROM t WHERE id = 11",
+];
+
+const OTHER_SESSION: [&[u8]; 3] = [
+    b"INSERT INTO t (id, c) VALUES (8, 1)",
+    b"DELETE FROM t WHERE id = 6",
+    b"INSERT INTO t (id, c) VALUES (10, 1)",
+];
+
+/// Two sessions, each in a thread of its own: what they count, what the second sees of the first's row before and after
+/// they met, and how many rows there are in the end.
+fn count_by_two<J: Naming + Send + Sync, R: Threads + Wait + Sync>(
+    rt: &R,
+    alloc: Global,
+    opened: Opened<ShardLaw<First>>,
+) -> Result<[u64; 5], Refusal>
+    requires { opened ≡ J.table }
+{
+    let (seats, mut opener, mut first) = opened.named::<J>(alloc)?;
+    let engine = first_engine(alloc, first_seat(seats))?;
+    let one = opener.open(&mut first)?;
+    let mut other = opener.open(&mut first)?;
+    let before = told(
+        rt,
+        alloc,
+        &engine,
+        &mut other,
+        b"SELECT c FROM t WHERE id = 7",
+    )?;
+    let shared = &engine;
+    let (one, other) = join(
+        rt,
+        move || run_all(rt, alloc, shared, one, &ONE_SESSION),
+        move || run_all(rt, alloc, shared, other, &OTHER_SESSION),
+    );
+    let (mut one, first_count) = one?;
+    let (mut other, second_count) = other?;
+    other.meet(&mut one);
+    let after = told(
+        rt,
+        alloc,
+        &engine,
+        &mut other,
+        b"SELECT c FROM t WHERE id = 7",
+    )?;
+    let rows = told(rt, alloc, &engine, &mut one, b"SELECT id FROM t")?;
+    Ok([before, first_count, second_count, after, rows])
+}
+
+#[test]
+fn two_sessions_in_two_threads_write_one_table(rt: HostRuntime) -> Result<(), Fail> {
+    let opened = open(rt.alloc())?;
+    let counts = count_by_two::<Brand, HostRuntime>(&rt, rt.alloc(), opened)
+        .ok()
+        .ok_or("all are run")?;
+    assert_eq!(rt; counts, [0, 5, 3, 1, 10]);
+    Ok(())
+}
+
+/// The first refusals of statements, in the order in which they are looked for.
+const REFUSED: [(&[u8], &[u8]); 8] = [
+    (
+        b"SELECT id, COUNT(*) FROM t GROUP BY c",
+        b"\x1b\x00\x00\x01\xff\x1f\x04#42000column not grouped",
+    ),
+    (
+        b"INSERT INTO t (id, id) VALUES (1)",
+        b"\x1b\x00\x00\x01\xff\x56\x04#42000column named twice",
+    ),
+    (
+        b"INSERT INTO t (id, zz) VALUES (1)",
+        b"\x1a\x00\x00\x01\xff\x70\x04#21S01wrong value count",
+    ),
+    (b"INSERT INTO t (id) VALUES ('x')", NOT_SUPPORTED),
+    (
+        b"INSERT INTO t (c) VALUES (1)",
+        b"\x19\x00\x00\x01\xff\x54\x05#HY000no default value",
+    ),
+    (
+        b"INSERT INTO t (id) VALUES (NULL)",
+        b"\x1e\x00\x00\x01\xff\x18\x04#23000column cannot be null",
+    ),
+    (
+        b"INSERT INTO t (id) VALUES (-1)",
+        b"\x1b\x00\x00\x01\xff\xf0\x04#22003value out of range",
+    ),
+    (b"UPDATE t SET id = 9", NOT_SUPPORTED),
+];
+
+#[test]
+fn statements_are_refused_for_their_first_cause(rt: HostRuntime) -> Result<(), Fail> {
+    let alloc = rt.alloc();
+    for (text, reply) in &REFUSED {
+        let (written, end) = talk(&rt, alloc, &query(alloc, text)?)?;
         assert_eq!(rt; written.as_slice(), *reply);
         assert_eq!(rt; end, Ok(End::Closed));
     }

@@ -1,9 +1,9 @@
-use Rattle.std.proofs.Common.{sym}
+use Rattle.std.proofs.Common.{refl, sym, ◌∙◌}
 use Rattle.session.proofs.Conversations.{nothing_yet, next_reply, all_ended, not_ended}
 use Rattle.session.proofs.answers.answer_all.Goals as goal
 
 pub loop-payload-init : goal.loop-payload-init
-loop-payload-init g c = record { room = c.requires; replies = nothing_yet _ _ _ }
+loop-payload-init g c = record { session = refl; room = c.requires.room; replies = nothing_yet _ _ _ }
 
 pub returns-then-is_some-clause-replies : goal.returns-then-is_some-clause-replies
 returns-then-is_some-clause-replies g c =
@@ -13,6 +13,7 @@ returns-then-is_some-clause-replies g c =
 
 pub loop-payload-preserved : goal.loop-payload-preserved
 loop-payload-preserved g c = record {
+  session = c.in_ok-end.ensures.session ∙ c.loop-payload.invariant.session;
   room = c.in_ok-end.ensures.room;
   replies =
       not_ended _ _ _ _ _ _ _ (sym c.if-is_some.ensures)

@@ -1,4 +1,4 @@
-use Rattle.std.proofs.Common.{ℕ, List, ◌+◌, ◌≤◌, length, take, None}
+use Rattle.std.proofs.Common.{◌≡◌, ℕ, List, ◌+◌, ◌≤◌, length, take, None}
 use Rattle.std.specs.Io.KnownBytes.{Appends}
 use Rattle.session.specs.declared.reply.TheConstants.{REPLY_ROOM}
 use Rattle.session.specs.Outcomes.{Means}
@@ -7,7 +7,8 @@ use Rattle.session.proofs.answers.answer_all.Given as goal
 
 abbrev pub invariant-loop-payload : goal.invariant-loop-payload
 invariant-loop-payload g l = record {
+  session : l.pass.session ≡ l.initial.pass.session;
   room : REPLY_ROOM ≤ length l.reply.items + l.reply.spare;
   replies : (out : List ℕ) × Appends (g.S.Sink.taken l.initial.sink) (g.S.Sink.taken l.sink) out
-      × Replies (Means g.W.World.opening) l.initial.pass (take l.payload-index l.payloads) out None l.pass;
+      × Replies (Means g.W.World.opening g.W.World.limits) l.initial.pass (take l.payload-index l.payloads) out None l.pass;
 }

@@ -29,5 +29,5 @@ returns-in-Ok-Ping-clause-replies g c =
 pub returns-in-Ok-Query-clause-replies : goal.returns-in-Ok-Query-clause-replies
 returns-in-Ok-Query-clause-replies g c =
     let e = rw c.in-Ok-Query.field-0-is at c.in-Ok-Query.ensures.command in
-    one_query_or_refusal _ _ _ c.args.payload.now _ _ _ (eq-eqb c.args.payload.now.first 0 c.if-payload-ne0.false) (sym (e ∙ ap command_of c.as_slice.ensures))
-    c.outcome_of-outcome.ensures c.put_outcome.ensures.bytes
+    one_query_or_refusal _ _ _ _ c.args.payload.now _ _ _ (eq-eqb c.args.payload.now.first 0 c.if-payload-ne0.false) (sym (e ∙ ap command_of c.as_slice.ensures))
+    c.outcome_of-outcome.ensures.means c.put_outcome.ensures.bytes

@@ -9,6 +9,7 @@ returns-in-Some-clause-talk g c =
 
 pub loop-preserved : goal.loop-preserved
 loop-preserved g c = record {
+  session = c.in_ok-end.ensures.session ∙ c.loop.invariant.session;
   buffer = c.loop.invariant.buffer;
   limit = c.in_ok-end.ensures.limit ∙ c.loop.invariant.limit;
   talked =

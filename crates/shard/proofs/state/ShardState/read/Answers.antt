@@ -6,8 +6,8 @@ use Rattle.shard.proofs.state.ShardState.read.Goals as goal
 
 pub invariant_of-self : goal.invariant_of-self
 invariant_of-self g c =
-    still_after _ c.self.inside.seat _ _ _ _ _ (ap (λ (s : SeatView Entry). s.slot) c.look-entries.ensures.seat) c.look-entries.ensures.seen.alone c.self.invariant
+    still_after _ _ c.self.inside.seat _ _ (ap (λ (s : SeatView Entry). s.slot) c.look-entries.ensures.seat) c.look-entries.ensures.seen.alone c.self.invariant
 
 pub invariant_of-self-2 : goal.invariant_of-self-2
 invariant_of-self-2 g c =
-    still_after _ c.self.inside.seat _ _ _ _ _ (ap (λ (s : SeatView Entry). s.slot) c.look-entries.ensures.seat) c.look-entries.ensures.seen.alone c.self.invariant
+    still_after _ _ c.self.inside.seat _ _ (ap (λ (s : SeatView Entry). s.slot) c.look-entries.ensures.seat) c.look-entries.ensures.seen.alone c.self.invariant

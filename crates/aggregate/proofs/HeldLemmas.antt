@@ -1,0 +1,28 @@
+-- At most 2^60 values that columns hold are few enough.
+use Rattle.std.proofs.Common.{◌*◌, ◌≤◌, ◌^◌, pos, negsuc, neg_ℤ, ◌≤ℤ◌, ◌<ℤ◌, List, [], ◌∷◌, length, arith}
+use Rattle.std.specs.Prelude.{All}
+use Rattle.std.proofs.lemmas.Int.{ints}
+use Rattle.std.proofs.lemmas.List.Elements.{All-head, All-tail}
+use Rattle.std.proofs.lemmas.List.Sums.{sum_by-cons}
+use Rattle.vt_value.specs.declared.value.Value.{Value}
+use Rattle.vt_value.specs.declared.value.Value.TheVariants.{Null, Int, Bytes}
+use Rattle.aggregate.specs.Aggregates.{size, sizes, IsHeld}
+
+-- a value that a column may hold: its numbers are those of BIGINT and BIGINT UNSIGNED
+abbrev pub IsStored : Value → Type 0
+IsStored Null = Unit {0}
+IsStored (Int n) = (neg_ℤ (pos (2 ^ 63)) ≤ℤ n) × (n <ℤ pos (2 ^ 64))
+IsStored (Bytes t) = Unit {0}
+
+stored_within : (v : Value) → IsStored v → size v ≤ 2 ^ 64
+stored_within Null s = omega arith
+stored_within (Int (pos n)) s = let below = s.1 in omega (arith, ints)
+stored_within (Int (negsuc n)) s = let above = s.0 in omega (arith, ints)
+stored_within (Bytes t) s = omega arith
+
+all_within : (vs : List Value) → All IsStored vs → sizes vs ≤ length vs * 2 ^ 64
+all_within [] h = omega arith
+all_within (v ∷ vs) h = omega (arith, stored_within v (All-head IsStored v vs h), all_within vs (All-tail IsStored v vs h), sum_by-cons size v vs)
+
+pub stored_held : (vs : List Value) → length vs ≤ 2 ^ 60 → All IsStored vs → IsHeld vs
+stored_held vs few stored = (omega arith, omega (arith, all_within vs stored))

@@ -1,0 +1,11 @@
+pub mod BeginningLemmas
+pub mod ColumnLemmas
+pub mod DistinctLemmas
+pub mod Examples
+pub mod GroupLemmas
+pub mod GroupingLemmas
+pub mod HeldLemmas
+pub mod KeyListLemmas
+pub mod PartsOfRows
+pub mod RowLemmas
+pub mod SplitLemmas

@@ -1,0 +1,106 @@
+ghost use Rattle.std.specs.Prelude.{◌≡◌, [], map, IfOk, IfErr, OnOk};
+ghost use Rattle.vt_value.specs.Values.{value_at};
+ghost use Rattle.aggregate.specs.Columns.{column_part, with_value, with_values, finished, CanHold, CanHoldAll};
+
+use crate::extremes::{Max, Min};
+use crate::joining::Aggregate;
+use crate::sums::Sum;
+use sql_tree::Item;
+use std::alloc::Global;
+use vt_value::{Refusal, Value};
+
+/// What is kept of a column of parts.
+#[derive(Drop)]
+pub enum ColumnPart {
+    /// No aggregate.
+    Nothing,
+    /// Counts are added.
+    Number(Option<i128>),
+    /// Sums are added, NULL of none.
+    Total(Option<i128>),
+    Least(Option<Value>),
+    Greatest(Option<Value>),
+}
+
+impl ColumnPart {
+    /// What is kept of no parts.
+    pub fn empty(aggregate: &Item<usize>) -> ColumnPart
+        ensures { result ≡ column_part aggregate.now [] }
+    {
+        match aggregate {
+            Item::Column(_) => ColumnPart::Nothing,
+            Item::CountRows | Item::Count(_) => ColumnPart::Number(Sum::empty()),
+            Item::Sum(_) => ColumnPart::Total(Sum::empty()),
+            Item::Min(_) => ColumnPart::Least(Min::empty()),
+            Item::Max(_) => ColumnPart::Greatest(Max::empty()),
+        }
+    }
+
+    /// Joins the part that stands in a row. Refuses only for want of memory.
+    pub fn add(&mut self, alloc: Global, value: &Value) -> Result<(), Refusal>
+        requires { CanHold (with_value self.old value.now) }
+        ensures ok { OnOk result (self.new ≡ with_value self.old value.now) }
+        ensures err { IfErr result (λ e. e ≡ Refusal.OutOfMemory) }
+    {
+        match self {
+            ColumnPart::Nothing => Ok(()),
+            ColumnPart::Number(part) => Sum::add(alloc, part, value),
+            ColumnPart::Total(part) => Sum::add(alloc, part, value),
+            ColumnPart::Least(part) => Min::add(alloc, part, value),
+            ColumnPart::Greatest(part) => Max::add(alloc, part, value),
+        }
+    }
+
+    /// Joins the part that stands in a place of these values, NULL behind the last.
+    fn add_at(&mut self, alloc: Global, values: &[Value], place: usize) -> Result<(), Refusal>
+        requires { CanHold (with_value self.old (value_at values.now place)) }
+        ensures ok { OnOk result (self.new ≡ with_value self.old (value_at values.now place)) }
+        ensures err { IfErr result (λ e. e ≡ Refusal.OutOfMemory) }
+    {
+        match values.get(place) {
+            Some(value) => self.add(alloc, value),
+            None => self.add(alloc, &Value::Null),
+        }
+    }
+
+    /// What the parts give together.
+    pub fn finish(self) -> Value
+        ensures { result ≡ finished self }
+    {
+        match self {
+            ColumnPart::Nothing => Value::Null,
+            ColumnPart::Number(part) => Value::Int(part.unwrap_or(0)),
+            ColumnPart::Total(part) => Sum::finish(part),
+            ColumnPart::Least(part) => Min::finish(part),
+            ColumnPart::Greatest(part) => Max::finish(part),
+        }
+    }
+}
+
+/// What is kept of each aggregate's parts, of none.
+pub fn empty_parts(alloc: Global, aggregates: &[Item<usize>]) -> Result<Vec<ColumnPart>, Refusal>
+    ensures ok { IfOk result (λ parts. parts.items ≡ map (λ a. column_part a []) aggregates.now) }
+    ensures err { IfErr result (λ e. e ≡ Refusal.OutOfMemory) }
+{
+    let mut parts = Vec::with_capacity(alloc, aggregates.len())?;
+    for aggregate in aggregates {
+        parts.push(ColumnPart::empty(aggregate))?;
+    }
+    Ok(parts)
+}
+
+/// Joins the parts that stand in a row behind its group's values. Refuses only for want of memory.
+pub fn add_values(
+    alloc: Global,
+    parts: &mut Vec<ColumnPart>,
+    values: &[Value],
+) -> Result<(), Refusal>
+    requires { CanHoldAll (with_values parts.old.items values.now) }
+    ensures ok { OnOk result (parts.new.items ≡ with_values parts.old.items values.now) }
+    ensures err { IfErr result (λ e. e ≡ Refusal.OutOfMemory) }
+{
+    for i in 0..parts.len() {
+        parts[i].add_at(alloc, values, i)?;
+    }
+    Ok(())
+}

@@ -1,0 +1,69 @@
+ghost use Rattle.std.specs.Prelude.{◌≡◌, List, [], ◌∷◌, OnOk, OnErr, IfOk, IfErr};
+ghost use Rattle.vt_value.specs.declared.value.Value.{Value};
+ghost use Rattle.aggregate.specs.Aggregates.{IsHeld};
+ghost use Rattle.aggregate.specs.Laws.{PartLaws};
+
+use std::alloc::Global;
+use vt_value::{Refusal, Value};
+
+/// An aggregate over a bag of values, which may be cut into bags: each has a part, and parts are joined.
+pub trait Aggregate {
+    /// What is kept of a bag of values.
+    type Part: Drop;
+
+    // the part of a bag of values
+    ghost part_of: { List Value → Self.Part };
+
+    // the part of two bags together
+    ghost joined: { Self.Part → Self.Part → Self.Part };
+
+    // the part's number fits its type
+    ghost can_hold: { Self.Part → Type 0 };
+
+    // what a part gives
+    ghost finished: { Self.Part → Value };
+
+    // what the aggregate gives over a bag of values
+    ghost meaning: { List Value → Value };
+
+    /// The part of no values.
+    fn empty() -> Self::Part
+        ensures { result ≡ part_of [] };
+
+    /// Adds a value to the bag. Refuses only for want of memory, and leaves the part then.
+    fn add(alloc: Global, part: &mut Self::Part, value: &Value) -> Result<(), Refusal>
+        requires { can_hold (joined part.old (part_of (value.now ∷ []))) }
+        ensures ok { OnOk result (part.new ≡ joined part.old (part_of (value.now ∷ []))) }
+        ensures kept { OnErr result (part.new ≡ part.old) }
+        ensures err { IfErr result (λ e. e ≡ Refusal.OutOfMemory) };
+
+    /// Adds the values of another bag. Refuses only for want of memory, and leaves the part then.
+    fn join(alloc: Global, part: &mut Self::Part, other: &Self::Part) -> Result<(), Refusal>
+        requires { can_hold (joined part.old other.now) }
+        ensures ok { OnOk result (part.new ≡ joined part.old other.now) }
+        ensures kept { OnErr result (part.new ≡ part.old) }
+        ensures err { IfErr result (λ e. e ≡ Refusal.OutOfMemory) };
+
+    /// What the aggregate gives over the bag.
+    fn finish(part: Self::Part) -> Value
+        ensures value { result ≡ finished part }
+        ensures means { (values : List Value) → part ≡ part_of values → result ≡ meaning values };
+
+    ghost laws: { PartLaws part_of joined };
+
+    // the part of values fits where they are few enough
+    ghost holds: { (values : List Value) → IsHeld values → can_hold (part_of values) };
+}
+
+/// What an aggregate gives over a bag of values. Refuses only for want of memory.
+pub fn evaluate<A: Aggregate>(alloc: Global, values: &[Value]) -> Result<Value, Refusal>
+    requires { IsHeld values.now }
+    ensures ok { IfOk result (λ value. value ≡ A.meaning values.now) }
+    ensures err { IfErr result (λ e. e ≡ Refusal.OutOfMemory) }
+{
+    let mut part = A::empty();
+    for value in values {
+        A::add(alloc, &mut part, value)?;
+    }
+    Ok(A::finish(part))
+}

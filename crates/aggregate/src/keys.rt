@@ -1,0 +1,80 @@
+ghost use Rattle.std.specs.Prelude.{◌≡◌, fold};
+ghost use Rattle.vt_value.specs.Values.{same_row};
+ghost use Rattle.aggregate.specs.Keys.{value_writes};
+
+use std::hash::{Hash, Hasher};
+use vt_value::{Row, Value, sort_order};
+
+/// The values of a group, where NULL is equal to NULL.
+#[derive(Drop)]
+pub struct GroupKey {
+    pub values: Row,
+}
+
+/// Whether two rows have the same values.
+fn same(a: &[Value], b: &[Value]) -> bool
+    ensures { result ≡ same_row a.now b.now }
+{
+    if a.len() != b.len() {
+        return false;
+    }
+    for i in 0..a.len() {
+        if sort_order(&a[i], &b[i]).is_ne() {
+            return false;
+        }
+    }
+    true
+}
+
+fn hash_value<H: Hasher>(value: &Value, state: &mut H)
+    ensures { state.new ≡ fold H.write state.old (value_writes value.now) }
+{
+    match value {
+        Value::Null => state.write_u8(0),
+        Value::Int(number) => {
+            state.write_u8(1);
+            state.write_i128(*number);
+        }
+        Value::Bytes(text) => {
+            state.write_u8(2);
+            state.write(text.as_slice());
+        }
+    }
+}
+
+impl PartialEq for GroupKey {
+    ghost use Rattle.std.specs.Cmp.{partial_equiv_from_equiv};
+    ghost use Rattle.std.proofs.lemmas.Cmp.{on_equiv};
+    ghost use Rattle.vt_value.specs.Values.{same_row};
+    ghost use Rattle.aggregate.specs.Proofs.KeyLemmas.{same_row-equiv};
+
+    ghost eq = { λ a b. same_row a.values b.values };
+
+    ghost laws = { partial_equiv_from_equiv (on_equiv (λ k. k.values) same_row-equiv) };
+
+    fn eq(&self, other: &GroupKey) -> bool {
+        same(self.values.as_slice(), other.values.as_slice())
+    }
+}
+
+impl Eq for GroupKey {
+    ghost use Rattle.std.proofs.lemmas.Cmp.{on_equiv};
+    ghost use Rattle.aggregate.specs.Proofs.KeyLemmas.{same_row-equiv};
+
+    ghost laws = { on_equiv (λ k. k.values) same_row-equiv };
+}
+
+impl Hash for GroupKey {
+    ghost use Rattle.aggregate.specs.Keys.{row_writes};
+    ghost use Rattle.aggregate.specs.Proofs.KeyLemmas.{hashed_alike};
+
+    ghost hash_input = { λ k. row_writes k.values };
+
+    ghost respects_eq = { λ a b same. hashed_alike a.values b.values same };
+
+    fn hash<H: Hasher>(&self, state: &mut H) {
+        for value in self.values.as_slice() {
+            hash_value(value, state);
+        }
+    }
+}

@@ -1,0 +1,18 @@
+//! Aggregates over parts of a bag, and groups.
+#![tactic(auto)]
+
+mod columns;
+mod counts;
+mod extremes;
+mod groups;
+mod joining;
+mod keys;
+mod sums;
+#[cfg(test)]
+mod tests;
+
+pub use counts::{Count, CountStar};
+pub use extremes::{Max, Min};
+pub use groups::GroupMerge;
+pub use joining::{Aggregate, evaluate};
+pub use sums::Sum;

@@ -1,0 +1,2 @@
+pub mod FirstWorld
+pub mod FirstText

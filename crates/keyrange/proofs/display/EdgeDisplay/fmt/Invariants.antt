@@ -1,0 +1,8 @@
+use Rattle.std.proofs.Common.{take}
+use Rattle.std.specs.Fmt.{HasWritten, IsPlainFormatter}
+use Rattle.keyrange.specs.Names.{hex}
+use Rattle.keyrange.proofs.display.EdgeDisplay.fmt.Given as goal
+
+abbrev pub invariant-loop-byte : goal.invariant-loop-byte
+invariant-loop-byte g l =
+    IsPlainFormatter l.fn.f → HasWritten g.W.Write.write_str_gives l.fn.f (hex (take l.byte-index l.byte-items)) l.f

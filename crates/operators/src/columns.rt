@@ -1,0 +1,72 @@
+ghost use Rattle.std.specs.Prelude.{◌≡◌, map, IsTrue, IfOk, IfErr};
+ghost use Rattle.vt_value.specs.Values.{value_at};
+ghost use Rattle.operators.specs.Slices.{columns_of};
+
+use crate::pulling::Operator;
+use std::alloc::Global;
+use vt_value::{Items, Refusal, Row, Value, copy};
+
+fn copy_at(alloc: Global, row: &Row, place: usize) -> Result<Value, Refusal>
+    ensures ok { IfOk result (λ v. v ≡ value_at row.now place) }
+    ensures err { IfErr result (λ e. e ≡ Refusal.OutOfMemory) }
+{
+    match row.as_slice().get(place) {
+        Some(value) => copy(alloc, value),
+        None => Ok(Value::Null),
+    }
+}
+
+/// The values of a row in these places, NULL behind its end. Refuses only for want of memory.
+pub fn project_row(alloc: Global, places: &[usize], row: &Row) -> Result<Row, Refusal>
+    ensures ok { IfOk result (λ shown. shown ≡ columns_of places.now row.now) }
+    ensures err { IfErr result (λ e. e ≡ Refusal.OutOfMemory) }
+{
+    let mut values = Items::new(alloc);
+    for place in places {
+        values.push(copy_at(alloc, row, *place)?)?;
+    }
+    Ok(values)
+}
+
+/// The columns of an input's rows in given places.
+#[derive(Drop)]
+pub struct Project<O> {
+    input: O,
+    places: Items<usize>,
+    failed: bool,
+}
+
+impl<O: Operator> Project<O> {
+    /// Of each row of the input the values in these places, NULL behind its end.
+    pub fn new(input: O, places: Items<usize>) -> Project<O>
+        ensures rows { ⟦<Project<O> as Operator>⟧.to_come result ≡ map (columns_of places) (O.to_come input) }
+        ensures fresh { ⟦<Project<O> as Operator>⟧.has_failed result ≡ O.has_failed input }
+    {
+        Project {
+            input,
+            places,
+            failed: false,
+        }
+    }
+}
+
+impl<O: Operator> Operator for Project<O> {
+    ghost use Rattle.std.specs.Prelude.{◌||◌, map};
+    ghost use Rattle.operators.specs.Slices.{columns_of};
+
+    ghost to_come = { λ project. map (columns_of project.places) (O.to_come project.input) };
+
+    ghost has_failed = { λ project. project.failed || O.has_failed project.input };
+
+    fn next(&mut self, alloc: Global) -> Result<Option<Row>, Refusal> {
+        if self.failed {
+            return Err(Refusal::OutOfMemory);
+        }
+        let Some(row) = self.input.next(alloc)? else {
+            return Ok(None);
+        };
+        let shown = project_row(alloc, self.places.as_slice(), &row);
+        self.failed = shown.is_err();
+        Ok(Some(shown?))
+    }
+}

@@ -1,0 +1,18 @@
+//! Operators over rows: concatenation, merge, limit and projection.
+#![tactic(auto)]
+
+mod columns;
+mod concatenation;
+mod pulling;
+mod slicing;
+mod sorting;
+mod stored;
+#[cfg(test)]
+mod tests;
+
+pub use columns::{Project, project_row};
+pub use concatenation::Concat;
+pub use pulling::{Operator, collect};
+pub use slicing::Limit;
+pub use sorting::{MergeSort, compare_rows, sort_rows};
+pub use stored::Rows;

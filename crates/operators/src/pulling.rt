@@ -1,0 +1,43 @@
+ghost use Rattle.std.specs.Prelude.{◌≡◌, List, [], ◌∷◌, ◌↔◌, Bool, IsTrue, IsErr, IfOk, IfErr, MatchOption};
+ghost use Rattle.vt_value.specs.declared.value.Value.{Value};
+
+use std::alloc::Global;
+use vt_value::{Items, Refusal, Row};
+
+/// Gives rows, one at a time.
+pub trait Operator: Drop {
+    // the rows that are still to come
+    ghost to_come: { Self → List (List Value) };
+
+    // a call had no memory
+    ghost has_failed: { Self → Bool };
+
+    /// The next row, or `None` where no row is left. Refuses only for want of memory, and then each later call does.
+    fn next(&mut self, alloc: Global) -> Result<Option<Row>, Refusal>
+        ensures row { IfOk result (λ next. MatchOption next
+            ((to_come self.old ≡ []) × (to_come self.new ≡ []))
+            (λ row. to_come self.old ≡ row ∷ to_come self.new)) }
+        ensures failed { IsTrue (has_failed self.old) → IsErr result }
+        ensures fails { IsTrue (has_failed self.new) ↔ IsErr result }
+        ensures err { IfErr result (λ e. e ≡ Refusal.OutOfMemory) };
+}
+
+/// The rows that are still to come, as a `Vec`. Refuses only for want of memory.
+pub fn pull_all<O: Operator>(alloc: Global, input: &mut O) -> Result<Vec<Row>, Refusal>
+    ensures ok { IfOk result (λ rows. rows.items ≡ O.to_come input.old) }
+    ensures err { IfErr result (λ e. e ≡ Refusal.OutOfMemory) }
+{
+    let mut rows = Vec::new(alloc);
+    while let Some(row) = input.next(alloc)? {
+        rows.push(row)?;
+    }
+    Ok(rows)
+}
+
+/// The rows that are still to come. Refuses only for want of memory.
+pub fn collect<O: Operator>(alloc: Global, input: &mut O) -> Result<Items<Row>, Refusal>
+    ensures ok { IfOk result (λ rows. rows ≡ O.to_come input.old) }
+    ensures err { IfErr result (λ e. e ≡ Refusal.OutOfMemory) }
+{
+    Ok(Items::from_vec(pull_all(alloc, input)?))
+}

@@ -1,0 +1,108 @@
+ghost use Rattle.std.specs.Prelude.{◌≡◌, All, flat_map, IsPermutation, IsSorted, IfOk, IfErr, OnOk};
+ghost use Rattle.vt_value.specs.Values.{value_at};
+ghost use Rattle.operators.specs.Orders.{value_order, row_cmp};
+
+use crate::concatenation::Concat;
+use crate::pulling::{Operator, pull_all};
+use crate::stored::{Rows, into_vec};
+use sql_tree::Key;
+use std::alloc::Global;
+use std::cmp::Ordering;
+use vt_value::{Items, Refusal, Row, Value, sort_order};
+
+fn at<'a>(row: &'a Row, place: usize, null: &'a Value) -> &'a Value
+    requires { null.now ≡ Value.Null }
+    ensures { result.now ≡ value_at row.now place }
+{
+    match row.as_slice().get(place) {
+        Some(value) => value,
+        None => null,
+    }
+}
+
+fn compare_key(key: &Key<usize>, a: &Row, b: &Row) -> Ordering
+    ensures { result ≡ value_order key.now (value_at a.now key.now.column) (value_at b.now key.now.column) }
+{
+    let null = Value::Null;
+    let order = sort_order(at(a, key.column, &null), at(b, key.column, &null));
+    if key.descending {
+        order.reverse()
+    } else {
+        order
+    }
+}
+
+/// The order of two rows by sort keys, the first key first. NULL is first ascending and last descending.
+pub fn compare_rows(keys: &[Key<usize>], a: &Row, b: &Row) -> Ordering
+    ensures { result ≡ row_cmp keys.now a.now b.now }
+{
+    for key in keys {
+        let order = compare_key(key, a, b);
+        if order.is_ne() {
+            return order;
+        }
+    }
+    Ordering::Equal
+}
+
+fn sort(rows: &mut Vec<Row>, keys: &[Key<usize>]) -> Result<(), Refusal>
+    ensures permutation { IsPermutation rows.old.items rows.new.items }
+    ensures sorted { OnOk result (IsSorted (row_cmp keys.now) rows.new.items) }
+    ensures err { IfErr result (λ e. e ≡ Refusal.OutOfMemory) }
+{
+    rows.sort_by(|a, b| compare_rows(keys, a, b))?;
+    Ok(())
+}
+
+/// The rows in an order that the keys allow. Refuses only for want of memory.
+pub fn sort_rows(
+    alloc: Global,
+    rows: Items<Row>,
+    keys: &[Key<usize>],
+) -> Result<Items<Row>, Refusal>
+    ensures permutation { IfOk result (λ arranged. IsPermutation rows arranged) }
+    ensures sorted { IfOk result (λ arranged. IsSorted (row_cmp keys.now) arranged) }
+    ensures err { IfErr result (λ e. e ≡ Refusal.OutOfMemory) }
+{
+    let mut list = into_vec(alloc, rows)?;
+    sort(&mut list, keys)?;
+    Ok(Items::from_vec(list))
+}
+
+/// The rows of several inputs in one order, where each input has its rows in that order.
+#[derive(Drop)]
+pub struct MergeSort {
+    arranged: Rows,
+}
+
+impl MergeSort {
+    /// The rows of these inputs, in an order that the keys allow where each input's rows are in such an order. Takes all rows
+    /// of the inputs. Refuses only for want of memory.
+    pub fn new<O: Operator>(
+        alloc: Global,
+        inputs: Vec<O>,
+        keys: &[Key<usize>],
+    ) -> Result<MergeSort, Refusal>
+        ensures permutation { IfOk result (λ merge. IsPermutation (flat_map O.to_come inputs.items) (⟦<MergeSort as Operator>⟧.to_come merge)) }
+        ensures sorted { IfOk result (λ merge. All (λ input. IsSorted (row_cmp keys.now) (O.to_come input)) inputs.items
+            → IsSorted (row_cmp keys.now) (⟦<MergeSort as Operator>⟧.to_come merge)) }
+        ensures err { IfErr result (λ e. e ≡ Refusal.OutOfMemory) }
+    {
+        let mut all = Concat::new(inputs);
+        let mut rows = pull_all(alloc, &mut all)?;
+        sort(&mut rows, keys)?;
+        Ok(MergeSort {
+            arranged: Rows::from_vec(rows),
+        })
+    }
+}
+
+impl Operator for MergeSort {
+    ghost to_come = { λ merge. ⟦<Rows as Operator>⟧.to_come merge.arranged };
+
+    ghost has_failed = { λ merge. ⟦<Rows as Operator>⟧.has_failed merge.arranged };
+
+    fn next(&mut self, alloc: Global) -> Result<Option<Row>, Refusal> {
+        self.arranged.next(alloc)
+    }
+}

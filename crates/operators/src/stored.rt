@@ -1,0 +1,68 @@
+ghost use Rattle.std.specs.Prelude.{◌≡◌, reverse, IfOk, IfErr};
+
+use crate::pulling::Operator;
+use std::alloc::Global;
+use vt_value::{Items, Refusal, Row};
+
+/// Rows that are there already, given in order.
+#[derive(Drop)]
+pub struct Rows {
+    /// The rows that are still to come, the last one first.
+    reversed: Vec<Row>,
+}
+
+impl Rows {
+    /// Gives these rows. Takes no memory.
+    pub fn from_vec(rows: Vec<Row>) -> Rows
+        ensures { ⟦<Rows as Operator>⟧.to_come result ≡ rows.items }
+    {
+        let mut reversed = rows;
+        reversed.reverse();
+        Rows { reversed }
+    }
+
+    /// Gives these rows. Refuses only for want of memory.
+    pub fn new(alloc: Global, rows: Items<Row>) -> Result<Rows, Refusal>
+        ensures ok { IfOk result (λ made. ⟦<Rows as Operator>⟧.to_come made ≡ rows) }
+        ensures err { IfErr result (λ e. e ≡ Refusal.OutOfMemory) }
+    {
+        Ok(Rows {
+            reversed: reversed(alloc, rows)?,
+        })
+    }
+}
+
+/// The rows, the last one first.
+fn reversed(alloc: Global, rows: Items<Row>) -> Result<Vec<Row>, Refusal>
+    ensures ok { IfOk result (λ list. list.items ≡ reverse rows) }
+    ensures err { IfErr result (λ e. e ≡ Refusal.OutOfMemory) }
+{
+    let mut rest = rows;
+    let mut list = Vec::with_capacity(alloc, rest.len())?;
+    while let Some(row) = rest.pop() {
+        list.push(row)?;
+    }
+    Ok(list)
+}
+
+/// The rows, as a `Vec`. Refuses only for want of memory.
+pub fn into_vec(alloc: Global, rows: Items<Row>) -> Result<Vec<Row>, Refusal>
+    ensures ok { IfOk result (λ list. list.items ≡ rows) }
+    ensures err { IfErr result (λ e. e ≡ Refusal.OutOfMemory) }
+{
+    let mut list = reversed(alloc, rows)?;
+    list.reverse();
+    Ok(list)
+}
+
+impl Operator for Rows {
+    ghost use Rattle.std.specs.Prelude.{reverse, false};
+
+    ghost to_come = { λ rows. reverse rows.reversed.items };
+
+    ghost has_failed = { λ rows. false };
+
+    fn next(&mut self, _alloc: Global) -> Result<Option<Row>, Refusal> {
+        Ok(self.reversed.pop())
+    }
+}

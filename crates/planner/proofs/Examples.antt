@@ -1,0 +1,99 @@
+-- Routes of conditions on t and u.
+use Rattle.std.proofs.Common.{◌≡◌, ℕ, [], ◌∷◌, refl, Some, None, pos, negsuc, rules}
+use Rattle.std.specs.Int.{reverse_bits_onto}
+use Rattle.vt_value.specs.declared.value.Value.{Value}
+use Rattle.vt_value.specs.declared.value.Value.TheVariants.{Null, Int}
+use Rattle.vt_value.specs.declared.value.Comparison.TheVariants.{Eq}
+use Rattle.keyrange.specs.declared.KeyRange.{KeyRange}
+use Rattle.sql_tree.specs.declared.Operand.TheVariants.{Column, Literal}
+use Rattle.sql_tree.specs.declared.Condition.{Condition, Compare, In, Not, And, Or, the_lemmas}
+use Rattle.vschema.specs.declared.changes.Write.TheVariants.{Insert, Update, Delete}
+use Rattle.vschema.proofs.Example.{schema, t, u}
+use Rattle.planner.specs.declared.routes.Route.TheVariants as route
+use Rattle.planner.specs.Routes.{route_of, write_route, taken_places}
+
+abbrev n : ℕ → Value
+n k = Int (pos k)
+
+abbrev id_is : Value → Condition ℕ
+id_is v = Compare Eq (Column 0) (Literal v)
+
+abbrev c_is : Value → Condition ℕ
+c_is v = Compare Eq (Column 1) (Literal v)
+
+-- id = 5 OR c = 1; NOT id = 5; id = 5 AND id = 6; 5 = id
+either : route_of t (Some (Or (id_is (n 5) ∷ c_is (n 1) ∷ []))) ≡ route.Scatter
+either = search (rules, the_lemmas)
+
+negated : route_of t (Some (Not (id_is (n 5)))) ≡ route.Scatter
+negated = search (rules, the_lemmas)
+
+both : route_of t (Some (And (id_is (n 5) ∷ id_is (n 6) ∷ []))) ≡ route.EqualUnique (n 5)
+both = search (rules, the_lemmas)
+
+turned : route_of t (Some (Compare Eq (Literal (n 5)) (Column 0))) ≡ route.EqualUnique (n 5)
+turned = search (rules, the_lemmas)
+
+-- c = 1 AND (id IN (1, 2) AND id = 6): nested ANDs are opened, and an equality goes before an IN
+nested : route_of t (Some (And (c_is (n 1) ∷ And (In (Column 0) (n 1 ∷ n 2 ∷ []) ∷ id_is (n 6) ∷ []) ∷ []))) ≡ route.EqualUnique (n 6)
+nested = search (rules, the_lemmas)
+
+-- id = NULL, id = -1, c = NULL OR id = 1
+null_key : route_of t (Some (id_is Null)) ≡ route.None
+null_key = search (rules, the_lemmas)
+
+negative : route_of t (Some (id_is (Int (negsuc 0)))) ≡ route.None
+negative = search (rules, the_lemmas)
+
+null_or : route_of t (Some (Or (c_is Null ∷ id_is (n 1) ∷ []))) ≡ route.Scatter
+null_or = search (rules, the_lemmas)
+
+-- id IN (1, NULL, 2), id IN (NULL), id IN (-1)
+members : route_of t (Some (In (Column 0) (n 1 ∷ Null ∷ n 2 ∷ []))) ≡ route.In (n 1 ∷ n 2 ∷ [])
+members = search (rules, the_lemmas)
+
+null_members : route_of t (Some (In (Column 0) (Null ∷ []))) ≡ route.None
+null_members = search (rules, the_lemmas)
+
+negative_members : route_of t (Some (In (Column 0) (Int (negsuc 0) ∷ []))) ≡ route.None
+negative_members = search (rules, the_lemmas)
+
+-- tables without a condition, and without a vindex
+all_of_t : route_of t None ≡ route.Scatter
+all_of_t = refl
+
+unsharded : route_of u (Some (c_is Null)) ≡ route.Unsharded
+unsharded = refl
+
+inserted : write_route schema (Insert 0 ((n 7 ∷ n 1 ∷ []) ∷ (n 8 ∷ Null ∷ []) ∷ [])) ≡ route.In (n 7 ∷ n 8 ∷ [])
+inserted = refl
+
+inserted_unsharded : write_route schema (Insert 2 ((n 7 ∷ Null ∷ []) ∷ [])) ≡ route.Unsharded
+inserted_unsharded = refl
+
+deleted : write_route schema (Delete 0 (Some (id_is (n 3)))) ≡ route.EqualUnique (n 3)
+deleted = search (rules, the_lemmas)
+
+updated : write_route schema (Update 0 [] None) ≡ route.Scatter
+updated = refl
+
+abbrev low : KeyRange
+low = record { begin = []; end = Some (0x80 ∷ []) }
+
+abbrev high : KeyRange
+high = record { begin = 0x80 ∷ []; end = None }
+
+-- odd ids lie in the high half, even ids in the low one
+five : taken_places t (route.EqualUnique (n 5)) (low ∷ high ∷ []) ≡ 1 ∷ []
+unfolding reverse_bits_onto
+five = refl
+
+odd_members : taken_places t (route.In (n 1 ∷ n 3 ∷ [])) (low ∷ high ∷ []) ≡ 1 ∷ []
+unfolding reverse_bits_onto
+odd_members = refl
+
+each : taken_places t route.Scatter (low ∷ high ∷ []) ≡ 0 ∷ 1 ∷ []
+each = refl
+
+no_shard : taken_places t route.None (low ∷ high ∷ []) ≡ []
+no_shard = refl

@@ -1,0 +1,10 @@
+pub mod Examples
+pub mod TrueConditions
+pub mod Placed
+pub mod Skips
+pub mod Cuts
+pub mod PieceRows
+pub mod Rights
+pub mod TopRows
+pub mod CutTruth
+pub mod Mapped

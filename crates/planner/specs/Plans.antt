@@ -1,0 +1,135 @@
+-- A plan, and what it may give: each shard of the route answers its piece over its own rows, and the answer is the finish
+-- applied to these answers.
+use Rattle.std.specs.Prelude.{◌≡◌, ℕ, ◌+◌, ◌-◌, ◌^◌, min, Bool, ◌&&◌, ◌==◌, List, [], ◌∷◌, ◌++◌, length, map, filter, flat_map, IsPermutation, IsSorted, Option, Some, None, option_map, is_some, if◌then◌else◌}
+use Rattle.vt_value.specs.declared.value.Value.{Value}
+use Rattle.vt_value.specs.Values.{Row}
+use Rattle.sql_tree.specs.declared.Item.{Item}
+use Rattle.sql_tree.specs.declared.Item.TheVariants as item
+use Rattle.sql_tree.specs.declared.Key.{Key}
+use Rattle.sql_tree.specs.declared.Limit.{Limit}
+use Rattle.sql_tree.specs.declared.Operand.{Operand}
+use Rattle.sql_tree.specs.declared.Operand.TheVariants.{Column, Literal}
+use Rattle.sql_tree.specs.declared.Condition as N
+use Rattle.sql_tree.specs.declared.Condition.{Condition, Condition-F, fold-Condition}
+use Rattle.sql_tree.specs.declared.Condition.TheOpen.{Compare, In, IsNull, Not, And, Or}
+use Rattle.keyrange.specs.declared.KeyRange.{KeyRange}
+use Rattle.keyrange.specs.Ranges.{has_id}
+use Rattle.operators.specs.Orders.{row_cmp}
+use Rattle.operators.specs.Slices.{sliced, columns_of}
+use Rattle.vschema.specs.declared.schema.ColumnVindex.{ColumnVindex}
+use Rattle.vschema.specs.declared.schema.Query.{Query}
+use Rattle.vschema.specs.declared.schema.Table.{Table}
+use Rattle.vschema.specs.Resolved.{places_from}
+use Rattle.vschema.specs.Database.{Database}
+use Rattle.sql_eval.specs.Queries.{Allowed}
+use Rattle.planner.specs.declared.routes.Route.{Route}
+use Rattle.planner.specs.declared.routes.Route.TheVariants as route
+use Rattle.planner.specs.declared.plans.Finish.{Finish}
+use Rattle.planner.specs.declared.plans.Plan.{Plan}
+use Rattle.planner.specs.Routes.{among, first_of, route_of, type_at, is_held, id_of, takes}
+
+-- a limit as each shard gets it: as many rows as the whole answer may need, the offset's too, at most 2^64 - 1
+abbrev pub pushed_limit : Limit → Limit
+pushed_limit l = record { count = min (l.offset + l.count) (2 ^ 64 - 1); offset = 0 }
+
+abbrev pub key_item : Key ℕ → Item ℕ
+key_item k = item.Column k.column
+
+-- The query as each shard gets it. It shows the query's columns, and behind them those of its sort keys.
+abbrev pub pushed : Query → Query
+pushed q = record q { items = q.items ++ map key_item q.order_by; limit = option_map pushed_limit q.limit }
+
+-- the keys, by the places of their columns in the pieces' rows, from a place on
+abbrev pub keys_from : ℕ → List (Key ℕ) → List (Key ℕ)
+keys_from n [] = []
+keys_from n (k ∷ keys) = record { column = n; descending = k.descending } ∷ keys_from (n + 1) keys
+
+-- the finish of a query that isn't aggregated: its order, its limit, and the columns that it shows
+abbrev pub finish_of : Query → Finish
+finish_of q = record { columns = places_from 0 q.items; order_by = keys_from (length q.items) q.order_by; limit = q.limit }
+
+abbrev pub planned : Table → Query → Plan
+planned t q = record { route = route_of t q.filter; piece = pushed q; finish = finish_of q }
+
+-- whether an IN on the column is one of the conjuncts
+abbrev pub has_among : ℕ → Condition ℕ → Bool
+has_among column c = is_some (first_of (among column c))
+
+-- a condition, and what the cut makes of it
+pub record Cut : Type 0 where
+  pub whole : Condition ℕ
+  pub cut : Condition ℕ
+
+abbrev pub uncut : Condition ℕ → Cut
+uncut c = record { whole = c; cut = c }
+
+-- the members of an AND: of those that have such an IN, the leftmost alone is cut
+abbrev pub first_cut : ℕ → List Cut → List (Condition ℕ)
+first_cut column [] = []
+first_cut column (c ∷ cuts) =
+    if has_among column c.whole then c.cut ∷ map (λ d. d.whole) cuts else c.whole ∷ first_cut column cuts
+
+abbrev pub cut_in : ℕ → (Value → Bool) → Operand ℕ → List Value → Condition ℕ
+cut_in column kept (Column c) members = N.In (Column c) (if c == column then filter kept members else members)
+cut_in column kept (Literal x) members = N.In (Literal x) members
+
+abbrev pub node_cut : ℕ → (Value → Bool) → Condition-F ℕ Cut → Cut
+node_cut column kept (Compare op a b) = uncut (N.Compare op a b)
+node_cut column kept (In a members) = record { whole = N.In a members; cut = cut_in column kept a members }
+node_cut column kept (IsNull a) = uncut (N.IsNull a)
+node_cut column kept (Not c) = uncut (N.Not c.whole)
+node_cut column kept (And cuts) = record { whole = N.And (map (λ c. c.whole) cuts); cut = N.And (first_cut column cuts) }
+node_cut column kept (Or cuts) = uncut (N.Or (map (λ c. c.whole) cuts))
+
+abbrev pub cut_by : ℕ → (Value → Bool) → Condition ℕ → Cut
+cut_by column kept c = fold-Condition ℕ Cut (node_cut column kept) c
+
+-- the condition with the members of the leftmost conjunct `column IN (..)` cut to those that pass a test
+abbrev pub cut_of : ℕ → (Value → Bool) → Condition ℕ → Condition ℕ
+cut_of column kept c = (cut_by column kept c).cut
+
+-- the members that lie in the range, of those that the column may hold
+abbrev pub is_member_of : Table → ColumnVindex → KeyRange → Value → Bool
+is_member_of t v range x = is_held (type_at t v.column) x && has_id range (id_of t x)
+
+abbrev pub cut_through : Table → Option ColumnVindex → KeyRange → Condition ℕ → Condition ℕ
+cut_through t None range c = c
+cut_through t (Some v) range c = cut_of v.column (is_member_of t v range) c
+
+-- Each shard gets the whole condition. Under IN the members of that conjunct are cut to the shard's own.
+abbrev pub shard_filter : Table → Route → KeyRange → Option (Condition ℕ) → Option (Condition ℕ)
+shard_filter t (route.In values) range filter' = option_map (cut_through t t.vindex range) filter'
+shard_filter t route.Unsharded range filter' = filter'
+shard_filter t route.None range filter' = filter'
+shard_filter t (route.EqualUnique v) range filter' = filter'
+shard_filter t route.Scatter range filter' = filter'
+
+-- the piece of the shard with this range
+abbrev pub piece_of : Table → Plan → KeyRange → Query
+piece_of t p range = record p.piece { filter = shard_filter t p.route range p.piece.filter }
+
+-- the finish: the pieces' rows in an order that the keys allow, their slice, and the columns of the answer
+abbrev pub Finishes : Finish → List Row → List Row → Type 0
+Finishes f rows list =
+    (arranged : List Row) × IsPermutation rows arranged × IsSorted (row_cmp f.order_by) arranged
+    × (list ≡ map (columns_of f.columns) (sliced f.limit arranged))
+
+-- a shard: its range, and the database of its rows
+abbrev pub Shard : Type 0
+Shard = KeyRange × Database
+
+-- a list for each shard, which its own rows allow its piece
+abbrev pub Pieces : Table → Plan → List Shard → List (List Row) → Type 0
+Pieces t p [] [] = Unit {0}
+Pieces t p [] (list ∷ lists) = ⊥
+Pieces t p (shard ∷ shards) [] = ⊥
+Pieces t p (shard ∷ shards) (list ∷ lists) = Allowed (piece_of t p shard.0) shard.1 list × Pieces t p shards lists
+
+-- the shards that the route has
+abbrev pub routed : Table → Plan → List Shard → List Shard
+routed t p shards = filter (λ shard. takes t p.route shard.0) shards
+
+-- what the plan may give over these shards
+abbrev pub Means : Table → Plan → List Shard → List Row → Type 0
+Means t p shards list =
+    (lists : List (List Row)) × Pieces t p (routed t p shards) lists × Finishes p.finish (flat_map (λ l. l) lists) list

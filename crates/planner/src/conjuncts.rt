@@ -1,0 +1,158 @@
+//! What the conjuncts of a condition say of the vindex column: the members of its AND, nested ANDs opened, from the left.
+ghost use Rattle.std.specs.Prelude.{◌≡◌, IfOk, IfErr, map, flat_map, Some, None, if◌then◌else◌};
+ghost use Rattle.std.specs.List.{list_any, list_all};
+ghost use Rattle.vt_value.specs.Values.{is_null};
+ghost use Rattle.planner.specs.Routes.{is_null_literal, is_never, literal_beside, equals, members_beside, among, first_of};
+
+use sql_tree::{Condition, Operand};
+use std::alloc::Global;
+use vt_value::{Comparison, Items, Refusal, Value, copy, copy_row};
+
+pub fn is_null(value: &Value) -> bool
+    ensures { result ≡ is_null value.now }
+{
+    matches!(value, Value::Null)
+}
+
+fn is_null_literal(operand: &Operand<usize>) -> bool
+    ensures { result ≡ is_null_literal operand.now }
+{
+    match operand {
+        Operand::Column(_) => false,
+        Operand::Literal(value) => is_null(value),
+    }
+}
+
+fn are_null(members: &[Value]) -> bool
+    ensures { result ≡ list_all is_null members.now }
+{
+    members.iter().all(|member| is_null(member))
+}
+
+/// Whether a conjunct can't be true: a comparison with the literal NULL, or an IN whose members are all NULL.
+#[cycle(never)]
+pub fn is_never(condition: &Condition<usize>) -> bool
+    ensures { result ≡ is_never condition.now }
+{
+    match condition {
+        Condition::Compare(_, a, b) => is_null_literal(a) || is_null_literal(b),
+        Condition::In(_, members) => are_null(members.as_slice()),
+        Condition::And(members) => has_never(members.as_slice()),
+        _ => false,
+    }
+}
+
+#[cycle(never)]
+fn has_never(members: &[Condition<usize>]) -> bool
+    ensures { result ≡ list_any (λ n. n) (map is_never members.now) }
+{
+    for member in members {
+        if is_never(member) {
+            return true;
+        }
+    }
+    false
+}
+
+/// The literal of the leftmost conjunct `column = literal` or `literal = column`.
+#[cycle(equal)]
+pub fn first_equal(
+    alloc: Global,
+    column: usize,
+    condition: &Condition<usize>,
+) -> Result<Option<Value>, Refusal>
+    ensures ok { IfOk result (λ found. found ≡ first_of (equals column condition.now)) }
+    ensures err { IfErr result (λ e. e ≡ Refusal.OutOfMemory) }
+{
+    match condition {
+        Condition::Compare(Comparison::Eq, a, b) => literal_beside(alloc, column, a, b),
+        Condition::And(members) => first_equal_of(alloc, column, members.as_slice()),
+        _ => Ok(None),
+    }
+}
+
+#[cycle(equal)]
+fn first_equal_of(
+    alloc: Global,
+    column: usize,
+    members: &[Condition<usize>],
+) -> Result<Option<Value>, Refusal>
+    ensures ok { IfOk result (λ found. found ≡ first_of (flat_map (λ l. l) (map (equals column) members.now))) }
+    ensures err { IfErr result (λ e. e ≡ Refusal.OutOfMemory) }
+{
+    for member in members {
+        let found = first_equal(alloc, column, member)?;
+        if found.is_some() {
+            return Ok(found);
+        }
+    }
+    Ok(None)
+}
+
+fn literal_beside(
+    alloc: Global,
+    column: usize,
+    a: &Operand<usize>,
+    b: &Operand<usize>,
+) -> Result<Option<Value>, Refusal>
+    ensures ok { IfOk result (λ found. found ≡ first_of (literal_beside column a.now b.now)) }
+    ensures err { IfErr result (λ e. e ≡ Refusal.OutOfMemory) }
+{
+    match (a, b) {
+        (Operand::Column(place), Operand::Literal(value))
+        | (Operand::Literal(value), Operand::Column(place)) => {
+            copy_where(alloc, *place == column, value)
+        }
+        _ => Ok(None),
+    }
+}
+
+fn copy_where(alloc: Global, wanted: bool, value: &Value) -> Result<Option<Value>, Refusal>
+    ensures ok { IfOk result (λ found. found ≡ if wanted then Some value.now else None) }
+    ensures err { IfErr result (λ e. e ≡ Refusal.OutOfMemory) }
+{
+    if wanted {
+        let value = copy(alloc, value)?;
+        Ok(Some(value))
+    } else {
+        Ok(None)
+    }
+}
+
+/// The members of the leftmost conjunct `column IN (..)`.
+#[cycle(among)]
+pub fn first_among(
+    alloc: Global,
+    column: usize,
+    condition: &Condition<usize>,
+) -> Result<Option<Items<Value>>, Refusal>
+    ensures ok { IfOk result (λ found. found ≡ first_of (among column condition.now)) }
+    ensures err { IfErr result (λ e. e ≡ Refusal.OutOfMemory) }
+{
+    match condition {
+        Condition::In(Operand::Column(place), members) if *place == column => {
+            let members = copy_row(alloc, members)?;
+            Ok(Some(members))
+        }
+        Condition::And(members) => first_among_of(alloc, column, members.as_slice()),
+        _ => Ok(None),
+    }
+}
+
+#[cycle(among)]
+fn first_among_of(
+    alloc: Global,
+    column: usize,
+    members: &[Condition<usize>],
+) -> Result<Option<Items<Value>>, Refusal>
+    ensures ok { IfOk result (λ found. found ≡ first_of (flat_map (λ l. l) (map (among column) members.now))) }
+    ensures err { IfErr result (λ e. e ≡ Refusal.OutOfMemory) }
+{
+    for member in members {
+        let found = first_among(alloc, column, member)?;
+        if found.is_some() {
+            return Ok(found);
+        }
+    }
+    Ok(None)
+}

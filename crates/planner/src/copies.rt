@@ -1,0 +1,122 @@
+//! Copies of the parts of a query.
+ghost use Rattle.std.specs.Prelude.{◌≡◌, IfOk, IfErr};
+
+use sql_tree::{Condition, Item, Key, Operand};
+use std::alloc::Global;
+use vt_value::{Boxed, Items, Refusal, copy, copy_row};
+
+pub fn copy_operand(alloc: Global, operand: &Operand<usize>) -> Result<Operand<usize>, Refusal>
+    ensures ok { IfOk result (λ o. o ≡ operand.now) }
+    ensures err { IfErr result (λ e. e ≡ Refusal.OutOfMemory) }
+{
+    match operand {
+        Operand::Column(place) => Ok(Operand::Column(*place)),
+        Operand::Literal(value) => {
+            let value = copy(alloc, value)?;
+            Ok(Operand::Literal(value))
+        }
+    }
+}
+
+#[cycle(copy)]
+pub fn copy_condition(
+    alloc: Global,
+    condition: &Condition<usize>,
+) -> Result<Condition<usize>, Refusal>
+    ensures ok { IfOk result (λ c. c ≡ condition.now) }
+    ensures err { IfErr result (λ e. e ≡ Refusal.OutOfMemory) }
+{
+    match condition {
+        Condition::Compare(op, a, b) => {
+            let a = copy_operand(alloc, a)?;
+            let b = copy_operand(alloc, b)?;
+            Ok(Condition::Compare(*op, a, b))
+        }
+        Condition::In(a, members) => {
+            let a = copy_operand(alloc, a)?;
+            let members = copy_row(alloc, members)?;
+            Ok(Condition::In(a, members))
+        }
+        Condition::IsNull(a) => {
+            let a = copy_operand(alloc, a)?;
+            Ok(Condition::IsNull(a))
+        }
+        Condition::Not(inner) => {
+            let inner = Boxed::new(alloc, copy_condition(alloc, inner.get())?)?;
+            Ok(Condition::Not(inner))
+        }
+        Condition::And(members) => {
+            let members = copy_members(alloc, members.as_slice())?;
+            Ok(Condition::And(members))
+        }
+        Condition::Or(members) => {
+            let members = copy_members(alloc, members.as_slice())?;
+            Ok(Condition::Or(members))
+        }
+    }
+}
+
+#[cycle(copy)]
+fn copy_members(
+    alloc: Global,
+    members: &[Condition<usize>],
+) -> Result<Items<Condition<usize>>, Refusal>
+    ensures ok { IfOk result (λ list. list ≡ members.now) }
+    ensures err { IfErr result (λ e. e ≡ Refusal.OutOfMemory) }
+{
+    let mut copied = Items::new(alloc);
+    for member in members {
+        let member = copy_condition(alloc, member)?;
+        copied.push(member)?;
+    }
+    Ok(copied)
+}
+
+fn copy_item(item: &Item<usize>) -> Item<usize>
+    ensures { result ≡ item.now }
+{
+    match item {
+        Item::Column(place) => Item::Column(*place),
+        Item::CountRows => Item::CountRows,
+        Item::Count(place) => Item::Count(*place),
+        Item::Sum(place) => Item::Sum(*place),
+        Item::Min(place) => Item::Min(*place),
+        Item::Max(place) => Item::Max(*place),
+    }
+}
+
+pub fn copy_items(alloc: Global, items: &[Item<usize>]) -> Result<Items<Item<usize>>, Refusal>
+    ensures ok { IfOk result (λ list. list ≡ items.now) }
+    ensures err { IfErr result (λ e. e ≡ Refusal.OutOfMemory) }
+{
+    let mut copied = Items::new(alloc);
+    for item in items {
+        copied.push(copy_item(item))?;
+    }
+    Ok(copied)
+}
+
+pub fn copy_keys(alloc: Global, keys: &[Key<usize>]) -> Result<Items<Key<usize>>, Refusal>
+    ensures ok { IfOk result (λ list. list ≡ keys.now) }
+    ensures err { IfErr result (λ e. e ≡ Refusal.OutOfMemory) }
+{
+    let mut copied = Items::new(alloc);
+    for key in keys {
+        copied.push(Key {
+            column: key.column,
+            descending: key.descending,
+        })?;
+    }
+    Ok(copied)
+}
+
+pub fn copy_places(alloc: Global, places: &[usize]) -> Result<Items<usize>, Refusal>
+    ensures ok { IfOk result (λ list. list ≡ places.now) }
+    ensures err { IfErr result (λ e. e ≡ Refusal.OutOfMemory) }
+{
+    let mut copied = Items::new(alloc);
+    for place in places {
+        copied.push(*place)?;
+    }
+    Ok(copied)
+}

@@ -1,0 +1,18 @@
+//! Routes and plans: which shards a statement needs, what each of them answers, and what is made of their answers.
+#![tactic(auto)]
+
+mod conjuncts;
+mod copies;
+mod finishing;
+mod pieces;
+mod planning;
+mod plans;
+mod routes;
+mod takes;
+#[cfg(test)]
+mod tests;
+
+pub use planning::plan;
+pub use plans::{Finish, Plan};
+pub use routes::{Route, write_route};
+pub use takes::shards;

@@ -1,0 +1,200 @@
+//! The query that each shard answers: under IN the members are cut to the shard's own.
+ghost use Rattle.std.specs.Prelude.{◌≡◌, ◌&&◌, IfOk, IfErr, map, flat_map, filter, is_some, Some, if◌then◌else◌};
+ghost use Rattle.std.specs.List.{list_any};
+ghost use Rattle.keyrange.specs.Ranges.{has_id};
+ghost use Rattle.planner.specs.Routes.{among, first_of, type_at, is_held, id_of};
+ghost use Rattle.planner.specs.Plans.{has_among, first_cut, cut_in, cut_by, cut_of, is_member_of, shard_filter, piece_of};
+
+use crate::copies::{copy_condition, copy_items, copy_keys, copy_operand, copy_places};
+use crate::plans::Plan;
+use crate::routes::{Route, is_held, type_at};
+use crate::takes::has_value;
+use keyrange::KeyRange;
+use sql_tree::{Condition, Operand};
+use std::alloc::Global;
+use vschema::{ColumnVindex, Query, Table};
+use vt_value::{Items, Refusal, Value, copy, copy_row};
+
+// Whether an IN on the column is one of the conjuncts.
+#[cycle(has)]
+fn has_among(column: usize, condition: &Condition<usize>) -> bool
+    ensures { result ≡ has_among column condition.now }
+{
+    match condition {
+        Condition::In(Operand::Column(place), _) => *place == column,
+        Condition::And(members) => one_has_among(column, members.as_slice()),
+        _ => false,
+    }
+}
+
+#[cycle(has)]
+fn one_has_among(column: usize, members: &[Condition<usize>]) -> bool
+    ensures { result ≡ list_any (has_among column) members.now }
+{
+    for member in members {
+        if has_among(column, member) {
+            return true;
+        }
+    }
+    false
+}
+
+/// A shard of a table with a vindex, told by its range.
+#[derive(Clone, Copy)]
+struct Home<'h> {
+    table: &'h Table,
+    vindex: ColumnVindex,
+    range: &'h KeyRange,
+}
+
+fn is_own(home: &Home, value: &Value) -> bool
+    ensures { result ≡ is_member_of home.now.table.now home.now.vindex home.now.range.now value.now }
+{
+    is_held(type_at(home.table, home.vindex.column), value)
+        && has_value(home.table, home.range, value)
+}
+
+fn own_members(alloc: Global, home: &Home, members: &[Value]) -> Result<Items<Value>, Refusal>
+    ensures ok { IfOk result (λ list. list ≡ filter (is_member_of home.now.table.now home.now.vindex home.now.range.now) members.now) }
+    ensures err { IfErr result (λ e. e ≡ Refusal.OutOfMemory) }
+{
+    let mut list = Items::new(alloc);
+    for member in members {
+        if is_own(home, member) {
+            list.push(copy(alloc, member)?)?;
+        }
+    }
+    Ok(list)
+}
+
+fn cut_in(
+    alloc: Global,
+    home: &Home,
+    operand: &Operand<usize>,
+    members: &Items<Value>,
+) -> Result<Condition<usize>, Refusal>
+    ensures ok { IfOk result (λ c. c ≡ cut_in home.now.vindex.column (is_member_of home.now.table.now home.now.vindex home.now.range.now) operand.now members.now) }
+    ensures err { IfErr result (λ e. e ≡ Refusal.OutOfMemory) }
+{
+    let members = match operand {
+        Operand::Column(place) if *place == home.vindex.column => {
+            own_members(alloc, home, members.as_slice())?
+        }
+        _ => copy_row(alloc, members)?,
+    };
+    let operand = copy_operand(alloc, operand)?;
+    Ok(Condition::In(operand, members))
+}
+
+#[cycle(cut)]
+fn cut_condition(
+    alloc: Global,
+    home: &Home,
+    condition: &Condition<usize>,
+) -> Result<Condition<usize>, Refusal>
+    ensures ok { IfOk result (λ c. c ≡ cut_of home.now.vindex.column (is_member_of home.now.table.now home.now.vindex home.now.range.now) condition.now) }
+    ensures err { IfErr result (λ e. e ≡ Refusal.OutOfMemory) }
+{
+    match condition {
+        Condition::In(operand, members) => cut_in(alloc, home, operand, members),
+        Condition::And(members) => {
+            let members = cut_members(alloc, home, members.as_slice())?;
+            Ok(Condition::And(members))
+        }
+        _ => copy_condition(alloc, condition),
+    }
+}
+
+#[cycle(cut)]
+fn cut_member(
+    alloc: Global,
+    home: &Home,
+    member: &Condition<usize>,
+    is_next: bool,
+) -> Result<Condition<usize>, Refusal>
+    ensures ok { IfOk result (λ c. c ≡ if is_next
+        then cut_of home.now.vindex.column (is_member_of home.now.table.now home.now.vindex home.now.range.now) member.now
+        else member.now) }
+    ensures err { IfErr result (λ e. e ≡ Refusal.OutOfMemory) }
+{
+    if is_next {
+        cut_condition(alloc, home, member)
+    } else {
+        copy_condition(alloc, member)
+    }
+}
+
+// Of the members that have an IN on the vindex column the leftmost alone is cut.
+#[cycle(cut)]
+fn cut_members(
+    alloc: Global,
+    home: &Home,
+    members: &[Condition<usize>],
+) -> Result<Items<Condition<usize>>, Refusal>
+    ensures ok { IfOk result (λ list. list ≡ first_cut home.now.vindex.column
+        (map (cut_by home.now.vindex.column (is_member_of home.now.table.now home.now.vindex home.now.range.now)) members.now)) }
+    ensures err { IfErr result (λ e. e ≡ Refusal.OutOfMemory) }
+{
+    let mut list = Items::new(alloc);
+    let mut is_cut = false;
+    for member in members {
+        let has = has_among(home.vindex.column, member);
+        let member = cut_member(alloc, home, member, has & !is_cut)?;
+        list.push(member)?;
+        is_cut = is_cut | has;
+    }
+    Ok(list)
+}
+
+fn shard_condition(
+    alloc: Global,
+    table: &Table,
+    route: &Route,
+    range: &KeyRange,
+    condition: &Condition<usize>,
+) -> Result<Condition<usize>, Refusal>
+    ensures ok { IfOk result (λ c. Some c ≡ shard_filter table.now route.now range.now (Some condition.now)) }
+    ensures err { IfErr result (λ e. e ≡ Refusal.OutOfMemory) }
+{
+    match (route, table.vindex) {
+        (Route::In(_), Some(vindex)) => {
+            let home = Home {
+                table,
+                vindex,
+                range,
+            };
+            cut_condition(alloc, &home, condition)
+        }
+        _ => copy_condition(alloc, condition),
+    }
+}
+
+impl Plan {
+    /// The query that the shard of a range answers: the piece, under IN with the members of that conjunct cut to the shard's own.
+    /// `table` is the query's table. Refuses only for want of memory.
+    pub fn piece_for(
+        &self,
+        alloc: Global,
+        table: &Table,
+        range: &KeyRange,
+    ) -> Result<Query, Refusal>
+        ensures ok { IfOk result (λ piece. piece ≡ piece_of table.now self.now range.now) }
+        ensures err { IfErr result (λ e. e ≡ Refusal.OutOfMemory) }
+    {
+        let filter = match &self.piece.filter {
+            Some(condition) => Some(shard_condition(alloc, table, &self.route, range, condition)?),
+            None => None,
+        };
+        let items = copy_items(alloc, self.piece.items.as_slice())?;
+        let group_by = copy_places(alloc, self.piece.group_by.as_slice())?;
+        let order_by = copy_keys(alloc, self.piece.order_by.as_slice())?;
+        Ok(Query {
+            table: self.piece.table,
+            items,
+            filter,
+            group_by,
+            order_by,
+            limit: self.piece.limit,
+        })
+    }
+}

@@ -1,0 +1,137 @@
+//! From a query to its plan.
+ghost use Rattle.std.specs.Prelude.{◌≡◌, ◌++◌, IfOk, IfErr, map, false, length, option_map};
+ghost use Rattle.vschema.specs.Checks.{is_aggregated};
+ghost use Rattle.vschema.specs.Resolved.{places_from};
+ghost use Rattle.planner.specs.Routes.{table_at, route_of};
+ghost use Rattle.planner.specs.Plans.{pushed_limit, key_item, pushed, keys_from, finish_of, planned};
+ghost use Rattle.planner.specs.Right.{IsRightPlan, SkipsNothing};
+
+use crate::plans::{Finish, Plan};
+use crate::routes::{Route, route_of};
+use sql_tree::{Item, Key, Limit};
+use std::alloc::Global;
+use vschema::{Query, VSchema};
+use vt_value::{Items, Refusal};
+
+// As many rows as the whole answer may need from one shard.
+fn pushed_limit(limit: Limit) -> Limit
+    ensures { result ≡ pushed_limit limit }
+{
+    Limit {
+        count: limit.offset.saturating_add(limit.count),
+        offset: 0,
+    }
+}
+
+fn shown_with_keys(
+    items: Items<Item<usize>>,
+    keys: &[Key<usize>],
+) -> Result<Items<Item<usize>>, Refusal>
+    ensures ok { IfOk result (λ shown. shown ≡ items ++ map key_item keys.now) }
+    ensures err { IfErr result (λ e. e ≡ Refusal.OutOfMemory) }
+{
+    let mut shown = items;
+    for key in keys {
+        shown.push(Item::Column(key.column))?;
+    }
+    Ok(shown)
+}
+
+fn pushed(query: Query) -> Result<Query, Refusal>
+    ensures ok { IfOk result (λ piece. piece ≡ pushed query) }
+    ensures err { IfErr result (λ e. e ≡ Refusal.OutOfMemory) }
+{
+    let Query {
+        table,
+        items,
+        filter,
+        group_by,
+        order_by,
+        limit,
+    } = query;
+    let items = shown_with_keys(items, order_by.as_slice())?;
+    let limit = match limit {
+        Some(limit) => Some(pushed_limit(limit)),
+        None => None,
+    };
+    Ok(Query {
+        table,
+        items,
+        filter,
+        group_by,
+        order_by,
+        limit,
+    })
+}
+
+fn first_places(alloc: Global, items: &[Item<usize>]) -> Result<Items<usize>, Refusal>
+    ensures ok { IfOk result (λ places. places ≡ places_from 0 items.now) }
+    ensures err { IfErr result (λ e. e ≡ Refusal.OutOfMemory) }
+{
+    let mut places = Items::new(alloc);
+    for (place, _) in items.iter().enumerate() {
+        places.push(place)?;
+    }
+    Ok(places)
+}
+
+// The keys, by places that follow those of the items.
+fn keys_behind(
+    alloc: Global,
+    items: &[Item<usize>],
+    keys: &[Key<usize>],
+) -> Result<Items<Key<usize>>, Refusal>
+    ensures ok { IfOk result (λ moved. moved ≡ keys_from (length items.now) keys.now) }
+    ensures err { IfErr result (λ e. e ≡ Refusal.OutOfMemory) }
+{
+    let mut moved = Items::new(alloc);
+    for (place, key) in keys.iter().enumerate() {
+        moved.push(Key {
+            column: items.len() + place,
+            descending: key.descending,
+        })?;
+    }
+    Ok(moved)
+}
+
+fn finish_of(alloc: Global, query: &Query) -> Result<Finish, Refusal>
+    ensures ok { IfOk result (λ finish. finish ≡ finish_of query.now) }
+    ensures err { IfErr result (λ e. e ≡ Refusal.OutOfMemory) }
+{
+    let items = query.items.as_slice();
+    let columns = first_places(alloc, items)?;
+    let order_by = keys_behind(alloc, items, query.order_by.as_slice())?;
+    Ok(Finish {
+        columns,
+        order_by,
+        limit: query.limit,
+    })
+}
+
+fn query_route(alloc: Global, schema: &VSchema, query: &Query) -> Result<Route, Refusal>
+    ensures ok { IfOk result (λ route. route ≡ route_of (table_at schema.now query.now.table) query.now.filter) }
+    ensures err { IfErr result (λ e. e ≡ Refusal.OutOfMemory) }
+{
+    match schema.tables.as_slice().get(query.table) {
+        Some(table) => route_of(alloc, table, &query.filter),
+        None => Ok(Route::Unsharded),
+    }
+}
+
+/// The plan of a query that isn't aggregated. Refuses only for want of memory.
+pub fn plan(alloc: Global, schema: &VSchema, query: Query) -> Result<Plan, Refusal>
+    requires plain { is_aggregated query ≡ false }
+    ensures exact { IfOk result (λ p. p ≡ planned (table_at schema.now query.table) query) }
+    ensures right { IfOk result (IsRightPlan schema.now query) }
+    ensures skips { IfOk result (SkipsNothing schema.now query) }
+    ensures err { IfErr result (λ e. e ≡ Refusal.OutOfMemory) }
+{
+    let route = query_route(alloc, schema, &query)?;
+    let finish = finish_of(alloc, &query)?;
+    let piece = pushed(query)?;
+    Ok(Plan {
+        route,
+        piece,
+        finish,
+    })
+}

@@ -1,0 +1,24 @@
+use crate::routes::Route;
+use sql_tree::{Key, Limit};
+use vschema::Query;
+use vt_value::Items;
+
+/// What is made of the rows of the pieces: they are sorted, sliced and cut to the columns of the answer.
+#[derive(Drop)]
+pub struct Finish {
+    /// The columns of the answer, by their places in the pieces' rows.
+    pub columns: Items<usize>,
+    /// The sort keys, by the places of their columns in the pieces' rows.
+    pub order_by: Items<Key<usize>>,
+    /// What is left of the sorted rows, all of them without one.
+    pub limit: Option<Limit>,
+}
+
+/// A query on shards: its route, the query that each shard answers, and the finish.
+#[derive(Drop)]
+pub struct Plan {
+    pub route: Route,
+    /// The query as each shard gets it, but for the members of an IN that are cut to a shard's own (`piece_for`).
+    pub piece: Query,
+    pub finish: Finish,
+}

@@ -1,0 +1,184 @@
+ghost use Rattle.std.specs.Prelude.{◌≡◌, IfOk, IfErr, filter, map, slice_get};
+ghost use Rattle.vt_value.specs.Values.{value_at};
+ghost use Rattle.vschema.specs.WriteChecks.{is_out_of_range, is_too_long};
+ghost use Rattle.planner.specs.Routes.{type_at, is_held, route_among, route_by, sharded_route, filter_route, route_of, insert_route, write_route};
+
+use crate::conjuncts::{first_among, first_equal, is_never, is_null};
+use sql_tree::Condition;
+use std::alloc::Global;
+use vschema::{ColumnType, Table, VSchema, Write};
+use vt_value::{Items, Refusal, Row, Value, copy};
+
+/// Which shards of its keyspace a statement needs.
+#[derive(Debug, Drop)]
+pub enum Route {
+    /// The one shard of the unsharded keyspace.
+    Unsharded,
+    /// No shard: the condition is true for no row.
+    None,
+    /// The shard of this value of the vindex column.
+    EqualUnique(Value),
+    /// The shards of these values of the vindex column.
+    In(Items<Value>),
+    /// Every shard.
+    Scatter,
+}
+
+/// The type of the column at a place, BIGINT where the table has no such column.
+pub fn type_at(table: &Table, place: usize) -> ColumnType
+    ensures { result ≡ type_at table.now place }
+{
+    match table.columns.as_slice().get(place) {
+        Some(column) => column.kind,
+        None => ColumnType::BigInt,
+    }
+}
+
+fn is_out_of_range(kind: ColumnType, value: &Value) -> bool
+    ensures { result ≡ is_out_of_range kind value.now }
+{
+    match (kind, value) {
+        (ColumnType::BigInt, Value::Int(n)) => {
+            *n < -9_223_372_036_854_775_808 || 9_223_372_036_854_775_807 < *n
+        }
+        (ColumnType::BigIntUnsigned, Value::Int(n)) => *n < 0 || 18_446_744_073_709_551_615 < *n,
+        _ => false,
+    }
+}
+
+fn is_too_long(kind: ColumnType, value: &Value) -> bool
+    ensures { result ≡ is_too_long kind value.now }
+{
+    match (kind, value) {
+        (ColumnType::VarBinary(most), Value::Bytes(text)) => usize::from(most) < text.len(),
+        _ => false,
+    }
+}
+
+/// Whether a column of the type may hold the value, NULL apart.
+pub fn is_held(kind: ColumnType, value: &Value) -> bool
+    ensures { result ≡ is_held kind value.now }
+{
+    !(is_null(value) || is_out_of_range(kind, value) || is_too_long(kind, value))
+}
+
+/// Copies of the values that a column of the type may hold.
+fn held(alloc: Global, kind: ColumnType, values: &[Value]) -> Result<Items<Value>, Refusal>
+    ensures ok { IfOk result (λ list. list ≡ filter (is_held kind) values.now) }
+    ensures err { IfErr result (λ e. e ≡ Refusal.OutOfMemory) }
+{
+    let mut list = Items::new(alloc);
+    for value in values {
+        if is_held(kind, value) {
+            list.push(copy(alloc, value)?)?;
+        }
+    }
+    Ok(list)
+}
+
+fn route_among(alloc: Global, kind: ColumnType, members: &[Value]) -> Result<Route, Refusal>
+    ensures ok { IfOk result (λ route. route ≡ route_among (filter (is_held kind) members.now)) }
+    ensures err { IfErr result (λ e. e ≡ Refusal.OutOfMemory) }
+{
+    let values = held(alloc, kind, members)?;
+    if values.as_slice().is_empty() {
+        Ok(Route::None)
+    } else {
+        Ok(Route::In(values))
+    }
+}
+
+fn sharded_route(
+    alloc: Global,
+    column: usize,
+    kind: ColumnType,
+    condition: &Condition<usize>,
+) -> Result<Route, Refusal>
+    ensures ok { IfOk result (λ route. route ≡ sharded_route column kind condition.now) }
+    ensures err { IfErr result (λ e. e ≡ Refusal.OutOfMemory) }
+{
+    if is_never(condition) {
+        return Ok(Route::None);
+    }
+    if let Some(value) = first_equal(alloc, column, condition)? {
+        if is_held(kind, &value) {
+            return Ok(Route::EqualUnique(value));
+        }
+        return Ok(Route::None);
+    }
+    match first_among(alloc, column, condition)? {
+        Some(members) => route_among(alloc, kind, members.as_slice()),
+        None => Ok(Route::Scatter),
+    }
+}
+
+/// The route of a query, an UPDATE or a DELETE, by its condition.
+pub fn route_of(
+    alloc: Global,
+    table: &Table,
+    filter: &Option<Condition<usize>>,
+) -> Result<Route, Refusal>
+    ensures ok { IfOk result (λ route. route ≡ route_of table.now filter.now) }
+    ensures err { IfErr result (λ e. e ≡ Refusal.OutOfMemory) }
+{
+    let Some(vindex) = table.vindex else {
+        return Ok(Route::Unsharded);
+    };
+    match filter {
+        Some(condition) => {
+            let kind = type_at(table, vindex.column);
+            sharded_route(alloc, vindex.column, kind, condition)
+        }
+        None => Ok(Route::Scatter),
+    }
+}
+
+fn value_at(alloc: Global, row: &Row, place: usize) -> Result<Value, Refusal>
+    ensures ok { IfOk result (λ v. v ≡ value_at row.now place) }
+    ensures err { IfErr result (λ e. e ≡ Refusal.OutOfMemory) }
+{
+    match row.as_slice().get(place) {
+        Some(value) => copy(alloc, value),
+        None => Ok(Value::Null),
+    }
+}
+
+fn values_at(alloc: Global, rows: &[Row], place: usize) -> Result<Items<Value>, Refusal>
+    ensures ok { IfOk result (λ list. list ≡ map (λ row. value_at row place) rows.now) }
+    ensures err { IfErr result (λ e. e ≡ Refusal.OutOfMemory) }
+{
+    let mut list = Items::new(alloc);
+    for row in rows {
+        list.push(value_at(alloc, row, place)?)?;
+    }
+    Ok(list)
+}
+
+fn insert_route(alloc: Global, table: &Table, rows: &[Row]) -> Result<Route, Refusal>
+    ensures ok { IfOk result (λ route. route ≡ insert_route table.now rows.now) }
+    ensures err { IfErr result (λ e. e ≡ Refusal.OutOfMemory) }
+{
+    match table.vindex {
+        None => Ok(Route::Unsharded),
+        Some(vindex) => {
+            let values = values_at(alloc, rows, vindex.column)?;
+            Ok(Route::In(values))
+        }
+    }
+}
+
+/// The route of a write. An INSERT goes to the shards of its rows, an UPDATE or a DELETE by its condition. A table that the
+/// VSchema doesn't have is unsharded. Refuses only for want of memory.
+pub fn write_route(alloc: Global, schema: &VSchema, write: &Write) -> Result<Route, Refusal>
+    ensures ok { IfOk result (λ route. route ≡ write_route schema.now write.now) }
+    ensures err { IfErr result (λ e. e ≡ Refusal.OutOfMemory) }
+{
+    let (Write::Insert(place, _) | Write::Update(place, _, _) | Write::Delete(place, _)) = write;
+    let Some(table) = schema.tables.as_slice().get(*place) else {
+        return Ok(Route::Unsharded);
+    };
+    match write {
+        Write::Insert(_, rows) => insert_route(alloc, table, rows.as_slice()),
+        Write::Update(_, _, filter) | Write::Delete(_, filter) => route_of(alloc, table, filter),
+    }
+}

@@ -1,0 +1,128 @@
+ghost use Rattle.std.specs.Prelude.{◌≡◌, ◌⊎◌, IfOk, IfErr, Ok, Err, map, filter, flat_map, option_to_list};
+ghost use Rattle.vschema.specs.declared.changes.RowChange.TheVariants.{Added, Removed};
+ghost use Rattle.sql_eval.specs.Conditions.{is_kept};
+ghost use Rattle.sql_eval.specs.Writes.{has_duplicate, assigned, row_updates, changes_over};
+
+use crate::conditions::keeps;
+use crate::rows::{has_key, same_row};
+use sql_tree::{Assignment, Condition};
+use std::alloc::Global;
+use vschema::{RowChange, Table, Write};
+use vt_value::{Items, Refusal, Row, copy, copy_row};
+
+fn has_duplicate(table: &Table, rows: &[Row], new: &[Row]) -> bool
+    ensures { result ≡ has_duplicate table.now rows.now new.now }
+{
+    for (i, row) in new.iter().enumerate() {
+        if has_key(table, rows, row) || has_key(table, &new[..i], row) {
+            return true;
+        }
+    }
+    false
+}
+
+fn added(alloc: Global, place: usize, new: &[Row]) -> Result<Items<RowChange>, Refusal>
+    ensures ok { IfOk result (λ changes. changes ≡ map (Added place) new.now) }
+    ensures err { IfErr result (λ e. e ≡ Refusal.OutOfMemory) }
+{
+    let mut changes = Items::new(alloc);
+    for row in new {
+        changes.push(RowChange::Added(place, copy_row(alloc, row)?))?;
+    }
+    Ok(changes)
+}
+
+fn removed(
+    alloc: Global,
+    place: usize,
+    condition: &Option<Condition<usize>>,
+    rows: &[Row],
+) -> Result<Items<RowChange>, Refusal>
+    ensures ok { IfOk result (λ changes. changes ≡ map (Removed place) (filter (is_kept condition.now) rows.now)) }
+    ensures err { IfErr result (λ e. e ≡ Refusal.OutOfMemory) }
+{
+    let mut changes = Items::new(alloc);
+    for row in rows {
+        if keeps(condition, row) {
+            changes.push(RowChange::Removed(place, copy_row(alloc, row)?))?;
+        }
+    }
+    Ok(changes)
+}
+
+fn assigned(alloc: Global, assignments: &[Assignment<usize>], row: &Row) -> Result<Row, Refusal>
+    ensures ok { IfOk result (λ r. r ≡ assigned assignments.now row.now) }
+    ensures err { IfErr result (λ e. e ≡ Refusal.OutOfMemory) }
+{
+    let mut new = copy_row(alloc, row)?;
+    for assignment in assignments {
+        if assignment.column < new.len() {
+            new.set(assignment.column, copy(alloc, &assignment.value)?);
+        }
+    }
+    Ok(new)
+}
+
+fn row_update(
+    alloc: Global,
+    place: usize,
+    assignments: &[Assignment<usize>],
+    condition: &Option<Condition<usize>>,
+    row: &Row,
+) -> Result<Option<RowChange>, Refusal>
+    ensures ok { IfOk result (λ change. option_to_list change ≡ row_updates place assignments.now condition.now row.now) }
+    ensures err { IfErr result (λ e. e ≡ Refusal.OutOfMemory) }
+{
+    if !keeps(condition, row) {
+        return Ok(None);
+    }
+    let new = assigned(alloc, assignments, row)?;
+    if same_row(row, &new) {
+        return Ok(None);
+    }
+    Ok(Some(RowChange::Replaced(place, copy_row(alloc, row)?, new)))
+}
+
+fn updated(
+    alloc: Global,
+    place: usize,
+    assignments: &[Assignment<usize>],
+    condition: &Option<Condition<usize>>,
+    rows: &[Row],
+) -> Result<Items<RowChange>, Refusal>
+    ensures ok { IfOk result (λ changes. changes ≡ flat_map (row_updates place assignments.now condition.now) rows.now) }
+    ensures err { IfErr result (λ e. e ≡ Refusal.OutOfMemory) }
+{
+    let mut changes = Items::new(alloc);
+    for row in rows {
+        if let Some(change) = row_update(alloc, place, assignments, condition, row)? {
+            changes.push(change)?;
+        }
+    }
+    Ok(changes)
+}
+
+/// What a write does to the rows of its table: rows added, removed or really changed. Refuses `DuplicateKey` where an INSERT
+/// has the primary key of a row that is there, or one twice, and else only for want of memory.
+pub fn change_local(
+    alloc: Global,
+    table: &Table,
+    write: &Write,
+    rows: &[Row],
+) -> Result<Items<RowChange>, Refusal>
+    ensures ok { IfOk result (λ changes. changes_over table.now write.now rows.now ≡ Ok changes) }
+    ensures err { IfErr result (λ e. (e ≡ Refusal.OutOfMemory) ⊎ (changes_over table.now write.now rows.now ≡ Err e)) }
+{
+    match write {
+        Write::Insert(place, new) => {
+            if has_duplicate(table, rows, new.as_slice()) {
+                return Err(Refusal::DuplicateKey);
+            }
+            added(alloc, *place, new.as_slice())
+        }
+        Write::Update(place, assignments, condition) => {
+            updated(alloc, *place, assignments.as_slice(), condition, rows)
+        }
+        Write::Delete(place, condition) => removed(alloc, *place, condition, rows),
+    }
+}

@@ -1,0 +1,128 @@
+-- What may follow a part of a statement goes on with nothing before it.
+use Rattle.std.proofs.Common.{◌≡◌, ℕ, ◌≤◌, false, List, [], ◌∷◌, ◌++◌, Option, Some, None, refl, arith}
+use Rattle.sql_lexer.specs.declared.token.Keyword.TheVariants as k
+use Rattle.sql_lexer.specs.declared.token.Sign.TheVariants.{Semicolon}
+use Rattle.sql_lexer.specs.Lexemes.{keyword, sign}
+use Rattle.sql_tree.specs.declared.Condition.{Condition}
+use Rattle.sql_tree.specs.declared.Key.{Key}
+use Rattle.sql_tree.specs.declared.Limit.{Limit}
+use Rattle.sql_tree.specs.Literals.{Name}
+use Rattle.sql_parser.specs.Grammar.{Lexemes, Optional, ReadsWhere, ReadsGroup, ReadsOrder, ReadsLimit}
+use Rattle.sql_parser.specs.Grammar as g
+use Rattle.sql_parser.specs.Reading.{is_comma, is_and, is_or, after_at, where_at, group_at, direction_at, order_at, offset_at, limit_at}
+
+-- Tokens that stand behind the clause of the number: 1 is WHERE, 2 GROUP BY, 3 ORDER BY and 4 LIMIT; 0 is what stands before them.
+pub data Behind (n : ℕ) : Lexemes → Type 0 where
+  end : Behind n []
+  semicolon : {ts : Lexemes} → Behind n (sign Semicolon ∷ ts)
+  at_where : {ts : Lexemes} → n ≤ 0 → Behind n (keyword k.Where ∷ ts)
+  at_group : {ts : Lexemes} → n ≤ 1 → Behind n (keyword k.Group ∷ keyword k.By ∷ ts)
+  at_order : {ts : Lexemes} → n ≤ 2 → Behind n (keyword k.Order ∷ keyword k.By ∷ ts)
+  at_limit : {ts : Lexemes} → n ≤ 3 → Behind n (keyword k.Limit ∷ ts)
+
+-- ---- none of them goes on with what stands before it
+
+pub no_comma : {n : ℕ} (ts : Lexemes) → Behind n ts → after_at is_comma ts ≡ None
+no_comma _ end = refl
+no_comma _ semicolon = refl
+no_comma _ (at_where le) = refl
+no_comma _ (at_group le) = refl
+no_comma _ (at_order le) = refl
+no_comma _ (at_limit le) = refl
+
+pub no_and : {n : ℕ} (ts : Lexemes) → Behind n ts → after_at is_and ts ≡ None
+no_and _ end = refl
+no_and _ semicolon = refl
+no_and _ (at_where le) = refl
+no_and _ (at_group le) = refl
+no_and _ (at_order le) = refl
+no_and _ (at_limit le) = refl
+
+pub no_or : {n : ℕ} (ts : Lexemes) → Behind n ts → after_at is_or ts ≡ None
+no_or _ end = refl
+no_or _ semicolon = refl
+no_or _ (at_where le) = refl
+no_or _ (at_group le) = refl
+no_or _ (at_order le) = refl
+no_or _ (at_limit le) = refl
+
+pub no_direction : {n : ℕ} (ts : Lexemes) → Behind n ts → direction_at ts ≡ (false, ts)
+unfolding direction_at
+no_direction _ end = refl
+no_direction _ semicolon = refl
+no_direction _ (at_where le) = refl
+no_direction _ (at_group le) = refl
+no_direction _ (at_order le) = refl
+no_direction _ (at_limit le) = refl
+
+pub no_where : (ts : Lexemes) → Behind 1 ts → where_at ts ≡ Some (None, ts)
+unfolding where_at
+no_where _ end = refl
+no_where _ semicolon = refl
+no_where _ (at_where le) = absurd (omega arith)
+no_where _ (at_group le) = refl
+no_where _ (at_order le) = refl
+no_where _ (at_limit le) = refl
+
+pub no_group : (ts : Lexemes) → Behind 2 ts → group_at ts ≡ Some ([], ts)
+unfolding group_at
+no_group _ end = refl
+no_group _ semicolon = refl
+no_group _ (at_where le) = absurd (omega arith)
+no_group _ (at_group le) = absurd (omega arith)
+no_group _ (at_order le) = refl
+no_group _ (at_limit le) = refl
+
+pub no_order : (ts : Lexemes) → Behind 3 ts → order_at ts ≡ Some ([], ts)
+unfolding order_at
+no_order _ end = refl
+no_order _ semicolon = refl
+no_order _ (at_where le) = absurd (omega arith)
+no_order _ (at_group le) = absurd (omega arith)
+no_order _ (at_order le) = absurd (omega arith)
+no_order _ (at_limit le) = refl
+
+pub no_limit : (ts : Lexemes) → Behind 4 ts → limit_at ts ≡ Some (None, ts)
+unfolding limit_at
+no_limit _ end = refl
+no_limit _ semicolon = refl
+no_limit _ (at_where le) = absurd (omega arith)
+no_limit _ (at_group le) = absurd (omega arith)
+no_limit _ (at_order le) = absurd (omega arith)
+no_limit _ (at_limit le) = absurd (omega arith)
+
+pub no_offset : {n : ℕ} (ts : Lexemes) → Behind n ts → offset_at ts ≡ Some (0, ts)
+unfolding offset_at
+no_offset _ end = refl
+no_offset _ semicolon = refl
+no_offset _ (at_where le) = refl
+no_offset _ (at_group le) = refl
+no_offset _ (at_order le) = refl
+no_offset _ (at_limit le) = refl
+
+-- ---- clauses with what stands behind them
+
+pub earlier : (n m : ℕ) → m ≤ n → (ts : Lexemes) → Behind n ts → Behind m ts
+earlier n m le _ end = end
+earlier n m le _ semicolon = semicolon
+earlier n m le _ (at_where h) = at_where (omega arith)
+earlier n m le _ (at_group h) = at_group (omega arith)
+earlier n m le _ (at_order h) = at_order (omega arith)
+earlier n m le _ (at_limit h) = at_limit (omega arith)
+
+pub limit_behind : (us : Lexemes) (x : Option Limit) → Optional ReadsLimit us x → (rest : Lexemes) → Behind 4 rest → Behind 3 (us ++ rest)
+limit_behind _ _ g.absent rest b = earlier 4 3 (omega arith) rest b
+limit_behind _ _ (g.present (g.limit n lt)) rest b = at_limit (omega arith)
+limit_behind _ _ (g.present (g.offset n m lt lt2)) rest b = at_limit (omega arith)
+
+pub order_behind : (us : Lexemes) (x : List (Key Name)) → ReadsOrder us x → (rest : Lexemes) → Behind 3 rest → Behind 2 (us ++ rest)
+order_behind _ _ g.without rest b = earlier 3 2 (omega arith) rest b
+order_behind _ _ (g.clause r) rest b = at_order (omega arith)
+
+pub group_behind : (us : Lexemes) (x : List Name) → ReadsGroup us x → (rest : Lexemes) → Behind 2 rest → Behind 1 (us ++ rest)
+group_behind _ _ g.without rest b = earlier 2 1 (omega arith) rest b
+group_behind _ _ (g.clause r) rest b = at_group (omega arith)
+
+pub where_behind : (us : Lexemes) (x : Option (Condition Name)) → Optional ReadsWhere us x → (rest : Lexemes) → Behind 1 rest → Behind 0 (us ++ rest)
+where_behind _ _ g.absent rest b = earlier 1 0 (omega arith) rest b
+where_behind _ _ (g.present (g.filter r)) rest b = at_where (omega arith)

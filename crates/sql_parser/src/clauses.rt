@@ -1,0 +1,153 @@
+//! The clauses behind a table's name.
+ghost use Rattle.std.specs.Prelude.{◌≡◌, ℕ, List};
+ghost use Rattle.sql_lexer.specs.Lexemes.{lexemes_of};
+ghost use Rattle.sql_lexer.specs.Results.{Gives};
+ghost use Rattle.sql_parser.specs.Reading.{listed_at, from_at, where_at, group_at, direction_at, key_at, order_at};
+ghost use Rattle.sql_parser.specs.Reading.{offset_at, limit_at};
+
+use crate::conditions::or;
+use crate::kinds::{ASC, BY, DESC, FROM, GROUP, LIMIT, OFFSET, ORDER, WHERE};
+use crate::names::{after_comma, name, names, number};
+use sql_lexer::Token;
+use sql_tree::{Condition, Key, Limit, Name};
+use std::alloc::Global;
+use vt_value::{Items, Refusal};
+
+/// How many open parentheses and NOTs may stand on one path.
+const MAX_DEPTH: usize = 64;
+
+/// FROM name
+#[tactic(auto, unfolding(crate::specs::Reading::from_at))]
+pub fn from<'s>(
+    alloc: Global,
+    text: &[u8],
+    tokens: &'s [Token],
+) -> Result<(Name, &'s [Token]), Refusal>
+    ensures { Gives (λ x. (x.0, lexemes_of text.now x.1.now)) result (from_at (lexemes_of text.now tokens.now)) }
+{
+    match tokens {
+        [Token { kind: FROM, .. }, rest @ ..] => name(alloc, text, rest),
+        _ => Err(Refusal::SyntaxError),
+    }
+}
+
+/// [WHERE or]
+#[tactic(auto, unfolding(crate::specs::Reading::where_at))]
+pub fn filter<'s>(
+    alloc: Global,
+    text: &[u8],
+    tokens: &'s [Token],
+) -> Result<(Option<Condition<Name>>, &'s [Token]), Refusal>
+    ensures { Gives (λ x. (x.0, lexemes_of text.now x.1.now)) result (where_at (lexemes_of text.now tokens.now)) }
+{
+    match tokens {
+        [Token { kind: WHERE, .. }, rest @ ..] => {
+            let (condition, rest) = or(alloc, text, MAX_DEPTH, rest)?;
+            Ok((Some(condition), rest))
+        }
+        _ => Ok((None, tokens)),
+    }
+}
+
+/// [GROUP BY column,..]
+#[tactic(auto, unfolding(crate::specs::Reading::group_at))]
+pub fn group<'s>(
+    alloc: Global,
+    text: &[u8],
+    tokens: &'s [Token],
+) -> Result<(Items<Name>, &'s [Token]), Refusal>
+    ensures { Gives (λ x. (x.0, lexemes_of text.now x.1.now)) result (group_at (lexemes_of text.now tokens.now)) }
+{
+    match tokens {
+        [Token { kind: GROUP, .. }, Token { kind: BY, .. }, rest @ ..] => names(alloc, text, rest),
+        _ => Ok((Items::new(alloc), tokens)),
+    }
+}
+
+/// [ASC | DESC], and whether it is DESC.
+#[tactic(auto, unfolding(crate::specs::Reading::direction_at))]
+fn direction(tokens: &[Token]) -> (bool, &[Token])
+    ensures { (text : List ℕ)
+        → direction_at (lexemes_of text tokens.now) ≡ (result.0, lexemes_of text result.1.now) }
+{
+    match tokens {
+        [Token { kind: ASC, .. }, rest @ ..] => (false, rest),
+        [Token { kind: DESC, .. }, rest @ ..] => (true, rest),
+        _ => (false, tokens),
+    }
+}
+
+/// key = column [ASC | DESC]
+#[tactic(auto, unfolding(crate::specs::Reading::key_at))]
+fn key<'s>(
+    alloc: Global,
+    text: &[u8],
+    tokens: &'s [Token],
+) -> Result<(Key<Name>, &'s [Token]), Refusal>
+    ensures { Gives (λ x. (x.0, lexemes_of text.now x.1.now)) result (key_at (lexemes_of text.now tokens.now)) }
+{
+    let (column, rest) = name(alloc, text, tokens)?;
+    let (descending, rest) = direction(rest);
+    Ok((Key { column, descending }, rest))
+}
+
+/// key,..
+fn keys<'s>(
+    alloc: Global,
+    text: &[u8],
+    tokens: &'s [Token],
+) -> Result<(Items<Key<Name>>, &'s [Token]), Refusal>
+    ensures { Gives (λ x. (x.0, lexemes_of text.now x.1.now)) result
+        (listed_at key_at (lexemes_of text.now tokens.now)) }
+{
+    let (first, mut rest) = key(alloc, text, tokens)?;
+    let mut keys = Items::new(alloc);
+    keys.push(first)?;
+    while let Some(after) = after_comma(rest) {
+        let (next, after) = key(alloc, text, after)?;
+        keys.push(next)?;
+        rest = after;
+    }
+    Ok((keys, rest))
+}
+
+/// [ORDER BY key,..]
+#[tactic(auto, unfolding(crate::specs::Reading::order_at))]
+pub fn order<'s>(
+    alloc: Global,
+    text: &[u8],
+    tokens: &'s [Token],
+) -> Result<(Items<Key<Name>>, &'s [Token]), Refusal>
+    ensures { Gives (λ x. (x.0, lexemes_of text.now x.1.now)) result (order_at (lexemes_of text.now tokens.now)) }
+{
+    match tokens {
+        [Token { kind: ORDER, .. }, Token { kind: BY, .. }, rest @ ..] => keys(alloc, text, rest),
+        _ => Ok((Items::new(alloc), tokens)),
+    }
+}
+
+/// [OFFSET count], which is 0 where it isn't there.
+#[tactic(auto, unfolding(crate::specs::Reading::offset_at))]
+fn offset<'s>(text: &[u8], tokens: &'s [Token]) -> Result<(u64, &'s [Token]), Refusal>
+    ensures { Gives (λ x. (x.0, lexemes_of text.now x.1.now)) result (offset_at (lexemes_of text.now tokens.now)) }
+{
+    match tokens {
+        [Token { kind: OFFSET, .. }, rest @ ..] => number(text, rest),
+        _ => Ok((0, tokens)),
+    }
+}
+
+/// [LIMIT count [OFFSET count]]
+#[tactic(auto, unfolding(crate::specs::Reading::limit_at))]
+pub fn limit<'s>(text: &[u8], tokens: &'s [Token]) -> Result<(Option<Limit>, &'s [Token]), Refusal>
+    ensures { Gives (λ x. (x.0, lexemes_of text.now x.1.now)) result (limit_at (lexemes_of text.now tokens.now)) }
+{
+    match tokens {
+        [Token { kind: LIMIT, .. }, rest @ ..] => {
+            let (count, rest) = number(text, rest)?;
+            let (offset, rest) = offset(text, rest)?;
+            Ok((Some(Limit { count, offset }), rest))
+        }
+        _ => Ok((None, tokens)),
+    }
+}

@@ -1,0 +1,140 @@
+//! Literals and operands.
+ghost use Rattle.std.specs.Prelude.{◌≡◌, ℕ, List};
+ghost use Rattle.sql_lexer.specs.Lexemes.{lexemes_of};
+ghost use Rattle.sql_lexer.specs.Results.{Gives};
+ghost use Rattle.sql_parser.specs.Reading.{listed_at, close_at, open_at, natural_at, negative_at, literal_at};
+ghost use Rattle.sql_parser.specs.Reading.{operand_at, members_at};
+
+use crate::kinds::{CLOSE, MINUS, NULL, OPEN};
+use crate::names::{after_comma, number};
+use crate::said;
+use sql_lexer::{Token, TokenKind};
+use sql_tree::{Name, Operand};
+use std::alloc::Global;
+use vt_value::{Items, Refusal, Value};
+
+/// How large a number may be behind a minus.
+const MAX_NEGATIVE: u64 = 0x8000_0000_0000_0000;
+
+/// What stands behind a closing parenthesis.
+#[tactic(auto, unfolding(crate::specs::Reading::close_at))]
+pub fn close(tokens: &[Token]) -> Result<&[Token], Refusal>
+    ensures { (text : List ℕ)
+        → Gives (λ rest. lexemes_of text rest.now) result (close_at (lexemes_of text tokens.now)) }
+{
+    match tokens {
+        [Token { kind: CLOSE, .. }, rest @ ..] => Ok(rest),
+        _ => Err(Refusal::SyntaxError),
+    }
+}
+
+/// What stands behind an opening parenthesis.
+#[tactic(auto, unfolding(crate::specs::Reading::open_at))]
+pub fn open(tokens: &[Token]) -> Result<&[Token], Refusal>
+    ensures { (text : List ℕ)
+        → Gives (λ rest. lexemes_of text rest.now) result (open_at (lexemes_of text tokens.now)) }
+{
+    match tokens {
+        [Token { kind: OPEN, .. }, rest @ ..] => Ok(rest),
+        _ => Err(Refusal::SyntaxError),
+    }
+}
+
+#[tactic(auto, unfolding(crate::specs::Reading::natural_at))]
+fn natural<'s>(text: &[u8], tokens: &'s [Token]) -> Result<(Value, &'s [Token]), Refusal>
+    ensures { Gives (λ x. (x.0, lexemes_of text.now x.1.now)) result (natural_at (lexemes_of text.now tokens.now)) }
+{
+    let (value, rest) = number(text, tokens)?;
+    Ok((Value::Int(i128::from(value)), rest))
+}
+
+/// A number behind its minus.
+#[tactic(auto, unfolding(crate::specs::Reading::negative_at))]
+fn negative<'s>(text: &[u8], tokens: &'s [Token]) -> Result<(Value, &'s [Token]), Refusal>
+    ensures { Gives (λ x. (x.0, lexemes_of text.now x.1.now)) result (negative_at (lexemes_of text.now tokens.now)) }
+{
+    let (value, rest) = number(text, tokens)?;
+    if value > MAX_NEGATIVE {
+        return Err(Refusal::SyntaxError);
+    }
+    Ok((Value::Int(-i128::from(value)), rest))
+}
+
+/// literal = number | - number | string | NULL
+#[tactic(auto, unfolding(crate::specs::Reading::literal_at))]
+pub fn literal<'s>(
+    alloc: Global,
+    text: &[u8],
+    tokens: &'s [Token],
+) -> Result<(Value, &'s [Token]), Refusal>
+    ensures { Gives (λ x. (x.0, lexemes_of text.now x.1.now)) result (literal_at (lexemes_of text.now tokens.now)) }
+{
+    match tokens {
+        [Token { kind: NULL, .. }, rest @ ..] => Ok((Value::Null, rest)),
+        [Token { kind: MINUS, .. }, rest @ ..] => negative(text, rest),
+        [
+            first @ Token {
+                kind: TokenKind::Text,
+                ..
+            },
+            rest @ ..,
+        ] => { Ok((Value::Bytes(said::string(alloc, text, first)?), rest)) }
+        _ => natural(text, tokens),
+    }
+}
+
+/// literal,..
+fn literals<'s>(
+    alloc: Global,
+    text: &[u8],
+    tokens: &'s [Token],
+) -> Result<(Items<Value>, &'s [Token]), Refusal>
+    ensures { Gives (λ x. (x.0, lexemes_of text.now x.1.now)) result
+        (listed_at literal_at (lexemes_of text.now tokens.now)) }
+{
+    let (first, mut rest) = literal(alloc, text, tokens)?;
+    let mut literals = Items::new(alloc);
+    literals.push(first)?;
+    while let Some(after) = after_comma(rest) {
+        let (next, after) = literal(alloc, text, after)?;
+        literals.push(next)?;
+        rest = after;
+    }
+    Ok((literals, rest))
+}
+
+/// (literal,..)
+#[tactic(auto, unfolding(crate::specs::Reading::bracketed_at))]
+pub fn members<'s>(
+    alloc: Global,
+    text: &[u8],
+    tokens: &'s [Token],
+) -> Result<(Items<Value>, &'s [Token]), Refusal>
+    ensures { Gives (λ x. (x.0, lexemes_of text.now x.1.now)) result (members_at (lexemes_of text.now tokens.now)) }
+{
+    let rest = open(tokens)?;
+    let (members, rest) = literals(alloc, text, rest)?;
+    let rest = close(rest)?;
+    Ok((members, rest))
+}
+
+/// operand = column | literal
+#[tactic(auto, unfolding(crate::specs::Reading::operand_at))]
+pub fn operand<'s>(
+    alloc: Global,
+    text: &[u8],
+    tokens: &'s [Token],
+) -> Result<(Operand<Name>, &'s [Token]), Refusal>
+    ensures { Gives (λ x. (x.0, lexemes_of text.now x.1.now)) result (operand_at (lexemes_of text.now tokens.now)) }
+{
+    let [first, rest @ ..] = tokens else {
+        return Err(Refusal::SyntaxError);
+    };
+    match said::identifier(text, first) {
+        Some(bytes) => Ok((Operand::Column(Items::from_slice(alloc, bytes)?), rest)),
+        None => {
+            let (value, rest) = literal(alloc, text, tokens)?;
+            Ok((Operand::Literal(value), rest))
+        }
+    }
+}

@@ -1,0 +1,76 @@
+//! Names, numbers, and what stands between the items of a list.
+ghost use Rattle.std.specs.Prelude.{◌≡◌, ℕ, List, option_map};
+ghost use Rattle.std.specs.Option.{option_copied};
+ghost use Rattle.sql_lexer.specs.Lexemes.{lexemes_of};
+ghost use Rattle.sql_lexer.specs.Results.{Gives};
+ghost use Rattle.sql_parser.specs.Reading.{is_comma, after_at, listed_at, name_at, number_at};
+
+use crate::kinds::COMMA;
+use crate::said;
+use sql_lexer::Token;
+use sql_tree::Name;
+use std::alloc::Global;
+use vt_value::{Items, Refusal};
+
+/// What stands behind a comma, where one stands here.
+pub fn after_comma(tokens: &[Token]) -> Option<&[Token]>
+    ensures { (text : List ℕ)
+        → option_map (lexemes_of text) (option_copied result) ≡ after_at is_comma (lexemes_of text tokens.now) }
+{
+    match tokens {
+        [Token { kind: COMMA, .. }, rest @ ..] => Some(rest),
+        _ => None,
+    }
+}
+
+/// name = identifier
+#[tactic(auto, unfolding(crate::specs::Reading::name_at))]
+pub fn name<'s>(
+    alloc: Global,
+    text: &[u8],
+    tokens: &'s [Token],
+) -> Result<(Name, &'s [Token]), Refusal>
+    ensures { Gives (λ x. (x.0, lexemes_of text.now x.1.now)) result (name_at (lexemes_of text.now tokens.now)) }
+{
+    let [first, rest @ ..] = tokens else {
+        return Err(Refusal::SyntaxError);
+    };
+    let Some(bytes) = said::identifier(text, first) else {
+        return Err(Refusal::SyntaxError);
+    };
+    Ok((Items::from_slice(alloc, bytes)?, rest))
+}
+
+/// A number that 64 bits hold.
+#[tactic(auto, unfolding(crate::specs::Reading::number_at))]
+pub fn number<'s>(text: &[u8], tokens: &'s [Token]) -> Result<(u64, &'s [Token]), Refusal>
+    ensures { Gives (λ x. (x.0, lexemes_of text.now x.1.now)) result (number_at (lexemes_of text.now tokens.now)) }
+{
+    let [first, rest @ ..] = tokens else {
+        return Err(Refusal::SyntaxError);
+    };
+    let Some(value) = said::number(text, first) else {
+        return Err(Refusal::SyntaxError);
+    };
+    Ok((value, rest))
+}
+
+/// name,..
+pub fn names<'s>(
+    alloc: Global,
+    text: &[u8],
+    tokens: &'s [Token],
+) -> Result<(Items<Name>, &'s [Token]), Refusal>
+    ensures { Gives (λ x. (x.0, lexemes_of text.now x.1.now)) result
+        (listed_at name_at (lexemes_of text.now tokens.now)) }
+{
+    let (first, mut rest) = name(alloc, text, tokens)?;
+    let mut names = Items::new(alloc);
+    names.push(first)?;
+    while let Some(after) = after_comma(rest) {
+        let (next, after) = name(alloc, text, after)?;
+        names.push(next)?;
+        rest = after;
+    }
+    Ok((names, rest))
+}

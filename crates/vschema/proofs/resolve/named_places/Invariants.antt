@@ -1,6 +1,0 @@
-use Rattle.std.proofs.Common.{◌≡◌, take, map}
-use Rattle.vschema.specs.Resolved.{place}
-use Rattle.vschema.proofs.resolve.named_places.Given as goal
-
-abbrev pub invariant-loop-name : goal.invariant-loop-name
-invariant-loop-name l = l.places ≡ map (place l.table) (take l.name-index l.names)

@@ -1,0 +1,138 @@
+ghost use Rattle.std.specs.Prelude.{◌≡◌, ◌++◌, ◌+◌, ◌≤◌, ◌<◌, ◌^◌, map, length, slice_get, option_and_then, IfOk, IfErr};
+ghost use Rattle.vschema.specs.Faults.{keys, place_in, vindex_on, meant_table, meant_tables, meant_keyspace, meant};
+
+use crate::document::{DeclaredKey, DeclaredKeyspace, DeclaredTable};
+use crate::fault::SchemaFault;
+use crate::lookups::{keys, place_of, vindex_of};
+use crate::schema::{Column, ColumnVindex, Keyspace, Table, VSchema};
+use sql_tree::Name;
+use std::alloc::Global;
+use vt_value::Items;
+
+fn copy_columns(alloc: Global, columns: &[Column]) -> Result<Items<Column>, SchemaFault>
+    ensures ok { IfOk result (λ r. r ≡ columns.now) }
+    ensures err { IfErr result (λ e. e ≡ SchemaFault.OutOfMemory) }
+{
+    let mut copied = Items::new(alloc);
+    for column in columns {
+        copied.push(Column {
+            name: Items::from_slice(alloc, column.name.as_slice())?,
+            kind: column.kind,
+            nullable: column.nullable,
+        })?;
+    }
+    Ok(copied)
+}
+
+fn place_in(table: &DeclaredTable, name: &Name) -> usize
+    ensures { result ≡ place_in table.now name.now }
+{
+    place_of(table, name).unwrap_or(0)
+}
+
+fn places_in(
+    alloc: Global,
+    table: &DeclaredTable,
+    names: &[Name],
+) -> Result<Items<usize>, SchemaFault>
+    ensures ok { IfOk result (λ r. r ≡ map (place_in table.now) names.now) }
+    ensures err { IfErr result (λ e. e ≡ SchemaFault.OutOfMemory) }
+{
+    let mut places = Items::new(alloc);
+    for name in names {
+        places.push(place_in(table, name))?;
+    }
+    Ok(places)
+}
+
+fn vindex_on(
+    keyspace: &DeclaredKeyspace,
+    table: &DeclaredTable,
+    key: &DeclaredKey,
+) -> Option<ColumnVindex>
+    ensures { result ≡ vindex_on keyspace.now table.now key.now }
+{
+    let vindex = vindex_of(keyspace, &key.vindex)?;
+    let column = place_in(table, &key.column);
+    Some(ColumnVindex { column, vindex })
+}
+
+fn first_vindex(keyspace: &DeclaredKeyspace, table: &DeclaredTable) -> Option<ColumnVindex>
+    ensures { result ≡ option_and_then (vindex_on keyspace.now table.now) (slice_get (keys table.now) 0) }
+{
+    vindex_on(keyspace, table, keys(table).first()?)
+}
+
+fn meant_table(
+    alloc: Global,
+    keyspace: &DeclaredKeyspace,
+    place: usize,
+    table: &DeclaredTable,
+) -> Result<Table, SchemaFault>
+    ensures ok { IfOk result (λ t. t ≡ meant_table keyspace.now place table.now) }
+    ensures err { IfErr result (λ e. e ≡ SchemaFault.OutOfMemory) }
+{
+    let name = Items::from_slice(alloc, table.name.as_slice())?;
+    let columns = copy_columns(alloc, table.columns.as_slice())?;
+    let primary_key = places_in(alloc, table, table.primary_key.as_slice())?;
+    Ok(Table {
+        name,
+        keyspace: place,
+        columns,
+        primary_key,
+        vindex: first_vindex(keyspace, table),
+    })
+}
+
+fn tables_of(
+    alloc: Global,
+    keyspace: &DeclaredKeyspace,
+    place: usize,
+) -> Result<Items<Table>, SchemaFault>
+    ensures ok { IfOk result (λ ts. ts ≡ map (meant_table keyspace.now place) keyspace.now.tables) }
+    ensures err { IfErr result (λ e. e ≡ SchemaFault.OutOfMemory) }
+{
+    let mut tables = Items::new(alloc);
+    for table in keyspace.tables.as_slice() {
+        tables.push(meant_table(alloc, keyspace, place, table)?)?;
+    }
+    Ok(tables)
+}
+
+fn all_tables(alloc: Global, keyspaces: &[DeclaredKeyspace]) -> Result<Items<Table>, SchemaFault>
+    ensures ok { IfOk result (λ ts. ts ≡ meant_tables 0 keyspaces.now) }
+    ensures err { IfErr result (λ e. e ≡ SchemaFault.OutOfMemory) }
+{
+    let mut tables = Items::new(alloc);
+    for (place, keyspace) in keyspaces.iter().enumerate() {
+        tables.append(tables_of(alloc, keyspace, place)?)?;
+    }
+    Ok(tables)
+}
+
+fn all_keyspaces(
+    alloc: Global,
+    declared: &[DeclaredKeyspace],
+) -> Result<Items<Keyspace>, SchemaFault>
+    ensures ok { IfOk result (λ ks. ks ≡ map meant_keyspace declared.now) }
+    ensures err { IfErr result (λ e. e ≡ SchemaFault.OutOfMemory) }
+{
+    let mut keyspaces = Items::new(alloc);
+    for keyspace in declared {
+        keyspaces.push(Keyspace {
+            name: Items::from_slice(alloc, keyspace.name.as_slice())?,
+            sharded: keyspace.sharded,
+        })?;
+    }
+    Ok(keyspaces)
+}
+
+/// The VSchema that is meant, where no fault applies.
+pub fn meant(alloc: Global, declared: &[DeclaredKeyspace]) -> Result<VSchema, SchemaFault>
+    ensures ok { IfOk result (λ schema. schema ≡ meant declared.now) }
+    ensures err { IfErr result (λ e. e ≡ SchemaFault.OutOfMemory) }
+{
+    let keyspaces = all_keyspaces(alloc, declared)?;
+    let tables = all_tables(alloc, declared)?;
+    Ok(VSchema { keyspaces, tables })
+}

@@ -1,0 +1,182 @@
+ghost use Rattle.std.specs.Prelude.{◌≡◌, ◌==◌, not, ◌&&◌, map, zip, flat_map, length, bytes_eq};
+ghost use Rattle.std.specs.List.{list_any};
+ghost use Rattle.vschema.specs.Resolved.{place, places_from};
+ghost use Rattle.vschema.specs.Checks.{is_unknown, has_number};
+ghost use Rattle.vschema.specs.WriteChecks.{has_twice, sets_twice, beside, is_out_of_range, is_too_long, is_key_column};
+ghost use Rattle.vschema.specs.StoredChecks.{fails};
+
+use crate::checks::{differ, has_number, is_text_type, value_is_text};
+use crate::names::{is_name, is_unknown};
+use crate::resolve::place;
+use crate::schema::{Column, ColumnType, Table};
+use sql_tree::{Assignment, Name};
+use vt_value::{Items, Value};
+
+/// What is asked of each value that is stored.
+#[derive(Clone, Copy, Debug, PartialEq, Eq)]
+pub enum StoredCheck {
+    OtherKind,
+    WrongNull,
+    OutOfRange,
+    TooLong,
+}
+
+/// Whether the name is one of these.
+pub fn has_name(names: &[Name], name: &Name) -> bool
+    ensures { result ≡ list_any (bytes_eq name.now) names.now }
+{
+    names.iter().any(|other| is_name(name, other))
+}
+
+/// Whether a name stands twice.
+pub fn has_twice(names: &[Name]) -> bool
+    ensures { result ≡ has_twice names.now }
+{
+    for (i, name) in names.iter().enumerate() {
+        if has_name(&names[i + 1..], name) {
+            return true;
+        }
+    }
+    false
+}
+
+fn sets_name(assignments: &[Assignment<Name>], name: &Name) -> bool
+    ensures { result ≡ list_any (λ a. bytes_eq name.now a.column) assignments.now }
+{
+    assignments.iter().any(|other| is_name(name, &other.column))
+}
+
+/// Whether SET names a column twice.
+pub fn sets_twice(assignments: &[Assignment<Name>]) -> bool
+    ensures { result ≡ sets_twice assignments.now }
+{
+    for (i, assignment) in assignments.iter().enumerate() {
+        if sets_name(&assignments[i + 1..], &assignment.column) {
+            return true;
+        }
+    }
+    false
+}
+
+/// Whether a row has another number of values than these.
+pub fn has_wrong_count(places: &[usize], rows: &[Items<Value>]) -> bool
+    ensures { result ≡ list_any (λ row. not (length row == length places.now)) rows.now }
+{
+    rows.iter().any(|row| row.len() != places.len())
+}
+
+/// Whether SET names a column that the table doesn't have.
+pub fn sets_unknown(table: &Table, assignments: &[Assignment<Name>]) -> bool
+    ensures { result ≡ list_any (λ a. is_unknown table.now a.column) assignments.now }
+{
+    assignments.iter().any(|a| is_unknown(table, &a.column))
+}
+
+fn is_out_of_range(kind: ColumnType, value: &Value) -> bool
+    ensures { result ≡ is_out_of_range kind value.now }
+{
+    match (kind, value) {
+        (ColumnType::BigInt, Value::Int(n)) => {
+            *n < -9_223_372_036_854_775_808 || 9_223_372_036_854_775_807 < *n
+        }
+        (ColumnType::BigIntUnsigned, Value::Int(n)) => *n < 0 || 18_446_744_073_709_551_615 < *n,
+        _ => false,
+    }
+}
+
+fn is_too_long(kind: ColumnType, value: &Value) -> bool
+    ensures { result ≡ is_too_long kind value.now }
+{
+    match (kind, value) {
+        (ColumnType::VarBinary(most), Value::Bytes(text)) => usize::from(most) < text.len(),
+        _ => false,
+    }
+}
+
+fn fails(check: StoredCheck, column: &Column, value: &Value) -> bool
+    ensures { result ≡ fails check (column.now, value.now) }
+{
+    match check {
+        StoredCheck::OtherKind => differ(Some(is_text_type(column.kind)), value_is_text(value)),
+        StoredCheck::WrongNull => matches!(value, Value::Null) && !column.nullable,
+        StoredCheck::OutOfRange => is_out_of_range(column.kind, value),
+        StoredCheck::TooLong => is_too_long(column.kind, value),
+    }
+}
+
+fn value_fails(check: StoredCheck, table: &Table, place: usize, value: &Value) -> bool
+    ensures { result ≡ list_any (fails check) (beside table.now place value.now) }
+{
+    match table.columns.as_slice().get(place) {
+        Some(column) => fails(check, column, value),
+        None => false,
+    }
+}
+
+fn row_fails(check: StoredCheck, table: &Table, places: &[usize], row: &[Value]) -> bool
+    ensures { result ≡ list_any (fails check) (flat_map (λ p. beside table.now p.0 p.1) (zip places.now row.now)) }
+{
+    let [place, places @ ..] = places else {
+        return false;
+    };
+    let [value, row @ ..] = row else {
+        return false;
+    };
+    value_fails(check, table, *place, value) || row_fails(check, table, places, row)
+}
+
+/// Whether a value of a row fails, each beside the column at its place.
+pub fn rows_fail(check: StoredCheck, table: &Table, places: &[usize], rows: &[Items<Value>]) -> bool
+    ensures { result ≡ list_any (fails check) (flat_map (λ row. flat_map (λ p. beside table.now p.0 p.1) (zip places.now row)) rows.now) }
+{
+    for row in rows {
+        if row_fails(check, table, places, row.as_slice()) {
+            return true;
+        }
+    }
+    false
+}
+
+/// Whether a value that SET stores fails.
+pub fn assignments_fail(check: StoredCheck, table: &Table, assignments: &[Assignment<Name>]) -> bool
+    ensures { result ≡ list_any (fails check) (flat_map (λ a. beside table.now (place table.now a.column) a.value) assignments.now) }
+{
+    for a in assignments {
+        if value_fails(check, table, place(table, &a.column), &a.value) {
+            return true;
+        }
+    }
+    false
+}
+
+/// Whether a NOT NULL column isn't at one of these places.
+pub fn leaves_out_column(table: &Table, places: &[usize]) -> bool
+    ensures { result ≡ list_any (λ p. not p.1.nullable && not (has_number places.now p.0))
+        (zip (places_from 0 table.now.columns) table.now.columns) }
+{
+    for (place, column) in table.columns.as_slice().iter().enumerate() {
+        if !column.nullable && !has_number(places, place) {
+            return true;
+        }
+    }
+    false
+}
+
+fn is_key_column(table: &Table, place: usize) -> bool
+    ensures { result ≡ is_key_column table.now place }
+{
+    has_number(table.primary_key.as_slice(), place)
+        || match table.vindex {
+            Some(vindex) => vindex.column == place,
+            None => false,
+        }
+}
+
+/// Whether SET sets a column of the primary key, or the vindex column.
+pub fn sets_key(table: &Table, assignments: &[Assignment<Name>]) -> bool
+    ensures { result ≡ list_any (λ a. is_key_column table.now (place table.now a.column)) assignments.now }
+{
+    assignments
+        .iter()
+        .any(|a| is_key_column(table, place(table, &a.column)))
+}

@@ -1,0 +1,347 @@
+ghost use Rattle.std.specs.Prelude.{◌≡◌, ◌⊎◌, ◌==◌, IfOk, IfErr, map, option_map, Ok, Err};
+ghost use Rattle.vschema.specs.Schema.{place_from};
+ghost use Rattle.vschema.specs.Resolved.{places_from};
+ghost use Rattle.vschema.specs.WriteChecks.{named, insert_places, has_wrong_count, insert_names_unknown, inserted_values, has_other_kind, leaves_out_column, assigned_values, update_names_unknown, update_is_not_supported};
+ghost use Rattle.vschema.specs.TypedWrites.{value_for, whole_row, resolved_assignment, insert_over, update_over, delete_over, unless_refused, stored_checks, insert_checks, update_checks, delete_checks, typed_insert, typed_update, typed_delete};
+ghost use Rattle.vschema.specs.StoredChecks.{fails, unless};
+ghost use Rattle.std.specs.List.{list_any};
+
+use crate::changes::Write;
+use crate::checks::{filter_mixes, filter_names_unknown, some_unknown};
+use crate::names::table_place;
+use crate::resolve::{place, resolve_filter, resolve_names};
+use crate::schema::{Table, VSchema};
+use crate::write_checks::{
+    StoredCheck, assignments_fail, has_twice, has_wrong_count, leaves_out_column, rows_fail,
+    sets_key, sets_twice, sets_unknown,
+};
+use sql_tree::{Assignment, Delete, Insert, Name, Update};
+use std::alloc::Global;
+use vt_value::{Items, Refusal, Row, Value, copy};
+
+fn all_places(alloc: Global, table: &Table) -> Result<Items<usize>, Refusal>
+    ensures ok { IfOk result (λ r. r ≡ places_from 0 table.now.columns) }
+    ensures err { IfErr result (λ e. e ≡ Refusal.OutOfMemory) }
+{
+    let mut places = Items::new(alloc);
+    for (place, _) in table.columns.as_slice().iter().enumerate() {
+        places.push(place)?;
+    }
+    Ok(places)
+}
+
+fn insert_places(
+    alloc: Global,
+    table: &Table,
+    columns: &Option<Items<Name>>,
+) -> Result<Items<usize>, Refusal>
+    ensures ok { IfOk result (λ r. r ≡ insert_places table.now columns.now) }
+    ensures err { IfErr result (λ e. e ≡ Refusal.OutOfMemory) }
+{
+    match columns {
+        None => all_places(alloc, table),
+        Some(names) => resolve_names(alloc, table, names.as_slice()),
+    }
+}
+
+fn names_of(columns: &Option<Items<Name>>) -> &[Name]
+    ensures { result.now ≡ named columns.now }
+{
+    match columns {
+        None => &[],
+        Some(names) => names.as_slice(),
+    }
+}
+
+fn has_other_count(table: &Table, insert: &Insert, places: &[usize]) -> bool
+    requires places { places.now ≡ insert_places table.now insert.now.columns }
+    ensures { result ≡ has_wrong_count table.now insert.now }
+{
+    has_wrong_count(places, insert.rows.as_slice())
+}
+
+fn names_unknown(table: &Table, insert: &Insert) -> bool
+    ensures { result ≡ insert_names_unknown table.now insert.now }
+{
+    some_unknown(table, names_of(&insert.columns))
+}
+
+fn insert_fails(check: StoredCheck, table: &Table, insert: &Insert, places: &[usize]) -> bool
+    requires places { places.now ≡ insert_places table.now insert.now.columns }
+    ensures { result ≡ list_any (fails check) (inserted_values table.now insert.now) }
+{
+    rows_fail(check, table, places, insert.rows.as_slice())
+}
+
+fn leaves_out(table: &Table, insert: &Insert, places: &[usize]) -> bool
+    requires places { places.now ≡ insert_places table.now insert.now.columns }
+    ensures { result ≡ leaves_out_column table.now insert.now }
+{
+    leaves_out_column(table, places)
+}
+
+fn inserted_refusal(table: &Table, insert: &Insert, places: &[usize]) -> Option<Refusal>
+    requires places { places.now ≡ insert_places table.now insert.now.columns }
+    ensures { (w : Write) → unless_refused (stored_checks (inserted_values table.now insert.now)) w ≡ unless result w }
+{
+    if insert_fails(StoredCheck::WrongNull, table, insert, places) {
+        Some(Refusal::NullNotAllowed)
+    } else if insert_fails(StoredCheck::OutOfRange, table, insert, places) {
+        Some(Refusal::OutOfRange)
+    } else if insert_fails(StoredCheck::TooLong, table, insert, places) {
+        Some(Refusal::TooLong)
+    } else {
+        None
+    }
+}
+
+fn insert_refusal(table: &Table, insert: &Insert, places: &[usize]) -> Option<Refusal>
+    requires places { places.now ≡ insert_places table.now insert.now.columns }
+    ensures { (w : Write) → unless_refused (insert_checks table.now insert.now) w ≡ unless result w }
+{
+    if has_twice(names_of(&insert.columns)) {
+        Some(Refusal::ColumnNamedTwice)
+    } else if has_other_count(table, insert, places) {
+        Some(Refusal::WrongValueCount)
+    } else if names_unknown(table, insert) {
+        Some(Refusal::UnknownColumn)
+    } else if insert_fails(StoredCheck::OtherKind, table, insert, places) {
+        Some(Refusal::NotSupported)
+    } else if leaves_out(table, insert, places) {
+        Some(Refusal::NoDefaultValue)
+    } else {
+        inserted_refusal(table, insert, places)
+    }
+}
+
+fn position(places: &[usize], place: usize) -> Option<usize>
+    ensures { result ≡ place_from (λ m. m == place) 0 places.now }
+{
+    for (i, other) in places.iter().enumerate() {
+        if *other == place {
+            return Some(i);
+        }
+    }
+    None
+}
+
+fn value_for(
+    alloc: Global,
+    places: &[usize],
+    values: &[Value],
+    place: usize,
+) -> Result<Value, Refusal>
+    ensures ok { IfOk result (λ v. v ≡ value_for places.now values.now place) }
+    ensures err { IfErr result (λ e. e ≡ Refusal.OutOfMemory) }
+{
+    let Some(at) = position(places, place) else {
+        return Ok(Value::Null);
+    };
+    match values.get(at) {
+        Some(value) => copy(alloc, value),
+        None => Ok(Value::Null),
+    }
+}
+
+fn whole_row(
+    alloc: Global,
+    table: &Table,
+    places: &[usize],
+    values: &[Value],
+) -> Result<Row, Refusal>
+    ensures ok { IfOk result (λ r. r ≡ whole_row table.now places.now values.now) }
+    ensures err { IfErr result (λ e. e ≡ Refusal.OutOfMemory) }
+{
+    let mut row = Items::new(alloc);
+    for (place, _) in table.columns.as_slice().iter().enumerate() {
+        let value = value_for(alloc, places, values, place)?;
+        row.push(value)?;
+    }
+    Ok(row)
+}
+
+fn whole_rows(
+    alloc: Global,
+    table: &Table,
+    places: &[usize],
+    rows: &[Items<Value>],
+) -> Result<Items<Row>, Refusal>
+    ensures ok { IfOk result (λ r. r ≡ map (whole_row table.now places.now) rows.now) }
+    ensures err { IfErr result (λ e. e ≡ Refusal.OutOfMemory) }
+{
+    let mut whole = Items::new(alloc);
+    for row in rows {
+        let row = whole_row(alloc, table, places, row.as_slice())?;
+        whole.push(row)?;
+    }
+    Ok(whole)
+}
+
+fn insert_into(
+    alloc: Global,
+    place: usize,
+    table: &Table,
+    insert: &Insert,
+) -> Result<Write, Refusal>
+    ensures ok { IfOk result (λ w. unless_refused (insert_checks table.now insert.now) (insert_over place table.now insert.now) ≡ Ok w) }
+    ensures err { IfErr result (λ e. (e ≡ Refusal.OutOfMemory)
+        ⊎ (unless_refused (insert_checks table.now insert.now) (insert_over place table.now insert.now) ≡ Err e)) }
+{
+    let places = insert_places(alloc, table, &insert.columns)?;
+    if let Some(refusal) = insert_refusal(table, insert, places.as_slice()) {
+        return Err(refusal);
+    }
+    let rows = whole_rows(alloc, table, places.as_slice(), insert.rows.as_slice())?;
+    Ok(Write::Insert(place, rows))
+}
+
+fn update_names_unknown(table: &Table, update: &Update) -> bool
+    ensures { result ≡ update_names_unknown table.now update.now }
+{
+    sets_unknown(table, update.assignments.as_slice())
+        || filter_names_unknown(table, &update.filter)
+}
+
+fn update_is_not_supported(table: &Table, update: &Update) -> bool
+    ensures { result ≡ update_is_not_supported table.now update.now }
+{
+    let assignments = update.assignments.as_slice();
+    filter_mixes(table, &update.filter)
+        || assignments_fail(StoredCheck::OtherKind, table, assignments)
+        || sets_key(table, assignments)
+}
+
+fn assigned_refusal(table: &Table, update: &Update) -> Option<Refusal>
+    ensures { (w : Write) → unless_refused (stored_checks (assigned_values table.now update.now)) w ≡ unless result w }
+{
+    let assignments = update.assignments.as_slice();
+    if assignments_fail(StoredCheck::WrongNull, table, assignments) {
+        Some(Refusal::NullNotAllowed)
+    } else if assignments_fail(StoredCheck::OutOfRange, table, assignments) {
+        Some(Refusal::OutOfRange)
+    } else if assignments_fail(StoredCheck::TooLong, table, assignments) {
+        Some(Refusal::TooLong)
+    } else {
+        None
+    }
+}
+
+fn update_refusal(table: &Table, update: &Update) -> Option<Refusal>
+    ensures { (w : Write) → unless_refused (update_checks table.now update.now) w ≡ unless result w }
+{
+    if sets_twice(update.assignments.as_slice()) {
+        Some(Refusal::ColumnNamedTwice)
+    } else if update_names_unknown(table, update) {
+        Some(Refusal::UnknownColumn)
+    } else if update_is_not_supported(table, update) {
+        Some(Refusal::NotSupported)
+    } else {
+        assigned_refusal(table, update)
+    }
+}
+
+fn resolve_assignment(
+    alloc: Global,
+    table: &Table,
+    a: &Assignment<Name>,
+) -> Result<Assignment<usize>, Refusal>
+    ensures ok { IfOk result (λ r. r ≡ resolved_assignment table.now a.now) }
+    ensures err { IfErr result (λ e. e ≡ Refusal.OutOfMemory) }
+{
+    let value = copy(alloc, &a.value)?;
+    Ok(Assignment {
+        column: place(table, &a.column),
+        value,
+    })
+}
+
+fn resolve_assignments(
+    alloc: Global,
+    table: &Table,
+    assignments: &[Assignment<Name>],
+) -> Result<Items<Assignment<usize>>, Refusal>
+    ensures ok { IfOk result (λ r. r ≡ map (resolved_assignment table.now) assignments.now) }
+    ensures err { IfErr result (λ e. e ≡ Refusal.OutOfMemory) }
+{
+    let mut resolved = Items::new(alloc);
+    for a in assignments {
+        let a = resolve_assignment(alloc, table, a)?;
+        resolved.push(a)?;
+    }
+    Ok(resolved)
+}
+
+fn update_of(alloc: Global, place: usize, table: &Table, update: &Update) -> Result<Write, Refusal>
+    ensures ok { IfOk result (λ w. unless_refused (update_checks table.now update.now) (update_over place table.now update.now) ≡ Ok w) }
+    ensures err { IfErr result (λ e. (e ≡ Refusal.OutOfMemory)
+        ⊎ (unless_refused (update_checks table.now update.now) (update_over place table.now update.now) ≡ Err e)) }
+{
+    if let Some(refusal) = update_refusal(table, update) {
+        return Err(refusal);
+    }
+    let assignments = resolve_assignments(alloc, table, update.assignments.as_slice())?;
+    let filter = resolve_filter(alloc, table, &update.filter)?;
+    Ok(Write::Update(place, assignments, filter))
+}
+
+fn delete_from(
+    alloc: Global,
+    place: usize,
+    table: &Table,
+    delete: &Delete,
+) -> Result<Write, Refusal>
+    ensures ok { IfOk result (λ w. unless_refused (delete_checks table.now delete.now) (delete_over place table.now delete.now) ≡ Ok w) }
+    ensures err { IfErr result (λ e. (e ≡ Refusal.OutOfMemory)
+        ⊎ (unless_refused (delete_checks table.now delete.now) (delete_over place table.now delete.now) ≡ Err e)) }
+{
+    if filter_names_unknown(table, &delete.filter) {
+        return Err(Refusal::UnknownColumn);
+    }
+    if filter_mixes(table, &delete.filter) {
+        return Err(Refusal::NotSupported);
+    }
+    let filter = resolve_filter(alloc, table, &delete.filter)?;
+    Ok(Write::Delete(place, filter))
+}
+
+/// What an INSERT means, or the refusal of the first check that fails.
+pub fn resolve_insert(alloc: Global, schema: &VSchema, insert: &Insert) -> Result<Write, Refusal>
+    ensures ok { IfOk result (λ w. typed_insert schema.now insert.now ≡ Ok w) }
+    ensures err { IfErr result (λ e. (e ≡ Refusal.OutOfMemory) ⊎ (typed_insert schema.now insert.now ≡ Err e)) }
+{
+    let Some(place) = table_place(schema, &insert.table) else {
+        return Err(Refusal::UnknownTable);
+    };
+    match schema.tables.as_slice().get(place) {
+        Some(table) => insert_into(alloc, place, table, insert),
+        None => Err(Refusal::UnknownTable),
+    }
+}
+
+/// What an UPDATE means, or the refusal of the first check that fails.
+pub fn resolve_update(alloc: Global, schema: &VSchema, update: &Update) -> Result<Write, Refusal>
+    ensures ok { IfOk result (λ w. typed_update schema.now update.now ≡ Ok w) }
+    ensures err { IfErr result (λ e. (e ≡ Refusal.OutOfMemory) ⊎ (typed_update schema.now update.now ≡ Err e)) }
+{
+    let Some(place) = table_place(schema, &update.table) else {
+        return Err(Refusal::UnknownTable);
+    };
+    match schema.tables.as_slice().get(place) {
+        Some(table) => update_of(alloc, place, table, update),
+        None => Err(Refusal::UnknownTable),
+    }
+}
+
+/// What a DELETE means, or the refusal of the first check that fails.
+pub fn resolve_delete(alloc: Global, schema: &VSchema, delete: &Delete) -> Result<Write, Refusal>
+    ensures ok { IfOk result (λ w. typed_delete schema.now delete.now ≡ Ok w) }
+    ensures err { IfErr result (λ e. (e ≡ Refusal.OutOfMemory) ⊎ (typed_delete schema.now delete.now ≡ Err e)) }
+{
+    let Some(place) = table_place(schema, &delete.table) else {
+        return Err(Refusal::UnknownTable);
+    };
+    match schema.tables.as_slice().get(place) {
+        Some(table) => delete_from(alloc, place, table, delete),
+        None => Err(Refusal::UnknownTable),
+    }
+}
