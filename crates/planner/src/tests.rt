@@ -1,4 +1,4 @@
-use crate::{Finish, Plan, Route, plan, shards, write_route};
+use crate::{Finish, Plan, plan, shards, write_route};
 use keyrange::KeyRange;
 use operators::Rows;
 use sql_eval::select_local;
@@ -94,6 +94,22 @@ fn number(row: &Row) -> Option<i128> {
     }
 }
 
+fn plan_of(
+    alloc: Global,
+    schema: &VSchema,
+    filter: Option<Condition<usize>>,
+) -> Result<Plan, Fail> {
+    let query = query(alloc, filter)?;
+    if query.is_aggregated() {
+        return Err("aggregated".into());
+    }
+    Ok(plan(alloc, schema, query)?)
+}
+
+fn first_table(schema: &VSchema) -> Option<&Table> {
+    schema.tables.as_slice().first()
+}
+
 fn piece_rows(
     alloc: Global,
     plan: &Plan,
@@ -109,33 +125,31 @@ fn piece_rows(
     Ok(Rows::new(alloc, select_local(alloc, &piece, rows.as_slice())?)?)
 }
 
+// what the shards -80 with 2, 4, 6 and 80- with 1, 3, 5 answer to the plan
+fn answer_of(alloc: Global, plan: &Plan, table: &Table) -> Result<Items<Row>, Fail> {
+    let [low, high] = halves().ok_or("ranges")?;
+    let mut pieces = Vec::new(alloc);
+    pieces.push(piece_rows(alloc, plan, table, &low, &[2, 4, 6])?)?;
+    pieces.push(piece_rows(alloc, plan, table, &high, &[1, 3, 5])?)?;
+    Ok(plan.finish.answer(alloc, pieces)?)
+}
+
+fn shown(rows: &Items<Row>) -> Option<(i128, i128)> {
+    match rows.as_slice() {
+        [a, b] => Some((number(a)?, number(b)?)),
+        _ => None,
+    }
+}
+
 #[test]
 fn two_shards_answer_as_one(rt: HostRuntime) -> Result<(), Fail> {
     let alloc = rt.alloc();
     let schema = schema(alloc)?;
-    let [table] = schema.tables.as_slice() else {
-        return Err("one table".into());
-    };
-    let [low, high] = halves().ok_or("ranges")?;
-    let query = query(alloc, None)?;
-    if query.is_aggregated() {
-        return Err("aggregated".into());
-    }
-    let plan = plan(alloc, &schema, query)?;
-    let places = shards(alloc, table, &plan.route, &[low, high])?;
-    assert_eq!(rt; places.as_slice(), [0, 1].as_slice());
-    let mut pieces = Vec::new(alloc);
-    pieces.push(piece_rows(alloc, &plan, table, &low, &[2, 4, 6])?)?;
-    pieces.push(piece_rows(alloc, &plan, table, &high, &[1, 3, 5])?)?;
-    let answer = plan.finish.answer(alloc, pieces)?;
-    match answer.as_slice() {
-        [a, b] => {
-            assert_eq!(rt; number(a), Some(5));
-            assert_eq!(rt; number(b), Some(4));
-            Ok(())
-        }
-        _ => Err("two rows".into()),
-    }
+    let plan = plan_of(alloc, &schema, None)?;
+    let table = first_table(&schema).ok_or("one table")?;
+    let answer = answer_of(alloc, &plan, table)?;
+    assert_eq!(rt; shown(&answer), Some((5, 4)));
+    Ok(())
 }
 
 // id IN (1, 2, NULL, 2)
@@ -148,56 +162,61 @@ fn members(alloc: Global) -> Result<Condition<usize>, Fail> {
     Ok(Condition::In(Operand::Column(0), members))
 }
 
-#[test]
-fn each_shard_gets_its_own_members(rt: HostRuntime) -> Result<(), Fail> {
-    let alloc = rt.alloc();
-    let schema = schema(alloc)?;
-    let [table] = schema.tables.as_slice() else {
-        return Err("one table".into());
-    };
-    let [_, high] = halves().ok_or("ranges")?;
-    let query = query(alloc, Some(members(alloc)?))?;
-    if query.is_aggregated() {
-        return Err("aggregated".into());
-    }
-    let plan = plan(alloc, &schema, query)?;
-    let piece = plan.piece_for(alloc, table, &high)?;
-    let Some(Condition::In(_, own)) = &piece.filter else {
-        return Err("an IN".into());
-    };
-    match own.as_slice() {
-        [Value::Int(1)] => Ok(()),
-        _ => Err("the member 1".into()),
+// the one member of an IN
+fn only_member(filter: &Option<Condition<usize>>) -> Option<i128> {
+    match filter {
+        Some(Condition::In(_, members)) => match members.as_slice() {
+            [Value::Int(number)] => Some(*number),
+            _ => None,
+        },
+        _ => None,
     }
 }
 
 #[test]
-fn writes_have_routes(rt: HostRuntime) -> Result<(), Fail> {
+fn each_shard_gets_its_own_members(rt: HostRuntime) -> Result<(), Fail> {
     let alloc = rt.alloc();
     let schema = schema(alloc)?;
-    let [table] = schema.tables.as_slice() else {
-        return Err("one table".into());
-    };
+    let plan = plan_of(alloc, &schema, Some(members(alloc)?))?;
+    let table = first_table(&schema).ok_or("one table")?;
+    let [_, high] = halves().ok_or("ranges")?;
+    let piece = plan.piece_for(alloc, table, &high)?;
+    assert_eq!(rt; only_member(&piece.filter), Some(1));
+    Ok(())
+}
+
+fn written_places(alloc: Global, write: &Write) -> Result<Vec<usize>, Fail> {
+    let schema = schema(alloc)?;
+    let route = write_route(alloc, &schema, write)?;
     let ranges = halves().ok_or("ranges")?;
+    let table = first_table(&schema).ok_or("one table")?;
+    Ok(shards(alloc, table, &route, &ranges)?)
+}
+
+#[test]
+fn an_insert_goes_to_its_shard(rt: HostRuntime) -> Result<(), Fail> {
+    let alloc = rt.alloc();
     let insert = Write::Insert(0, rows_of(alloc, &[2])?);
-    let route = write_route(alloc, &schema, &insert)?;
-    assert_eq!(rt;
-        shards(alloc, table, &route, &ranges)?.as_slice(),
-        [0].as_slice()
-    );
+    let taken = written_places(alloc, &insert)?;
+    assert_eq!(rt; taken.as_slice(), [0].as_slice());
+    Ok(())
+}
+
+#[test]
+fn a_delete_goes_to_its_shard(rt: HostRuntime) -> Result<(), Fail> {
+    let alloc = rt.alloc();
     let delete = Write::Delete(0, Some(id_is(5)));
-    let route = write_route(alloc, &schema, &delete)?;
-    assert!(rt; matches!(&route, Route::EqualUnique(Value::Int(5))));
-    assert_eq!(rt;
-        shards(alloc, table, &route, &ranges)?.as_slice(),
-        [1].as_slice()
-    );
+    let taken = written_places(alloc, &delete)?;
+    assert_eq!(rt; taken.as_slice(), [1].as_slice());
+    Ok(())
+}
+
+#[test]
+fn an_update_of_all_goes_to_each_shard(rt: HostRuntime) -> Result<(), Fail> {
+    let alloc = rt.alloc();
     let update = Write::Update(0, Items::<Assignment<usize>>::new(alloc), None);
-    let route = write_route(alloc, &schema, &update)?;
-    assert_eq!(rt;
-        shards(alloc, table, &route, &ranges)?.as_slice(),
-        [0, 1].as_slice()
-    );
+    let taken = written_places(alloc, &update)?;
+    assert_eq!(rt; taken.as_slice(), [0, 1].as_slice());
     Ok(())
 }
 
