@@ -1,5 +1,5 @@
 use crate::{change_local, select_local};
-use sql_tree::{Assignment, Condition, Operand};
+use sql_tree::{Assignment, Condition, Item, Operand};
 use std::alloc::Global;
 use std::test::*;
 use vschema::{Column, ColumnType, Query, RowChange, Table, Write};
@@ -57,11 +57,19 @@ fn c_is(number: i128) -> Option<Condition<usize>> {
 #[test]
 fn select_gives_the_rows_that_are_kept(rt: HostRuntime) -> Result<(), Fail> {
     let alloc = rt.alloc();
+    let mut items = Items::new(alloc);
+    items.push(Item::Column(0))?;
     let query = Query {
         table: 0,
-        items: Items::from_slice(alloc, &[0])?,
+        items,
         filter: c_is(7),
+        group_by: Items::new(alloc),
+        order_by: Items::new(alloc),
+        limit: None,
     };
+    if query.is_aggregated() {
+        return Err("aggregated".into());
+    }
     let rows = rows_of(alloc, &[(1, 7), (2, 8), (3, 7)])?;
     let shown = select_local(alloc, &query, rows.as_slice())?;
     assert_eq!(rt; shown.len(), 2);

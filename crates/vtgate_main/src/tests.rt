@@ -1,18 +1,15 @@
-ghost use Rattle.std.specs.Prelude.{◌≡◌, None, IsSome, IfOk};
+ghost use Rattle.std.specs.Prelude.{◌≡◌};
 
 use crate::run::run;
-use first_world::{First, first_engine, first_router, first_seat};
-use journal::{Naming, Opened, Pass};
-use route_engine::{Answer, Engine};
-use session::{Core, DeviceFailed, End, Reader, SessionFault, Sink, Source, Writer, serve};
+use first_world::{First, first_router};
+use journal::{Naming, Opened};
+use session::{End, Reader, SessionFault, Writer, serve};
 use shard::ShardLaw;
 use std::alloc::Global;
 use std::marker::Brand;
 use std::process::Abort;
 use std::sync::Wait;
 use std::test::Fail;
-use std::thread::{Threads, join};
-use vt_value::Refusal;
 
 const PING: &[u8] = b"\x01\x00\x00\x00\x0e";
 
@@ -183,104 +180,6 @@ fn writes_have_their_replies(rt: HostRuntime) -> Result<(), Fail> {
     Ok(())
 }
 
-/// How many rows a statement gave, or changed.
-fn told<J: Naming>(
-    rt: &impl Wait,
-    alloc: Global,
-    engine: &Engine<First, J>,
-    pass: &mut Pass<ShardLaw<First>, J>,
-    text: &[u8],
-) -> Result<u64, Refusal>
-    requires { IsSome pass.old.session }
-    ensures { pass.new.session ≡ pass.old.session }
-{
-    match engine.execute(rt, alloc, pass, text)?.answer {
-        Answer::Rows(selected) => Ok(selected.rows.len() as u64),
-        Answer::Count(count) => Ok(count),
-    }
-}
-
-/// Runs the texts one after the other. Tells the pass, and how many rows they gave or changed together.
-fn run_all<J: Naming>(
-    rt: &impl Wait,
-    alloc: Global,
-    engine: &Engine<First, J>,
-    mut pass: Pass<ShardLaw<First>, J>,
-    texts: &[&[u8]],
-) -> Result<(Pass<ShardLaw<First>, J>, u64), Refusal>
-    requires { IsSome pass.session }
-    ensures { IfOk result (λ r. r.0.session ≡ pass.session) }
-{
-    let mut total = 0u64;
-    for text in texts {
-        total = total.wrapping_add(told(rt, alloc, engine, &mut pass, text)?);
-    }
-    Ok((pass, total))
-}
-
-const ONE_SESSION: [&[u8]; 4] = [
-    b"INSERT INTO t (id, c) VALUES (7, 1)",
-    b"INSERT INTO t (id, c) VALUES (9, 1), (11, 1)",
-    b"UPDATE t SET c = 2 WHERE id = 7",
-    b"SELECT id FROM t WHERE id = 11",
-];
-
-const OTHER_SESSION: [&[u8]; 3] = [
-    b"INSERT INTO t (id, c) VALUES (8, 1)",
-    b"DELETE FROM t WHERE id = 6",
-    b"INSERT INTO t (id, c) VALUES (10, 1)",
-];
-
-/// Two sessions, each in a thread of its own: what they count, what the second sees of the first's row before and after
-/// they met, and how many rows there are in the end.
-fn count_by_two<J: Naming + Send + Sync, R: Threads + Wait + Sync>(
-    rt: &R,
-    alloc: Global,
-    opened: Opened<ShardLaw<First>>,
-) -> Result<[u64; 5], Refusal>
-    requires { opened ≡ J.table }
-{
-    let (seats, mut opener, mut first) = opened.named::<J>(alloc)?;
-    let engine = first_engine(alloc, first_seat(seats))?;
-    let one = opener.open(&mut first)?;
-    let mut other = opener.open(&mut first)?;
-    let before = told(
-        rt,
-        alloc,
-        &engine,
-        &mut other,
-        b"SELECT c FROM t WHERE id = 7",
-    )?;
-    let shared = &engine;
-    let (one, other) = join(
-        rt,
-        move || run_all(rt, alloc, shared, one, &ONE_SESSION),
-        move || run_all(rt, alloc, shared, other, &OTHER_SESSION),
-    );
-    let (mut one, first_count) = one?;
-    let (mut other, second_count) = other?;
-    other.meet(&mut one);
-    let after = told(
-        rt,
-        alloc,
-        &engine,
-        &mut other,
-        b"SELECT c FROM t WHERE id = 7",
-    )?;
-    let rows = told(rt, alloc, &engine, &mut one, b"SELECT id FROM t")?;
-    Ok([before, first_count, second_count, after, rows])
-}
-
-#[test]
-fn two_sessions_in_two_threads_write_one_table(rt: HostRuntime) -> Result<(), Fail> {
-    let opened = open(rt.alloc())?;
-    let counts = count_by_two::<Brand, HostRuntime>(&rt, rt.alloc(), opened)
-        .ok()
-        .ok_or("all are run")?;
-    assert_eq!(rt; counts, [0, 5, 3, 1, 10]);
-    Ok(())
-}
-
 /// The first refusals of statements, in the order in which they are looked for.
 const REFUSED: [(&[u8], &[u8]); 8] = [
     (
@@ -368,47 +267,6 @@ fn a_padded_text_is_read(rt: HostRuntime) -> Result<(), Fail> {
     Ok(())
 }
 
-fn feed_bytes<J: Naming, R: Abort + Wait>(
-    rt: &R,
-    alloc: Global,
-    opened: Opened<ShardLaw<First>>,
-) -> Result<(), Fail>
-    requires { opened ≡ J.table }
-{
-    let (engine, mut pass) = first_router::<J>(alloc, opened).ok().ok_or("no memory")?;
-    let mut input = query(alloc, b"SELECT * FROM t WHERE id = 5")?;
-    input.extend_from_slice(PING)?;
-    input.extend_from_slice(QUIT)?;
-    input.extend_from_slice(PING)?;
-    let (whole, _) = talk(rt, alloc, &input)?;
-    let mut core = Core::commands(alloc, 7, 0).ok().ok_or("no memory")?;
-    assert_eq!(rt; core.id(), 7);
-    assert_eq!(rt; core.capabilities(), 0);
-    let mut sink = Writer(Vec::new(alloc));
-    let mut ends = 0u32;
-    for byte in &input {
-        match core.feed(rt, alloc, &engine, &mut pass, &[*byte], &mut sink) {
-            Ok(None) => assert_eq!(rt; core.end_of_input() == End::Quit, false),
-            Ok(Some(end)) => {
-                assert_eq!(rt; end, End::Quit);
-                ends = ends.wrapping_add(1);
-            }
-            Err(fault) => return Err(Fail::from(format_args!("{fault:?}"))),
-        }
-    }
-    assert_eq!(rt; ends, 6);
-    assert_eq!(rt; core.end_of_input(), End::Quit);
-    let Writer(written) = sink;
-    assert_eq!(rt; written.as_slice(), whole.as_slice());
-    Ok(())
-}
-
-#[test]
-fn pieces_of_one_byte_give_the_same_replies(rt: HostRuntime) -> Result<(), Fail> {
-    let opened = open(rt.alloc())?;
-    feed_bytes::<Brand, HostRuntime>(&rt, rt.alloc(), opened)
-}
-
 fn tells_its_usage<R: Abort + Wait>(rt: &R, alloc: Global, words: &[String]) -> Result<(), Fail> {
     let mut input = Reader(PING);
     let mut output = Writer(Vec::new(alloc));
@@ -447,80 +305,4 @@ fn the_program_serves_the_first_tables(rt: HostRuntime) -> Result<(), Fail> {
     assert_eq!(rt; output.0.as_slice(), PONG);
     assert_eq!(rt; errors.0.as_slice(), b"".as_slice());
     Ok(())
-}
-
-/// A source that fails once its bytes are read.
-#[derive(Drop)]
-struct FailingSource<'a>(&'a [u8]);
-
-impl Source for FailingSource<'_> {
-    ghost unread = { λ _. None };
-
-    fn read(&mut self, buffer: &mut [u8]) -> Result<usize, DeviceFailed> {
-        match (self.0, buffer) {
-            ([first, rest @ ..], [place, ..]) => {
-                *place = *first;
-                self.0 = rest;
-                Ok(1)
-            }
-            _ => Err(DeviceFailed),
-        }
-    }
-}
-
-/// A sink that fails from some write on.
-#[derive(Drop)]
-struct FailingSink {
-    writes_left: u32,
-}
-
-impl Sink for FailingSink {
-    ghost taken = { λ _. None };
-
-    fn write(&mut self, _bytes: &[u8]) -> Result<(), DeviceFailed> {
-        if self.writes_left == 0 {
-            return Err(DeviceFailed);
-        }
-        self.writes_left -= 1;
-        Ok(())
-    }
-}
-
-fn fail_devices<J: Naming, R: Abort + Wait>(
-    rt: &R,
-    alloc: Global,
-    opened: Opened<ShardLaw<First>>,
-) -> Result<(), Fail>
-    requires { opened ≡ J.table }
-{
-    let (engine, mut pass) = first_router::<J>(alloc, opened).ok().ok_or("no memory")?;
-    let mut source = FailingSource(PING);
-    let mut sink = Writer(Vec::new(alloc));
-    let end = serve(rt, alloc, &engine, &mut pass, 1, 0, &mut source, &mut sink);
-    assert_eq!(rt; end, Err(SessionFault::Read));
-    assert_eq!(rt; sink.0.as_slice(), PONG);
-
-    let mut core = Core::commands(alloc, 1, 0).ok().ok_or("no memory")?;
-    let mut sink = FailingSink { writes_left: 1 };
-    assert_eq!(rt;
-        core.feed(rt, alloc, &engine, &mut pass, PING, &mut sink),
-        Ok(None)
-    );
-    assert_eq!(rt;
-        core.feed(rt, alloc, &engine, &mut pass, PING, &mut sink),
-        Err(SessionFault::Write)
-    );
-    sink.writes_left = 1;
-    assert_eq!(rt;
-        core.feed(rt, alloc, &engine, &mut pass, PING, &mut sink),
-        Ok(Some(End::Broken))
-    );
-    assert_eq!(rt; sink.writes_left, 1);
-    Ok(())
-}
-
-#[test]
-fn failing_devices_end_a_session(rt: HostRuntime) -> Result<(), Fail> {
-    let opened = open(rt.alloc())?;
-    fail_devices::<Brand, HostRuntime>(&rt, rt.alloc(), opened)
 }
