@@ -18,7 +18,7 @@ kept_by k x y keys true e n ih = ih ∙ ap (λ (s : Bool). s || has_row k keys) 
 kept_by k x y keys false e n ih = ap (λ (s : Bool). same_row k y || s) ih
 
 -- a key that isn't x is among the others where it is there
-kept_any : (k x : Row) (keys : List Row) → same_row k x ≡ false → has_row k (others x keys) ≡ has_row k keys
+pub kept_any : (k x : Row) (keys : List Row) → same_row k x ≡ false → has_row k (others x keys) ≡ has_row k keys
 kept_any k x [] n = refl
 kept_any k x (y ∷ keys) n = kept_by k x y keys (same_row x y) refl n (kept_any k x keys n)
 
@@ -69,7 +69,7 @@ none_by : (k : Row) (w : ℕ) (row : Row) (rows : List Row) (t : Bool) → (t ||
 none_by k w row rows true e ih = absurd (true≢false e)
 none_by k w row rows false e ih = ih e
 
-none_of : (k : Row) (w : ℕ) (rows : List Row) → has_row k (map (take w) rows) ≡ false → of_group w k rows ≡ []
+pub none_of : (k : Row) (w : ℕ) (rows : List Row) → has_row k (map (take w) rows) ≡ false → of_group w k rows ≡ []
 none_of k w [] h = refl
 none_of k w (row ∷ rows) h = none_by k w row rows (same_row k (take w row)) h (none_of k w rows)
 

@@ -1,20 +1,14 @@
 -- At most 2^60 values that columns hold are few enough.
-use Rattle.std.proofs.Common.{◌*◌, ◌≤◌, ◌^◌, pos, negsuc, neg_ℤ, ◌≤ℤ◌, ◌<ℤ◌, List, [], ◌∷◌, length, arith}
+use Rattle.std.proofs.Common.{◌*◌, ◌≤◌, ◌^◌, pos, negsuc, List, [], ◌∷◌, length, arith}
 use Rattle.std.specs.Prelude.{All}
 use Rattle.std.proofs.lemmas.Int.{ints}
 use Rattle.std.proofs.lemmas.List.Elements.{All-head, All-tail}
 use Rattle.std.proofs.lemmas.List.Sums.{sum_by-cons}
 use Rattle.vt_value.specs.declared.value.Value.{Value}
 use Rattle.vt_value.specs.declared.value.Value.TheVariants.{Null, Int, Bytes}
-use Rattle.aggregate.specs.Aggregates.{size, sizes, IsHeld}
+use Rattle.aggregate.specs.Aggregates.{size, sizes, IsHeld, IsStored}
 
--- a value that a column may hold: its numbers are those of BIGINT and BIGINT UNSIGNED
-abbrev pub IsStored : Value → Type 0
-IsStored Null = Unit {0}
-IsStored (Int n) = (neg_ℤ (pos (2 ^ 63)) ≤ℤ n) × (n <ℤ pos (2 ^ 64))
-IsStored (Bytes t) = Unit {0}
-
-stored_within : (v : Value) → IsStored v → size v ≤ 2 ^ 64
+pub stored_within : (v : Value) → IsStored v → size v ≤ 2 ^ 64
 stored_within Null s = omega arith
 stored_within (Int (pos n)) s = let below = s.1 in omega (arith, ints)
 stored_within (Int (negsuc n)) s = let above = s.0 in omega (arith, ints)

@@ -23,7 +23,7 @@ column_more (Sum c) vs v = ap Total (sym (sum_laws.splits vs (v ∷ [])))
 column_more (Min c) vs v = ap Least (sym (min_laws.splits vs (v ∷ [])))
 column_more (Max c) vs v = ap Greatest (sym (max_laws.splits vs (v ∷ [])))
 
-first_behind : (n : ℕ) (row : Row) → value_at (drop n row) 0 ≡ value_at row n
+pub first_behind : (n : ℕ) (row : Row) → value_at (drop n row) 0 ≡ value_at row n
 first_behind n [] = ap (λ r. value_at r 0) (drop-nil {A = Value} n)
 first_behind zero (v ∷ row) = refl
 first_behind (suc n) (v ∷ row) = first_behind n row
@@ -60,7 +60,7 @@ number_kept (v ∷ vs) = refl
 counted : (vs : List Value) → Int (unwrap_or (Rattle.aggregate.specs.Columns.total_part vs) (pos 0)) ≡ Int (total (present vs))
 counted vs = ap (λ p. Int (unwrap_or p (pos 0))) (total_is vs) ∙ ap Int (number_kept (present vs))
 
-column_gives : (a : Item ℕ) (vs : List Value) → finished (column_part a vs) ≡ joined_part a vs
+pub column_gives : (a : Item ℕ) (vs : List Value) → finished (column_part a vs) ≡ joined_part a vs
 column_gives (Column c) vs = refl
 column_gives CountRows vs = counted vs
 column_gives (Count c) vs = counted vs
@@ -97,7 +97,7 @@ column_within w m [] h = omega arith
 column_within w m (row ∷ rows) h =
     omega (arith, size_at row w m h, column_within w m rows h, sum_by-cons (λ (r : Row). size (value_at r m)) row rows, sum_by-cons (λ (r : Row). sum_by size (drop w r)) row rows)
 
-size_is : (n : ℕ) (rows : List Row) → sum_by size (map (λ r. value_at r n) rows) ≡ column_size n rows
+pub size_is : (n : ℕ) (rows : List Row) → sum_by size (map (λ r. value_at r n) rows) ≡ column_size n rows
 size_is n [] = refl
 size_is n (row ∷ rows) =
     sum_by-cons size (value_at row n) (map (λ (r : Row). value_at r n) rows) ∙ ap (λ k. size (value_at row n) + k) (size_is n rows)

@@ -1,6 +1,7 @@
 -- What an aggregate gives over several bags together is the join of what it gives over each.
 use Rattle.std.proofs.Common.{◌≡◌, ℕ, ◌+◌, ℤ, pos, ◌+ℤ◌, List, [], ◌∷◌, ◌++◌, length, map, flat_map, Option, Some, None, Bool, true, false, refl, sym, ap, ◌∙◌, unwrap_or, IfSome, if◌then◌else◌, length-append}
 use Rattle.std.specs.Ordering.{is_lt}
+use Rattle.std.proofs.Math.IntN.{+ℤ_assoc, +ℤ_idl}
 use Rattle.vt_value.specs.declared.value.Value.{Value}
 use Rattle.vt_value.specs.declared.value.Value.TheVariants.{Null, Int, Bytes}
 use Rattle.vt_value.specs.Values.{value_cmp}
@@ -121,3 +122,22 @@ whole_joined (Count c) bags = ap Int (counts_join (λ vs. length (present vs)) r
 whole_joined (Sum c) bags = sums_join bags
 whole_joined (Min c) bags = leasts_join bags
 whole_joined (Max c) bags = greatests_join bags
+
+total_join : (vs ws : List Value) → total (present (vs ++ ws)) ≡ total (present vs) +ℤ total (present ws)
+total_join [] ws = sym (+ℤ_idl (total (present ws)))
+total_join (Null ∷ vs) ws = total_join vs ws
+total_join (Int n ∷ vs) ws = ap (λ (m : ℤ). n +ℤ m) (total_join vs ws) ∙ sym (+ℤ_assoc n (total (present vs)) (total (present ws)))
+total_join (Bytes t ∷ vs) ws = ap (λ (m : ℤ). pos 0 +ℤ m) (total_join vs ws) ∙ sym (+ℤ_assoc (pos 0) (total (present vs)) (total (present ws)))
+
+totals_join : (bags : List (List Value)) → total (present (map (λ bag. Int (total (present bag))) bags)) ≡ total (present (together bags))
+totals_join [] = refl
+totals_join (bag ∷ bags) = ap (λ (n : ℤ). total (present bag) +ℤ n) (totals_join bags) ∙ sym (total_join bag (together bags))
+
+-- parts that are joined again
+pub joined_again : (a : Item ℕ) (bags : List (List Value)) → joined_part a (map (joined_part a) bags) ≡ joined_part a (together bags)
+joined_again (Column c) bags = refl
+joined_again CountRows bags = ap Int (totals_join bags)
+joined_again (Count c) bags = ap Int (totals_join bags)
+joined_again (Sum c) bags = sums_join bags
+joined_again (Min c) bags = leasts_join bags
+joined_again (Max c) bags = greatests_join bags

@@ -1,5 +1,5 @@
 -- What an aggregate gives over a bag of values. A bag is a list of which the order says nothing.
-use Rattle.std.specs.Prelude.{ℕ, ◌^◌, ◌<◌, ℤ, pos, ◌+ℤ◌, unsigned_abs, sum_by, not, List, [], ◌∷◌, length, filter, map, if◌then◌else◌}
+use Rattle.std.specs.Prelude.{ℕ, ◌^◌, ◌<◌, ℤ, pos, neg_ℤ, ◌+ℤ◌, ◌≤ℤ◌, ◌<ℤ◌, ⊤, unsigned_abs, sum_by, not, List, [], ◌∷◌, length, filter, map, if◌then◌else◌}
 use Rattle.std.specs.Ordering.{is_lt}
 use Rattle.vt_value.specs.declared.value.Value.{Value}
 use Rattle.vt_value.specs.declared.value.Value.TheVariants.{Null, Int, Bytes}
@@ -57,3 +57,9 @@ sizes vs = sum_by size vs
 -- Fewer than 2^64 values, whose numbers stay below 2^127 together, as those of 2^60 values that columns hold do: every count and sum fits.
 abbrev pub IsHeld : List Value → Type 0
 IsHeld vs = (length vs < 2 ^ 64) × (sizes vs < 2 ^ 127)
+
+-- a value that a column may hold: its numbers are those of BIGINT and BIGINT UNSIGNED
+abbrev pub IsStored : Value → Type 0
+IsStored Null = ⊤
+IsStored (Int n) = (neg_ℤ (pos (2 ^ 63)) ≤ℤ n) × (n <ℤ pos (2 ^ 64))
+IsStored (Bytes t) = ⊤

@@ -1,5 +1,5 @@
 -- What `vtgate first` serves: the unsharded keyspace `shop` with the table t, and its first rows on the shard `0`.
-use Rattle.std.specs.Prelude.{ℕ, Bool, List, [], ◌∷◌, codes, bytes_eq, pos, true, false, None}
+use Rattle.std.specs.Prelude.{ℕ, List, [], ◌∷◌, codes, pos, true, false, None}
 use Rattle.vt_value.specs.declared.value.Value.{Value}
 use Rattle.vt_value.specs.declared.value.Value.TheVariants.{Null, Int}
 use Rattle.vt_value.specs.Values.{Row}

@@ -4,7 +4,7 @@ ghost use Rattle.first_world.specs.First.{first_schema, first_rows, first_shard,
 
 use journal::{Naming, Opened, Pass, ShardSeat};
 use keyrange::KeyRange;
-use route_engine::Engine;
+use route_engine::{Engine, Open, Part};
 use shard::{Limits, MOST_ROWS, MOST_STORED, Shard, ShardLaw, ShardState, Store, World};
 use std::alloc::{AllocError, Global};
 use vschema::{Place, VSchema};
@@ -111,17 +111,35 @@ fn first_state<J: Naming>(
     Ok(ShardState::new(alloc, seat, shard, store, limits))
 }
 
-/// The engine, whose shard has the seat of slot 0.
-pub fn first_engine<J: Naming>(
+/// The one shard, with the seat of slot 0.
+fn first_part<J: Naming>(
     alloc: Global,
     seat: ShardSeat<ShardLaw<First>, J>,
-) -> Result<Engine<First, J>, Refusal>
+) -> Result<Part<First, J>, Refusal>
+    requires { seat ≡ record { seen = []; slot = 0 } }
+    ensures { IfOk result (λ part. (part.slot ≡ first_shard.slot) × (part.place ≡ first_shard.place)) }
+{
+    let state = first_state(alloc, seat)?;
+    let first = first_shard(alloc);
+    Ok(Part {
+        place: first.place,
+        slot: first.slot,
+        shard: Shard::new(state),
+    })
+}
+
+/// The engine, whose shard has the seat of slot 0.
+pub fn first_engine<J: Naming + Send + Sync>(
+    alloc: Global,
+    seat: ShardSeat<ShardLaw<First>, J>,
+) -> Result<Engine<First, J, Open>, Refusal>
     requires { seat ≡ record { seen = []; slot = 0 } }
     ensures { IfOk result (λ engine. engine ≡ first_schema) }
 {
     let schema = first_schema(alloc)?;
-    let state = first_state(alloc, seat)?;
-    Ok(Engine::new(schema, Shard::new(state)))
+    let mut parts = Vec::new(alloc);
+    parts.push(first_part(alloc, seat)?)?;
+    Ok(Engine::new(schema, parts, Open))
 }
 
 /// The seat of slot 0.
@@ -135,10 +153,10 @@ pub fn first_seat<J: Naming>(
 }
 
 /// The engine of `vtgate first` and a session's pass, in the journal that was opened.
-pub fn first_router<J: Naming>(
+pub fn first_router<J: Naming + Send + Sync>(
     alloc: Global,
     opened: Opened<ShardLaw<First>>,
-) -> Result<(Engine<First, J>, Pass<ShardLaw<First>, J>), Refusal>
+) -> Result<(Engine<First, J, Open>, Pass<ShardLaw<First>, J>), Refusal>
     requires { opened ≡ J.table }
     ensures schema { IfOk result (λ r. r.0 ≡ first_schema) }
     ensures pass { IfOk result (λ r. r.1 ≡ new_pass [] (Some 0)) }

@@ -58,6 +58,7 @@ impl<L: Law, J: Naming> Pass<L, J> {
         ensures number { IfOk result (λ n. (n ≡ self.old.statements + 1) × (n ≤ 2 ^ 62)) }
         ensures counted { IfOk result (λ n. self.new ≡ record self.old { statements = n }) }
         ensures above { IfOk result (λ k. (n : ℕ) → self.old.session ≡ Some n → NumbersBelow L.commit_of n k self.old.seen) }
+        ensures legal { IsLegal L.may_follow self.new.seen }
         ensures full { IfErr result (λ e. (e ≡ ShardFull) × (2 ^ 62 ≤ self.old.statements)) }
         ensures unchanged { IfErr result (λ _. self.new ≡ self.old) }
     {

@@ -1,5 +1,5 @@
 -- Routes of conditions on t and u.
-use Rattle.std.proofs.Common.{◌≡◌, ℕ, [], ◌∷◌, refl, Some, None, pos, negsuc, rules}
+use Rattle.std.proofs.Common.{◌≡◌, ℕ, List, [], ◌∷◌, refl, Option, Some, None, pos, negsuc, rules, false}
 use Rattle.std.specs.Int.{reverse_bits_onto}
 use Rattle.vt_value.specs.declared.value.Value.{Value}
 use Rattle.vt_value.specs.declared.value.Value.TheVariants.{Null, Int}
@@ -7,9 +7,15 @@ use Rattle.vt_value.specs.declared.value.Comparison.TheVariants.{Eq}
 use Rattle.keyrange.specs.declared.KeyRange.{KeyRange}
 use Rattle.sql_tree.specs.declared.Operand.TheVariants.{Column, Literal}
 use Rattle.sql_tree.specs.declared.Condition.{Condition, Compare, In, Not, And, Or, the_lemmas}
+use Rattle.sql_tree.specs.declared.Item.{Item}
+use Rattle.sql_tree.specs.declared.Item.TheVariants as item
+use Rattle.sql_tree.specs.declared.Key.{Key}
+use Rattle.sql_tree.specs.declared.Limit.{Limit}
+use Rattle.vschema.specs.declared.schema.Query.{Query}
 use Rattle.vschema.specs.declared.changes.Write.TheVariants.{Insert, Update, Delete}
 use Rattle.vschema.proofs.Example.{schema, t, u}
 use Rattle.planner.specs.declared.routes.Route.TheVariants as route
+use Rattle.planner.specs.Plans.{pushed, finish_of}
 use Rattle.planner.specs.Routes.{route_of, write_route, taken_places}
 
 abbrev n : ℕ → Value
@@ -97,3 +103,22 @@ each = refl
 
 no_shard : taken_places t route.None (low ∷ high ∷ []) ≡ []
 no_shard = refl
+
+-- SELECT c, COUNT(*) FROM t GROUP BY c ORDER BY c LIMIT 1: each shard gives all its groups, and the limit is the finish's
+abbrev counts : List (Item ℕ) → List (Key ℕ) → Option Limit → Query
+counts items order_by limit = record { table = 0; items = items; filter = None; group_by = 1 ∷ []; order_by = order_by; limit = limit }
+
+abbrev by_c : Query
+by_c = counts (item.Column 1 ∷ item.CountRows ∷ []) (record { column = 1; descending = false } ∷ []) (Some (record { count = 1; offset = 0 }))
+
+shard_counts : pushed by_c ≡ counts (item.Column 1 ∷ item.CountRows ∷ []) [] None
+shard_counts = refl
+
+joined_counts : finish_of by_c
+    ≡ record {
+      grouping = Some (record { width = 1; aggregates = item.CountRows ∷ [] });
+      columns = 0 ∷ 1 ∷ [];
+      order_by = record { column = 0; descending = false } ∷ [];
+      limit = Some (record { count = 1; offset = 0 });
+    }
+joined_counts = refl

@@ -8,3 +8,10 @@ pub mod Rights
 pub mod TopRows
 pub mod CutTruth
 pub mod Mapped
+pub mod DistinctRows
+pub mod Rejoined
+pub mod Aggregated
+pub mod KeptRows
+pub mod RowRights
+pub mod GroupRights
+pub mod PieceSums

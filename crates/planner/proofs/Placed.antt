@@ -1,7 +1,7 @@
 -- The rows of a shard lie in its range, and its tables may hold them.
 use Rattle.std.proofs.Common.{◌≡◌, ℕ, zero, suc, ◌<◌, ◌^◌, Bool, true, false, cond, List, [], ◌∷◌, length, get_or, filter, Contains, Option, Some, None, pos, negsuc, refl, sym, ap, subst, ◌∙◌, arith, slice_get}
 use Rattle.std.specs.Prelude.{not, ◌||◌, ◌&&◌, nat_lt, int_lt}
-use Rattle.std.specs.List.{AllByRecursion, list_all}
+use Rattle.std.specs.List.{AllByRecursion}
 use Rattle.std.proofs.lemmas.Bool.{lt-ltb, ltb-false}
 use Rattle.vt_value.specs.declared.value.Value.{Value}
 use Rattle.vt_value.specs.declared.value.Value.TheVariants.{Null, Int, Bytes}
@@ -20,7 +20,7 @@ use Rattle.vschema.specs.declared.schema.VSchema.{VSchema}
 use Rattle.vschema.specs.Schema.{row_id, no_table}
 use Rattle.vschema.specs.Checks.{is_text_type, differ}
 use Rattle.vschema.specs.WriteChecks.{is_out_of_range, is_too_long}
-use Rattle.vschema.specs.Storable.{is_storable_value, are_storable_values, is_storable, is_database}
+use Rattle.vschema.specs.Storable.{is_storable_value, are_storable_values, is_storable}
 use Rattle.vschema.specs.Database.{Database, rows_of, lies_in, restricted}
 use Rattle.planner.specs.Plans.{Shard}
 use Rattle.planner.specs.Right.{IsPlaced}
@@ -50,10 +50,6 @@ all_filtered p (x ∷ xs) = by (all_filtered p xs) (p x) refl
     by rest true e = (e, rest)
     by rest false e = rest
 
-all_passed : {X : Type 0} (p : X → Bool) (xs : List X) → list_all p xs ≡ true → AllByRecursion (λ x. p x ≡ true) xs
-all_passed p [] e = tt
-all_passed p (x ∷ xs) e = (and_left (p x) _ e, all_passed p xs (and_right (p x) _ e))
-
 first_rows : Database → List Row
 first_rows [] = []
 first_rows (rows ∷ db) = rows
@@ -76,15 +72,6 @@ lying (t ∷ tables) place [] (suc n) e = tt
 lying (t ∷ tables) place (rows ∷ db) zero e =
     subst (AllByRecursion (λ row. lies_in place t row ≡ true)) (ap first_rows e) (all_filtered (lies_in place t) rows)
 lying (t ∷ tables) place (rows ∷ db) (suc n) e = lying tables place db n (ap other_rows e)
-
-storable : (tables : List Table) (db : Database) (n : ℕ) → is_database tables db ≡ true
-    → AllByRecursion (λ row. is_storable (get_or tables n no_table) row ≡ true) (rows_of db n)
-storable [] [] zero e = tt
-storable [] [] (suc n) e = tt
-storable [] (rows ∷ db) n e = cc
-storable (t ∷ tables) [] n e = cc
-storable (t ∷ tables) (rows ∷ db) zero e = all_passed (is_storable t) rows (and_left _ _ (and_left _ _ e))
-storable (t ∷ tables) (rows ∷ db) (suc n) e = storable tables db n (and_right _ _ e)
 
 -- what a table's column may hold, at any place of a row
 stored : Option Column → Value → Bool
@@ -158,14 +145,18 @@ pub record IsHome (t : Table) (shard : Shard) (row : Row) : Type 0 where
 id-row : (t : Table) (row : Row) (v : ColumnVindex) → t.vindex ≡ Some v → row_id t row ≡ keyspace_id v.vindex (value_at row v.column)
 id-row t row v e = rw e refl
 
+-- the id of a row that the table may hold is that of its vindex column
+pub id_stored : (t : Table) (row : Row) (v : ColumnVindex) → is_storable t row ≡ true → t.vindex ≡ Some v → id_of t (value_at row v.column) ≡ row_id t row
+id_stored t row v fits e =
+    ap (λ vindex. id_by vindex (value_at row v.column)) e
+    ∙ stored_key v.vindex (slice_get t.columns v.column) (value_at row v.column) (stored_at t.columns row v.column fits) ∙ sym (id-row t row v e)
+
 home : (t : Table) (shard : Shard) (keyspace : ℕ) (row : Row) → lies_in (record { keyspace = keyspace; range = shard.0 }) t row ≡ true
     → is_storable t row ≡ true → IsHome t shard row
 home t shard keyspace row lies fits = record {
   lies = and_right _ _ lies;
   holds = λ n h. held (slice_get t.columns n) (value_at row n) (stored_at t.columns row n fits) h;
-  same_id = λ v e.
-      ap (λ vindex. id_by vindex (value_at row v.column)) e
-      ∙ stored_key v.vindex (slice_get t.columns v.column) (value_at row v.column) (stored_at t.columns row v.column fits) ∙ sym (id-row t row v e);
+  same_id = λ v e. id_stored t row v fits e;
 }
 
 homes : (t : Table) (shard : Shard) (keyspace : ℕ) (rows : List Row)
@@ -178,4 +169,4 @@ pub rows_home : (schema : VSchema) (n : ℕ) (shard : Shard) → IsPlaced schema
     → AllByRecursion (IsHome (table_at schema n) shard) (rows_of shard.1 n)
 rows_home schema n shard is =
     homes (table_at schema n) shard (table_at schema n).keyspace (rows_of shard.1 n)
-    (lying schema.tables (record { keyspace = (table_at schema n).keyspace; range = shard.0 }) shard.1 n is.placed) (storable schema.tables shard.1 n is.storable)
+    (lying schema.tables (record { keyspace = (table_at schema n).keyspace; range = shard.0 }) shard.1 n is.placed) is.storable

@@ -1,6 +1,6 @@
 -- A plan, and what it may give: each shard of the route answers its piece over its own rows, and the answer is the finish
 -- applied to these answers.
-use Rattle.std.specs.Prelude.{◌≡◌, ℕ, ◌+◌, ◌-◌, ◌^◌, min, Bool, ◌&&◌, ◌==◌, List, [], ◌∷◌, ◌++◌, length, map, filter, flat_map, IsPermutation, IsSorted, Option, Some, None, option_map, is_some, if◌then◌else◌}
+use Rattle.std.specs.Prelude.{◌≡◌, ℕ, ◌+◌, ◌-◌, ◌^◌, min, Bool, ◌&&◌, ◌==◌, List, [], ◌∷◌, ◌++◌, length, map, filter, flat_map, IsPermutation, IsSorted, Option, Some, None, option_map, is_some, if◌then◌else◌, ⊤}
 use Rattle.vt_value.specs.declared.value.Value.{Value}
 use Rattle.vt_value.specs.Values.{Row}
 use Rattle.sql_tree.specs.declared.Item.{Item}
@@ -21,6 +21,10 @@ use Rattle.vschema.specs.declared.schema.Query.{Query}
 use Rattle.vschema.specs.declared.schema.Table.{Table}
 use Rattle.vschema.specs.Resolved.{places_from}
 use Rattle.vschema.specs.Database.{Database}
+use Rattle.aggregate.specs.Groups.{AreSummable}
+use Rattle.vschema.specs.Checks.{is_aggregated}
+use Rattle.sql_eval.specs.declared.groups.Grouping.{Grouping}
+use Rattle.sql_eval.specs.Grouping.{aggregates_of, grouping_of, group_columns, group_order, grouped, IsShown}
 use Rattle.sql_eval.specs.Queries.{Allowed}
 use Rattle.planner.specs.declared.routes.Route.{Route}
 use Rattle.planner.specs.declared.routes.Route.TheVariants as route
@@ -35,18 +39,37 @@ pushed_limit l = record { count = min (l.offset + l.count) (2 ^ 64 - 1); offset 
 abbrev pub key_item : Key ℕ → Item ℕ
 key_item k = item.Column k.column
 
--- The query as each shard gets it. It shows the query's columns, and behind them those of its sort keys.
+-- The query as each shard gets it where it isn't aggregated. It shows the query's columns, and behind them those of its sort keys.
+abbrev pub pushed_rows : Query → Query
+pushed_rows q = record q { items = q.items ++ map key_item q.order_by; limit = option_map pushed_limit q.limit }
+
+-- Where it is, a shard gives each of its groups: the columns of GROUP BY, and behind them the aggregates. It has no order and no limit.
+abbrev pub pushed_groups : Query → Query
+pushed_groups q = record q { items = map item.Column q.group_by ++ aggregates_of q.items; order_by = []; limit = None }
+
 abbrev pub pushed : Query → Query
-pushed q = record q { items = q.items ++ map key_item q.order_by; limit = option_map pushed_limit q.limit }
+pushed q = if is_aggregated q then pushed_groups q else pushed_rows q
 
 -- the keys, by the places of their columns in the pieces' rows, from a place on
 abbrev pub keys_from : ℕ → List (Key ℕ) → List (Key ℕ)
 keys_from n [] = []
 keys_from n (k ∷ keys) = record { column = n; descending = k.descending } ∷ keys_from (n + 1) keys
 
--- the finish of a query that isn't aggregated: its order, its limit, and the columns that it shows
+-- the finish of a query: its order, its limit, and the columns that it shows
+abbrev pub rows_finish : Query → Finish
+rows_finish q = record {
+  grouping = None;
+  columns = places_from 0 q.items;
+  order_by = keys_from (length q.items) q.order_by;
+  limit = q.limit;
+}
+
+-- where it is aggregated, the groups of the pieces are joined before
+abbrev pub groups_finish : Query → Finish
+groups_finish q = record { grouping = Some (grouping_of q); columns = group_columns q; order_by = group_order q; limit = q.limit }
+
 abbrev pub finish_of : Query → Finish
-finish_of q = record { columns = places_from 0 q.items; order_by = keys_from (length q.items) q.order_by; limit = q.limit }
+finish_of q = if is_aggregated q then groups_finish q else rows_finish q
 
 abbrev pub planned : Table → Query → Plan
 planned t q = record { route = route_of t q.filter; piece = pushed q; finish = finish_of q }
@@ -108,11 +131,19 @@ shard_filter t route.Scatter range filter' = filter'
 abbrev pub piece_of : Table → Plan → KeyRange → Query
 piece_of t p range = record p.piece { filter = shard_filter t p.route range p.piece.filter }
 
--- the finish: the pieces' rows in an order that the keys allow, their slice, and the columns of the answer
+-- the pieces' rows, or the groups that they make up
+abbrev pub joined_by : Option Grouping → List Row → List Row
+joined_by None rows = rows
+joined_by (Some g) rows = grouped g rows
+
+-- the finish: these rows in an order that the keys allow, their slice, and the columns of the answer
 abbrev pub Finishes : Finish → List Row → List Row → Type 0
-Finishes f rows list =
-    (arranged : List Row) × IsPermutation rows arranged × IsSorted (row_cmp f.order_by) arranged
-    × (list ≡ map (columns_of f.columns) (sliced f.limit arranged))
+Finishes f rows list = IsShown f.order_by f.limit f.columns (joined_by f.grouping rows) list
+
+-- the counts and sums of the pieces' groups fit
+abbrev pub CanJoin : Option Grouping → List Row → Type 0
+CanJoin None rows = ⊤
+CanJoin (Some g) rows = AreSummable g.width rows
 
 -- a shard: its range, and the database of its rows
 abbrev pub Shard : Type 0

@@ -3,8 +3,9 @@ use Rattle.std.specs.Prelude.{◌≡◌, ℕ, ◌^◌, ◌<◌, true, false, Lis
 use Rattle.std.specs.List.{AllByRecursion}
 use Rattle.vt_value.specs.Values.{Row}
 use Rattle.vschema.specs.declared.schema.Query.{Query}
+use Rattle.vschema.specs.declared.schema.Table.{Table}
 use Rattle.vschema.specs.declared.schema.VSchema.{VSchema}
-use Rattle.vschema.specs.Storable.{is_database}
+use Rattle.vschema.specs.Storable.{is_storable}
 use Rattle.vschema.specs.Database.{Database, rows_of, union, restrict}
 use Rattle.sql_eval.specs.Conditions.{is_kept}
 use Rattle.sql_eval.specs.Queries.{Allowed}
@@ -17,16 +18,20 @@ abbrev pub all_rows : List Shard → Database
 all_rows [] = []
 all_rows (shard ∷ shards) = union shard.1 (all_rows shards)
 
--- A shard may stand in the keyspace: its rows lie in its range, its tables may hold them, and no table has 2^64 rows or more.
+-- A shard may stand in the keyspace: its rows lie in its range, and the table of this place may hold each of its own.
 pub record IsPlaced (schema : VSchema) (keyspace n : ℕ) (shard : Shard) : Type 0 where
   pub placed : restrict schema (record { keyspace = keyspace; range = shard.0 }) shard.1 ≡ shard.1
-  pub storable : is_database schema.tables shard.1 ≡ true
-  pub few : length (rows_of shard.1 n) < 2 ^ 64
+  pub storable : AllByRecursion (λ row. is_storable (table_at schema n) row ≡ true) (rows_of shard.1 n)
+
+-- where the plan's route takes the shard, its table of this place has fewer than 2^64 rows
+abbrev pub HasFewRows : Table → Plan → ℕ → Shard → Type 0
+HasFewRows t p n shard = takes t p.route shard.0 ≡ true → length (rows_of shard.1 n) < 2 ^ 64
 
 -- Each list that the plan may give over any shards is an answer over the rows of all of them.
 abbrev pub IsRightPlan : VSchema → Query → Plan → Type 0
 IsRightPlan schema q p =
     (shards : List Shard) → AllByRecursion (IsPlaced schema (table_at schema q.table).keyspace q.table) shards
+    → AllByRecursion (HasFewRows (table_at schema q.table) p q.table) shards
     → (list : List Row) → Means (table_at schema q.table) p shards list → Allowed q (all_rows shards) list
 
 -- A shard that the plan's route skips holds no row that the query keeps.

@@ -1,6 +1,7 @@
 //! Copies of the parts of a query.
 ghost use Rattle.std.specs.Prelude.{◌≡◌, IfOk, IfErr};
 
+use sql_eval::copy_item;
 use sql_tree::{Condition, Item, Key, Operand};
 use std::alloc::Global;
 use vt_value::{Boxed, Items, Refusal, copy, copy_row};
@@ -70,19 +71,6 @@ fn copy_members(
         copied.push(member)?;
     }
     Ok(copied)
-}
-
-fn copy_item(item: &Item<usize>) -> Item<usize>
-    ensures { result ≡ item.now }
-{
-    match item {
-        Item::Column(place) => Item::Column(*place),
-        Item::CountRows => Item::CountRows,
-        Item::Count(place) => Item::Count(*place),
-        Item::Sum(place) => Item::Sum(*place),
-        Item::Min(place) => Item::Min(*place),
-        Item::Max(place) => Item::Max(*place),
-    }
 }
 
 pub fn copy_items(alloc: Global, items: &[Item<usize>]) -> Result<Items<Item<usize>>, Refusal>

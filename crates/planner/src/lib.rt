@@ -8,11 +8,12 @@ mod pieces;
 mod planning;
 mod plans;
 mod routes;
-mod takes;
+mod taking;
 #[cfg(test)]
 mod tests;
 
+pub use copies::copy_items;
 pub use planning::plan;
 pub use plans::{Finish, Plan};
 pub use routes::{Route, write_route};
-pub use takes::shards;
+pub use taking::{shards, takes};

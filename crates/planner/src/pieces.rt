@@ -8,7 +8,7 @@ ghost use Rattle.planner.specs.Plans.{has_among, first_cut, cut_in, cut_by, cut_
 use crate::copies::{copy_condition, copy_items, copy_keys, copy_operand, copy_places};
 use crate::plans::Plan;
 use crate::routes::{Route, is_held, type_at};
-use crate::takes::has_value;
+use crate::taking::has_value;
 use keyrange::KeyRange;
 use sql_tree::{Condition, Operand};
 use std::alloc::Global;

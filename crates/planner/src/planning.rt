@@ -1,13 +1,14 @@
 //! From a query to its plan.
-ghost use Rattle.std.specs.Prelude.{◌≡◌, ◌++◌, IfOk, IfErr, map, false, length, option_map};
-ghost use Rattle.vschema.specs.Checks.{is_aggregated};
+ghost use Rattle.std.specs.Prelude.{◌≡◌, ◌++◌, IfOk, IfErr, map, length};
+ghost use Rattle.sql_tree.specs.declared.Item.TheVariants as item;
 ghost use Rattle.vschema.specs.Resolved.{places_from};
 ghost use Rattle.planner.specs.Routes.{table_at, route_of};
-ghost use Rattle.planner.specs.Plans.{pushed_limit, key_item, pushed, keys_from, finish_of, planned};
+ghost use Rattle.planner.specs.Plans.{pushed_limit, key_item, pushed_rows, pushed_groups, pushed, keys_from, rows_finish, groups_finish, finish_of, planned};
 ghost use Rattle.planner.specs.Right.{IsRightPlan, SkipsNothing};
 
 use crate::plans::{Finish, Plan};
 use crate::routes::{Route, route_of};
+use sql_eval::{Grouping, copy_item, group_columns, group_order};
 use sql_tree::{Item, Key, Limit};
 use std::alloc::Global;
 use vschema::{Query, VSchema};
@@ -37,8 +38,8 @@ fn shown_with_keys(
     Ok(shown)
 }
 
-fn pushed(query: Query) -> Result<Query, Refusal>
-    ensures ok { IfOk result (λ piece. piece ≡ pushed query) }
+fn pushed_rows(query: Query) -> Result<Query, Refusal>
+    ensures ok { IfOk result (λ piece. piece ≡ pushed_rows query) }
     ensures err { IfErr result (λ e. e ≡ Refusal.OutOfMemory) }
 {
     let Query {
@@ -62,6 +63,67 @@ fn pushed(query: Query) -> Result<Query, Refusal>
         order_by,
         limit,
     })
+}
+
+fn column_items(alloc: Global, columns: &[usize]) -> Result<Items<Item<usize>>, Refusal>
+    ensures ok { IfOk result (λ items. items ≡ map item.Column columns.now) }
+    ensures err { IfErr result (λ e. e ≡ Refusal.OutOfMemory) }
+{
+    let mut items = Items::new(alloc);
+    for column in columns {
+        items.push(Item::Column(*column))?;
+    }
+    Ok(items)
+}
+
+// The columns of GROUP BY, and behind them the aggregates.
+fn group_items(
+    alloc: Global,
+    columns: &[usize],
+    aggregates: &[Item<usize>],
+) -> Result<Items<Item<usize>>, Refusal>
+    ensures ok { IfOk result (λ items. items ≡ map item.Column columns.now ++ aggregates.now) }
+    ensures err { IfErr result (λ e. e ≡ Refusal.OutOfMemory) }
+{
+    let mut items = column_items(alloc, columns)?;
+    for aggregate in aggregates {
+        items.push(copy_item(aggregate))?;
+    }
+    Ok(items)
+}
+
+fn pushed_groups(alloc: Global, query: Query) -> Result<Query, Refusal>
+    ensures ok { IfOk result (λ piece. piece ≡ pushed_groups query) }
+    ensures err { IfErr result (λ e. e ≡ Refusal.OutOfMemory) }
+{
+    let Grouping { aggregates, .. } = Grouping::of(alloc, &query)?;
+    let columns = query.group_by.as_slice();
+    let items = group_items(alloc, columns, aggregates.as_slice())?;
+    let Query {
+        table,
+        filter,
+        group_by,
+        ..
+    } = query;
+    Ok(Query {
+        table,
+        items,
+        filter,
+        group_by,
+        order_by: Items::new(alloc),
+        limit: None,
+    })
+}
+
+fn pushed(alloc: Global, query: Query) -> Result<Query, Refusal>
+    ensures ok { IfOk result (λ piece. piece ≡ pushed query) }
+    ensures err { IfErr result (λ e. e ≡ Refusal.OutOfMemory) }
+{
+    if query.is_aggregated() {
+        pushed_groups(alloc, query)
+    } else {
+        pushed_rows(query)
+    }
 }
 
 fn first_places(alloc: Global, items: &[Item<usize>]) -> Result<Items<usize>, Refusal>
@@ -94,18 +156,45 @@ fn keys_behind(
     Ok(moved)
 }
 
-fn finish_of(alloc: Global, query: &Query) -> Result<Finish, Refusal>
-    ensures ok { IfOk result (λ finish. finish ≡ finish_of query.now) }
+fn rows_finish(alloc: Global, query: &Query) -> Result<Finish, Refusal>
+    ensures ok { IfOk result (λ finish. finish ≡ rows_finish query.now) }
     ensures err { IfErr result (λ e. e ≡ Refusal.OutOfMemory) }
 {
     let items = query.items.as_slice();
     let columns = first_places(alloc, items)?;
     let order_by = keys_behind(alloc, items, query.order_by.as_slice())?;
     Ok(Finish {
+        grouping: None,
         columns,
         order_by,
         limit: query.limit,
     })
+}
+
+fn groups_finish(alloc: Global, query: &Query) -> Result<Finish, Refusal>
+    ensures ok { IfOk result (λ finish. finish ≡ groups_finish query.now) }
+    ensures err { IfErr result (λ e. e ≡ Refusal.OutOfMemory) }
+{
+    let grouping = Grouping::of(alloc, query)?;
+    let columns = group_columns(alloc, query)?;
+    let order_by = group_order(alloc, query)?;
+    Ok(Finish {
+        grouping: Some(grouping),
+        columns,
+        order_by,
+        limit: query.limit,
+    })
+}
+
+fn finish_of(alloc: Global, query: &Query) -> Result<Finish, Refusal>
+    ensures ok { IfOk result (λ finish. finish ≡ finish_of query.now) }
+    ensures err { IfErr result (λ e. e ≡ Refusal.OutOfMemory) }
+{
+    if query.is_aggregated() {
+        groups_finish(alloc, query)
+    } else {
+        rows_finish(alloc, query)
+    }
 }
 
 fn query_route(alloc: Global, schema: &VSchema, query: &Query) -> Result<Route, Refusal>
@@ -118,9 +207,8 @@ fn query_route(alloc: Global, schema: &VSchema, query: &Query) -> Result<Route, 
     }
 }
 
-/// The plan of a query that isn't aggregated. Refuses only for want of memory.
+/// The plan of a query. Refuses only for want of memory.
 pub fn plan(alloc: Global, schema: &VSchema, query: Query) -> Result<Plan, Refusal>
-    requires plain { is_aggregated query ≡ false }
     ensures exact { IfOk result (λ p. p ≡ planned (table_at schema.now query.table) query) }
     ensures right { IfOk result (IsRightPlan schema.now query) }
     ensures skips { IfOk result (SkipsNothing schema.now query) }
@@ -128,7 +216,7 @@ pub fn plan(alloc: Global, schema: &VSchema, query: Query) -> Result<Plan, Refus
 {
     let route = query_route(alloc, schema, &query)?;
     let finish = finish_of(alloc, &query)?;
-    let piece = pushed(query)?;
+    let piece = pushed(alloc, query)?;
     Ok(Plan {
         route,
         piece,

@@ -1,14 +1,18 @@
 use crate::routes::Route;
+use sql_eval::Grouping;
 use sql_tree::{Key, Limit};
 use vschema::Query;
 use vt_value::Items;
 
-/// What is made of the rows of the pieces: they are sorted, sliced and cut to the columns of the answer.
+/// What is made of the rows of the pieces: they are joined to groups where the query is aggregated, sorted, sliced and cut to the columns of
+/// the answer.
 #[derive(Drop)]
 pub struct Finish {
-    /// The columns of the answer, by their places in the pieces' rows.
+    /// How the groups of the pieces are joined, where the query is aggregated.
+    pub grouping: Option<Grouping>,
+    /// The columns of the answer, by their places in the rows of the pieces, or of the joined groups.
     pub columns: Items<usize>,
-    /// The sort keys, by the places of their columns in the pieces' rows.
+    /// The sort keys, by the places of their columns in these rows.
     pub order_by: Items<Key<usize>>,
     /// What is left of the sorted rows, all of them without one.
     pub limit: Option<Limit>,

@@ -1,13 +1,19 @@
-use crate::{Finish, Plan, plan, shards, write_route};
+ghost use Rattle.std.specs.Prelude.{IsTrue};
+ghost use Rattle.std.specs.List.{AllByRecursion};
+ghost use Rattle.aggregate.specs.Aggregates.{IsStored};
+ghost use Rattle.sql_eval.specs.Groups.{CanBeSummed};
+ghost use Rattle.planner.specs.Plans.{CanJoin};
+
+use crate::{Finish, Plan, Route, plan, shards, write_route};
 use keyrange::KeyRange;
 use operators::Rows;
-use sql_eval::select_local;
+use sql_eval::{Grouping, select_local};
 use sql_tree::{Assignment, Condition, Item, Key, Limit, Operand};
 use std::alloc::Global;
 use std::test::Fail;
 use vindex::AnyVindex;
 use vschema::{Column, ColumnType, ColumnVindex, Keyspace, Query, Table, VSchema, Write};
-use vt_value::{Comparison, Items, Row, Value};
+use vt_value::{Comparison, Items, Row, Value, copy_row};
 
 fn column(alloc: Global, name: &[u8], nullable: bool) -> Result<Column, Fail> {
     Ok(Column {
@@ -99,39 +105,105 @@ fn plan_of(
     schema: &VSchema,
     filter: Option<Condition<usize>>,
 ) -> Result<Plan, Fail> {
-    let query = query(alloc, filter)?;
-    if query.is_aggregated() {
-        return Err("aggregated".into());
-    }
-    Ok(plan(alloc, schema, query)?)
+    Ok(plan(alloc, schema, query(alloc, filter)?)?)
 }
 
 fn first_table(schema: &VSchema) -> Option<&Table> {
     schema.tables.as_slice().first()
 }
 
+fn is_stored(value: &Value) -> bool
+    ensures { IsTrue result → IsStored value.now }
+{
+    match value {
+        Value::Int(number) => {
+            -9_223_372_036_854_775_808 <= *number && *number <= 18_446_744_073_709_551_615
+        }
+        _ => true,
+    }
+}
+
+fn row_is_stored(values: &[Value]) -> bool
+    ensures { IsTrue result → AllByRecursion IsStored values.now }
+{
+    for value in values {
+        if !is_stored(value) {
+            return false;
+        }
+    }
+    true
+}
+
+fn are_stored(rows: &[Row]) -> bool
+    ensures { IsTrue result → AllByRecursion (AllByRecursion IsStored) rows.now }
+{
+    for row in rows {
+        if !row_is_stored(row.as_slice()) {
+            return false;
+        }
+    }
+    true
+}
+
+fn can_be_summed(rows: &[Row]) -> bool
+    ensures { IsTrue result → CanBeSummed rows.now }
+{
+    rows.len() <= 1 << 60 && are_stored(rows)
+}
+
+fn can_join(grouping: &Option<Grouping>, rows: &[Row]) -> bool
+    ensures { IsTrue result → CanJoin grouping.now rows.now }
+{
+    grouping.is_none() || can_be_summed(rows)
+}
+
+// what the shard of a range answers to the plan over these rows
 fn piece_rows(
     alloc: Global,
     plan: &Plan,
     table: &Table,
     range: &KeyRange,
-    ids: &[i128],
-) -> Result<Rows, Fail> {
+    rows: &[Row],
+) -> Result<Items<Row>, Fail> {
     let piece = plan.piece_for(alloc, table, range)?;
-    let rows = rows_of(alloc, ids)?;
-    if piece.is_aggregated() {
-        return Err("aggregated".into());
+    if !can_be_summed(rows) {
+        return Err("too large".into());
     }
-    Ok(Rows::new(alloc, select_local(alloc, &piece, rows.as_slice())?)?)
+    Ok(select_local(alloc, &piece, rows)?)
 }
 
-// what the shards -80 with 2, 4, 6 and 80- with 1, 3, 5 answer to the plan
-fn answer_of(alloc: Global, plan: &Plan, table: &Table) -> Result<Items<Row>, Fail> {
-    let [low, high] = halves().ok_or("ranges")?;
+// what the finish makes of the rows of one piece
+fn finished(alloc: Global, finish: &Finish, rows: Items<Row>) -> Result<Items<Row>, Fail> {
+    if !can_join(&finish.grouping, rows.as_slice()) {
+        return Err("too large".into());
+    }
     let mut pieces = Vec::new(alloc);
-    pieces.push(piece_rows(alloc, plan, table, &low, &[2, 4, 6])?)?;
-    pieces.push(piece_rows(alloc, plan, table, &high, &[1, 3, 5])?)?;
-    Ok(plan.finish.answer(alloc, pieces)?)
+    pieces.push(Rows::new(alloc, rows)?)?;
+    Ok(finish.answer(alloc, pieces)?)
+}
+
+// what the shards -80 and 80- with these rows answer to the plan
+fn answer_over(
+    alloc: Global,
+    plan: &Plan,
+    table: &Table,
+    low_rows: &[Row],
+    high_rows: &[Row],
+) -> Result<Items<Row>, Fail> {
+    let [low, high] = halves().ok_or("ranges")?;
+    let mut rows = piece_rows(alloc, plan, table, &low, low_rows)?;
+    let more = piece_rows(alloc, plan, table, &high, high_rows)?;
+    for row in more.as_slice() {
+        rows.push(copy_row(alloc, row)?)?;
+    }
+    finished(alloc, &plan.finish, rows)
+}
+
+// those with 2, 4, 6 and 1, 3, 5
+fn answer_of(alloc: Global, plan: &Plan, table: &Table) -> Result<Items<Row>, Fail> {
+    let low = rows_of(alloc, &[2, 4, 6])?;
+    let high = rows_of(alloc, &[1, 3, 5])?;
+    answer_over(alloc, plan, table, low.as_slice(), high.as_slice())
 }
 
 fn shown(rows: &Items<Row>) -> Option<(i128, i128)> {
@@ -229,6 +301,7 @@ fn a_finish_sorts_slices_and_shows(rt: HostRuntime) -> Result<(), Fail> {
         descending: false,
     })?;
     let finish = Finish {
+        grouping: None,
         columns: Items::from_slice(alloc, &[0])?,
         order_by,
         limit: None,
@@ -245,4 +318,142 @@ fn a_finish_sorts_slices_and_shows(rt: HostRuntime) -> Result<(), Fail> {
         }
         _ => Err("two rows".into()),
     }
+}
+
+// rows of t; `None` is NULL
+fn pairs(alloc: Global, numbers: &[(i128, Option<i128>)]) -> Result<Items<Row>, Fail> {
+    let mut rows = Items::new(alloc);
+    for (id, c) in numbers {
+        let mut row = Items::new(alloc);
+        row.push(Value::Int(*id))?;
+        match c {
+            Some(number) => row.push(Value::Int(*number))?,
+            None => row.push(Value::Null)?,
+        }
+        rows.push(row)?;
+    }
+    Ok(rows)
+}
+
+fn number_at(row: &Row, place: usize) -> Option<i128> {
+    match row.get(place) {
+        Some(Value::Int(number)) => Some(*number),
+        _ => None,
+    }
+}
+
+// SELECT c, COUNT(*) FROM t GROUP BY c ORDER BY c
+fn counts(alloc: Global) -> Result<Query, Fail> {
+    let mut items = Items::new(alloc);
+    items.push(Item::Column(1))?;
+    items.push(Item::CountRows)?;
+    let mut order_by = Items::new(alloc);
+    order_by.push(Key {
+        column: 1,
+        descending: false,
+    })?;
+    Ok(Query {
+        table: 0,
+        items,
+        filter: None,
+        group_by: Items::from_slice(alloc, &[1])?,
+        order_by,
+        limit: None,
+    })
+}
+
+// SELECT COUNT(*), MIN(c), SUM(c) FROM t WHERE ..
+fn totals(alloc: Global, filter: Option<Condition<usize>>) -> Result<Query, Fail> {
+    let mut items = Items::new(alloc);
+    items.push(Item::CountRows)?;
+    items.push(Item::Min(1))?;
+    items.push(Item::Sum(1))?;
+    Ok(Query {
+        table: 0,
+        items,
+        filter,
+        group_by: Items::new(alloc),
+        order_by: Items::new(alloc),
+        limit: None,
+    })
+}
+
+#[test]
+fn groups_of_two_shards_are_joined(rt: HostRuntime) -> Result<(), Fail> {
+    let alloc = rt.alloc();
+    let schema = schema(alloc)?;
+    let plan = plan(alloc, &schema, counts(alloc)?)?;
+    let table = first_table(&schema).ok_or("one table")?;
+    let low = pairs(alloc, &[(2, None), (4, Some(7)), (6, Some(1))])?;
+    let high = pairs(alloc, &[(1, None), (3, Some(7)), (5, Some(9))])?;
+    let answer = answer_over(alloc, &plan, table, low.as_slice(), high.as_slice())?;
+    let wanted = [(None, 2), (Some(1), 1), (Some(7), 2), (Some(9), 1)];
+    assert_eq!(rt; answer.len(), 4);
+    for (row, (c, count)) in answer.as_slice().iter().zip(wanted) {
+        assert_eq!(rt; number_at(row, 0), c);
+        assert_eq!(rt; number_at(row, 1), Some(count));
+    }
+    Ok(())
+}
+
+#[test]
+fn sums_of_two_shards_are_joined(rt: HostRuntime) -> Result<(), Fail> {
+    let alloc = rt.alloc();
+    let schema = schema(alloc)?;
+    let plan = plan(alloc, &schema, totals(alloc, None)?)?;
+    let table = first_table(&schema).ok_or("one table")?;
+    let high = pairs(
+        alloc,
+        &[
+            (1, Some(4_000_000_000_000_000_000)),
+            (3, Some(14_000_000_000_000_000_000)),
+        ],
+    )?;
+    let answer = answer_over(alloc, &plan, table, &[], high.as_slice())?;
+    assert_eq!(rt; answer.len(), 1);
+    for row in answer.as_slice() {
+        assert_eq!(rt; number_at(row, 0), Some(2));
+        assert_eq!(rt; number_at(row, 1), Some(4_000_000_000_000_000_000));
+        assert_eq!(rt; number_at(row, 2), Some(18_000_000_000_000_000_000));
+    }
+    Ok(())
+}
+
+#[test]
+fn a_sum_of_two_shards_may_have_more_than_64_bits(rt: HostRuntime) -> Result<(), Fail> {
+    let alloc = rt.alloc();
+    let schema = schema(alloc)?;
+    let plan = plan(alloc, &schema, totals(alloc, None)?)?;
+    let table = first_table(&schema).ok_or("one table")?;
+    let largest = 18_446_744_073_709_551_615;
+    let low = pairs(alloc, &[(2, Some(largest))])?;
+    let high = pairs(alloc, &[(1, Some(largest))])?;
+    let answer = answer_over(alloc, &plan, table, low.as_slice(), high.as_slice())?;
+    assert_eq!(rt; answer.len(), 1);
+    for row in answer.as_slice() {
+        assert_eq!(rt; number_at(row, 1), Some(largest));
+        assert_eq!(rt; number_at(row, 2), Some(36_893_488_147_419_103_230));
+    }
+    Ok(())
+}
+
+#[test]
+fn without_a_shard_there_is_one_row(rt: HostRuntime) -> Result<(), Fail> {
+    let alloc = rt.alloc();
+    let schema = schema(alloc)?;
+    let never = Condition::Compare(
+        Comparison::Eq,
+        Operand::Column(0),
+        Operand::Literal(Value::Null),
+    );
+    let plan = plan(alloc, &schema, totals(alloc, Some(never))?)?;
+    assert!(rt; matches!(plan.route, Route::None));
+    let answer = finished(alloc, &plan.finish, Items::new(alloc))?;
+    assert_eq!(rt; answer.len(), 1);
+    for row in answer.as_slice() {
+        assert_eq!(rt; number_at(row, 0), Some(0));
+        assert_eq!(rt; number_at(row, 1), None);
+        assert_eq!(rt; number_at(row, 2), None);
+    }
+    Ok(())
 }

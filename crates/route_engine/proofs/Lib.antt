@@ -1,3 +1,15 @@
+pub mod Moments
+pub mod Needs
+pub mod Spread
+pub mod Gathers
+pub mod Placing
+pub mod Workers
+pub mod Formed
+pub mod Selecting
+pub mod Jobs
+pub mod Theirs
+pub mod Sent
+pub mod Writing
 pub mod Refusals
 pub mod Replies
 pub mod Sessions

@@ -1,5 +1,5 @@
 -- Why a text is refused, from why each step refuses.
-use Rattle.std.proofs.Common.{◌≡◌, ◌⊎◌, inl, inr, ℕ, List, Ok, Err, false, ap, sym, subst, ◌∙◌}
+use Rattle.std.proofs.Common.{◌≡◌, ◌⊎◌, inl, inr, ℕ, List, [], Ok, Err, false, ap, sym, subst, ◌∙◌}
 use Rattle.std.specs.Prelude.{not}
 use Rattle.vt_value.specs.declared.refusal.Refusal.{Refusal}
 use Rattle.vt_value.specs.declared.refusal.Refusal.TheVariants.{OutOfMemory, SyntaxError, NotSupported}
@@ -15,22 +15,24 @@ use Rattle.journal.specs.Views.{PassView}
 use Rattle.shard_run.specs.declared.Entry.{Entry}
 use Rattle.shard_run.specs.Runs.{Opening}
 use Rattle.shard.specs.declared.limits.Limits.{Limits}
-use Rattle.shard.specs.Shards as s
+use Rattle.journal.specs.Runs.{IsLegal}
+use Rattle.shard.specs.Shards.{MayFollow}
+use Rattle.route_engine.proofs.Gathers.{stays}
 use Rattle.route_engine.specs.Answers as a
 use Rattle.route_engine.specs.Answers.{IsRefused, MaySelectRefuse, MayWriteRefuse, is_run}
 
-module _ (o : Opening) (limits : Limits) (p : PassView Entry) (text : List ℕ) where
+module _ (o : Opening) (limits : Limits) (p : PassView Entry) (text : List ℕ) (legal : IsLegal (MayFollow o) p.seen) where
   abbrev For : PassView Entry → Refusal → Type 0
   For now e = IsRefused o limits p text e now
 
   pub from_parse : (e : Refusal) → ((e ≡ OutOfMemory) ⊎ (e ≡ SyntaxError)) → ((tree : Statement) → Reads text tree → e ≡ OutOfMemory)
       → IsRefused o limits p text e p
-  from_parse e (inl is) only = subst (For p) (sym is) (a.no_memory s.same)
+  from_parse e (inl is) only = subst (For p) (sym is) (a.no_memory ([], stays o p legal))
   from_parse e (inr is) only = subst (For p) (sym is) (a.no_tree (λ tree reads. let wrong : SyntaxError ≡ OutOfMemory = sym is ∙ only tree reads in cc))
 
   pub from_resolve : (schema : VSchema) (tree : Statement) (e : Refusal) → schema ≡ o.schema → Reads text tree
       → ((e ≡ OutOfMemory) ⊎ (typed_statement schema tree ≡ Err e)) → IsRefused o limits p text e p
-  from_resolve schema tree e served reads (inl is) = subst (For p) (sym is) (a.no_memory s.same)
+  from_resolve schema tree e served reads (inl is) = subst (For p) (sym is) (a.no_memory ([], stays o p legal))
   from_resolve schema tree e served reads (inr is) =
       a.not_typed tree reads (subst (λ (v : VSchema). typed_statement v tree ≡ Err e) served is)
 

@@ -2,7 +2,6 @@
 use Rattle.std.proofs.Common.{◌≡◌, ℕ, List, Ok, Err, Result, refl, subst}
 use Rattle.std.specs.Prelude.{Contains, length, IfOk, IfErr, Some}
 use Rattle.vt_value.specs.declared.refusal.Refusal.{Refusal}
-use Rattle.vt_value.specs.Values.{Row}
 use Rattle.sql_tree.specs.declared.Statement.{Statement}
 use Rattle.sql_parser.specs.Grammar.{Reads}
 use Rattle.vschema.specs.declared.schema.Query.{Query}
@@ -11,33 +10,18 @@ use Rattle.vschema.specs.declared.schema.VSchema.{VSchema}
 use Rattle.vschema.specs.declared.schema.Typed.TheVariants.{Select, Write}
 use Rattle.vschema.specs.declared.changes.Write as W
 use Rattle.vschema.specs.TypedStatement.{typed_statement}
-use Rattle.sql_eval.specs.Queries.{Allowed}
 use Rattle.journal.specs.Views.{PassView}
-use Rattle.shard_run.specs.declared.Shard.{Shard}
 use Rattle.shard_run.specs.declared.Entry.{Entry}
-use Rattle.shard_run.specs.Runs.{Opening, held, entries_on}
+use Rattle.shard_run.specs.Runs.{Opening}
 use Rattle.shard.specs.declared.limits.Limits.{Limits}
-use Rattle.shard.specs.Shards.{HasLooked, opening_shards}
-use Rattle.route_engine.specs.declared.engine.Reply.{Reply}
-use Rattle.route_engine.specs.declared.engine.Answer.TheVariants.{Rows}
+use Rattle.journal.specs.Runs.{IsLegal}
+use Rattle.shard.specs.Shards.{MayFollow}
+use Rattle.route_engine.specs.declared.reply.Reply.{Reply}
 use Rattle.route_engine.specs.Answers as a
 use Rattle.route_engine.specs.Answers.{HasRead, HasWritten, Gives, IsReply, IsRefused, MaySelectRefuse, MayWriteRefuse}
 use Rattle.route_engine.proofs.Refusals.{from_select, from_write}
 
-module _ (o : Opening) (limits : Limits) (p now : PassView Entry) where
-  pub read_on : (query : Query) (rows : List Row) (entries : ℕ) (s : Shard) → Contains (opening_shards o) s → HasLooked o s.slot p now
-      → Allowed query (held o now.seen s) rows × (entries ≡ length (entries_on s.slot now.seen))
-      → HasRead o p query (record { answer = Rows (record { table = query.table; items = query.items; rows = rows }); entries = Some entries }) now
-  read_on query rows entries s opening looked (allowed, then) = a.read (record {
-    table = refl;
-    items = refl;
-    shard = s;
-    opening = opening;
-    looked = looked;
-    allowed = allowed;
-    entries_then = then;
-  })
-
+module _ (o : Opening) (limits : Limits) (p now : PassView Entry) (legal : IsLegal (MayFollow o) p.seen) where
   pub replies : (text : List ℕ) (tree : Statement) (typed : Typed) (schema : VSchema) (reply : Reply) → schema ≡ o.schema → Reads text tree
       → typed_statement schema tree ≡ Ok typed → Gives o limits p typed reply now → IsReply o limits p text reply now
   replies text tree typed schema reply served reads resolved gives = record {
@@ -56,7 +40,7 @@ module _ (o : Opening) (limits : Limits) (p now : PassView Entry) where
   pub not_selected : (text : List ℕ) (tree : Statement) (query : Query) (schema : VSchema) (result : Result Reply Refusal) → schema ≡ o.schema → Reads text tree
       → typed_statement schema tree ≡ Ok (Select query) → IfErr result (λ e. MaySelectRefuse o p query e now) → IfErr result (λ e. IsRefused o limits p text e now)
   not_selected text tree query schema (Ok reply) served reads is refused = cc
-  not_selected text tree query schema (Err e) served reads is refused = from_select o limits p text schema tree query now e served reads is refused
+  not_selected text tree query schema (Err e) served reads is refused = from_select o limits p text legal schema tree query now e served reads is refused
 
   pub written : (text : List ℕ) (tree : Statement) (w : W.Write) (schema : VSchema) (result : Result Reply Refusal) → schema ≡ o.schema → Reads text tree
       → typed_statement schema tree ≡ Ok (Write w) → IfOk result (λ r. HasWritten o limits p w r now) → IfOk result (λ r. IsReply o limits p text r now)
@@ -66,4 +50,4 @@ module _ (o : Opening) (limits : Limits) (p now : PassView Entry) where
   pub not_written : (text : List ℕ) (tree : Statement) (w : W.Write) (schema : VSchema) (result : Result Reply Refusal) → schema ≡ o.schema → Reads text tree
       → typed_statement schema tree ≡ Ok (Write w) → IfErr result (λ e. MayWriteRefuse o limits p w e now) → IfErr result (λ e. IsRefused o limits p text e now)
   not_written text tree w schema (Ok reply) served reads is refused = cc
-  not_written text tree w schema (Err e) served reads is refused = from_write o limits p text schema tree w now e served reads is refused
+  not_written text tree w schema (Err e) served reads is refused = from_write o limits p text legal schema tree w now e served reads is refused

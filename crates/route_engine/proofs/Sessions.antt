@@ -1,10 +1,8 @@
 -- A statement leaves the session of its pass, and what it may need of a pass is there.
 use Rattle.std.proofs.Common.{◌≡◌, ℕ, ◌+◌, ◌^◌, ◌≤◌, List, [], ◌∷◌, Option, Some, Ok, Err, Result, refl, sym, ap, subst, ◌∙◌}
-use Rattle.std.specs.Prelude.{Contains, IfOk, IfErr, IsTrue, ◌&&◌}
-use Rattle.std.specs.List.{list_all}
+use Rattle.std.specs.Prelude.{IfOk, IfErr}
 use Rattle.vt_value.specs.declared.refusal.Refusal.{Refusal}
 use Rattle.vt_value.specs.declared.refusal.Refusal.TheVariants.{ShardFull}
-use Rattle.vt_value.specs.Values.{Row}
 use Rattle.sql_tree.specs.declared.Statement.{Statement}
 use Rattle.sql_tree.specs.declared.Statement.TheVariants.{Select, Insert, Update, Delete, Begin, Commit, Rollback, SetNames}
 use Rattle.vschema.specs.declared.schema.Query.{Query}
@@ -21,21 +19,19 @@ use Rattle.shard_run.specs.declared.Shard.{Shard}
 use Rattle.shard_run.specs.declared.Entry.{Entry}
 use Rattle.shard_run.specs.Runs.{Opening}
 use Rattle.shard.specs.declared.limits.Limits.{Limits}
-use Rattle.shard.specs.Shards.{HasLooked, HasSeen, opening_shards}
-use Rattle.shard.specs.Shards as s
-use Rattle.shard.specs.Commits.{HasCommitted, IsPlaced, inserted_rows}
-use Rattle.route_engine.specs.declared.engine.Reply.{Reply}
+use Rattle.shard.specs.Shards.{HasLooked}
+use Rattle.shard.specs.Commits.{HasCommitted}
+use Rattle.route_engine.specs.declared.reply.Reply.{Reply}
 use Rattle.route_engine.specs.Answers as a
-use Rattle.route_engine.specs.Answers.{EachRowIsHome, Gives, IsReply, IsRefused}
+use Rattle.route_engine.specs.Answers.{Gives, IsReply, IsRefused, HasGone}
 
 -- ---- the session
 
 looked_session : (o : Opening) (slot : ℕ) (p now : PassView Entry) → HasLooked o slot p now → now.session ≡ p.session
 looked_session o slot p now looked = ap (λ (q : PassView Entry). q.session) looked.pass
 
-seen_session : (o : Opening) (p now : PassView Entry) → HasSeen o p now → now.session ≡ p.session
-seen_session o p _ s.same = refl
-seen_session o p now (s.looked t opening looked) = looked_session o t.slot p now looked
+gone_session : (o : Opening) (p now : PassView Entry) → HasGone o p now → now.session ≡ p.session
+gone_session o p now gone = ap (λ (q : PassView Entry). q.session) gone.1.pass
 
 committed_session : (o : Opening) (l : Limits) (t : Shard) (p now : PassView Entry) (w : Write) (count : ℕ) → HasCommitted o l t p w count now
     → now.session ≡ p.session
@@ -43,17 +39,20 @@ committed_session o l t p now w count c = ap (λ (q : PassView Entry). q.session
 
 gives_session : (o : Opening) (l : Limits) (p : PassView Entry) (t : Typed) (reply : Reply) (now : PassView Entry) → Gives o l p t reply now
     → now.session ≡ p.session
-gives_session o l p _ _ now (a.selects (a.read is)) = looked_session o is.shard.slot p now is.looked
-gives_session o l p _ _ now (a.writes {w} (a.wrote {count} t opening committed)) = committed_session o l t p now w count committed
+gives_session o l p _ _ now (a.selects (a.read is)) = gone_session o p now (is.added, is.gone)
+gives_session o l p _ _ _ (a.writes (a.nowhere none)) = refl
+gives_session o l p _ _ now (a.writes {w} (a.wrote {count} t needed committed)) = committed_session o l t p now w count committed
 gives_session o l p _ _ _ a.sets_names = refl
 
 refused_session : (o : Opening) (l : Limits) (p : PassView Entry) (text : List ℕ) (e : Refusal) (now : PassView Entry) → IsRefused o l p text e now
     → now.session ≡ p.session
-refused_session o l p text _ now (a.no_memory seen) = seen_session o p now seen
+refused_session o l p text _ now (a.no_memory gone) = gone_session o p now gone
 refused_session o l p text _ _ (a.no_tree none) = refl
 refused_session o l p text _ _ (a.not_typed tree reads typed) = refl
 refused_session o l p text _ _ (a.not_run tree t reads is none) = refl
-refused_session o l p text _ now (a.not_written tree w reads is (a.refused t opening looked why)) = looked_session o t.slot p now looked
+refused_session o l p text _ _ (a.not_written tree w reads is a.no_memory) = refl
+refused_session o l p text _ _ (a.not_written tree w reads is (a.several more)) = refl
+refused_session o l p text _ now (a.not_written tree w reads is (a.refused t needed looked why)) = looked_session o t.slot p now looked
 
 pub same_session : (o : Opening) (l : Limits) (p now : PassView Entry) (text : List ℕ) (result : Result Reply Refusal)
     → IfOk result (λ r. IsReply o l p text r now) → IfErr result (λ e. IsRefused o l p text e now) → now.session ≡ p.session
@@ -91,10 +90,3 @@ is_typed schema Begin w is = absurd cc
 is_typed schema Commit w is = absurd cc
 is_typed schema Rollback w is = absurd cc
 is_typed schema (SetNames c) w is = absurd cc
-
-all_true : {X : Type 0} (p : X → Rattle.std.specs.Prelude.Bool) → ((x : X) → IsTrue (p x)) → (xs : List X) → IsTrue (list_all p xs)
-all_true p each [] = search
-all_true p each (x ∷ xs) = let one = each x in let rest = all_true p each xs in search
-
-pub placed : (o : Opening) → EachRowIsHome o → (w : Write) (s : Shard) → Contains (opening_shards o) s → IsPlaced o.schema s.place w
-placed o home w s opening = all_true _ (home s opening _) (inserted_rows w)

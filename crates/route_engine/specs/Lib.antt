@@ -1,2 +1,4 @@
+pub mod Mix
 pub mod Answers
 pub mod Served
+pub mod Scatter

@@ -1,6 +1,13 @@
-//! The engine that runs the text of a statement.
+//! The engine that runs the text of a statement over shards.
 #![tactic(auto)]
 
 mod engine;
+mod gate;
+mod parts;
+mod reply;
+mod scatter;
 
-pub use engine::{Answer, Engine, Reply, Selected};
+pub use engine::Engine;
+pub use gate::{Gate, Open};
+pub use parts::Part;
+pub use reply::{Answer, Reply, Selected, ShardRead};

@@ -9,17 +9,15 @@ use Rattle.resultset.specs.declared.Outcome.{Outcome}
 use Rattle.resultset.specs.declared.Outcome.TheVariants.{Refused, Rows}
 use Rattle.resultset.specs.declared.ResultSet.{ResultSet}
 use Rattle.vt_value.specs.Values.{Row}
-use Rattle.route_engine.specs.declared.engine.Reply.{Reply}
+use Rattle.route_engine.specs.declared.reply.Reply.{Reply}
 use Rattle.session.specs.Columns.{AreColumns}
 use Rattle.resultset.specs.Encoding.{encoded}
 use Rattle.shard_run.specs.Runs.{Opening}
-use Rattle.shard.specs.Shards.{HasSeen}
-use Rattle.shard.specs.Shards as h
-use Rattle.route_engine.specs.declared.engine.Selected.{Selected}
+use Rattle.route_engine.specs.declared.reply.Selected.{Selected}
 use Rattle.shard.specs.declared.limits.Limits.{Limits}
-use Rattle.route_engine.specs.declared.engine.Answer.{Answer}
-use Rattle.route_engine.specs.declared.engine.Answer.TheVariants as answer
-use Rattle.route_engine.specs.Answers.{IsReply, Gives}
+use Rattle.route_engine.specs.declared.reply.Answer.{Answer}
+use Rattle.route_engine.specs.declared.reply.Answer.TheVariants as answer
+use Rattle.route_engine.specs.Answers.{IsReply, Gives, HasGone}
 use Rattle.route_engine.specs.Answers as a
 use Rattle.vschema.specs.declared.schema.VSchema.{VSchema}
 use Rattle.vschema.specs.declared.schema.Typed.{Typed}
@@ -81,9 +79,10 @@ module _ {S : Type 0} (May : S → List ℕ → Outcome → S → Type 0) where
       t.queried text outcome first command may (stay_ended then now ps qs out end e is r)
 
 -- a reply with rows only looked
-rows_read : (o : Opening) (l : Limits) (p : Seen) (t : Typed) (reply : Reply) (now : Seen) → Gives o l p t reply now → HasRows reply.answer → HasSeen o p now
-rows_read o l p _ _ _ (a.selects (a.read is)) rows = h.looked is.shard is.opening is.looked
-rows_read o l p _ _ _ (a.writes (a.wrote s opening committed)) rows = absurd rows
+rows_read : (o : Opening) (l : Limits) (p : Seen) (t : Typed) (reply : Reply) (now : Seen) → Gives o l p t reply now → HasRows reply.answer → HasGone o p now
+rows_read o l p _ _ _ (a.selects (a.read is)) rows = (is.added, is.gone)
+rows_read o l p _ _ _ (a.writes (a.nowhere none)) rows = absurd rows
+rows_read o l p _ _ _ (a.writes (a.wrote s needed committed)) rows = absurd rows
 rows_read o l p _ _ _ a.sets_names rows = absurd rows
 
 shows_rows : (schema : VSchema) (x : Answer) (outcome : Outcome) → Shows schema x outcome → IsRows outcome → HasRows x

@@ -8,10 +8,10 @@ use Rattle.journal.specs.Views.{PassView}
 use Rattle.shard_run.specs.declared.Entry.{Entry}
 use Rattle.shard_run.specs.Runs.{Opening}
 use Rattle.vschema.specs.declared.schema.VSchema.{VSchema}
-use Rattle.route_engine.specs.declared.engine.Selected.{Selected}
-use Rattle.route_engine.specs.declared.engine.Answer.{Answer}
-use Rattle.route_engine.specs.declared.engine.Answer.TheVariants as a
-use Rattle.route_engine.specs.declared.engine.Reply.{Reply}
+use Rattle.route_engine.specs.declared.reply.Selected.{Selected}
+use Rattle.route_engine.specs.declared.reply.Answer.{Answer}
+use Rattle.route_engine.specs.declared.reply.Answer.TheVariants as a
+use Rattle.route_engine.specs.declared.reply.Reply.{Reply}
 use Rattle.shard.specs.declared.limits.Limits.{Limits}
 use Rattle.route_engine.specs.Answers.{counted, IsReply, IsRefusal}
 use Rattle.session.specs.Columns.{AreColumns}

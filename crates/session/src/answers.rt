@@ -10,16 +10,17 @@ use crate::reply::{REPLY_ROOM, put_refusal, put_reply};
 use bytes::BytesMut;
 use journal::{Naming, Pass};
 use mysql_packet::{Fault, Fed, Payload};
-use route_engine::Engine;
+use route_engine::{Engine, Gate};
 use shard::{ShardLaw, World};
 use std::alloc::Global;
 use std::sync::Wait;
+use std::thread::Threads;
 
 /// Writes the reply to one command, once it is known whole.
-fn answer<W: World, J: Naming, S: Sink>(
-    rt: &impl Wait,
+fn answer<W: World + Send + Sync, J: Naming + Send + Sync, G: Gate, S: Sink>(
+    rt: &(impl Threads + Wait + Sync),
     alloc: Global,
-    engine: &Engine<W, J>,
+    engine: &Engine<W, J, G>,
     pass: &mut Pass<ShardLaw<W>, J>,
     payload: &Payload,
     reply: &mut BytesMut,
@@ -38,10 +39,10 @@ fn answer<W: World, J: Naming, S: Sink>(
     Ok(end)
 }
 
-fn answer_all<W: World, J: Naming, S: Sink>(
-    rt: &impl Wait,
+fn answer_all<W: World + Send + Sync, J: Naming + Send + Sync, G: Gate, S: Sink>(
+    rt: &(impl Threads + Wait + Sync),
     alloc: Global,
-    engine: &Engine<W, J>,
+    engine: &Engine<W, J, G>,
     pass: &mut Pass<ShardLaw<W>, J>,
     payloads: &[Payload],
     reply: &mut BytesMut,
@@ -78,10 +79,10 @@ fn answer_fault<S: Sink>(
 }
 
 /// Writes the replies to the payloads that a piece gave, and the refusal of its fault behind them.
-pub fn answer_fed<W: World, J: Naming, S: Sink>(
-    rt: &impl Wait,
+pub fn answer_fed<W: World + Send + Sync, J: Naming + Send + Sync, G: Gate, S: Sink>(
+    rt: &(impl Threads + Wait + Sync),
     alloc: Global,
-    engine: &Engine<W, J>,
+    engine: &Engine<W, J, G>,
     pass: &mut Pass<ShardLaw<W>, J>,
     fed: &Fed,
     reply: &mut BytesMut,

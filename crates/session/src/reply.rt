@@ -16,10 +16,11 @@ use journal::{Naming, Pass};
 use mysql_message::{Command, put_err, put_ok, read_command};
 use mysql_packet::Payload;
 use resultset::{Outcome, ResultSet, encode};
-use route_engine::{Answer, Engine, Selected};
+use route_engine::{Answer, Engine, Gate, Selected};
 use shard::{ShardLaw, World};
 use std::alloc::Global;
 use std::sync::Wait;
+use std::thread::Threads;
 use vschema::VSchema;
 use vt_value::Refusal;
 
@@ -73,10 +74,10 @@ fn shown(alloc: Global, schema: &VSchema, answer: Answer) -> Outcome
 }
 
 /// What the text of a statement gives its client.
-fn outcome_of<W: World, J: Naming>(
-    rt: &impl Wait,
+fn outcome_of<W: World + Send + Sync, J: Naming + Send + Sync, G: Gate>(
+    rt: &(impl Threads + Wait + Sync),
     alloc: Global,
-    engine: &Engine<W, J>,
+    engine: &Engine<W, J, G>,
     pass: &mut Pass<ShardLaw<W>, J>,
     text: &[u8],
 ) -> Outcome
@@ -127,10 +128,10 @@ fn put_outcome(alloc: Global, outcome: &Outcome, number: u8, reply: &mut BytesMu
 }
 
 /// The reply to one command, and the end of the session, if it ends it.
-pub fn put_reply<W: World, J: Naming>(
-    rt: &impl Wait,
+pub fn put_reply<W: World + Send + Sync, J: Naming + Send + Sync, G: Gate>(
+    rt: &(impl Threads + Wait + Sync),
     alloc: Global,
-    engine: &Engine<W, J>,
+    engine: &Engine<W, J, G>,
     pass: &mut Pass<ShardLaw<W>, J>,
     payload: &Payload,
     reply: &mut BytesMut,

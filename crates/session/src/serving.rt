@@ -9,10 +9,11 @@ use crate::devices::{Sink, Source};
 use crate::end::{End, SessionFault};
 use crate::session_core::{COMMAND_LIMIT, Core};
 use journal::{Naming, Pass};
-use route_engine::Engine;
+use route_engine::{Engine, Gate};
 use shard::{ShardLaw, World};
 use std::alloc::{AllocError, Global};
 use std::sync::Wait;
+use std::thread::Threads;
 
 /// How many bytes are asked of a source at once.
 const PIECE: usize = 1 << 16;
@@ -35,10 +36,10 @@ fn read_piece<R: Source>(source: &mut R, buffer: &mut [u8]) -> Result<usize, Ses
 }
 
 /// Reads one piece of the input, and answers the commands that it completes, or ends the session with the input.
-fn serve_piece<W: World, J: Naming, R: Source, S: Sink>(
-    rt: &impl Wait,
+fn serve_piece<W: World + Send + Sync, J: Naming + Send + Sync, G: Gate, R: Source, S: Sink>(
+    rt: &(impl Threads + Wait + Sync),
     alloc: Global,
-    engine: &Engine<W, J>,
+    engine: &Engine<W, J, G>,
     pass: &mut Pass<ShardLaw<W>, J>,
     core: &mut Core,
     buffer: &mut [u8],
@@ -65,10 +66,10 @@ fn serve_piece<W: World, J: Naming, R: Source, S: Sink>(
 
 /// Serves one connection from its command phase on, until it ends: reads commands from the source, and writes their replies to
 /// the sink. A source that gave 2^64 - 1 pieces counts as failed.
-pub fn serve<W: World, J: Naming, R: Source, S: Sink>(
-    rt: &impl Wait,
+pub fn serve<W: World + Send + Sync, J: Naming + Send + Sync, G: Gate, R: Source, S: Sink>(
+    rt: &(impl Threads + Wait + Sync),
     alloc: Global,
-    engine: &Engine<W, J>,
+    engine: &Engine<W, J, G>,
     pass: &mut Pass<ShardLaw<W>, J>,
     id: u32,
     capabilities: u32,

@@ -11,21 +11,22 @@ use crate::reply::REPLY_ROOM;
 use bytes::BytesMut;
 use journal::{Naming, Pass};
 use mysql_packet::Framer;
-use route_engine::Engine;
+use route_engine::{Engine, Gate};
 use shard::{ShardLaw, World};
 use std::alloc::Global;
 use std::marker::Model;
 use std::sync::Wait;
+use std::thread::Threads;
 use vt_value::Refusal;
 
 /// The most bytes of a command's payload.
 pub const COMMAND_LIMIT: usize = 1 << 20;
 
 /// The replies to a piece of the input.
-fn feed_parts<W: World, J: Naming, S: Sink>(
-    rt: &impl Wait,
+fn feed_parts<W: World + Send + Sync, J: Naming + Send + Sync, G: Gate, S: Sink>(
+    rt: &(impl Threads + Wait + Sync),
     alloc: Global,
-    engine: &Engine<W, J>,
+    engine: &Engine<W, J, G>,
     pass: &mut Pass<ShardLaw<W>, J>,
     piece: &[u8],
     framer: &mut Framer,
@@ -154,11 +155,11 @@ impl Core {
     /// Takes the next piece of the input, and writes the replies to the commands that it completes, each once it is known
     /// whole. `None` says that the session goes on. A session that has ended takes nothing and writes nothing, and tells
     /// again how it ended: after a fault as `End::Broken`.
-    pub fn feed<W: World, J: Naming, S: Sink>(
+    pub fn feed<W: World + Send + Sync, J: Naming + Send + Sync, G: Gate, S: Sink>(
         &mut self,
-        rt: &impl Wait,
+        rt: &(impl Threads + Wait + Sync),
         alloc: Global,
-        engine: &Engine<W, J>,
+        engine: &Engine<W, J, G>,
         pass: &mut Pass<ShardLaw<W>, J>,
         piece: &[u8],
         sink: &mut S,

@@ -222,4 +222,5 @@ module _ (o : Opening) (most : Limits) (seat : SeatView Entry) (c : Contents) (i
           serving = mode_is ∙ is.serving;
           limits = limits_are ∙ is.limits;
           within = subst (λ db. row_count db ≤ most.rows) (sym (now ∙ left)) room.rows;
+          most_rows = is.most_rows;
         }

@@ -50,6 +50,7 @@ still_after o limits old new c slot same is =
       serving = is.serving;
       limits = is.limits;
       within = is.within;
+      most_rows = is.most_rows;
     }
 
 -- contents that say the same
@@ -66,4 +67,5 @@ same_contents o limits seat c d is shards rows modes stores most =
       serving = modes ∙ is.serving;
       limits = most ∙ is.limits;
       within = subst (λ (db : Database). row_count db ≤ limits.rows) (sym rows) is.within;
+      most_rows = is.most_rows;
     }

@@ -2,6 +2,9 @@
 use Rattle.std.specs.Prelude.{◌≡◌, ℕ, ◌≤◌, ◌^◌, List, [], ◌∷◌, ◌++◌, map, length, Contains, Option, Some, None}
 use Rattle.std.specs.List.{filter}
 use mathlib.Core.List.{IsPrefix}
+use Rattle.vt_value.specs.Values.{Row}
+use Rattle.vschema.specs.declared.schema.Query.{Query}
+use Rattle.sql_eval.specs.Queries.{Allowed}
 use Rattle.journal.specs.Runs.{IsLegal, by_session}
 use Rattle.journal.specs.Views.{SeatView, PassView}
 use Rattle.shard_run.specs.declared.Shard.{Shard}
@@ -9,7 +12,7 @@ use Rattle.shard_run.specs.declared.Mode.TheVariants.{Serving}
 use Rattle.shard_run.specs.declared.Event.{Event}
 use Rattle.shard_run.specs.declared.Event.TheVariants.{Commit}
 use Rattle.shard_run.specs.declared.Entry.{Entry}
-use Rattle.shard_run.specs.Runs.{Opening, held, mode, stored_on}
+use Rattle.shard_run.specs.Runs.{Opening, held, mode, stored_on, entries_on}
 use Rattle.shard_run.specs.Openings.{IsOpening, row_count}
 use Rattle.shard_run.specs.Legal.{IsOnItsSlot, May}
 use Rattle.shard.specs.declared.limits.Limits.{Limits}
@@ -52,6 +55,7 @@ pub record IsAfter (o : Opening) (most : Limits) (seat : SeatView Entry) (c : Co
   pub serving : c.mode ≡ Serving
   pub limits : c.limits ≡ most
   pub within : row_count c.store.rows ≤ most.rows
+  pub most_rows : most.rows ≤ 2 ^ 20
 
 -- After one look on the slot the pass has seen a legal run, which begins with what it had seen and has no other commit of its session,
 -- and keeps the look.
@@ -61,10 +65,13 @@ pub record HasLooked (o : Opening) (slot : ℕ) (p now : PassView Entry) : Type 
   pub own : (n : ℕ) → p.session ≡ Some n → filter (by_session commit_of n) now.seen ≡ filter (by_session commit_of n) p.seen
   pub pass : now ≡ record p { seen = now.seen; looks = p.looks ++ (slot, length now.seen) ∷ [] }
 
--- the pass is as it was, or has looked at an opening shard
-pub data HasSeen (o : Opening) (p : PassView Entry) : PassView Entry → Type 0 where
-  same : HasSeen o p p
-  looked : {now : PassView Entry} (s : Shard) → Contains (opening_shards o) s → HasLooked o s.slot p now → HasSeen o p now
+-- A shard was read after a run: it serves, the rows are some that the query may answer over those that the run leaves on it, of which
+-- there are at most 2 ^ 20, and so many entries are on it.
+pub record IsReadAt (o : Opening) (run : List Entry) (s : Shard) (query : Query) (rows : List Row) (entries : ℕ) : Type 0 where
+  pub serves : mode o run s.slot ≡ Serving
+  pub few : row_count (held o run s) ≤ 2 ^ 20
+  pub allowed : Allowed query (held o run s) rows
+  pub count : entries ≡ length (entries_on s.slot run)
 
 -- an opening of nothing
 abbrev pub no_opening : Opening

@@ -39,7 +39,8 @@ pub(crate) struct Prepared {
     pub(crate) changes: Vec<RowChange>,
 }
 
-fn written_table(write: &Write) -> usize
+/// The place of the table that a write changes.
+pub fn written_table(write: &Write) -> usize
     ensures { result ≡ written_table write.now }
 {
     match write {

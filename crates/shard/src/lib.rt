@@ -12,6 +12,7 @@ mod state;
 mod store;
 mod world;
 
+pub use contents::written_table;
 pub use limits::{Limits, MOST_ENTRIES, MOST_ROWS, MOST_STORED};
 pub use locked::Shard;
 pub use state::{Reading, ShardState};

@@ -1,11 +1,9 @@
 ghost use Rattle.std.specs.Prelude.{false, ◌≡◌, ℕ, Some, IsSome, IfOk, IfErr, MatchResult, Contains, length};
 ghost use Rattle.vschema.specs.TypedWrites.{IsTypedWrite};
 ghost use Rattle.vschema.specs.Checks.{is_aggregated};
-ghost use Rattle.sql_eval.specs.Queries.{Allowed};
 ghost use Rattle.shard_run.specs.declared.Shard as which;
-ghost use Rattle.shard_run.specs.Runs.{held, entries_on};
 ghost use Rattle.journal.specs.Runs.{NumbersBelow};
-ghost use Rattle.shard.specs.Shards.{commit_of, HasLooked, opening_shards};
+ghost use Rattle.shard.specs.Shards.{commit_of, HasLooked, IsReadAt, opening_shards};
 ghost use Rattle.shard.specs.Commits.{IsPlaced, HasCommitted, IsCommitRefusal};
 
 use crate::state::{Reading, ShardState};
@@ -26,43 +24,59 @@ impl<W: World, J: Naming> Shard<W, J> {
         Shard(Mutex::new(state))
     }
 
-    /// What the query gives over the rows that the run leaves on the shard at one look under its lock, which the pass keeps. Refuses
-    /// only for want of memory; then too the look was made.
+    /// What the query gives over the rows that the run leaves on the shard of this slot at one look under its lock, which the pass
+    /// keeps. Refuses only for want of memory; then too the look was made. A lock can't tell which shard it holds, so the slot is
+    /// tested under it; where another shard lay there, it would be taken for ever.
     pub fn read(
         &self,
         rt: &impl Wait,
         alloc: Global,
         pass: &mut Pass<ShardLaw<W>, J>,
+        slot: usize,
         query: &Query,
     ) -> Result<Reading, Refusal>
         requires plain { is_aggregated query.now ≡ false }
-        ensures read { (s : which.Shard) × Contains (opening_shards W.opening) s × HasLooked W.opening s.slot pass.old pass.new
-            × IfOk result (λ r. Allowed query.now (held W.opening pass.new.seen s) r.rows × (r.entries ≡ length (entries_on s.slot pass.new.seen))) }
+        ensures read { (s : which.Shard) × Contains (opening_shards W.opening) s × (s.slot ≡ slot) × HasLooked W.opening slot pass.old pass.new
+            × IfOk result (λ r. IsReadAt W.opening pass.new.seen s query.now r.rows r.entries) }
         ensures err { IfErr result (λ e. e ≡ Refusal.OutOfMemory) }
     {
-        self.0.lock(rt).read(alloc, pass, query)
+        for _ in rt.forever() {
+            let mut state = self.0.lock(rt);
+            if state.slot() == slot {
+                return state.read(alloc, pass, query);
+            }
+        }
+        unreachable!()
     }
 
-    /// Commits one write of the pass's session under the shard's lock, under the number of its statement: one look, which the
-    /// pass keeps, and then one entry. Answers how many rows it added, removed or really changed. It refuses a primary key that
-    /// is there already, what would pass a limit of the shard, and for want of memory; then the look was made, and nothing else.
+    /// Commits one write of the pass's session under the lock of the shard of this slot, under the number of its statement: one look,
+    /// which the pass keeps, and then one entry. Answers how many rows it added, removed or really changed. It refuses a primary key
+    /// that is there already, what would pass a limit of the shard, and for want of memory; then the look was made, and nothing else.
+    /// The slot is tested as `read` tests it.
     pub fn commit(
         &self,
         rt: &impl Wait,
         alloc: Global,
         pass: &mut Pass<ShardLaw<W>, J>,
+        slot: usize,
         schema: &VSchema,
         write: Write,
     ) -> Result<u64, Refusal>
         requires schema { schema.now ≡ W.opening.schema }
         requires typed { IsTypedWrite W.opening.schema write }
-        requires placed { (s : which.Shard) → Contains (opening_shards W.opening) s → IsPlaced W.opening.schema s.place write }
+        requires placed { (s : which.Shard) → Contains (opening_shards W.opening) s → s.slot ≡ slot → IsPlaced W.opening.schema s.place write }
         requires session { IsSome pass.old.session }
         requires above { (n : ℕ) → pass.old.session ≡ Some n → NumbersBelow commit_of n pass.old.statements pass.old.seen }
-        ensures commit { (s : which.Shard) × Contains (opening_shards W.opening) s
+        ensures commit { (s : which.Shard) × Contains (opening_shards W.opening) s × (s.slot ≡ slot)
             × MatchResult result (λ count. HasCommitted W.opening W.limits s pass.old write count pass.new)
-            (λ e. HasLooked W.opening s.slot pass.old pass.new × IsCommitRefusal W.opening W.limits s pass.new.seen write e) }
+            (λ e. HasLooked W.opening slot pass.old pass.new × IsCommitRefusal W.opening W.limits s pass.new.seen write e) }
     {
-        self.0.lock(rt).commit(alloc, pass, schema, write)
+        for _ in rt.forever() {
+            let mut state = self.0.lock(rt);
+            if state.slot() == slot {
+                return state.commit(alloc, pass, schema, write);
+            }
+        }
+        unreachable!()
     }
 }

@@ -51,7 +51,7 @@ impl<W: World, J: Naming> ShardState<W, J> {
     ghost use Rattle.journal.specs.Runs.{NumbersBelow};
     ghost use Rattle.journal.specs.Views.{IsLater};
     ghost use Rattle.shard_run.specs.declared.Entry.{Entry};
-    ghost use Rattle.shard_run.specs.Runs.{first_rows, held, entries_on};
+    ghost use Rattle.shard_run.specs.Runs.{first_rows, held, mode, entries_on};
     ghost use Rattle.shard_run.specs.Openings.{IsOpening, row_count};
     ghost use Rattle.shard.specs.Shards.{slot_of, commit_of, MayFollow, HasLooked, opening_shards, seat_of};
     ghost use Rattle.shard.specs.Commits.{IsPlaced, HasCommitted, IsCommitRefusal};
@@ -86,6 +86,13 @@ impl<W: World, J: Naming> ShardState<W, J> {
         ShardState { seat, contents }
     }
 
+    /// The slot that the shard stands on.
+    pub fn slot(&self) -> usize
+        ensures slot { result ≡ self.now.shard.slot }
+    {
+        self.contents.shard.slot
+    }
+
     /// What the query gives over the rows that the run, as it is, leaves on the shard: one look, which the pass keeps.
     /// Refuses only for want of memory; then too the look was made.
     pub fn read(
@@ -98,6 +105,8 @@ impl<W: World, J: Naming> ShardState<W, J> {
         ensures seen { IsLater slot_of commit_of (MayFollow W.opening) (seat_of self.old) pass.old self.new.seen }
         ensures rows { IfOk result (λ r. Allowed query.now (held W.opening self.new.seen self.old.shard) r.rows) }
         ensures entries { IfOk result (λ r. r.entries ≡ length (entries_on self.old.shard.slot self.new.seen)) }
+        ensures serves { mode W.opening self.new.seen self.old.shard.slot ≡ Mode.Serving }
+        ensures few { row_count (held W.opening self.new.seen self.old.shard) ≤ 2 ^ 20 }
         ensures err { IfErr result (λ e. e ≡ Refusal.OutOfMemory) }
         ensures shard { self.new.shard ≡ self.old.shard }
         ensures opening { Contains (opening_shards W.opening) self.old.shard }

@@ -146,7 +146,7 @@ fn write<J: Naming>(
 {
     let schema = schema(alloc)?;
     pass.next_statement()?;
-    shard.commit(rt, alloc, pass, &schema, write)
+    shard.commit(rt, alloc, pass, 0, &schema, write)
 }
 
 // INSERT INTO t VALUES (id, NULL)
@@ -228,7 +228,7 @@ fn counts<J: Naming>(
         order_by: Items::new(alloc),
         limit: None,
     };
-    let reading = shard.read(rt, alloc, pass, &query)?;
+    let reading = shard.read(rt, alloc, pass, 0, &query)?;
     Ok((reading.rows.len(), reading.entries))
 }
 

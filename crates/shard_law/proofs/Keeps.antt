@@ -59,7 +59,7 @@ module _ (schema : VSchema) where
   ok_or d (Ok x) = x
   ok_or d (Err r) = d
 
-  ok_is : {a b : List RowChange} → ◌≡◌ {A = Result (List RowChange) Refusal} (Ok a) (Ok b) → a ≡ b
+  pub ok_is : {a b : List RowChange} → ◌≡◌ {A = Result (List RowChange) Refusal} (Ok a) (Ok b) → a ≡ b
   unfolding ok_or
   ok_is {a} e = ap (ok_or a) e
 

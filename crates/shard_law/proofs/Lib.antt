@@ -3,6 +3,7 @@ pub mod Databases
 pub mod Lists
 pub mod Edges
 pub mod Typed
+pub mod Fitting
 pub mod Keeps
 pub mod Runs
 pub mod Parts
@@ -12,3 +13,4 @@ pub mod Law
 pub mod Lost
 pub mod First
 pub mod Merge
+pub mod Storable

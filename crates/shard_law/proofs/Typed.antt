@@ -33,12 +33,12 @@ unfolding write_or
 ok_is v w e = ap (write_or v) e
 
 -- what no check refuses
-unrefused : (cs : List (Bool × Refusal)) (v w : Write) → unless_refused cs v ≡ Ok w → v ≡ w
+pub unrefused : (cs : List (Bool × Refusal)) (v w : Write) → unless_refused cs v ≡ Ok w → v ≡ w
 unrefused [] v w e = ok_is v w e
 unrefused ((true, r) ∷ cs) v w e = absurd (cc e)
 unrefused ((false, r) ∷ cs) v w e = unrefused cs v w e
 
-passed : (cs : List (Bool × Refusal)) (v w : Write) → unless_refused cs v ≡ Ok w → (b : Bool) (r : Refusal) → In (b, r) cs → b ≡ false
+pub passed : (cs : List (Bool × Refusal)) (v w : Write) → unless_refused cs v ≡ Ok w → (b : Bool) (r : Refusal) → In (b, r) cs → b ≡ false
 passed [] v w e b r h = absurd h
 passed ((true, q) ∷ cs) v w e b r h = absurd (cc e)
 passed ((false, q) ∷ cs) v w e b r (inl j) = sym (ap (λ p. p.0) j)
@@ -58,14 +58,14 @@ assignments_keep t (a ∷ assignments) h =
     (not_from_false (is_vindex_column t.vindex n) f.1) (assignments_keep t assignments g.1)
 
 -- the table that a name finds
-record Found (schema : VSchema) (typed : ℕ → Table → Result Write Refusal) (w : Write) : Type 0 where
-  n : ℕ
-  t : Table
-  there : slice_get schema.tables n ≡ Some t
-  means : typed n t ≡ Ok w
+pub record Found (schema : VSchema) (typed : ℕ → Table → Result Write Refusal) (w : Write) : Type 0 where
+  pub n : ℕ
+  pub t : Table
+  pub there : slice_get schema.tables n ≡ Some t
+  pub means : typed n t ≡ Ok w
 
 module _ (schema : VSchema) (w : Write) where
-  found : (name : Name) (typed : ℕ → Table → Result Write Refusal) → on_name schema name typed ≡ Ok w → Found schema typed w
+  pub found : (name : Name) (typed : ℕ → Table → Result Write Refusal) → on_name schema name typed ≡ Ok w → Found schema typed w
   found name typed h = by (table_place schema name) refl
     where
       at : (n : ℕ) → on_table typed n (slice_get schema.tables n) ≡ Ok w → (t : Option Table) → slice_get schema.tables n ≡ t → Found schema typed w

@@ -1,7 +1,11 @@
 -- The law of shards over legal runs.
-use Rattle.std.specs.Prelude.{◌≡◌, ◌⊎◌, ℕ, ◌<◌, IsTrue, List, [], ◌∷◌, ◌++◌, length, map, Contains}
+use Rattle.std.specs.Prelude.{◌≡◌, ◌⊎◌, ℕ, ◌<◌, IsTrue, List, [], ◌∷◌, ◌++◌, length, map, slice_index_or, Contains}
+use Rattle.std.specs.List.{AllByRecursion}
 use Rattle.keyrange.specs.Ranges.{has_id, IsByteString}
-use Rattle.vschema.specs.Database.{Database, SameRows, restrict}
+use Rattle.vschema.specs.declared.schema.VSchema.{VSchema}
+use Rattle.vschema.specs.Schema.{no_table}
+use Rattle.vschema.specs.Database.{Database, SameRows, restrict, rows_of}
+use Rattle.vschema.specs.Storable.{is_storable}
 use Rattle.shard_run.specs.declared.Shard.{Shard}
 use Rattle.shard_run.specs.declared.Event.TheVariants.{Retire}
 use Rattle.shard_run.specs.Runs.{Run, Opening, one, first_rows, held, mode, is_serving}
@@ -67,3 +71,18 @@ BeginningsAreLegal = (o : Opening) (front back : Run) → Legal o (front ++ back
 abbrev pub BeginsAsGiven : Type 0
 BeginsAsGiven =
     (o : Opening) → IsOpening o → (s : Shard) (db : Database) → Contains o.shards (s, db) → first_rows o s ≡ db
+
+-- each row of the database is one that its table may hold
+abbrev pub AreStorable : VSchema → Database → Type 0
+AreStorable schema db =
+    (n : ℕ) → AllByRecursion (λ row. IsTrue (is_storable (slice_index_or schema.tables n no_table) row)) (rows_of db n)
+
+-- each row of the one database is one that its table may hold
+abbrev pub RowsStayStorable : Type 0
+RowsStayStorable = (o : Opening) (run : Run) → IsOpening o → Legal o run → AreStorable o.schema (one o run)
+
+-- and so is each row of a shard that serves
+abbrev pub HeldRowsStayStorable : Type 0
+HeldRowsStayStorable =
+    (o : Opening) (run : Run) → IsOpening o → Legal o run → (s : Shard) → Serves o run s
+    → AreStorable o.schema (held o run s)

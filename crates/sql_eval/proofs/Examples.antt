@@ -1,15 +1,17 @@
 -- Queries over six rows of t: (1, NULL), (2, NULL), (3, 7), (4, 7), (5, 9), (6, 1).
-use Rattle.std.proofs.Common.{◌≡◌, ℕ, List, [], ◌∷◌, map, filter, refl, ap, ◌∙◌, Some, None, Option, pos, Bool}
+use Rattle.std.proofs.Common.{◌≡◌, ℕ, List, [], ◌∷◌, map, filter, refl, ap, ◌∙◌, Some, None, Option, pos, Bool, false}
 use Rattle.vt_value.specs.declared.value.Value.{Value}
 use Rattle.vt_value.specs.declared.value.Value.TheVariants.{Null, Int}
 use Rattle.vt_value.specs.declared.value.Comparison.TheVariants.{Eq}
 use Rattle.vt_value.specs.Values.{Row, value_at, compare, in_list, is_true, truth_not}
 use Rattle.sql_tree.specs.declared.Operand.TheVariants.{Column, Literal}
 use Rattle.sql_tree.specs.declared.Condition.{Condition, Compare, In, Not}
+use Rattle.sql_tree.specs.declared.Key.{Key}
 use Rattle.vschema.specs.declared.schema.Query.{Query}
 use Rattle.vschema.specs.Database.{Database}
 use Rattle.sql_eval.specs.Conditions.{is_kept}
-use Rattle.sql_eval.specs.Queries.{Keyed, kept, keyed_row}
+use Rattle.sql_eval.specs.Queries.{Keyed, kept, kept_rows, keyed_row, IsAnswer}
+use Rattle.sql_tree.specs.declared.Item.{Item}
 use Rattle.sql_tree.specs.declared.Item.TheVariants as item
 use Rattle.sql_eval.proofs.ConditionLemmas.{truth_at-Compare, truth_at-In, truth_at-Not}
 
@@ -70,3 +72,33 @@ others : filter (is_kept (Some (Not c_is_7))) t_rows ≡ (n 5 ∷ n 9 ∷ []) �
 others =
     kept_by (Not c_is_7) (λ row. is_true (truth_not (compare Eq (value_at row 1) (n 7))))
     (λ row. ap is_true (truth_at-Not row c_is_7 ∙ ap truth_not (truth_at-Compare row Eq (Column 1) (Literal (n 7)))))
+
+abbrev grouped : List (Item ℕ) → List ℕ → List (Key ℕ) → Query
+grouped items group_by order_by = record { table = 0; items = items; filter = None; group_by = group_by; order_by = order_by; limit = None }
+
+-- COUNT(*) over no rows is one row 0, but none with a GROUP BY
+no_rows : kept_rows (grouped (item.CountRows ∷ []) [] []) [] ≡ alone (n 0 ∷ []) ∷ []
+no_rows = refl
+
+no_groups : kept_rows (grouped (item.CountRows ∷ []) (1 ∷ []) []) [] ≡ []
+no_groups = refl
+
+-- MIN and SUM past 64 bits
+abbrev largest : Value
+largest = n 18446744073709551615
+
+wide : kept_rows (grouped (item.Min 1 ∷ item.Sum 1 ∷ []) [] []) ((n 1 ∷ largest ∷ []) ∷ (n 3 ∷ largest ∷ []) ∷ []) ≡ alone (largest ∷ n 36893488147419103230 ∷ []) ∷ []
+wide = refl
+
+-- c and COUNT(*) by c, beside the sort key c: NULLs are one group
+counts : kept (grouped (item.Column 1 ∷ item.CountRows ∷ []) (1 ∷ []) (record { column = 1; descending = false } ∷ [])) db
+    ≡ ((Null ∷ n 2 ∷ []), (Null ∷ [])) ∷ ((n 7 ∷ n 2 ∷ []), (n 7 ∷ [])) ∷ ((n 9 ∷ n 1 ∷ []), (n 9 ∷ [])) ∷ ((n 1 ∷ n 1 ∷ []), (n 1 ∷ [])) ∷ []
+counts = refl
+
+-- COUNT(c), SUM(c), MAX(c)
+all_of_c : kept (grouped (item.Count 1 ∷ item.Sum 1 ∷ item.Max 1 ∷ []) [] []) db ≡ alone (n 4 ∷ n 24 ∷ n 9 ∷ []) ∷ []
+all_of_c = refl
+
+-- with LIMIT 0 no row is left of COUNT(*)
+limited : (list : List Row) → IsAnswer (record { table = 0; items = item.CountRows ∷ []; filter = None; group_by = []; order_by = []; limit = Some (record { count = 0; offset = 0 }) }) t_rows list → list ≡ []
+limited list answer = answer.3

@@ -1,4 +1,6 @@
 pub mod ConditionLemmas
+pub mod GroupLemmas
+pub mod Sums
 pub mod AnswerLemmas
 pub mod Examples
 pub mod WriteExamples

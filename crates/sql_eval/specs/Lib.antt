@@ -1,3 +1,5 @@
 pub mod Conditions
+pub mod Groups
+pub mod Grouping
 pub mod Queries
 pub mod Writes

@@ -1,5 +1,5 @@
--- What a query may answer over a database. So far no query is aggregated: each row is shown for itself.
-use Rattle.std.specs.Prelude.{◌≡◌, ℕ, List, map, filter, IsPermutation, IsSorted}
+-- What a query may answer over a database.
+use Rattle.std.specs.Prelude.{◌≡◌, ℕ, List, map, filter, IsPermutation, IsSorted, if◌then◌else◌}
 use Rattle.vt_value.specs.declared.value.Value.{Value}
 use Rattle.vt_value.specs.declared.value.Value.TheVariants.{Null}
 use Rattle.vt_value.specs.Values.{Row, value_at}
@@ -8,8 +8,10 @@ use Rattle.sql_tree.specs.declared.Item.TheVariants.{Column}
 use Rattle.operators.specs.Orders.{keys_cmp, sort_values}
 use Rattle.operators.specs.Slices.{sliced}
 use Rattle.vschema.specs.declared.schema.Query.{Query}
+use Rattle.vschema.specs.Checks.{is_aggregated}
 use Rattle.vschema.specs.Database.{Database, rows_of}
 use Rattle.sql_eval.specs.Conditions.{is_kept}
+use Rattle.sql_eval.specs.Groups.{group_values, group_rows, group_value, item_value}
 
 -- a row of the answer beside its sort keys, a value for each key of ORDER BY
 abbrev pub Keyed : Type 0
@@ -20,11 +22,6 @@ abbrev pub shown_value : Row → Item ℕ → Value
 shown_value row (Column n) = value_at row n
 shown_value row _ = Null
 
--- the place of the column that an item shows, where it shows one
-abbrev pub shown_place : Item ℕ → ℕ
-shown_place (Column n) = n
-shown_place _ = 0
-
 -- what a query shows of a row
 abbrev pub shown : Query → Row → Row
 shown q row = map (shown_value row) q.items
@@ -32,9 +29,22 @@ shown q row = map (shown_value row) q.items
 abbrev pub keyed_row : Query → Row → Keyed
 keyed_row q row = (shown q row, sort_values q.order_by row)
 
--- the bag of the whole answer: the rows whose condition is true, as they are shown, each beside its sort keys
+-- what a query shows of the group with these values
+abbrev pub keyed_group : Query → List Row → Row → Keyed
+keyed_group q rows values = (
+  map (item_value q.group_by values (group_rows q.group_by values rows)) q.items,
+  map (λ k. group_value q.group_by values k.column) q.order_by,
+)
+
+-- one row for each group
+abbrev pub keyed_groups : Query → List Row → List Keyed
+keyed_groups q rows = map (keyed_group q rows) (group_values q.group_by rows)
+
+-- The bag of the whole answer: the rows whose condition is true, as they are shown, or their groups where the query is aggregated, each
+-- beside its sort keys.
 abbrev pub kept_rows : Query → List Row → List Keyed
-kept_rows q rows = map (keyed_row q) (filter (is_kept q.filter) rows)
+kept_rows q rows =
+    if is_aggregated q then keyed_groups q (filter (is_kept q.filter) rows) else map (keyed_row q) (filter (is_kept q.filter) rows)
 
 abbrev pub kept : Query → Database → List Keyed
 kept q db = kept_rows q (rows_of db q.table)

@@ -2,6 +2,7 @@
 #![tactic(auto)]
 
 mod conditions;
+mod groups;
 mod queries;
 mod rows;
 #[cfg(test)]
@@ -9,6 +10,7 @@ mod tests;
 mod writes;
 
 pub use conditions::{keeps, truth};
-pub use queries::select_local;
+pub use groups::{Grouping, copy_item, group_columns, group_order};
+pub use queries::{select_local, show};
 pub use rows::same_row;
 pub use writes::change_local;

@@ -1,13 +1,14 @@
-ghost use Rattle.std.specs.Prelude.{◌≡◌, IfOk, IfErr, map, filter, false};
-ghost use Rattle.operators.specs.Slices.{sliced, columns_of};
-ghost use Rattle.operators.specs.Orders.{row_cmp};
+ghost use Rattle.std.specs.Prelude.{◌≡◌, IfOk, IfErr, map, filter, true};
 ghost use Rattle.vschema.specs.Checks.{is_aggregated};
 ghost use Rattle.sql_eval.specs.Conditions.{is_kept};
-ghost use Rattle.sql_eval.specs.Queries.{shown_place, IsAnswer};
+ghost use Rattle.sql_eval.specs.Groups.{CanBeSummed};
+ghost use Rattle.sql_eval.specs.Grouping.{shown_place, group_columns, group_order, grouped_rows, IsShown};
+ghost use Rattle.sql_eval.specs.Queries.{IsAnswer};
 
 use crate::conditions::keeps;
+use crate::groups::{Grouping, group_columns, group_order, part_rows, shown_place};
 use operators::{Limit, Project, Rows, collect, sort_rows};
-use sql_tree::{Condition, Item};
+use sql_tree::{Condition, Item, Key};
 use std::alloc::Global;
 use vschema::Query;
 use vt_value::{Items, Refusal, Row, copy_row};
@@ -31,15 +32,6 @@ fn kept(
     Ok(list)
 }
 
-fn shown_place(item: &Item<usize>) -> usize
-    ensures { result ≡ shown_place item.now }
-{
-    match item {
-        Item::Column(place) => *place,
-        _ => 0,
-    }
-}
-
 fn shown_places(alloc: Global, items: &[Item<usize>]) -> Result<Items<usize>, Refusal>
     ensures ok { IfOk result (λ places. places ≡ map shown_place items.now) }
     ensures err { IfErr result (λ e. e ≡ Refusal.OutOfMemory) }
@@ -51,25 +43,68 @@ fn shown_places(alloc: Global, items: &[Item<usize>]) -> Result<Items<usize>, Re
     Ok(places)
 }
 
-/// The slice that LIMIT leaves of the rows, each by its shown columns.
-fn sliced(alloc: Global, query: &Query, rows: Items<Row>) -> Result<Items<Row>, Refusal>
-    ensures ok { IfOk result (λ list. list ≡ map (columns_of (map shown_place query.now.items)) (sliced query.now.limit rows)) }
+/// What is shown of rows: the slice that `limit` leaves of them in an order that the keys allow, each by the columns in these places.
+/// Refuses only for want of memory.
+pub fn show(
+    alloc: Global,
+    rows: Items<Row>,
+    keys: &[Key<usize>],
+    limit: Option<sql_tree::Limit>,
+    places: Items<usize>,
+) -> Result<Items<Row>, Refusal>
+    ensures ok { IfOk result (IsShown keys.now limit places rows) }
     ensures err { IfErr result (λ e. e ≡ Refusal.OutOfMemory) }
 {
-    let places = shown_places(alloc, query.items.as_slice())?;
-    let limited = Limit::new(Rows::new(alloc, rows)?, query.limit);
+    let sorted = sort_rows(alloc, rows, keys)?;
+    let limited = Limit::new(Rows::new(alloc, sorted)?, limit);
     let mut shown = Project::new(limited, places);
     collect(alloc, &mut shown)
 }
 
-/// What a query gives over the rows of its table: those whose condition is true, each by the columns that the query shows, in an
-/// order that its ORDER BY allows, and of these what its LIMIT leaves. Refuses only for want of memory.
+fn select_rows(alloc: Global, query: &Query, rows: Items<Row>) -> Result<Items<Row>, Refusal>
+    ensures ok { IfOk result (IsShown query.now.order_by query.now.limit (map shown_place query.now.items) rows) }
+    ensures err { IfErr result (λ e. e ≡ Refusal.OutOfMemory) }
+{
+    let places = shown_places(alloc, query.items.as_slice())?;
+    show(alloc, rows, query.order_by.as_slice(), query.limit, places)
+}
+
+/// One row for each group of the rows.
+fn grouped(alloc: Global, query: &Query, rows: &[Row]) -> Result<Items<Row>, Refusal>
+    requires { CanBeSummed rows.now }
+    ensures ok { IfOk result (λ list. list ≡ grouped_rows query.now rows.now) }
+    ensures err { IfErr result (λ e. e ≡ Refusal.OutOfMemory) }
+{
+    let grouping = Grouping::of(alloc, query)?;
+    let columns = query.group_by.as_slice();
+    let parts = part_rows(alloc, columns, grouping.aggregates.as_slice(), rows)?;
+    let input = Rows::new(alloc, parts)?;
+    grouping.joined(alloc, input)
+}
+
+fn select_groups(alloc: Global, query: &Query, rows: Items<Row>) -> Result<Items<Row>, Refusal>
+    requires { CanBeSummed rows }
+    ensures ok { IfOk result (IsShown (group_order query.now) query.now.limit (group_columns query.now) (grouped_rows query.now rows)) }
+    ensures err { IfErr result (λ e. e ≡ Refusal.OutOfMemory) }
+{
+    let groups = grouped(alloc, query, rows.as_slice())?;
+    let keys = group_order(alloc, query)?;
+    let places = group_columns(alloc, query)?;
+    show(alloc, groups, keys.as_slice(), query.limit, places)
+}
+
+/// What a query gives over the rows of its table: those whose condition is true, each by the columns that the query shows, or, of an
+/// aggregated query, their groups; in an order that its ORDER BY allows, and of these what its LIMIT leaves. Refuses only for want of
+/// memory.
 pub fn select_local(alloc: Global, query: &Query, rows: &[Row]) -> Result<Items<Row>, Refusal>
-    requires plain { is_aggregated query.now ≡ false }
+    requires summed { is_aggregated query.now ≡ true → CanBeSummed rows.now }
     ensures ok { IfOk result (IsAnswer query.now rows.now) }
     ensures err { IfErr result (λ e. e ≡ Refusal.OutOfMemory) }
 {
     let list = kept(alloc, &query.filter, rows)?;
-    let sorted = sort_rows(alloc, list, query.order_by.as_slice())?;
-    sliced(alloc, query, sorted)
+    if query.is_aggregated() {
+        select_groups(alloc, query, list)
+    } else {
+        select_rows(alloc, query, list)
+    }
 }

@@ -1,5 +1,10 @@
+ghost use Rattle.std.specs.Prelude.{IsTrue};
+ghost use Rattle.std.specs.List.{AllByRecursion};
+ghost use Rattle.aggregate.specs.Aggregates.{IsStored};
+ghost use Rattle.sql_eval.specs.Groups.{CanBeSummed};
+
 use crate::{change_local, select_local};
-use sql_tree::{Assignment, Condition, Item, Operand};
+use sql_tree::{Assignment, Condition, Item, Key, Limit, Operand};
 use std::alloc::Global;
 use std::test::*;
 use vschema::{Column, ColumnType, Query, RowChange, Table, Write};
@@ -67,12 +72,128 @@ fn select_gives_the_rows_that_are_kept(rt: HostRuntime) -> Result<(), Fail> {
         order_by: Items::new(alloc),
         limit: None,
     };
-    if query.is_aggregated() {
-        return Err("aggregated".into());
-    }
     let rows = rows_of(alloc, &[(1, 7), (2, 8), (3, 7)])?;
-    let shown = select_local(alloc, &query, rows.as_slice())?;
+    let shown = selected(alloc, &query, rows.as_slice())?;
     assert_eq!(rt; shown.len(), 2);
+    Ok(())
+}
+
+fn is_stored(value: &Value) -> bool
+    ensures { IsTrue result → IsStored value.now }
+{
+    match value {
+        Value::Int(number) => {
+            -9_223_372_036_854_775_808 <= *number && *number <= 18_446_744_073_709_551_615
+        }
+        _ => true,
+    }
+}
+
+fn row_is_stored(values: &[Value]) -> bool
+    ensures { IsTrue result → AllByRecursion IsStored values.now }
+{
+    for value in values {
+        if !is_stored(value) {
+            return false;
+        }
+    }
+    true
+}
+
+fn are_stored(rows: &[Row]) -> bool
+    ensures { IsTrue result → AllByRecursion (AllByRecursion IsStored) rows.now }
+{
+    for row in rows {
+        if !row_is_stored(row.as_slice()) {
+            return false;
+        }
+    }
+    true
+}
+
+fn can_be_summed(rows: &[Row]) -> bool
+    ensures { IsTrue result → CanBeSummed rows.now }
+{
+    rows.len() <= 1 << 60 && are_stored(rows)
+}
+
+fn selected(alloc: Global, query: &Query, rows: &[Row]) -> Result<Items<Row>, Fail> {
+    if !can_be_summed(rows) {
+        return Err("too large".into());
+    }
+    Ok(select_local(alloc, query, rows)?)
+}
+
+// c and COUNT(*) of each c, the greatest first, and of these `count`
+fn counts(alloc: Global, count: u64) -> Result<Query, Fail> {
+    let mut items = Items::new(alloc);
+    items.push(Item::Column(1))?;
+    items.push(Item::CountRows)?;
+    let mut order_by = Items::new(alloc);
+    order_by.push(Key {
+        column: 1,
+        descending: true,
+    })?;
+    Ok(Query {
+        table: 0,
+        items,
+        filter: None,
+        group_by: Items::from_slice(alloc, &[1])?,
+        order_by,
+        limit: Some(Limit { count, offset: 0 }),
+    })
+}
+
+#[test]
+fn select_gives_sorted_groups(rt: HostRuntime) -> Result<(), Fail> {
+    let alloc = rt.alloc();
+    let rows = rows_of(alloc, &[(3, 7), (4, 7), (5, 9), (6, 1)])?;
+    let query = counts(alloc, 2)?;
+    assert!(rt; query.is_aggregated());
+    let shown = selected(alloc, &query, rows.as_slice())?;
+    match shown.as_slice() {
+        [first, second] => {
+            assert_eq!(rt; numbers(first), Some((9, 1)));
+            assert_eq!(rt; numbers(second), Some((7, 2)));
+        }
+        _ => assert!(rt; false, "two groups are left"),
+    }
+    assert_eq!(rt;
+        selected(alloc, &counts(alloc, 0)?, rows.as_slice())?.len(),
+        0
+    );
+    Ok(())
+}
+
+fn all_of_c(alloc: Global) -> Result<Query, Fail> {
+    let mut items = Items::new(alloc);
+    items.push(Item::Min(1))?;
+    items.push(Item::Sum(1))?;
+    Ok(Query {
+        table: 0,
+        items,
+        filter: None,
+        group_by: Items::new(alloc),
+        order_by: Items::new(alloc),
+        limit: None,
+    })
+}
+
+#[test]
+fn a_sum_may_have_more_than_64_bits(rt: HostRuntime) -> Result<(), Fail> {
+    let alloc = rt.alloc();
+    let largest = 18_446_744_073_709_551_615;
+    let rows = rows_of(alloc, &[(1, largest), (3, largest)])?;
+    let shown = selected(alloc, &all_of_c(alloc)?, rows.as_slice())?;
+    match shown.as_slice() {
+        [row] => assert_eq!(rt; numbers(row), Some((largest, 36_893_488_147_419_103_230))),
+        _ => assert!(rt; false, "there is one row"),
+    }
+    let none = selected(alloc, &all_of_c(alloc)?, &[])?;
+    match none.as_slice() {
+        [row] => assert!(rt; matches!(row.as_slice(), [Value::Null, Value::Null])),
+        _ => assert!(rt; false, "there is one row"),
+    }
     Ok(())
 }
 

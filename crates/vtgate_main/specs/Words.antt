@@ -5,3 +5,8 @@ use Rattle.std.specs.Prelude.{ℕ, Bool, List, [], ◌∷◌, codes, bytes_eq, f
 abbrev pub is_first : List (List ℕ) → Bool
 is_first (word ∷ []) = bytes_eq word (codes "first")
 is_first _ = false
+
+-- `plan`, the word of the shards, and a statement
+abbrev pub is_plan : List (List ℕ) → Bool
+is_plan (word ∷ shards ∷ sql ∷ []) = bytes_eq word (codes "plan")
+is_plan _ = false

@@ -1,6 +1,10 @@
 //! The router's program.
 #![tactic(auto)]
 
+mod input;
+mod plan;
+#[cfg(test)]
+mod plan_tests;
 mod run;
 #[cfg(test)]
 mod tests;

@@ -1,4 +1,4 @@
-ghost use Rattle.std.specs.Prelude.{◌≡◌, ◌≢◌, ℕ, List, [], false, Some, IsTrue, IfOk, bytes_eq, map};
+ghost use Rattle.std.specs.Prelude.{◌≡◌, ◌≢◌, ℕ, List, [], ◌∷◌, codes, false, Some, IsTrue, IfOk, IfSome, IfNone, bytes_eq, map};
 ghost use Rattle.std.specs.String.{string_bytes};
 ghost use Rattle.std.specs.Io.KnownBytes.{Appends, Consumes};
 ghost use Rattle.session.specs.declared.end.End.{End};
@@ -8,8 +8,12 @@ ghost use Rattle.session.specs.Talk.{Talk};
 ghost use Rattle.journal.specs.Views.{new_pass};
 ghost use Rattle.session.specs.Outcomes.{Seen};
 ghost use Rattle.first_world.specs.First.{first_opening};
-ghost use Rattle.vtgate_main.specs.Words.{is_first};
+ghost use Rattle.keyrange.specs.declared.KeyRange.{KeyRange};
+ghost use Rattle.vtgate_lines.specs.Partitions.{IsPartition};
+ghost use Rattle.vtgate_main.specs.Words.{is_first, is_plan};
+ghost use Rattle.vtgate_main.specs.Planned.{HasPlanned};
 
+use crate::plan::run_plan;
 use first_world::{First, first_router};
 use journal::{Naming, Opened};
 use session::{COMMAND_LIMIT, End, Sink, Source, serve};
@@ -17,20 +21,22 @@ use shard::ShardLaw;
 use std::alloc::Global;
 use std::marker::Brand;
 use std::sync::Wait;
+use std::thread::Threads;
 
 /// The status of a run that did its work.
-const SUCCESS: u8 = 0;
+pub const SUCCESS: u8 = 0;
 
 /// The status of a run that failed.
-const FAILURE: u8 = 1;
+pub const FAILURE: u8 = 1;
 
 /// The status of a run whose words are wrong.
-const WRONG_WORDS: u8 = 2;
+pub const WRONG_WORDS: u8 = 2;
 
 /// How to call the program.
-const USAGE: &[u8] = b"usage: vtgate serve|plan|script\n";
+pub const USAGE: &[u8] = b"usage: vtgate serve|plan|script\n";
 
-const FAILED: &[u8] = b"failed\n";
+/// What a run says that failed.
+pub const FAILED: &[u8] = b"failed\n";
 
 /// A run could not do its work.
 #[derive(Clone, Copy)]
@@ -51,9 +57,20 @@ fn is_first(words: &[String]) -> bool
     }
 }
 
+// The word of the shards and the statement.
+fn plan_words(words: &[String]) -> Option<(&str, &[u8])>
+    ensures found { IfSome result (λ x. map string_bytes words.now ≡ codes "plan" ∷ x.0.now ∷ x.1.now ∷ []) }
+    ensures none { IfNone result (is_plan (map string_bytes words.now) ≡ false) }
+{
+    match words {
+        [word, shards, sql] if is_word(word, b"plan") => Some((shards.as_str(), sql.as_bytes())),
+        _ => None,
+    }
+}
+
 /// Serves the command phase of one connection over the first tables, in the journal that was opened.
-fn serve_opened<J: Naming, I: Source, O: Sink>(
-    rt: &impl Wait,
+fn serve_opened<J: Naming + Send + Sync, I: Source, O: Sink>(
+    rt: &(impl Threads + Wait + Sync),
     alloc: Global,
     opened: Opened<ShardLaw<First>>,
     input: &mut I,
@@ -75,7 +92,7 @@ fn serve_opened<J: Naming, I: Source, O: Sink>(
 
 /// Serves the command phase of one connection over the first tables.
 fn serve_first<I: Source, O: Sink>(
-    rt: &impl Wait,
+    rt: &(impl Threads + Wait + Sync),
     alloc: Global,
     input: &mut I,
     output: &mut O,
@@ -90,11 +107,36 @@ fn serve_first<I: Source, O: Sink>(
     serve_opened::<Brand, I, O>(rt, alloc, opened, input, output)
 }
 
+/// Serves the command phase of one connection over the first tables, and gives the status.
+fn run_first<I: Source, O: Sink, E: Sink>(
+    rt: &(impl Threads + Wait + Sync),
+    alloc: Global,
+    input: &mut I,
+    output: &mut O,
+    errors: &mut E,
+) -> u8
+    ensures first { result ≡ SUCCESS →
+        (read : List ℕ) × (written : List ℕ) × (end : End) × (seen : Seen)
+        × Consumes (I.unread input.old) (I.unread input.new) read × Appends (O.taken output.old) (O.taken output.new) written
+        × Talk COMMAND_LIMIT (Means first_opening most_limits) (new_pass [] (Some 0)) read written end seen }
+    ensures status { result ≢ WRONG_WORDS }
+{
+    match serve_first(rt, alloc, input, output) {
+        Ok(_) => SUCCESS,
+        Err(_) => {
+            let _ = errors.write(FAILED);
+            FAILURE
+        }
+    }
+}
+
 /// Runs the program with the words of its command line, and gives its exit status. `first` reads the bytes of a client's
 /// command phase from the input and writes the replies to the output, over the first tables: 0, or 1 where a device fails or there
-/// is no memory. Any other words are wrong: the usage is told, and the status is 2.
+/// is no memory. `plan`, with the word of the shards and a statement, prints the line of the statement's plan under the VSchema
+/// that the whole input declares: 0, or 1 where the statement is refused, whose line is printed, or as for `first`. Any other words
+/// are wrong: the usage is told, and the status is 2. A VSchema's fault is told too, and the status is 2.
 pub fn run<I: Source, O: Sink, E: Sink>(
-    rt: &impl Wait,
+    rt: &(impl Threads + Wait + Sync),
     alloc: Global,
     words: &[String],
     input: &mut I,
@@ -106,18 +148,20 @@ pub fn run<I: Source, O: Sink, E: Sink>(
         × Consumes (I.unread input.old) (I.unread input.new) read × Appends (O.taken output.old) (O.taken output.new) written
         × Talk COMMAND_LIMIT (Means first_opening most_limits) (new_pass [] (Some 0)) read written end seen }
     ensures status { IsTrue (is_first (map string_bytes words.now)) → result ≢ WRONG_WORDS }
-    ensures wrong { is_first (map string_bytes words.now) ≡ false →
+    ensures plan { (shards sql : List ℕ) → map string_bytes words.now ≡ codes "plan" ∷ shards ∷ sql ∷ [] → result ≡ SUCCESS
+        → HasPlanned shards sql (I.unread input.old) (I.unread input.new) (O.taken output.old) (O.taken output.new) }
+    // The word of the shards is tested before the input is read.
+    ensures untouched { (shards sql : List ℕ) → map string_bytes words.now ≡ codes "plan" ∷ shards ∷ sql ∷ []
+        → ((ranges : List KeyRange) → IsPartition shards ranges → ⊥) → (result ≢ SUCCESS) × (input.new ≡ input.old) }
+    ensures wrong { is_first (map string_bytes words.now) ≡ false → is_plan (map string_bytes words.now) ≡ false →
         (result ≡ WRONG_WORDS) × (input.new ≡ input.old) × (output.new ≡ output.old) }
 {
-    if !is_first(words) {
+    if is_first(words) {
+        return run_first(rt, alloc, input, output, errors);
+    }
+    let Some((shards, sql)) = plan_words(words) else {
         let _ = errors.write(USAGE);
         return WRONG_WORDS;
-    }
-    match serve_first(rt, alloc, input, output) {
-        Ok(_) => SUCCESS,
-        Err(_) => {
-            let _ = errors.write(FAILED);
-            FAILURE
-        }
-    }
+    };
+    run_plan(alloc, shards, sql, input, output, errors)
 }

@@ -1,5 +1,8 @@
 ghost use Rattle.std.specs.Prelude.{◌≡◌};
 
+mod pieces;
+mod threads;
+
 use crate::run::run;
 use first_world::{First, first_router};
 use journal::{Naming, Opened};
@@ -10,6 +13,7 @@ use std::marker::Brand;
 use std::process::Abort;
 use std::sync::Wait;
 use std::test::Fail;
+use std::thread::Threads;
 
 const PING: &[u8] = b"\x01\x00\x00\x00\x0e";
 
@@ -60,8 +64,8 @@ fn open(alloc: Global) -> Result<Opened<ShardLaw<First>>, Fail> {
     Ok(Opened::new(alloc).ok().ok_or("no memory")?)
 }
 
-fn talk_opened<J: Naming>(
-    rt: &impl Wait,
+fn talk_opened<J: Naming + Send + Sync>(
+    rt: &(impl Threads + Wait + Sync),
     alloc: Global,
     opened: Opened<ShardLaw<First>>,
     input: &[u8],
@@ -78,7 +82,7 @@ fn talk_opened<J: Naming>(
 
 /// What the session writes for the input, and how it ends.
 fn talk(
-    rt: &impl Wait,
+    rt: &(impl Threads + Wait + Sync),
     alloc: Global,
     input: &[u8],
 ) -> Result<(Vec<u8>, Result<End, SessionFault>), Fail> {
@@ -267,7 +271,11 @@ fn a_padded_text_is_read(rt: HostRuntime) -> Result<(), Fail> {
     Ok(())
 }
 
-fn tells_its_usage<R: Abort + Wait>(rt: &R, alloc: Global, words: &[String]) -> Result<(), Fail> {
+fn tells_its_usage<R: Abort + Threads + Wait + Sync>(
+    rt: &R,
+    alloc: Global,
+    words: &[String],
+) -> Result<(), Fail> {
     let mut input = Reader(PING);
     let mut output = Writer(Vec::new(alloc));
     let mut errors = Writer(Vec::new(alloc));

@@ -51,7 +51,7 @@ pub total_within : (vs : List Value) → unsigned_abs (total vs) ≤ sizes vs
 total_within [] = omega arith
 total_within (v ∷ vs) = omega (arith, abs_add (number_in v) (total vs), total_within vs, sum_by-cons size v vs)
 
-present_within : (vs : List Value) → sizes (present vs) ≤ sizes vs
+pub present_within : (vs : List Value) → sizes (present vs) ≤ sizes vs
 present_within [] = omega arith
 present_within (Null ∷ vs) = omega (arith, present_within vs, sum_by-cons size Null vs)
 present_within (Int n ∷ vs) = omega (arith, present_within vs, sum_by-cons size (Int n) vs, sum_by-cons size (Int n) (present vs))

@@ -1,4 +1,4 @@
-use Rattle.std.proofs.Common.{inl, inr, ap}
+use Rattle.std.proofs.Common.{inl}
 use Rattle.session.specs.Outcomes as o
 use Rattle.session.proofs.RepliesLemmas.{shows}
 use Rattle.session.proofs.reply.shown.Goals as goal

@@ -1,4 +1,5 @@
-use Rattle.std.proofs.Common.{◌∙◌}
+use Rattle.std.proofs.Common.{[], refl, ◌∙◌}
+use Rattle.std.proofs.KnownBytes.{Appends-nil, Consumes-nil}
 use Rattle.session.proofs.Conversations.{one_more, still_goes_on, has_ended}
 use Rattle.session.proofs.serving.serve.Goals as goal
 
@@ -15,4 +16,18 @@ loop-preserved g c = record {
   talked =
       still_goes_on _ _ _ c.serve_piece.new.core _ _ _ _ c.in_ok-end.field-0 c.in_default-2.is
       (one_more _ _ _ _ c.loop.core c.serve_piece.new.core _ _ _ _ _ _ c.in_ok-end.field-0 c.loop.invariant.talked c.in_ok-end.ensures.talk);
+}
+
+pub loop-init : goal.loop-init
+loop-init g c = record {
+  session = refl;
+  buffer = c.in-Ok-zeroed.ensures;
+  limit = c.in-Ok.ensures.limit;
+  talked = (
+    [],
+    [],
+    Consumes-nil (g.R.Source.unread c.args.source.now),
+    Appends-nil (g.S.Sink.taken c.args.sink.now),
+    c.in-Ok.ensures.begins g.W.World.opening g.W.World.limits c.args.pass.now,
+  );
 }

@@ -1,5 +1,5 @@
 use Rattle.std.proofs.Common.{◌≡◌, take, map}
-use Rattle.sql_eval.specs.Queries.{shown_place}
+use Rattle.sql_eval.specs.Grouping.{shown_place}
 use Rattle.sql_eval.proofs.queries.shown_places.Given as goal
 
 abbrev pub invariant-loop-item : goal.invariant-loop-item

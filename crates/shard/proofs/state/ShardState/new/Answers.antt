@@ -17,4 +17,5 @@ invariant_of-result g c = record {
   serving = refl;
   limits = c.requires.limits;
   within = let h = ap (λ (l : Limits). l.rows) c.requires.limits in let k = c.requires.within in omega (arith, h, k);
+  most_rows = let h = ap (λ (l : Limits). l.rows) c.requires.limits in let k = c.requires.most_rows in omega (arith, h, k);
 }

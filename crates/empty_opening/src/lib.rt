@@ -1,0 +1,8 @@
+//! What a program begins with that has a VSchema and key ranges, and no rows.
+#![tactic(auto)]
+
+mod opening;
+#[cfg(test)]
+mod tests;
+
+pub use opening::{empty_tables, opening_shards};

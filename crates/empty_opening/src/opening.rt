@@ -1,0 +1,86 @@
+ghost use Rattle.std.specs.Prelude.{◌≡◌, ◌++◌, [], length, map, replicate, IfOk, IfErr, OnOk, IsTrue};
+ghost use Rattle.vschema.specs.WellFormed.{is_vschema};
+ghost use Rattle.shard_run.specs.Openings.{IsOpening};
+ghost use Rattle.empty_opening.specs.Empty.{unsharded_keyspace, sharded_keyspace, keyspace_shards, no_rows, opening_of, FitRanges};
+
+use keyrange::KeyRange;
+use shard_run::Shard;
+use std::alloc::{AllocError, Global};
+use vschema::{Place, VSchema};
+use vt_value::{Items, Refusal};
+
+// The keyspace that isn't sharded.
+fn unsharded_keyspace(schema: &VSchema) -> Option<usize>
+    ensures { result ≡ unsharded_keyspace schema.now }
+{
+    for (place, keyspace) in schema.keyspaces.as_slice().iter().enumerate() {
+        if !keyspace.sharded {
+            return Some(place);
+        }
+    }
+    None
+}
+
+// The keyspace that is sharded.
+fn sharded_keyspace(schema: &VSchema) -> Option<usize>
+    ensures { result ≡ sharded_keyspace schema.now }
+{
+    for (place, keyspace) in schema.keyspaces.as_slice().iter().enumerate() {
+        if keyspace.sharded {
+            return Some(place);
+        }
+    }
+    None
+}
+
+// Shards of the keyspace, where there is one, on the next slots: one for each range.
+fn push_shards(
+    shards: &mut Items<Shard>,
+    alloc: Global,
+    keyspace: Option<usize>,
+    ranges: &[KeyRange],
+) -> Result<(), AllocError>
+    ensures { OnOk result (shards.new ≡ shards.old ++ keyspace_shards (length shards.old) keyspace ranges.now) }
+{
+    let Some(keyspace) = keyspace else {
+        return Ok(());
+    };
+    for range in ranges {
+        let shard = Shard {
+            slot: shards.len(),
+            place: Place {
+                keyspace,
+                range: *range,
+            },
+            sources: Items::new(alloc),
+        };
+        shards.push(shard)?;
+    }
+    Ok(())
+}
+
+/// The shards of the opening that has no rows: one on slot 0 for the unsharded keyspace, where there is one, and on the
+/// next slots one for each range of the sharded keyspace, where there is one. Ranges that have names, hold each keyspace
+/// id once and fit into 64 slots make it an opening. It refuses only for want of memory.
+pub fn opening_shards(
+    alloc: Global,
+    schema: &VSchema,
+    ranges: &[KeyRange],
+) -> Result<Items<Shard>, Refusal>
+    ensures shards { IfOk result (λ shards. shards ≡ map (λ p. p.0) (opening_of schema.now ranges.now).shards) }
+    ensures err { IfErr result (λ e. e ≡ Refusal.OutOfMemory) }
+    ensures opening { IsTrue (is_vschema schema.now) → FitRanges schema.now ranges.now → IsOpening (opening_of schema.now ranges.now) }
+{
+    let mut shards = Items::new(alloc);
+    let full = [KeyRange::full()];
+    push_shards(&mut shards, alloc, unsharded_keyspace(schema), &full)?;
+    push_shards(&mut shards, alloc, sharded_keyspace(schema), ranges)?;
+    Ok(shards)
+}
+
+/// The number of empty lists of rows with which a shard of that opening begins: one for each table.
+pub fn empty_tables(schema: &VSchema) -> usize
+    ensures { no_rows schema.now ≡ replicate result [] }
+{
+    schema.tables.len()
+}

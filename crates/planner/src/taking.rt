@@ -1,0 +1,60 @@
+ghost use Rattle.std.specs.Prelude.{◌≡◌, IfOk, IfErr};
+ghost use Rattle.std.specs.List.{list_any};
+ghost use Rattle.keyrange.specs.Ranges.{has_id};
+ghost use Rattle.planner.specs.Routes.{id_of, takes, taken_places};
+
+use crate::routes::Route;
+use keyrange::KeyRange;
+use std::alloc::Global;
+use vschema::Table;
+use vt_value::{Refusal, Value};
+
+/// Whether the keyspace id of a value of the vindex column lies in the range.
+pub fn has_value(table: &Table, range: &KeyRange, value: &Value) -> bool
+    ensures { result ≡ has_id range.now (id_of table.now value.now) }
+{
+    let Some(vindex) = table.vindex else {
+        return range.contains(&[]);
+    };
+    match vindex.vindex.map(value) {
+        Some(id) => range.contains(id.as_slice()),
+        None => range.contains(&[]),
+    }
+}
+
+fn has_one_of(table: &Table, range: &KeyRange, values: &[Value]) -> bool
+    ensures { result ≡ list_any (λ v. has_id range.now (id_of table.now v)) values.now }
+{
+    values.iter().any(|value| has_value(table, range, value))
+}
+
+/// Whether the route of a statement on the table takes the shard of a range.
+pub fn takes(table: &Table, route: &Route, range: &KeyRange) -> bool
+    ensures { result ≡ takes table.now route.now range.now }
+{
+    match route {
+        Route::Unsharded | Route::Scatter => true,
+        Route::None => false,
+        Route::EqualUnique(value) => has_value(table, range, value),
+        Route::In(values) => has_one_of(table, range, values.as_slice()),
+    }
+}
+
+/// The places of the ranges that the route of a statement on the table takes, in their order. Refuses only for want of memory.
+pub fn shards(
+    alloc: Global,
+    table: &Table,
+    route: &Route,
+    ranges: &[KeyRange],
+) -> Result<Vec<usize>, Refusal>
+    ensures ok { IfOk result (λ places. places.items ≡ taken_places table.now route.now ranges.now) }
+    ensures err { IfErr result (λ e. e ≡ Refusal.OutOfMemory) }
+{
+    let mut places = Vec::new(alloc);
+    for (place, range) in ranges.iter().enumerate() {
+        if takes(table, route, range) {
+            places.push(place)?;
+        }
+    }
+    Ok(places)
+}

@@ -1,0 +1,31 @@
+use sql_tree::Item;
+use vt_value::{Items, Row};
+
+/// What a query gave: the table that it names and what it shows, by the places of columns, and its rows.
+#[derive(Debug, Drop)]
+pub struct Selected {
+    pub table: usize,
+    pub items: Items<Item<usize>>,
+    pub rows: Items<Row>,
+}
+
+/// What a statement answered: rows, or the count of an OK.
+#[derive(Debug, Drop)]
+pub enum Answer {
+    Rows(Selected),
+    Count(u64),
+}
+
+/// A shard that a query read, by its slot, and how many entries it had then.
+#[derive(Clone, Copy, Debug, PartialEq, Eq)]
+pub struct ShardRead {
+    pub slot: usize,
+    pub entries: u64,
+}
+
+/// What a statement answered, and the shards that it read, in the order of their ranges.
+#[derive(Debug, Drop)]
+pub struct Reply {
+    pub answer: Answer,
+    pub reads: Items<ShardRead>,
+}

@@ -1,0 +1,6 @@
+use Rattle.std.proofs.Common.{◌≡◌, take, map}
+use Rattle.sql_eval.specs.Grouping.{placed_key}
+use Rattle.sql_eval.proofs.groups.group_order.Given as goal
+
+abbrev pub invariant-loop-key : goal.invariant-loop-key
+invariant-loop-key l = l.keys ≡ map (placed_key l.other l.columns) (take l.key-index l.order_by)

@@ -1,0 +1,209 @@
+//! The groups of aggregated queries.
+ghost use Rattle.std.specs.Prelude.{◌≡◌, IfOk, IfErr, map, length};
+ghost use Rattle.aggregate.specs.Groups.{AreSummable};
+ghost use Rattle.vschema.specs.Checks.{is_aggregate};
+ghost use Rattle.sql_eval.specs.Grouping.{shown_place, aggregates_of, one_of, part_value, part_row, place_from, item_places, placed_key, grouping_of, group_columns, group_order, grouped};
+
+use crate::rows::value_at;
+use aggregate::GroupMerge;
+use operators::{Operator, collect, project_row};
+use sql_tree::{Item, Key};
+use std::alloc::Global;
+use vschema::Query;
+use vt_value::{Items, Refusal, Row, Value, copy};
+
+/// How parts are joined to groups.
+#[derive(Drop)]
+pub struct Grouping {
+    /// How many values stand for a group, at the beginning of a row of parts.
+    pub width: usize,
+    /// The aggregates. Their parts stand behind these values, one column each.
+    pub aggregates: Items<Item<usize>>,
+}
+
+fn is_aggregate(item: &Item<usize>) -> bool
+    ensures { result ≡ is_aggregate item.now }
+{
+    !matches!(item, Item::Column(_))
+}
+
+/// The column that an item shows, 0 where it shows an aggregate.
+pub fn shown_place(item: &Item<usize>) -> usize
+    ensures { result ≡ shown_place item.now }
+{
+    match item {
+        Item::Column(place) => *place,
+        _ => 0,
+    }
+}
+
+/// A copy of an item.
+pub fn copy_item(item: &Item<usize>) -> Item<usize>
+    ensures { result ≡ item.now }
+{
+    match item {
+        Item::Column(place) => Item::Column(*place),
+        Item::CountRows => Item::CountRows,
+        Item::Count(place) => Item::Count(*place),
+        Item::Sum(place) => Item::Sum(*place),
+        Item::Min(place) => Item::Min(*place),
+        Item::Max(place) => Item::Max(*place),
+    }
+}
+
+fn aggregates_of(alloc: Global, items: &[Item<usize>]) -> Result<Items<Item<usize>>, Refusal>
+    ensures ok { IfOk result (λ list. list ≡ aggregates_of items.now) }
+    ensures err { IfErr result (λ e. e ≡ Refusal.OutOfMemory) }
+{
+    let mut list = Items::new(alloc);
+    for item in items {
+        if is_aggregate(item) {
+            list.push(copy_item(item))?;
+        }
+    }
+    Ok(list)
+}
+
+impl Grouping {
+    /// The grouping of an aggregated query. Refuses only for want of memory.
+    pub fn of(alloc: Global, query: &Query) -> Result<Grouping, Refusal>
+        ensures ok { IfOk result (λ grouping. grouping ≡ grouping_of query.now) }
+        ensures err { IfErr result (λ e. e ≡ Refusal.OutOfMemory) }
+    {
+        let aggregates = aggregates_of(alloc, query.items.as_slice())?;
+        Ok(Grouping {
+            width: query.group_by.as_slice().len(),
+            aggregates,
+        })
+    }
+
+    /// One row for each group of the input's parts: its values, and then what its parts give together. Refuses only for want of
+    /// memory.
+    pub fn joined<O: Operator>(&self, alloc: Global, parts: O) -> Result<Items<Row>, Refusal>
+        requires { AreSummable self.now.width (O.to_come parts) }
+        ensures ok { IfOk result (λ rows. rows ≡ grouped self.now (O.to_come parts)) }
+        ensures err { IfErr result (λ e. e ≡ Refusal.OutOfMemory) }
+    {
+        let mut merge = GroupMerge::new(alloc, parts, self.aggregates.as_slice(), self.width)?;
+        collect(alloc, &mut merge)
+    }
+}
+
+fn one_of(value: &Value) -> Value
+    ensures { result ≡ one_of value.now }
+{
+    match value {
+        Value::Null => Value::Int(0),
+        _ => Value::Int(1),
+    }
+}
+
+/// The part of an aggregate that a row is.
+fn part_value(alloc: Global, row: &Row, aggregate: &Item<usize>) -> Result<Value, Refusal>
+    ensures ok { IfOk result (λ value. value ≡ part_value row.now aggregate.now) }
+    ensures err { IfErr result (λ e. e ≡ Refusal.OutOfMemory) }
+{
+    let null = Value::Null;
+    match aggregate {
+        Item::Column(_) => Ok(Value::Null),
+        Item::CountRows => Ok(Value::Int(1)),
+        Item::Count(place) => Ok(one_of(value_at(row, *place, &null))),
+        Item::Sum(place) | Item::Min(place) | Item::Max(place) => {
+            copy(alloc, value_at(row, *place, &null))
+        }
+    }
+}
+
+fn part_row(
+    alloc: Global,
+    columns: &[usize],
+    aggregates: &[Item<usize>],
+    row: &Row,
+) -> Result<Row, Refusal>
+    ensures ok { IfOk result (λ part. part ≡ part_row columns.now aggregates.now row.now) }
+    ensures err { IfErr result (λ e. e ≡ Refusal.OutOfMemory) }
+{
+    let mut part = project_row(alloc, columns, row)?;
+    for aggregate in aggregates {
+        part.push(part_value(alloc, row, aggregate)?)?;
+    }
+    Ok(part)
+}
+
+/// Of each row the values of its group, and the parts of the aggregates that it is.
+pub fn part_rows(
+    alloc: Global,
+    columns: &[usize],
+    aggregates: &[Item<usize>],
+    rows: &[Row],
+) -> Result<Items<Row>, Refusal>
+    ensures ok { IfOk result (λ parts. parts ≡ map (part_row columns.now aggregates.now) rows.now) }
+    ensures err { IfErr result (λ e. e ≡ Refusal.OutOfMemory) }
+{
+    let mut parts = Items::new(alloc);
+    for row in rows {
+        parts.push(part_row(alloc, columns, aggregates, row)?)?;
+    }
+    Ok(parts)
+}
+
+fn place_of(columns: &[usize], column: usize, other: usize) -> usize
+    ensures { result ≡ place_from 0 other columns.now column }
+{
+    for (place, named) in columns.iter().enumerate() {
+        if *named == column {
+            return place;
+        }
+    }
+    other
+}
+
+fn item_places(
+    alloc: Global,
+    columns: &[usize],
+    items: &[Item<usize>],
+    other: usize,
+) -> Result<Items<usize>, Refusal>
+    ensures ok { IfOk result (λ places. places ≡ item_places other columns.now (length columns.now) items.now) }
+    ensures err { IfErr result (λ e. e ≡ Refusal.OutOfMemory) }
+{
+    let mut places = Items::new(alloc);
+    let mut next = columns.len();
+    for item in items {
+        if is_aggregate(item) {
+            places.push(next)?;
+            next += 1;
+        } else {
+            places.push(place_of(columns, shown_place(item), other))?;
+        }
+    }
+    Ok(places)
+}
+
+/// The places of an aggregated query's items in the rows of its groups. Refuses only for want of memory.
+pub fn group_columns(alloc: Global, query: &Query) -> Result<Items<usize>, Refusal>
+    ensures ok { IfOk result (λ places. places ≡ group_columns query.now) }
+    ensures err { IfErr result (λ e. e ≡ Refusal.OutOfMemory) }
+{
+    let columns = query.group_by.as_slice();
+    let items = query.items.as_slice();
+    item_places(alloc, columns, items, columns.len() + items.len())
+}
+
+/// The sort keys of an aggregated query, by the places of their columns in the rows of its groups. Refuses only for want of memory.
+pub fn group_order(alloc: Global, query: &Query) -> Result<Items<Key<usize>>, Refusal>
+    ensures ok { IfOk result (λ keys. keys ≡ group_order query.now) }
+    ensures err { IfErr result (λ e. e ≡ Refusal.OutOfMemory) }
+{
+    let columns = query.group_by.as_slice();
+    let other = columns.len() + query.items.as_slice().len();
+    let order_by = query.order_by.as_slice();
+    let mut keys = Items::new(alloc);
+    for key in order_by {
+        keys.push(Key {
+            column: place_of(columns, key.column, other),
+            descending: key.descending,
+        })?;
+    }
+    Ok(keys)
+}

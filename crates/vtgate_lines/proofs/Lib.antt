@@ -1,0 +1,5 @@
+pub mod Short
+pub mod Covers
+pub mod PlanRefusals
+pub mod Named
+pub mod LineFronts

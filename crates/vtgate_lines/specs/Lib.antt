@@ -1,0 +1,4 @@
+pub mod Partitions
+pub mod Lines
+pub mod Printed
+pub mod Plans

@@ -1,0 +1,16 @@
+//! The words and lines that the program reads and prints: ranges of shards, lines of a script, results, refusals and plans.
+#![tactic(auto)]
+
+mod lines;
+mod plans;
+mod ranges;
+mod refusals;
+mod rows;
+#[cfg(test)]
+mod tests;
+
+pub use lines::{Line, next_line, read_line};
+pub use plans::plan_line;
+pub use ranges::{MOST_RANGES, read_ranges};
+pub use refusals::{REFUSAL_LINE, refusal_line};
+pub use rows::{put_count, put_rows};

@@ -1,0 +1,163 @@
+//! The line of a plan: the name of a statement's route, and the shards that it has.
+ghost use Rattle.std.specs.Prelude.{◌≡◌, ◌++◌, List, flat_map, slice_get, IfOk, IfErr, OnOk};
+ghost use Rattle.vtgate_lines.specs.Plans.{route_name, insert_name, named, shards_text, plan_text, write_text, typed_text, IsPlanLine, IsPlanRefusal};
+
+use crate::rows::put;
+use keyrange::KeyRange;
+use planner::{Route, shards, write_route};
+use sql_parser::parse;
+use std::alloc::Global;
+use vschema::{Typed, VSchema, Write};
+use vt_value::Refusal;
+
+fn route_name(route: &Route) -> &'static [u8]
+    ensures { result.now ≡ route_name route.now }
+{
+    match route {
+        Route::Unsharded => b"Unsharded",
+        Route::None => b"None",
+        Route::EqualUnique(_) => b"EqualUnique",
+        Route::In(_) => b"IN",
+        Route::Scatter => b"Scatter",
+    }
+}
+
+// An INSERT whose rows have one shard is EqualUnique.
+fn insert_name(route: &Route, shards: usize) -> &'static [u8]
+    ensures { result.now ≡ insert_name route.now shards }
+{
+    match route {
+        Route::In(_) if shards == 1 => b"EqualUnique",
+        _ => route_name(route),
+    }
+}
+
+fn put_shard(
+    alloc: Global,
+    out: &mut Vec<u8>,
+    ranges: &[KeyRange],
+    place: usize,
+) -> Result<(), Refusal>
+    ensures ok { OnOk result (out.new.items ≡ out.old.items ++ named (slice_get ranges.now place)) }
+    ensures err { IfErr result (λ e. e ≡ Refusal.OutOfMemory) }
+{
+    match ranges.get(place) {
+        Some(range) => {
+            let name = format!(in alloc; " {range}")?;
+            put(out, name.as_bytes())
+        }
+        None => Ok(()),
+    }
+}
+
+fn put_shards(
+    alloc: Global,
+    out: &mut Vec<u8>,
+    ranges: &[KeyRange],
+    places: &[usize],
+) -> Result<(), Refusal>
+    ensures ok { OnOk result (out.new.items ≡ out.old.items ++ flat_map (λ n. named (slice_get ranges.now n)) places.now) }
+    ensures err { IfErr result (λ e. e ≡ Refusal.OutOfMemory) }
+{
+    for place in places {
+        put_shard(alloc, out, ranges, *place)?;
+    }
+    Ok(())
+}
+
+// Puts the shards of a route; the one of the unsharded keyspace is `0`.
+fn put_route(
+    alloc: Global,
+    out: &mut Vec<u8>,
+    route: &Route,
+    ranges: &[KeyRange],
+    places: &[usize],
+) -> Result<(), Refusal>
+    ensures ok { OnOk result (out.new.items ≡ out.old.items ++ shards_text route.now ranges.now places.now) }
+    ensures err { IfErr result (λ e. e ≡ Refusal.OutOfMemory) }
+{
+    match route {
+        Route::Unsharded => put(out, b" 0"),
+        _ => put_shards(alloc, out, ranges, places),
+    }
+}
+
+fn printed(
+    alloc: Global,
+    name: &[u8],
+    route: &Route,
+    ranges: &[KeyRange],
+    places: &[usize],
+) -> Result<Vec<u8>, Refusal>
+    ensures ok { IfOk result (λ line. line.items ≡ plan_text name.now route.now ranges.now places.now) }
+    ensures err { IfErr result (λ e. e ≡ Refusal.OutOfMemory) }
+{
+    let mut out = Vec::new(alloc);
+    put(&mut out, name)?;
+    put(&mut out, b":")?;
+    put_route(alloc, &mut out, route, ranges, places)?;
+    put(&mut out, b"\n")?;
+    Ok(out)
+}
+
+fn write_line(
+    alloc: Global,
+    schema: &VSchema,
+    ranges: &[KeyRange],
+    write: &Write,
+) -> Result<Vec<u8>, Refusal>
+    ensures ok { IfOk result (λ line. line.items ≡ write_text schema.now ranges.now write.now) }
+    ensures err { IfErr result (λ e. e ≡ Refusal.OutOfMemory) }
+{
+    let route = write_route(alloc, schema, write)?;
+    let (Write::Insert(place, _) | Write::Update(place, _, _) | Write::Delete(place, _)) = write;
+    let Some(table) = schema.tables.as_slice().get(*place) else {
+        return printed(alloc, route_name(&route), &route, ranges, &[]);
+    };
+    let places = shards(alloc, table, &route, ranges)?;
+    let name = match write {
+        Write::Insert(_, _) => insert_name(&route, places.len()),
+        Write::Update(_, _, _) | Write::Delete(_, _) => route_name(&route),
+    };
+    printed(alloc, name, &route, ranges, &places)
+}
+
+fn typed_line(
+    alloc: Global,
+    schema: &VSchema,
+    ranges: &[KeyRange],
+    typed: Typed,
+) -> Result<Vec<u8>, Refusal>
+    ensures ok { IfOk result (λ line. line.items ≡ typed_text schema.now ranges.now typed) }
+    ensures err { IfErr result (λ e. e ≡ Refusal.OutOfMemory) }
+{
+    match typed {
+        // A query has the route of a DELETE with its condition.
+        Typed::Select(query) => {
+            let write = Write::Delete(query.table, query.filter);
+            write_line(alloc, schema, ranges, &write)
+        }
+        Typed::Write(write) => write_line(alloc, schema, ranges, &write),
+        Typed::Begin | Typed::Commit | Typed::Rollback | Typed::SetNames => {
+            printed(alloc, b"None", &Route::None, ranges, &[])
+        }
+    }
+}
+
+/// The line of a statement's plan over the ranges of the sharded keyspace, in their order: the name of its route, a colon,
+/// and each shard that it has after a blank, as `IN: -80 80-`. A table of the unsharded keyspace has the shard `0`; a
+/// statement without a table has none. An INSERT into a sharded table is `EqualUnique` where its rows have one shard, and
+/// `IN` elsewhere. Refuses a text that has no tree, one that its VSchema refuses, and, for want of memory, any.
+pub fn plan_line(
+    alloc: Global,
+    schema: &VSchema,
+    ranges: &[KeyRange],
+    sql: &[u8],
+) -> Result<Vec<u8>, Refusal>
+    ensures ok { IfOk result (λ line. IsPlanLine schema.now ranges.now sql.now line.items) }
+    ensures err { IfErr result (λ r. IsPlanRefusal schema.now sql.now r) }
+{
+    let statement = parse(alloc, sql)?;
+    let typed = schema.resolve(alloc, statement)?;
+    typed_line(alloc, schema, ranges, typed)
+}

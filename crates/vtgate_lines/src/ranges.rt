@@ -1,0 +1,67 @@
+//! The word that tells the shards of a keyspace: the names of their ranges, with commas between them.
+ghost use Rattle.std.specs.Prelude.{◌≡◌, ◌∷◌, [], ◌++◌, false, List, IsTrue, IfOk, IfErr, IfSome, IfNone, IsSomeAnd};
+ghost use Rattle.keyrange.specs.Names.{IsNameOf};
+ghost use Rattle.keyrange.specs.declared.KeyRange.{KeyRange};
+ghost use Rattle.vtgate_lines.specs.Partitions.{IsListOf, IsPartition};
+
+use keyrange::{KeyRange, covers_once};
+use std::alloc::Global;
+use vt_value::Refusal;
+
+/// How many ranges a keyspace may have at most.
+pub const MOST_RANGES: usize = 64;
+
+/// Puts the range of this name behind the others, and tells whether there is one.
+fn push_named(ranges: &mut Vec<KeyRange>, name: &str) -> Result<bool, Refusal>
+    ensures found { IfOk result (λ b. IsTrue b → (range : KeyRange) × IsNameOf name.now range × (ranges.new.items ≡ ranges.old.items ++ range ∷ [])) }
+    ensures none { IfOk result (λ b. b ≡ false → (range : KeyRange) → IsNameOf name.now range → ⊥) }
+    ensures err { IfErr result (λ e. e ≡ Refusal.OutOfMemory) }
+{
+    match KeyRange::read(name) {
+        // by its edges: the check can't follow a whole range of another crate here
+        Some(KeyRange { begin, end }) => {
+            ranges.push(KeyRange { begin, end })?;
+            Ok(true)
+        }
+        None => Ok(false),
+    }
+}
+
+/// The ranges of which the text has the names, in the text's order. `None` where some part is no range's name.
+fn named_ranges(alloc: Global, text: &str) -> Result<Option<Vec<KeyRange>>, Refusal>
+    ensures found { IfOk result (λ o. IfSome o (λ v. IsListOf text.now v.items)) }
+    ensures only { IfOk result (λ o. (ranges : List KeyRange) → IsListOf text.now ranges → IsSomeAnd o (λ v. v.items ≡ ranges)) }
+    ensures err { IfErr result (λ e. e ≡ Refusal.OutOfMemory) }
+{
+    let mut ranges = Vec::new(alloc);
+    let mut rest = text;
+    while let Some((name, more)) = rest.split_once(',') {
+        if !push_named(&mut ranges, name)? {
+            return Ok(None);
+        }
+        rest = more;
+    }
+    if push_named(&mut ranges, rest)? {
+        Ok(Some(ranges))
+    } else {
+        Ok(None)
+    }
+}
+
+/// The ranges that a comma list of names tells, as `-80,80-`, in the order of their begins. `None` where some part is no
+/// range's name, where there are more than 64, or where some id lies in none of them or in several.
+pub fn read_ranges(alloc: Global, text: &str) -> Result<Option<Vec<KeyRange>>, Refusal>
+    ensures found { IfOk result (λ o. IfSome o (λ v. IsPartition text.now v.items)) }
+    ensures none { IfOk result (λ o. IfNone o ((ranges : List KeyRange) → IsPartition text.now ranges → ⊥)) }
+    ensures err { IfErr result (λ e. e ≡ Refusal.OutOfMemory) }
+{
+    let Some(mut ranges) = named_ranges(alloc, text)? else {
+        return Ok(None);
+    };
+    ranges.sort_unstable_by(|a, b| a.begin.as_slice().cmp(b.begin.as_slice()));
+    if ranges.len() <= MOST_RANGES && covers_once(&ranges) {
+        Ok(Some(ranges))
+    } else {
+        Ok(None)
+    }
+}

@@ -1,0 +1,144 @@
+//! The lines of a result.
+ghost use Rattle.std.specs.Prelude.{◌≡◌, ◌<◌, ◌++◌, List, codes, flat_map, map, IfErr, OnOk};
+ghost use Rattle.std.specs.Fmt.{decimal};
+ghost use Rattle.keyrange.specs.Names.{hex_digit};
+ghost use Rattle.sql_tree.specs.Printing.{following};
+ghost use Rattle.vtgate_lines.specs.Printed.{is_plain, byte_text, value_text, row_text, line, rows_text, count_text};
+
+use itoa::Buffer;
+use vt_value::{Refusal, Row, Value};
+
+/// Puts a text as it is.
+pub(crate) fn put(out: &mut Vec<u8>, text: &[u8]) -> Result<(), Refusal>
+    ensures ok { OnOk result (out.new.items ≡ out.old.items ++ text.now) }
+    ensures err { IfErr result (λ e. e ≡ Refusal.OutOfMemory) }
+{
+    out.extend_from_slice(text)?;
+    Ok(())
+}
+
+// A value's lower-case hexadecimal digit.
+fn digit_of(value: u8) -> u8
+    requires { value < 16 }
+    ensures { result ≡ hex_digit value }
+{
+    if value < 10 {
+        b'0' + value
+    } else {
+        b'a' + (value - 10)
+    }
+}
+
+fn is_plain(byte: u8) -> bool
+    ensures { result ≡ is_plain byte }
+{
+    0x20 <= byte && byte <= 0x7E && byte != b'\'' && byte != b'\\'
+}
+
+fn put_byte(out: &mut Vec<u8>, byte: u8) -> Result<(), Refusal>
+    ensures ok { OnOk result (out.new.items ≡ out.old.items ++ byte_text byte) }
+    ensures err { IfErr result (λ e. e ≡ Refusal.OutOfMemory) }
+{
+    if is_plain(byte) {
+        put(out, &[byte])
+    } else {
+        put(
+            out,
+            &[b'\\', b'x', digit_of(byte / 16), digit_of(byte % 16)],
+        )
+    }
+}
+
+fn put_bytes(out: &mut Vec<u8>, bytes: &[u8]) -> Result<(), Refusal>
+    ensures ok { OnOk result (out.new.items ≡ out.old.items ++ flat_map byte_text bytes.now) }
+    ensures err { IfErr result (λ e. e ≡ Refusal.OutOfMemory) }
+{
+    for byte in bytes {
+        put_byte(out, *byte)?;
+    }
+    Ok(())
+}
+
+fn put_value(out: &mut Vec<u8>, value: &Value) -> Result<(), Refusal>
+    ensures ok { OnOk result (out.new.items ≡ out.old.items ++ value_text value.now) }
+    ensures err { IfErr result (λ e. e ≡ Refusal.OutOfMemory) }
+{
+    match value {
+        Value::Null => put(out, b"NULL"),
+        Value::Int(n) => {
+            let mut buffer = Buffer::new();
+            put(out, buffer.format(*n).as_bytes())
+        }
+        Value::Bytes(bytes) => {
+            put(out, b"'")?;
+            put_bytes(out, bytes.as_slice())?;
+            put(out, b"'")
+        }
+    }
+}
+
+// Puts each value with a bar before it.
+fn put_following(out: &mut Vec<u8>, values: &[Value]) -> Result<(), Refusal>
+    ensures ok { OnOk result (out.new.items ≡ out.old.items ++ following (codes "|") (map value_text values.now)) }
+    ensures err { IfErr result (λ e. e ≡ Refusal.OutOfMemory) }
+{
+    for value in values {
+        put(out, b"|")?;
+        put_value(out, value)?;
+    }
+    Ok(())
+}
+
+fn put_row(out: &mut Vec<u8>, row: &[Value]) -> Result<(), Refusal>
+    ensures ok { OnOk result (out.new.items ≡ out.old.items ++ row_text row.now) }
+    ensures err { IfErr result (λ e. e ≡ Refusal.OutOfMemory) }
+{
+    match row {
+        [] => Ok(()),
+        [first, rest @ ..] => {
+            put_value(out, first)?;
+            put_following(out, rest)
+        }
+    }
+}
+
+fn put_row_lines(out: &mut Vec<u8>, rows: &[Row]) -> Result<(), Refusal>
+    ensures ok { OnOk result (out.new.items ≡ out.old.items ++ flat_map (λ row. line (row_text row)) rows.now) }
+    ensures err { IfErr result (λ e. e ≡ Refusal.OutOfMemory) }
+{
+    for row in rows {
+        put_row(out, row.as_slice())?;
+        put(out, b"\n")?;
+    }
+    Ok(())
+}
+
+// Puts a line of a word and a number.
+fn put_number_line(out: &mut Vec<u8>, word: &[u8], number: u64) -> Result<(), Refusal>
+    ensures ok { OnOk result (out.new.items ≡ out.old.items ++ line (word.now ++ decimal number)) }
+    ensures err { IfErr result (λ e. e ≡ Refusal.OutOfMemory) }
+{
+    let mut buffer = Buffer::new();
+    put(out, word)?;
+    put(out, buffer.format(number).as_bytes())?;
+    put(out, b"\n")
+}
+
+/// Puts a result: a line for each row, its values with bars between them, and a line that tells how many rows there are,
+/// as `rows 2`. A number is in decimal, NULL is `NULL`, and a text stands in single quotes, with each byte outside 20..7E,
+/// each quote and each backslash as `\x` and two lower-case hexadecimal digits. Refuses only for want of memory.
+pub fn put_rows(out: &mut Vec<u8>, rows: &[Row]) -> Result<(), Refusal>
+    ensures ok { OnOk result (out.new.items ≡ out.old.items ++ rows_text rows.now) }
+    ensures err { IfErr result (λ e. e ≡ Refusal.OutOfMemory) }
+{
+    put_row_lines(out, rows)?;
+    put_number_line(out, b"rows ", rows.len() as u64)
+}
+
+/// Puts the line of a count, as `ok 1`. Refuses only for want of memory.
+pub fn put_count(out: &mut Vec<u8>, count: u64) -> Result<(), Refusal>
+    ensures ok { OnOk result (out.new.items ≡ out.old.items ++ count_text count) }
+    ensures err { IfErr result (λ e. e ≡ Refusal.OutOfMemory) }
+{
+    put_number_line(out, b"ok ", count)
+}

@@ -1,0 +1,163 @@
+ghost use Rattle.std.specs.Prelude.{◌≡◌, None, IsSome};
+
+use crate::tests::{PING, PONG, QUIT, open, query, talk};
+use first_world::{First, first_router};
+use journal::{Naming, Opened, Pass};
+use route_engine::{Engine, Open};
+use session::{Core, DeviceFailed, End, SessionFault, Sink, Source, Writer, serve};
+use shard::ShardLaw;
+use std::alloc::Global;
+use std::marker::Brand;
+use std::process::Abort;
+use std::sync::Wait;
+use std::test::Fail;
+use std::thread::Threads;
+
+/// Feeds a piece to a session.
+fn feed_piece<J: Naming + Send + Sync, S: Sink>(
+    rt: &(impl Threads + Wait + Sync),
+    alloc: Global,
+    engine: &Engine<First, J, Open>,
+    pass: &mut Pass<ShardLaw<First>, J>,
+    core: &mut Core,
+    piece: &[u8],
+    sink: &mut S,
+) -> Result<Option<End>, SessionFault>
+    requires { IsSome pass.old.session }
+    ensures { IsSome pass.new.session }
+{
+    core.feed(rt, alloc, engine, pass, piece, sink)
+}
+
+/// Feeds the bytes to a session one by one, and tells after how many of them it had ended.
+fn feed_each<J: Naming + Send + Sync, S: Sink, R: Abort + Threads + Wait + Sync>(
+    rt: &R,
+    alloc: Global,
+    engine: &Engine<First, J, Open>,
+    mut pass: Pass<ShardLaw<First>, J>,
+    core: &mut Core,
+    bytes: &[u8],
+    sink: &mut S,
+) -> Result<u32, Fail>
+    requires { IsSome pass.session }
+{
+    let mut ends = 0u32;
+    for byte in bytes {
+        match feed_piece(rt, alloc, engine, &mut pass, core, &[*byte], sink) {
+            Ok(None) => assert_eq!(rt; core.end_of_input() == End::Quit, false),
+            Ok(Some(end)) => {
+                assert_eq!(rt; end, End::Quit);
+                ends = ends.wrapping_add(1);
+            }
+            Err(fault) => return Err(Fail::from(format_args!("{fault:?}"))),
+        }
+    }
+    Ok(ends)
+}
+
+fn feed_bytes<J: Naming + Send + Sync, R: Abort + Threads + Wait + Sync>(
+    rt: &R,
+    alloc: Global,
+    opened: Opened<ShardLaw<First>>,
+) -> Result<(), Fail>
+    requires { opened ≡ J.table }
+{
+    let mut input = query(alloc, b"SELECT * FROM t WHERE id = 5")?;
+    input.extend_from_slice(PING)?;
+    input.extend_from_slice(QUIT)?;
+    input.extend_from_slice(PING)?;
+    let (whole, _) = talk(rt, alloc, &input)?;
+    let mut core = Core::commands(alloc, 7, 0).ok().ok_or("no memory")?;
+    assert_eq!(rt; core.id(), 7);
+    assert_eq!(rt; core.capabilities(), 0);
+    let mut sink = Writer(Vec::new(alloc));
+    let (engine, pass) = first_router::<J>(alloc, opened).ok().ok_or("no memory")?;
+    let ends = feed_each(rt, alloc, &engine, pass, &mut core, &input, &mut sink)?;
+    assert_eq!(rt; ends, 6);
+    assert_eq!(rt; core.end_of_input(), End::Quit);
+    let Writer(written) = sink;
+    assert_eq!(rt; written.as_slice(), whole.as_slice());
+    Ok(())
+}
+
+#[test]
+fn pieces_of_one_byte_give_the_same_replies(rt: HostRuntime) -> Result<(), Fail> {
+    let opened = open(rt.alloc())?;
+    feed_bytes::<Brand, HostRuntime>(&rt, rt.alloc(), opened)
+}
+
+/// A source that fails once its bytes are read.
+#[derive(Drop)]
+struct FailingSource<'a>(&'a [u8]);
+
+impl Source for FailingSource<'_> {
+    ghost unread = { λ _. None };
+
+    fn read(&mut self, buffer: &mut [u8]) -> Result<usize, DeviceFailed> {
+        match (self.0, buffer) {
+            ([first, rest @ ..], [place, ..]) => {
+                *place = *first;
+                self.0 = rest;
+                Ok(1)
+            }
+            _ => Err(DeviceFailed),
+        }
+    }
+}
+
+/// A sink that fails from some write on.
+#[derive(Drop)]
+struct FailingSink {
+    writes_left: u32,
+}
+
+impl Sink for FailingSink {
+    ghost taken = { λ _. None };
+
+    fn write(&mut self, _bytes: &[u8]) -> Result<(), DeviceFailed> {
+        if self.writes_left == 0 {
+            return Err(DeviceFailed);
+        }
+        self.writes_left -= 1;
+        Ok(())
+    }
+}
+
+fn fail_devices<J: Naming + Send + Sync, R: Abort + Threads + Wait + Sync>(
+    rt: &R,
+    alloc: Global,
+    opened: Opened<ShardLaw<First>>,
+) -> Result<(), Fail>
+    requires { opened ≡ J.table }
+{
+    let (engine, mut pass) = first_router::<J>(alloc, opened).ok().ok_or("no memory")?;
+    let mut source = FailingSource(PING);
+    let mut sink = Writer(Vec::new(alloc));
+    let end = serve(rt, alloc, &engine, &mut pass, 1, 0, &mut source, &mut sink);
+    assert_eq!(rt; end, Err(SessionFault::Read));
+    assert_eq!(rt; sink.0.as_slice(), PONG);
+
+    let mut core = Core::commands(alloc, 1, 0).ok().ok_or("no memory")?;
+    let mut sink = FailingSink { writes_left: 1 };
+    assert_eq!(rt;
+        feed_piece(rt, alloc, &engine, &mut pass, &mut core, PING, &mut sink),
+        Ok(None)
+    );
+    assert_eq!(rt;
+        feed_piece(rt, alloc, &engine, &mut pass, &mut core, PING, &mut sink),
+        Err(SessionFault::Write)
+    );
+    sink.writes_left = 1;
+    assert_eq!(rt;
+        feed_piece(rt, alloc, &engine, &mut pass, &mut core, PING, &mut sink),
+        Ok(Some(End::Broken))
+    );
+    assert_eq!(rt; sink.writes_left, 1);
+    Ok(())
+}
+
+#[test]
+fn failing_devices_end_a_session(rt: HostRuntime) -> Result<(), Fail> {
+    let opened = open(rt.alloc())?;
+    fail_devices::<Brand, HostRuntime>(&rt, rt.alloc(), opened)
+}
