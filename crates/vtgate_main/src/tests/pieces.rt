@@ -123,41 +123,67 @@ impl Sink for FailingSink {
     }
 }
 
-fn fail_devices<J: Naming + Send + Sync, R: Abort + Threads + Wait + Sync>(
+fn fail_source<J: Naming + Send + Sync, R: Abort + Threads + Wait + Sync>(
     rt: &R,
     alloc: Global,
-    opened: Opened<ShardLaw<First>>,
+    engine: &Engine<First, J, Open>,
+    pass: &mut Pass<ShardLaw<First>, J>,
 ) -> Result<(), Fail>
-    requires { opened ≡ J.table }
+    requires { IsSome pass.old.session }
 {
-    let (engine, mut pass) = first_router::<J>(alloc, opened).ok().ok_or("no memory")?;
     let mut source = FailingSource(PING);
     let mut sink = Writer(Vec::new(alloc));
-    let end = serve(rt, alloc, &engine, &mut pass, 1, 0, &mut source, &mut sink);
+    let end = serve(rt, alloc, engine, pass, 1, 0, &mut source, &mut sink);
     assert_eq!(rt; end, Err(SessionFault::Read));
     assert_eq!(rt; sink.0.as_slice(), PONG);
+    Ok(())
+}
 
+fn fail_sink<J: Naming + Send + Sync, R: Abort + Threads + Wait + Sync>(
+    rt: &R,
+    alloc: Global,
+    engine: &Engine<First, J, Open>,
+    pass: &mut Pass<ShardLaw<First>, J>,
+) -> Result<(), Fail>
+    requires { IsSome pass.old.session }
+{
     let mut core = Core::commands(alloc, 1, 0).ok().ok_or("no memory")?;
     let mut sink = FailingSink { writes_left: 1 };
-    assert_eq!(rt;
-        feed_piece(rt, alloc, &engine, &mut pass, &mut core, PING, &mut sink),
-        Ok(None)
-    );
-    assert_eq!(rt;
-        feed_piece(rt, alloc, &engine, &mut pass, &mut core, PING, &mut sink),
-        Err(SessionFault::Write)
-    );
+    let whole = feed_piece(rt, alloc, engine, pass, &mut core, PING, &mut sink);
+    assert_eq!(rt; whole, Ok(None));
+    let broken = feed_piece(rt, alloc, engine, pass, &mut core, PING, &mut sink);
+    assert_eq!(rt; broken, Err(SessionFault::Write));
     sink.writes_left = 1;
-    assert_eq!(rt;
-        feed_piece(rt, alloc, &engine, &mut pass, &mut core, PING, &mut sink),
-        Ok(Some(End::Broken))
-    );
+    let later = feed_piece(rt, alloc, engine, pass, &mut core, PING, &mut sink);
+    assert_eq!(rt; later, Ok(Some(End::Broken)));
     assert_eq!(rt; sink.writes_left, 1);
     Ok(())
 }
 
+fn fail_one<J: Naming + Send + Sync, R: Abort + Threads + Wait + Sync>(
+    rt: &R,
+    alloc: Global,
+    opened: Opened<ShardLaw<First>>,
+    fails_source: bool,
+) -> Result<(), Fail>
+    requires { opened ≡ J.table }
+{
+    let (engine, mut pass) = first_router::<J>(alloc, opened).ok().ok_or("no memory")?;
+    if fails_source {
+        fail_source(rt, alloc, &engine, &mut pass)
+    } else {
+        fail_sink(rt, alloc, &engine, &mut pass)
+    }
+}
+
 #[test]
-fn failing_devices_end_a_session(rt: HostRuntime) -> Result<(), Fail> {
+fn a_failing_source_ends_a_session(rt: HostRuntime) -> Result<(), Fail> {
     let opened = open(rt.alloc())?;
-    fail_devices::<Brand, HostRuntime>(&rt, rt.alloc(), opened)
+    fail_one::<Brand, HostRuntime>(&rt, rt.alloc(), opened, true)
+}
+
+#[test]
+fn a_failing_sink_ends_a_session(rt: HostRuntime) -> Result<(), Fail> {
+    let opened = open(rt.alloc())?;
+    fail_one::<Brand, HostRuntime>(&rt, rt.alloc(), opened, false)
 }
