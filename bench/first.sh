@@ -4,18 +4,11 @@
 # Usage: bench/first.sh [PROGRAM]   (built by `rt run` in crates/vtgate_main where none is given)
 set -euo pipefail
 top=$(cd "$(dirname "$0")/.." && pwd)
-crate=$top/crates/vtgate_main
+. "$top/bench/program.sh"
 queries=${QUERIES:-200000}
+program=$(program_of vtgate_main "${1:-}")
 work=$(mktemp -d)
 trap 'rm -rf "$work"' EXIT
-
-program=${1:-}
-if [ -z "$program" ]; then
-    (cd "$crate" && rt run -- first < stdin > "$work/example" 2> "$work/log") || { cat "$work/log" >&2; exit 1; }
-    cmp "$work/example" "$crate/stdout"
-    program=$(find "$crate/out" -type f -name vtgate_main -perm -u+x | head -n 1)
-fi
-[ -x "$program" ] || { echo "no program at ${program:-$crate/out}" >&2; exit 1; }
 
 python3 - "$queries" "$work/input" <<'PY'
 import sys

@@ -5,15 +5,6 @@
 # ROUNDS: how many rows are inserted, 4000 where it is not set
 set -euo pipefail
 top=$(cd "$(dirname "$0")/.." && pwd)
-crate=$top/crates/write_bench
-
-program=${1:-}
-if [ -z "$program" ]; then
-    work=$(mktemp -d)
-    trap 'rm -rf "$work"' EXIT
-    (cd "$crate" && rt run -- $(cat args) > "$work/example" 2> "$work/log") || { cat "$work/log" >&2; exit 1; }
-    cmp "$work/example" "$crate/stdout"
-    program=$(find "$crate/out" -type f -name write_bench -perm -u+x | head -n 1)
-fi
-[ -x "$program" ] || { echo "no program at ${program:-$crate/out}" >&2; exit 1; }
+. "$top/bench/program.sh"
+program=$(program_of write_bench "${1:-}")
 "$program" "${ROUNDS:-4000}" rates

@@ -1,12 +1,12 @@
 -- Readings are joined into a session's pass one after the other.
-use Rattle.std.proofs.Common.{◌≡◌, ℕ, List, [], ◌∷◌, ◌++◌, map, flat_map, filter, Some, Ok, Result, sym, refl, ap, subst, ◌∙◌}
+use Rattle.std.proofs.Common.{◌≡◌, ℕ, List, [], ◌∷◌, ◌++◌, map, flat_map, Ok, Result, sym, refl, ap, subst, ◌∙◌}
 use Rattle.std.specs.Prelude.{IsOk}
 use Rattle.std.specs.List.{AllByRecursion}
 use Rattle.std.proofs.lemmas.List.{append-nil, append_assoc}
 use mathlib.Core.List.{IsPrefix}
 use Rattle.vt_value.specs.declared.refusal.Refusal.{Refusal}
 use Rattle.vt_value.specs.Values.{Row}
-use Rattle.journal.specs.Runs.{IsLegal, by_session}
+use Rattle.journal.specs.Runs.{IsLegal}
 use Rattle.journal.specs.Views.{PassView, IsLonger}
 use Rattle.journal.proofs.Fronts.{prefix_trans}
 use Rattle.shard_run.specs.declared.Entry.{Entry}

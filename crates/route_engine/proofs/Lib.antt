@@ -1,5 +1,6 @@
 pub mod Moments
 pub mod Needs
+pub mod Counting
 pub mod Spread
 pub mod Gathers
 pub mod Placing
@@ -13,3 +14,8 @@ pub mod Writing
 pub mod Refusals
 pub mod Replies
 pub mod Sessions
+pub mod NoOthers
+pub mod Everywhere
+pub mod WholeWrites
+pub mod Over
+mod OverExample

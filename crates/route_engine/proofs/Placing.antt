@@ -1,30 +1,26 @@
 -- The rows of an INSERT lie in the place of the one shard that it needs.
-use Rattle.std.proofs.Common.{◌≡◌, ℕ, ◌<◌, ◌≤◌, Bool, true, false, cond, ◌&&◌, ◌||◌, ◌==◌, List, [], ◌∷◌, length, filter, map, get_or, Option, Some, None, sym, refl, ap, subst, ◌∙◌, inl, inr, arith}
-use Rattle.std.specs.Prelude.{IsTrue, Contains, count_by}
+use Rattle.std.proofs.Common.{◌≡◌, ℕ, ◌<◌, Bool, true, false, ◌&&◌, ◌||◌, ◌==◌, List, [], ◌∷◌, length, filter, map, Option, Some, None, sym, refl, ap, subst, ◌∙◌, inl, inr, arith}
 use Rattle.std.specs.List.{AllByRecursion, list_any, list_all}
 use Rattle.std.proofs.lemmas.Bool.{eq-eqb, eqb-true, and_parts, and_from}
 use Rattle.vt_value.specs.Values.{Row, value_at}
 use Rattle.keyrange.specs.declared.KeyRange.{KeyRange}
-use Rattle.keyrange.specs.Ranges.{has_id, IsByteString}
+use Rattle.keyrange.specs.Ranges.{has_id}
 use Rattle.keyrange.specs.Names.{IsNamed}
 use Rattle.vschema.specs.declared.schema.ColumnVindex.{ColumnVindex}
 use Rattle.vschema.specs.declared.schema.Place.{Place}
 use Rattle.vschema.specs.declared.schema.Table.{Table}
-use Rattle.vschema.specs.declared.schema.VSchema.{VSchema}
 use Rattle.vschema.specs.declared.changes.Write.{Write}
 use Rattle.vschema.specs.declared.changes.Write.TheVariants.{Insert, Update, Delete}
-use Rattle.vschema.specs.Schema.{row_id, no_table}
+use Rattle.vschema.specs.Schema.{row_id}
 use Rattle.vschema.specs.Storable.{is_storable}
 use Rattle.vschema.specs.TypedWrites.{IsTypedWrite}
 use Rattle.vschema.specs.Database.{lies_in}
-use Rattle.planner.specs.declared.routes.Route.{Route}
-use Rattle.planner.specs.declared.routes.Route.TheVariants as route
 use Rattle.planner.specs.Routes.{table_at, takes, id_of, rows_route, insert_route}
 use Rattle.planner.proofs.Placed.{id_stored}
 use Rattle.shard_run.specs.declared.Shard.{Shard}
 use Rattle.shard_run.specs.Legal.{Hold}
 use Rattle.shard_run.specs.Runs.{Opening}
-use Rattle.shard_run.specs.Openings.{IsOpening, OpensWith, shards_in}
+use Rattle.shard_run.specs.Openings.{IsOpening}
 use Rattle.shard_law.proofs.Edges.{hold_all}
 use Rattle.shard_law.proofs.Fitting.{fits-from_typed}
 use Rattle.shard_law.proofs.Law.{held_once, range_named}
@@ -33,14 +29,14 @@ use Rattle.shard.specs.Shards.{opening_shards}
 use Rattle.shard.specs.Commits.{IsPlaced}
 use Rattle.route_engine.specs.Answers.{is_needed, needed, needed_by}
 
-some_in : {X : Type 0} (xs : List X) → length xs ≡ 1 → (x : X) × In x xs
+pub some_in : {X : Type 0} (xs : List X) → length xs ≡ 1 → (x : X) × In x xs
 some_in [] one = absurd (omega (arith, one))
 some_in (x ∷ xs) one = (x, inl refl)
 
-abbrev whole_range : KeyRange
+abbrev pub whole_range : KeyRange
 whole_range = record { begin = []; end = None }
 
-in_whole : (id : List ℕ) → has_id whole_range id ≡ true
+pub in_whole : (id : List ℕ) → has_id whole_range id ≡ true
 in_whole [] = refl
 in_whole (x ∷ id) = refl
 
@@ -93,7 +89,7 @@ any_in p x (y ∷ xs) (inr h) e = by (p y) (any_in p x xs h e)
     by false rest = rest
 
 -- an INSERT needs each shard in whose range a row of it lies
-row_taken : (t : Table) (rows : List Row) (row : Row) → In row rows → is_storable t row ≡ true → (range : KeyRange) → has_id range (row_id t row) ≡ true
+pub row_taken : (t : Table) (rows : List Row) (row : Row) → In row rows → is_storable t row ≡ true → (range : KeyRange) → has_id range (row_id t row) ≡ true
     → takes t (insert_route t rows) range ≡ true
 row_taken t rows row h fits range lies = by t.vindex refl
   where
@@ -103,7 +99,7 @@ row_taken t rows row h fits range lies = by t.vindex refl
         any_in (λ x. has_id range (id_of t x)) (value_at row v.column) (map (λ r. value_at r v.column) rows)
         (In-map (λ r. value_at r v.column) row rows h) (ap (has_id range) (id_stored t row v fits e) ∙ lies)
 
-only_one : {X : Type 0} (x y : X) (xs : List X) → xs ≡ y ∷ [] → In x xs → x ≡ y
+pub only_one : {X : Type 0} (x y : X) (xs : List X) → xs ≡ y ∷ [] → In x xs → x ≡ y
 only_one x y xs is h = by (subst (In x) is h)
   where
     by : In x (y ∷ []) → x ≡ y

@@ -1,14 +1,12 @@
 -- Why a text is refused, from why each step refuses.
-use Rattle.std.proofs.Common.{◌≡◌, ◌⊎◌, inl, inr, ℕ, List, [], Ok, Err, false, ap, sym, subst, ◌∙◌}
-use Rattle.std.specs.Prelude.{not}
+use Rattle.std.proofs.Common.{◌≡◌, ◌⊎◌, inl, inr, ℕ, List, [], Ok, Err, false, sym, subst, ◌∙◌}
 use Rattle.vt_value.specs.declared.refusal.Refusal.{Refusal}
 use Rattle.vt_value.specs.declared.refusal.Refusal.TheVariants.{OutOfMemory, SyntaxError, NotSupported}
 use Rattle.sql_tree.specs.declared.Statement.{Statement}
 use Rattle.sql_parser.specs.Grammar.{Reads}
 use Rattle.vschema.specs.declared.schema.VSchema.{VSchema}
-use Rattle.vschema.specs.declared.schema.Query.{Query}
 use Rattle.vschema.specs.declared.schema.Typed.{Typed}
-use Rattle.vschema.specs.declared.schema.Typed.TheVariants.{Select, Write}
+use Rattle.vschema.specs.declared.schema.Typed.TheVariants.{Write}
 use Rattle.vschema.specs.declared.changes.Write as W
 use Rattle.vschema.specs.TypedStatement.{typed_statement}
 use Rattle.journal.specs.Views.{PassView}
@@ -19,7 +17,7 @@ use Rattle.journal.specs.Runs.{IsLegal}
 use Rattle.shard.specs.Shards.{MayFollow}
 use Rattle.route_engine.proofs.Gathers.{stays}
 use Rattle.route_engine.specs.Answers as a
-use Rattle.route_engine.specs.Answers.{IsRefused, MaySelectRefuse, MayWriteRefuse, is_run}
+use Rattle.route_engine.specs.Answers.{HasGone, IsRefused, MayWriteRefuse, is_run}
 
 module _ (o : Opening) (limits : Limits) (p : PassView Entry) (text : List ℕ) (legal : IsLegal (MayFollow o) p.seen) where
   abbrev For : PassView Entry → Refusal → Type 0
@@ -41,10 +39,8 @@ module _ (o : Opening) (limits : Limits) (p : PassView Entry) (text : List ℕ) 
   not_run schema tree typed served reads is none =
       a.not_run tree typed reads (subst (λ (v : VSchema). typed_statement v tree ≡ Ok typed) served is) none
 
-  pub from_select : (schema : VSchema) (tree : Statement) (query : Query) (now : PassView Entry) (e : Refusal) → schema ≡ o.schema → Reads text tree
-      → typed_statement schema tree ≡ Ok (Select query) → MaySelectRefuse o p query e now → IsRefused o limits p text e now
-  from_select schema tree query _ _ served reads is (a.aggregated so) = not_run schema tree (Select query) served reads is (ap not so)
-  from_select schema tree query _ _ served reads is (a.full seen) = a.no_memory seen
+  pub from_select : (now : PassView Entry) (e : Refusal) → (e ≡ OutOfMemory) × HasGone o p now → IsRefused o limits p text e now
+  from_select now e (is, gone) = subst (For now) (sym is) (a.no_memory gone)
 
   pub from_write : (schema : VSchema) (tree : Statement) (w : W.Write) (now : PassView Entry) (e : Refusal) → schema ≡ o.schema → Reads text tree
       → typed_statement schema tree ≡ Ok (Write w) → MayWriteRefuse o limits p w e now → IsRefused o limits p text e now

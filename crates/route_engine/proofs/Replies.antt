@@ -1,7 +1,8 @@
 -- A reply, from what its query read or its write changed, and what a typed statement gives as what its text gives.
-use Rattle.std.proofs.Common.{◌≡◌, ℕ, List, Ok, Err, Result, refl, subst}
-use Rattle.std.specs.Prelude.{Contains, length, IfOk, IfErr, Some}
+use Rattle.std.proofs.Common.{◌≡◌, ℕ, List, Ok, Err, Result, subst}
+use Rattle.std.specs.Prelude.{IfOk, IfErr}
 use Rattle.vt_value.specs.declared.refusal.Refusal.{Refusal}
+use Rattle.vt_value.specs.declared.refusal.Refusal.TheVariants.{OutOfMemory}
 use Rattle.sql_tree.specs.declared.Statement.{Statement}
 use Rattle.sql_parser.specs.Grammar.{Reads}
 use Rattle.vschema.specs.declared.schema.Query.{Query}
@@ -18,7 +19,7 @@ use Rattle.journal.specs.Runs.{IsLegal}
 use Rattle.shard.specs.Shards.{MayFollow}
 use Rattle.route_engine.specs.declared.reply.Reply.{Reply}
 use Rattle.route_engine.specs.Answers as a
-use Rattle.route_engine.specs.Answers.{HasRead, HasWritten, Gives, IsReply, IsRefused, MaySelectRefuse, MayWriteRefuse}
+use Rattle.route_engine.specs.Answers.{HasRead, HasWritten, Gives, IsReply, IsRefused, MayWriteRefuse, HasGone}
 use Rattle.route_engine.proofs.Refusals.{from_select, from_write}
 
 module _ (o : Opening) (limits : Limits) (p now : PassView Entry) (legal : IsLegal (MayFollow o) p.seen) where
@@ -37,10 +38,10 @@ module _ (o : Opening) (limits : Limits) (p now : PassView Entry) (legal : IsLeg
   selected text tree query schema (Ok reply) served reads resolved read = replies text tree (Select query) schema reply served reads resolved (a.selects read)
   selected text tree query schema (Err e) served reads resolved read = cc
 
-  pub not_selected : (text : List ℕ) (tree : Statement) (query : Query) (schema : VSchema) (result : Result Reply Refusal) → schema ≡ o.schema → Reads text tree
-      → typed_statement schema tree ≡ Ok (Select query) → IfErr result (λ e. MaySelectRefuse o p query e now) → IfErr result (λ e. IsRefused o limits p text e now)
-  not_selected text tree query schema (Ok reply) served reads is refused = cc
-  not_selected text tree query schema (Err e) served reads is refused = from_select o limits p text legal schema tree query now e served reads is refused
+  pub not_selected : (text : List ℕ) (result : Result Reply Refusal) → IfErr result (λ e. (e ≡ OutOfMemory) × HasGone o p now)
+      → IfErr result (λ e. IsRefused o limits p text e now)
+  not_selected text (Ok reply) refused = cc
+  not_selected text (Err e) refused = from_select o limits p text legal now e refused
 
   pub written : (text : List ℕ) (tree : Statement) (w : W.Write) (schema : VSchema) (result : Result Reply Refusal) → schema ≡ o.schema → Reads text tree
       → typed_statement schema tree ≡ Ok (Write w) → IfOk result (λ r. HasWritten o limits p w r now) → IfOk result (λ r. IsReply o limits p text r now)

@@ -1,5 +1,5 @@
 -- A statement leaves the session of its pass, and what it may need of a pass is there.
-use Rattle.std.proofs.Common.{◌≡◌, ℕ, ◌+◌, ◌^◌, ◌≤◌, List, [], ◌∷◌, Option, Some, Ok, Err, Result, refl, sym, ap, subst, ◌∙◌}
+use Rattle.std.proofs.Common.{◌≡◌, ℕ, ◌+◌, ◌^◌, ◌≤◌, List, Ok, Err, Result, refl, ap, ◌∙◌}
 use Rattle.std.specs.Prelude.{IfOk, IfErr}
 use Rattle.vt_value.specs.declared.refusal.Refusal.{Refusal}
 use Rattle.vt_value.specs.declared.refusal.Refusal.TheVariants.{ShardFull}
@@ -10,7 +10,6 @@ use Rattle.vschema.specs.declared.schema.VSchema.{VSchema}
 use Rattle.vschema.specs.declared.schema.Typed.{Typed}
 use Rattle.vschema.specs.declared.schema.Typed.TheVariants as typed
 use Rattle.vschema.specs.declared.changes.Write.{Write}
-use Rattle.vschema.specs.declared.changes.Write.TheVariants as write
 use Rattle.vschema.specs.TypedStatement.{typed_select, typed_statement, as_query, as_write}
 use Rattle.vschema.specs.TypedWrites.{typed_insert, typed_update, typed_delete, IsTypedWrite}
 use Rattle.vschema.specs.TypedWrites as w

@@ -1,6 +1,6 @@
 -- The ranges of a keyspace, each at the moment when its shard was read, and the others as they were at the call.
-use Rattle.std.proofs.Common.{◌≡◌, ℕ, Bool, true, false, cond, ◌&&◌, ◌==◌, List, [], ◌∷◌, ◌++◌, length, filter, map, flat_map, Ok, Err, Result, None, sym, refl, ap, subst, ◌∙◌, inl, inr}
-use Rattle.std.specs.Prelude.{Contains, IfOk, IsOk}
+use Rattle.std.proofs.Common.{◌≡◌, ℕ, ◌≤◌, ◌^◌, Bool, true, false, cond, ◌&&◌, ◌==◌, List, [], ◌∷◌, length, filter, map, flat_map, Ok, Err, Result, sym, refl, ap, subst, ◌∙◌, inl, inr}
+use Rattle.std.specs.Prelude.{IfOk, IsOk}
 use Rattle.std.specs.List.{AllByRecursion, AllZip}
 use Rattle.std.proofs.lemmas.Bool.{true≢false, eqb-true}
 use mathlib.Core.List.{IsPrefix}
@@ -8,17 +8,15 @@ use Rattle.vt_value.specs.declared.refusal.Refusal.{Refusal}
 use Rattle.vt_value.specs.Values.{Row}
 use Rattle.keyrange.specs.declared.KeyRange.{KeyRange}
 use Rattle.vschema.specs.declared.schema.Place.{Place}
-use Rattle.vschema.specs.declared.schema.Query.{Query}
 use Rattle.vschema.specs.declared.schema.Table.{Table}
-use Rattle.vschema.specs.Checks.{is_aggregated}
 use Rattle.vschema.specs.Database.{Database, restrict, rows_of, union}
 use Rattle.sql_eval.proofs.ChangeLemmas.{rows-same}
 use Rattle.planner.specs.declared.plans.Plan.{Plan}
 use Rattle.planner.specs.Routes.{table_at, takes}
 use Rattle.planner.specs.Plans as plans
 use Rattle.planner.specs.Plans.{Pieces, routed, piece_of}
-use Rattle.planner.specs.Right.{IsPlaced, HasFewRows, all_rows}
-use Rattle.journal.specs.Views.{PassView, new_pass}
+use Rattle.planner.specs.Right.{IsPlaced, all_rows}
+use Rattle.journal.specs.Views.{PassView}
 use Rattle.shard_run.specs.declared.Shard.{Shard}
 use Rattle.shard_run.specs.declared.Entry.{Entry}
 use Rattle.shard_run.specs.Runs.{Run, Opening, one, mode, held}
@@ -29,10 +27,8 @@ use Rattle.shard.specs.declared.state.Reading.{Reading}
 use Rattle.shard.specs.Shards.{opening_shards, IsReadAt, MayFollow}
 use Rattle.shard.proofs.Legality.{legal_is, part_held}
 use Rattle.journal.specs.Runs.{IsLegal}
-use Rattle.route_engine.specs.declared.reply.ShardRead.{ShardRead}
 use Rattle.route_engine.specs.Mix.{Part, IsBetween, part_rows, mixed_rows}
 use Rattle.route_engine.specs.Answers.{is_needed, IsShardRead}
-use Rattle.route_engine.specs.Served.{Seat}
 use Rattle.route_engine.specs.Scatter.{Asked, Given, asked, IsGiven, rows_in, entries_in, given_rows, given_read, given_looks}
 use Rattle.route_engine.proofs.Needs.{seat_of}
 use Rattle.route_engine.proofs.Moments.{same_answers, few_rows, placed_at}
@@ -43,7 +39,7 @@ read_of P (Ok x) ok h = h
 read_of P (Err e) ok h = cc
 
 module _ (o : Opening) (opens : IsOpening o) (n : ℕ) (p : Plan) (before now : Run) (legal : IsLegal (MayFollow o) before) (later : IsPrefix before now)
-    (added : List (ℕ × ℕ)) (plain : (range : KeyRange) → is_aggregated (piece_of (table_at o.schema n) p range) ≡ false) where
+    (added : List (ℕ × ℕ)) where
   abbrev pub t : Table
   t = table_at o.schema n
 
@@ -52,6 +48,10 @@ module _ (o : Opening) (opens : IsOpening o) (n : ℕ) (p : Plan) (before now : 
 
   abbrev pub shard_of : Part → plans.Shard
   shard_of part = (part.range, part_rows o k part)
+
+  -- where the plan's route takes the shard, its table of this place has at most 2^20 rows
+  abbrev pub IsSmall : plans.Shard → Type 0
+  IsSmall shard = takes t p.route shard.0 ≡ true → length (rows_of shard.1 n) ≤ 2 ^ 20
 
   pub rows_mixed : (parts : List Part) → all_rows (map shard_of parts) ≡ mixed_rows o k parts
   rows_mixed [] = refl
@@ -63,7 +63,7 @@ module _ (o : Opening) (opens : IsOpening o) (n : ℕ) (p : Plan) (before now : 
     pub between : AllByRecursion (IsBetween before now) parts
     pub reads : AllZip (IsShardRead o k added) (filter (λ part. takes t p.route part.range) parts) (map given_read gs)
     pub placed : AllByRecursion (IsPlaced o.schema k n) (map shard_of parts)
-    pub few : AllByRecursion (HasFewRows t p n) (map shard_of parts)
+    pub small : AllByRecursion IsSmall (map shard_of parts)
     pub pieces : Pieces t p (routed t p (map shard_of parts)) (map given_rows gs)
 
   abbrev Asks : Shard → Asked
@@ -76,7 +76,7 @@ module _ (o : Opening) (opens : IsOpening o) (n : ℕ) (p : Plan) (before now : 
     between : IsBetween before now part
     read : IsShardRead o k added part (given_read g)
     placed : IsPlaced o.schema k n (shard_of part)
-    few : HasFewRows t p n (shard_of part)
+    small : IsSmall (shard_of part)
     piece : Rattle.sql_eval.specs.Queries.Allowed (piece_of t p part.range) (part_rows o k part) (given_rows g)
 
   at : (s : Shard) → In s (opening_shards o) → s.place.keyspace ≡ k → (g : Given) → IsGiven o (Asks s) g → IsOk g.outcome → IsPrefix g.pass.seen now
@@ -107,8 +107,8 @@ module _ (o : Opening) (opens : IsOpening o) (n : ℕ) (p : Plan) (before now : 
           entries = read.count ∙ ap (λ (i : ℕ). length (Rattle.shard_run.specs.Runs.entries_on i run)) (sym is.slot);
         };
         placed = placed_at o opens n s.place.range run (legal_is o run is.looked.legal);
-        few = λ taken. few_rows (held o run s) _ n rows read.few;
-        piece = same_answers (piece_of t p s.place.range) (plain s.place.range) _ _ (given_rows g) (rows-same _ _ rows (piece_of t p s.place.range).table) read.allowed;
+        small = λ taken. few_rows (held o run s) _ n rows read.few;
+        piece = same_answers (piece_of t p s.place.range) _ _ (given_rows g) (rows-same _ _ rows (piece_of t p s.place.range).table) read.allowed;
       }
 
   abbrev pub Needs : List Shard → List Asked
@@ -130,7 +130,7 @@ module _ (o : Opening) (opens : IsOpening o) (n : ℕ) (p : Plan) (before now : 
         reads = subst (λ b. AllZip (IsShardRead o k added) (cond b (part ∷ filter (λ part. takes t p.route part.range) rest.parts)
             (filter (λ part. takes t p.route part.range) rest.parts)) (map given_read gs)) (sym off) rest.reads;
         placed = (placed_at o opens n s.place.range before (legal_is o before legal), rest.placed);
-        few = ((λ taken. absurd (true≢false (sym taken ∙ off))), rest.few);
+        small = ((λ taken. absurd (true≢false (sym taken ∙ off))), rest.small);
         pieces = subst (λ b. Pieces t p (cond b (shard_of part ∷ routed t p (map shard_of rest.parts)) (routed t p (map shard_of rest.parts))) (map given_rows gs)) (sym off) rest.pieces;
       }
 
@@ -145,7 +145,7 @@ module _ (o : Opening) (opens : IsOpening o) (n : ℕ) (p : Plan) (before now : 
         reads = subst (λ b. AllZip (IsShardRead o k added) (cond b (a.part ∷ filter (λ part. takes t p.route part.range) rest.parts)
             (filter (λ part. takes t p.route part.range) rest.parts)) (given_read g ∷ map given_read gs)) (sym taken) (a.read, rest.reads);
         placed = (a.placed, rest.placed);
-        few = (a.few, rest.few);
+        small = (a.small, rest.small);
         pieces = subst (λ b. Pieces t p (cond b (shard_of a.part ∷ routed t p (map shard_of rest.parts)) (routed t p (map shard_of rest.parts)))
             (given_rows g ∷ map given_rows gs)) (sym taken) (a.piece, rest.pieces);
       }
@@ -153,7 +153,7 @@ module _ (o : Opening) (opens : IsOpening o) (n : ℕ) (p : Plan) (before now : 
   pub spread : (ss : List Shard) → ((s : Shard) → In s ss → In s (opening_shards o)) → (gs : List Given) → AllZip (IsGiven o) (Needs ss) gs
       → AllByRecursion (λ g. IsPrefix g.pass.seen now) gs → AllByRecursion (λ g. IsOk g.outcome) gs
       → ((look : ℕ × ℕ) → In look (flat_map given_looks gs) → In look added) → Spread (Ranges (Homes ss)) gs
-  spread [] inn [] given seen oks kept = record { parts = []; ranges_are = refl; between = tt; reads = tt; placed = tt; few = tt; pieces = tt }
+  spread [] inn [] given seen oks kept = record { parts = []; ranges_are = refl; between = tt; reads = tt; placed = tt; small = tt; pieces = tt }
   spread [] inn (g ∷ gs) given seen oks kept = absurd given
   spread (s ∷ ss) inn gs given seen oks kept =
       by (spread ss (λ x h. inn x (inr h))) (s.place.keyspace == k) refl (takes t p.route s.place.range) refl gs given seen oks kept

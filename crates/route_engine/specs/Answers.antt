@@ -1,5 +1,5 @@
 -- What executing a text answers, or the refusal for its cause.
-use Rattle.std.specs.Prelude.{◌≡◌, ℕ, ◌+◌, ◌≤◌, ◌^◌, Bool, true, false, not, ◌&&◌, ◌==◌, List, [], ◌∷◌, ◌++◌, length, filter, Contains, Some, Ok, Err}
+use Rattle.std.specs.Prelude.{◌≡◌, ℕ, ◌+◌, ◌≤◌, ◌^◌, Bool, true, false, ◌&&◌, ◌==◌, List, [], ◌∷◌, ◌++◌, length, filter, Contains, Some, Ok, Err}
 use Rattle.std.specs.List.{AllZip}
 use mathlib.Core.List.{IsPrefix}
 use Rattle.vt_value.specs.declared.refusal.Refusal.{Refusal}
@@ -12,7 +12,6 @@ use Rattle.vschema.specs.declared.schema.Query.{Query}
 use Rattle.vschema.specs.declared.schema.Typed.{Typed}
 use Rattle.vschema.specs.declared.schema.Typed.TheVariants as typed
 use Rattle.vschema.specs.declared.changes.Write.{Write}
-use Rattle.vschema.specs.Checks.{is_aggregated}
 use Rattle.vschema.specs.TypedStatement.{typed_statement}
 use Rattle.sql_eval.specs.Queries.{Allowed}
 use Rattle.sql_eval.specs.Writes.{written_table}
@@ -108,17 +107,12 @@ pub record IsReply (o : Opening) (limits : Limits) (p : PassView Entry) (text : 
   pub resolved : typed_statement o.schema statement ≡ Ok typed
   pub gives : Gives o limits p typed reply now
 
--- the statements that are run so far: queries that aren't aggregated, writes and SET NAMES
+-- the statements that are run so far: queries, writes and SET NAMES
 abbrev pub is_run : Typed → Bool
-is_run (typed.Select q) = not (is_aggregated q)
+is_run (typed.Select q) = true
 is_run (typed.Write w) = true
 is_run typed.SetNames = true
 is_run _ = false
-
--- why a query is refused: it isn't run yet, or a growth was refused, before its looks or after some of them
-pub data MaySelectRefuse (o : Opening) (p : PassView Entry) (query : Query) : Refusal → PassView Entry → Type 0 where
-  aggregated : is_aggregated query ≡ true → MaySelectRefuse o p query NotSupported p
-  full : {now : PassView Entry} → HasGone o p now → MaySelectRefuse o p query OutOfMemory now
 
 -- Why a write is refused: a growth was refused; it needs more than one shard; or its one shard refuses it at one look, for want of memory, for
 -- its primary keys, or for a limit.

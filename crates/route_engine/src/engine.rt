@@ -41,7 +41,7 @@ impl<W: World + Send + Sync, J: Naming + Send + Sync, G: Gate> Engine<W, J, G> {
     ghost use Rattle.shard_run.specs.Openings.{IsOpening};
     ghost use Rattle.shard.specs.Shards.{MayFollow, commit_of};
     ghost use Rattle.sql_eval.specs.Writes.{written_table};
-    ghost use Rattle.route_engine.specs.Answers.{counted, HasRead, HasWritten, MaySelectRefuse, MayWriteRefuse, IsReply, IsRefused, IsRefusal};
+    ghost use Rattle.route_engine.specs.Answers.{counted, HasGone, HasRead, HasWritten, MayWriteRefuse, IsReply, IsRefused, IsRefusal};
     ghost use Rattle.route_engine.specs.Served.{opening_seats};
 
     /// An engine that serves the tables of its world's VSchema from all opening shards, in the order of their ranges. The gate stands
@@ -60,10 +60,12 @@ impl<W: World + Send + Sync, J: Naming + Send + Sync, G: Gate> Engine<W, J, G> {
         }
     }
 
-    /// The VSchema that the engine serves.
+    /// The VSchema that the engine serves: well-formed, and that of its world's opening, which is a right one.
     pub fn schema(&self) -> &VSchema
         ensures schema { result.now ≡ self.now }
         ensures opening { self.now ≡ W.opening.schema }
+        ensures opens { IsOpening W.opening }
+        ensures formed { is_vschema W.opening.schema ≡ true }
     {
         &self.schema
     }
@@ -128,11 +130,8 @@ impl<W: World + Send + Sync, J: Naming + Send + Sync, G: Gate> Engine<W, J, G> {
         requires there { query.table < length self.now.tables }
         requires legal { IsLegal (MayFollow W.opening) pass.old.seen }
         ensures ok { IfOk result (λ reply. HasRead W.opening pass.old query reply pass.new) }
-        ensures err { IfErr result (λ r. MaySelectRefuse W.opening pass.old query r pass.new) }
+        ensures err { IfErr result (λ r. (r ≡ Refusal.OutOfMemory) × HasGone W.opening pass.old pass.new) }
     {
-        if query.is_aggregated() {
-            return Err(Refusal::NotSupported);
-        }
         let place = query.table;
         let table = &self.schema.tables.as_slice()[place];
         let items = copy_items(alloc, query.items.as_slice())?;

@@ -1,7 +1,6 @@
 //! The shards that a query needs, read at once in threads of their own.
-ghost use Rattle.std.specs.Prelude.{◌≡◌, false, ℕ, Some, IfOk, IfErr, OnOk, IsTrue, length, map};
+ghost use Rattle.std.specs.Prelude.{◌≡◌, ℕ, Some, IfOk, IfErr, OnOk, IsTrue, length, map};
 ghost use Rattle.std.specs.List.{AllZip, AllByRecursion};
-ghost use Rattle.vschema.specs.Checks.{is_aggregated};
 ghost use Rattle.journal.specs.Runs.{IsLegal};
 ghost use Rattle.shard.specs.Shards.{MayFollow};
 ghost use Rattle.route_engine.specs.Answers.{HasGone};
@@ -80,7 +79,6 @@ fn read_one<W: World, J: Naming, G: Gate>(
     gate: &G,
     job: Job<W, J>,
 ) -> Done<W, J>
-    requires plain { is_aggregated job.query ≡ false }
     ensures { IsGiven W.opening (record { slot = job.entry.slot; query = job.entry.query; pass = job.entry.pass }) (record { slot = result.slot; pass = result.pass; outcome = result.outcome }) }
 {
     let Job {
@@ -107,7 +105,6 @@ pub(crate) fn read_all<
     J: Naming + Send + Sync,
     G: Gate,
 >(rt: &R, alloc: Global, gate: &G, jobs: Vec<Job<W, J>>) -> Result<Vec<Done<W, J>>, Refusal>
-    requires plain { AllByRecursion (λ job. is_aggregated job.query ≡ false) jobs.items }
     ensures ok { IfOk result (λ done. AllZip (λ job d. IsGiven W.opening (record { slot = job.slot; query = job.query; pass = job.pass }) (record { slot = d.slot; pass = d.pass; outcome = d.outcome })) jobs.entry.items done.items) }
     ensures err { IfErr result (λ e. e ≡ Refusal.OutOfMemory) }
 {
@@ -115,7 +112,6 @@ pub(crate) fn read_all<
         rt,
         jobs,
         &|job: Job<W, J>| -> Done<W, J>
-            requires { is_aggregated job.query ≡ false }
             ensures { IsGiven W.opening (record { slot = job.entry.slot; query = job.entry.query; pass = job.entry.pass }) (record { slot = result.slot; pass = result.pass; outcome = result.outcome }) }
         { read_one(rt, alloc, gate, job) },
     )?;

@@ -1,13 +1,15 @@
 ghost use Rattle.std.specs.Prelude.{◌≡◌, ℕ, ◌<◌, List, ◌++◌, IsSome, IfOk, IfSome, length, vec_len};
 ghost use Rattle.std.specs.Io.{ReadsAtMost};
 ghost use Rattle.std.specs.Io.KnownBytes.{Appends, Consumes, IsAtEnd, ReadConsumes};
+ghost use Rattle.route_engine.specs.Alone.{NoOthers};
+ghost use Rattle.session.specs.Alone.{MeansAlone};
 ghost use Rattle.session.specs.Outcomes.{Means, Seen};
 ghost use Rattle.session.specs.Sessions.{HasTalked, HasTalkedOn};
 ghost use Rattle.session.specs.Talk.{Talk, IsByInput};
 
 use crate::devices::{Sink, Source};
 use crate::end::{End, SessionFault};
-use crate::session_core::{COMMAND_LIMIT, Core};
+use crate::session_core::{COMMAND_LIMIT, Core, begins_with};
 use journal::{Naming, Pass};
 use route_engine::{Engine, Gate};
 use shard::{ShardLaw, World};
@@ -82,11 +84,17 @@ pub fn serve<W: World + Send + Sync, J: Naming + Send + Sync, G: Gate, R: Source
     ensures talk { IfOk result (λ end. (read : List ℕ) × (written : List ℕ)
         × Consumes (R.unread source.old) (R.unread source.new) read × Appends (S.taken sink.old) (S.taken sink.new) written
         × Talk COMMAND_LIMIT (Means W.opening W.limits) pass.old read written end pass.new) }
+    // Where no other session came between, it is one over one database, which knows no shards: each outcome is one that its text has
+    // over the rows that the commands before it left.
+    ensures alone { IfOk result (λ end. NoOthers pass.old pass.new → (read : List ℕ) × (written : List ℕ)
+        × Consumes (R.unread source.old) (R.unread source.new) read × Appends (S.taken sink.old) (S.taken sink.new) written
+        × Talk COMMAND_LIMIT (MeansAlone W.opening W.limits) pass.old read written end pass.new) }
     // It ends before the end of the input only by a command or a fault.
     ensures at_end { IfOk result (λ end. IsByInput end → IsAtEnd (R.unread source.new)) }
     // Whatever happened, the pass is still its session's.
     ensures session { pass.new.session ≡ pass.old.session }
 {
+    begins_with(engine, pass);
     let Ok(mut core) = Core::commands(alloc, id, capabilities) else {
         return Err(SessionFault::Memory);
     };

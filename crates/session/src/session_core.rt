@@ -1,6 +1,10 @@
 ghost use Rattle.std.specs.Prelude.{◌≡◌, ℕ, ◌+◌, ◌≤◌, true, false, List, length, IsSome, IfOk, IfErr, OnErr, ◌⊎◌};
 ghost use Rattle.std.specs.Io.KnownBytes.{Appends};
 ghost use Rattle.mysql_packet.specs.declared.framer.Fed.{Fed};
+ghost use Rattle.vschema.specs.WellFormed.{is_vschema};
+ghost use Rattle.journal.specs.Runs.{IsLegal};
+ghost use Rattle.shard_run.specs.Openings.{IsOpening};
+ghost use Rattle.shard.specs.Shards.{MayFollow};
 ghost use Rattle.session.specs.Outcomes.{Means};
 ghost use Rattle.session.specs.Sessions.{AnswersFed, FedBy};
 
@@ -21,6 +25,19 @@ use vt_value::Refusal;
 
 /// The most bytes of a command's payload.
 pub const COMMAND_LIMIT: usize = 1 << 20;
+
+/// What a piece or a conversation begins with: the engine's opening is a right one, and what the pass has seen is legal.
+pub fn begins_with<W: World + Send + Sync, J: Naming + Send + Sync, G: Gate>(
+    engine: &Engine<W, J, G>,
+    pass: &Pass<ShardLaw<W>, J>,
+)
+    ensures opens { IsOpening W.opening }
+    ensures formed { is_vschema W.opening.schema ≡ true }
+    ensures legal { IsLegal (MayFollow W.opening) pass.now.seen }
+{
+    let _ = engine.schema();
+    let _ = pass.session();
+}
 
 /// The replies to a piece of the input.
 fn feed_parts<W: World + Send + Sync, J: Naming + Send + Sync, G: Gate, S: Sink>(
@@ -101,6 +118,8 @@ impl Core {
     ghost use Rattle.std.specs.Io.KnownBytes.{Appends};
     ghost use Rattle.shard_run.specs.Runs.{Opening};
     ghost use Rattle.shard.specs.declared.limits.Limits.{Limits};
+    ghost use Rattle.route_engine.specs.Alone.{NoOthers};
+    ghost use Rattle.session.specs.Alone.{MeansAlone};
     ghost use Rattle.session.specs.Outcomes.{Means, Seen};
     ghost use Rattle.session.specs.Talk.{Talk, IsByCommand};
     ghost use Rattle.session.specs.Sessions.{HasTalked, HasTalkedOn, IsNext};
@@ -170,6 +189,10 @@ impl Core {
         ensures talk { IfOk result (λ end. (first : Seen) (bytes out : List ℕ) → HasTalked (Means W.opening W.limits) self.old first bytes out pass.old →
             (written : List ℕ) × Appends (S.taken sink.old) (S.taken sink.new) written
             × HasTalkedOn (Means W.opening W.limits) self.new first (bytes ++ piece.now) (out ++ written) end pass.new) }
+        // Where no other session comes between, a conversation over one database goes on over it.
+        ensures alone { IfOk result (λ end. (first : Seen) (bytes out : List ℕ) → HasTalked (MeansAlone W.opening W.limits) self.old first bytes out pass.old →
+            NoOthers pass.old pass.new → (written : List ℕ) × Appends (S.taken sink.old) (S.taken sink.new) written
+            × HasTalkedOn (MeansAlone W.opening W.limits) self.new first (bytes ++ piece.now) (out ++ written) end pass.new) }
         ensures ended { IfOk result (λ end. self.new.ended ≡ end) }
         // A piece ends no session as the end of the input does.
         ensures by_command { self.old.ended ≡ None → IfOk result (λ end. IfSome end IsByCommand) }
@@ -182,6 +205,7 @@ impl Core {
         if let Some(end) = self.ended {
             return Ok(Some(end));
         }
+        begins_with(engine, pass);
         let result = feed_parts(
             rt,
             alloc,

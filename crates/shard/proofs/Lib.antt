@@ -3,6 +3,7 @@ pub mod Stores
 pub mod Changes
 pub mod Legality
 pub mod Counts
+pub mod HeldRows
 pub mod Places
 pub mod Commits
 pub mod Steps

@@ -1,6 +1,5 @@
-ghost use Rattle.std.specs.Prelude.{false, ◌≡◌, ℕ, Some, IsSome, IfOk, IfErr, MatchResult, Contains, length};
+ghost use Rattle.std.specs.Prelude.{◌≡◌, ℕ, Some, IsSome, IfOk, IfErr, MatchResult, Contains, length};
 ghost use Rattle.vschema.specs.TypedWrites.{IsTypedWrite};
-ghost use Rattle.vschema.specs.Checks.{is_aggregated};
 ghost use Rattle.shard_run.specs.declared.Shard as which;
 ghost use Rattle.journal.specs.Runs.{NumbersBelow};
 ghost use Rattle.shard.specs.Shards.{commit_of, HasLooked, IsReadAt, opening_shards};
@@ -35,7 +34,6 @@ impl<W: World, J: Naming> Shard<W, J> {
         slot: usize,
         query: &Query,
     ) -> Result<Reading, Refusal>
-        requires plain { is_aggregated query.now ≡ false }
         ensures read { (s : which.Shard) × Contains (opening_shards W.opening) s × (s.slot ≡ slot) × HasLooked W.opening slot pass.old pass.new
             × IfOk result (λ r. IsReadAt W.opening pass.new.seen s query.now r.rows r.entries) }
         ensures err { IfErr result (λ e. e ≡ Refusal.OutOfMemory) }

@@ -1,6 +1,5 @@
-ghost use Rattle.std.specs.Prelude.{false, ◌≡◌, ◌≤◌, ◌^◌, ◌++◌, ◌∷◌, [], ℕ, Some, IsSome, IfOk, IfErr, OnOk, OnErr, Contains, length};
+ghost use Rattle.std.specs.Prelude.{◌≡◌, ◌≤◌, ◌^◌, ◌++◌, ◌∷◌, [], ℕ, Some, IsSome, IfOk, IfErr, OnOk, OnErr, Contains, length};
 ghost use Rattle.vschema.specs.TypedWrites.{IsTypedWrite};
-ghost use Rattle.vschema.specs.Checks.{is_aggregated};
 ghost use Rattle.sql_eval.specs.Queries.{Allowed};
 
 use crate::contents::{Author, Contents};
@@ -101,7 +100,6 @@ impl<W: World, J: Naming> ShardState<W, J> {
         pass: &mut Pass<ShardLaw<W>, J>,
         query: &Query,
     ) -> Result<Reading, Refusal>
-        requires plain { is_aggregated query.now ≡ false }
         ensures seen { IsLater slot_of commit_of (MayFollow W.opening) (seat_of self.old) pass.old self.new.seen }
         ensures rows { IfOk result (λ r. Allowed query.now (held W.opening self.new.seen self.old.shard) r.rows) }
         ensures entries { IfOk result (λ r. r.entries ≡ length (entries_on self.old.shard.slot self.new.seen)) }

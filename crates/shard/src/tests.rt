@@ -14,7 +14,7 @@ use std::process::Abort;
 use std::sync::Wait;
 use std::test::Fail;
 use vschema::{Column, ColumnType, Keyspace, Place, Query, Table, VSchema, Write};
-use vt_value::{Items, Refusal, Value};
+use vt_value::{Items, Refusal, Row, Value};
 
 // At most two rows, and at most four stored entries.
 struct Small;
@@ -210,6 +210,44 @@ fn delete_rows<J: Naming>(
     write(rt, alloc, shard, pass, delete())
 }
 
+// SELECT item FROM t
+fn query(alloc: Global, item: Item<usize>) -> Result<Query, Refusal> {
+    Ok(Query {
+        table: 0,
+        items: one(alloc, item)?,
+        filter: None,
+        group_by: Items::new(alloc),
+        order_by: Items::new(alloc),
+        limit: None,
+    })
+}
+
+// The number of a row that has nothing else.
+fn number_in(row: &Row) -> Option<i128> {
+    match row.as_slice() {
+        [Value::Int(number)] => Some(*number),
+        _ => None,
+    }
+}
+
+// What COUNT(*) gives.
+fn counted<J: Naming>(
+    rt: &impl Wait,
+    alloc: Global,
+    shard: &Shard<Small, J>,
+    pass: &mut Pass<ShardLaw<Small>, J>,
+) -> Result<Option<i128>, Refusal>
+    requires session { IsSome pass.old.session }
+    ensures session { IsSome pass.new.session }
+{
+    let query = query(alloc, Item::CountRows)?;
+    let reading = shard.read(rt, alloc, pass, 0, &query)?;
+    match reading.rows.as_slice() {
+        [row] => Ok(number_in(row)),
+        _ => Ok(None),
+    }
+}
+
 // How many rows the shard has, and how many entries.
 fn counts<J: Naming>(
     rt: &impl Wait,
@@ -220,14 +258,7 @@ fn counts<J: Naming>(
     requires session { IsSome pass.old.session }
     ensures session { IsSome pass.new.session }
 {
-    let query = Query {
-        table: 0,
-        items: one(alloc, Item::Column(0))?,
-        filter: None,
-        group_by: Items::new(alloc),
-        order_by: Items::new(alloc),
-        limit: None,
-    };
+    let query = query(alloc, Item::Column(0))?;
     let reading = shard.read(rt, alloc, pass, 0, &query)?;
     Ok((reading.rows.len(), reading.entries))
 }
@@ -254,9 +285,11 @@ fn writes_in_turn<J: Naming, R: Wait + Abort>(
         Err(Refusal::ShardFull)
     );
     assert_eq!(rt; counts(rt, alloc, &shard, &mut pass)?, (2, 2));
+    assert_eq!(rt; counted(rt, alloc, &shard, &mut pass)?, Some(2));
     assert_eq!(rt; update_rows(rt, alloc, &shard, &mut pass), Ok(2));
     assert_eq!(rt; delete_rows(rt, alloc, &shard, &mut pass), Ok(2));
     assert_eq!(rt; counts(rt, alloc, &shard, &mut pass)?, (0, 4));
+    assert_eq!(rt; counted(rt, alloc, &shard, &mut pass)?, Some(0));
     assert_eq!(rt;
         insert_again(rt, alloc, &shard, &mut pass, 1),
         Err(Refusal::ShardFull)

@@ -4,13 +4,13 @@
 mod lines;
 mod plans;
 mod ranges;
-mod refusals;
 mod rows;
+mod short_lines;
 #[cfg(test)]
 mod tests;
 
 pub use lines::{Line, next_line, read_line};
 pub use plans::plan_line;
 pub use ranges::{MOST_RANGES, read_ranges};
-pub use refusals::{REFUSAL_LINE, refusal_line};
-pub use rows::{put_count, put_rows};
+pub use rows::put_rows;
+pub use short_lines::{SHORT_LINE, count_line, refusal_line};

@@ -3,7 +3,7 @@ ghost use Rattle.std.specs.Prelude.{◌≡◌, ◌<◌, ◌++◌, List, codes, f
 ghost use Rattle.std.specs.Fmt.{decimal};
 ghost use Rattle.keyrange.specs.Names.{hex_digit};
 ghost use Rattle.sql_tree.specs.Printing.{following};
-ghost use Rattle.vtgate_lines.specs.Printed.{is_plain, byte_text, value_text, row_text, line, rows_text, count_text};
+ghost use Rattle.vtgate_lines.specs.Printed.{is_plain, byte_text, value_text, row_text, line, rows_text};
 
 use itoa::Buffer;
 use vt_value::{Refusal, Row, Value};
@@ -113,14 +113,14 @@ fn put_row_lines(out: &mut Vec<u8>, rows: &[Row]) -> Result<(), Refusal>
     Ok(())
 }
 
-// Puts a line of a word and a number.
-fn put_number_line(out: &mut Vec<u8>, word: &[u8], number: u64) -> Result<(), Refusal>
-    ensures ok { OnOk result (out.new.items ≡ out.old.items ++ line (word.now ++ decimal number)) }
+// Puts the line that tells how many rows there are.
+fn put_row_count(out: &mut Vec<u8>, count: u64) -> Result<(), Refusal>
+    ensures ok { OnOk result (out.new.items ≡ out.old.items ++ line (codes "rows " ++ decimal count)) }
     ensures err { IfErr result (λ e. e ≡ Refusal.OutOfMemory) }
 {
     let mut buffer = Buffer::new();
-    put(out, word)?;
-    put(out, buffer.format(number).as_bytes())?;
+    put(out, b"rows ")?;
+    put(out, buffer.format(count).as_bytes())?;
     put(out, b"\n")
 }
 
@@ -132,13 +132,5 @@ pub fn put_rows(out: &mut Vec<u8>, rows: &[Row]) -> Result<(), Refusal>
     ensures err { IfErr result (λ e. e ≡ Refusal.OutOfMemory) }
 {
     put_row_lines(out, rows)?;
-    put_number_line(out, b"rows ", rows.len() as u64)
-}
-
-/// Puts the line of a count, as `ok 1`. Refuses only for want of memory.
-pub fn put_count(out: &mut Vec<u8>, count: u64) -> Result<(), Refusal>
-    ensures ok { OnOk result (out.new.items ≡ out.old.items ++ count_text count) }
-    ensures err { IfErr result (λ e. e ≡ Refusal.OutOfMemory) }
-{
-    put_number_line(out, b"ok ", count)
+    put_row_count(out, rows.len() as u64)
 }

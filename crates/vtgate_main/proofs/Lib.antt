@@ -1,1 +1,6 @@
 pub mod PlanWords
+pub mod Passes
+pub mod Printing
+pub mod Places
+pub mod Scripts
+pub mod Fits

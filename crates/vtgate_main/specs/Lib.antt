@@ -1,2 +1,4 @@
 pub mod Words
 pub mod Planned
+pub mod Scripted
+pub mod UnderWay

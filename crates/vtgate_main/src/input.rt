@@ -2,22 +2,19 @@
 ghost use Rattle.std.specs.Prelude.{◌≡◌, ℕ, ◌<◌, List, ◌++◌, false, length, vec_len, IfOk};
 ghost use Rattle.std.specs.Io.KnownBytes.{Consumes, IsAtEnd};
 
+use crate::fault::Fault;
 use session::Source;
 use std::alloc::Global;
 
 /// How many bytes are asked of an input at once.
 const PIECE: usize = 1 << 16;
 
-/// An input could not be read, or there is no memory for it.
-#[derive(Clone, Copy, Debug)]
-pub struct Unread;
-
-fn zeroed(alloc: Global) -> Result<Vec<u8>, Unread>
+fn zeroed(alloc: Global) -> Result<Vec<u8>, Fault>
     ensures { IfOk result (λ bytes. vec_len bytes ≡ PIECE) }
 {
     match vec![in alloc; 0u8; PIECE] {
         Ok(bytes) => Ok(bytes),
-        Err(_) => Err(Unread),
+        Err(_) => Err(Fault::OutOfMemory),
     }
 }
 
@@ -26,7 +23,7 @@ fn read_piece<I: Source>(
     input: &mut I,
     buffer: &mut [u8],
     bytes: &mut Vec<u8>,
-) -> Result<bool, Unread>
+) -> Result<bool, Fault>
     requires room { 0 < length buffer.old }
     ensures len { length buffer.new ≡ length buffer.old }
     ensures read { IfOk result (λ more. (piece : List ℕ) × Consumes (I.unread input.old) (I.unread input.new) piece
@@ -34,16 +31,16 @@ fn read_piece<I: Source>(
     ensures end { IfOk result (λ more. more ≡ false → IsAtEnd (I.unread input.new)) }
 {
     let Ok(n) = input.read(buffer) else {
-        return Err(Unread);
+        return Err(Fault::Failed);
     };
     match bytes.extend_from_slice(&buffer[..n]) {
         Ok(()) => Ok(n > 0),
-        Err(_) => Err(Unread),
+        Err(_) => Err(Fault::OutOfMemory),
     }
 }
 
-/// All that is left of the input. An input that gave 2^64 - 1 pieces counts as unread.
-pub fn read_all<I: Source>(alloc: Global, input: &mut I) -> Result<Vec<u8>, Unread>
+/// All that is left of the input. An input that gave 2^64 - 1 pieces counts as failed.
+pub fn read_all<I: Source>(alloc: Global, input: &mut I) -> Result<Vec<u8>, Fault>
     ensures read { IfOk result (λ bytes. Consumes (I.unread input.old) (I.unread input.new) bytes.items) }
     ensures end { IfOk result (λ bytes. IsAtEnd (I.unread input.new)) }
 {
@@ -54,5 +51,5 @@ pub fn read_all<I: Source>(alloc: Global, input: &mut I) -> Result<Vec<u8>, Unre
             return Ok(bytes);
         }
     }
-    Err(Unread)
+    Err(Fault::Failed)
 }

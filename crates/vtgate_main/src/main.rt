@@ -1,11 +1,17 @@
 //! The router's program.
 #![tactic(auto)]
 
+mod fault;
 mod input;
 mod plan;
 #[cfg(test)]
 mod plan_tests;
 mod run;
+mod script;
+#[cfg(test)]
+mod script_tests;
+mod sessions;
+mod setup;
 #[cfg(test)]
 mod tests;
 

@@ -10,10 +10,12 @@ ghost use Rattle.session.specs.Outcomes.{Seen};
 ghost use Rattle.first_world.specs.First.{first_opening};
 ghost use Rattle.keyrange.specs.declared.KeyRange.{KeyRange};
 ghost use Rattle.vtgate_lines.specs.Partitions.{IsPartition};
-ghost use Rattle.vtgate_main.specs.Words.{is_first, is_plan};
+ghost use Rattle.vtgate_main.specs.Words.{is_first, is_plan, is_script};
 ghost use Rattle.vtgate_main.specs.Planned.{HasPlanned};
+ghost use Rattle.vtgate_main.specs.Scripted.{HasScripted};
 
 use crate::plan::run_plan;
+use crate::script::run_script;
 use first_world::{First, first_router};
 use journal::{Naming, Opened};
 use session::{COMMAND_LIMIT, End, Sink, Source, serve};
@@ -37,6 +39,9 @@ pub const USAGE: &[u8] = b"usage: vtgate serve|plan|script\n";
 
 /// What a run says that failed.
 pub const FAILED: &[u8] = b"failed\n";
+
+/// What a script says that has no memory.
+pub const OUT_OF_MEMORY: &[u8] = b"out of memory\n";
 
 /// A run could not do its work.
 #[derive(Clone, Copy)]
@@ -64,6 +69,17 @@ fn plan_words(words: &[String]) -> Option<(&str, &[u8])>
 {
     match words {
         [word, shards, sql] if is_word(word, b"plan") => Some((shards.as_str(), sql.as_bytes())),
+        _ => None,
+    }
+}
+
+// The word of the shards.
+fn script_words(words: &[String]) -> Option<&str>
+    ensures found { IfSome result (λ shards. map string_bytes words.now ≡ codes "script" ∷ shards.now ∷ []) }
+    ensures none { IfNone result (is_script (map string_bytes words.now) ≡ false) }
+{
+    match words {
+        [word, shards] if is_word(word, b"script") => Some(shards.as_str()),
         _ => None,
     }
 }
@@ -133,8 +149,9 @@ fn run_first<I: Source, O: Sink, E: Sink>(
 /// Runs the program with the words of its command line, and gives its exit status. `first` reads the bytes of a client's
 /// command phase from the input and writes the replies to the output, over the first tables: 0, or 1 where a device fails or there
 /// is no memory. `plan`, with the word of the shards and a statement, prints the line of the statement's plan under the VSchema
-/// that the whole input declares: 0, or 1 where the statement is refused, whose line is printed, or as for `first`. Any other words
-/// are wrong: the usage is told, and the status is 2. A VSchema's fault is told too, and the status is 2.
+/// that the whole input declares: 0, or 1 where the statement is refused, whose line is printed, or as for `first`. `script`, with the
+/// word of the shards, runs the lines behind the first, which declares the VSchema: 0, or 1 as for `first`. Any other words are wrong: the
+/// usage is told, and the status is 2. A VSchema's fault is told too, and the status is 2.
 pub fn run<I: Source, O: Sink, E: Sink>(
     rt: &(impl Threads + Wait + Sync),
     alloc: Global,
@@ -153,15 +170,22 @@ pub fn run<I: Source, O: Sink, E: Sink>(
     // The word of the shards is tested before the input is read.
     ensures untouched { (shards sql : List ℕ) → map string_bytes words.now ≡ codes "plan" ∷ shards ∷ sql ∷ []
         → ((ranges : List KeyRange) → IsPartition shards ranges → ⊥) → (result ≢ SUCCESS) × (input.new ≡ input.old) }
-    ensures wrong { is_first (map string_bytes words.now) ≡ false → is_plan (map string_bytes words.now) ≡ false →
-        (result ≡ WRONG_WORDS) × (input.new ≡ input.old) × (output.new ≡ output.old) }
+    ensures script { (shards : List ℕ) → map string_bytes words.now ≡ codes "script" ∷ shards ∷ [] → result ≡ SUCCESS
+        → HasScripted shards (I.unread input.old) (I.unread input.new) (O.taken output.old) (O.taken output.new) }
+    ensures unread { (shards : List ℕ) → map string_bytes words.now ≡ codes "script" ∷ shards ∷ []
+        → ((ranges : List KeyRange) → IsPartition shards ranges → ⊥) → (result ≢ SUCCESS) × (input.new ≡ input.old) }
+    ensures wrong { is_first (map string_bytes words.now) ≡ false → is_plan (map string_bytes words.now) ≡ false
+        → is_script (map string_bytes words.now) ≡ false → (result ≡ WRONG_WORDS) × (input.new ≡ input.old) × (output.new ≡ output.old) }
 {
     if is_first(words) {
         return run_first(rt, alloc, input, output, errors);
     }
-    let Some((shards, sql)) = plan_words(words) else {
+    if let Some((shards, sql)) = plan_words(words) {
+        return run_plan(alloc, shards, sql, input, output, errors);
+    }
+    let Some(shards) = script_words(words) else {
         let _ = errors.write(USAGE);
         return WRONG_WORDS;
     };
-    run_plan(alloc, shards, sql, input, output, errors)
+    run_script(rt, alloc, shards, input, output, errors)
 }

@@ -1,6 +1,6 @@
 ghost use Rattle.std.specs.Prelude.{◌≡◌};
 
-mod pieces;
+pub(crate) mod pieces;
 mod threads;
 
 use crate::run::run;
@@ -34,6 +34,28 @@ const TWO_COLUMNS: &[u8] = b"\x01\x00\x00\x01\x02\
     \x1e\x00\x00\x03\x03def\x04shop\x01t\x01t\x01c\x01c\x0c\x3f\x00\x14\x00\x00\x00\x08\xa0\x00\x00\x00\x00\
     \x05\x00\x00\x04\xfe\x00\x00\x02\x00\
     \x04\x00\x00\x05\x015\x019\
+    \x05\x00\x00\x06\xfe\x00\x00\x02\x00";
+
+/// The reply to `SELECT COUNT(*) FROM t`.
+const COUNTED: &[u8] = b"\x01\x00\x00\x01\x01\
+    \x1e\x00\x00\x02\x03def\x00\x00\x00\x08COUNT(*)\x00\x0c\x3f\x00\x15\x00\x00\x00\x08\x81\x00\x00\x00\x00\
+    \x05\x00\x00\x03\xfe\x00\x00\x02\x00\
+    \x02\x00\x00\x04\x016\
+    \x05\x00\x00\x05\xfe\x00\x00\x02\x00";
+
+/// The reply to `SELECT SUM(c) FROM t WHERE id > 700`: the sum of no rows is NULL.
+const NO_SUM: &[u8] = b"\x01\x00\x00\x01\x01\
+    \x1c\x00\x00\x02\x03def\x00\x00\x00\x06SUM(c)\x00\x0c\x3f\x00\x29\x00\x00\x00\xf6\x80\x00\x00\x00\x00\
+    \x05\x00\x00\x03\xfe\x00\x00\x02\x00\
+    \x01\x00\x00\x04\xfb\
+    \x05\x00\x00\x05\xfe\x00\x00\x02\x00";
+
+/// The reply to `SELECT c, MAX(id) FROM t WHERE id = 5 GROUP BY c ORDER BY c`.
+const GREATEST: &[u8] = b"\x01\x00\x00\x01\x02\
+    \x1e\x00\x00\x02\x03def\x04shop\x01t\x01t\x01c\x01c\x0c\x3f\x00\x14\x00\x00\x00\x08\xa0\x00\x00\x00\x00\
+    \x1d\x00\x00\x03\x03def\x00\x00\x00\x07MAX(id)\x00\x0c\x3f\x00\x14\x00\x00\x00\x08\xa0\x00\x00\x00\x00\
+    \x05\x00\x00\x04\xfe\x00\x00\x02\x00\
+    \x04\x00\x00\x05\x019\x015\
     \x05\x00\x00\x06\xfe\x00\x00\x02\x00";
 
 const SYNTAX_ERROR: &[u8] = b"\x15\x00\x00\x01\xff\x28\x04#42000syntax error";
@@ -91,7 +113,7 @@ fn talk(
 }
 
 /// Texts of queries, and their replies.
-const QUERIES: [(&[u8], &[u8]); 20] = [
+const QUERIES: [(&[u8], &[u8]); 22] = [
     (b"SELECT id FROM t WHERE id = 5", ONE_COLUMN),
     (b"SELECT * FROM t WHERE id = 5", TWO_COLUMNS),
     (b"select  id , c\tfrom`t`where`id`=5", TWO_COLUMNS),
@@ -116,7 +138,12 @@ const QUERIES: [(&[u8], &[u8]); 20] = [
     (b"SELECT zz FROM t", NO_SUCH_COLUMN),
     (b"SELECT * FROM t WHERE zz = 5", NO_SUCH_COLUMN),
     (b"SELECT id FROM t ORDER BY zz", NO_SUCH_COLUMN),
-    (b"SELECT COUNT(*) FROM t", NOT_SUPPORTED),
+    (b"SELECT COUNT(*) FROM t", COUNTED),
+    (b"SELECT SUM(c) FROM t WHERE id > 700", NO_SUM),
+    (
+        b"SELECT c, MAX(id) FROM t WHERE id = 5 GROUP BY c ORDER BY c",
+        GREATEST,
+    ),
     (b"BEGIN", NOT_SUPPORTED),
 ];
 
@@ -301,16 +328,28 @@ fn the_program_tells_its_usage(rt: HostRuntime) -> Result<(), Fail> {
     tells_its_usage(&rt, alloc, words.as_slice())
 }
 
+/// Runs `first` on the input, and expects these replies.
+fn serves_first<R: Abort + Threads + Wait + Sync>(
+    rt: &R,
+    alloc: Global,
+    input: &[u8],
+    replies: &[u8],
+) -> Result<(), Fail> {
+    let words = vec![in alloc; String::from_str(alloc, "first")?]?;
+    let mut input = Reader(input);
+    let mut output = Writer(Vec::new(alloc));
+    let mut errors = Writer(Vec::new(alloc));
+    let status = run(rt, alloc, &words, &mut input, &mut output, &mut errors);
+    assert_eq!(rt; status, 0);
+    assert_eq!(rt; output.0.as_slice(), replies);
+    assert_eq!(rt; errors.0.as_slice(), b"".as_slice());
+    Ok(())
+}
+
 #[test]
 fn the_program_serves_the_first_tables(rt: HostRuntime) -> Result<(), Fail> {
     let alloc = rt.alloc();
-    let words = vec![in alloc; String::from_str(alloc, "first")?]?;
-    let mut input = Reader(PING);
-    let mut output = Writer(Vec::new(alloc));
-    let mut errors = Writer(Vec::new(alloc));
-    let status = run(&rt, alloc, &words, &mut input, &mut output, &mut errors);
-    assert_eq!(rt; status, 0);
-    assert_eq!(rt; output.0.as_slice(), PONG);
-    assert_eq!(rt; errors.0.as_slice(), b"".as_slice());
-    Ok(())
+    serves_first(&rt, alloc, PING, PONG)?;
+    let packet = query(alloc, b"SELECT * FROM t WHERE id = 5")?;
+    serves_first(&rt, alloc, &packet, TWO_COLUMNS)
 }

@@ -88,7 +88,7 @@ fn pieces_of_one_byte_give_the_same_replies(rt: HostRuntime) -> Result<(), Fail>
 
 /// A source that fails once its bytes are read.
 #[derive(Drop)]
-struct FailingSource<'a>(&'a [u8]);
+pub(crate) struct FailingSource<'a>(pub(crate) &'a [u8]);
 
 impl Source for FailingSource<'_> {
     ghost unread = { λ _. None };
@@ -107,8 +107,8 @@ impl Source for FailingSource<'_> {
 
 /// A sink that fails from some write on.
 #[derive(Drop)]
-struct FailingSink {
-    writes_left: u32,
+pub(crate) struct FailingSink {
+    pub(crate) writes_left: u32,
 }
 
 impl Sink for FailingSink {

@@ -1,5 +1,6 @@
 use Rattle.std.proofs.Common.{[], refl, ◌∙◌}
 use Rattle.std.proofs.KnownBytes.{Appends-nil, Consumes-nil}
+use Rattle.session.proofs.Alone.{served_alone}
 use Rattle.session.proofs.Conversations.{one_more, still_goes_on, has_ended}
 use Rattle.session.proofs.serving.serve.Goals as goal
 
@@ -7,6 +8,12 @@ pub returns-in-Some-clause-talk : goal.returns-in-Some-clause-talk
 returns-in-Some-clause-talk g c =
     has_ended _ _ _ c.serve_piece.new.core _ _ _ _ _ c.in_ok-end.field-0 c.in-Some.end c.in-Some.is (c.in_ok-end.ensures.limit ∙ c.loop.invariant.limit)
     (one_more _ _ _ _ c.loop.core c.serve_piece.new.core _ _ _ _ _ _ c.in_ok-end.field-0 c.loop.invariant.talked c.in_ok-end.ensures.talk)
+
+pub returns-in-Some-clause-alone : goal.returns-in-Some-clause-alone
+returns-in-Some-clause-alone g c =
+    served_alone g.W.World.opening g.W.World.limits c.begins_with.ensures.opens c.begins_with.ensures.formed _ _ _ c.in-Some.end _ _ _ _ c.begins_with.ensures.legal
+    (has_ended _ _ _ c.serve_piece.new.core _ _ _ _ _ c.in_ok-end.field-0 c.in-Some.end c.in-Some.is (c.in_ok-end.ensures.limit ∙ c.loop.invariant.limit)
+    (one_more _ _ _ _ c.loop.core c.serve_piece.new.core _ _ _ _ _ _ c.in_ok-end.field-0 c.loop.invariant.talked c.in_ok-end.ensures.talk))
 
 pub loop-preserved : goal.loop-preserved
 loop-preserved g c = record {

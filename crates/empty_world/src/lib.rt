@@ -1,0 +1,9 @@
+//! The router over any VSchema and key ranges, without rows: a shard for the unsharded keyspace and one for each range of the sharded
+//! one.
+#![tactic(auto)]
+
+mod router;
+#[cfg(test)]
+mod tests;
+
+pub use router::empty_router;

@@ -1,0 +1,118 @@
+ghost use Rattle.std.specs.Prelude.{◌≡◌, IsTrue, IfOk};
+ghost use Rattle.std.specs.List.{AllByRecursion};
+ghost use Rattle.keyrange.specs.Names.{IsNamed};
+ghost use Rattle.vschema.specs.WellFormed.{is_vschema};
+ghost use Rattle.shard.specs.Shards.{most_limits};
+ghost use Rattle.empty_opening.specs.Empty.{opening_of, FitRanges};
+
+mod gates;
+
+use crate::empty_router;
+use empty_opening::opening_shards;
+use journal::{Naming, Opened};
+use keyrange::{KeyRange, covers_once};
+use route_engine::{Answer, Open, Reply};
+use shard::{ShardLaw, World};
+use std::alloc::Global;
+use std::marker::Brand;
+use std::process::Abort;
+use std::sync::Wait;
+use std::test::Fail;
+use std::thread::Threads;
+use vschema::VSchema;
+use vt_value::{Refusal, Value};
+
+// The sharded keyspace `shop` with the table t.
+const SHOP: &str =
+    r#"{"keyspaces":{"shop":{"sharded":true,"vindexes":{"rev":{"type":"reverse_bits"}},"tables":{"t":{"columns":[{"name":"id","type":"BIGINT UNSIGNED"},{"name":"c","type":"BIGINT UNSIGNED","null":true}],"primary_key":["id"],"column_vindexes":[{"column":"id","name":"rev"}]}}}}}"#;
+
+fn halves() -> Result<[KeyRange; 2], Fail>
+    ensures { IfOk result (λ ranges. AllByRecursion IsNamed ranges) }
+{
+    let low = KeyRange::read("-80").ok_or("no range")?;
+    let high = KeyRange::read("80-").ok_or("no range")?;
+    Ok([low, high])
+}
+
+// Whether the ranges hold each keyspace id once and the shards fit into 64 slots.
+fn fits(alloc: Global, schema: &VSchema, ranges: &[KeyRange]) -> Result<bool, Refusal>
+    requires { AllByRecursion IsNamed ranges.now }
+    ensures { IfOk result (λ b. IsTrue b → FitRanges schema.now ranges.now) }
+{
+    let shards = opening_shards(alloc, schema, ranges)?;
+    Ok(shards.len() <= 64 && covers_once(ranges))
+}
+
+fn insert_and_select<
+    W: World + Send + Sync,
+    J: Naming + Send + Sync,
+    R: Threads + Wait + Sync + Abort,
+>(
+    rt: &R,
+    alloc: Global,
+    schema: VSchema,
+    ranges: &[KeyRange],
+    opened: Opened<ShardLaw<W>>,
+) -> Result<(), Fail>
+    requires name { opened ≡ J.table }
+    requires opening { W.opening ≡ opening_of schema ranges.now }
+    requires limits { W.limits ≡ most_limits }
+    requires schema { IsTrue (is_vschema schema) }
+    requires ranges { FitRanges schema ranges.now }
+{
+    let (engine, mut opener, mut first) = empty_router::<W, J, Open>(
+        alloc, schema, ranges, opened, Open,
+    )?;
+    let mut pass = opener.open(&mut first)?;
+    let Reply { answer, .. } = engine.execute(
+        rt,
+        alloc,
+        &mut pass,
+        b"INSERT INTO t (id, c) VALUES (2, 7)",
+    )?;
+    let Answer::Count(count) = answer else {
+        return Err(Fail::new("no count"));
+    };
+    assert_eq!(rt; count, 1);
+    let Reply { answer, .. } = engine.execute(
+        rt,
+        alloc,
+        &mut pass,
+        b"SELECT c FROM t WHERE id = 2",
+    )?;
+    let Answer::Rows(selected) = answer else {
+        return Err(Fail::new("no rows"));
+    };
+    let [row] = selected.rows.as_slice() else {
+        return Err(Fail::new("other rows"));
+    };
+    assert!(rt; matches!(row.as_slice(), [Value::Int(7)]));
+    Ok(())
+}
+
+// The same in the world that has this VSchema and these ranges, and no rows.
+fn in_empty_world<W: World + Send + Sync, R: Threads + Wait + Sync + Abort>(
+    rt: &R,
+    alloc: Global,
+    schema: VSchema,
+    ranges: &[KeyRange],
+) -> Result<(), Fail>
+    requires opening { W.opening ≡ opening_of schema ranges.now }
+    requires limits { W.limits ≡ most_limits }
+    requires schema { IsTrue (is_vschema schema) }
+    requires ranges { FitRanges schema ranges.now }
+{
+    let opened = Opened::<ShardLaw<W>>::new(alloc)?;
+    insert_and_select::<W, Brand, R>(rt, alloc, schema, ranges, opened)
+}
+
+#[test]
+fn a_row_is_inserted_and_found(rt: HostRuntime) -> Result<(), Fail> {
+    let alloc = rt.alloc();
+    let schema = VSchema::read(alloc, SHOP)?;
+    let ranges = halves()?;
+    if !fits(alloc, &schema, &ranges)? {
+        return Err(Fail::new("no opening"));
+    }
+    in_empty_world::<Brand, HostRuntime>(&rt, alloc, schema, &ranges)
+}

@@ -1,0 +1,313 @@
+//! Reads of two shards that a gate holds: a scatter's reads are made at once, and no lock but a shard's own is held over a statement.
+ghost use denote.Param.Send.{IsSend, IsSync};
+ghost use Rattle.std.specs.Prelude.{◌≡◌, IsSome, IsTrue, IfOk};
+ghost use Rattle.vschema.specs.WellFormed.{is_vschema};
+ghost use Rattle.shard.specs.Shards.{most_limits};
+ghost use Rattle.empty_opening.specs.Empty.{opening_of, FitRanges};
+
+use super::{SHOP, fits, halves};
+use crate::empty_router;
+use journal::{Naming, Opened, Pass};
+use keyrange::KeyRange;
+use route_engine::{Answer, Engine, Gate, Reply};
+use shard::{ShardLaw, World};
+use std::alloc::Global;
+use std::hint::spin_loop;
+use std::marker::Brand;
+use std::sync::atomic::{AtomicU64, Ordering};
+use std::sync::{Arc, Wait};
+use std::test::Fail;
+use std::thread::{Threads, join};
+use vschema::VSchema;
+use vt_value::Refusal;
+
+/// Three rows of the first shard, and three of the second.
+const EVEN_ROWS: &[u8] = b"INSERT INTO t (id, c) VALUES (2, NULL), (4, 7), (6, 1)";
+
+const ODD_ROWS: &[u8] = b"INSERT INTO t (id, c) VALUES (1, NULL), (3, 7), (5, 9)";
+
+/// How often a gate looks whether it may let a read go.
+const TURNS: u32 = 1_000_000;
+
+/// What a gate and a test tell one another.
+#[derive(Drop)]
+struct Signals {
+    /// A read of place 0 is held.
+    held: AtomicU64,
+    /// It may go on.
+    let_go: AtomicU64,
+    /// It went on without that.
+    in_vain: AtomicU64,
+}
+
+fn is_given(signal: &AtomicU64) -> bool {
+    signal.load(Ordering::SeqCst) > 0
+}
+
+fn give(signal: &AtomicU64) {
+    signal.store(1, Ordering::SeqCst);
+}
+
+// Waits for a signal, at most so many turns.
+fn wait_for(signal: &AtomicU64) -> bool {
+    for _ in 0..TURNS {
+        if is_given(signal) {
+            return true;
+        }
+        for _ in 0..100 {
+            spin_loop();
+        }
+    }
+    false
+}
+
+/// Holds the first read of place 0 until it is let go: by the answer of place 1, or by the test alone.
+#[derive(Drop)]
+struct HoldsFirst {
+    signals: Arc<Signals, Global>,
+    by_place_1: bool,
+}
+
+impl Gate for HoldsFirst {
+    fn before(&self, place: usize) {
+        if place == 0 && !is_given(&self.signals.held) {
+            give(&self.signals.held);
+            if !wait_for(&self.signals.let_go) {
+                give(&self.signals.in_vain);
+            }
+        }
+    }
+
+    fn after(&self, place: usize) {
+        if place == 1 && self.by_place_1 {
+            give(&self.signals.let_go);
+        }
+    }
+}
+
+fn no_signals(alloc: Global) -> Result<Arc<Signals, Global>, Fail> {
+    Ok(Arc::new(
+        alloc,
+        Signals {
+            held: AtomicU64::new(0),
+            let_go: AtomicU64::new(0),
+            in_vain: AtomicU64::new(0),
+        },
+    )?)
+}
+
+// How many rows a statement gave or changed.
+fn told<W: World + Send + Sync, J: Naming + Send + Sync, G: Gate>(
+    rt: &(impl Threads + Wait + Sync),
+    alloc: Global,
+    engine: &Engine<W, J, G>,
+    pass: &mut Pass<ShardLaw<W>, J>,
+    text: &[u8],
+) -> Result<u64, Refusal>
+    requires { IsSome pass.old.session }
+    ensures { pass.new.session ≡ pass.old.session }
+{
+    let Reply { answer, .. } = engine.execute(rt, alloc, pass, text)?;
+    match answer {
+        Answer::Rows(selected) => Ok(selected.rows.len() as u64),
+        Answer::Count(count) => Ok(count),
+    }
+}
+
+// The engine over the two halves, with the six rows, and two sessions.
+fn loaded<W: World + Send + Sync, J: Naming + Send + Sync, G: Gate>(
+    rt: &(impl Threads + Wait + Sync),
+    alloc: Global,
+    schema: VSchema,
+    ranges: &[KeyRange],
+    opened: Opened<ShardLaw<W>>,
+    gate: G,
+) -> Result<(Engine<W, J, G>, Pass<ShardLaw<W>, J>, Pass<ShardLaw<W>, J>), Refusal>
+    requires opened { opened ≡ J.table }
+    requires opening { W.opening ≡ opening_of schema ranges.now }
+    requires limits { W.limits ≡ most_limits }
+    requires formed { IsTrue (is_vschema schema) }
+    requires fit { FitRanges schema ranges.now }
+    ensures one { IfOk result (λ r. IsSome r.1.session) }
+    ensures other { IfOk result (λ r. IsSome r.2.session) }
+{
+    let (engine, mut opener, mut first) = empty_router::<W, J, G>(
+        alloc, schema, ranges, opened, gate,
+    )?;
+    let mut one = opener.open(&mut first)?;
+    let other = opener.open(&mut first)?;
+    told(rt, alloc, &engine, &mut one, EVEN_ROWS)?;
+    told(rt, alloc, &engine, &mut one, ODD_ROWS)?;
+    Ok((engine, one, other))
+}
+
+// A query of all rows, of which the read of the first shard is held until that of the second was answered.
+fn scatter<W: World + Send + Sync, J: Naming + Send + Sync>(
+    rt: &(impl Threads + Wait + Sync),
+    alloc: Global,
+    schema: VSchema,
+    ranges: &[KeyRange],
+    opened: Opened<ShardLaw<W>>,
+    signals: &Arc<Signals, Global>,
+) -> Result<u64, Refusal>
+    requires opened { opened ≡ J.table }
+    requires opening { W.opening ≡ opening_of schema ranges.now }
+    requires limits { W.limits ≡ most_limits }
+    requires formed { IsTrue (is_vschema schema) }
+    requires fit { FitRanges schema ranges.now }
+{
+    let gate = HoldsFirst {
+        signals: Arc::try_clone(signals)?,
+        by_place_1: true,
+    };
+    let (engine, mut one, _other) = loaded::<W, J, HoldsFirst>(
+        rt, alloc, schema, ranges, opened, gate,
+    )?;
+    told(rt, alloc, &engine, &mut one, b"SELECT id FROM t")
+}
+
+// The same in the world that has this VSchema and these ranges, and no rows.
+fn scatter_in_empty_world<W: World + Send + Sync>(
+    rt: &(impl Threads + Wait + Sync),
+    alloc: Global,
+    schema: VSchema,
+    ranges: &[KeyRange],
+    signals: &Arc<Signals, Global>,
+) -> Result<u64, Refusal>
+    requires opening { W.opening ≡ opening_of schema ranges.now }
+    requires limits { W.limits ≡ most_limits }
+    requires formed { IsTrue (is_vschema schema) }
+    requires fit { FitRanges schema ranges.now }
+{
+    let opened = Opened::<ShardLaw<W>>::new(alloc)?;
+    scatter::<W, Brand>(rt, alloc, schema, ranges, opened, signals)
+}
+
+#[test]
+fn a_scatter_reads_its_shards_at_once(rt: HostRuntime) -> Result<(), Fail> {
+    let alloc = rt.alloc();
+    let schema = VSchema::read(alloc, SHOP)?;
+    let ranges = halves()?;
+    if !fits(alloc, &schema, &ranges)? {
+        return Err(Fail::new("no opening"));
+    }
+    let signals = no_signals(alloc)?;
+    let rows = scatter_in_empty_world::<Brand>(&rt, alloc, schema, &ranges, &signals)?;
+    assert_eq!(rt; rows, 6);
+    assert_eq!(rt; is_given(&signals.held), true);
+    assert_eq!(rt; is_given(&signals.in_vain), false);
+    Ok(())
+}
+
+// Once a read of the first shard is held: a read and a write of the second, after which the held one may go on.
+fn work_meanwhile<W: World + Send + Sync, J: Naming + Send + Sync>(
+    rt: &(impl Threads + Wait + Sync),
+    alloc: Global,
+    engine: &Engine<W, J, HoldsFirst>,
+    mut pass: Pass<ShardLaw<W>, J>,
+    signals: &Signals,
+) -> Result<[u64; 2], Refusal>
+    requires { IsSome pass.session }
+{
+    let _ = wait_for(&signals.held);
+    let read = told(
+        rt,
+        alloc,
+        engine,
+        &mut pass,
+        b"SELECT c FROM t WHERE id = 1",
+    )?;
+    let written = told(
+        rt,
+        alloc,
+        engine,
+        &mut pass,
+        b"INSERT INTO t (id, c) VALUES (7, 1)",
+    )?;
+    give(&signals.let_go);
+    Ok([read, written])
+}
+
+// A session's query of all rows.
+fn read_rows<W: World + Send + Sync, J: Naming + Send + Sync>(
+    rt: &(impl Threads + Wait + Sync),
+    alloc: Global,
+    engine: &Engine<W, J, HoldsFirst>,
+    mut pass: Pass<ShardLaw<W>, J>,
+) -> Result<u64, Refusal>
+    requires { IsSome pass.session }
+{
+    told(rt, alloc, engine, &mut pass, b"SELECT id FROM t")
+}
+
+// While one session's query of all rows is held at the first shard, another session reads and writes the second, in a thread of its
+// own.
+fn beside<W: World + Send + Sync, J: Naming + Send + Sync, R: Threads + Wait + Sync>(
+    rt: &R,
+    alloc: Global,
+    schema: VSchema,
+    ranges: &[KeyRange],
+    opened: Opened<ShardLaw<W>>,
+    signals: &Arc<Signals, Global>,
+) -> Result<(u64, [u64; 2]), Refusal>
+    requires opened { opened ≡ J.table }
+    requires opening { W.opening ≡ opening_of schema ranges.now }
+    requires limits { W.limits ≡ most_limits }
+    requires formed { IsTrue (is_vschema schema) }
+    requires fit { FitRanges schema ranges.now }
+{
+    let gate = HoldsFirst {
+        signals: Arc::try_clone(signals)?,
+        by_place_1: false,
+    };
+    let (engine, one, other) = loaded::<W, J, HoldsFirst>(rt, alloc, schema, ranges, opened, gate)?;
+    let shared = &engine;
+    let given: &Signals = signals;
+    let (held, told) = join(
+        rt,
+        move || -> Result<u64, Refusal>
+            requires { IsSync R.row × IsSend W.row × IsSync W.row × IsSend J.row × IsSync J.row × IsSome one.session }
+        { read_rows(rt, alloc, shared, one) },
+        move || -> Result<[u64; 2], Refusal>
+            requires { IsSync R.row × IsSend W.row × IsSync W.row × IsSend J.row × IsSync J.row × IsSome other.session }
+        { work_meanwhile(rt, alloc, shared, other, given) },
+    );
+    Ok((held?, told?))
+}
+
+// The same in the world that has this VSchema and these ranges, and no rows.
+fn beside_in_empty_world<W: World + Send + Sync, R: Threads + Wait + Sync>(
+    rt: &R,
+    alloc: Global,
+    schema: VSchema,
+    ranges: &[KeyRange],
+    signals: &Arc<Signals, Global>,
+) -> Result<(u64, [u64; 2]), Refusal>
+    requires opening { W.opening ≡ opening_of schema ranges.now }
+    requires limits { W.limits ≡ most_limits }
+    requires formed { IsTrue (is_vschema schema) }
+    requires fit { FitRanges schema ranges.now }
+{
+    let opened = Opened::<ShardLaw<W>>::new(alloc)?;
+    beside::<W, Brand, R>(rt, alloc, schema, ranges, opened, signals)
+}
+
+#[test]
+fn no_lock_but_a_shards_own_is_held_over_a_statement(rt: HostRuntime) -> Result<(), Fail> {
+    let alloc = rt.alloc();
+    let schema = VSchema::read(alloc, SHOP)?;
+    let ranges = halves()?;
+    if !fits(alloc, &schema, &ranges)? {
+        return Err(Fail::new("no opening"));
+    }
+    let signals = no_signals(alloc)?;
+    let (rows, told) = beside_in_empty_world::<Brand, HostRuntime>(
+        &rt, alloc, schema, &ranges, &signals,
+    )?;
+    // the query meets the other session's row or misses it
+    assert_eq!(rt; rows == 6 || rows == 7, true);
+    assert_eq!(rt; told, [1, 1]);
+    assert_eq!(rt; is_given(&signals.held), true);
+    assert_eq!(rt; is_given(&signals.in_vain), false);
+    Ok(())
+}

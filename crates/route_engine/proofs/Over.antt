@@ -1,0 +1,221 @@
+-- Where no other session comes between, what a text gives is what it gives over the one database that was seen.
+use Rattle.std.proofs.Common.{◌≡◌, true, ℕ, ◌<◌, List, [], ◌∷◌, ◌++◌, length, Result, Ok, Err, refl, sym, ap, subst, ◌∙◌}
+use Rattle.std.specs.List.{AllByRecursion}
+use Rattle.std.proofs.lemmas.List.{append-nil}
+use Rattle.std.proofs.lemmas.List.Sorted.{length_permutation, IsPermutation-refl}
+use mathlib.Core.List.{IsPrefix}
+use Rattle.vt_value.specs.declared.refusal.Refusal.{Refusal}
+use Rattle.sql_tree.specs.declared.Statement.{Statement}
+use Rattle.sql_parser.specs.Grammar.{Reads}
+use Rattle.vschema.specs.declared.schema.Query.{Query}
+use Rattle.vschema.specs.declared.schema.Typed.{Typed}
+use Rattle.vschema.specs.declared.schema.Typed.TheVariants as typed
+use Rattle.vschema.specs.declared.schema.VSchema.{VSchema}
+use Rattle.vschema.specs.declared.changes.Write.{Write}
+use Rattle.vschema.specs.declared.changes.RowChange.{RowChange}
+use Rattle.vschema.specs.Database.{Database, rows_of, restrict, applied, all_applied}
+use Rattle.vschema.specs.TypedStatement.{typed_statement}
+use Rattle.vschema.specs.TypedWrites.{IsTypedWrite}
+use Rattle.vschema.specs.WellFormed.{is_vschema}
+use Rattle.sql_eval.specs.Queries.{Allowed}
+use Rattle.sql_eval.specs.Writes.{changes_of, change}
+use Rattle.planner.specs.Routes.{table_at}
+use Rattle.journal.specs.Runs.{LegalAfter, IsLegal}
+use Rattle.journal.specs.Views.{PassView}
+use Rattle.journal.proofs.Fronts.{prefix_self, prefix_trans, prefix_both, legal_front}
+use Rattle.shard_run.specs.declared.Shard.{Shard}
+use Rattle.shard_run.specs.declared.Entry.{Entry}
+use Rattle.shard_run.specs.Runs.{Run, Opening, opening_rows, one, commit_changes}
+use Rattle.shard_run.specs.Legal.{Legal, IsChangeOf, AreChangesOf}
+use Rattle.shard_run.specs.Openings.{IsOpening}
+use Rattle.shard_law.proofs.Lists.{all-weaker}
+use Rattle.shard_law.proofs.Runs.{commits, commits-push}
+use Rattle.shard.specs.declared.limits.Limits.{Limits}
+use Rattle.shard.specs.Shards.{MayFollow, HasLooked}
+use Rattle.shard.specs.Commits.{HasCommitted, IsCommitRefusal, commit_entry}
+use Rattle.shard.specs.Commits as commits
+use Rattle.shard.proofs.Legality.{legal_is}
+use Rattle.route_engine.specs.declared.reply.Answer.TheVariants.{Rows, Count}
+use Rattle.route_engine.specs.declared.reply.Reply.{Reply}
+use Rattle.route_engine.specs.Mix.{Part, IsBetween, mixed_rows}
+use Rattle.route_engine.specs.Answers as a
+use Rattle.route_engine.specs.Answers.{counted, HasGoneOn, IsSelected, Gives, IsReply, IsRefused, IsRefusal, needed_by}
+use Rattle.route_engine.specs.Alone as over
+use Rattle.route_engine.specs.Alone.{NoOthers, GivesOver, AnswersOver, IsRefusedOver}
+use Rattle.route_engine.proofs.Everywhere.{same_moment}
+use Rattle.route_engine.proofs.Moments.{same_answers}
+use Rattle.route_engine.proofs.NoOthers.{gone_unchanged, looked_unchanged, committed_at}
+use Rattle.route_engine.proofs.Sessions.{is_typed}
+use Rattle.route_engine.proofs.Theirs.{query_there}
+use Rattle.route_engine.proofs.WholeWrites.{whole_changes, no_changes}
+
+-- ---- what a statement leaves of a pass: it goes on from what was seen, which stays legal
+
+later_looked : (o : Opening) (slot : ℕ) (p now : PassView Entry) → HasLooked o slot p now → IsPrefix p.seen now.seen
+later_looked o slot p now looked = looked.later
+
+committed_later : (o : Opening) (l : Limits) (s : Shard) (p now : PassView Entry) (w : Write) (count : ℕ) → HasCommitted o l s p w count now → IsPrefix p.seen now.seen
+committed_later o l s p now w count c =
+    prefix_trans p.seen c.before now.seen (prefix_trans p.seen c.looked.seen c.before c.look.later c.later) (_, sym c.seen)
+
+-- a run that is legal goes on to one
+pub record GoesOn (o : Opening) (p now : PassView Entry) : Type 0 where
+  pub later : IsPrefix p.seen now.seen
+  pub legal : IsLegal (MayFollow o) p.seen → IsLegal (MayFollow o) now.seen
+
+stays : (o : Opening) (p : PassView Entry) → GoesOn o p p
+stays o p = record { later = prefix_self p.seen; legal = λ h. h }
+
+gives_on : (o : Opening) (l : Limits) (p : PassView Entry) (t : Typed) (reply : Reply) (now : PassView Entry) → Gives o l p t reply now → GoesOn o p now
+gives_on o l p _ _ now (a.selects (a.read is)) = record { later = is.gone.later; legal = λ h. is.gone.legal }
+gives_on o l p _ _ _ (a.writes (a.nowhere none)) = stays o p
+gives_on o l p _ _ now (a.writes {w} (a.wrote {count} s needed c)) = record { later = committed_later o l s p now w count c; legal = λ h. c.legal }
+gives_on o l p _ _ _ a.sets_names = stays o p
+
+refused_on : (o : Opening) (l : Limits) (p : PassView Entry) (text : List ℕ) (e : Refusal) (now : PassView Entry) → IsRefused o l p text e now → GoesOn o p now
+refused_on o l p text _ now (a.no_memory gone) = record { later = gone.1.later; legal = λ h. gone.1.legal }
+refused_on o l p text _ _ (a.no_tree none) = stays o p
+refused_on o l p text _ _ (a.not_typed tree reads typed) = stays o p
+refused_on o l p text _ _ (a.not_run tree t reads is none) = stays o p
+refused_on o l p text _ _ (a.not_written tree w reads is a.no_memory) = stays o p
+refused_on o l p text _ _ (a.not_written tree w reads is (a.several more)) = stays o p
+refused_on o l p text _ now (a.not_written tree w reads is (a.refused s needed looked why)) = record { later = looked.later; legal = λ h. looked.legal }
+
+pub reply_on : (o : Opening) (l : Limits) (p now : PassView Entry) (text : List ℕ) (reply : Reply) → IsReply o l (counted p) text reply now → GoesOn o p now
+reply_on o l p now text reply is =
+    let on = gives_on o l (counted p) is.typed reply now is.gives in
+    record { later = on.later; legal = on.legal }
+
+pub refusal_on : (o : Opening) (l : Limits) (p : PassView Entry) (text : List ℕ) (e : Refusal) (now : PassView Entry) → IsRefusal o l p text e now → GoesOn o p now
+refusal_on o l p text _ _ (a.used_up many) = stays o p
+refusal_on o l p text e now (a.numbered why) =
+    let on = refused_on o l (counted p) text e now why in
+    record { later = on.later; legal = on.legal }
+
+-- ---- over the one database
+
+legal_last : (o : Opening) (before run : Run) (e : Entry) → LegalAfter (MayFollow o) before (run ++ e ∷ []) → MayFollow o (before ++ run) e
+legal_last o before [] e h = subst (λ (r : Run). MayFollow o r e) (sym (append-nil before)) h.0
+legal_last o before (x ∷ run) e h =
+    subst (λ (r : Run). MayFollow o r e) (Rattle.std.proofs.lemmas.List.append_assoc before (x ∷ []) run) (legal_last o (before ++ x ∷ []) run e h.1)
+
+all_applied-append : (xs ys : List RowChange) (db : Database) → all_applied (xs ++ ys) db ≡ all_applied ys (all_applied xs db)
+all_applied-append [] ys db = refl
+all_applied-append (c ∷ xs) ys db = all_applied-append xs ys (applied c db)
+
+one_push : (o : Opening) (before : Run) (e : Entry) → one o (before ++ e ∷ []) ≡ all_applied (commit_changes e.event) (one o before)
+one_push o before e =
+    ap (λ (l : List RowChange). all_applied l (opening_rows o)) (commits-push before e)
+    ∙ all_applied-append (commits before) (commit_changes e.event) (opening_rows o)
+
+-- the changes of one write
+only_changes : (schema : VSchema) (w : Write) (db : Database) (changes : List RowChange) → AreChangesOf schema (w ∷ []) db changes → IsChangeOf schema w db changes
+only_changes schema w db changes (first, rest, is, of, none) =
+    subst (IsChangeOf schema w db) (sym (is ∙ ap (λ (l : List RowChange). first ++ l) none ∙ append-nil first)) of
+
+number_of : Result (Database × ℕ) Refusal → ℕ
+number_of (Ok r) = r.1
+number_of (Err e) = 0
+
+count_is : (schema : VSchema) (w : Write) (db after : Database) (exact : List RowChange) (count : ℕ) → changes_of schema w db ≡ Ok exact
+    → change schema w db ≡ Ok (after, count) → length exact ≡ count
+unfolding number_of
+count_is schema w db after exact count is changed =
+    let e : ◌≡◌ {A = Result (Database × ℕ) Refusal} (Ok (all_applied exact db, length exact)) (Ok (after, count)) = rw is at changed in
+    ap number_of e
+
+module _ (o : Opening) (opens : IsOpening o) (formed : is_vschema o.schema ≡ true) (l : Limits) (p now : PassView Entry) (alone : NoOthers p now) where
+  same_runs : (parts : List Part) → AllByRecursion (IsBetween p.seen now.seen) parts → now.seen ≡ p.seen → AllByRecursion (λ part. part.run ≡ p.seen) parts
+  same_runs parts all same =
+      all-weaker (IsBetween p.seen now.seen) (λ part. part.run ≡ p.seen)
+      (λ part h. sym (prefix_both p.seen part.run h.0 (subst (IsPrefix part.run) same h.1))) parts all
+
+  -- a query
+  pub selected_over : (q : Query) (selected : Rattle.route_engine.specs.declared.reply.Selected.Selected) (reads : List Rattle.route_engine.specs.declared.reply.ShardRead.ShardRead)
+      → q.table < length o.schema.tables → IsSelected o p (table_at o.schema q.table) q selected reads now
+      → GivesOver o.schema (one o p.seen) (typed.Select q) (Rows selected) (one o now.seen)
+  selected_over q selected reads there is =
+      let same = gone_unchanged p now alone o is.added is.gone in
+      let rows = same_moment o q.table there p.seen is.parts (same_runs is.parts is.mix.between same) is.mix.named is.mix.whole in
+      let answer : Allowed q (one o p.seen) selected.rows =
+      same_answers q (rows_of (mixed_rows o (table_at o.schema q.table).keyspace is.parts) q.table) (rows_of (one o p.seen) q.table) selected.rows rows is.allowed in
+      subst (λ (r : Run). GivesOver o.schema (one o p.seen) (typed.Select q) (Rows selected) (one o r)) (sym same) (over.selects is.table is.items answer)
+
+  -- a write
+  pub committed_over : (w : Write) (s : Shard) (count : ℕ) → needed_by o w ≡ s ∷ [] → HasCommitted o l s p w count now
+      → GivesOver o.schema (one o p.seen) (typed.Write w) (Count count) (one o now.seen)
+  committed_over w s count needed c =
+      let e : Entry = commit_entry s c.session p.statements w c.changes in
+      let legal : IsLegal (MayFollow o) (c.before ++ e ∷ []) = subst (IsLegal (MayFollow o)) c.seen c.legal in
+      let may : MayFollow o c.before e = legal_last o [] c.before e legal in
+      let may_commit = may.1 in
+      let first = only_changes o.schema w (restrict o.schema s.place (one o c.before)) c.changes may_commit.meant in
+      let whole = whole_changes o opens formed c.before (legal_is o c.before (legal_front (MayFollow o) [] c.before (e ∷ []) legal)) w may_commit.typed.0 s needed in
+      let counted' : length c.changes ≡ count =
+      length_permutation first.0 c.changes first.2 ∙ count_is o.schema w (restrict o.schema s.place (one o c.before)) c.after first.0 count first.1 c.counted in
+      let there : c.before ≡ p.seen = committed_at p now alone o l s w count c in
+      let left : one o now.seen ≡ all_applied c.changes (one o p.seen) =
+      ap (one o) c.seen ∙ one_push o c.before e ∙ ap (λ (r : Run). all_applied c.changes (one o r)) there in
+      let is : IsChangeOf o.schema w (one o p.seen) c.changes = subst (λ (r : Run). IsChangeOf o.schema w (one o r) c.changes) there (first.0, sym whole ∙ first.1, first.2) in
+      subst (λ (db : Database). GivesOver o.schema (one o p.seen) (typed.Write w) (Count count) db) (sym left)
+      (subst (λ (n : ℕ). GivesOver o.schema (one o p.seen) (typed.Write w) (Count n) (all_applied c.changes (one o p.seen))) counted' (over.writes c.changes is))
+
+-- a write that needs no shard
+nowhere_over : (o : Opening) → IsOpening o → is_vschema o.schema ≡ true → (run : Run) → Legal o run → (w : Write) → IsTypedWrite o.schema w → needed_by o w ≡ []
+    → GivesOver o.schema (one o run) (typed.Write w) (Count 0) (one o run)
+nowhere_over o opens formed run legal w is none = over.writes [] ([], no_changes o opens formed run legal w is none, IsPermutation-refl [])
+
+module _ (o : Opening) (opens : IsOpening o) (formed : is_vschema o.schema ≡ true) (l : Limits) (text : List ℕ) (tree : Statement) (reads : Reads text tree) where
+  gives_over : (p : PassView Entry) (t : Typed) (reply : Reply) (now : PassView Entry) → Gives o l p t reply now → typed_statement o.schema tree ≡ Ok t
+      → IsLegal (MayFollow o) p.seen → NoOthers p now → GivesOver o.schema (one o p.seen) t reply.answer (one o now.seen)
+  gives_over p _ _ now (a.selects {query} (a.read {selected} {reads} is)) typed_is legal alone =
+      selected_over o opens formed l p now alone query selected reads (query_there o.schema tree query typed_is) is
+  gives_over p _ _ _ (a.writes {w} (a.nowhere none)) typed_is legal alone =
+      nowhere_over o opens formed p.seen (legal_is o p.seen legal) w (is_typed o.schema tree w typed_is) none
+  gives_over p _ _ now (a.writes {w} (a.wrote {count} s needed c)) typed_is legal alone = committed_over o opens formed l p now alone w s count needed c
+  gives_over p _ _ _ a.sets_names typed_is legal alone = over.sets_names
+
+-- a numbered pass has seen as much
+counted_alone : (p now : PassView Entry) → NoOthers p now → NoOthers (counted p) now
+counted_alone p now h = record { session = h.session; of_session = h.of_session; added = h.added; seen = h.seen; own = h.own }
+
+module _ (o : Opening) (opens : IsOpening o) (formed : is_vschema o.schema ≡ true) (l : Limits) (text : List ℕ) where
+  pub reply_over : (p now : PassView Entry) (reply : Reply) → IsLegal (MayFollow o) p.seen → NoOthers p now → IsReply o l (counted p) text reply now
+      → AnswersOver o.schema (one o p.seen) text reply.answer (one o now.seen)
+  reply_over p now reply legal h is = record {
+    statement = is.statement;
+    typed = is.typed;
+    reads = is.reads;
+    resolved = is.resolved;
+    gives = gives_over o opens formed l text is.statement is.reads (counted p) is.typed reply now is.gives is.resolved legal (counted_alone p now h);
+  }
+
+  -- a refusal leaves the database
+  pub record Refuses (p : PassView Entry) (e : Refusal) (now : PassView Entry) : Type 0 where
+    pub why : IsRefusedOver o.schema (one o p.seen) text e
+    pub same : now.seen ≡ p.seen
+
+  commit_refused : (p now : PassView Entry) (tree : Statement) (w : Write) (s : Shard) (e : Refusal) → Reads text tree → typed_statement o.schema tree ≡ Ok (typed.Write w)
+      → needed_by o w ≡ s ∷ [] → HasLooked o s.slot p now → IsCommitRefusal o l s now.seen w e → now.seen ≡ p.seen → IsRefusedOver o.schema (one o p.seen) text e
+  commit_refused p now tree w s _ reads is needed looked commits.no_memory same = over.no_memory
+  commit_refused p now tree w s _ reads is needed looked (commits.full changes of room) same = over.full
+  commit_refused p now tree w s _ reads is needed looked (commits.duplicate twice) same =
+      let whole = whole_changes o opens formed now.seen (legal_is o now.seen looked.legal) w (is_typed o.schema tree w is) s needed in
+      over.duplicate tree w reads is (ap (λ (r : Run). changes_of o.schema w (one o r)) (sym same) ∙ sym whole ∙ twice)
+
+  refused_over : (p : PassView Entry) (e : Refusal) (now : PassView Entry) → IsRefused o l p text e now → NoOthers p now → Refuses p e now
+  refused_over p _ now (a.no_memory gone) h = record { why = over.no_memory; same = gone_unchanged p now h o gone.0 gone.1 }
+  refused_over p _ _ (a.no_tree none) h = record { why = over.no_tree none; same = refl }
+  refused_over p _ _ (a.not_typed tree reads typed) h = record { why = over.not_typed tree reads typed; same = refl }
+  refused_over p _ _ (a.not_run tree t reads is none) h = record { why = over.not_run tree t reads is none; same = refl }
+  refused_over p _ _ (a.not_written tree w reads is a.no_memory) h = record { why = over.no_memory; same = refl }
+  refused_over p _ _ (a.not_written tree w reads is (a.several more)) h = record { why = over.several; same = refl }
+  refused_over p e now (a.not_written tree w reads is (a.refused s needed looked why)) h =
+      let same = looked_unchanged p now h o s.slot looked in
+      record { why = commit_refused p now tree w s e reads is needed looked why same; same = same }
+
+  pub refusal_over : (p : PassView Entry) (e : Refusal) (now : PassView Entry) → IsRefusal o l p text e now → NoOthers p now → Refuses p e now
+  refusal_over p _ _ (a.used_up many) h = record { why = over.full; same = refl }
+  refusal_over p e now (a.numbered why) h =
+      let r = refused_over (counted p) e now why (counted_alone p now h) in
+      record { why = r.why; same = r.same }

@@ -1,0 +1,100 @@
+-- What `vtgate script` reads and prints: a VSchema, and lines that are run in order.
+use Rattle.std.specs.Prelude.{◌≡◌, ◌≢◌, ℕ, List, [], ◌∷◌, ◌++◌, length, codes, Some, Ok}
+use Rattle.std.specs.List.{AllByRecursion}
+use Rattle.std.specs.Io.KnownBytes.{Appends, Consumes, IsAtEnd}
+use Rattle.vt_value.specs.declared.refusal.Refusal.{Refusal}
+use Rattle.keyrange.specs.declared.KeyRange.{KeyRange}
+use Rattle.vschema.specs.declared.schema.VSchema.{VSchema}
+use Rattle.vschema.specs.Faults.{schema_read}
+use Rattle.journal.specs.Views.{PassView, new_pass}
+use Rattle.shard_run.specs.declared.Entry.{Entry}
+use Rattle.shard_run.specs.Runs.{Run, Opening}
+use Rattle.shard.specs.Shards.{most_limits}
+use Rattle.route_engine.specs.declared.reply.Answer.{Answer}
+use Rattle.route_engine.specs.declared.reply.Answer.TheVariants.{Rows, Count}
+use Rattle.route_engine.specs.declared.reply.Reply.{Reply}
+use Rattle.route_engine.specs.Answers.{counted, IsReply, IsRefusal}
+use Rattle.empty_opening.specs.Empty.{opening_of, FitRanges}
+use Rattle.vtgate_lines.specs.Lines.{IsStatementLine, IsAdminLine, IsNextLine}
+use Rattle.vtgate_lines.specs.Partitions.{IsPartition}
+use Rattle.vtgate_lines.specs.Printed.{line, rows_text, count_text, refusal_text}
+use Rattle.vtgate_main.specs.Planned.{Known}
+
+-- what is printed of an answer: its rows, or its count
+abbrev pub answer_text : Answer → List ℕ
+answer_text (Rows selected) = rows_text selected.rows
+answer_text (Count n) = count_text n
+
+-- What is printed for the text of a statement: an answer that it may have behind what its session's pass had seen, or a refusal for
+-- its cause. And what the pass has seen then.
+pub data Prints (o : Opening) (p : PassView Entry) (sql : List ℕ) : List ℕ → PassView Entry → Type 0 where
+  answered : {now : PassView Entry} (reply : Reply) → IsReply o most_limits (counted p) sql reply now → Prints o p sql (answer_text reply.answer) now
+  refused : {r : Refusal} {now : PassView Entry} → IsRefusal o most_limits p sql r now → Prints o p sql (refusal_text r) now
+
+-- a session of a script: its name and its pass
+pub record Session : Type 0 where
+  pub name : List ℕ
+  pub pass : PassView Entry
+
+-- what a script has come to: its sessions, in the order of their first lines, and the run that its lines so far have seen
+pub record Progress : Type 0 where
+  pub sessions : List Session
+  pub seen : Run
+
+-- no line yet
+abbrev pub at_first : Progress
+at_first = record { sessions = []; seen = [] }
+
+-- a pass that has met those of all lines so far
+abbrev pub met : Run → PassView Entry → PassView Entry
+met seen p = record p { seen = seen }
+
+-- A statement of the session of a name, which sees what all lines before it have seen. Its first line opens a session, with the next number.
+pub data Runs (o : Opening) (s : Progress) (name sql : List ℕ) : List ℕ → Progress → Type 0 where
+  first : {text : List ℕ} {now : PassView Entry} → AllByRecursion (λ x. x.name ≢ name) s.sessions
+      → Prints o (new_pass s.seen (Some (length s.sessions))) sql text now
+      → Runs o s name sql text (record { sessions = s.sessions ++ record { name = name; pass = now } ∷ []; seen = now.seen })
+  again : {text : List ℕ} {now : PassView Entry} (before after : List Session) (p : PassView Entry)
+      → s.sessions ≡ before ++ record { name = name; pass = p } ∷ after
+      → Prints o (met s.seen p) sql text now
+      → Runs o s name sql text (record { sessions = before ++ record { name = name; pass = now } ∷ after; seen = now.seen })
+
+abbrev pub unknown_text : List ℕ
+unknown_text = line (codes "unknown")
+
+-- what is printed for a line; there are no admin commands yet
+pub data Gives (o : Opening) (s : Progress) (text : List ℕ) : List ℕ → Progress → Type 0 where
+  statement : {printed : List ℕ} {now : Progress} (name sql : List ℕ) → IsStatementLine text name sql → Runs o s name sql printed now
+      → Gives o s text printed now
+  admin : (words : List ℕ) → IsAdminLine text words → Gives o s text unknown_text s
+  unknown : ((name sql : List ℕ) → IsStatementLine text name sql → ⊥) → ((words : List ℕ) → IsAdminLine text words → ⊥)
+      → Gives o s text unknown_text s
+
+-- what is printed for all lines of an input, in order
+pub data AllGive (o : Opening) : Progress → List ℕ → List ℕ → Progress → Type 0 where
+  none : {s : Progress} → AllGive o s [] [] s
+  next : {s mid now : Progress} {input text rest printed out : List ℕ} → IsNextLine input text rest → Gives o s text printed mid
+      → AllGive o mid rest out now → AllGive o s input (printed ++ out) now
+
+-- exactly that was printed
+pub record HasGiven (o : Opening) (input : List ℕ) (taken now : Known) : Type 0 where
+  pub out : List ℕ
+  pub last : Progress
+  pub gives : AllGive o at_first input out last
+  pub printed : Appends taken now out
+
+-- The input was read to its end. Its first line declares the VSchema, and the others are run over it and the ranges that the word of the
+-- shards tells, from no rows on.
+pub record HasScripted (shards : List ℕ) (unread rest taken now : Known) : Type 0 where
+  pub text : List ℕ
+  pub consumed : Consumes unread rest text
+  pub end : IsAtEnd rest
+  pub declaration : List ℕ
+  pub lines : List ℕ
+  pub first : IsNextLine text declaration lines
+  pub schema : VSchema
+  pub declared : schema_read declaration ≡ Ok schema
+  pub ranges : List KeyRange
+  pub partition : IsPartition shards ranges
+  pub fit : FitRanges schema ranges
+  pub given : HasGiven (opening_of schema ranges) lines taken now

@@ -1,0 +1,61 @@
+//! Why a run has failed.
+ghost use Rattle.std.specs.Prelude.{◌≢◌};
+
+use crate::run::{FAILED, FAILURE, OUT_OF_MEMORY, SUCCESS, USAGE, WRONG_WORDS};
+use itoa::Buffer;
+use session::Sink;
+use vschema::SchemaFault;
+use vt_value::Refusal;
+use vtgate_lines::refusal_line;
+
+/// Why a run has failed.
+#[derive(Clone, Copy, Debug)]
+pub enum Fault {
+    /// The words of the command line are wrong.
+    WrongWords,
+    /// The input declares no VSchema.
+    Schema(SchemaFault),
+    /// The statement of a plan is refused.
+    Refused(Refusal),
+    /// There is no memory.
+    OutOfMemory,
+    /// A device failed.
+    Failed,
+}
+
+fn put_schema_fault<E: Sink>(errors: &mut E, fault: SchemaFault) {
+    if let Some(number) = fault.number() {
+        let mut buffer = Buffer::new();
+        let _ = errors.write(b"VSchema V");
+        let _ = errors.write(buffer.format(number).as_bytes());
+        let _ = errors.write(b"\n");
+    }
+}
+
+/// Tells why a run has failed, and gives its status.
+pub fn refuse<O: Sink, E: Sink>(fault: Fault, output: &mut O, errors: &mut E) -> u8
+    ensures { result ≢ SUCCESS }
+{
+    match fault {
+        Fault::WrongWords => {
+            let _ = errors.write(USAGE);
+            WRONG_WORDS
+        }
+        Fault::Schema(fault) => {
+            put_schema_fault(errors, fault);
+            WRONG_WORDS
+        }
+        Fault::Refused(refusal) => {
+            let _ = output.write(refusal_line(refusal).as_slice());
+            FAILURE
+        }
+        Fault::OutOfMemory => {
+            let _ = errors.write(OUT_OF_MEMORY);
+            FAILURE
+        }
+        Fault::Failed => {
+            let _ = errors.write(FAILED);
+            FAILURE
+        }
+    }
+}

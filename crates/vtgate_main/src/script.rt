@@ -1,0 +1,133 @@
+//! `vtgate script`: lines that are run in order, on one thread.
+ghost use Rattle.std.specs.Prelude.{◌≡◌, ℕ, List, IsTrue, IfOk, OnOk, Ok};
+ghost use Rattle.keyrange.specs.declared.KeyRange.{KeyRange};
+ghost use Rattle.vschema.specs.Faults.{schema_read};
+ghost use Rattle.vschema.specs.WellFormed.{is_vschema};
+ghost use Rattle.shard.specs.Shards.{most_limits};
+ghost use Rattle.empty_opening.specs.Empty.{opening_of, FitRanges};
+ghost use Rattle.vtgate_lines.specs.Lines.{IsNextLine};
+ghost use Rattle.vtgate_lines.specs.Partitions.{IsPartition};
+ghost use Rattle.vtgate_main.specs.Scripted.{HasGiven, HasScripted};
+
+use crate::fault::{Fault, refuse};
+use crate::input::read_all;
+use crate::run::SUCCESS;
+use crate::sessions::{Sessions, run_lines};
+use crate::setup::{has_too_many, ranges_of, schema_of};
+use empty_world::empty_router;
+use journal::{Naming, Opened};
+use keyrange::KeyRange;
+use route_engine::Open;
+use session::{Sink, Source};
+use shard::{ShardLaw, World};
+use std::alloc::Global;
+use std::marker::Brand;
+use std::sync::Wait;
+use std::thread::Threads;
+use vschema::{SchemaFault, VSchema};
+use vtgate_lines::next_line;
+
+// The lines, run over the VSchema and the ranges in the journal that was opened.
+fn run_opened<W: World + Send + Sync, J: Naming + Send + Sync, R: Threads + Wait + Sync, O: Sink>(
+    rt: &R,
+    alloc: Global,
+    schema: VSchema,
+    ranges: &[KeyRange],
+    opened: Opened<ShardLaw<W>>,
+    lines: &[u8],
+    output: &mut O,
+) -> Result<(), Fault>
+    requires name { opened ≡ J.table }
+    requires opening { W.opening ≡ opening_of schema ranges.now }
+    requires limits { W.limits ≡ most_limits }
+    requires schema { IsTrue (is_vschema schema) }
+    requires ranges { FitRanges schema ranges.now }
+    ensures { OnOk result (HasGiven (opening_of schema ranges.now) lines.now (O.taken output.old) (O.taken output.new)) }
+{
+    let Ok((engine, opener, pass)) = empty_router::<W, J, Open>(alloc, schema, ranges, opened, Open)
+    else {
+        return Err(Fault::OutOfMemory);
+    };
+    let mut sessions = Sessions::new(alloc, opener, pass);
+    run_lines(rt, alloc, &engine, &mut sessions, lines, output)
+}
+
+// The same in the world that begins with this VSchema and these ranges, and no rows.
+fn run_in_world<W: World + Send + Sync, R: Threads + Wait + Sync, O: Sink>(
+    rt: &R,
+    alloc: Global,
+    schema: VSchema,
+    ranges: &[KeyRange],
+    lines: &[u8],
+    output: &mut O,
+) -> Result<(), Fault>
+    requires opening { W.opening ≡ opening_of schema ranges.now }
+    requires limits { W.limits ≡ most_limits }
+    requires schema { IsTrue (is_vschema schema) }
+    requires ranges { FitRanges schema ranges.now }
+    ensures { OnOk result (HasGiven (opening_of schema ranges.now) lines.now (O.taken output.old) (O.taken output.new)) }
+{
+    let Ok(opened) = Opened::<ShardLaw<W>>::new(alloc) else {
+        return Err(Fault::OutOfMemory);
+    };
+    run_opened::<W, Brand, R, O>(rt, alloc, schema, ranges, opened, lines, output)
+}
+
+// The VSchema of the first line, over the ranges, and the other lines.
+fn begin<'l>(
+    alloc: Global,
+    ranges: &[KeyRange],
+    text: &'l [u8],
+) -> Result<(VSchema, &'l [u8]), Fault>
+    requires { (word : List ℕ) × IsPartition word ranges.now }
+    ensures first { IfOk result (λ x. (first : List ℕ) × IsNextLine text.now first x.1.now × (schema_read first ≡ Ok x.0)) }
+    ensures formed { IfOk result (λ x. IsTrue (is_vschema x.0)) }
+    ensures fit { IfOk result (λ x. FitRanges x.0 ranges.now) }
+{
+    let Some((first, lines)) = next_line(text) else {
+        return Err(Fault::Schema(SchemaFault::NotJson));
+    };
+    let schema = schema_of(alloc, first)?;
+    if has_too_many(&schema, ranges) {
+        return Err(Fault::WrongWords);
+    }
+    Ok((schema, lines))
+}
+
+fn scripted<R: Threads + Wait + Sync, I: Source, O: Sink>(
+    rt: &R,
+    alloc: Global,
+    shards: &str,
+    input: &mut I,
+    output: &mut O,
+) -> Result<(), Fault>
+    ensures ok { OnOk result (HasScripted shards.now (I.unread input.old) (I.unread input.new) (O.taken output.old) (O.taken output.new)) }
+    ensures untouched { ((ranges : List KeyRange) → IsPartition shards.now ranges → ⊥) → (input.new ≡ input.old) × (output.new ≡ output.old) }
+{
+    let ranges = ranges_of(alloc, shards)?;
+    let text = read_all(alloc, input)?;
+    let (schema, lines) = begin(alloc, &ranges, &text)?;
+    run_in_world::<Brand, R, O>(rt, alloc, schema, &ranges, lines, output)
+}
+
+/// Runs the lines of an input, of which the first declares the VSchema, over the ranges that the word of the shards tells, and gives the
+/// status 0. What is printed for a line is written before the next is run. The status is 1 where a device fails or there is no memory for
+/// the input, for what it runs over or for a session; and 2 where the word tells no ranges, or more than 63 beside an unsharded keyspace,
+/// and where the first line declares no VSchema. The word is tested before the input is read.
+pub fn run_script<R: Threads + Wait + Sync, I: Source, O: Sink, E: Sink>(
+    rt: &R,
+    alloc: Global,
+    shards: &str,
+    input: &mut I,
+    output: &mut O,
+    errors: &mut E,
+) -> u8
+    ensures scripted { result ≡ SUCCESS → HasScripted shards.now (I.unread input.old) (I.unread input.new) (O.taken output.old) (O.taken output.new) }
+    // A wrong word is refused before anything is read.
+    ensures untouched { ((ranges : List KeyRange) → IsPartition shards.now ranges → ⊥) → input.new ≡ input.old }
+{
+    match scripted(rt, alloc, shards, input, output) {
+        Ok(()) => SUCCESS,
+        Err(fault) => refuse(fault, output, errors),
+    }
+}

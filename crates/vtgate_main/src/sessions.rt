@@ -1,0 +1,304 @@
+//! The sessions of a script, and its lines.
+ghost use Rattle.std.specs.Prelude.{◌≡◌, ◌⊎◌, ℕ, List, IsSome, OnOk};
+ghost use Rattle.std.specs.Io.KnownBytes.{Appends};
+ghost use mathlib.Core.List.{IsPrefix};
+ghost use Rattle.shard.specs.Shards.{most_limits};
+ghost use Rattle.vtgate_lines.specs.Printed.{rows_text, refusal_text};
+ghost use Rattle.vtgate_main.specs.Scripted.{Prints, HasGiven, at_first, met, unknown_text};
+ghost use Rattle.vtgate_main.specs.UnderWay.{IsShown, IsTold};
+
+use crate::fault::Fault;
+use journal::{Naming, Opener, Pass};
+use route_engine::{Answer, Engine, Open, Reply};
+use session::{DeviceFailed, Sink};
+use shard::{ShardLaw, World};
+use std::alloc::Global;
+use std::marker::Model;
+use std::sync::Wait;
+use std::thread::Threads;
+use vt_value::{Items, Refusal, Row};
+use vtgate_lines::{Line, count_line, next_line, put_rows, read_line, refusal_line};
+
+// Writes rows, or that there is no memory for them.
+fn write_rows<O: Sink>(alloc: Global, rows: &[Row], output: &mut O) -> Result<(), DeviceFailed>
+    ensures { OnOk result ((text : List ℕ) × Appends (O.taken output.old) (O.taken output.new) text
+        × ((text ≡ rows_text rows.now) ⊎ (text ≡ refusal_text Refusal.OutOfMemory))) }
+{
+    let mut text = Vec::new(alloc);
+    match put_rows(&mut text, rows) {
+        Ok(()) => output.write(&text),
+        Err(refusal) => output.write(refusal_line(refusal).as_slice()),
+    }
+}
+
+fn write_answer<O: Sink>(alloc: Global, answer: &Answer, output: &mut O) -> Result<(), DeviceFailed>
+    ensures { OnOk result ((text : List ℕ) × Appends (O.taken output.old) (O.taken output.new) text × IsShown answer.now text) }
+{
+    match answer {
+        Answer::Rows(selected) => write_rows(alloc, selected.rows.as_slice(), output),
+        Answer::Count(count) => output.write(count_line(*count).as_slice()),
+    }
+}
+
+fn write_outcome<O: Sink>(
+    alloc: Global,
+    outcome: Result<Reply, Refusal>,
+    output: &mut O,
+) -> Result<(), DeviceFailed>
+    ensures { OnOk result ((text : List ℕ) × Appends (O.taken output.old) (O.taken output.new) text × IsTold outcome text) }
+{
+    match outcome {
+        Ok(reply) => write_answer(alloc, &reply.answer, output),
+        Err(refusal) => output.write(refusal_line(refusal).as_slice()),
+    }
+}
+
+// Runs a statement of the pass's session behind all that was seen, and writes what is printed for it.
+fn run_behind<W: World + Send + Sync, J: Naming + Send + Sync, R: Threads + Wait + Sync, O: Sink>(
+    rt: &R,
+    alloc: Global,
+    engine: &Engine<W, J, Open>,
+    all: &mut Pass<ShardLaw<W>, J>,
+    pass: &mut Pass<ShardLaw<W>, J>,
+    sql: &[u8],
+    output: &mut O,
+) -> Result<(), DeviceFailed>
+    requires limits { W.limits ≡ most_limits }
+    requires session { IsSome pass.old.session }
+    requires behind { IsPrefix pass.old.seen all.old.seen }
+    ensures prints { OnOk result ((text : List ℕ) × Appends (O.taken output.old) (O.taken output.new) text
+        × Prints W.opening (met all.old.seen pass.old) sql.now text pass.new) }
+    ensures seen { all.new.seen ≡ pass.new.seen }
+    ensures later { IsPrefix all.old.seen all.new.seen }
+    ensures session { pass.new.session ≡ pass.old.session }
+{
+    pass.meet(all);
+    let outcome = engine.execute(rt, alloc, pass, sql);
+    all.meet(pass);
+    write_outcome(alloc, outcome, output)
+}
+
+/// A session of a script: its name, and its pass.
+#[derive(Drop)]
+struct ScriptSession<W: World, J: Naming> {
+    name: Items<u8>,
+    pass: Pass<ShardLaw<W>, J>,
+}
+
+impl<W: World, J: Naming> Model for ScriptSession<W, J> {
+    ghost use Rattle.std.specs.Coded.{codes};
+    ghost use Rattle.shard_run.specs.contracts.Entry as entry;
+    ghost use Rattle.vtgate_main.specs.Scripted.{Session};
+
+    ghost Value = { Session };
+
+    ghost coded = { Prim.hlevel (codes, entry.the_row.coded) };
+
+    ghost view = { λ s. record { name = s.name; pass = s.pass } };
+}
+
+impl<W: World, J: Naming> ScriptSession<W, J> {
+    ghost use Rattle.std.specs.Prelude.{◌≡◌, bytes_eq};
+
+    fn is_named(&self, name: &[u8]) -> bool
+        ensures { result ≡ bytes_eq self.now.name name.now }
+    {
+        self.name.as_slice() == name
+    }
+}
+
+/// The sessions of a script, in the order of their first lines, the opener of the next one, and a pass that has seen what all lines
+/// have. Contracts see what the script has come to.
+#[derive(Drop)]
+pub struct Sessions<W: World, J: Naming> {
+    sessions: Vec<ScriptSession<W, J>>,
+    opener: Opener<ShardLaw<W>, J>,
+    all: Pass<ShardLaw<W>, J>,
+}
+
+impl<W: World, J: Naming> Model for Sessions<W, J> {
+    ghost use Rattle.std.specs.Prelude.{◌≡◌, length};
+    ghost use Rattle.std.specs.List.{AllByRecursion};
+    ghost use Rattle.vtgate_main.specs.Scripted.{Progress};
+    ghost use Rattle.vtgate_main.specs.UnderWay.{IsBehind};
+    ghost use Rattle.std.specs.Coded.{codes};
+    ghost use Rattle.shard_run.specs.contracts.Entry as entry;
+
+    ghost Value = { Progress };
+
+    ghost coded = { Prim.hlevel (codes, entry.the_row.coded) };
+
+    ghost view = { λ s. record { sessions = s.sessions.items; seen = s.all.seen } };
+
+    ghost invariant = { λ s. (s.opener ≡ length s.sessions.items) × AllByRecursion (IsBehind s.all.seen) s.sessions.items };
+}
+
+impl<W: World + Send + Sync, J: Naming + Send + Sync> Sessions<W, J> {
+    ghost use Rattle.std.specs.Prelude.{◌≡◌, ◌<◌, ◌++◌, ◌∷◌, ℕ, List, [], Some, IfOk, OnOk, length, position, slice_index_or, slice_set, bytes_eq};
+    ghost use Rattle.std.specs.Io.KnownBytes.{Appends};
+    ghost use Rattle.shard_run.specs.declared.Entry.{Entry};
+    ghost use Rattle.shard.specs.Shards.{most_limits};
+    ghost use Rattle.journal.specs.Views.{PassView, new_pass};
+    ghost use Rattle.vtgate_main.specs.Scripted.{Session, Prints, Runs, Gives, at_first, met};
+    ghost use Rattle.vtgate_main.specs.UnderWay.{HasOpened};
+
+    /// No session yet.
+    pub fn new(
+        alloc: Global,
+        opener: Opener<ShardLaw<W>, J>,
+        pass: Pass<ShardLaw<W>, J>,
+    ) -> Sessions<W, J>
+        requires opener { opener ≡ 0 }
+        requires pass { pass.seen ≡ [] }
+        ensures { result ≡ at_first }
+    {
+        Sessions {
+            sessions: Vec::new(alloc),
+            opener,
+            all: pass,
+        }
+    }
+
+    // The place of the session of this name.
+    fn place_of(&self, name: &[u8]) -> Option<usize>
+        ensures { result ≡ position (λ x. bytes_eq x.name name.now) self.now.sessions }
+    {
+        self.sessions
+            .iter()
+            .position(|session| session.is_named(name))
+    }
+
+    fn count(&self) -> usize
+        ensures { result ≡ length self.now.sessions }
+    {
+        self.sessions.len()
+    }
+
+    // Opens a session of this name.
+    fn open(&mut self, alloc: Global, name: &[u8]) -> Result<(), Refusal>
+        ensures { OnOk result (self.new ≡ record self.old { sessions = self.old.sessions ++ record { name = name.now; pass = new_pass self.old.seen (Some (length self.old.sessions)) } ∷ [] }) }
+    {
+        let name = Items::from_slice(alloc, name)?;
+        self.sessions.reserve(1)?;
+        let pass = self.opener.open(&mut self.all)?;
+        self.sessions.push_reserved(ScriptSession { name, pass });
+        Ok(())
+    }
+
+    // The place of the session of this name, which is opened where there is none.
+    fn place_or_open(&mut self, alloc: Global, name: &[u8]) -> Result<usize, Refusal>
+        ensures { IfOk result (λ place. HasOpened self.old name.now place self.new) }
+    {
+        if let Some(place) = self.place_of(name) {
+            return Ok(place);
+        }
+        let place = self.count();
+        self.open(alloc, name)?;
+        Ok(place)
+    }
+
+    // Runs a statement of the session at the place.
+    fn run_at<R: Threads + Wait + Sync, O: Sink>(
+        &mut self,
+        rt: &R,
+        alloc: Global,
+        engine: &Engine<W, J, Open>,
+        place: usize,
+        sql: &[u8],
+        output: &mut O,
+    ) -> Result<(), DeviceFailed>
+        requires limits { W.limits ≡ most_limits }
+        requires place { place < length self.old.sessions }
+        ensures { OnOk result ((text : List ℕ) × (now : PassView Entry) × Appends (O.taken output.old) (O.taken output.new) text
+            × ((d : Session) → Prints W.opening (met self.old.seen (slice_index_or self.old.sessions place d).pass) sql.now text now)
+            × ((d : Session) → self.new ≡ record { sessions = slice_set self.old.sessions place (record { name = (slice_index_or self.old.sessions place d).name; pass = now }); seen = now.seen })) }
+    {
+        let session = &mut self.sessions[place];
+        run_behind(
+            rt,
+            alloc,
+            engine,
+            &mut self.all,
+            &mut session.pass,
+            sql,
+            output,
+        )
+    }
+
+    // Runs a statement of the session of this name.
+    fn run_statement<R: Threads + Wait + Sync, O: Sink>(
+        &mut self,
+        rt: &R,
+        alloc: Global,
+        engine: &Engine<W, J, Open>,
+        name: &[u8],
+        sql: &[u8],
+        output: &mut O,
+    ) -> Result<(), Fault>
+        requires limits { W.limits ≡ most_limits }
+        ensures { OnOk result ((text : List ℕ) × Appends (O.taken output.old) (O.taken output.new) text × Runs W.opening self.old name.now sql.now text self.new) }
+    {
+        let Ok(place) = self.place_or_open(alloc, name) else {
+            return Err(Fault::OutOfMemory);
+        };
+        match self.run_at(rt, alloc, engine, place, sql, output) {
+            Ok(()) => Ok(()),
+            Err(_) => Err(Fault::Failed),
+        }
+    }
+
+    // Runs a line.
+    fn run_line<R: Threads + Wait + Sync, O: Sink>(
+        &mut self,
+        rt: &R,
+        alloc: Global,
+        engine: &Engine<W, J, Open>,
+        line: &[u8],
+        output: &mut O,
+    ) -> Result<(), Fault>
+        requires limits { W.limits ≡ most_limits }
+        ensures { OnOk result ((text : List ℕ) × Appends (O.taken output.old) (O.taken output.new) text × Gives W.opening self.old line.now text self.new) }
+    {
+        match read_line(line) {
+            Line::Statement(name, sql) => self.run_statement(rt, alloc, engine, name, sql, output),
+            Line::Admin(_) => write_unknown(output),
+            Line::Unknown => write_unknown(output),
+        }
+    }
+}
+
+fn write_unknown<O: Sink>(output: &mut O) -> Result<(), Fault>
+    ensures { OnOk result (Appends (O.taken output.old) (O.taken output.new) unknown_text) }
+{
+    match output.write(b"unknown\n") {
+        Ok(()) => Ok(()),
+        Err(_) => Err(Fault::Failed),
+    }
+}
+
+/// Runs the lines in order, and writes what is printed for each before the next is run. Refuses where the output fails, and where there is
+/// no memory for a session.
+pub fn run_lines<
+    W: World + Send + Sync,
+    J: Naming + Send + Sync,
+    R: Threads + Wait + Sync,
+    O: Sink,
+>(
+    rt: &R,
+    alloc: Global,
+    engine: &Engine<W, J, Open>,
+    sessions: &mut Sessions<W, J>,
+    lines: &[u8],
+    output: &mut O,
+) -> Result<(), Fault>
+    requires limits { W.limits ≡ most_limits }
+    requires first { sessions.old ≡ at_first }
+    ensures { OnOk result (HasGiven W.opening lines.now (O.taken output.old) (O.taken output.new)) }
+{
+    let mut rest = lines;
+    while let Some((line, more)) = next_line(rest) {
+        sessions.run_line(rt, alloc, engine, line, output)?;
+        rest = more;
+    }
+    Ok(())
+}
