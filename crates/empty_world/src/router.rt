@@ -14,6 +14,7 @@ use keyrange::KeyRange;
 use route_engine::{Engine, Gate, Part};
 use shard::{Limits, MOST_ROWS, MOST_STORED, Shard, ShardLaw, ShardState, Store, World};
 use std::alloc::Global;
+use std::sync::Arc;
 use vschema::{Place, VSchema};
 use vt_value::{Items, Refusal};
 
@@ -75,7 +76,7 @@ fn empty_part<W: World, J: Naming>(
     Ok(Part {
         place: copy_place(&shard.place),
         slot: shard.slot,
-        shard: Shard::new(state),
+        shard: Arc::new(alloc, Shard::new(state))?,
     })
 }
 
@@ -105,6 +106,38 @@ fn empty_parts<W: World, J: Naming>(
     Ok(parts)
 }
 
+/// The shards of an opening without rows, in the journal that was opened, the opener of their sessions, and a first pass, which has seen
+/// nothing.
+pub(crate) fn opened_parts<W: World, J: Naming>(
+    alloc: Global,
+    schema: &VSchema,
+    ranges: &[KeyRange],
+    opened: Opened<ShardLaw<W>>,
+) -> Result<
+    (
+        Vec<Part<W, J>>,
+        Opener<ShardLaw<W>, J>,
+        Pass<ShardLaw<W>, J>,
+    ),
+    Refusal,
+>
+    requires name { opened ≡ J.table }
+    requires opening { W.opening ≡ opening_of schema.now ranges.now }
+    requires limits { W.limits ≡ most_limits }
+    requires schema { IsTrue (is_vschema schema.now) }
+    requires ranges { FitRanges schema.now ranges.now }
+    ensures opens { IfOk result (λ r. IsOpening W.opening) }
+    ensures parts { IfOk result (λ r. map (λ part. (part.slot, part.place)) r.0.items ≡ opening_seats W.opening) }
+    ensures opener { IfOk result (λ r. r.1 ≡ 0) }
+    ensures pass { IfOk result (λ r. r.2 ≡ new_pass [] None) }
+    ensures err { IfErr result (λ e. e ≡ Refusal.OutOfMemory) }
+{
+    let shards = opening_shards(alloc, schema, ranges)?;
+    let (seats, opener, pass) = opened.named::<J>(alloc)?;
+    let parts = empty_parts(alloc, empty_tables(schema), shards.as_slice(), seats)?;
+    Ok((parts, opener, pass))
+}
+
 /// The engine over a VSchema and the ranges of its sharded keyspace, whose tables are empty, in the journal that was opened; the opener
 /// of its sessions, and a first pass, which has seen nothing. It refuses only for want of memory.
 pub fn empty_router<W: World + Send + Sync, J: Naming + Send + Sync, G: Gate>(
@@ -131,8 +164,6 @@ pub fn empty_router<W: World + Send + Sync, J: Naming + Send + Sync, G: Gate>(
     ensures pass { IfOk result (λ r. r.2 ≡ new_pass [] None) }
     ensures err { IfErr result (λ e. e ≡ Refusal.OutOfMemory) }
 {
-    let shards = opening_shards(alloc, &schema, ranges)?;
-    let (seats, opener, pass) = opened.named::<J>(alloc)?;
-    let parts = empty_parts(alloc, empty_tables(&schema), shards.as_slice(), seats)?;
+    let (parts, opener, pass) = opened_parts::<W, J>(alloc, &schema, ranges, opened)?;
     Ok((Engine::new(schema, parts, gate), opener, pass))
 }

@@ -6,6 +6,7 @@ ghost use Rattle.shard.specs.Shards.{most_limits};
 ghost use Rattle.empty_opening.specs.Empty.{opening_of, FitRanges};
 
 mod gates;
+mod locks;
 
 use crate::empty_router;
 use empty_opening::opening_shards;

@@ -7,6 +7,7 @@ use keyrange::KeyRange;
 use route_engine::{Engine, Open, Part};
 use shard::{Limits, MOST_ROWS, MOST_STORED, Shard, ShardLaw, ShardState, Store, World};
 use std::alloc::{AllocError, Global};
+use std::sync::Arc;
 use vschema::{Place, VSchema};
 use vt_value::{Items, Refusal, Row, Value};
 
@@ -124,7 +125,7 @@ fn first_part<J: Naming>(
     Ok(Part {
         place: first.place,
         slot: first.slot,
-        shard: Shard::new(state),
+        shard: Arc::new(alloc, Shard::new(state))?,
     })
 }
 

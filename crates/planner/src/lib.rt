@@ -9,8 +9,6 @@ mod planning;
 mod plans;
 mod routes;
 mod taking;
-#[cfg(test)]
-mod tests;
 
 pub use copies::copy_items;
 pub use planning::plan;

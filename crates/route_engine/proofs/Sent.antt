@@ -58,7 +58,7 @@ module _ (W J : RattleType) (w : world.Ghosts W.Denot) (j : naming.Ghosts J.Deno
   pub shard_sync : IsSync (locked.the_field W J w j).row
   shard_sync = search (state_send, std.crosses, sendable) depth 60 fits 20000
 
-  shard_shared : IsSync (locked.the_row W J w j)
+  pub shard_shared : IsSync (locked.the_row W J w j)
   shard_shared = recorded_sync (locked.the_field W J w j).row _ _ (locked.the_type W J w j).to_one (struct_sync (shape (locked.the_type W J w j)) (search (state_send, std.crosses, sendable), tt))
 
   pub job_send : (ℓ : _) → IsSend (job.the_row ℓ W J w j)
@@ -71,10 +71,13 @@ module _ (W J : RattleType) (w : world.Ghosts W.Denot) (j : naming.Ghosts J.Deno
       recorded_send (done.the_field W J w j).row _ _ (done.the_type W J w j).to_one
       (struct_send (shape (done.the_type W J w j)) (search sendable, (pass_send, (search (reading.the_send, refusal.the_send, std.crosses, sendable), tt))))
 
+  shard_sent : IsSend (locked.the_row W J w j)
+  shard_sent = recorded_send (locked.the_field W J w j).row _ _ (locked.the_type W J w j).to_one (struct_send (shape (locked.the_type W J w j)) (search (state_send, std.crosses, sendable), tt))
+
   part_sync : IsSync (part.the_row W J w j)
   part_sync =
       recorded_sync (part.the_field W J w j).row _ _ (part.the_type W J w j).to_one
-      (struct_sync (shape (part.the_type W J w j)) (place.the_field_sync, (search sendable, (shard_sync, tt))))
+      (struct_sync (shape (part.the_type W J w j)) (place.the_field_sync, (search sendable, (std.Arc-sync _ shard_sent shard_shared, tt))))
 
   module _ (G : RattleType) (shared : IsSync G) where
     inside_sync : IsSync (engine_inside.the_row W J G w j)

@@ -6,15 +6,17 @@ ghost use Rattle.route_engine.specs.Served.{needed_seats};
 use journal::Naming;
 use planner::{Route, takes};
 use shard::{Shard, World};
+use std::alloc::Global;
+use std::sync::Arc;
 use vschema::{Place, Table};
 use vt_value::Refusal;
 
-/// A shard of the engine: where its rows lie, the slot that it stands on, and itself.
+/// A shard of the engine: where its rows lie, the slot that it stands on, and itself, which others may work at too.
 #[derive(Drop)]
 pub struct Part<W: World, J: Naming> {
     pub place: Place,
     pub slot: usize,
-    pub shard: Shard<W, J>,
+    pub shard: Arc<Shard<W, J>, Global>,
 }
 
 /// Whether a statement on the table with this route needs the shard of a place.

@@ -7,4 +7,3 @@ pub mod HeldRows
 pub mod Places
 pub mod Commits
 pub mod Steps
-pub mod SmallWorld

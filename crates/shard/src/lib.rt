@@ -18,6 +18,3 @@ pub use locked::Shard;
 pub use state::{Reading, ShardState};
 pub use store::Store;
 pub use world::{ShardLaw, World};
-
-#[cfg(test)]
-mod tests;

@@ -9,7 +9,7 @@ use crate::state::{Reading, ShardState};
 use crate::world::{ShardLaw, World};
 use journal::{Naming, Pass};
 use std::alloc::Global;
-use std::sync::{Mutex, Wait};
+use std::sync::{Mutex, MutexGuard, Wait};
 use vschema::{Query, VSchema, Write};
 use vt_value::Refusal;
 
@@ -21,6 +21,11 @@ impl<W: World, J: Naming> Shard<W, J> {
     /// The shard with this state.
     pub fn new(state: ShardState<W, J>) -> Shard<W, J> {
         Shard(Mutex::new(state))
+    }
+
+    /// The shard's state under its lock, which is held until the guard goes. Calls on this shard wait meanwhile, and none on another.
+    pub fn lock(&self, rt: &impl Wait) -> MutexGuard<'_, ShardState<W, J>> {
+        self.0.lock(rt)
     }
 
     /// What the query gives over the rows that the run leaves on the shard of this slot at one look under its lock, which the pass

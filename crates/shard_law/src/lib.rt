@@ -16,6 +16,3 @@ pub fn shards_hold_one_database()
     ensures storable { RowsStayStorable }
     ensures held_storable { HeldRowsStayStorable }
 {}
-
-#[cfg(test)]
-mod tests;

@@ -5,8 +5,6 @@ mod conditions;
 mod groups;
 mod queries;
 mod rows;
-#[cfg(test)]
-mod tests;
 mod writes;
 
 pub use conditions::{keeps, truth};

@@ -14,8 +14,6 @@ mod parts;
 mod reading;
 mod resolve;
 mod schema;
-#[cfg(test)]
-mod tests;
 mod whole;
 mod words;
 mod write_checks;

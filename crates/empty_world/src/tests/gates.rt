@@ -40,16 +40,16 @@ struct Signals {
     in_vain: AtomicU64,
 }
 
-fn is_given(signal: &AtomicU64) -> bool {
+pub(super) fn is_given(signal: &AtomicU64) -> bool {
     signal.load(Ordering::SeqCst) > 0
 }
 
-fn give(signal: &AtomicU64) {
+pub(super) fn give(signal: &AtomicU64) {
     signal.store(1, Ordering::SeqCst);
 }
 
 // Waits for a signal, at most so many turns.
-fn wait_for(signal: &AtomicU64) -> bool {
+pub(super) fn wait_for(signal: &AtomicU64) -> bool {
     for _ in 0..TURNS {
         if is_given(signal) {
             return true;
@@ -97,7 +97,7 @@ fn no_signals(alloc: Global) -> Result<Arc<Signals, Global>, Fail> {
 }
 
 // How many rows a statement gave or changed.
-fn told<W: World + Send + Sync, J: Naming + Send + Sync, G: Gate>(
+pub(super) fn told<W: World + Send + Sync, J: Naming + Send + Sync, G: Gate>(
     rt: &(impl Threads + Wait + Sync),
     alloc: Global,
     engine: &Engine<W, J, G>,

@@ -1,5 +1,0 @@
-use Rattle.shard.proofs.SmallWorld.{opens}
-use Rattle.shard.proofs.tests.state.Goals as goal
-
-pub new-requires-2-clause-opens : goal.new-requires-2-clause-opens
-new-requires-2-clause-opens g c = opens

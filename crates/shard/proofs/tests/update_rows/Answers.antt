@@ -1,5 +1,0 @@
-use Rattle.shard.proofs.SmallWorld.{typed_update}
-use Rattle.shard.proofs.tests.update_rows.Goals as goal
-
-pub write-requires-clause-typed : goal.write-requires-clause-typed
-write-requires-clause-typed g c = rw c.in_ok-sevens.ensures typed_update

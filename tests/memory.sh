@@ -1,0 +1,140 @@
+#!/usr/bin/env bash
+# Runs a script, plans and a connection once for each growth of memory that they ask for, and has that one growth refused. Then one
+# statement is refused for want of memory and hasn't happened, or the program ends at once with status 1: nothing else may come out.
+# Usage: tests/memory.sh [PROGRAM]   (built by `rt run` in crates/vtgate_main where none is given; needs a C compiler)
+set -euo pipefail
+top=$(cd "$(dirname "$0")/.." && pwd)
+. "$top/bench/program.sh"
+program=$(program_of vtgate_main "${1:-}")
+work=$(mktemp -d)
+trap 'rm -rf "$work"' EXIT
+
+# Stands before the C library: refuses the program's growth number REFUSE, and makes the file REFUSED where it does.
+cat > "$work/refuse.c" <<'C'
+#define _GNU_SOURCE
+#include <fcntl.h>
+#include <link.h>
+#include <stdatomic.h>
+#include <stdlib.h>
+#include <unistd.h>
+void *__libc_malloc(size_t), *__libc_realloc(void *, size_t);
+static unsigned long low, high, refuse;
+static atomic_ulong asked;
+static int program(struct dl_phdr_info *info, size_t size, void *data) {
+    (void)size, (void)data;
+    low = info->dlpi_addr, high = low;
+    for (int i = 0; i < info->dlpi_phnum; i++)
+        if (info->dlpi_phdr[i].p_type == PT_LOAD && low + info->dlpi_phdr[i].p_vaddr + info->dlpi_phdr[i].p_memsz > high)
+            high = low + info->dlpi_phdr[i].p_vaddr + info->dlpi_phdr[i].p_memsz;
+    return 1;
+}
+__attribute__((constructor)) static void begin(void) {
+    dl_iterate_phdr(program, NULL);
+    refuse = strtoul(getenv("REFUSE"), NULL, 10);
+}
+static int refused(void *caller) {
+    unsigned long at = (unsigned long)caller;
+    if (at < low || at >= high || atomic_fetch_add(&asked, 1) + 1 != refuse)
+        return 0;
+    close(open(getenv("REFUSED"), O_CREAT | O_WRONLY, 0600));
+    return 1;
+}
+#define REFUSED refused(__builtin_return_address(0))
+void *malloc(size_t n) { return REFUSED ? NULL : __libc_malloc(n); }
+void *realloc(void *p, size_t n) { return REFUSED ? NULL : __libc_realloc(p, n); }
+C
+cc -O1 -shared -fPIC -o "$work/refuse.so" "$work/refuse.c"
+
+# is_one_of FILE FILE..: the first holds what one of the others does.
+is_one_of() {
+    local file=$1 other
+    shift
+    for other in "$@"; do
+        cmp -s "$file" "$other" && return 0
+    done
+    return 1
+}
+
+# in_turn NAME INPUT WORD..: runs the program with the words for each growth. $work/NAME.whole.* are the outputs that it may give with
+# status 0, $work/NAME.part.* those with status 1.
+in_turn() {
+    local name=$1 input=$2 growth=0 status refusals=0 ends=0
+    shift 2
+    while true; do
+        growth=$((growth + 1)) status=0
+        rm -f "$work/refused"
+        REFUSE=$growth REFUSED=$work/refused LD_PRELOAD=$work/refuse.so "$program" "$@" < "$input" > "$work/out" 2> "$work/errors" || status=$?
+        [ -e "$work/refused" ] || break
+        if [ $status = 0 ] && is_one_of "$work/out" "$work/$name".whole.*; then
+            refusals=$((refusals + 1))
+        elif [ $status = 1 ] && is_one_of "$work/out" "$work/$name".part.*; then
+            ends=$((ends + 1))
+        else
+            echo "$name: status $status where growth $growth is refused:" >&2
+            cat "$work/out" "$work/errors" >&2
+            exit 1
+        fi
+    done
+    echo "$name: $((growth - 1)) growths refused in turn: $ends runs ended with status 1, $refusals went on"
+}
+
+# runs NAME COUNT REFUSAL WORD..: what the program may give that runs the statements $work/NAME.1 to $work/NAME.COUNT behind
+# $work/NAME.0. Without one of them it gives what it gives where that one is refused, but for the refusal.
+runs() {
+    local name=$1 count=$2 refusal=$3 at before
+    shift 3
+    for ((at = 0; at <= count; at++)); do
+        (cd "$work" && eval cat "$name.{0..$at}") | "$program" "$@" > "$work/$name.part.$at"
+    done
+    cp "$work/$name.part.$count" "$work/$name.whole.0"
+    for ((at = 1; at <= count; at++)); do
+        (cd "$work" && eval cat "$name.{0..$((at - 1))}" && if [ $at -lt $count ]; then eval cat "$name.{$((at + 1))..$count}"; fi) |
+            "$program" "$@" > "$work/without"
+        before=$work/$name.part.$((at - 1))
+        { cat "$before"; printf %b "$refusal"; tail -c "+$(($(wc -c < "$before") + 1))" "$work/without"; } > "$work/$name.whole.$at"
+    done
+    (cd "$work" && eval cat "$name.{0..$count}") > "$work/$name.input"
+}
+
+head -n 1 "$top/crates/vtgate_main/stdin" > "$work/schema"
+told='ERROR 1037 (HY001): out of memory'
+
+cp "$work/schema" "$work/script.0"
+count=0
+while IFS= read -r line; do
+    count=$((count + 1))
+    printf '%s\n' "$line" > "$work/script.$count"
+done <<'LINES'
+a: INSERT INTO t (id, c) VALUES (2, 7), (4, 9)
+b: INSERT INTO t (id, c) VALUES (1, 7)
+a: SELECT id, c FROM t WHERE NOT (c < 7) ORDER BY c DESC, id LIMIT 5 OFFSET 0
+b: UPDATE t SET c = 8 WHERE id = 2
+a: INSERT INTO b (k, v) VALUES ('a', 'x')
+b: SELECT c, COUNT(*), SUM(id), MAX(id) FROM t GROUP BY c ORDER BY c
+b: SELECT v FROM b
+a: DELETE FROM t WHERE id = 4
+a: SELECT * FROM t WHERE id IN (1, 2, 4)
+LINES
+runs script "$count" "$told\n" script -80,80-
+in_turn script "$work/script.input" script -80,80-
+
+plan=(plan -40,40-80,80- 'SELECT id FROM t WHERE id IN (1, 2) ORDER BY id')
+"$program" "${plan[@]}" < "$work/schema" > "$work/plan.whole.0"
+echo "$told" > "$work/plan.part.refused"
+: > "$work/plan.part.nothing"
+in_turn plan "$work/schema" "${plan[@]}"
+
+# A connection: a packet of a COM_QUERY for each statement, and the ERR packet of the refusal.
+: > "$work/first.0"
+count=0
+while IFS= read -r text; do
+    count=$((count + 1))
+    printf "%b%s" "\\x$(printf %02x $((${#text} + 1)))\\x00\\x00\\x00\\x03" "$text" > "$work/first.$count"
+done <<'TEXTS'
+SELECT id FROM t WHERE c = 7
+INSERT INTO t (id, c) VALUES (77, 7)
+SELECT * FROM t ORDER BY c LIMIT 3
+SELECT COUNT(*) FROM t WHERE c = 7
+TEXTS
+runs first "$count" '\x16\x00\x00\x01\xff\x0d\x04#HY001out of memory' first
+in_turn first "$work/first.input" first
