@@ -8,7 +8,7 @@ ghost use Rattle.empty_opening.specs.Empty.{opening_of, FitRanges};
 use super::gates::{give, is_given, told, wait_for};
 use super::{SHOP, fits, halves};
 use crate::router::opened_parts;
-use journal::{Naming, Opened, Pass};
+use journal::{Naming, Opened, Opener, Pass};
 use keyrange::KeyRange;
 use route_engine::{Engine, Open};
 use shard::{Shard, ShardLaw, World};
@@ -86,18 +86,17 @@ fn insert_elsewhere<W: World + Send + Sync, J: Naming + Send + Sync>(
     Ok(count)
 }
 
-// Both, in threads of their own.
+// Both, by two sessions in threads of their own.
 fn insert_both<W: World + Send + Sync, J: Naming + Send + Sync, R: Threads + Wait + Sync>(
     rt: &R,
     alloc: Global,
     engine: &Engine<W, J, Open>,
-    one: Pass<ShardLaw<W>, J>,
-    other: Pass<ShardLaw<W>, J>,
+    mut opener: Opener<ShardLaw<W>, J>,
+    mut first: Pass<ShardLaw<W>, J>,
     steps: &Steps,
-) -> Result<[u64; 2], Refusal>
-    requires one { IsSome one.session }
-    requires other { IsSome other.session }
-{
+) -> Result<[u64; 2], Refusal> {
+    let one = opener.open(&mut first)?;
+    let other = opener.open(&mut first)?;
     let (there, elsewhere) = join(
         rt,
         move || -> Result<u64, Refusal>
@@ -124,9 +123,7 @@ fn insert_beside<W: World + Send + Sync, J: Naming + Send + Sync, R: Threads + W
     requires formed { IsTrue (is_vschema schema) }
     requires fit { FitRanges schema ranges.now }
 {
-    let (parts, mut opener, mut first) = opened_parts::<W, J>(alloc, &schema, ranges, opened)?;
-    let one = opener.open(&mut first)?;
-    let other = opener.open(&mut first)?;
+    let (parts, opener, first) = opened_parts::<W, J>(alloc, &schema, ranges, opened)?;
     let [low, ..] = parts.as_slice() else {
         return Ok((false, [0, 0]));
     };
@@ -144,8 +141,8 @@ fn insert_beside<W: World + Send + Sync, J: Naming + Send + Sync, R: Threads + W
             requires { IsSync R.row × IsSend W.row × IsSync W.row × IsSend J.row × IsSync J.row }
         { hold(rt, shard, given) },
         move || -> Result<[u64; 2], Refusal>
-            requires { IsSync R.row × IsSend W.row × IsSync W.row × IsSend J.row × IsSync J.row × IsSome one.session × IsSome other.session }
-        { insert_both(rt, alloc, shared, one, other, given) },
+            requires { IsSync R.row × IsSend W.row × IsSync W.row × IsSend J.row × IsSync J.row }
+        { insert_both(rt, alloc, shared, opener, first, given) },
     );
     Ok((answered, counts?))
 }

@@ -1,22 +1,15 @@
 use denote.RattleType.{RattleType}
 use denote.Exit.{no}
 use denote.Param.{param}
-use denote.Param.Send.{IsSync, param_send, arg_send, shr_send, sendable}
+use denote.Param.Send.{IsSync, param_send, arg_send, shr_send}
 use denote.Struct.Field.{shr_ref_field}
 use denote.Struct.Tuple.{TupleAt}
 use Rattle.std.proofs.Common.{List, [], ◌∷◌}
 use Rattle.route_engine.proofs.Sent.{captures_send, shard_shared}
 use Rattle.shard.specs.contracts.locked.Shard as locked
-use Rattle.shard_run.proofs.Sent.{entry_send}
 use Rattle.empty_world.specs.contracts.tests.locks.Steps as steps
 use Rattle.empty_world.proofs.tests.locks.Steps.TheSendSync as sent_steps
 use Rattle.empty_world.proofs.tests.locks.insert_beside.Goals as goal
-
-pub open-requires-send-L-Entry : goal.open-requires-send-L-Entry
-open-requires-send-L-Entry g c κs within = search (entry_send, sendable)
-
-pub open-requires-2-send-L-Entry : goal.open-requires-2-send-L-Entry
-open-requires-2-send-L-Entry g c κs within = search (entry_send, sendable)
 
 -- what the first thread's closure captures: the handle, the shard and the steps
 pub join-answered-requires-send-F : goal.join-answered-requires-send-F

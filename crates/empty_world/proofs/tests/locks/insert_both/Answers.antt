@@ -1,7 +1,7 @@
 use denote.RattleType.{RattleType}
 use denote.Exit.{no}
 use denote.Param.{param}
-use denote.Param.Send.{IsSync, param_send, arg_send, shr_send}
+use denote.Param.Send.{IsSync, param_send, arg_send, shr_send, sendable}
 use denote.Struct.Field.{shr_ref_field}
 use denote.Struct.Tuple.{TupleAt}
 use Rattle.std.proofs.Common.{List, [], ◌∷◌}
@@ -15,9 +15,16 @@ use Rattle.route_engine.proofs.Sent.{captures_send, engine_sync, pass_send}
 use Rattle.shard.specs.contracts.world.ShardLaw as law
 use Rattle.shard.specs.contracts.world.ShardLawLaw.TheImpl as laws
 use Rattle.shard_run.specs.contracts.Entry as entry
+use Rattle.shard_run.proofs.Sent.{entry_send}
 use Rattle.empty_world.specs.contracts.tests.locks.Steps as steps
 use Rattle.empty_world.proofs.tests.locks.Steps.TheSendSync as sent_steps
 use Rattle.empty_world.proofs.tests.locks.insert_both.Goals as goal
+
+pub open-requires-send-L-Entry : goal.open-requires-send-L-Entry
+open-requires-send-L-Entry g c κs within = search (entry_send, sendable)
+
+pub open-requires-2-send-L-Entry : goal.open-requires-2-send-L-Entry
+open-requires-2-send-L-Entry g c κs within = search (entry_send, sendable)
 
 -- what the first thread's closure captures: the handle, the allocator, the engine, the pass and the steps
 pub join-there-requires-send-F : goal.join-there-requires-send-F
