@@ -8,8 +8,6 @@ mod groups;
 mod joining;
 mod keys;
 mod sums;
-#[cfg(test)]
-mod tests;
 
 pub use counts::{Count, CountStar};
 pub use extremes::{Max, Min};

@@ -30,6 +30,3 @@ pub use opened::{Opened, SLOTS};
 pub use opener::{MOST_SESSIONS, Opener};
 pub use pass::{MOST_STATEMENTS, Pass};
 pub use seat::ShardSeat;
-
-#[cfg(test)]
-mod tests;

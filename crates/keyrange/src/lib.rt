@@ -5,8 +5,6 @@ mod display;
 mod edge;
 mod names;
 mod ranges;
-#[cfg(test)]
-mod tests;
 
 pub use edge::Edge;
 pub use names::one_range;

@@ -7,8 +7,6 @@ mod pulling;
 mod slicing;
 mod sorting;
 mod stored;
-#[cfg(test)]
-mod tests;
 
 pub use columns::{Project, project_row};
 pub use concatenation::Concat;

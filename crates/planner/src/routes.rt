@@ -10,7 +10,7 @@ use vschema::{ColumnType, Table, VSchema, Write};
 use vt_value::{Items, Refusal, Row, Value, copy};
 
 /// Which shards of its keyspace a statement needs.
-#[derive(Debug, Drop)]
+#[derive(Drop)]
 pub enum Route {
     /// The one shard of the unsharded keyspace.
     Unsharded,

@@ -39,7 +39,7 @@ impl<W: World, J: Naming> Model for ShardState<W, J> {
 }
 
 /// What a query gave on a shard: its rows, and how many entries the shard had then.
-#[derive(Debug, Drop)]
+#[derive(Drop)]
 pub struct Reading {
     pub rows: Items<Row>,
     pub entries: u64,

@@ -5,8 +5,6 @@ mod body;
 mod byte;
 mod keyword;
 mod lexing;
-#[cfg(test)]
-mod tests;
 mod token;
 
 pub use keyword::is_keyword;

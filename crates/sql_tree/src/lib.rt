@@ -5,8 +5,6 @@ mod conditions;
 mod lists;
 mod literals;
 mod printing;
-#[cfg(test)]
-mod tests;
 
 pub use printing::{print, print_item};
 use vt_value::{Boxed, Comparison, Items, Value};
@@ -15,7 +13,7 @@ use vt_value::{Boxed, Comparison, Items, Value};
 pub type Name = Items<u8>;
 
 /// What is compared: a column, as `C` says it, or a literal.
-#[derive(Debug, Drop)]
+#[derive(Drop)]
 pub enum Operand<C> {
     Column(C),
     Literal(Value),
@@ -34,7 +32,7 @@ pub enum Condition<C> {
 }
 
 /// What a select list shows in one column.
-#[derive(Debug, Drop)]
+#[derive(Drop)]
 pub enum Item<C> {
     Column(C),
     CountRows,
@@ -45,14 +43,14 @@ pub enum Item<C> {
 }
 
 /// What a SELECT shows: `*`, or items, one or more.
-#[derive(Debug, Drop)]
+#[derive(Drop)]
 pub enum SelectList {
     All,
     Items(Items<Item<Name>>),
 }
 
 /// A column to order by.
-#[derive(Debug, Drop)]
+#[derive(Drop)]
 pub struct Key<C> {
     pub column: C,
     pub descending: bool,
@@ -77,7 +75,7 @@ pub struct Select {
 }
 
 /// An INSERT. Without a list of columns its rows have a value for each column of the table.
-#[derive(Debug, Drop)]
+#[derive(Drop)]
 pub struct Insert {
     pub table: Name,
     pub columns: Option<Items<Name>>,
@@ -85,7 +83,7 @@ pub struct Insert {
 }
 
 /// What a SET stores in a column, as `C` says it.
-#[derive(Debug, Drop)]
+#[derive(Drop)]
 pub struct Assignment<C> {
     pub column: C,
     pub value: Value,
@@ -107,7 +105,7 @@ pub struct Delete {
 }
 
 /// A character set as it is named.
-#[derive(Debug, Drop)]
+#[derive(Drop)]
 pub enum CharacterSet {
     Identifier(Name),
     Text(Items<u8>),

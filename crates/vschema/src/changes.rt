@@ -12,7 +12,7 @@ pub enum Write {
 }
 
 /// What a write does to one row of the table at a place.
-#[derive(Debug, Drop)]
+#[derive(Drop)]
 pub enum RowChange {
     Added(usize, Row),
     /// The old row, and the new one in its place.

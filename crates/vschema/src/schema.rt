@@ -14,7 +14,7 @@ pub enum ColumnType {
 }
 
 /// A column of a table. It may hold NULL only where it is nullable.
-#[derive(Debug, Drop)]
+#[derive(Drop)]
 pub struct Column {
     pub name: Name,
     pub kind: ColumnType,
@@ -30,7 +30,7 @@ pub struct ColumnVindex {
 
 /// A table. Its keyspace and the columns of its primary key are told by their places. It has a vindex where its
 /// keyspace is sharded.
-#[derive(Debug, Drop)]
+#[derive(Drop)]
 pub struct Table {
     pub name: Name,
     pub keyspace: usize,
@@ -40,14 +40,14 @@ pub struct Table {
 }
 
 /// A keyspace, by its name. The rows of a sharded one lie on several shards.
-#[derive(Debug, Drop)]
+#[derive(Drop)]
 pub struct Keyspace {
     pub name: Name,
     pub sharded: bool,
 }
 
 /// What the router knows of its keyspaces and tables.
-#[derive(Debug, Drop)]
+#[derive(Drop)]
 pub struct VSchema {
     pub keyspaces: Items<Keyspace>,
     pub tables: Items<Table>,

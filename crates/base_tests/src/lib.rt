@@ -1,0 +1,18 @@
+//! Tests of crates that know no VSchema: bytes of results, tokens, printed statements, ranges, operators, aggregates and runs. They stand
+//! above those crates, so that each of them is proved once.
+#![tactic(auto)]
+
+#[cfg(test)]
+mod lexing;
+#[cfg(test)]
+mod parts;
+#[cfg(test)]
+mod printing;
+#[cfg(test)]
+mod pulling;
+#[cfg(test)]
+mod ranges;
+#[cfg(test)]
+mod results;
+#[cfg(test)]
+mod runs;

@@ -1,0 +1,179 @@
+//! Runs that several threads make.
+ghost use Rattle.std.specs.Prelude.{◌≡◌, ◌+◌, IfOk, length};
+
+use journal::*;
+use std::alloc::Global;
+use std::marker::Brand;
+use std::sync::{Mutex, Wait};
+use std::test::*;
+use std::thread::{Threads, join};
+use vt_value::Refusal;
+
+/// A commit of a session on a slot.
+#[derive(Drop)]
+struct Commit {
+    slot: usize,
+    session: u64,
+    number: u64,
+}
+
+/// The numbers of a session's commits rise.
+struct Rising;
+
+impl Law for Rising {
+    ghost use Rattle.std.specs.Prelude.{Some};
+    ghost use Rattle.journal.specs.Runs.{NumbersBelow};
+
+    type Entry = Commit;
+
+    ghost slot_of = { λ e. e.slot };
+
+    ghost commit_of = { λ e. Some (e.session, e.number) };
+
+    ghost may_follow = { λ run e. NumbersBelow (λ x. Some (x.session, x.number)) e.session e.number run };
+}
+
+// One look, and a commit under the session's next number.
+fn append_next<J: Naming>(
+    seat: &mut ShardSeat<Rising, J>,
+    pass: &mut Pass<Rising, J>,
+) -> Result<(), Refusal>
+    ensures kept { IfOk result (λ _. length pass.new.looks ≡ length pass.old.looks + 1) }
+{
+    let Some(session) = pass.session() else {
+        return Err(Refusal::NotSupported);
+    };
+    let count = seat.look(pass);
+    if count >= 1 << 40 {
+        return Err(Refusal::ShardFull);
+    }
+    let number = pass.next_statement()?;
+    let entry = Commit {
+        slot: seat.slot(),
+        session,
+        number,
+    };
+    seat.append(pass, &entry);
+    Ok(())
+}
+
+// So many rounds over all seats.
+fn work<J: Naming>(
+    rt: &impl Wait,
+    seats: &[Mutex<ShardSeat<Rising, J>>],
+    mut pass: Pass<Rising, J>,
+    rounds: u64,
+) -> Result<Pass<Rising, J>, Refusal> {
+    for _ in 0..rounds {
+        for seat in seats {
+            append_next(&mut *seat.lock(rt), &mut pass)?;
+        }
+    }
+    Ok(pass)
+}
+
+type Worked<J> = Result<Pass<Rising, J>, Refusal>;
+
+// Two passes, a thread each. The first has then seen what both have.
+fn work_in_two<J: Naming + Send + Sync, R: Threads + Wait + Sync>(
+    rt: &R,
+    seats: &[Mutex<ShardSeat<Rising, J>>],
+    one: Pass<Rising, J>,
+    other: Pass<Rising, J>,
+    rounds: u64,
+) -> Worked<J> {
+    let (one, other) = join(
+        rt,
+        move || work(rt, seats, one, rounds),
+        move || work(rt, seats, other, rounds),
+    );
+    let mut one = one?;
+    let mut other = other?;
+    one.meet(&mut other);
+    Ok(one)
+}
+
+// Four passes in four threads, each over all of four slots; the words' counts at the end.
+fn count_by_four<J: Naming + Send + Sync, R: Threads + Wait + Sync>(
+    rt: &R,
+    alloc: Global,
+    opened: Opened<Rising>,
+    rounds: u64,
+) -> Result<Vec<u64>, Refusal>
+    requires { opened ≡ J.table }
+{
+    let (mut seats, mut opener, mut first) = opened.named::<J>(alloc)?;
+    seats.truncate(4);
+    let mut locked = Vec::new(alloc);
+    for seat in seats {
+        locked.push(Mutex::new(seat))?;
+    }
+    let one = opener.open(&mut first)?;
+    let two = opener.open(&mut first)?;
+    let three = opener.open(&mut first)?;
+    let four = opener.open(&mut first)?;
+    let shared = locked.as_slice();
+    let (left, right) = join(
+        rt,
+        move || work_in_two(rt, shared, one, two, rounds),
+        move || work_in_two(rt, shared, three, four, rounds),
+    );
+    let mut left = left?;
+    left.join(right?);
+    let mut counts = Vec::new(alloc);
+    for seat in &locked {
+        counts.push(seat.lock(rt).look(&mut left))?;
+    }
+    Ok(counts)
+}
+
+#[test]
+fn four_threads_append_to_one_run(rt: HostRuntime) -> Result<(), Fail> {
+    let opened = Opened::<Rising>::new(rt.alloc()).ok().ok_or("a table")?;
+    let counts = count_by_four::<Brand, _>(&rt, rt.alloc(), opened, 25)
+        .ok()
+        .ok_or("all commit")?;
+    assert_eq!(rt; counts.len(), 4);
+    for count in counts {
+        assert_eq!(rt; count, 100);
+    }
+    Ok(())
+}
+
+// The numbers that the calls answer, in the order of the calls.
+fn answers<J: Naming>(alloc: Global, opened: Opened<Rising>) -> Result<Vec<u64>, Refusal>
+    requires { opened ≡ J.table }
+{
+    let (mut seats, mut opener, mut first) = opened.named::<J>(alloc)?;
+    let mut answers = Vec::new(alloc);
+    answers.push(seats.len() as u64)?;
+    let mut one = opener.open(&mut first)?;
+    let mut two = opener.open(&mut first)?;
+    answers.push(opener.next())?;
+    let worker = one.split()?;
+    for pass in [&first, &one, &two, &worker] {
+        answers.push(pass.session().unwrap_or(99))?;
+    }
+    answers.push(one.next_statement()?)?;
+    answers.push(one.next_statement()?)?;
+    answers.push(two.next_statement()?)?;
+    for seat in seats.iter_mut().take(2) {
+        append_next(seat, &mut one)?;
+        answers.push(seat.slot() as u64)?;
+        answers.push(seat.look(&mut two))?;
+    }
+    answers.push(one.next_statement()?)?;
+    one.meet(&mut two);
+    first.join(two);
+    Ok(answers)
+}
+
+#[test]
+fn calls_answer(rt: HostRuntime) -> Result<(), Fail> {
+    let opened = Opened::<Rising>::new(rt.alloc()).ok().ok_or("a table")?;
+    let answers = answers::<Brand>(rt.alloc(), opened).ok().ok_or("memory")?;
+    // seats; next session; sessions; statements; slot and count of two; the fifth statement
+    let wanted = [64, 2, 99, 0, 1, 99, 1, 2, 1, 0, 1, 1, 1, 5];
+    assert_eq!(rt; answers.as_slice(), wanted.as_slice());
+    Ok(())
+}
