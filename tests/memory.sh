@@ -1,6 +1,6 @@
 #!/usr/bin/env bash
-# Runs a script, plans and a connection once for each growth of memory that they ask for, and has that one growth refused. Then one
-# statement is refused for want of memory and hasn't happened, or the program ends at once with status 1: nothing else may come out.
+# Runs a script, plans and a connection once for each growth of memory that they ask for, and has that one growth refused. Then at most
+# one statement is refused for want of memory, and hasn't happened, or the program ends at once with status 1: nothing else may come out.
 # Usage: tests/memory.sh [PROGRAM]   (built by `rt run` in crates/vtgate_main where none is given; needs a C compiler)
 set -euo pipefail
 top=$(cd "$(dirname "$0")/.." && pwd)
