@@ -56,7 +56,7 @@ is_one_of() {
 }
 
 # in_turn NAME INPUT WORD..: runs the program with the words for each growth. $work/NAME.whole.* are the outputs that it may give with
-# status 0, $work/NAME.part.* those with status 1.
+# status 0, $work/NAME.part.* those with status 1; $work/tells.* are what it may tell then on standard error.
 in_turn() {
     local name=$1 input=$2 growth=0 status refusals=0 ends=0
     shift 2
@@ -67,7 +67,8 @@ in_turn() {
         [ -e "$work/refused" ] || break
         if [ $status = 0 ] && is_one_of "$work/out" "$work/$name".whole.*; then
             refusals=$((refusals + 1))
-        elif [ $status = 1 ] && is_one_of "$work/out" "$work/$name".part.*; then
+        elif [ $status = 1 ] && is_one_of "$work/out" "$work/$name".part.* &&
+            is_one_of "$work/errors" "$work/tells".*; then
             ends=$((ends + 1))
         else
             echo "$name: status $status where growth $growth is refused:" >&2
@@ -96,6 +97,9 @@ runs() {
     (cd "$work" && eval cat "$name.{0..$count}") > "$work/$name.input"
 }
 
+: > "$work/tells.nothing"
+echo failed > "$work/tells.failed"
+echo 'out of memory' > "$work/tells.memory"
 head -n 1 "$top/crates/vtgate_main/stdin" > "$work/schema"
 told='ERROR 1037 (HY001): out of memory'
 

@@ -1,9 +1,13 @@
-//! Tests of crates that know no VSchema: bytes of results, tokens, printed statements, ranges, operators, aggregates and runs. They stand
-//! above those crates, so that each of them is proved once.
+//! Tests of crates that know no VSchema: values, keyspace ids, packets and messages, bytes of results, tokens, printed statements, ranges,
+//! operators, aggregates and runs. They stand above those crates, so that each of them is proved once.
 #![tactic(auto)]
 
 #[cfg(test)]
+mod framing;
+#[cfg(test)]
 mod lexing;
+#[cfg(test)]
+mod messages;
 #[cfg(test)]
 mod parts;
 #[cfg(test)]
@@ -16,3 +20,7 @@ mod ranges;
 mod results;
 #[cfg(test)]
 mod runs;
+#[cfg(test)]
+mod values;
+#[cfg(test)]
+mod vindexes;

@@ -93,6 +93,53 @@ fn work_in_two<J: Naming + Send + Sync, R: Threads + Wait + Sync>(
     Ok(one)
 }
 
+// The same with four passes in four threads.
+fn work_in_four<J: Naming + Send + Sync, R: Threads + Wait + Sync>(
+    rt: &R,
+    seats: &[Mutex<ShardSeat<Rising, J>>],
+    one: Pass<Rising, J>,
+    two: Pass<Rising, J>,
+    three: Pass<Rising, J>,
+    four: Pass<Rising, J>,
+    rounds: u64,
+) -> Worked<J> {
+    let (left, right) = join(
+        rt,
+        move || work_in_two(rt, seats, one, two, rounds),
+        move || work_in_two(rt, seats, three, four, rounds),
+    );
+    let mut left = left?;
+    left.join(right?);
+    Ok(left)
+}
+
+// The first four seats, each under a lock.
+fn locked_four<J: Naming>(
+    alloc: Global,
+    mut seats: Vec<ShardSeat<Rising, J>>,
+) -> Result<Vec<Mutex<ShardSeat<Rising, J>>>, Refusal> {
+    seats.truncate(4);
+    let mut locked = Vec::new(alloc);
+    for seat in seats {
+        locked.push(Mutex::new(seat))?;
+    }
+    Ok(locked)
+}
+
+// How many entries each slot has.
+fn counted<J: Naming>(
+    rt: &impl Wait,
+    alloc: Global,
+    seats: &[Mutex<ShardSeat<Rising, J>>],
+    mut pass: Pass<Rising, J>,
+) -> Result<Vec<u64>, Refusal> {
+    let mut counts = Vec::new(alloc);
+    for seat in seats {
+        counts.push(seat.lock(rt).look(&mut pass))?;
+    }
+    Ok(counts)
+}
+
 // Four passes in four threads, each over all of four slots; the words' counts at the end.
 fn count_by_four<J: Naming + Send + Sync, R: Threads + Wait + Sync>(
     rt: &R,
@@ -102,29 +149,14 @@ fn count_by_four<J: Naming + Send + Sync, R: Threads + Wait + Sync>(
 ) -> Result<Vec<u64>, Refusal>
     requires { opened ≡ J.table }
 {
-    let (mut seats, mut opener, mut first) = opened.named::<J>(alloc)?;
-    seats.truncate(4);
-    let mut locked = Vec::new(alloc);
-    for seat in seats {
-        locked.push(Mutex::new(seat))?;
-    }
+    let (seats, mut opener, mut first) = opened.named::<J>(alloc)?;
+    let locked = locked_four(alloc, seats)?;
     let one = opener.open(&mut first)?;
     let two = opener.open(&mut first)?;
     let three = opener.open(&mut first)?;
     let four = opener.open(&mut first)?;
-    let shared = locked.as_slice();
-    let (left, right) = join(
-        rt,
-        move || work_in_two(rt, shared, one, two, rounds),
-        move || work_in_two(rt, shared, three, four, rounds),
-    );
-    let mut left = left?;
-    left.join(right?);
-    let mut counts = Vec::new(alloc);
-    for seat in &locked {
-        counts.push(seat.lock(rt).look(&mut left))?;
-    }
-    Ok(counts)
+    let pass = work_in_four(rt, &locked, one, two, three, four, rounds)?;
+    counted(rt, alloc, &locked, pass)
 }
 
 #[test]
@@ -140,6 +172,38 @@ fn four_threads_append_to_one_run(rt: HostRuntime) -> Result<(), Fail> {
     Ok(())
 }
 
+// The sessions of passes, and the numbers of their next statements.
+fn tell_numbers<J: Naming>(
+    answers: &mut Vec<u64>,
+    first: &Pass<Rising, J>,
+    one: &mut Pass<Rising, J>,
+    two: &mut Pass<Rising, J>,
+) -> Result<(), Refusal> {
+    let worker = one.split()?;
+    for pass in [first, &*one, &*two, &worker] {
+        answers.push(pass.session().unwrap_or(99))?;
+    }
+    answers.push(one.next_statement()?)?;
+    answers.push(one.next_statement()?)?;
+    answers.push(two.next_statement()?)?;
+    Ok(())
+}
+
+// The slots of two seats, and what they count once an entry came to each.
+fn tell_counts<J: Naming>(
+    answers: &mut Vec<u64>,
+    seats: &mut [ShardSeat<Rising, J>],
+    one: &mut Pass<Rising, J>,
+    two: &mut Pass<Rising, J>,
+) -> Result<(), Refusal> {
+    for seat in seats.iter_mut().take(2) {
+        append_next(seat, one)?;
+        answers.push(seat.slot() as u64)?;
+        answers.push(seat.look(two))?;
+    }
+    Ok(())
+}
+
 // The numbers that the calls answer, in the order of the calls.
 fn answers<J: Naming>(alloc: Global, opened: Opened<Rising>) -> Result<Vec<u64>, Refusal>
     requires { opened ≡ J.table }
@@ -150,18 +214,8 @@ fn answers<J: Naming>(alloc: Global, opened: Opened<Rising>) -> Result<Vec<u64>,
     let mut one = opener.open(&mut first)?;
     let mut two = opener.open(&mut first)?;
     answers.push(opener.next())?;
-    let worker = one.split()?;
-    for pass in [&first, &one, &two, &worker] {
-        answers.push(pass.session().unwrap_or(99))?;
-    }
-    answers.push(one.next_statement()?)?;
-    answers.push(one.next_statement()?)?;
-    answers.push(two.next_statement()?)?;
-    for seat in seats.iter_mut().take(2) {
-        append_next(seat, &mut one)?;
-        answers.push(seat.slot() as u64)?;
-        answers.push(seat.look(&mut two))?;
-    }
+    tell_numbers(&mut answers, &first, &mut one, &mut two)?;
+    tell_counts(&mut answers, &mut seats, &mut one, &mut two)?;
     answers.push(one.next_statement()?)?;
     one.meet(&mut two);
     first.join(two);

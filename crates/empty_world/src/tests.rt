@@ -108,7 +108,7 @@ fn in_empty_world<W: World + Send + Sync, R: Threads + Wait + Sync + Abort>(
 }
 
 #[test]
-fn a_row_is_inserted_and_found(rt: HostRuntime) -> Result<(), Fail> {
+fn always_out_of_memory_would_find_no_row(rt: HostRuntime) -> Result<(), Fail> {
     let alloc = rt.alloc();
     let schema = VSchema::read(alloc, SHOP)?;
     let ranges = halves()?;

@@ -4,7 +4,7 @@ use sql_eval::{change_local, select_local};
 use sql_tree::{Assignment, Condition, Item, Key, Limit, Operand};
 use std::alloc::Global;
 use std::test::*;
-use vschema::{Column, ColumnType, Query, RowChange, Table, Write};
+use vschema::{Column, ColumnType, Columns, Query, RowChange, Table, Write};
 use vt_value::{Comparison, Items, Refusal, Row, Value};
 
 fn column(alloc: Global, name: &[u8], nullable: bool) -> Result<Column, Fail> {
@@ -17,9 +17,9 @@ fn column(alloc: Global, name: &[u8], nullable: bool) -> Result<Column, Fail> {
 
 // t with id, the primary key, and c
 fn table(alloc: Global) -> Result<Table, Fail> {
-    let mut columns = Items::new(alloc);
-    columns.push(column(alloc, b"id", false)?)?;
-    columns.push(column(alloc, b"c", true)?)?;
+    let mut columns = Columns::new(alloc);
+    columns.insert(column(alloc, b"id", false)?)?;
+    columns.insert(column(alloc, b"c", true)?)?;
     Ok(Table {
         name: Items::from_slice(alloc, b"t")?,
         keyspace: 0,

@@ -1,11 +1,13 @@
-//! Tests of the layers below the engine: statements, the VSchema, answers over rows, plans, and writes of a shard. They stand above those
-//! crates, so that each of them is proved once.
+//! Tests of the layers below the engine: statements, the VSchema, answers over rows, plans, writes of a shard, and the program's lines. They
+//! stand above those crates, so that each of them is proved once.
 #![tactic(auto)]
 
 #[cfg(test)]
 mod answers;
 #[cfg(test)]
 mod law;
+#[cfg(test)]
+mod lines;
 #[cfg(test)]
 mod parsing;
 #[cfg(test)]

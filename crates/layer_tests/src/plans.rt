@@ -8,7 +8,7 @@ use sql_tree::{Assignment, Condition, Item, Key, Limit, Operand};
 use std::alloc::Global;
 use std::test::Fail;
 use vindex::AnyVindex;
-use vschema::{Column, ColumnType, ColumnVindex, Keyspace, Query, Table, VSchema, Write};
+use vschema::{Column, ColumnType, ColumnVindex, Columns, Keyspace, Query, Table, VSchema, Write};
 use vt_value::{Comparison, Items, Row, Value, copy_row};
 
 fn column(alloc: Global, name: &[u8], nullable: bool) -> Result<Column, Fail> {
@@ -21,9 +21,9 @@ fn column(alloc: Global, name: &[u8], nullable: bool) -> Result<Column, Fail> {
 
 // t with the key id, whose vindex is reverse_bits, and c
 fn schema(alloc: Global) -> Result<VSchema, Fail> {
-    let mut columns = Items::new(alloc);
-    columns.push(column(alloc, b"id", false)?)?;
-    columns.push(column(alloc, b"c", true)?)?;
+    let mut columns = Columns::new(alloc);
+    columns.insert(column(alloc, b"id", false)?)?;
+    columns.insert(column(alloc, b"c", true)?)?;
     let mut tables = Items::new(alloc);
     tables.push(Table {
         name: Items::from_slice(alloc, b"t")?,

@@ -127,47 +127,50 @@ fn each_change_has_its_fault(rt: HostRuntime) -> Result<(), Fail> {
     Ok(())
 }
 
+/// Changes of the example that make a member ill-formed: what stands there, and what comes in its place.
+const ILL_FORMED: [(&str, &str); 33] = [
+    (r#"{"keyspaces":"#, r#"{"more":1,"keyspaces":"#),
+    ("VARBINARY(32)", "VARBINARY(256)"),
+    ("VARBINARY(32)", "VARBINARY(1000)"),
+    ("VARBINARY(32)", "VARBINARY(0)"),
+    ("VARBINARY(32)", "VARBINARY(032)"),
+    ("VARBINARY(32)", "VARBINARY(+3)"),
+    ("VARBINARY(32)", "VARBINARY()"),
+    ("VARBINARY(32)", "VARBINARY(32"),
+    ("VARBINARY(32)", "varbinary(32)"),
+    (r#""BIGINT""#, r#""BIGINT ""#),
+    (r#""BIGINT""#, "8"),
+    (r#","null":true"#, r#","null":1"#),
+    (r#","null":true"#, r#","nullable":true"#),
+    (r#""name":"n","#, ""),
+    (r#""name":"n","#, r#""name":"","#),
+    (r#""name":"n","#, r#""name":"1n","#),
+    (r#""name":"n","#, r#""name":"n ","#),
+    (r#""sharded":false"#, r#""sharded":"false""#),
+    (r#""sharded":false,"#, ""),
+    (r#""sharded":false"#, r#""sharded":true"#),
+    (r#""sharded":true"#, r#""sharded":false"#),
+    (r#""sharded":false"#, r#""sharded":false,"vindexes":{}"#),
+    (r#""primary_key":["n"]"#, r#""primary_key":[]"#),
+    (r#""primary_key":["n"]"#, r#""primary_key":["n","n"]"#),
+    (r#""primary_key":["n"]"#, r#""primary_key":"n""#),
+    (
+        r#""primary_key":["n"]"#,
+        r#""primary_key":["n"],"column_vindexes":[]"#,
+    ),
+    (r#","primary_key":["n"]"#, ""),
+    (ON_ID, "[]"),
+    (r#","column_vindexes":[{"column":"id","name":"rev"}]"#, ""),
+    (ON_ID, r#"[{"column":"id","name":"rev","more":1}]"#),
+    (r#"{"type":"reverse_bits"}"#, "{}"),
+    (r#"{"type":"reverse_bits"}"#, r#""reverse_bits""#),
+    (r#""rev":{"#, r#""re-v":{"#),
+];
+
 #[test]
 fn ill_formed_members_are_refused(rt: HostRuntime) -> Result<(), Fail> {
-    for (old, new) in [
-        (r#"{"keyspaces":"#, r#"{"more":1,"keyspaces":"#),
-        ("VARBINARY(32)", "VARBINARY(256)"),
-        ("VARBINARY(32)", "VARBINARY(1000)"),
-        ("VARBINARY(32)", "VARBINARY(0)"),
-        ("VARBINARY(32)", "VARBINARY(032)"),
-        ("VARBINARY(32)", "VARBINARY(+3)"),
-        ("VARBINARY(32)", "VARBINARY()"),
-        ("VARBINARY(32)", "VARBINARY(32"),
-        ("VARBINARY(32)", "varbinary(32)"),
-        (r#""BIGINT""#, r#""BIGINT ""#),
-        (r#""BIGINT""#, "8"),
-        (r#","null":true"#, r#","null":1"#),
-        (r#","null":true"#, r#","nullable":true"#),
-        (r#""name":"n","#, ""),
-        (r#""name":"n","#, r#""name":"","#),
-        (r#""name":"n","#, r#""name":"1n","#),
-        (r#""name":"n","#, r#""name":"n ","#),
-        (r#""sharded":false"#, r#""sharded":"false""#),
-        (r#""sharded":false,"#, ""),
-        (r#""sharded":false"#, r#""sharded":true"#),
-        (r#""sharded":true"#, r#""sharded":false"#),
-        (r#""sharded":false"#, r#""sharded":false,"vindexes":{}"#),
-        (r#""primary_key":["n"]"#, r#""primary_key":[]"#),
-        (r#""primary_key":["n"]"#, r#""primary_key":["n","n"]"#),
-        (r#""primary_key":["n"]"#, r#""primary_key":"n""#),
-        (
-            r#""primary_key":["n"]"#,
-            r#""primary_key":["n"],"column_vindexes":[]"#,
-        ),
-        (r#","primary_key":["n"]"#, ""),
-        (ON_ID, "[]"),
-        (r#","column_vindexes":[{"column":"id","name":"rev"}]"#, ""),
-        (ON_ID, r#"[{"column":"id","name":"rev","more":1}]"#),
-        (r#"{"type":"reverse_bits"}"#, "{}"),
-        (r#"{"type":"reverse_bits"}"#, r#""reverse_bits""#),
-        (r#""rev":{"#, r#""re-v":{"#),
-    ] {
-        let fault = fault_after(rt.alloc(), &[(old, new)])?;
+    for (old, new) in &ILL_FORMED {
+        let fault = fault_after(rt.alloc(), &[(*old, *new)])?;
         assert_eq!(rt; fault, Some(SchemaFault::IllFormed), "{new}");
     }
     Ok(())

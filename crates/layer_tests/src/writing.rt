@@ -14,7 +14,7 @@ use std::marker::Brand;
 use std::process::Abort;
 use std::sync::Wait;
 use std::test::Fail;
-use vschema::{Column, ColumnType, Keyspace, Place, Query, Table, VSchema, Write};
+use vschema::{Column, ColumnType, Columns, Keyspace, Place, Query, Table, VSchema, Write};
 use vt_value::{Items, Refusal, Row, Value};
 
 // At most two rows, and at most four stored entries.
@@ -62,12 +62,13 @@ fn schema(alloc: Global) -> Result<VSchema, Refusal>
         name: Items::from_slice(alloc, b"shop")?,
         sharded: false,
     };
-    let id = column(alloc, b"id", false)?;
-    let c = column(alloc, b"c", true)?;
+    let mut columns = Columns::new(alloc);
+    columns.insert(column(alloc, b"id", false)?)?;
+    columns.insert(column(alloc, b"c", true)?)?;
     let table = Table {
         name: Items::from_slice(alloc, b"t")?,
         keyspace: 0,
-        columns: two(alloc, id, c)?,
+        columns,
         primary_key: one(alloc, 0)?,
         vindex: None,
     };

@@ -7,6 +7,3 @@ mod reply;
 
 pub use command::{Command, read_command};
 pub use reply::{put_eof, put_err, put_ok};
-
-#[cfg(test)]
-mod tests;

@@ -9,6 +9,3 @@ mod payload;
 pub use framer::{Fault, Fed, Framer, Payload};
 pub use laws::{bounded_rest, one_framing, read_back};
 pub use payload::put_payload;
-
-#[cfg(test)]
-mod tests;

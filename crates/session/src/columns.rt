@@ -6,7 +6,7 @@ ghost use Rattle.session.specs.Columns.{kind_of, base_flags, flags_of, no_keyspa
 use resultset::{Column as ResultColumn, Kind};
 use sql_tree::{Item, Name, print_item};
 use std::alloc::Global;
-use vschema::{Column, ColumnType, Table, VSchema};
+use vschema::{Column, ColumnType, Columns, Table, VSchema};
 use vt_value::{Items, Refusal};
 
 fn kind_of(kind: ColumnType) -> Kind
@@ -100,7 +100,7 @@ fn missing_table(alloc: Global) -> Table
     Table {
         name: Items::new(alloc),
         keyspace: 0,
-        columns: Items::new(alloc),
+        columns: Columns::new(alloc),
         primary_key: Items::new(alloc),
         vindex: None,
     }

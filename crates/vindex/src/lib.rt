@@ -2,8 +2,6 @@
 #![tactic(auto)]
 
 mod ksid;
-#[cfg(test)]
-mod tests;
 mod vindexes;
 
 ghost use Rattle.std.specs.Prelude.{◌≡◌, ◌↔◌, IsTrue, IsSome, IfSome};

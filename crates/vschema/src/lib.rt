@@ -3,6 +3,7 @@
 
 mod changes;
 mod checks;
+mod columns;
 mod document;
 mod fault;
 mod faults;
@@ -20,5 +21,6 @@ mod write_checks;
 mod writes;
 
 pub use changes::{RowChange, Write};
+pub use columns::Columns;
 pub use fault::SchemaFault;
 pub use schema::{Column, ColumnType, ColumnVindex, Keyspace, Place, Query, Table, Typed, VSchema};

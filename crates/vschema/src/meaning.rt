@@ -1,6 +1,9 @@
-ghost use Rattle.std.specs.Prelude.{◌≡◌, ◌++◌, ◌+◌, ◌≤◌, ◌<◌, ◌^◌, map, length, slice_get, option_and_then, IfOk, IfErr};
-ghost use Rattle.vschema.specs.Faults.{keys, place_in, vindex_on, meant_table, meant_tables, meant_keyspace, meant};
+ghost use Rattle.std.specs.Prelude.{◌≡◌, ◌++◌, ◌+◌, ◌≤◌, ◌<◌, ◌^◌, false, map, length, slice_get, option_and_then, IfOk, IfErr};
+ghost use Rattle.std.specs.List.{list_any};
+ghost use Rattle.vschema.specs.Faults.{keys, place_in, vindex_on, meant_table, meant_tables, meant_keyspace, meant, table_has, has};
+ghost use Rattle.vschema.specs.WriteChecks.{has_twice};
 
+use crate::columns::Columns;
 use crate::document::{DeclaredKey, DeclaredKeyspace, DeclaredTable};
 use crate::fault::SchemaFault;
 use crate::lookups::{keys, place_of, vindex_of};
@@ -9,17 +12,25 @@ use sql_tree::Name;
 use std::alloc::Global;
 use vt_value::Items;
 
-fn copy_columns(alloc: Global, columns: &[Column]) -> Result<Items<Column>, SchemaFault>
+fn copy_column(alloc: Global, column: &Column) -> Result<Column, SchemaFault>
+    ensures ok { IfOk result (λ c. c ≡ column.now) }
+    ensures err { IfErr result (λ e. e ≡ SchemaFault.OutOfMemory) }
+{
+    Ok(Column {
+        name: Items::from_slice(alloc, column.name.as_slice())?,
+        kind: column.kind,
+        nullable: column.nullable,
+    })
+}
+
+fn copy_columns(alloc: Global, columns: &[Column]) -> Result<Columns, SchemaFault>
+    requires once { has_twice (map (λ c. c.name) columns.now) ≡ false }
     ensures ok { IfOk result (λ r. r ≡ columns.now) }
     ensures err { IfErr result (λ e. e ≡ SchemaFault.OutOfMemory) }
 {
-    let mut copied = Items::new(alloc);
+    let mut copied = Columns::new(alloc);
     for column in columns {
-        copied.push(Column {
-            name: Items::from_slice(alloc, column.name.as_slice())?,
-            kind: column.kind,
-            nullable: column.nullable,
-        })?;
+        copied.insert(copy_column(alloc, column)?)?;
     }
     Ok(copied)
 }
@@ -69,6 +80,7 @@ fn meant_table(
     place: usize,
     table: &DeclaredTable,
 ) -> Result<Table, SchemaFault>
+    requires once { table_has SchemaFault.NamedTwice keyspace.now table.now ≡ false }
     ensures ok { IfOk result (λ t. t ≡ meant_table keyspace.now place table.now) }
     ensures err { IfErr result (λ e. e ≡ SchemaFault.OutOfMemory) }
 {
@@ -89,6 +101,7 @@ fn tables_of(
     keyspace: &DeclaredKeyspace,
     place: usize,
 ) -> Result<Items<Table>, SchemaFault>
+    requires once { list_any (table_has SchemaFault.NamedTwice keyspace.now) keyspace.now.tables ≡ false }
     ensures ok { IfOk result (λ ts. ts ≡ map (meant_table keyspace.now place) keyspace.now.tables) }
     ensures err { IfErr result (λ e. e ≡ SchemaFault.OutOfMemory) }
 {
@@ -100,6 +113,7 @@ fn tables_of(
 }
 
 fn all_tables(alloc: Global, keyspaces: &[DeclaredKeyspace]) -> Result<Items<Table>, SchemaFault>
+    requires once { list_any (λ k. list_any (table_has SchemaFault.NamedTwice k) k.tables) keyspaces.now ≡ false }
     ensures ok { IfOk result (λ ts. ts ≡ meant_tables 0 keyspaces.now) }
     ensures err { IfErr result (λ e. e ≡ SchemaFault.OutOfMemory) }
 {
@@ -129,6 +143,7 @@ fn all_keyspaces(
 
 /// The VSchema that is meant, where no fault applies.
 pub fn meant(alloc: Global, declared: &[DeclaredKeyspace]) -> Result<VSchema, SchemaFault>
+    requires once { has SchemaFault.NamedTwice declared.now ≡ false }
     ensures ok { IfOk result (λ schema. schema ≡ meant declared.now) }
     ensures err { IfErr result (λ e. e ≡ SchemaFault.OutOfMemory) }
 {

@@ -26,7 +26,7 @@ pub fn place_among(columns: &[Column], name: &Name) -> Option<usize>
 pub fn column_place(table: &Table, name: &Name) -> Option<usize>
     ensures { result ≡ column_place table.now name.now }
 {
-    place_among(table.columns.as_slice(), name)
+    table.columns.place_of(name)
 }
 
 pub fn table_place(schema: &VSchema, name: &Name) -> Option<usize>

@@ -1,4 +1,5 @@
 use crate::changes::Write;
+use crate::columns::Columns;
 use keyrange::KeyRange;
 use sql_tree::{Condition, Item, Key, Limit, Name};
 use vindex::AnyVindex;
@@ -34,7 +35,7 @@ pub struct ColumnVindex {
 pub struct Table {
     pub name: Name,
     pub keyspace: usize,
-    pub columns: Items<Column>,
+    pub columns: Columns,
     pub primary_key: Items<usize>,
     pub vindex: Option<ColumnVindex>,
 }

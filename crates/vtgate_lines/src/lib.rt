@@ -6,8 +6,6 @@ mod plans;
 mod ranges;
 mod rows;
 mod short_lines;
-#[cfg(test)]
-mod tests;
 
 pub use lines::{Line, next_line, read_line};
 pub use plans::plan_line;

@@ -15,8 +15,8 @@ mod setup;
 #[cfg(test)]
 mod tests;
 
-use run::run;
-use session::{Reader, Writer};
+use run::{FAILED, FAILURE, run};
+use session::{Reader, Sink, Writer};
 use std::alloc::Global;
 use std::process::ExitCode;
 use std::rt::Env;
@@ -30,11 +30,14 @@ fn words<R: Env + AllocGlobal>(rt: &R, alloc: Global) -> io::Result<Vec<String>>
     Ok(words)
 }
 
-fn main(rt: HostRuntime) -> io::Result<ExitCode> {
-    let words = words(&rt, rt.alloc())?;
+fn main(rt: HostRuntime) -> ExitCode {
+    let mut errors = Writer(rt.stderr());
+    let Ok(words) = words(&rt, rt.alloc()) else {
+        let _ = errors.write(FAILED);
+        return ExitCode::from(FAILURE);
+    };
     let mut input = Reader(rt.stdin());
     let mut output = Writer(rt.stdout());
-    let mut errors = Writer(rt.stderr());
     let status = run(
         &rt,
         rt.alloc(),
@@ -43,5 +46,5 @@ fn main(rt: HostRuntime) -> io::Result<ExitCode> {
         &mut output,
         &mut errors,
     );
-    Ok(ExitCode::from(status))
+    ExitCode::from(status)
 }

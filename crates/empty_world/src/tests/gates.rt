@@ -184,7 +184,7 @@ fn scatter_in_empty_world<W: World + Send + Sync>(
 }
 
 #[test]
-fn a_scatter_reads_its_shards_at_once(rt: HostRuntime) -> Result<(), Fail> {
+fn scatter_reads_in_turn_would_wait(rt: HostRuntime) -> Result<(), Fail> {
     let alloc = rt.alloc();
     let schema = VSchema::read(alloc, SHOP)?;
     let ranges = halves()?;
@@ -293,7 +293,7 @@ fn beside_in_empty_world<W: World + Send + Sync, R: Threads + Wait + Sync>(
 }
 
 #[test]
-fn no_lock_but_a_shards_own_is_held_over_a_statement(rt: HostRuntime) -> Result<(), Fail> {
+fn one_mutex_round_all_shards_would_hold_up_a_read(rt: HostRuntime) -> Result<(), Fail> {
     let alloc = rt.alloc();
     let schema = VSchema::read(alloc, SHOP)?;
     let ranges = halves()?;

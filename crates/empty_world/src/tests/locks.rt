@@ -164,7 +164,7 @@ fn insert_in_empty_world<W: World + Send + Sync, R: Threads + Wait + Sync>(
 }
 
 #[test]
-fn a_write_waits_for_no_lock_of_another_shard(rt: HostRuntime) -> Result<(), Fail> {
+fn one_mutex_round_all_shards_would_hold_up_a_write(rt: HostRuntime) -> Result<(), Fail> {
     let alloc = rt.alloc();
     let schema = VSchema::read(alloc, SHOP)?;
     let ranges = halves()?;

@@ -1,5 +1,6 @@
-use super::*;
+//! Commands and replies of worked bytes.
 use bytes::BytesMut;
+use mysql_message::{Command, numbers, put_eof, put_err, put_ok, read_command};
 use std::test::Fail;
 use vt_value::Refusal;
 

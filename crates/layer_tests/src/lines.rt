@@ -1,11 +1,12 @@
-use crate::{
-    Line, count_line, next_line, plan_line, put_rows, read_line, read_ranges, refusal_line,
-};
+//! The words and lines of the program.
 use keyrange::KeyRange;
 use std::alloc::Global;
 use std::test::Fail;
 use vschema::VSchema;
 use vt_value::{Items, Refusal, Value};
+use vtgate_lines::{
+    Line, count_line, next_line, plan_line, put_rows, read_line, read_ranges, refusal_line,
+};
 
 /// Words of shards, and the first and the last of their ranges, in order.
 const WORDS: [(&str, Option<(&str, &str)>); 12] = [

@@ -1,7 +1,8 @@
-use super::*;
+//! Values, rows and refusals.
 use std::alloc::Global;
 use std::cmp::Ordering;
 use std::test::Fail;
+use vt_value::{Comparison, Items, Refusal, Truth, Value, compare, copy, copy_row, sort_order};
 
 fn text(alloc: Global, bytes: &[u8]) -> Result<Value, Fail> {
     Ok(Value::Bytes(Items::from_slice(alloc, bytes)?))

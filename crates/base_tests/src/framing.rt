@@ -1,13 +1,16 @@
+//! Payloads as packets, and read from pieces of a stream.
 ghost use Rattle.std.specs.Prelude.{◌<◌};
 
-use super::*;
-use crate::payload::FULL_PART;
 use bytes::BytesMut;
+use mysql_packet::{Fault, Framer, bounded_rest, one_framing, put_payload, read_back};
 use std::alloc::Global;
 use std::test::Fail;
 use vt_value::Refusal;
 
 const LIMIT: usize = 1 << 20;
+
+/// The most bytes of a packet's part of a payload.
+const FULL_PART: usize = 0xFF_FFFF;
 
 /// What a stream gives in pieces of this length: of each payload its numbers and its bytes, and then the fault.
 fn read(alloc: Global, stream: &[u8], piece_len: usize) -> Result<(Vec<u8>, Option<Fault>), Fail>

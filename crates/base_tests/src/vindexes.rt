@@ -1,8 +1,9 @@
-use crate::{
-    AnyVindex, Binary, BinaryMd5, Ksid, Numeric, ReverseBits, Reversible, Vindex, map_and_reverse,
-};
+//! Keyspace ids of worked keys, and digests from their standard.
 use std::process::Abort;
 use std::test::Fail;
+use vindex::{
+    AnyVindex, Binary, BinaryMd5, Ksid, Numeric, ReverseBits, Reversible, Vindex, map_and_reverse,
+};
 use vt_value::{Items, Value};
 
 // The id has these hexadecimal digits.

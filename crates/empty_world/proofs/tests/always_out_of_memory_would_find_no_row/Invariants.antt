@@ -1,6 +1,6 @@
 use Rattle.shard.specs.Shards.{most_limits}
 use Rattle.empty_opening.specs.Empty.{opening_of}
-use Rattle.empty_world.proofs.tests.a_row_is_inserted_and_found.Given as goal
+use Rattle.empty_world.proofs.tests.always_out_of_memory_would_find_no_row.Given as goal
 
 -- the world of this VSchema and these ranges
 abbrev pub ghosts-in_empty_world : goal.ghosts-in_empty_world

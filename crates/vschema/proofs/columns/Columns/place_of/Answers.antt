@@ -1,0 +1,12 @@
+use Rattle.std.proofs.Common.{bytes_eq, ◌∙◌}
+use Rattle.vschema.specs.declared.schema.Column.{Column}
+use Rattle.vschema.specs.Schema.{place_from}
+use Rattle.vschema.proofs.ByName.{place_by_name}
+use Rattle.vschema.proofs.columns.Columns.place_of.Goals as goal
+
+pub returns : goal.returns
+returns c =
+    let name = c.as_slice.result.now in
+    let columns = c.self.inside.by_name.keys in
+    c.get_index_of.ensures.index ∙ place_by_name name columns
+    ∙ (λ i. place_from (λ (x : Column). bytes_eq x.name (c.as_slice.ensures i)) 0 (c.self.view_is i))
