@@ -104,12 +104,14 @@ impl Columns {
         Ok(self.by_name.insert(column)?)
     }
 
+    /// The columns, in their order.
     pub fn as_slice(&self) -> &[Column]
         ensures { result.now ≡ self.now }
     {
         self.by_name.as_slice()
     }
 
+    /// How many columns there are.
     pub fn len(&self) -> usize
         ensures { result ≡ length self.now }
     {
