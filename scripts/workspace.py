@@ -1,0 +1,69 @@
+"""What crates.txt says of the workspace, and which crates a change touches. For the scripts beside it."""
+
+import pathlib
+import re
+import subprocess
+
+TOP = pathlib.Path(__file__).resolve().parent.parent
+PROVED = ("src", "specs", "proofs")
+# What a crate's callers see: its definitions, and in its code clauses, public items and the types and traits that they speak of.
+CONTRACT = re.compile(r"^[+-]\s*(pub\b|ensures\b|requires\b|law\b|invariant\b|trait\b|impl\b|ghost\b|type\b|///)", re.M)
+
+
+def crates():
+    """Returns the libraries of the workspace that each crate names, the crates lowest first."""
+    named = {}
+    for line in (TOP / "crates.txt").read_text().splitlines():
+        head, colon, below = line.partition("#")[0].partition(":")
+        if colon:
+            named[head.split()[0]] = below.split()
+    below = {name: [it for it in libraries if it in named] for name, libraries in named.items()}
+    ordered = []
+
+    def visit(name):
+        if name not in ordered:
+            for it in below[name]:
+                visit(it)
+            ordered.append(name)
+
+    for name in below:
+        visit(name)
+    return {name: below[name] for name in ordered}
+
+
+def above(names, below):
+    """Returns these crates and all that stand on one of them, lowest first."""
+    found = set()
+    for name in below:
+        if name in names or found & set(below[name]):
+            found.add(name)
+    return [name for name in below if name in found]
+
+
+def git(*words):
+    return subprocess.run(["git", "-C", TOP, *words], check=True, capture_output=True, text=True).stdout
+
+
+def paths_since(commit):
+    """Returns the paths that differ from the commit, those that git doesn't know yet among them."""
+    return git("diff", "--name-only", commit).split() + git("ls-files", "--others", "--exclude-standard").split()
+
+
+def since(commit, parts, below):
+    """Returns the crates of which a path in one of these folders differs from the commit, or whose line in crates.txt does."""
+    found = set()
+    for path in paths_since(commit):
+        folders = path.split("/")
+        if folders[0] == "crates" and len(folders) > 3 and folders[2] in parts:
+            found.add(folders[1])
+    lines = git("diff", "-U0", commit, "--", "crates.txt")
+    found.update(re.findall(r"^\+(\w+)(?: [^:\n]*)?:", lines, re.M))
+    return [name for name in below if name in found]
+
+
+def changes_contracts(commit, name):
+    """Tells whether what the crate's callers see differs from the commit."""
+    folder = f"crates/{name}"
+    news = git("ls-files", "--others", "--exclude-standard", "--", f"{folder}/specs", f"{folder}/src")
+    specs = git("diff", "--name-only", commit, "--", f"{folder}/specs")
+    return bool(news or specs or CONTRACT.search(git("diff", "-U0", commit, "--", f"{folder}/src")))
