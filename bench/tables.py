@@ -1,0 +1,78 @@
+"""Writes what the measurements printed as tables, with ratios. Called by measure.sh with the folder that has their output."""
+
+import datetime
+import os
+import pathlib
+import re
+import sys
+
+HEAD = """# Performance
+
+Written by `bench/measure.sh` on {day}, on a machine of {cores} processors; all figures are of one run, one measurement after the other. A
+ratio is to the first line of its table or group; what else ran on the machine then isn't known, so compare ratios, not figures.
+"""
+
+
+def ratio(figure, first):
+    return f"{figure / first:.2f}" if first else "-"
+
+
+def table(head, rows):
+    print("\n" + "| " + " | ".join(head) + " |\n|" + "---|" * len(head))
+    for row in rows:
+        print("| " + " | ".join(str(it) for it in row) + " |")
+
+
+def numbers(line):
+    return [int(it) for it in re.findall(r"\d+", line)]
+
+
+def texts(lines):
+    print("\n## Reading SQL texts\n\nMegabytes a second: a point query, an INSERT of 4,096 numbers, and INSERTs of more and more texts.")
+    read = [numbers(it) for it in lines]
+    rows = [(size, lexed, ratio(lexed, read[0][1]), parsed, ratio(parsed, read[0][2])) for size, lexed, parsed in read]
+    table(("bytes", "lexing", "ratio", "parsing", "ratio"), rows)
+
+
+def entries(lines):
+    print("\n## The journal\n\nAppends and looks a second by threads that each have a slot of their own, and by threads that share one.")
+    rows, first = [], None
+    for line in lines:
+        name, _, rest = line.partition(":")
+        appends, looks = numbers(rest)
+        first = first or (appends, looks)
+        rows.append((name, appends, ratio(appends, first[0]), looks, ratio(looks, first[1])))
+    table(("", "appends", "ratio", "looks", "ratio"), rows)
+
+
+def queries(lines):
+    print("\n## Queries\n\nMicroseconds a query through the engine, without a connection, over more and more shards. The ratio is to one shard.")
+    rows, first, planning = [], {}, ""
+    for line in lines:
+        found = re.match(r"shards (\d+), rows (\d+): (.*): (\d+) microseconds", line)
+        if found:
+            shards, each, name, micros = found[1], found[2], found[3], int(found[4])
+            first.setdefault(name, micros)
+            rows.append((name, shards, each, micros, ratio(micros, first[name])))
+        else:
+            planning = line
+    table(("query", "shards", "rows in each", "microseconds", "ratio"), rows)
+    print(f"\n{planning[:1].upper()}{planning[1:]}.")
+
+
+def writes(lines):
+    print("\n## Writes and point queries\n\nStatements a second on one shard, by one session and by two in threads of their own.")
+    read = [numbers(it) for it in lines]
+    rows = [(sessions, inserts, ratio(inserts, read[0][1]), selects, ratio(selects, read[0][2])) for sessions, inserts, selects in read]
+    table(("sessions", "INSERTs", "ratio", "SELECTs", "ratio"), rows)
+
+
+def main():
+    folder = pathlib.Path(sys.argv[1])
+    print(HEAD.format(day=datetime.date.today(), cores=os.cpu_count()), end="")
+    for name, write in (("texts", texts), ("entries", entries), ("queries", queries), ("writes", writes)):
+        write((folder / name).read_text().splitlines())
+
+
+if __name__ == "__main__":
+    main()
