@@ -170,10 +170,9 @@ fn whole(alloc: Global, text: &[u8], tokens: &[Token]) -> Result<Statement, Refu
     ensures { Gives (λ x. x) result (text_at (lexemes_of text.now tokens.now)) }
 {
     let (statement, rest) = statement(alloc, text, tokens)?;
-    if !is_text(&statement, rest) {
-        return Err(Refusal::SyntaxError);
-    }
-    Ok(statement)
+    is_text(&statement, rest)
+        .then_some(statement)
+        .ok_or(Refusal::SyntaxError)
 }
 
 /// The tree of a text, which is one statement of the grammar with at most one semicolon behind it. Any other text is a
