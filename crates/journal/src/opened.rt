@@ -1,4 +1,4 @@
-ghost use Rattle.std.specs.Prelude.{◌≡◌, [], None, IfOk, IfErr};
+ghost use Rattle.std.specs.Prelude.{◌≡◌, [], None, IfOk, IfErr, OnOk};
 ghost use Rattle.vt_value.specs.declared.refusal.Refusal.TheVariants.{OutOfMemory};
 
 use crate::law::{Law, Naming};
@@ -39,6 +39,7 @@ impl<L: Law> Model for Opened<L> {
 }
 
 impl<L: Law> Opened<L> {
+    ghost use Rattle.journal.specs.Rules.{dealing_view};
     ghost use Rattle.journal.specs.Views.{new_pass, fresh_seats};
 
     /// Opens a table, each word 0. It refuses `OutOfMemory` where no block is given.
@@ -47,6 +48,28 @@ impl<L: Law> Opened<L> {
     {
         let (table, seat) = Table::of_words(alloc, &[0; 64], &())?;
         Ok(Opened { table, seat })
+    }
+
+    // The seats of the slots in order, each with its slot from the seat that has all of them.
+    fn dealt<J: Naming>(
+        alloc: Global,
+        words: &Arc<Words<L, J>>,
+        from: &mut Knower<L>,
+    ) -> Result<Vec<ShardSeat<L, J>>, Refusal>
+        requires table { from.old.table_id ≡ J.table }
+        requires all { from.old.me ≡ (dealing_view 0, []) }
+        ensures table { from.new.table_id ≡ J.table }
+        ensures none { OnOk result (from.new.me ≡ (dealing_view 64, [])) }
+        ensures seats { IfOk result (λ seats. seats.items ≡ fresh_seats 64) }
+        ensures refused { IfErr result (λ e. e ≡ OutOfMemory) }
+    {
+        let mut seats = Vec::with_capacity(alloc, SLOTS)?;
+        for slot in 0..SLOTS {
+            let words = Arc::try_clone(words)?;
+            let seat = words.deal(from);
+            seats.push(ShardSeat { words, seat, slot })?;
+        }
+        Ok(seats)
     }
 
     /// The seats of the slots in order, the opener, which gives number 0 first, and a first pass without a session
@@ -69,16 +92,7 @@ impl<L: Law> Opened<L> {
                 of: PhantomData,
             },
         )?;
-        let mut seats = Vec::with_capacity(alloc, SLOTS)?;
-        for slot in 0..SLOTS {
-            let own = Arc::try_clone(&words)?;
-            let first = own.deal(&mut seat);
-            seats.push(ShardSeat {
-                words: own,
-                seat: first,
-                slot,
-            })?;
-        }
+        let seats = Self::dealt(alloc, &words, &mut seat)?;
         let own = Arc::try_clone(&words)?;
         let first = own.note(&mut seat);
         let pass = Pass {

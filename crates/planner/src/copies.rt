@@ -19,6 +19,20 @@ pub fn copy_operand(alloc: Global, operand: &Operand<usize>) -> Result<Operand<u
     }
 }
 
+fn copy_operands(
+    alloc: Global,
+    a: &Operand<usize>,
+    b: &Operand<usize>,
+) -> Result<(Operand<usize>, Operand<usize>), Refusal>
+    ensures left { IfOk result (λ o. o.0 ≡ a.now) }
+    ensures right { IfOk result (λ o. o.1 ≡ b.now) }
+    ensures err { IfErr result (λ e. e ≡ Refusal.OutOfMemory) }
+{
+    let a = copy_operand(alloc, a)?;
+    let b = copy_operand(alloc, b)?;
+    Ok((a, b))
+}
+
 #[cycle(copy)]
 pub fn copy_condition(
     alloc: Global,
@@ -29,13 +43,12 @@ pub fn copy_condition(
 {
     match condition {
         Condition::Compare(op, a, b) => {
-            let a = copy_operand(alloc, a)?;
-            let b = copy_operand(alloc, b)?;
+            let (a, b) = copy_operands(alloc, a, b)?;
             Ok(Condition::Compare(*op, a, b))
         }
         Condition::In(a, members) => {
-            let a = copy_operand(alloc, a)?;
             let members = copy_row(alloc, members)?;
+            let a = copy_operand(alloc, a)?;
             Ok(Condition::In(a, members))
         }
         Condition::IsNull(a) => {

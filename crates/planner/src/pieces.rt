@@ -181,13 +181,13 @@ impl Plan {
         ensures ok { IfOk result (λ piece. piece ≡ piece_of table.now self.now range.now) }
         ensures err { IfErr result (λ e. e ≡ Refusal.OutOfMemory) }
     {
+        let items = copy_items(alloc, self.piece.items.as_slice())?;
+        let group_by = copy_places(alloc, self.piece.group_by.as_slice())?;
+        let order_by = copy_keys(alloc, self.piece.order_by.as_slice())?;
         let filter = match &self.piece.filter {
             Some(condition) => Some(shard_condition(alloc, table, &self.route, range, condition)?),
             None => None,
         };
-        let items = copy_items(alloc, self.piece.items.as_slice())?;
-        let group_by = copy_places(alloc, self.piece.group_by.as_slice())?;
-        let order_by = copy_keys(alloc, self.piece.order_by.as_slice())?;
         Ok(Query {
             table: self.piece.table,
             items,

@@ -92,13 +92,21 @@ fn group_items(
     Ok(items)
 }
 
+// What a shard shows of each of its groups.
+fn pushed_items(alloc: Global, query: &Query) -> Result<Items<Item<usize>>, Refusal>
+    ensures ok { IfOk result (λ items. items ≡ (pushed_groups query.now).items) }
+    ensures err { IfErr result (λ e. e ≡ Refusal.OutOfMemory) }
+{
+    let Grouping { aggregates, .. } = Grouping::of(alloc, query)?;
+    let columns = query.group_by.as_slice();
+    group_items(alloc, columns, aggregates.as_slice())
+}
+
 fn pushed_groups(alloc: Global, query: Query) -> Result<Query, Refusal>
     ensures ok { IfOk result (λ piece. piece ≡ pushed_groups query) }
     ensures err { IfErr result (λ e. e ≡ Refusal.OutOfMemory) }
 {
-    let Grouping { aggregates, .. } = Grouping::of(alloc, &query)?;
-    let columns = query.group_by.as_slice();
-    let items = group_items(alloc, columns, aggregates.as_slice())?;
+    let items = pushed_items(alloc, &query)?;
     let Query {
         table,
         filter,
@@ -207,6 +215,20 @@ fn query_route(alloc: Global, schema: &VSchema, query: &Query) -> Result<Route, 
     }
 }
 
+fn route_and_finish(
+    alloc: Global,
+    schema: &VSchema,
+    query: &Query,
+) -> Result<(Route, Finish), Refusal>
+    ensures route { IfOk result (λ r. r.0 ≡ route_of (table_at schema.now query.now.table) query.now.filter) }
+    ensures finish { IfOk result (λ r. r.1 ≡ finish_of query.now) }
+    ensures err { IfErr result (λ e. e ≡ Refusal.OutOfMemory) }
+{
+    let route = query_route(alloc, schema, query)?;
+    let finish = finish_of(alloc, query)?;
+    Ok((route, finish))
+}
+
 /// The plan of a query. Refuses only for want of memory.
 pub fn plan(alloc: Global, schema: &VSchema, query: Query) -> Result<Plan, Refusal>
     ensures exact { IfOk result (λ p. p ≡ planned (table_at schema.now query.table) query) }
@@ -214,8 +236,7 @@ pub fn plan(alloc: Global, schema: &VSchema, query: Query) -> Result<Plan, Refus
     ensures skips { IfOk result (SkipsNothing schema.now query) }
     ensures err { IfErr result (λ e. e ≡ Refusal.OutOfMemory) }
 {
-    let route = query_route(alloc, schema, &query)?;
-    let finish = finish_of(alloc, &query)?;
+    let (route, finish) = route_and_finish(alloc, schema, &query)?;
     let piece = pushed(alloc, query)?;
     Ok(Plan {
         route,

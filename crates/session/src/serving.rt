@@ -1,4 +1,4 @@
-ghost use Rattle.std.specs.Prelude.{◌≡◌, ℕ, ◌<◌, List, ◌++◌, IsSome, IfOk, IfSome, length, vec_len};
+ghost use Rattle.std.specs.Prelude.{◌≡◌, ℕ, ◌<◌, List, ◌++◌, IsSome, IfOk, IfSome, length, vec_len, []};
 ghost use Rattle.std.specs.Io.{ReadsAtMost};
 ghost use Rattle.std.specs.Io.KnownBytes.{Appends, Consumes, IsAtEnd, ReadConsumes};
 ghost use Rattle.route_engine.specs.Alone.{NoOthers};
@@ -66,6 +66,35 @@ fn serve_piece<W: World + Send + Sync, J: Naming + Send + Sync, G: Gate, R: Sour
     core.feed(rt, alloc, engine, pass, &buffer[..n], sink)
 }
 
+/// Reads the input piece by piece, and answers it, until the session ends.
+fn serve_pieces<W: World + Send + Sync, J: Naming + Send + Sync, G: Gate, R: Source, S: Sink>(
+    rt: &(impl Threads + Wait + Sync),
+    alloc: Global,
+    engine: &Engine<W, J, G>,
+    pass: &mut Pass<ShardLaw<W>, J>,
+    core: &mut Core,
+    buffer: &mut [u8],
+    source: &mut R,
+    sink: &mut S,
+) -> Result<End, SessionFault>
+    requires room { 0 < length buffer.old }
+    requires limit { core.old.framing.limit ≡ COMMAND_LIMIT }
+    requires begins { HasTalked (Means W.opening W.limits) core.old pass.old [] [] pass.old }
+    requires session { IsSome pass.old.session }
+    ensures talk { IfOk result (λ end. (read : List ℕ) × (written : List ℕ)
+        × Consumes (R.unread source.old) (R.unread source.new) read × Appends (S.taken sink.old) (S.taken sink.new) written
+        × Talk COMMAND_LIMIT (Means W.opening W.limits) pass.old read written end pass.new) }
+    ensures at_end { IfOk result (λ end. IsByInput end → IsAtEnd (R.unread source.new)) }
+    ensures session { pass.new.session ≡ pass.old.session }
+{
+    for _ in 0..u64::MAX {
+        if let Some(end) = serve_piece(rt, alloc, engine, pass, core, buffer, source, sink)? {
+            return Ok(end);
+        }
+    }
+    Err(SessionFault::Read)
+}
+
 /// Serves one connection from its command phase on, until it ends: reads commands from the source, and writes their replies to
 /// the sink. A source that gave 2^64 - 1 pieces counts as failed.
 pub fn serve<W: World + Send + Sync, J: Naming + Send + Sync, G: Gate, R: Source, S: Sink>(
@@ -101,19 +130,14 @@ pub fn serve<W: World + Send + Sync, J: Naming + Send + Sync, G: Gate, R: Source
     let Ok(mut buffer) = zeroed(alloc, PIECE) else {
         return Err(SessionFault::Memory);
     };
-    for _ in 0..u64::MAX {
-        if let Some(end) = serve_piece(
-            rt,
-            alloc,
-            engine,
-            pass,
-            &mut core,
-            &mut buffer,
-            source,
-            sink,
-        )? {
-            return Ok(end);
-        }
-    }
-    Err(SessionFault::Read)
+    serve_pieces(
+        rt,
+        alloc,
+        engine,
+        pass,
+        &mut core,
+        &mut buffer,
+        source,
+        sink,
+    )
 }

@@ -7,7 +7,7 @@ ghost use Rattle.sql_parser.specs.Reading.{is_and, is_or, after_at, all_follow, 
 ghost use Rattle.sql_parser.specs.Reading.{predicate_at, negation_at, not_at, and_at, or_at};
 
 use crate::kinds::{AND, IN, IS, NOT, NULL, OPEN, OR};
-use crate::literals::{close, members, operand};
+use crate::literals::{closed, members, operand};
 use sql_lexer::{Token, TokenKind};
 use sql_tree::{Condition, Name, Operand};
 use std::alloc::Global;
@@ -168,8 +168,7 @@ fn negation<'s>(
         }
         [Token { kind: OPEN, .. }, rest @ ..] => {
             let (inner, rest) = or(alloc, text, deeper, rest)?;
-            let rest = close(rest)?;
-            Ok((inner, rest))
+            closed(inner, rest)
         }
         _ => predicate(alloc, text, true, tokens),
     }

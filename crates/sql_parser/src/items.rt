@@ -5,7 +5,7 @@ ghost use Rattle.sql_lexer.specs.Results.{Gives};
 ghost use Rattle.sql_parser.specs.Reading.{listed_at, argument_at, count_at, item_at, list_at};
 
 use crate::kinds::{CLOSE, COUNT, MAX, MIN, OPEN, STAR, SUM};
-use crate::literals::{close, open};
+use crate::literals::{closed, open};
 use crate::names::{after_comma, name};
 use sql_lexer::Token;
 use sql_tree::{Item, Name, SelectList};
@@ -23,8 +23,7 @@ fn argument<'s>(
 {
     let rest = open(tokens)?;
     let (column, rest) = name(alloc, text, rest)?;
-    let rest = close(rest)?;
-    Ok((column, rest))
+    closed(column, rest)
 }
 
 /// (*) | (column), behind COUNT.

@@ -1,5 +1,5 @@
 //! Literals and operands.
-ghost use Rattle.std.specs.Prelude.{◌≡◌, ℕ, List};
+ghost use Rattle.std.specs.Prelude.{◌≡◌, ℕ, List, IfOk};
 ghost use Rattle.sql_lexer.specs.Lexemes.{lexemes_of};
 ghost use Rattle.sql_lexer.specs.Results.{Gives};
 ghost use Rattle.sql_parser.specs.Reading.{listed_at, close_at, open_at, natural_at, negative_at, literal_at};
@@ -18,7 +18,7 @@ const MAX_NEGATIVE: u64 = 0x8000_0000_0000_0000;
 
 /// What stands behind a closing parenthesis.
 #[tactic(auto, unfolding(crate::specs::Reading::close_at))]
-pub fn close(tokens: &[Token]) -> Result<&[Token], Refusal>
+fn close(tokens: &[Token]) -> Result<&[Token], Refusal>
     ensures { (text : List ℕ)
         → Gives (λ rest. lexemes_of text rest.now) result (close_at (lexemes_of text tokens.now)) }
 {
@@ -26,6 +26,16 @@ pub fn close(tokens: &[Token]) -> Result<&[Token], Refusal>
         [Token { kind: CLOSE, .. }, rest @ ..] => Ok(rest),
         _ => Err(Refusal::SyntaxError),
     }
+}
+
+/// What was read in parentheses, and what stands behind the closing one.
+pub fn closed<'s, T: Drop>(inner: T, tokens: &'s [Token]) -> Result<(T, &'s [Token]), Refusal>
+    ensures same { IfOk result (λ x. x.0 ≡ inner) }
+    ensures behind { (text : List ℕ)
+        → Gives (λ x. lexemes_of text x.1.now) result (close_at (lexemes_of text tokens.now)) }
+{
+    let rest = close(tokens)?;
+    Ok((inner, rest))
 }
 
 /// What stands behind an opening parenthesis.
@@ -114,8 +124,7 @@ pub fn members<'s>(
 {
     let rest = open(tokens)?;
     let (members, rest) = literals(alloc, text, rest)?;
-    let rest = close(rest)?;
-    Ok((members, rest))
+    closed(members, rest)
 }
 
 /// operand = column | literal

@@ -20,6 +20,18 @@ use sql_tree::{CharacterSet, Select, Statement};
 use std::alloc::Global;
 use vt_value::{Items, Refusal};
 
+/// What was read so far together with what was read next.
+fn both<'s, A: Drop, B>(
+    first: A,
+    next: Result<(B, &'s [Token]), Refusal>,
+) -> Result<((A, B), &'s [Token]), Refusal>
+    ensures ok { IfOk result (λ x. (x.0.0 ≡ first) × (next.entry ≡ Ok (x.0.1, x.1))) }
+    ensures err { IfErr result (λ e. next.entry ≡ Err e) }
+{
+    let (second, rest) = next?;
+    Ok(((first, second), rest))
+}
+
 /// list FROM name and the clauses behind it, behind SELECT.
 #[tactic(auto, unfolding(crate::specs::Reading::select_at))]
 fn select<'s>(
@@ -30,11 +42,12 @@ fn select<'s>(
     ensures { Gives (λ x. (x.0, lexemes_of text.now x.1.now)) result (select_at (lexemes_of text.now tokens.now)) }
 {
     let (list, rest) = list(alloc, text, tokens)?;
-    let (table, rest) = from(alloc, text, rest)?;
-    let (filter, rest) = filter(alloc, text, rest)?;
-    let (group_by, rest) = group(alloc, text, rest)?;
-    let (order_by, rest) = order(alloc, text, rest)?;
-    let (limit, rest) = limit(text, rest)?;
+    let (parts, rest) = both(list, from(alloc, text, rest))?;
+    let (parts, rest) = both(parts, filter(alloc, text, rest))?;
+    let (parts, rest) = both(parts, group(alloc, text, rest))?;
+    let (parts, rest) = both(parts, order(alloc, text, rest))?;
+    let (parts, rest) = both(parts, limit(text, rest))?;
+    let (((((list, table), filter), group_by), order_by), limit) = parts;
     let select = Select {
         list,
         table,
@@ -170,10 +183,9 @@ fn whole(alloc: Global, text: &[u8], tokens: &[Token]) -> Result<Statement, Refu
     ensures { Gives (λ x. x) result (text_at (lexemes_of text.now tokens.now)) }
 {
     let (statement, rest) = statement(alloc, text, tokens)?;
-    if !is_text(&statement, rest) {
-        return Err(Refusal::SyntaxError);
-    }
-    Ok(statement)
+    is_text(&statement, rest)
+        .then_some(statement)
+        .ok_or(Refusal::SyntaxError)
 }
 
 /// The tree of a text, which is one statement of the grammar with at most one semicolon behind it. Any other text is a

@@ -7,7 +7,7 @@ ghost use Rattle.sql_parser.specs.Reading.{set_at, equals_at, assignment_at, ins
 
 use crate::clauses::{filter, from};
 use crate::kinds::{EQUAL, OPEN, SET, VALUES};
-use crate::literals::{close, literal, members, open};
+use crate::literals::{closed, literal, members, open};
 use crate::names::{after_comma, name, names};
 use sql_lexer::Token;
 use sql_tree::{Assignment, Delete, Insert, Name, Update};
@@ -62,8 +62,7 @@ fn bracketed_names<'s>(
 {
     let rest = open(tokens)?;
     let (names, rest) = names(alloc, text, rest)?;
-    let rest = close(rest)?;
-    Ok((names, rest))
+    closed(names, rest)
 }
 
 /// [(column,..)]

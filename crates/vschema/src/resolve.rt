@@ -45,6 +45,21 @@ fn resolve_operand(
     }
 }
 
+fn resolve_operands(
+    alloc: Global,
+    table: &Table,
+    a: &Operand<Name>,
+    b: &Operand<Name>,
+) -> Result<(Operand<usize>, Operand<usize>), Refusal>
+    ensures left { IfOk result (λ r. r.0 ≡ resolved_operand table.now a.now) }
+    ensures right { IfOk result (λ r. r.1 ≡ resolved_operand table.now b.now) }
+    ensures err { IfErr result (λ e. e ≡ Refusal.OutOfMemory) }
+{
+    let a = resolve_operand(alloc, table, a)?;
+    let b = resolve_operand(alloc, table, b)?;
+    Ok((a, b))
+}
+
 #[cycle(condition)]
 fn resolve_condition(
     alloc: Global,
@@ -56,13 +71,12 @@ fn resolve_condition(
 {
     match condition {
         Condition::Compare(op, a, b) => {
-            let a = resolve_operand(alloc, table, a)?;
-            let b = resolve_operand(alloc, table, b)?;
+            let (a, b) = resolve_operands(alloc, table, a, b)?;
             Ok(Condition::Compare(*op, a, b))
         }
         Condition::In(a, members) => {
-            let a = resolve_operand(alloc, table, a)?;
             let members = copy_values(alloc, members.as_slice())?;
+            let a = resolve_operand(alloc, table, a)?;
             Ok(Condition::In(a, members))
         }
         Condition::IsNull(a) => {
@@ -213,9 +227,9 @@ fn query_over(alloc: Global, place: usize, table: &Table, select: &Select) -> Re
     ensures err { IfErr result (λ e. e ≡ Refusal.OutOfMemory) }
 {
     let items = resolve_list(alloc, table, &select.list)?;
-    let filter = resolve_filter(alloc, table, &select.filter)?;
     let group_by = resolve_names(alloc, table, select.group_by.as_slice())?;
     let order_by = resolve_keys(alloc, table, select.order_by.as_slice())?;
+    let filter = resolve_filter(alloc, table, &select.filter)?;
     Ok(Query {
         table: place,
         items,
@@ -265,6 +279,34 @@ impl VSchema {
     ghost use Rattle.std.specs.Prelude.{◌≡◌, ◌⊎◌, IfOk, IfErr, Ok, Err};
     ghost use Rattle.vschema.specs.TypedStatement.{typed_statement};
 
+    fn typed(&self, alloc: Global, statement: &Statement) -> Result<Typed, Refusal>
+        ensures ok { IfOk result (λ typed. typed_statement self.now statement.now ≡ Ok typed) }
+        ensures err { IfErr result (λ e. (e ≡ Refusal.OutOfMemory) ⊎ (typed_statement self.now statement.now ≡ Err e)) }
+    {
+        match statement {
+            Statement::Select(select) => {
+                let query = resolve_select(alloc, self, select)?;
+                Ok(Typed::Select(query))
+            }
+            Statement::Insert(insert) => {
+                let write = resolve_insert(alloc, self, insert)?;
+                Ok(Typed::Write(write))
+            }
+            Statement::Update(update) => {
+                let write = resolve_update(alloc, self, update)?;
+                Ok(Typed::Write(write))
+            }
+            Statement::Delete(delete) => {
+                let write = resolve_delete(alloc, self, delete)?;
+                Ok(Typed::Write(write))
+            }
+            Statement::Begin => Ok(Typed::Begin),
+            Statement::Commit => Ok(Typed::Commit),
+            Statement::Rollback => Ok(Typed::Rollback),
+            Statement::SetNames(_) => Ok(Typed::SetNames),
+        }
+    }
+
     /// The statement with its names resolved, or the first refusal that applies, in this order: an unknown table; a column
     /// named twice in INSERT's list or in SET; a row with another number of values than columns; an unknown column; a number
     /// with a text, a SUM of texts, or SET of a key; a column of an aggregated query that isn't grouped; a column that INSERT
@@ -274,27 +316,8 @@ impl VSchema {
         ensures ok { IfOk result (λ typed. typed_statement self.now statement ≡ Ok typed) }
         ensures err { IfErr result (λ e. (e ≡ Refusal.OutOfMemory) ⊎ (typed_statement self.now statement ≡ Err e)) }
     {
-        match statement {
-            Statement::Select(select) => {
-                let query = resolve_select(alloc, self, &select)?;
-                Ok(Typed::Select(query))
-            }
-            Statement::Insert(insert) => {
-                let write = resolve_insert(alloc, self, &insert)?;
-                Ok(Typed::Write(write))
-            }
-            Statement::Update(update) => {
-                let write = resolve_update(alloc, self, &update)?;
-                Ok(Typed::Write(write))
-            }
-            Statement::Delete(delete) => {
-                let write = resolve_delete(alloc, self, &delete)?;
-                Ok(Typed::Write(write))
-            }
-            Statement::Begin => Ok(Typed::Begin),
-            Statement::Commit => Ok(Typed::Commit),
-            Statement::Rollback => Ok(Typed::Rollback),
-            Statement::SetNames(_) => Ok(Typed::SetNames),
-        }
+        let typed = self.typed(alloc, &statement);
+        drop(statement);
+        typed
     }
 }

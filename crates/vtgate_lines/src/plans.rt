@@ -122,6 +122,20 @@ fn write_line(
     printed(alloc, name, &route, ranges, &places)
 }
 
+fn owned_line(
+    alloc: Global,
+    schema: &VSchema,
+    ranges: &[KeyRange],
+    write: Write,
+) -> Result<Vec<u8>, Refusal>
+    ensures ok { IfOk result (λ line. line.items ≡ write_text schema.now ranges.now write) }
+    ensures err { IfErr result (λ e. e ≡ Refusal.OutOfMemory) }
+{
+    let line = write_line(alloc, schema, ranges, &write);
+    drop(write);
+    line
+}
+
 fn typed_line(
     alloc: Global,
     schema: &VSchema,
@@ -135,9 +149,9 @@ fn typed_line(
         // A query has the route of a DELETE with its condition.
         Typed::Select(query) => {
             let write = Write::Delete(query.table, query.filter);
-            write_line(alloc, schema, ranges, &write)
+            owned_line(alloc, schema, ranges, write)
         }
-        Typed::Write(write) => write_line(alloc, schema, ranges, &write),
+        Typed::Write(write) => owned_line(alloc, schema, ranges, write),
         Typed::Begin | Typed::Commit | Typed::Rollback | Typed::SetNames => {
             printed(alloc, b"None", &Route::None, ranges, &[])
         }

@@ -4,7 +4,7 @@ use Rattle.planner.proofs.planning.plan.Goals as goal
 
 pub returns-clause-right : goal.returns-clause-right
 returns-clause-right c =
-    rights c.args.schema.now c.args.query _ (λ i. record { route = c.in_ok-route.ensures.ok i; piece = c.in_ok-piece.ensures.ok i; finish = c.in_ok-finish.ensures.ok i })
+    rights c.args.schema.now c.args.query _ (λ i. record { route = c.in_ok-route.ensures.route i; piece = c.in_ok-piece.ensures.ok i; finish = c.in_ok-route.ensures.finish i })
 
 pub returns-clause-skips : goal.returns-clause-skips
-returns-clause-skips c = skips c.args.schema.now c.args.query (record { route = c.in_ok-route.route; piece = c.in_ok-piece.piece; finish = c.in_ok-finish.finish }) c.in_ok-route.ensures.ok
+returns-clause-skips c = skips c.args.schema.now c.args.query (record { route = c.in_ok-route.route; piece = c.in_ok-piece.piece; finish = c.in_ok-route.finish }) c.in_ok-route.ensures.route
