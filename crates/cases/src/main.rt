@@ -1,0 +1,91 @@
+//! Cases of the public calls that a text can reach, a case a line: its area, a tab, and its fields with tabs between them. Line N of the
+//! output answers line N of the input, so the first line at which they differ is that of a case that fails.
+//!
+//! A case costs nothing to add: write its line into `stdin`, and what it must give into the same line of `stdout`. What it must give comes
+//! from outside: a standard's table, another implementation, or a definition worked by hand, and never from this program.
+//! `scripts/cases` prints each case that fails.
+//!
+//! | Area | Fields | Answer |
+//! |---|---|---|
+//! | `print` | a text of SQL | its printed form |
+//! | `tokens` | a text of SQL | `kind:begin:end` of each token |
+//! | `keyword` | a word | whether it is a keyword |
+//! | `schema` | a VSchema | its keyspaces and tables, or the number of its fault |
+//! | `plan` | ranges, a VSchema, a text of SQL | the line of its plan, or of its refusal |
+//! | `keyrange` | a name | begin and end |
+//! | `covers` | names with commas between them | whether each id lies in just one range, and whether some two overlap |
+//! | `contains` | a range's name, an id | whether the id lies in the range |
+//! | `ranges` | a word | the ranges that it tells, in their order |
+//! | `ksid` | a vindex, a value | the value's keyspace id |
+//! | `key` | a vindex, an id | the number that has this id |
+//! | `cost` | a vindex | its cost |
+//! | `compare` | two values | the truth of each comparison, and their order |
+//! | `copy` | values | a copy of the row of them |
+//! | `refusal` | a number | its code, state and message |
+//! | `aggregate` | `count_star`, `count`, `sum`, `min` or `max`, values | what it gives over them |
+//! | `merge` | keys as `0:desc`, the rows of an input, those of another, .. | the rows of their merge |
+//! | `project` | places, rows | the rows of these places |
+//! | `payloads` | a limit, pieces of a stream | each payload with its first and last number, and the fault |
+//! | `packets` | a number, a payload | the packets, and the next number |
+//! | `command` | a payload | the command |
+//! | `ok` | a number, how many rows, a status | the OK packet, and the next number |
+//! | `eof` | a number, a status | the EOF packet, and the next number |
+//! | `err` | a number, a refusal's number | the ERR packet, and the next number |
+//! | `lenenc` | a number | its length-encoded bytes |
+//! | `string` | a text | its length-encoded bytes |
+//! | `read_lenenc` | bytes | the number at their front, and what follows |
+//! | `read_string` | bytes | the text at their front, and what follows |
+//! | `result` | the bytes of a result from number 1, status 2 | the result, and its bytes as they are spelled again |
+//! | `lines` | a text | its lines, each in brackets |
+//! | `line` | a line of a script | what it says |
+//! | `rows` | rows | their printed form |
+//! | `count` | a number | the printed form of a count |
+//! | `error` | a refusal's number | its printed form |
+//! | `laws` | none | `hold`, where each law is called without a premise |
+//!
+//! Several tokens, payloads, pieces or values have blanks between them, rows semicolons. Bytes and ids are in hexadecimal, a run of 64 or
+//! more equal bytes as `(07*300)`; no bytes, and an open edge, are told as `.`. In a text, each byte outside 20..7E and the backslash is
+//! `\x` and two digits; a VSchema and a word stand as they are. A value is `NULL`, a decimal number, or a text as `x` and hexadecimal. What
+//! isn't there is told as `none`, a syntax error as `refused`, another refusal as `refused` and its number. A line that is no case answers
+//! `unknown`.
+#![tactic(auto)]
+
+mod aggregates;
+mod answers;
+mod fields;
+mod ids;
+mod lines;
+mod packets;
+mod pulled;
+mod ranges;
+mod results;
+mod schemas;
+mod statements;
+mod told;
+mod values;
+
+use answers::answer;
+use fields::Unanswered;
+use std::alloc::Global;
+use std::io;
+use told::Told;
+use vt_value::Refusal;
+
+// Prints the answer of a line.
+fn answer_line(rt: &impl Print, alloc: Global, line: &str) -> io::Result<()> {
+    let mut told = Told::new(alloc);
+    match answer(alloc, line, &mut told) {
+        Ok(()) if told.has_failed => println!(rt; "refused 1"),
+        Ok(()) => println!(rt; "{}", told.text),
+        Err(Unanswered::BadLine) => println!(rt; "unknown"),
+        Err(Unanswered::Refused(Refusal::SyntaxError)) => println!(rt; "refused"),
+        Err(Unanswered::Refused(refusal)) => println!(rt; "refused {}", refusal.number()),
+    }
+}
+
+fn main(rt: HostRuntime) -> io::Result<()> {
+    for line in rt.lines(rt.alloc()) {
+        answer_line(&rt, rt.alloc(), line?.as_str())?;
+    }
+    Ok(())
+}

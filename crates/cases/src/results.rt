@@ -1,0 +1,81 @@
+//! Results and their bytes.
+use crate::fields::{Unanswered, bytes_of};
+use crate::told::Told;
+use bytes::BytesMut;
+use resultset::{Column, Kind, Outcome, decode, encode};
+use std::alloc::Global;
+
+/// The result that bytes spell, and its bytes.
+pub(crate) fn result_again(alloc: Global, case: &str, told: &mut Told) -> Result<(), Unanswered> {
+    let bytes = bytes_of(alloc, case)?;
+    let found = decode(alloc, 1, 2, &bytes);
+    drop(bytes);
+    match found? {
+        Some(outcome) => put_again(alloc, told, &outcome),
+        None => {
+            told.put("none");
+            Ok(())
+        }
+    }
+}
+
+fn put_again(alloc: Global, told: &mut Told, outcome: &Outcome) -> Result<(), Unanswered> {
+    put_outcome(told, outcome);
+    told.put(" ");
+    let mut bytes = BytesMut::new(alloc);
+    let done = encode(alloc, outcome, 1, 2, &mut bytes);
+    told.put_bytes(bytes.as_slice());
+    drop(bytes);
+    let _next = done?;
+    Ok(())
+}
+
+fn put_outcome(told: &mut Told, outcome: &Outcome) {
+    match outcome {
+        Outcome::Rows(set) => {
+            put_columns(told, set.columns.as_slice());
+            told.put_rows(set.rows.as_slice());
+        }
+        Outcome::Count(count) => {
+            told.put("count ");
+            told.put_number(*count);
+        }
+        Outcome::Refused(refusal) => {
+            told.put("refusal ");
+            told.show(&refusal.number());
+        }
+    }
+}
+
+fn put_columns(told: &mut Told, columns: &[Column]) {
+    for column in columns {
+        put_name(told, column);
+        put_kind(told, column.kind);
+        told.show(&column.flags);
+        told.put(" ");
+    }
+}
+
+fn put_name(told: &mut Told, column: &Column) {
+    told.put_text(column.schema.as_slice());
+    told.put(".");
+    told.put_text(column.table.as_slice());
+    told.put(".");
+    told.put_text(column.org_name.as_slice());
+    told.put(".");
+    told.put_text(column.name.as_slice());
+}
+
+fn put_kind(told: &mut Told, kind: Kind) {
+    match kind {
+        Kind::BigInt => told.put(" BIGINT "),
+        Kind::BigIntUnsigned => told.put(" BIGINT UNSIGNED "),
+        Kind::VarBinary(length) => {
+            told.put(" VARBINARY(");
+            told.show(&length);
+            told.put(") ");
+        }
+        Kind::Count => told.put(" COUNT "),
+        Kind::Sum => told.put(" SUM "),
+    }
+}

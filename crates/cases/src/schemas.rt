@@ -1,0 +1,125 @@
+//! VSchemas, and plans under them.
+use crate::fields::{Unanswered, fields, text_of};
+use crate::lines::without_end;
+use crate::told::Told;
+use keyrange::KeyRange;
+use std::alloc::Global;
+use vindex::AnyVindex;
+use vschema::{Column, ColumnType, Keyspace, Table, VSchema};
+use vtgate_lines::{plan_line, read_ranges, refusal_line};
+
+/// The keyspaces and tables of a VSchema, or the number of its fault.
+pub(crate) fn schema(alloc: Global, case: &str, told: &mut Told) -> Result<(), Unanswered> {
+    match VSchema::read(alloc, case) {
+        Ok(schema) => put_schema(told, &schema),
+        Err(fault) => told.show(&fault),
+    }
+    Ok(())
+}
+
+fn put_schema(told: &mut Told, schema: &VSchema) {
+    put_keyspaces(told, schema.keyspaces.as_slice());
+    for table in schema.tables.as_slice() {
+        told.put("; ");
+        put_table(told, table);
+    }
+}
+
+fn put_keyspaces(told: &mut Told, keyspaces: &[Keyspace]) {
+    for (i, keyspace) in keyspaces.iter().enumerate() {
+        told.put(if i == 0 { "" } else { " " });
+        told.put_text(keyspace.name.as_slice());
+        told.put(if keyspace.sharded {
+            " sharded"
+        } else {
+            " unsharded"
+        });
+    }
+}
+
+// A table with the places of its keyspace, of its primary key, and of its vindex's column.
+fn put_table(told: &mut Told, table: &Table) {
+    told.put_text(table.name.as_slice());
+    told.put(" of ");
+    told.show(&table.keyspace);
+    told.put(" (");
+    put_columns(told, table.columns.as_slice());
+    told.put(") key");
+    put_places(told, table.primary_key.as_slice());
+    if let Some(on) = &table.vindex {
+        told.put(" ");
+        told.put(vindex_name(on.vindex));
+        told.put(" on ");
+        told.show(&on.column);
+    }
+}
+
+fn put_places(told: &mut Told, places: &[usize]) {
+    for place in places {
+        told.put(" ");
+        told.show(place);
+    }
+}
+
+fn put_columns(told: &mut Told, columns: &[Column]) {
+    for (i, column) in columns.iter().enumerate() {
+        told.put(if i == 0 { "" } else { ", " });
+        told.put_text(column.name.as_slice());
+        put_type(told, column.kind);
+        told.put(if column.nullable { " null" } else { "" });
+    }
+}
+
+fn put_type(told: &mut Told, kind: ColumnType) {
+    match kind {
+        ColumnType::BigInt => told.put(" BIGINT"),
+        ColumnType::BigIntUnsigned => told.put(" BIGINT UNSIGNED"),
+        ColumnType::VarBinary(length) => {
+            told.put(" VARBINARY(");
+            told.show(&length);
+            told.put(")");
+        }
+    }
+}
+
+fn vindex_name(vindex: AnyVindex) -> &'static str {
+    match vindex {
+        AnyVindex::Numeric => "numeric",
+        AnyVindex::ReverseBits => "reverse_bits",
+        AnyVindex::Binary => "binary",
+        AnyVindex::BinaryMd5 => "binary_md5",
+    }
+}
+
+/// The line of a plan.
+pub(crate) fn plan(alloc: Global, case: &str, told: &mut Told) -> Result<(), Unanswered> {
+    let (shards, rest) = fields(case)?;
+    let (declared, sql) = fields(rest)?;
+    let sql = text_of(alloc, sql)?;
+    match read_ranges(alloc, shards) {
+        Ok(Some(ranges)) => put_plan(alloc, &ranges, declared, &sql, told),
+        Ok(None) => told.put("none"),
+        Err(refusal) => told.put_text(without_end(refusal_line(refusal).as_slice())),
+    }
+    Ok(())
+}
+
+fn put_plan(alloc: Global, ranges: &[KeyRange], declared: &str, sql: &[u8], told: &mut Told) {
+    match VSchema::read(alloc, declared) {
+        Ok(schema) => put_plan_under(alloc, ranges, &schema, sql, told),
+        Err(fault) => told.show(&fault),
+    }
+}
+
+fn put_plan_under(
+    alloc: Global,
+    ranges: &[KeyRange],
+    schema: &VSchema,
+    sql: &[u8],
+    told: &mut Told,
+) {
+    match plan_line(alloc, schema, ranges, sql) {
+        Ok(line) => told.put_text(without_end(&line)),
+        Err(refusal) => told.put_text(without_end(refusal_line(refusal).as_slice())),
+    }
+}
