@@ -4,14 +4,12 @@
 mod fault;
 mod input;
 mod plan;
-#[cfg(test)]
-mod plan_tests;
 mod run;
 mod script;
-#[cfg(test)]
-mod script_tests;
 mod sessions;
 mod setup;
+#[cfg(test)]
+mod status_tests;
 #[cfg(test)]
 mod tests;
 
