@@ -113,6 +113,7 @@ pub fn open<T: Drop>(
     ensures capacity { IfOk result (λ r. ruled_capacity r.0 ≡ capacity) }
     ensures pass { IfOk result (λ r. IsPassOf r.0 r.1) }
     ensures none { IfOk result (λ r. view r.1 ≡ first_hand) }
+    ensures puts { IfOk result (λ r. (view r.1).puts ≡ true) }
 {
     ConnectionQueue::<T>::ruled(alloc, capacity)
 }
@@ -125,6 +126,8 @@ pub fn new_taker<T: Drop>(queue: &ConnectionQueue<T>, pass: &mut Known<T>) -> Kn
     ensures one_more { view pass.new ≡ with_one_more (view pass.old) }
     ensures new { IsPassOf queue.now result }
     ensures view { view result ≡ new_hand (view pass.old) }
+    ensures puts { (view pass.new).puts ≡ true }
+    ensures takes { (view result).takes ≡ true }
 {
     queue.another::<Taker>(pass)
 }
@@ -144,6 +147,7 @@ pub fn put<T: Drop, R: Wait>(
     // Where it is handed back, nothing was put, and the queue was full.
     ensures same { IfErr result (λ x. view pass.new ≡ view pass.old) }
     ensures full { IfErr result (λ x. Held (ruled_capacity queue.now) (HeldThen (view pass.old))) }
+    ensures puts { (view pass.new).puts ≡ true }
 {
     queue.push_as::<Putting, R>(rt, pass, connection)
 }
@@ -157,6 +161,7 @@ pub fn take<T: Drop, R: Wait>(rt: &R, queue: &ConnectionQueue<T>, pass: &mut Kno
     // Where there is none, nothing was taken, and the queue was empty.
     ensures same { IfNone result (view pass.new ≡ view pass.old) }
     ensures empty { IfNone result (Held 0 (HeldThen (view pass.old))) }
+    ensures takes { (view pass.new).takes ≡ true }
 {
     queue.pop_as::<Taking, R>(rt, pass)
 }
@@ -170,6 +175,7 @@ pub fn absorb<T: Drop>(queue: &ConnectionQueue<T>, pass: &mut Known<T>, ended: K
     ensures of { IsPassOf queue.now pass.new }
     ensures joined { view pass.new ≡ with_joined (view pass.old) (view ended) }
     ensures compared { IsCompared (view pass.new) }
+    ensures puts { (view pass.new).puts ≡ true }
 {
     queue.absorb::<Ended>(pass, ended);
     queue.learn_as::<Ended>(pass);
