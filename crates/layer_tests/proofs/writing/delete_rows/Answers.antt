@@ -1,5 +1,0 @@
-use Rattle.layer_tests.proofs.SmallWorld.{typed_delete}
-use Rattle.layer_tests.proofs.writing.delete_rows.Goals as goal
-
-pub write-requires-clause-typed : goal.write-requires-clause-typed
-write-requires-clause-typed g c = rw c.delete.ensures typed_delete

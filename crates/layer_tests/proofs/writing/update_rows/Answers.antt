@@ -1,5 +1,0 @@
-use Rattle.layer_tests.proofs.SmallWorld.{typed_update}
-use Rattle.layer_tests.proofs.writing.update_rows.Goals as goal
-
-pub write-requires-clause-typed : goal.write-requires-clause-typed
-write-requires-clause-typed g c = rw c.in_ok-sevens.ensures typed_update
