@@ -100,7 +100,7 @@ runs() {
 : > "$work/tells.nothing"
 echo failed > "$work/tells.failed"
 echo 'out of memory' > "$work/tells.memory"
-{ tr -d '\n' < "$top/docs/example.json"; echo; } > "$work/schema"
+{ tr -d '\n' < "$top/examples/shop.json"; echo; } > "$work/schema"
 told='ERROR 1037 (HY001): out of memory'
 
 cp "$work/schema" "$work/script.0"
