@@ -25,7 +25,6 @@ use Rattle.vschema.specs.Checks.{is_aggregate, is_aggregated}
 use Rattle.sql_eval.specs.Conditions.{is_kept}
 use Rattle.sql_eval.proofs.AnswerLemmas.{kept_plain}
 use Rattle.sql_eval.specs.Queries.{Keyed, shown, keyed_row, Allowed}
-use Rattle.planner.specs.declared.routes.Route.TheVariants as route
 use Rattle.planner.specs.declared.plans.Plan.{Plan}
 use Rattle.planner.specs.Routes.{takes, route_of, table_at}
 use Rattle.planner.specs.Plans.{pushed_limit, key_item, keys_from, piece_of, Shard, Pieces, routed}

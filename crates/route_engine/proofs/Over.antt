@@ -44,7 +44,7 @@ use Rattle.route_engine.specs.Answers.{counted, HasGone, IsSelected, Gives, IsRe
 use Rattle.route_engine.specs.Alone as over
 use Rattle.route_engine.specs.Alone.{NoOthers, GivesOver, AnswersOver, IsRefusedOver}
 use Rattle.route_engine.proofs.Everywhere.{same_moment}
-use Rattle.route_engine.proofs.Moments.{same_answers}
+use Rattle.sql_eval.proofs.SameAnswers.{same_answers}
 use Rattle.route_engine.proofs.NoOthers.{gone_unchanged, gone_same, looked_unchanged, committed_at, up_to, behind}
 use Rattle.route_engine.proofs.Sessions.{is_typed}
 use Rattle.route_engine.proofs.Theirs.{query_there}

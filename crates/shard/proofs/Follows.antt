@@ -7,7 +7,7 @@ use Rattle.std.proofs.lemmas.Bool.{eq-eqb, false≢true}
 use Rattle.std.proofs.lemmas.List.Sums.{sum_by-cons, count_by-le-length}
 use mathlib.Core.List.{IsPrefix}
 use Rattle.vschema.specs.declared.changes.RowChange.{RowChange}
-use Rattle.vschema.specs.Database.{restricted_changes, all_applied, changed_table}
+use Rattle.vschema.specs.Database.{Database, SameRows, restricted_changes, all_applied, changed_table}
 use Rattle.journal.specs.Runs.{on_slot}
 use Rattle.journal.specs.Views.{SeatView, PassView, IsLater}
 use Rattle.journal.proofs.Fronts.{prefix_trans}
@@ -35,6 +35,7 @@ use Rattle.shard.proofs.Commits.{applied-append}
 use Rattle.shard.proofs.Legality.{stands-next, legal_is}
 use Rattle.shard.proofs.Tables.{taken_there}
 use Rattle.shard.proofs.Looks.{following_lives}
+use Rattle.shard.proofs.Bags.{all_applied-same}
 use Rattle.shard.proofs.States.{held-same, stored-same, holds_of, entries-on, after_look, mode_after_look, alone_here}
 use Rattle.shard.proofs.Modes.{here, stands_there, mode_there}
 
@@ -158,7 +159,10 @@ module _ (o : Opening) (most : Limits) (seat : SeatView Entry) (c : Contents) (i
       → c'.store.rows ≡ all_applied f.changes c.store.rows → c'.mode ≡ c.mode → c'.stored.items ≡ c.stored.items ++ e ∷ [] → c'.limits ≡ c.limits
       → length (entries_on s.slot seat.seen) < 2 ^ 40 → IsAfter o most seat' c'
   after_follow seat' c' seen at shard_is rows modes stores limits_are room =
-      let now : c'.store.rows ≡ held o (run ++ e ∷ []) s = rows ∙ ap (all_applied f.changes) has.rows ∙ sym held_now in
+      let now : SameRows c'.store.rows (held o (run ++ e ∷ []) s) =
+      subst (SameRows c'.store.rows) (sym held_now)
+      (subst (λ (db : Database). SameRows db (all_applied f.changes (held o seat.seen s))) (sym rows)
+      (all_applied-same f.changes c.store.rows (held o seat.seen s) has.rows)) in
       record {
         opens = is.opens;
         slot = at ∙ is.slot ∙ ap (λ (t : Shard). t.slot) (sym shard_is);
@@ -166,7 +170,7 @@ module _ (o : Opening) (most : Limits) (seat : SeatView Entry) (c : Contents) (i
             subst (λ r. IsOnItsSlot o r c'.shard) (sym seen)
             (subst (IsOnItsSlot o (run ++ e ∷ [])) (sym shard_is) (stands-next o run s e.event (stands_there o most seat c is run alone)));
         keeps = holds (record {
-          rows = now ∙ ap (held o (run ++ e ∷ [])) (sym shard_is) ∙ ap (λ r. held o r c'.shard) (sym seen);
+          rows = subst (SameRows c'.store.rows) (ap (held o (run ++ e ∷ [])) (sym shard_is) ∙ ap (λ r. held o r c'.shard) (sym seen)) now;
           tables = ap length rows ∙ length-all_applied f.changes c.store.rows ∙ has.tables;
           mode =
               modes ∙ has.mode ∙ following ∙ sym mode_follows ∙ ap (λ (t : Shard). mode o (run ++ e ∷ []) t.slot) (sym shard_is)

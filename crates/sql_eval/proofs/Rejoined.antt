@@ -1,6 +1,6 @@
 -- Groups that are joined again: of several lists together, and in another order.
 use Rattle.std.proofs.Common.{◌≡◌, ℕ, zero, suc, ◌+◌, ◌≤◌, Bool, true, false, cond, List, [], ◌∷◌, ◌++◌, length, map, filter, flat_map, take, drop, IsPermutation, refl, sym, ap, subst, ◌∙◌, arith}
-use Rattle.std.specs.Prelude.{◌||◌, min}
+use Rattle.std.specs.Prelude.{◌||◌}
 use Rattle.std.specs.List.{AllByRecursion, IsDistinct}
 use Rattle.std.proofs.Math.Dec.{eqb-suc-zero}
 use Rattle.std.proofs.lemmas.List.{map-append, length-take}
@@ -21,7 +21,7 @@ use Rattle.aggregate.proofs.PartsOfRows.{column_gives}
 use Rattle.aggregate.proofs.SplitLemmas.{together, joined_again}
 use Rattle.sql_eval.proofs.GroupLemmas.{at_drop, distinct_all, take_join, drop_join}
 use Rattle.sql_eval.proofs.Permutations.{IsPermutation-filter}
-use Rattle.planner.proofs.DistinctRows.{distinct_is, distinct_parts, only, distinct_permuted}
+use Rattle.sql_eval.proofs.DistinctRows.{distinct_is, distinct_parts, only, distinct_permuted}
 
 -- the order of parts says nothing
 column_permuted : (a : Item ℕ) (vs ws : List Value) → IsPermutation vs ws → column_part a vs ≡ column_part a ws
