@@ -18,3 +18,4 @@ pub mod NoOthers
 pub mod WholeWrites
 pub mod Over
 mod OverExample
+pub mod Openings

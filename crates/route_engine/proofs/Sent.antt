@@ -18,7 +18,10 @@ use Rattle.serving.proofs.published.Serving.TheSendSync as sent_serving
 use Rattle.vschema.proofs.schema.VSchema.TheSendSync as schema
 use Rattle.shard.specs.declared.world.World as world
 use Rattle.shard.specs.contracts.contents.Contents as contents
+use Rattle.keyrange.proofs.KeyRange.TheSendSync as range
 use Rattle.shard.specs.contracts.locked.Shard as locked
+use Rattle.shard.specs.contracts.locked.Shard.TheInside as locked_inside
+use Rattle.shard.specs.contracts.locked.ShardSeated.TheImpl as seated
 use Rattle.shard.specs.contracts.state.ShardState as state
 use Rattle.shard.specs.contracts.state.ShardState.TheInside as state_inside
 use Rattle.shard.specs.contracts.world.ShardLaw as law
@@ -62,11 +65,11 @@ module _ (W J : RattleType) (w : world.Ghosts W.Denot) (j : naming.Ghosts J.Deno
   state_send : IsSend (state.the_row W J w j)
   state_send = view_send _ _ _ _ _ inside_send
 
-  pub shard_sync : IsSync (locked.the_field W J w j).row
-  shard_sync = search (state_send, std.crosses, sendable) depth 60 fits 20000
-
   pub shard_shared : IsSync (locked.the_row W J w j)
-  shard_shared = recorded_sync (locked.the_field W J w j).row _ _ (locked.the_type W J w j).to_one (struct_sync (shape (locked.the_type W J w j)) (search (state_send, std.crosses, sendable), tt))
+  shard_shared =
+      view_sync _ _ _ _ _
+      (recorded_sync (locked_inside.the_field W J w j).row _ _ (locked_inside.the_type W J w j).to_one
+      (struct_sync (shape (locked_inside.the_type W J w j)) (search sendable, (range.the_field_sync, (search (state_send, std.crosses, sendable), tt)))))
 
   pub job_send : (ℓ : _) → IsSend (job.the_row ℓ W J w j)
   job_send ℓ =
@@ -79,10 +82,13 @@ module _ (W J : RattleType) (w : world.Ghosts W.Denot) (j : naming.Ghosts J.Deno
       (struct_send (shape (done.the_type W J w j)) (search sendable, (pass_send, (search (reading.the_send, refusal.the_send, std.crosses, sendable), tt))))
 
   shard_sent : IsSend (locked.the_row W J w j)
-  shard_sent = recorded_send (locked.the_field W J w j).row _ _ (locked.the_type W J w j).to_one (struct_send (shape (locked.the_type W J w j)) (search (state_send, std.crosses, sendable), tt))
+  shard_sent =
+      view_send _ _ _ _ _
+      (recorded_send (locked_inside.the_field W J w j).row _ _ (locked_inside.the_type W J w j).to_one
+      (struct_send (shape (locked_inside.the_type W J w j)) (search sendable, (range.the_field_send, (search (state_send, std.crosses, sendable), tt)))))
 
-  partitions_sync : IsSync (serving.the_row (locked.the_row W J w j))
-  partitions_sync = sent_serving.the_sync (locked.the_row W J w j) shard_sent shard_shared
+  partitions_sync : IsSync (serving.the_row (locked.the_row W J w j) (seated.ghosts W J w laws.no_dict j laws.no_dict))
+  partitions_sync = sent_serving.the_sync (locked.the_row W J w j) (seated.ghosts W J w laws.no_dict j laws.no_dict) shard_sent shard_shared
 
   module _ (G : RattleType) (shared : IsSync G) where
     inside_sync : IsSync (engine_inside.the_row W J G w j)
