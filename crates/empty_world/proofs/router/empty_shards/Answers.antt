@@ -1,7 +1,7 @@
 use Rattle.std.proofs.Common.{◌≡◌, ◌+◌, ◌<◌, ◌-◌, arith, ap, ◌∙◌}
 use Rattle.std.proofs.lemmas.Grind.{common_steps}
 use Rattle.empty_world.proofs.Empty.{one_less, seats_from}
-use Rattle.empty_world.proofs.router.empty_parts.Goals as goal
+use Rattle.empty_world.proofs.router.empty_shards.Goals as goal
 
 pub loop-shard-preserved : goal.loop-shard-preserved
 loop-shard-preserved g c = record {
@@ -13,5 +13,5 @@ loop-shard-preserved g c = record {
       let next : (64 - i) - 1 ≡ 64 - (i + 1) = omega arith in
       one_less i (64 - i) _ _ c.next.result c.unwrap-seat.result c.loop-shard.invariant.seats left c.next.ensures.items c.unwrap-seat.ensures
       ∙ ap (seats_from (i + 1)) next;
-  parts = grind (arith, common_steps);
+  held = grind (arith, common_steps);
 }
