@@ -179,7 +179,7 @@ fn measure<
         rows,
     };
     let (engine, mut opener, mut first) = empty_router::<W, J, Open>(
-        alloc, schema, ranges, opened, Open,
+        alloc, schema, ranges, opened, 0, Open,
     ).map_err(refused)?;
     let mut pass = opener.open(&mut first).map_err(refused)?;
     for shard in 0..size.shards {

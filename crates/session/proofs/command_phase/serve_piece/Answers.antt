@@ -3,7 +3,7 @@ use Rattle.std.specs.Io.KnownBytes.{Consumes}
 use Rattle.std.proofs.KnownBytes.{Appends-nil}
 use Rattle.std.proofs.lemmas.List.{append-nil}
 use Rattle.session.proofs.Conversations.{served, not_by_input}
-use Rattle.session.proofs.serving.serve_piece.Goals as goal
+use Rattle.session.proofs.command_phase.serve_piece.Goals as goal
 
 pub returns-clause-talk : goal.returns-clause-talk
 returns-clause-talk g c = served _ _ _ _ _ _ _ _ _ _ c.feed.result c.in_ok-n.ensures.bytes.0 c.feed.ensures.talk

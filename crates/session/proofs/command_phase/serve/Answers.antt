@@ -2,7 +2,7 @@ use Rattle.std.proofs.Common.{[], refl, ◌∙◌}
 use Rattle.std.proofs.KnownBytes.{Appends-nil, Consumes-nil}
 use Rattle.session.proofs.Alone.{served_alone}
 use Rattle.session.proofs.Conversations.{one_more, still_goes_on, has_ended}
-use Rattle.session.proofs.serving.serve.Goals as goal
+use Rattle.session.proofs.command_phase.serve.Goals as goal
 
 pub returns-in-Some-clause-talk : goal.returns-in-Some-clause-talk
 returns-in-Some-clause-talk g c =

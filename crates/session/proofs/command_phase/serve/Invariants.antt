@@ -1,10 +1,10 @@
 use Rattle.std.proofs.Common.{◌≡◌, ℕ, List, vec_len}
 use Rattle.std.specs.Io.KnownBytes.{Appends, Consumes}
 use Rattle.session.specs.declared.session_core.TheConstants.{COMMAND_LIMIT}
-use Rattle.session.specs.declared.serving.TheConstants.{PIECE}
+use Rattle.session.specs.declared.command_phase.TheConstants.{PIECE}
 use Rattle.session.specs.Outcomes.{Means}
 use Rattle.session.specs.Sessions.{HasTalked}
-use Rattle.session.proofs.serving.serve.Given as goal
+use Rattle.session.proofs.command_phase.serve.Given as goal
 
 abbrev pub invariant-loop : goal.invariant-loop
 invariant-loop g l = record {
