@@ -159,7 +159,7 @@ fn open_router<W: World + Send + Sync, J: Naming + Send + Sync>(
     ensures { IfOk result (λ r. IsSome r.1.session) }
 {
     let (engine, mut opener, mut first) = empty_router::<W, J, Open>(
-        alloc, schema, ranges, opened, Open,
+        alloc, schema, ranges, opened, 0, Open,
     )?;
     match opener.open(&mut first) {
         Ok(pass) => Ok((engine, pass)),

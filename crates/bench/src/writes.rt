@@ -154,7 +154,7 @@ fn measure<
     requires formed { IsTrue (is_vschema schema) }
     requires fit { FitRanges schema ranges.now }
 {
-    match empty_router::<W, J, Open>(alloc, schema, ranges, opened, Open) {
+    match empty_router::<W, J, Open>(alloc, schema, ranges, opened, 0, Open) {
         Err(refusal) => Err(refused(refusal)),
         Ok((engine, mut opener, mut first)) => {
             measure_engine(

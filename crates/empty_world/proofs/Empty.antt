@@ -1,5 +1,11 @@
 -- Fresh seats by their slots, the slots of the opening's shards, and the rows that they begin with.
-use Rattle.std.proofs.Common.{◌≡◌, ℕ, zero, suc, ◌+◌, ◌-◌, ◌<◌, List, [], ◌∷◌, ◌++◌, length, get_or, map, Contains, Option, Some, None, option_to_list, refl, ap, ◌∙◌, subst, arith}
+use Rattle.std.proofs.Common.{◌≡◌, ℕ, zero, suc, ◌+◌, ◌-◌, ◌<◌, List, [], ◌∷◌, ◌++◌, length, get_or, map, Contains, Bool, true, false, filter, take, Option, Some, None, option_to_list, refl, sym, ap, ◌∙◌, subst, arith}
+use Rattle.std.specs.Prelude.{if◌then◌else◌}
+use Rattle.std.proofs.lemmas.List.{append-nil, get_or-map, length-map, take_more}
+use Rattle.std.proofs.lemmas.List.Elements.{filter-append}
+use Rattle.route_engine.proofs.Gathers.{map-push}
+use Rattle.shard_law.proofs.Lists.{In-from_Contains}
+use Rattle.shard_law.proofs.Runs.{opening-is}
 use Rattle.keyrange.specs.declared.KeyRange.{KeyRange}
 use Rattle.vschema.specs.declared.schema.Place.{Place}
 use Rattle.vschema.specs.declared.schema.Table.{Table}
@@ -7,7 +13,7 @@ use Rattle.vschema.specs.declared.schema.VSchema.{VSchema}
 use Rattle.vschema.specs.Database.{Database, union, restricted}
 use Rattle.journal.specs.Views.{SeatView}
 use Rattle.shard_run.specs.declared.Shard.{Shard}
-use Rattle.shard_run.specs.Runs.{all_rows, first_rows}
+use Rattle.shard_run.specs.Runs.{Opening, all_rows, opening_part, first_rows}
 use Rattle.shard.specs.Shards.{opening_shards}
 use Rattle.empty_opening.specs.Empty.{unsharded_keyspace, sharded_keyspace, full_range, shards_from, keyspace_shards, empty_shards, no_rows, opening_of}
 
@@ -87,9 +93,42 @@ opening_is schema ranges = shards_are (no_rows schema) (empty_shards schema rang
 -- each begins without rows
 pub first_rows_are : (schema : VSchema) (ranges : List KeyRange) (s : Shard) → Contains (opening_shards (opening_of schema ranges)) s
     → first_rows (opening_of schema ranges) s ≡ no_rows schema
-first_rows_are schema ranges s there = by (empty_shards schema ranges) (subst (λ (z : List Shard). Contains z s) (opening_is schema ranges) there)
+first_rows_are schema ranges s there =
+    ap (λ (b : Bool). if b then opening_part o s else map (λ rows. []) (opening_part o s))
+    (opening-is s o.shards (In-from_Contains s (opening_shards o) there))
+    ∙ by (empty_shards schema ranges) (subst (λ (z : List Shard). Contains z s) (opening_is schema ranges) there)
   where
+    o : Opening
+    o = opening_of schema ranges
+
     by : (shards : List Shard) → Contains shards s
         → restricted schema.tables s.place (all_rows (map (λ (s : Shard). (s, no_rows schema)) shards)) ≡ no_rows schema
     by [] (k, l, e) = absurd (omega (arith, l))
     by (x ∷ shards) h = ap (restricted schema.tables s.place) (all_empty schema.tables x shards) ∙ inside s.place schema.tables
+
+-- ---- the shards of a keyspace
+
+module _ {X Y : Type 0} (f : X → Y) (p : X → Bool) (xs : List X) (i : ℕ) (x : X) (there : i < length xs) (is : x ≡ get_or xs i x) where
+  more : filter p (take (i + 1) xs) ≡ filter p (take i xs) ++ filter p (x ∷ [])
+  more =
+      ap (filter p) (take_more xs i x there ∙ ap (λ y. take i xs ++ y ∷ []) (sym is))
+      ∙ filter-append p (take i xs) (x ∷ [])
+
+  pub kept_more : p x ≡ true → map f (filter p (take (i + 1) xs)) ≡ map f (filter p (take i xs)) ++ f x ∷ []
+  kept_more e =
+      let one : filter p (x ∷ []) ≡ x ∷ [] = simp e in
+      ap (map f) (more ∙ ap (λ l. filter p (take i xs) ++ l) one) ∙ map-push f (filter p (take i xs)) x
+
+  pub kept_same : p x ≡ false → map f (filter p (take (i + 1) xs)) ≡ map f (filter p (take i xs))
+  kept_same e =
+      let none : filter p (x ∷ []) ≡ [] = simp e in
+      ap (map f) (more ∙ ap (λ l. filter p (take i xs) ++ l) none ∙ append-nil (filter p (take i xs)))
+
+-- lists that are mapped to one have the same at each place
+pub same_at : {X Y Z : Type 0} (f : X → Z) (g : Y → Z) (xs : List X) (ys : List Y) → map f xs ≡ map g ys → (i : ℕ) (x : X) (y : Y) → i < length ys
+    → x ≡ get_or xs i x → y ≡ get_or ys i y → f x ≡ g y
+same_at f g xs ys e i x y there at_x at_y =
+    ap f at_x ∙ sym (get_or-map f xs i x (f x) within) ∙ ap (λ l. get_or l i (f x)) e ∙ get_or-map g ys i y (f x) there ∙ ap g (sym at_y)
+  where
+    within : i < length xs
+    within = let a = length-map xs f in let b = length-map ys g in let c = ap length e in omega (arith, a, b, c, there)

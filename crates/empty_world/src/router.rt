@@ -1,18 +1,21 @@
-ghost use Rattle.std.specs.Prelude.{◌≡◌, ℕ, ◌<◌, ◌≤◌, [], None, IsTrue, IfOk, IfErr, Contains, length, map, replicate, slice_index_or};
+ghost use Rattle.std.specs.Prelude.{◌≡◌, ◌==◌, ℕ, ◌<◌, ◌≤◌, [], None, IsTrue, IfOk, IfErr, Contains, length, map, filter, replicate, slice_index_or, vec_len};
 ghost use Rattle.vschema.specs.WellFormed.{is_vschema};
 ghost use Rattle.journal.specs.Views.{fresh_seats, new_pass};
 ghost use Rattle.shard_run.specs.declared.Shard as which;
 ghost use Rattle.shard_run.specs.Runs.{first_rows};
 ghost use Rattle.shard_run.specs.Openings.{IsOpening};
 ghost use Rattle.shard.specs.Shards.{most_limits, opening_shards};
-ghost use Rattle.route_engine.specs.Served.{opening_seats};
+ghost use Rattle.route_engine.specs.Seats.{seat_of};
 ghost use Rattle.empty_opening.specs.Empty.{opening_of, FitRanges};
 
+use buffer::Buffer;
 use empty_opening::{empty_tables, opening_shards};
 use journal::{Naming, Opened, Opener, Pass, ShardSeat};
 use keyrange::KeyRange;
-use route_engine::{Engine, Gate, Part};
+use route_engine::{Engine, Gate};
+use serving::{Part, Partition, Serving};
 use shard::{Limits, MOST_ROWS, MOST_STORED, Shard, ShardLaw, ShardState, Store, World};
+use shard_run::Mode;
 use std::alloc::Global;
 use std::sync::Arc;
 use vschema::{Place, VSchema};
@@ -51,19 +54,18 @@ fn copy_shard(alloc: Global, shard: &shard_run::Shard) -> Result<shard_run::Shar
 }
 
 // An opening shard whose tables are empty, with the seat of its slot.
-fn empty_part<W: World, J: Naming>(
+fn empty_shard<W: World, J: Naming>(
     alloc: Global,
     tables: usize,
     seat: ShardSeat<ShardLaw<W>, J>,
     shard: &shard_run::Shard,
-) -> Result<Part<W, J>, Refusal>
+) -> Result<Arc<Shard<W, J>, Global>, Refusal>
     requires opens { IsOpening W.opening }
     requires limits { W.limits ≡ most_limits }
     requires rows { first_rows W.opening shard.now ≡ replicate tables [] }
     requires opening { Contains (opening_shards W.opening) shard.now }
     requires seat { seat ≡ record { seen = []; slot = shard.now.slot } }
-    ensures slot { IfOk result (λ part. part.slot ≡ shard.now.slot) }
-    ensures place { IfOk result (λ part. part.place ≡ shard.now.place) }
+    ensures seat { IfOk result (λ held. held.value ≡ seat_of shard.now) }
     ensures err { IfErr result (λ e. e ≡ Refusal.OutOfMemory) }
 {
     let store = empty_store(alloc, tables)?;
@@ -72,21 +74,17 @@ fn empty_part<W: World, J: Naming>(
         stored: MOST_STORED,
     };
     let copy = copy_shard(alloc, shard)?;
-    let state = ShardState::new(alloc, seat, copy, store, limits);
-    Ok(Part {
-        place: copy_place(&shard.place),
-        slot: shard.slot,
-        shard: Arc::new(alloc, Shard::new(state))?,
-    })
+    let state = ShardState::new(alloc, seat, copy, store, Mode::Serving, limits);
+    Ok(Arc::new(alloc, Shard::new(state))?)
 }
 
 // The opening shards, each with the seat of its slot.
-fn empty_parts<W: World, J: Naming>(
+fn empty_shards<W: World, J: Naming>(
     alloc: Global,
     tables: usize,
     shards: &[shard_run::Shard],
     seats: Vec<ShardSeat<ShardLaw<W>, J>>,
-) -> Result<Vec<Part<W, J>>, Refusal>
+) -> Result<Vec<Arc<Shard<W, J>, Global>>, Refusal>
     requires opens { IsOpening W.opening }
     requires limits { W.limits ≡ most_limits }
     requires rows { (s : which.Shard) → Contains (opening_shards W.opening) s → first_rows W.opening s ≡ replicate tables [] }
@@ -94,28 +92,71 @@ fn empty_parts<W: World, J: Naming>(
     requires slots { (i : ℕ) (d : which.Shard) → i < length shards.now → (slice_index_or shards.now i d).slot ≡ i }
     requires few { length shards.now ≤ 64 }
     requires seats { seats.items ≡ fresh_seats 64 }
-    ensures ok { IfOk result (λ parts. map (λ part. (part.slot, part.place)) parts.items ≡ opening_seats W.opening) }
+    ensures ok { IfOk result (λ held. map (λ h. h.value) held.items ≡ map seat_of shards.now) }
     ensures err { IfErr result (λ e. e ≡ Refusal.OutOfMemory) }
 {
     let mut seats = seats.into_iter();
-    let mut parts = Vec::new(alloc);
+    let mut held = Vec::new(alloc);
     for shard in shards {
         let seat = seats.next().unwrap();
-        parts.push(empty_part(alloc, tables, seat, shard)?)?;
+        held.push(empty_shard(alloc, tables, seat, shard)?)?;
+    }
+    Ok(held)
+}
+
+// The parts of a keyspace, in the order of its shards.
+fn keyspace_parts<W: World, J: Naming>(
+    alloc: Global,
+    keyspace: usize,
+    shards: &[shard_run::Shard],
+    held: &[Arc<Shard<W, J>, Global>],
+) -> Result<Vec<Part<Shard<W, J>>>, Refusal>
+    requires held { map (λ h. h.value) held.now ≡ map seat_of shards.now }
+    ensures ok { IfOk result (λ parts. parts.items ≡ map seat_of (filter (λ s. s.place.keyspace == keyspace) shards.now)) }
+    ensures err { IfErr result (λ e. e ≡ Refusal.OutOfMemory) }
+{
+    let mut parts = Vec::new(alloc);
+    for (i, shard) in shards.iter().enumerate() {
+        if shard.place.keyspace == keyspace {
+            parts.push(Part::new(Arc::try_clone(&held[i])?))?;
+        }
     }
     Ok(parts)
 }
 
-/// The shards of an opening without rows, in the journal that was opened, the opener of their sessions, and a first pass, which has seen
-/// nothing.
-pub(crate) fn opened_parts<W: World, J: Naming>(
+// The partitions of each keyspace, which begin with the opening's.
+fn opening_keyspaces<W: World, J: Naming>(
+    alloc: Global,
+    keyspaces: usize,
+    shards: &[shard_run::Shard],
+    held: &[Arc<Shard<W, J>, Global>],
+) -> Result<Vec<Serving<Shard<W, J>>>, Refusal>
+    requires opens { IsOpening W.opening }
+    requires opening { opening_shards W.opening ≡ shards.now }
+    requires each { keyspaces ≡ length W.opening.schema.keyspaces }
+    requires held { map (λ h. h.value) held.now ≡ map seat_of shards.now }
+    ensures each { IfOk result (λ all. vec_len all ≡ keyspaces) }
+    ensures err { IfErr result (λ e. e ≡ Refusal.OutOfMemory) }
+{
+    let mut all = Vec::new(alloc);
+    for keyspace in 0..keyspaces {
+        let parts = keyspace_parts(alloc, keyspace, shards, held)?;
+        all.push(Serving::new(alloc, Partition::new(parts))?)?;
+    }
+    Ok(all)
+}
+
+/// The shards of an opening without rows, in the journal that was opened, the partitions that each keyspace begins with, the opener of
+/// their sessions, and a first pass, which has seen nothing.
+pub(crate) fn opened_shards<W: World, J: Naming>(
     alloc: Global,
     schema: &VSchema,
     ranges: &[KeyRange],
     opened: Opened<ShardLaw<W>>,
 ) -> Result<
     (
-        Vec<Part<W, J>>,
+        Vec<Arc<Shard<W, J>, Global>>,
+        Vec<Serving<Shard<W, J>>>,
         Opener<ShardLaw<W>, J>,
         Pass<ShardLaw<W>, J>,
     ),
@@ -127,24 +168,29 @@ pub(crate) fn opened_parts<W: World, J: Naming>(
     requires schema { IsTrue (is_vschema schema.now) }
     requires ranges { FitRanges schema.now ranges.now }
     ensures opens { IfOk result (λ r. IsOpening W.opening) }
-    ensures parts { IfOk result (λ r. map (λ part. (part.slot, part.place)) r.0.items ≡ opening_seats W.opening) }
-    ensures opener { IfOk result (λ r. r.1 ≡ 0) }
-    ensures pass { IfOk result (λ r. r.2 ≡ new_pass [] None) }
+    ensures held { IfOk result (λ r. map (λ h. h.value) r.0.items ≡ map seat_of (opening_shards W.opening)) }
+    ensures each { IfOk result (λ r. vec_len r.1 ≡ length schema.now.keyspaces) }
+    ensures opener { IfOk result (λ r. r.2 ≡ 0) }
+    ensures pass { IfOk result (λ r. r.3 ≡ new_pass [] None) }
     ensures err { IfErr result (λ e. e ≡ Refusal.OutOfMemory) }
 {
     let shards = opening_shards(alloc, schema, ranges)?;
     let (seats, opener, pass) = opened.named::<J>(alloc)?;
-    let parts = empty_parts(alloc, empty_tables(schema), shards.as_slice(), seats)?;
-    Ok((parts, opener, pass))
+    let held = empty_shards(alloc, empty_tables(schema), shards.as_slice(), seats)?;
+    let keyspaces = schema.keyspaces.len();
+    let all = opening_keyspaces(alloc, keyspaces, shards.as_slice(), held.as_slice())?;
+    Ok((held, all, opener, pass))
 }
 
 /// The engine over a VSchema and the ranges of its sharded keyspace, whose tables are empty, in the journal that was opened; the opener
-/// of its sessions, and a first pass, which has seen nothing. It refuses only for want of memory.
+/// of its sessions, and a first pass, which has seen nothing. So many statements may wait in its buffer. It refuses only for want of
+/// memory.
 pub fn empty_router<W: World + Send + Sync, J: Naming + Send + Sync, G: Gate>(
     alloc: Global,
     schema: VSchema,
     ranges: &[KeyRange],
     opened: Opened<ShardLaw<W>>,
+    buffer_size: u64,
     gate: G,
 ) -> Result<
     (
@@ -164,6 +210,8 @@ pub fn empty_router<W: World + Send + Sync, J: Naming + Send + Sync, G: Gate>(
     ensures pass { IfOk result (λ r. r.2 ≡ new_pass [] None) }
     ensures err { IfErr result (λ e. e ≡ Refusal.OutOfMemory) }
 {
-    let (parts, opener, pass) = opened_parts::<W, J>(alloc, &schema, ranges, opened)?;
-    Ok((Engine::new(schema, parts, gate), opener, pass))
+    let (held, keyspaces, opener, pass) = opened_shards::<W, J>(alloc, &schema, ranges, opened)?;
+    drop(held);
+    let engine = Engine::new(schema, keyspaces, Buffer::new(buffer_size), gate);
+    Ok((engine, opener, pass))
 }

@@ -62,7 +62,7 @@ fn insert_and_select<
     requires ranges { FitRanges schema ranges.now }
 {
     let (engine, mut opener, mut first) = empty_router::<W, J, Open>(
-        alloc, schema, ranges, opened, Open,
+        alloc, schema, ranges, opened, 0, Open,
     )?;
     let mut pass = opener.open(&mut first)?;
     let Reply { answer, .. } = engine.execute(

@@ -1,11 +1,15 @@
 ghost use Rattle.std.specs.Prelude.{◌≡◌, ◌^◌, ◌<◌, [], ◌∷◌, ◌++◌, Some, IfOk, OnOk, pos};
 ghost use Rattle.journal.specs.Views.{fresh_seats, new_pass};
+ghost use Rattle.route_engine.specs.Seats.{seat_of};
 ghost use Rattle.first_world.specs.First.{first_schema, first_rows, first_shard, number};
 
+use buffer::Buffer;
 use journal::{Naming, Opened, Pass, ShardSeat};
 use keyrange::KeyRange;
-use route_engine::{Engine, Open, Part};
+use route_engine::{Engine, Open};
+use serving::{Part, Partition, Serving};
 use shard::{Limits, MOST_ROWS, MOST_STORED, Shard, ShardLaw, ShardState, Store, World};
+use shard_run::Mode;
 use std::alloc::{AllocError, Global};
 use std::sync::Arc;
 use vschema::{Place, VSchema};
@@ -102,6 +106,7 @@ fn first_state<J: Naming>(
     seat: ShardSeat<ShardLaw<First>, J>,
 ) -> Result<ShardState<First, J>, Refusal>
     requires { seat ≡ record { seen = []; slot = 0 } }
+    ensures { IfOk result (λ state. state.shard ≡ first_shard) }
 {
     let store = first_store(alloc)?;
     let limits = Limits {
@@ -109,24 +114,19 @@ fn first_state<J: Naming>(
         stored: MOST_STORED,
     };
     let shard = first_shard(alloc);
-    Ok(ShardState::new(alloc, seat, shard, store, limits))
+    Ok(ShardState::new(alloc, seat, shard, store, Mode::Serving, limits))
 }
 
 /// The one shard, with the seat of slot 0.
 fn first_part<J: Naming>(
     alloc: Global,
     seat: ShardSeat<ShardLaw<First>, J>,
-) -> Result<Part<First, J>, Refusal>
+) -> Result<Part<Shard<First, J>>, Refusal>
     requires { seat ≡ record { seen = []; slot = 0 } }
-    ensures { IfOk result (λ part. (part.slot ≡ first_shard.slot) × (part.place ≡ first_shard.place)) }
+    ensures { IfOk result (λ part. part ≡ seat_of first_shard) }
 {
     let state = first_state(alloc, seat)?;
-    let first = first_shard(alloc);
-    Ok(Part {
-        place: first.place,
-        slot: first.slot,
-        shard: Arc::new(alloc, Shard::new(state))?,
-    })
+    Ok(Part::new(Arc::new(alloc, Shard::new(state))?))
 }
 
 /// The engine, whose shard has the seat of slot 0.
@@ -140,7 +140,9 @@ pub fn first_engine<J: Naming + Send + Sync>(
     let schema = first_schema(alloc)?;
     let mut parts = Vec::new(alloc);
     parts.push(first_part(alloc, seat)?)?;
-    Ok(Engine::new(schema, parts, Open))
+    let mut keyspaces = Vec::new(alloc);
+    keyspaces.push(Serving::new(alloc, Partition::new(parts))?)?;
+    Ok(Engine::new(schema, keyspaces, Buffer::new(0), Open))
 }
 
 /// The seat of slot 0.

@@ -29,7 +29,7 @@ use Rattle.planner.specs.Right.{all_rows, IsPlaced, IsRightPlan}
 use Rattle.planner.proofs.Aggregated.{groups_plan, same_aggregated}
 use Rattle.planner.proofs.KeptRows.{rows-all, piece_kept, same_filter, no_filter, all_rows_are}
 use Rattle.planner.proofs.Placed.{IsHome, rows_home}
-use Rattle.planner.proofs.Rejoined.{AreWide, rows_permuted, rejoined}
+use Rattle.sql_eval.proofs.Rejoined.{AreWide, rows_permuted, rejoined}
 use Rattle.planner.proofs.Skips.{skipped}
 
 or_more : (a b : Bool) → b ≡ true → (a || b) ≡ true

@@ -8,8 +8,6 @@ pub mod Rights
 pub mod TopRows
 pub mod CutTruth
 pub mod Mapped
-pub mod DistinctRows
-pub mod Rejoined
 pub mod Aggregated
 pub mod KeptRows
 pub mod RowRights

@@ -31,7 +31,7 @@ use Rattle.planner.specs.Plans.{planned, Shard, Pieces, routed, CanJoin}
 use Rattle.planner.specs.Right.{IsPlaced}
 use Rattle.planner.proofs.Aggregated.{groups_plan, planned_rows, planned_groups}
 use Rattle.planner.proofs.GroupRights.{first, wide_parts}
-use Rattle.planner.proofs.Rejoined.{AreWide, some_keys, key_lengths, one}
+use Rattle.sql_eval.proofs.Rejoined.{AreWide, some_keys, key_lengths, one}
 
 size_sum : (vs : List Value) → size (sum_of vs) ≤ sizes vs
 size_sum [] = omega arith

@@ -1,6 +1,4 @@
 pub mod Moments
-pub mod Needs
-pub mod Counting
 pub mod Spread
 pub mod Gathers
 pub mod Placing
@@ -10,12 +8,14 @@ pub mod Selecting
 pub mod Jobs
 pub mod Theirs
 pub mod Sent
-pub mod Writing
 pub mod Refusals
 pub mod Replies
 pub mod Sessions
-pub mod NoOthers
 pub mod Everywhere
+pub mod Scattering
+pub mod Trying
+pub mod NoOthers
 pub mod WholeWrites
 pub mod Over
 mod OverExample
+pub mod Openings

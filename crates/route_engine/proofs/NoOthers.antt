@@ -14,7 +14,7 @@ use Rattle.vschema.specs.declared.changes.Write.{Write}
 use Rattle.shard.specs.declared.limits.Limits.{Limits}
 use Rattle.shard.specs.Shards.{commit_of, HasLooked}
 use Rattle.shard.specs.Commits.{HasCommitted}
-use Rattle.route_engine.specs.Answers.{HasGoneOn}
+use Rattle.route_engine.specs.Answers.{HasGoneOn, HasGone}
 use Rattle.route_engine.specs.Alone.{NoOthers}
 
 module _ {X : Type 0} where
@@ -77,6 +77,9 @@ module _ (p now : PassView Entry) (alone : NoOthers p now) where
 
   pub gone_unchanged : (o : Opening) (added : List (ℕ × ℕ)) → HasGoneOn o p added now → now.seen ≡ p.seen
   gone_unchanged o added gone = unchanged now.seen gone.later (prefix_self now.seen) (gone.own alone.session alone.of_session)
+
+  pub gone_same : (o : Opening) → HasGone o p now → now.seen ≡ p.seen
+  gone_same o gone = gone_unchanged o gone.0 gone.1
 
   pub looked_unchanged : (o : Opening) (slot : ℕ) → HasLooked o slot p now → now.seen ≡ p.seen
   looked_unchanged o slot looked = unchanged now.seen looked.later (prefix_self now.seen) (looked.own alone.session alone.of_session)

@@ -39,14 +39,16 @@ use Rattle.route_engine.specs.declared.reply.Answer.TheVariants.{Rows, Count}
 use Rattle.route_engine.specs.declared.reply.Reply.{Reply}
 use Rattle.route_engine.specs.Mix.{Part, IsBetween, mixed_rows}
 use Rattle.route_engine.specs.Answers as a
-use Rattle.route_engine.specs.Answers.{counted, HasGoneOn, IsSelected, Gives, IsReply, IsRefused, IsRefusal, needed_by}
+use Rattle.serving.specs.Partitions.{Seat, IsPartition}
+use Rattle.route_engine.specs.Answers.{counted, HasGone, IsSelected, Gives, IsReply, IsRefused, IsRefusal, MayReadRefuse, MayWriteRefuse, NeedsAlone, needed_by}
 use Rattle.route_engine.specs.Alone as over
 use Rattle.route_engine.specs.Alone.{NoOthers, GivesOver, AnswersOver, IsRefusedOver}
 use Rattle.route_engine.proofs.Everywhere.{same_moment}
-use Rattle.route_engine.proofs.Moments.{same_answers}
-use Rattle.route_engine.proofs.NoOthers.{gone_unchanged, looked_unchanged, committed_at}
+use Rattle.sql_eval.proofs.SameAnswers.{same_answers}
+use Rattle.route_engine.proofs.NoOthers.{gone_unchanged, gone_same, looked_unchanged, committed_at, up_to, behind}
 use Rattle.route_engine.proofs.Sessions.{is_typed}
 use Rattle.route_engine.proofs.Theirs.{query_there}
+use Rattle.route_engine.proofs.Trying.{same_session}
 use Rattle.route_engine.proofs.WholeWrites.{whole_changes, no_changes}
 
 -- ---- what a statement leaves of a pass: it goes on from what was seen, which stays legal
@@ -66,20 +68,34 @@ pub record GoesOn (o : Opening) (p now : PassView Entry) : Type 0 where
 stays : (o : Opening) (p : PassView Entry) → GoesOn o p p
 stays o p = record { later = prefix_self p.seen; legal = λ h. h }
 
+gone_on : (o : Opening) (p now : PassView Entry) → HasGone o p now → GoesOn o p now
+gone_on o p now gone = record { later = gone.1.later; legal = λ h. gone.1.legal }
+
 gives_on : (o : Opening) (l : Limits) (p : PassView Entry) (t : Typed) (reply : Reply) (now : PassView Entry) → Gives o l p t reply now → GoesOn o p now
 gives_on o l p _ _ now (a.selects (a.read is)) = record { later = is.gone.later; legal = λ h. is.gone.legal }
-gives_on o l p _ _ _ (a.writes (a.nowhere none)) = stays o p
-gives_on o l p _ _ now (a.writes {w} (a.wrote {count} s needed c)) = record { later = committed_later o l s p now w count c; legal = λ h. c.legal }
+gives_on o l p _ _ now (a.writes (a.nowhere seats partition none gone)) = gone_on o p now gone
+gives_on o l p _ _ now (a.writes {w} (a.wrote {count} {since} s needed gone c)) =
+    record { later = prefix_trans p.seen since.seen now.seen gone.1.later (committed_later o l s since now w count c); legal = λ h. c.legal }
 gives_on o l p _ _ _ a.sets_names = stays o p
 
+not_read_on : (o : Opening) (p : PassView Entry) (q : Query) (e : Refusal) (now : PassView Entry) → MayReadRefuse o p q e now → HasGone o p now
+not_read_on o p q _ now (a.no_memory gone) = gone
+not_read_on o p q _ now (a.buffer_full gone held) = gone
+
+not_written_on : (o : Opening) (l : Limits) (p : PassView Entry) (w : Write) (e : Refusal) (now : PassView Entry) → MayWriteRefuse o l p w e now → GoesOn o p now
+not_written_on o l p w _ now (a.no_memory gone) = gone_on o p now gone
+not_written_on o l p w _ now (a.several seats partition more gone) = gone_on o p now gone
+not_written_on o l p w _ now (a.buffer_full gone held) = gone_on o p now gone
+not_written_on o l p w _ now (a.refused {since = since} s needed gone looked why) =
+    record { later = prefix_trans p.seen since.seen now.seen gone.1.later looked.later; legal = λ h. looked.legal }
+
 refused_on : (o : Opening) (l : Limits) (p : PassView Entry) (text : List ℕ) (e : Refusal) (now : PassView Entry) → IsRefused o l p text e now → GoesOn o p now
-refused_on o l p text _ now (a.no_memory gone) = record { later = gone.1.later; legal = λ h. gone.1.legal }
+refused_on o l p text _ now (a.no_memory gone) = gone_on o p now gone
 refused_on o l p text _ _ (a.no_tree none) = stays o p
 refused_on o l p text _ _ (a.not_typed tree reads typed) = stays o p
 refused_on o l p text _ _ (a.not_run tree t reads is none) = stays o p
-refused_on o l p text _ _ (a.not_written tree w reads is a.no_memory) = stays o p
-refused_on o l p text _ _ (a.not_written tree w reads is (a.several more)) = stays o p
-refused_on o l p text _ now (a.not_written tree w reads is (a.refused s needed looked why)) = record { later = looked.later; legal = λ h. looked.legal }
+refused_on o l p text e now (a.not_read tree q reads is why) = gone_on o p now (not_read_on o p q e now why)
+refused_on o l p text e now (a.not_written tree w reads is why) = not_written_on o l p w e now why
 
 pub reply_on : (o : Opening) (l : Limits) (p now : PassView Entry) (text : List ℕ) (reply : Reply) → IsReply o l (counted p) text reply now → GoesOn o p now
 reply_on o l p now text reply is =
@@ -142,7 +158,7 @@ module _ (o : Opening) (opens : IsOpening o) (formed : is_vschema o.schema ≡ t
       subst (λ (r : Run). GivesOver o.schema (one o p.seen) (typed.Select q) (Rows selected) (one o r)) (sym same) (over.selects is.table is.items answer)
 
   -- a write
-  pub committed_over : (w : Write) (s : Shard) (count : ℕ) → needed_by o w ≡ s ∷ [] → HasCommitted o l s p w count now
+  pub committed_over : (w : Write) (s : Shard) (count : ℕ) → NeedsAlone o w s → HasCommitted o l s p w count now
       → GivesOver o.schema (one o p.seen) (typed.Write w) (Count count) (one o now.seen)
   committed_over w s count needed c =
       let e : Entry = commit_entry s c.session p.statements w c.changes in
@@ -161,18 +177,37 @@ module _ (o : Opening) (opens : IsOpening o) (formed : is_vschema o.schema ≡ t
       (subst (λ (n : ℕ). GivesOver o.schema (one o p.seen) (typed.Write w) (Count n) (all_applied c.changes (one o p.seen))) counted' (over.writes c.changes is))
 
 -- a write that needs no shard
-nowhere_over : (o : Opening) → IsOpening o → is_vschema o.schema ≡ true → (run : Run) → Legal o run → (w : Write) → IsTypedWrite o.schema w → needed_by o w ≡ []
-    → GivesOver o.schema (one o run) (typed.Write w) (Count 0) (one o run)
-nowhere_over o opens formed run legal w is none = over.writes [] ([], no_changes o opens formed run legal w is none, IsPermutation-refl [])
+nowhere_over : (o : Opening) → IsOpening o → is_vschema o.schema ≡ true → (run : Run) → Legal o run → (w : Write) → IsTypedWrite o.schema w
+    → (seats : List Seat) → IsPartition seats → needed_by o w seats ≡ [] → GivesOver o.schema (one o run) (typed.Write w) (Count 0) (one o run)
+nowhere_over o opens formed run legal w is seats partition none =
+    over.writes [] ([], no_changes o opens formed run legal seats partition w is none, IsPermutation-refl [])
+
+-- a write after looks
+module _ (o : Opening) (opens : IsOpening o) (formed : is_vschema o.schema ≡ true) (l : Limits) (p now : PassView Entry) (alone : NoOthers p now) where
+  wrote_over : (w : Write) (s : Shard) (count : ℕ) (since : PassView Entry) → NeedsAlone o w s → HasGone o p since → HasCommitted o l s since w count now
+      → GivesOver o.schema (one o p.seen) (typed.Write w) (Count count) (one o now.seen)
+  wrote_over w s count since needed gone c =
+      let after = committed_later o l s since now w count c in
+      let same : since.seen ≡ p.seen = gone_same p since (up_to p now alone since gone.1.later after) o gone in
+      let later : NoOthers since now = behind p now alone since gone.1.later after (same_session o p since gone) in
+      subst (λ (r : Run). GivesOver o.schema (one o r) (typed.Write w) (Count count) (one o now.seen)) same
+      (committed_over o opens formed l since now later w s count needed c)
+
+  left_over : (w : Write) → IsTypedWrite o.schema w → IsLegal (MayFollow o) p.seen → (seats : List Seat) → IsPartition seats → needed_by o w seats ≡ [] → HasGone o p now
+      → GivesOver o.schema (one o p.seen) (typed.Write w) (Count 0) (one o now.seen)
+  left_over w is legal seats partition none gone =
+      subst (λ (r : Run). GivesOver o.schema (one o p.seen) (typed.Write w) (Count 0) (one o r)) (sym (gone_same p now alone o gone))
+      (nowhere_over o opens formed p.seen (legal_is o p.seen legal) w is seats partition none)
 
 module _ (o : Opening) (opens : IsOpening o) (formed : is_vschema o.schema ≡ true) (l : Limits) (text : List ℕ) (tree : Statement) (reads : Reads text tree) where
   gives_over : (p : PassView Entry) (t : Typed) (reply : Reply) (now : PassView Entry) → Gives o l p t reply now → typed_statement o.schema tree ≡ Ok t
       → IsLegal (MayFollow o) p.seen → NoOthers p now → GivesOver o.schema (one o p.seen) t reply.answer (one o now.seen)
   gives_over p _ _ now (a.selects {query} (a.read {selected} {reads} is)) typed_is legal alone =
       selected_over o opens formed l p now alone query selected reads (query_there o.schema tree query typed_is) is
-  gives_over p _ _ _ (a.writes {w} (a.nowhere none)) typed_is legal alone =
-      nowhere_over o opens formed p.seen (legal_is o p.seen legal) w (is_typed o.schema tree w typed_is) none
-  gives_over p _ _ now (a.writes {w} (a.wrote {count} s needed c)) typed_is legal alone = committed_over o opens formed l p now alone w s count needed c
+  gives_over p _ _ now (a.writes {w} (a.nowhere seats partition none gone)) typed_is legal alone =
+      left_over o opens formed l p now alone w (is_typed o.schema tree w typed_is) legal seats partition none gone
+  gives_over p _ _ now (a.writes {w} (a.wrote {count} {since} s needed gone c)) typed_is legal alone =
+      wrote_over o opens formed l p now alone w s count since needed gone c
   gives_over p _ _ _ a.sets_names typed_is legal alone = over.sets_names
 
 -- a numbered pass has seen as much
@@ -196,23 +231,34 @@ module _ (o : Opening) (opens : IsOpening o) (formed : is_vschema o.schema ≡ t
     pub same : now.seen ≡ p.seen
 
   commit_refused : (p now : PassView Entry) (tree : Statement) (w : Write) (s : Shard) (e : Refusal) → Reads text tree → typed_statement o.schema tree ≡ Ok (typed.Write w)
-      → needed_by o w ≡ s ∷ [] → HasLooked o s.slot p now → IsCommitRefusal o l s now.seen w e → now.seen ≡ p.seen → IsRefusedOver o.schema (one o p.seen) text e
-  commit_refused p now tree w s _ reads is needed looked commits.no_memory same = over.no_memory
-  commit_refused p now tree w s _ reads is needed looked (commits.full changes of room) same = over.full
-  commit_refused p now tree w s _ reads is needed looked (commits.duplicate twice) same =
-      let whole = whole_changes o opens formed now.seen (legal_is o now.seen looked.legal) w (is_typed o.schema tree w is) s needed in
+      → NeedsAlone o w s → IsLegal (MayFollow o) now.seen → IsCommitRefusal o l s now.seen w e → now.seen ≡ p.seen → IsRefusedOver o.schema (one o p.seen) text e
+  commit_refused p now tree w s _ reads is needed legal commits.no_memory same = over.no_memory
+  commit_refused p now tree w s _ reads is needed legal (commits.full changes of room) same = over.full
+  commit_refused p now tree w s _ reads is needed legal (commits.duplicate twice) same =
+      let whole = whole_changes o opens formed now.seen (legal_is o now.seen legal) w (is_typed o.schema tree w is) s needed in
       over.duplicate tree w reads is (ap (λ (r : Run). changes_of o.schema w (one o r)) (sym same) ∙ sym whole ∙ twice)
 
+  refused_later : (p now : PassView Entry) → NoOthers p now → (tree : Statement) (w : Write) (s : Shard) (e : Refusal) (since : PassView Entry) → Reads text tree
+      → typed_statement o.schema tree ≡ Ok (typed.Write w) → NeedsAlone o w s → HasGone o p since → HasLooked o s.slot since now
+      → IsCommitRefusal o l s now.seen w e → Refuses p e now
+  refused_later p now h tree w s e since reads is needed gone looked why =
+      let same : since.seen ≡ p.seen = gone_same p since (up_to p now h since gone.1.later looked.later) o gone in
+      let later : NoOthers since now = behind p now h since gone.1.later looked.later (same_session o p since gone) in
+      let left : now.seen ≡ p.seen = looked_unchanged since now later o s.slot looked ∙ same in
+      record { why = commit_refused p now tree w s e reads is needed looked.legal why left; same = left }
+
   refused_over : (p : PassView Entry) (e : Refusal) (now : PassView Entry) → IsRefused o l p text e now → NoOthers p now → Refuses p e now
-  refused_over p _ now (a.no_memory gone) h = record { why = over.no_memory; same = gone_unchanged p now h o gone.0 gone.1 }
+  refused_over p _ now (a.no_memory gone) h = record { why = over.no_memory; same = gone_same p now h o gone }
   refused_over p _ _ (a.no_tree none) h = record { why = over.no_tree none; same = refl }
   refused_over p _ _ (a.not_typed tree reads typed) h = record { why = over.not_typed tree reads typed; same = refl }
   refused_over p _ _ (a.not_run tree t reads is none) h = record { why = over.not_run tree t reads is none; same = refl }
-  refused_over p _ _ (a.not_written tree w reads is a.no_memory) h = record { why = over.no_memory; same = refl }
-  refused_over p _ _ (a.not_written tree w reads is (a.several more)) h = record { why = over.several; same = refl }
-  refused_over p e now (a.not_written tree w reads is (a.refused s needed looked why)) h =
-      let same = looked_unchanged p now h o s.slot looked in
-      record { why = commit_refused p now tree w s e reads is needed looked why same; same = same }
+  refused_over p _ now (a.not_read tree q reads is (a.no_memory gone)) h = record { why = over.no_memory; same = gone_same p now h o gone }
+  refused_over p _ now (a.not_read tree q reads is (a.buffer_full gone held)) h = record { why = over.waits; same = gone_same p now h o gone }
+  refused_over p _ now (a.not_written tree w reads is (a.no_memory gone)) h = record { why = over.no_memory; same = gone_same p now h o gone }
+  refused_over p _ now (a.not_written tree w reads is (a.several seats partition more gone)) h = record { why = over.several; same = gone_same p now h o gone }
+  refused_over p _ now (a.not_written tree w reads is (a.buffer_full gone held)) h = record { why = over.waits; same = gone_same p now h o gone }
+  refused_over p e now (a.not_written tree w reads is (a.refused {since = since} s needed gone looked why)) h =
+      refused_later p now h tree w s e since reads is needed gone looked why
 
   pub refusal_over : (p : PassView Entry) (e : Refusal) (now : PassView Entry) → IsRefusal o l p text e now → NoOthers p now → Refuses p e now
   refusal_over p _ _ (a.used_up many) h = record { why = over.full; same = refl }

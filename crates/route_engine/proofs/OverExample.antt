@@ -1,5 +1,5 @@
 -- Session 1 over the shards -80 and 80- with the rows (1, NULL) and (2, NULL) of t, beside what one database gives.
-use Rattle.std.proofs.Common.{◌≡◌, ℕ, true, false, ◌==◌, [], ◌∷◌, refl, sym, ap, subst, ◌∙◌, None, Some, Option, Result, Err, arith}
+use Rattle.std.proofs.Common.{◌≡◌, ℕ, true, ◌==◌, [], ◌∷◌, refl, sym, ap, subst, None, Some, Option, Err}
 use Rattle.std.specs.List.{AllByRecursion}
 use Rattle.std.proofs.lemmas.List.Sorted.{IsPermutation-refl}
 use Rattle.vt_value.specs.declared.refusal.Refusal.TheVariants.{DuplicateKey}

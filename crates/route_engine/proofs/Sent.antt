@@ -10,27 +10,34 @@ use Rattle.journal.specs.contracts.pass.Pass as pass
 use Rattle.journal.specs.contracts.seat.ShardSeat as seat
 use Rattle.journal.proofs.pass.Pass.TheSendSync as sent_pass
 use Rattle.journal.proofs.seat.ShardSeat.TheSendSync as sent_seat
+use Rattle.buffer.proofs.waiting.Buffer.TheSendSync as buffer
 use Rattle.route_engine.specs.contracts.engine.Engine as engine
 use Rattle.route_engine.specs.contracts.engine.Engine.TheInside as engine_inside
+use Rattle.serving.specs.contracts.published.Serving as serving
+use Rattle.serving.proofs.published.Serving.TheSendSync as sent_serving
+use Rattle.vschema.proofs.schema.VSchema.TheSendSync as schema
 use Rattle.shard.specs.declared.world.World as world
 use Rattle.shard.specs.contracts.contents.Contents as contents
+use Rattle.keyrange.proofs.KeyRange.TheSendSync as range
 use Rattle.shard.specs.contracts.locked.Shard as locked
+use Rattle.shard.specs.contracts.locked.Shard.TheInside as locked_inside
+use Rattle.shard.specs.contracts.locked.ShardSeated.TheImpl as seated
 use Rattle.shard.specs.contracts.state.ShardState as state
 use Rattle.shard.specs.contracts.state.ShardState.TheInside as state_inside
 use Rattle.shard.specs.contracts.world.ShardLaw as law
 use Rattle.shard.specs.contracts.world.ShardLawLaw.TheImpl as laws
 use Rattle.shard.proofs.store.Store.TheSendSync as store
 use Rattle.shard_run.specs.contracts.Entry as entry
+use Rattle.shard_run.specs.contracts.Shard as which
+use Rattle.vt_value.specs.contracts.Items as items
 use Rattle.shard_run.proofs.Sent.{entry_send}
 use Rattle.sql_tree.proofs.Condition.TheLaws.TheKnot as condition
 use Rattle.vschema.specs.contracts.schema.Query as query
 use Rattle.vschema.proofs.schema.Place.TheSendSync as place
 use Rattle.vt_value.proofs.refusal.Refusal.TheSendSync as refusal
-use Rattle.shard.proofs.state.Reading.TheSendSync as reading
+use Rattle.shard.proofs.state.Read.TheSendSync as reading
 use Rattle.route_engine.specs.contracts.scatter.Job as job
 use Rattle.route_engine.specs.contracts.scatter.Done as done
-use Rattle.route_engine.specs.contracts.parts.Part as part
-use Rattle.vschema.proofs.schema.VSchema.TheSendSync as schema
 
 -- captures that may each go to another thread
 pub captures_send : (n : List ℕ) (rs : List RattleType) → AllSend (shape (type_at n rs)).fields → IsSend (TupleAt n rs)
@@ -42,6 +49,9 @@ query_send = search (std.crosses, condition.crosses, sendable) depth 60 fits 200
 contents_send : IsSend contents.the_field.row
 contents_send = search (entry_send, store.the_send, std.crosses, sendable) depth 60 fits 20000
 
+targets_send : IsSend (items.the_field which.the_row).row
+targets_send = search (std.crosses, sendable) depth 60 fits 20000
+
 module _ (W J : RattleType) (w : world.Ghosts W.Denot) (j : naming.Ghosts J.Denot) where
   pub pass_send : IsSend (pass.the_row (law.the_row W) J entry.the_row j (laws.ghosts W w laws.no_dict))
   pass_send = sent_pass.the_send (law.the_row W) J entry.the_row j (laws.ghosts W w laws.no_dict) entry_send
@@ -50,21 +60,21 @@ module _ (W J : RattleType) (w : world.Ghosts W.Denot) (j : naming.Ghosts J.Deno
   seat_send = sent_seat.the_send (law.the_row W) J entry.the_row j (laws.ghosts W w laws.no_dict) entry_send
 
   inside_send : IsSend (state_inside.the_row W J w j)
-  inside_send = recorded_send (state_inside.the_field W J w j).row _ _ (state_inside.the_type W J w j).to_one (struct_send (shape (state_inside.the_type W J w j)) (seat_send, (contents_send, tt)))
+  inside_send = recorded_send (state_inside.the_field W J w j).row _ _ (state_inside.the_type W J w j).to_one (struct_send (shape (state_inside.the_type W J w j)) (seat_send, (contents_send, (targets_send, tt))))
 
   state_send : IsSend (state.the_row W J w j)
   state_send = view_send _ _ _ _ _ inside_send
 
-  pub shard_sync : IsSync (locked.the_field W J w j).row
-  shard_sync = search (state_send, std.crosses, sendable) depth 60 fits 20000
-
   pub shard_shared : IsSync (locked.the_row W J w j)
-  shard_shared = recorded_sync (locked.the_field W J w j).row _ _ (locked.the_type W J w j).to_one (struct_sync (shape (locked.the_type W J w j)) (search (state_send, std.crosses, sendable), tt))
+  shard_shared =
+      view_sync _ _ _ _ _
+      (recorded_sync (locked_inside.the_field W J w j).row _ _ (locked_inside.the_type W J w j).to_one
+      (struct_sync (shape (locked_inside.the_type W J w j)) (search sendable, (range.the_field_sync, (search (state_send, std.crosses, sendable), tt)))))
 
   pub job_send : (ℓ : _) → IsSend (job.the_row ℓ W J w j)
   job_send ℓ =
       recorded_send (job.the_field ℓ W J w j).row _ _ (job.the_type ℓ W J w j).to_one
-      (struct_send (shape (job.the_type ℓ W J w j)) (search sendable, (search sendable, (shr_send _ _ _ shard_shared, (query_send, (pass_send, tt))))))
+      (struct_send (shape (job.the_type ℓ W J w j)) (search sendable, (search sendable, (place.the_field_send, (shr_send _ _ _ shard_shared, (query_send, (pass_send, tt)))))))
 
   pub done_send : IsSend (done.the_row W J w j)
   done_send =
@@ -72,18 +82,20 @@ module _ (W J : RattleType) (w : world.Ghosts W.Denot) (j : naming.Ghosts J.Deno
       (struct_send (shape (done.the_type W J w j)) (search sendable, (pass_send, (search (reading.the_send, refusal.the_send, std.crosses, sendable), tt))))
 
   shard_sent : IsSend (locked.the_row W J w j)
-  shard_sent = recorded_send (locked.the_field W J w j).row _ _ (locked.the_type W J w j).to_one (struct_send (shape (locked.the_type W J w j)) (search (state_send, std.crosses, sendable), tt))
+  shard_sent =
+      view_send _ _ _ _ _
+      (recorded_send (locked_inside.the_field W J w j).row _ _ (locked_inside.the_type W J w j).to_one
+      (struct_send (shape (locked_inside.the_type W J w j)) (search sendable, (range.the_field_send, (search (state_send, std.crosses, sendable), tt)))))
 
-  part_sync : IsSync (part.the_row W J w j)
-  part_sync =
-      recorded_sync (part.the_field W J w j).row _ _ (part.the_type W J w j).to_one
-      (struct_sync (shape (part.the_type W J w j)) (place.the_field_sync, (search sendable, (std.Arc-sync _ shard_sent shard_shared, tt))))
+  partitions_sync : IsSync (serving.the_row (locked.the_row W J w j) (seated.ghosts W J w laws.no_dict j laws.no_dict))
+  partitions_sync = sent_serving.the_sync (locked.the_row W J w j) (seated.ghosts W J w laws.no_dict j laws.no_dict) shard_sent shard_shared
 
   module _ (G : RattleType) (shared : IsSync G) where
     inside_sync : IsSync (engine_inside.the_row W J G w j)
     inside_sync =
         recorded_sync (engine_inside.the_field W J G w j).row _ _ (engine_inside.the_type W J G w j).to_one
-        (struct_sync (shape (engine_inside.the_type W J G w j)) (schema.the_field_sync, (search (part_sync, std.crosses, sendable), (shared, tt))))
+        (struct_sync (shape (engine_inside.the_type W J G w j))
+        (schema.the_field_sync, (std.Vec-sync _ partitions_sync, (buffer.the_field_sync, (shared, tt)))))
 
     pub engine_sync : IsSync (engine.the_row W J G w j)
     engine_sync = view_sync _ _ _ _ _ inside_sync

@@ -1,4 +1,4 @@
--- What a write does on the one shard that it needs, it does to the one database: no other row of its table has to do with it.
+-- What a write does on the one shard that it needs by a partition, it does to the one database: no other row of its table has to do with it.
 use Rattle.std.proofs.Common.{◌≡◌, ℕ, zero, suc, ◌<◌, Bool, true, false, cond, ◌&&◌, ◌||◌, ◌==◌, List, [], ◌∷◌, ◌++◌, length, get_or, filter, map, flat_map, slice_get, Option, Some, None, Result, Ok, Err, refl, sym, ap, subst, ◌∙◌, inl, inr, arith}
 use Rattle.std.specs.List.{AllByRecursion, list_any, list_all}
 use Rattle.std.proofs.lemmas.Bool.{false≢true, and_parts, and_from, eqb-true, eq-eqb}
@@ -35,12 +35,12 @@ use Rattle.shard_law.proofs.Fitting.{fits-from_typed}
 use Rattle.shard_law.proofs.Lists.{In, In-all, In-filter, In-map, all-from_In, all-from_list_all, filter-filter_weaker, filter-none}
 use Rattle.shard_law.proofs.Rows.{row_is}
 use Rattle.shard_law.proofs.Typed.{table_there}
-use Rattle.shard.specs.Shards.{opening_shards}
-use Rattle.route_engine.specs.Answers.{is_needed, needed, needed_by}
+use Rattle.serving.specs.Partitions.{Seat, IsPartition}
+use Rattle.route_engine.specs.Answers.{needed, needed_by, NeedsAlone}
 use Rattle.route_engine.proofs.Everywhere.{rows_restricted}
-use Rattle.route_engine.proofs.Formed.{keyspace_below}
 use Rattle.route_engine.proofs.Moments.{placed_at}
-use Rattle.route_engine.proofs.Placing.{home_of, row_taken, only_one, placed}
+use Rattle.route_engine.proofs.Placing.{row_taken, only_one}
+use Rattle.route_engine.proofs.Trying.{home_in, placed}
 
 -- ---- rows of which only some have to do with a write
 
@@ -121,35 +121,40 @@ vindex_right schema e n there =
     let is = at_place (λ x. is_table schema.keyspaces x ≡ true) schema.tables n no_table tables there in
     right_at t (is_sharded_at schema.keyspaces t.keyspace) (and_parts _ (is_in_keyspace t (is_sharded_at schema.keyspaces t.keyspace)) is).1
 
-module _ (o : Opening) (opens : IsOpening o) (formed : is_vschema o.schema ≡ true) (run : Run) (legal : Legal o run) (n : ℕ) (there : n < length o.schema.tables) where
+module _ (o : Opening) (opens : IsOpening o) (formed : is_vschema o.schema ≡ true) (run : Run) (legal : Legal o run) (n : ℕ) (there : n < length o.schema.tables)
+    (seats : List Seat) (partition : IsPartition seats) where
   abbrev t : Table
   t = table_at o.schema n
 
   abbrev rows : List Row
   rows = rows_of (one o run) n
 
-  -- each row lies in an opening shard, and one that a condition keeps in one that the condition's route takes
+  -- the place of a seat
+  abbrev place_of : Seat → Place
+  place_of seat = record { keyspace = t.keyspace; range = seat.1 }
+
+  -- each row lies in a seat, and one that a condition keeps in one that the condition's route takes
   pub record Home (c : Option (Condition ℕ)) (row : Row) : Type 0 where
-    pub shard : Shard
-    pub opening : In shard (opening_shards o)
-    pub needs : is_needed t (route_of t c) shard.place ≡ true
-    pub lies : lies_in shard.place t row ≡ true
+    pub seat : Seat
+    pub inside : In seat seats
+    pub needs : takes t (route_of t c) seat.1 ≡ true
+    pub lies : lies_in (place_of seat) t row ≡ true
 
   kept_home : (c : Option (Condition ℕ)) (row : Row) → In row rows → is_kept c row ≡ true → Home c row
   kept_home c row h kept =
-      let w = home_of o opens t.keyspace (keyspace_below o.schema formed n) (row_id t row) in
-      let place : Place = record { keyspace = t.keyspace; range = w.0.place.range } in
-      let lies : lies_in place t row ≡ true = and_from (t.keyspace == t.keyspace) (has_id w.0.place.range (row_id t row)) (eq-eqb t.keyspace t.keyspace refl) w.3 in
+      let w = home_in seats partition (row_id t row) in
+      let place : Place = place_of w.0 in
+      let lies : lies_in place t row ≡ true = and_from (t.keyspace == t.keyspace) (has_id w.0.1 (row_id t row)) (eq-eqb t.keyspace t.keyspace refl) w.2 in
       let within : In row (rows_of (restrict o.schema place (one o run)) n) =
       subst (In row) (sym (rows_restricted o.schema.tables place (one o run) n there)) (In-filter (lies_in place t) row lies rows h) in
-      let home : IsHome t (w.0.place.range, restrict o.schema place (one o run)) row =
-      In-all (IsHome t (w.0.place.range, restrict o.schema place (one o run))) row (rows_of (restrict o.schema place (one o run)) n)
-      (rows_home o.schema n (w.0.place.range, restrict o.schema place (one o run)) (placed_at o opens n w.0.place.range run legal)) within in
+      let home : IsHome t (w.0.1, restrict o.schema place (one o run)) row =
+      In-all (IsHome t (w.0.1, restrict o.schema place (one o run))) row (rows_of (restrict o.schema place (one o run)) n)
+      (rows_home o.schema n (w.0.1, restrict o.schema place (one o run)) (placed_at o opens n w.0.1 run legal)) within in
       record {
-        shard = w.0;
-        opening = w.1;
-        needs = and_from (w.0.place.keyspace == t.keyspace) (takes t (route_of t c) w.0.place.range) (eq-eqb w.0.place.keyspace t.keyspace w.2) (taken home (takes t (route_of t c) w.0.place.range) refl);
-        lies = and_from (t.keyspace == w.0.place.keyspace) (has_id w.0.place.range (row_id t row)) (eq-eqb t.keyspace w.0.place.keyspace (sym w.2)) w.3;
+        seat = w.0;
+        inside = w.1;
+        needs = taken home (takes t (route_of t c) w.0.1) refl;
+        lies = lies;
       }
     where
       taken : {shard : Rattle.planner.specs.Plans.Shard} → IsHome t shard row → (b : Bool) → takes t (route_of t c) shard.0 ≡ b → takes t (route_of t c) shard.0 ≡ true
@@ -159,19 +164,19 @@ module _ (o : Opening) (opens : IsOpening o) (formed : is_vschema o.schema ≡ t
   abbrev Keeps : Option (Condition ℕ) → (Row → Bool) → Type 0
   Keeps c p = AllByRecursion (λ row. is_kept c row ≡ true → p row ≡ true) rows
 
-  -- the rows that a condition keeps lie in the one shard that it needs, and none is kept where it needs no shard
-  kept_here : (c : Option (Condition ℕ)) (s : Shard) → needed o t (route_of t c) ≡ s ∷ [] → Keeps c (lies_in s.place t)
-  kept_here c s alone =
-      all-from_In (λ row. is_kept c row ≡ true → lies_in s.place t row ≡ true) rows
+  -- the rows that a condition keeps lie in the one seat that it needs, and none is kept where it needs none
+  kept_here : (c : Option (Condition ℕ)) (seat : Seat) → needed t (route_of t c) seats ≡ seat ∷ [] → Keeps c (lies_in (place_of seat) t)
+  kept_here c seat alone =
+      all-from_In (λ row. is_kept c row ≡ true → lies_in (place_of seat) t row ≡ true) rows
       (λ row h kept. let w = kept_home c row h kept in
-      subst (λ (u : Shard). lies_in u.place t row ≡ true)
-      (only_one w.shard s (needed o t (route_of t c)) alone (In-filter (λ u. is_needed t (route_of t c) u.place) w.shard w.needs (opening_shards o) w.opening)) w.lies)
+      subst (λ (u : Seat). lies_in (place_of u) t row ≡ true)
+      (only_one w.seat seat (needed t (route_of t c) seats) alone (In-filter (λ u. takes t (route_of t c) u.1) w.seat w.needs seats w.inside)) w.lies)
 
-  kept_nowhere : (c : Option (Condition ℕ)) → needed o t (route_of t c) ≡ [] → Keeps c (λ row. false)
+  kept_nowhere : (c : Option (Condition ℕ)) → needed t (route_of t c) seats ≡ [] → Keeps c (λ row. false)
   kept_nowhere c none =
       all-from_In (λ row. is_kept c row ≡ true → false ≡ true) rows
       (λ row h kept. let w = kept_home c row h kept in
-      absurd (subst (In w.shard) none (In-filter (λ u. is_needed t (route_of t c) u.place) w.shard w.needs (opening_shards o) w.opening)))
+      absurd (subst (In w.seat) none (In-filter (λ u. takes t (route_of t c) u.1) w.seat w.needs seats w.inside)))
 
   updates_over : (assignments : List (Assignment ℕ)) (c : Option (Condition ℕ)) (p : Row → Bool) → Keeps c p
       → flat_map (row_updates n assignments c) (filter p rows) ≡ flat_map (row_updates n assignments c) rows
@@ -205,47 +210,58 @@ module _ (o : Opening) (opens : IsOpening o) (formed : is_vschema o.schema ≡ t
   abbrev over : Write → List Row → Result (List RowChange) Refusal
   over w rows = changes_over (table_at o.schema (written_table w)) w rows
 
-  over_here : (w : Write) → IsTypedWrite o.schema w → written_table w < length o.schema.tables → (s : Shard) → needed_by o w ≡ s ∷ []
-      → over w (filter (lies_in s.place (table_at o.schema (written_table w))) (rows_of (one o run) (written_table w))) ≡ over w (rows_of (one o run) (written_table w))
-  over_here (Insert n new) typed there s alone =
-      ap (λ b. cond b (Err DuplicateKey) (Ok (map (Added n) new)))
-      (duplicates o opens formed run legal n there s.place (rows_of (one o run) n) new (placed o opens (Insert n new) typed (keyspace_below o.schema formed n) s alone))
-  over_here (Update n assignments c) typed there s alone =
-      ap (λ (l : List RowChange). Ok l)
-      (updates_over o opens formed run legal n there assignments c (lies_in s.place (table_at o.schema n)) (kept_here o opens formed run legal n there c s alone))
-  over_here (Delete n c) typed there s alone =
-      ap (λ (l : List Row). Ok (map (Removed n) l))
-      (kept_over o opens formed run legal n there c (lies_in s.place (table_at o.schema n)) (kept_here o opens formed run legal n there c s alone))
+  -- the place of a seat of the written table's keyspace
+  abbrev there_at : Write → Seat → Place
+  there_at w seat = record { keyspace = (table_at o.schema (written_table w)).keyspace; range = seat.1 }
+
+  module _ (seats : List Seat) (partition : IsPartition seats) where
+    over_here : (w : Write) → IsTypedWrite o.schema w → written_table w < length o.schema.tables → (seat : Seat) → needed_by o w seats ≡ seat ∷ []
+        → over w (filter (lies_in (there_at w seat) (table_at o.schema (written_table w))) (rows_of (one o run) (written_table w))) ≡ over w (rows_of (one o run) (written_table w))
+    over_here (Insert n new) typed there seat alone =
+        ap (λ b. cond b (Err DuplicateKey) (Ok (map (Added n) new)))
+        (duplicates o opens formed run legal n there seats partition (there_at (Insert n new) seat) (rows_of (one o run) n) new (placed o (Insert n new) typed seats partition seat alone))
+    over_here (Update n assignments c) typed there seat alone =
+        ap (λ (l : List RowChange). Ok l)
+        (updates_over o opens formed run legal n there seats partition assignments c (lies_in (there_at (Update n assignments c) seat) (table_at o.schema n))
+        (kept_here o opens formed run legal n there seats partition c seat alone))
+    over_here (Delete n c) typed there seat alone =
+        ap (λ (l : List Row). Ok (map (Removed n) l))
+        (kept_over o opens formed run legal n there seats partition c (lies_in (there_at (Delete n c) seat) (table_at o.schema n))
+        (kept_here o opens formed run legal n there seats partition c seat alone))
+
+    -- each row of an INSERT needs a seat
+    some_needed : (n : ℕ) (x : Row) (new : List Row) → is_storable (table_at o.schema n) x ≡ true → needed_by o (Insert n (x ∷ new)) seats ≡ [] → ⊥
+    some_needed n x new fits none =
+        let t : Table = table_at o.schema n in
+        let w = home_in seats partition (row_id t x) in
+        subst (In w.0) none
+        (In-filter (λ u. takes t (insert_route t (x ∷ new)) u.1) w.0 (row_taken t (x ∷ new) x (inl refl) fits w.0.1 w.2) seats w.1)
+
+    none_changed : (w : Write) → IsTypedWrite o.schema w → written_table w < length o.schema.tables → needed_by o w seats ≡ [] → changes_of o.schema w (one o run) ≡ Ok []
+    none_changed (Insert n []) typed there none = refl
+    none_changed (Insert n (x ∷ new)) typed there none = absurd (some_needed n x new (fits-from_typed o.schema (Insert n (x ∷ new)) typed).0 none)
+    none_changed (Update n assignments c) typed there none =
+        ap (λ (l : List RowChange). Ok l)
+        (sym (updates_over o opens formed run legal n there seats partition assignments c (λ row. false) (kept_nowhere o opens formed run legal n there seats partition c none))
+        ∙ ap (flat_map (row_updates n assignments c)) (filter_false o opens formed run legal n there seats partition (rows_of (one o run) n)))
+    none_changed (Delete n c) typed there none =
+        ap (λ (l : List Row). Ok (map (Removed n) l))
+        (sym (kept_over o opens formed run legal n there seats partition c (λ row. false) (kept_nowhere o opens formed run legal n there seats partition c none))
+        ∙ ap (filter (is_kept c)) (filter_false o opens formed run legal n there seats partition (rows_of (one o run) n)))
+
+    -- a write that needs no shard changes nothing
+    pub no_changes : (w : Write) → IsTypedWrite o.schema w → needed_by o w seats ≡ [] → changes_of o.schema w (one o run) ≡ Ok []
+    no_changes w typed none = none_changed w typed (table_there o.schema w typed) none
+
+  whole_at : (w : Write) → IsTypedWrite o.schema w → (seats : List Seat) → IsPartition seats → (seat : Seat) → needed_by o w seats ≡ seat ∷ []
+      → changes_of o.schema w (restrict o.schema (there_at w seat) (one o run)) ≡ changes_of o.schema w (one o run)
+  whole_at w typed seats partition seat alone =
+      ap (over w) (rows_restricted o.schema.tables (there_at w seat) (one o run) (written_table w) (table_there o.schema w typed))
+      ∙ over_here seats partition w typed (table_there o.schema w typed) seat alone
 
   -- the changes on the one shard are those of the whole database
-  pub whole_changes : (w : Write) → IsTypedWrite o.schema w → (s : Shard) → needed_by o w ≡ s ∷ []
+  pub whole_changes : (w : Write) → IsTypedWrite o.schema w → (s : Shard) → NeedsAlone o w s
       → changes_of o.schema w (restrict o.schema s.place (one o run)) ≡ changes_of o.schema w (one o run)
   whole_changes w typed s alone =
-      ap (over w) (rows_restricted o.schema.tables s.place (one o run) (written_table w) (table_there o.schema w typed))
-      ∙ over_here w typed (table_there o.schema w typed) s alone
-
-  -- each row of an INSERT needs a shard
-  some_needed : (n : ℕ) (x : Row) (new : List Row) → is_storable (table_at o.schema n) x ≡ true → needed_by o (Insert n (x ∷ new)) ≡ [] → ⊥
-  some_needed n x new fits none =
-      let t : Table = table_at o.schema n in
-      let w = home_of o opens t.keyspace (keyspace_below o.schema formed n) (row_id t x) in
-      subst (In w.0) none
-      (In-filter (λ u. is_needed t (insert_route t (x ∷ new)) u.place) w.0
-      (and_from (w.0.place.keyspace == t.keyspace) (takes t (insert_route t (x ∷ new)) w.0.place.range) (eq-eqb w.0.place.keyspace t.keyspace w.2)
-      (row_taken t (x ∷ new) x (inl refl) fits w.0.place.range w.3)) (opening_shards o) w.1)
-
-  none_changed : (w : Write) → IsTypedWrite o.schema w → written_table w < length o.schema.tables → needed_by o w ≡ [] → changes_of o.schema w (one o run) ≡ Ok []
-  none_changed (Insert n []) typed there none = refl
-  none_changed (Insert n (x ∷ new)) typed there none = absurd (some_needed n x new (fits-from_typed o.schema (Insert n (x ∷ new)) typed).0 none)
-  none_changed (Update n assignments c) typed there none =
-      ap (λ (l : List RowChange). Ok l)
-      (sym (updates_over o opens formed run legal n there assignments c (λ row. false) (kept_nowhere o opens formed run legal n there c none))
-      ∙ ap (flat_map (row_updates n assignments c)) (filter_false o opens formed run legal n there (rows_of (one o run) n)))
-  none_changed (Delete n c) typed there none =
-      ap (λ (l : List Row). Ok (map (Removed n) l))
-      (sym (kept_over o opens formed run legal n there c (λ row. false) (kept_nowhere o opens formed run legal n there c none))
-      ∙ ap (filter (is_kept c)) (filter_false o opens formed run legal n there (rows_of (one o run) n)))
-
-  -- a write that needs no shard changes nothing
-  pub no_changes : (w : Write) → IsTypedWrite o.schema w → needed_by o w ≡ [] → changes_of o.schema w (one o run) ≡ Ok []
-  no_changes w typed none = none_changed w typed (table_there o.schema w typed) none
+      ap (λ (k : ℕ). changes_of o.schema w (restrict o.schema (record { keyspace = k; range = s.place.range }) (one o run))) alone.keyspace
+      ∙ whole_at w typed alone.seats alone.partition (s.slot, s.place.range) alone.only

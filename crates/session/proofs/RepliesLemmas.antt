@@ -81,8 +81,8 @@ module _ {S : Type 0} (May : S → List ℕ → Outcome → S → Type 0) where
 -- a reply with rows only looked
 rows_read : (o : Opening) (l : Limits) (p : Seen) (t : Typed) (reply : Reply) (now : Seen) → Gives o l p t reply now → HasRows reply.answer → HasGone o p now
 rows_read o l p _ _ _ (a.selects (a.read is)) rows = (is.added, is.gone)
-rows_read o l p _ _ _ (a.writes (a.nowhere none)) rows = absurd rows
-rows_read o l p _ _ _ (a.writes (a.wrote s needed committed)) rows = absurd rows
+rows_read o l p _ _ _ (a.writes (a.nowhere seats partition none gone)) rows = absurd rows
+rows_read o l p _ _ _ (a.writes (a.wrote s needed gone committed)) rows = absurd rows
 rows_read o l p _ _ _ a.sets_names rows = absurd rows
 
 shows_rows : (schema : VSchema) (x : Answer) (outcome : Outcome) → Shows schema x outcome → IsRows outcome → HasRows x

@@ -3,13 +3,13 @@
 
 mod answers;
 mod columns;
+mod command_phase;
 mod devices;
 mod end;
 mod reply;
-mod serving;
 mod session_core;
 
+pub use command_phase::serve;
 pub use devices::{DeviceFailed, Reader, Sink, Source, Writer};
 pub use end::{End, SessionFault};
-pub use serving::serve;
 pub use session_core::{COMMAND_LIMIT, Core};

@@ -1,17 +1,26 @@
-ghost use Rattle.std.specs.Prelude.{◌≡◌, ◌≤◌, ◌^◌, ◌++◌, ◌∷◌, [], ℕ, Some, IsSome, IfOk, IfErr, OnOk, OnErr, Contains, length};
+ghost use Rattle.std.specs.Prelude.{◌≡◌, ◌⊎◌, ◌+◌, ◌<◌, ◌≤◌, ◌^◌, ◌++◌, ◌∷◌, [], ℕ, true, false, List, Some, IsSome, IfOk, IfErr, OnOk, OnErr, Contains, length, vec_len};
 ghost use Rattle.vschema.specs.TypedWrites.{IsTypedWrite};
 ghost use Rattle.sql_eval.specs.Queries.{Allowed};
+ghost use Rattle.journal.specs.Views.{IsLater};
+ghost use Rattle.shard_run.specs.declared.Entry.{Entry};
+ghost use Rattle.shard_run.specs.declared.Event.{Event};
+ghost use Rattle.shard_run.specs.Runs.{mode, mode_after, is_serving, entries_on, stored_on};
+ghost use Rattle.shard_run.specs.Legal.{May};
+ghost use Rattle.shard_run.specs.Openings.{row_count};
+ghost use Rattle.journal.specs.Runs.{IsLegal};
+ghost use Rattle.shard.specs.Shards.{beyond, is_plain, IsAfter, MayFollow, slot_of, commit_of};
 
 use crate::contents::{Author, Contents};
-use crate::limits::Limits;
+use crate::limits::{Limits, MOST_ENTRIES};
 use crate::store::Store;
 use crate::world::{ShardLaw, World};
 use journal::{Naming, Pass, ShardSeat};
-use shard_run::{Mode, Shard};
+use shard_run::{Entry, Event, Follow, Mode, Shard};
 use sql_eval::select_local;
 use std::alloc::Global;
 use std::marker::Model;
-use vschema::{Query, VSchema, Write};
+use std::mem::replace;
+use vschema::{Place, Query, VSchema, Write};
 use vt_value::{Items, Refusal, Row};
 
 /// What lies under a shard's lock: its rows, its mode and the entries that it stores, beside the seat whose run says so.
@@ -20,10 +29,12 @@ use vt_value::{Items, Refusal, Row};
 pub struct ShardState<W: World, J: Naming> {
     seat: ShardSeat<ShardLaw<W>, J>,
     contents: Contents,
+    // once it is retired, those that take its place
+    targets: Items<Shard>,
 }
 
 impl<W: World, J: Naming> Model for ShardState<W, J> {
-    ghost use Rattle.shard.specs.Shards.{ShardView, IsAfter};
+    ghost use Rattle.shard.specs.Shards.{ShardView, IsAfter, Names};
     ghost use Rattle.std.specs.Coded.{codes};
     ghost use Rattle.shard_run.specs.contracts.Entry as entry;
     ghost use Rattle.shard_run.specs.contracts.Shard as which;
@@ -35,7 +46,7 @@ impl<W: World, J: Naming> Model for ShardState<W, J> {
     ghost view = { λ s. record { seen = s.seat.seen; shard = s.contents.shard } };
 
     // What it holds is what the run that it has seen leaves on it.
-    ghost invariant = { λ s. IsAfter W.opening W.limits s.seat s.contents };
+    ghost invariant = { λ s. IsAfter W.opening W.limits s.seat s.contents × Names W.opening s.seat.seen s.contents.shard s.targets };
 }
 
 /// What a query gave on a shard: its rows, and how many entries the shard had then.
@@ -45,44 +56,122 @@ pub struct Reading {
     pub entries: u64,
 }
 
+/// What a shard answers to a query.
+#[derive(Drop)]
+pub enum Read {
+    Rows(Reading),
+    NotServing,
+}
+
+/// What a shard answers to a write: how many rows it added, removed or really changed, or the write again.
+#[derive(Drop)]
+pub enum Committed {
+    Count(u64),
+    Frozen(Write),
+    NotServing(Write),
+}
+
+fn serves(mode: Mode) -> bool
+    ensures { result ≡ is_serving mode }
+{
+    matches!(mode, Mode::Serving | Mode::Frozen)
+}
+
+// Appends the shard's entry of an event that isn't stored, after which it has this mode, and gives the event back. Takes no memory.
+fn append_event<W: World, J: Naming>(
+    seat: &mut ShardSeat<ShardLaw<W>, J>,
+    contents: &mut Contents,
+    pass: &mut Pass<ShardLaw<W>, J>,
+    event: Event,
+    next: Mode,
+) -> Event
+    requires after { IsAfter W.opening W.limits seat.old contents.old }
+    requires lives { mode W.opening seat.old.seen contents.old.shard.slot ≡ Mode.Retired → ⊥ }
+    requires next { next ≡ mode_after (mode W.opening seat.old.seen contents.old.shard.slot) event }
+    requires plain { is_plain event ≡ true }
+    requires within { is_serving next ≡ true → row_count contents.old.store.rows ≤ W.limits.rows }
+    requires room { length (entries_on contents.old.shard.slot seat.old.seen) < 2 ^ 40 + beyond next }
+    requires lawful { (run : List Entry) → IsLater slot_of commit_of (MayFollow W.opening) seat.old pass.old run → May W.opening run contents.old.shard event }
+    ensures event { result ≡ event }
+    ensures after { IsAfter W.opening W.limits seat.new contents.new }
+    ensures seen { (run : List Entry) × IsLater slot_of commit_of (MayFollow W.opening) seat.old pass.old run × (seat.new.seen ≡ run ++ record { shard = contents.old.shard; event = event } ∷ []) }
+    ensures legal { IsLegal (MayFollow W.opening) seat.new.seen }
+    ensures seat { seat.new ≡ record seat.old { seen = seat.new.seen } }
+    ensures pass { pass.new ≡ record pass.old { seen = seat.new.seen } }
+    ensures shard { contents.new.shard ≡ contents.old.shard }
+    ensures now { mode W.opening seat.new.seen contents.new.shard.slot ≡ next }
+{
+    let none = Shard {
+        slot: contents.shard.slot,
+        place: Place {
+            keyspace: contents.shard.place.keyspace,
+            range: contents.shard.place.range,
+        },
+        sources: Items::new(*contents.stored.allocator()),
+    };
+    let shard = replace(&mut contents.shard, none);
+    let entry = Entry { shard, event };
+    seat.append(pass, &entry);
+    let Entry { shard, event } = entry;
+    contents.shard = shard;
+    contents.mode = next;
+    event
+}
+
 impl<W: World, J: Naming> ShardState<W, J> {
     ghost use mathlib.Core.List.{IsPrefix};
     ghost use Rattle.journal.specs.Runs.{NumbersBelow};
-    ghost use Rattle.journal.specs.Views.{IsLater};
-    ghost use Rattle.shard_run.specs.declared.Entry.{Entry};
-    ghost use Rattle.shard_run.specs.Runs.{first_rows, held, mode, entries_on};
-    ghost use Rattle.shard_run.specs.Openings.{IsOpening, row_count};
-    ghost use Rattle.shard.specs.Shards.{slot_of, commit_of, MayFollow, HasLooked, opening_shards, seat_of};
-    ghost use Rattle.shard.specs.Commits.{IsPlaced, HasCommitted, IsCommitRefusal};
+    ghost use Rattle.shard_run.specs.Runs.{first_rows, held};
+    ghost use Rattle.shard_run.specs.Openings.{IsOpening};
+    ghost use Rattle.shard_run.specs.Legal.{IsOnItsSlot, MayRetire, MayServe};
+    ghost use Rattle.journal.specs.Views.{PassView};
+    ghost use Rattle.shard.specs.Shards.{HasLooked, HasAppended, Answers, opening_shards, seat_of, IsNext};
+    ghost use Rattle.shard.specs.Commits.{IsPlaced, HasCommitted, IsCommitRefusal, HasAnswered};
 
-    /// An opening shard with its first rows, of each table of the VSchema. Nothing has happened on its slot.
+    /// A shard with its first rows, of each table of the VSchema: an opening one, or a target on a slot of its own. Nothing has happened
+    /// on its slot.
     pub fn new(
         alloc: Global,
         seat: ShardSeat<ShardLaw<W>, J>,
         shard: Shard,
         store: Store,
+        first_mode: Mode,
         limits: Limits,
     ) -> ShardState<W, J>
         requires opens { IsOpening W.opening }
-        requires fresh { seat.seen ≡ [] }
+        requires fresh { entries_on shard.slot seat.seen ≡ [] }
         requires slot { seat.slot ≡ shard.slot }
-        requires opening { Contains (opening_shards W.opening) shard }
+        requires stands { IsOnItsSlot W.opening seat.seen shard }
+        requires first_mode { first_mode ≡ mode W.opening [] shard.slot }
         requires rows { store.rows ≡ first_rows W.opening shard }
+        requires tables { length store.rows ≡ length W.opening.schema.tables }
         requires limits { limits ≡ W.limits }
         requires most_rows { limits.rows ≤ 2 ^ 20 }
         requires most_stored { limits.stored ≤ 2 ^ 20 }
         requires within { row_count store.rows ≤ limits.rows }
-        ensures seen { result.seen ≡ [] }
+        ensures seen { result.seen ≡ seat.seen }
         ensures shard { result.shard ≡ shard }
     {
         let contents = Contents {
             shard,
             store,
-            mode: Mode::Serving,
+            mode: first_mode,
             stored: Vec::new(alloc),
             limits,
         };
-        ShardState { seat, contents }
+        ShardState {
+            seat,
+            contents,
+            targets: Items::new(alloc),
+        }
+    }
+
+    /// Which shard it is.
+    pub fn shard(&self) -> &Shard
+        ensures shard { result.now ≡ self.now.shard }
+        ensures stands { IsOnItsSlot W.opening self.now.seen self.now.shard }
+    {
+        &self.contents.shard
     }
 
     /// The slot that the shard stands on.
@@ -92,22 +181,68 @@ impl<W: World, J: Naming> ShardState<W, J> {
         self.contents.shard.slot
     }
 
-    /// What the query gives over the rows that the run, as it is, leaves on the shard: one look, which the pass keeps.
-    /// Refuses only for want of memory; then too the look was made.
-    pub fn read(
+    /// Whether it is the shard of this slot and place.
+    pub fn stands_at(&self, slot: usize, place: &Place) -> bool
+        ensures { result ≡ true → (self.now.shard.slot ≡ slot) × (self.now.shard.place ≡ place.now) }
+    {
+        let shard = &self.contents.shard;
+        shard.slot == slot
+            && shard.place.keyspace == place.keyspace
+            && shard.place.range == place.range
+    }
+
+    /// Whether it is this shard.
+    pub fn is(&self, shard: &Shard) -> bool
+        ensures { result ≡ true → self.now.shard ≡ shard.now }
+    {
+        self.stands_at(shard.slot, &shard.place)
+            && self.contents.shard.sources.as_slice() == shard.sources.as_slice()
+    }
+
+    /// How many entries a shard that isn't retired has stored.
+    pub fn stored(&self) -> u64
+        requires lives { mode W.opening self.now.seen self.now.shard.slot ≡ Mode.Retired → ⊥ }
+        ensures { result ≡ length (stored_on self.now.shard.slot self.now.seen) }
+    {
+        self.contents.stored.len() as u64
+    }
+
+    /// What the shard does. The rows of a dropped one are gone, and it is retired.
+    pub fn mode(&self) -> Mode
+        ensures { (result ≡ mode W.opening self.now.seen self.now.shard.slot)
+            ⊎ ((result ≡ Mode.Dropped) × (mode W.opening self.now.seen self.now.shard.slot ≡ Mode.Retired)) }
+    {
+        self.contents.mode
+    }
+
+    /// One look, which the pass keeps. Answers how many entries the shard has.
+    pub fn look(&mut self, pass: &mut Pass<ShardLaw<W>, J>) -> u64
+        ensures seen { IsLater slot_of commit_of (MayFollow W.opening) (seat_of self.old) pass.old self.new.seen }
+        ensures count { result ≡ length (entries_on self.old.shard.slot self.new.seen) }
+        ensures shard { self.new.shard ≡ self.old.shard }
+        ensures stands { IsOnItsSlot W.opening self.new.seen self.old.shard }
+        ensures mode { mode W.opening self.new.seen self.old.shard.slot ≡ mode W.opening self.old.seen self.old.shard.slot }
+        ensures pass { pass.new ≡ record pass.old { seen = self.new.seen; looks = pass.old.looks ++ (self.old.shard.slot, length self.new.seen) ∷ [] } }
+    {
+        self.seat.look(pass)
+    }
+
+    // What the query gives over the rows of a shard that serves.
+    fn read_serving(
         &mut self,
         alloc: Global,
         pass: &mut Pass<ShardLaw<W>, J>,
         query: &Query,
     ) -> Result<Reading, Refusal>
+        requires serves { is_serving (mode W.opening self.old.seen self.old.shard.slot) ≡ true }
         ensures seen { IsLater slot_of commit_of (MayFollow W.opening) (seat_of self.old) pass.old self.new.seen }
         ensures rows { IfOk result (λ r. Allowed query.now (held W.opening self.new.seen self.old.shard) r.rows) }
         ensures entries { IfOk result (λ r. r.entries ≡ length (entries_on self.old.shard.slot self.new.seen)) }
-        ensures serves { mode W.opening self.new.seen self.old.shard.slot ≡ Mode.Serving }
+        ensures serves { is_serving (mode W.opening self.new.seen self.old.shard.slot) ≡ true }
         ensures few { row_count (held W.opening self.new.seen self.old.shard) ≤ 2 ^ 20 }
         ensures err { IfErr result (λ e. e ≡ Refusal.OutOfMemory) }
         ensures shard { self.new.shard ≡ self.old.shard }
-        ensures opening { Contains (opening_shards W.opening) self.old.shard }
+        ensures stands { IsOnItsSlot W.opening self.new.seen self.old.shard }
         ensures pass { pass.new ≡ record pass.old { seen = self.new.seen; looks = pass.old.looks ++ (self.old.shard.slot, length self.new.seen) ∷ [] } }
     {
         let entries = self.seat.look(pass);
@@ -115,19 +250,42 @@ impl<W: World, J: Naming> ShardState<W, J> {
         Ok(Reading { rows, entries })
     }
 
-    /// Commits one write of the pass's session, under the number of its statement: one look, which the pass keeps, and then
-    /// one entry. Answers how many rows it added, removed or really changed. It refuses a primary key that is there already,
-    /// what would pass a limit of the shard, and for want of memory; then the look was made, and nothing else.
-    pub fn commit(
+    /// What the query gives over the rows that the run, as it is, leaves on the shard, where it serves: one look, which the pass keeps.
+    /// Refuses only for want of memory; then too the look was made.
+    pub fn read(
+        &mut self,
+        alloc: Global,
+        pass: &mut Pass<ShardLaw<W>, J>,
+        query: &Query,
+    ) -> Result<Read, Refusal>
+        ensures seen { IsLater slot_of commit_of (MayFollow W.opening) (seat_of self.old) pass.old self.new.seen }
+        ensures read { IfOk result (Answers W.opening self.new.seen self.old.shard query.now) }
+        ensures err { IfErr result (λ e. e ≡ Refusal.OutOfMemory) }
+        ensures shard { self.new.shard ≡ self.old.shard }
+        ensures stands { IsOnItsSlot W.opening self.new.seen self.old.shard }
+        ensures pass { pass.new ≡ record pass.old { seen = self.new.seen; looks = pass.old.looks ++ (self.old.shard.slot, length self.new.seen) ∷ [] } }
+    {
+        if serves(self.contents.mode) {
+            let reading = self.read_serving(alloc, pass, query)?;
+            Ok(Read::Rows(reading))
+        } else {
+            let _ = self.look(pass);
+            Ok(Read::NotServing)
+        }
+    }
+
+    // Commits the write on a shard that takes it.
+    fn commit_serving(
         &mut self,
         alloc: Global,
         pass: &mut Pass<ShardLaw<W>, J>,
         schema: &VSchema,
         write: Write,
     ) -> Result<u64, Refusal>
+        requires serving { mode W.opening self.old.seen self.old.shard.slot ≡ Mode.Serving }
         requires schema { schema.now ≡ W.opening.schema }
         requires typed { IsTypedWrite W.opening.schema write }
-        requires placed { Contains (opening_shards W.opening) self.old.shard → IsPlaced W.opening.schema self.old.shard.place write }
+        requires placed { IsPlaced W.opening.schema self.old.shard.place write }
         requires session { IsSome pass.old.session }
         requires above { (n : ℕ) → pass.old.session ≡ Some n → NumbersBelow commit_of n pass.old.statements pass.old.seen }
         ensures committed { IfOk result (λ count. HasCommitted W.opening W.limits self.old.shard pass.old write count pass.new) }
@@ -138,7 +296,7 @@ impl<W: World, J: Naming> ShardState<W, J> {
         ensures entry { OnOk result ((e : Entry) × (entries_on self.old.shard.slot self.new.seen ≡ entries_on self.old.shard.slot self.old.seen ++ e ∷ [])) }
         ensures alone { OnErr result (entries_on self.old.shard.slot self.new.seen ≡ entries_on self.old.shard.slot self.old.seen) }
         ensures shard { self.new.shard ≡ self.old.shard }
-        ensures opening { Contains (opening_shards W.opening) self.old.shard }
+        ensures stands { IsOnItsSlot W.opening self.new.seen self.old.shard }
     {
         let author = Author {
             session: pass.session().unwrap(),
@@ -150,5 +308,147 @@ impl<W: World, J: Naming> ShardState<W, J> {
             .prepare(alloc, entries, author, schema, write)?;
         self.seat.append(pass, &prepared.entry);
         Ok(self.contents.take(prepared))
+    }
+
+    /// Commits one write of the pass's session, under the number of its statement, where the shard serves and isn't frozen: one look,
+    /// which the pass keeps, and then one entry. Answers how many rows it added, removed or really changed; else the look was made, and
+    /// the write comes back. It refuses a primary key that is there already, what would pass a limit of the shard, and for want of
+    /// memory; then the look was made, and nothing else.
+    pub fn commit(
+        &mut self,
+        alloc: Global,
+        pass: &mut Pass<ShardLaw<W>, J>,
+        schema: &VSchema,
+        write: Write,
+    ) -> Result<Committed, Refusal>
+        requires schema { schema.now ≡ W.opening.schema }
+        requires typed { IsTypedWrite W.opening.schema write }
+        requires placed { IsPlaced W.opening.schema self.old.shard.place write }
+        requires session { IsSome pass.old.session }
+        requires above { (n : ℕ) → pass.old.session ≡ Some n → NumbersBelow commit_of n pass.old.statements pass.old.seen }
+        ensures answered { IfOk result (λ c. HasAnswered W.opening W.limits self.old.shard pass.old write c pass.new) }
+        ensures looked { OnErr result (HasLooked W.opening self.old.shard.slot pass.old pass.new) }
+        ensures refused { IfErr result (IsCommitRefusal W.opening W.limits self.old.shard pass.new.seen write) }
+        ensures seen { self.new.seen ≡ pass.new.seen }
+        ensures later { IsPrefix self.old.seen self.new.seen }
+        ensures shard { self.new.shard ≡ self.old.shard }
+        ensures stands { IsOnItsSlot W.opening self.new.seen self.old.shard }
+    {
+        match self.contents.mode {
+            Mode::Serving => {
+                let count = self.commit_serving(alloc, pass, schema, write)?;
+                Ok(Committed::Count(count))
+            }
+            Mode::Frozen => {
+                let _ = self.look(pass);
+                Ok(Committed::Frozen(write))
+            }
+            _ => {
+                let _ = self.look(pass);
+                Ok(Committed::NotServing(write))
+            }
+        }
+    }
+
+    /// Takes over what the source's next stored entry changes in its place: one look, which the pass keeps, and then one entry. Refuses for
+    /// want of memory, and what would pass a limit of entries; then the look was made, and nothing else.
+    pub fn follow(
+        &mut self,
+        alloc: Global,
+        pass: &mut Pass<ShardLaw<W>, J>,
+        taken: Follow,
+    ) -> Result<(), Refusal>
+        requires following { mode W.opening self.old.seen self.old.shard.slot ≡ Mode.Following }
+        requires next { IsNext W.opening pass.old.seen self.old taken }
+        ensures followed { OnOk result ((looked : PassView Entry) × HasLooked W.opening self.old.shard.slot pass.old looked
+            × HasAppended W.opening (record { seen = looked.seen; shard = self.old.shard }) (Event.Follow taken) looked pass.new) }
+        ensures looked { OnErr result (HasLooked W.opening self.old.shard.slot pass.old pass.new) }
+        ensures err { IfErr result (λ e. (e ≡ Refusal.OutOfMemory) ⊎ ((e ≡ Refusal.ShardFull) × ((2 ^ 40 ≤ length (entries_on self.old.shard.slot pass.new.seen))
+            ⊎ (W.limits.stored ≤ length (stored_on self.old.shard.slot pass.new.seen))))) }
+        ensures seen { self.new.seen ≡ pass.new.seen }
+        ensures shard { self.new.shard ≡ self.old.shard }
+    {
+        let entries = self.seat.look(pass);
+        if entries >= MOST_ENTRIES
+            || self.contents.stored.len() as u64 >= self.contents.limits.stored
+        {
+            return Err(Refusal::ShardFull);
+        }
+        let step = self.contents.prepare_follow(alloc, taken)?;
+        self.seat.append(pass, &step.entry);
+        let _ = self.contents.take(step);
+        Ok(())
+    }
+
+    /// From now on it takes no commits. Takes no memory.
+    pub fn freeze(&mut self, pass: &mut Pass<ShardLaw<W>, J>)
+        requires serving { mode W.opening self.old.seen self.old.shard.slot ≡ Mode.Serving }
+        requires room { length (entries_on self.old.shard.slot self.old.seen) < 2 ^ 40 }
+        ensures appended { HasAppended W.opening self.old Event.Freeze pass.old pass.new }
+        ensures seen { self.new.seen ≡ pass.new.seen }
+        ensures shard { self.new.shard ≡ self.old.shard }
+    {
+        let _ = append_event(
+            &mut self.seat,
+            &mut self.contents,
+            pass,
+            Event::Freeze,
+            Mode::Frozen,
+        );
+    }
+
+    /// From now on it takes commits again. Takes no memory.
+    pub fn thaw(&mut self, pass: &mut Pass<ShardLaw<W>, J>)
+        requires frozen { mode W.opening self.old.seen self.old.shard.slot ≡ Mode.Frozen }
+        ensures appended { HasAppended W.opening self.old Event.Thaw pass.old pass.new }
+        ensures seen { self.new.seen ≡ pass.new.seen }
+        ensures shard { self.new.shard ≡ self.old.shard }
+    {
+        let _ = append_event(
+            &mut self.seat,
+            &mut self.contents,
+            pass,
+            Event::Thaw,
+            Mode::Serving,
+        );
+    }
+
+    /// It gives its rows to the targets, which have it as a source, don't overlap, and together hold its place. Takes no memory.
+    pub fn retire(&mut self, pass: &mut Pass<ShardLaw<W>, J>, targets: Items<Shard>)
+        requires may { MayRetire W.opening self.old.seen self.old.shard targets }
+        ensures appended { HasAppended W.opening self.old (Event.Retire targets) pass.old pass.new }
+        ensures seen { self.new.seen ≡ pass.new.seen }
+        ensures shard { self.new.shard ≡ self.old.shard }
+    {
+        let event = append_event(
+            &mut self.seat,
+            &mut self.contents,
+            pass,
+            Event::Retire(targets),
+            Mode::Retired,
+        );
+        if let Event::Retire(targets) = event {
+            self.targets = targets;
+        }
+    }
+
+    /// A target that follows serves from now on: by what the pass has seen it is level with each source, which is retired for it. Takes
+    /// no memory.
+    pub fn serve(&mut self, pass: &mut Pass<ShardLaw<W>, J>)
+        requires following { mode W.opening self.old.seen self.old.shard.slot ≡ Mode.Following }
+        requires looked { entries_on self.old.shard.slot pass.old.seen ≡ entries_on self.old.shard.slot self.old.seen }
+        requires may { MayServe W.opening pass.old.seen self.old.shard }
+        requires within { row_count (held W.opening self.old.seen self.old.shard) ≤ W.limits.rows }
+        ensures appended { HasAppended W.opening self.old Event.Serve pass.old pass.new }
+        ensures seen { self.new.seen ≡ pass.new.seen }
+        ensures shard { self.new.shard ≡ self.old.shard }
+    {
+        let _ = append_event(
+            &mut self.seat,
+            &mut self.contents,
+            pass,
+            Event::Serve,
+            Mode::Serving,
+        );
     }
 }

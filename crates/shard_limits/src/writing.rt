@@ -7,7 +7,8 @@ ghost use Rattle.shard_limits.specs.SmallWorld.{small_columns, small_table, smal
 
 use journal::{Naming, Opened, Opener, Pass, ShardSeat};
 use keyrange::KeyRange;
-use shard::{Limits, Shard, ShardLaw, ShardState, Store, World};
+use shard::{Committed, Limits, Read, Reading, Shard, ShardLaw, ShardState, Store, World};
+use shard_run::Mode;
 use sql_tree::{Assignment, Item};
 use std::alloc::Global;
 use std::marker::Brand;
@@ -119,15 +120,21 @@ fn delete() -> Write
     Write::Delete(0, None)
 }
 
+fn place() -> Place
+    ensures { result ≡ small_shard.place }
+{
+    Place {
+        keyspace: 0,
+        range: KeyRange::full(),
+    }
+}
+
 fn shard(alloc: Global) -> shard_run::Shard
     ensures { result ≡ small_shard }
 {
     shard_run::Shard {
         slot: 0,
-        place: Place {
-            keyspace: 0,
-            range: KeyRange::full(),
-        },
+        place: place(),
         sources: Items::new(alloc),
     }
 }
@@ -148,7 +155,7 @@ fn state<J: Naming>(
     let mut store = Store::new(alloc);
     store.push_table(Vec::new(alloc))?;
     let limits = Limits { rows: 2, stored: 4 };
-    Ok(ShardState::new(alloc, seat, shard(alloc), store, limits))
+    Ok(ShardState::new(alloc, seat, shard(alloc), store, Mode::Serving, limits))
 }
 
 // The next statement of the session.
@@ -166,9 +173,34 @@ fn write<J: Naming>(
     requires session { IsSome pass.old.session }
     ensures session { IsSome pass.new.session }
 {
+<<<<<<< ours
     match pass.next_statement() {
         Ok(_) => shard.commit(rt, alloc, pass, 0, schema, write),
         Err(refusal) => Err(refusal),
+=======
+    let schema = schema(alloc)?;
+    pass.next_statement()?;
+    match shard.commit(rt, alloc, pass, 0, &place(), &schema, write)? {
+        Committed::Count(count) => Ok(count),
+        _ => Err(Refusal::NotSupported),
+    }
+}
+
+// What the shard, which always serves, gives for a query.
+fn read<J: Naming>(
+    rt: &impl Wait,
+    alloc: Global,
+    shard: &Shard<Small, J>,
+    pass: &mut Pass<ShardLaw<Small>, J>,
+    query: &Query,
+) -> Result<Reading, Refusal>
+    requires { IsSome pass.old.session }
+    ensures { IsSome pass.new.session }
+{
+    match shard.read(rt, alloc, pass, 0, &place(), query)? {
+        Read::Rows(reading) => Ok(reading),
+        Read::NotServing => Err(Refusal::NotSupported),
+>>>>>>> theirs
     }
 }
 
@@ -272,9 +304,13 @@ fn counted<J: Naming>(
     ensures session { IsSome pass.new.session }
 {
     let query = query(alloc, Item::CountRows)?;
+<<<<<<< ours
     let reading = shard.read(rt, alloc, pass, 0, &query);
     drop(query);
     let reading = reading?;
+=======
+    let reading = read(rt, alloc, shard, pass, &query)?;
+>>>>>>> theirs
     match reading.rows.as_slice() {
         [row] => Ok(number_in(row)),
         _ => Ok(None),
@@ -292,9 +328,13 @@ fn counts<J: Naming>(
     ensures session { IsSome pass.new.session }
 {
     let query = query(alloc, Item::Column(0))?;
+<<<<<<< ours
     let reading = shard.read(rt, alloc, pass, 0, &query);
     drop(query);
     let reading = reading?;
+=======
+    let reading = read(rt, alloc, shard, pass, &query)?;
+>>>>>>> theirs
     Ok((reading.rows.len(), reading.entries))
 }
 

@@ -7,3 +7,6 @@ pub mod WriteExamples
 pub mod RowLemmas
 pub mod ChangeLemmas
 pub mod Permutations
+pub mod DistinctRows
+pub mod Rejoined
+pub mod SameAnswers

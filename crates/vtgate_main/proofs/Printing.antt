@@ -26,8 +26,8 @@ on_ok (Err e) p f = tt
 rows_read : (o : Opening) (l : Limits) (p : PassView Entry) (t : Typed) (reply : Reply) (now : PassView Entry) → Gives o l p t reply now
     → HasRows reply.answer → HasGone o p now
 rows_read o l p _ _ _ (a.selects (a.read is)) rows = (is.added, is.gone)
-rows_read o l p _ _ _ (a.writes (a.nowhere none)) rows = absurd rows
-rows_read o l p _ _ _ (a.writes (a.wrote s needed committed)) rows = absurd rows
+rows_read o l p _ _ _ (a.writes (a.nowhere seats partition none gone)) rows = absurd rows
+rows_read o l p _ _ _ (a.writes (a.wrote s needed gone committed)) rows = absurd rows
 rows_read o l p _ _ _ a.sets_names rows = absurd rows
 
 told : (o : Opening) (p now : PassView Entry) (sql text : List ℕ) (outcome : Result Reply Refusal)

@@ -132,7 +132,7 @@ fn loaded<W: World + Send + Sync, J: Naming + Send + Sync, G: Gate>(
     ensures other { IfOk result (λ r. IsSome r.2.session) }
 {
     let (engine, mut opener, mut first) = empty_router::<W, J, G>(
-        alloc, schema, ranges, opened, gate,
+        alloc, schema, ranges, opened, 0, gate,
     )?;
     let mut one = opener.open(&mut first)?;
     let other = opener.open(&mut first)?;

@@ -7,7 +7,8 @@ ghost use Rattle.empty_opening.specs.Empty.{opening_of, FitRanges};
 
 use super::gates::{give, is_given, told, wait_for};
 use super::{SHOP, fits, halves};
-use crate::router::opened_parts;
+use crate::router::opened_shards;
+use buffer::Buffer;
 use journal::{Naming, Opened, Opener, Pass};
 use keyrange::KeyRange;
 use route_engine::{Engine, Open};
@@ -123,12 +124,12 @@ fn insert_beside<W: World + Send + Sync, J: Naming + Send + Sync, R: Threads + W
     requires formed { IsTrue (is_vschema schema) }
     requires fit { FitRanges schema ranges.now }
 {
-    let (parts, opener, first) = opened_parts::<W, J>(alloc, &schema, ranges, opened)?;
-    let [low, ..] = parts.as_slice() else {
+    let (held, keyspaces, opener, first) = opened_shards::<W, J>(alloc, &schema, ranges, opened)?;
+    let [low, ..] = held.as_slice() else {
         return Ok((false, [0, 0]));
     };
-    let low = Arc::try_clone(&low.shard)?;
-    let engine = Engine::new(schema, parts, Open);
+    let low = Arc::try_clone(low)?;
+    let engine = Engine::new(schema, keyspaces, Buffer::new(0), Open);
     let steps = Steps {
         held: AtomicU64::new(0),
         begun: AtomicU64::new(0),

@@ -1,0 +1,219 @@
+-- One try to commit a write on the one shard that it needs by a partition.
+use Rattle.std.proofs.Common.{◌≡◌, ℕ, ◌<◌, ◌≤◌, true, false, ◌==◌, List, [], ◌∷◌, length, filter, Some, Ok, Err, Result, refl, sym, ap, subst, ◌∙◌, inl, inr}
+use Rattle.std.specs.List.{All, AllByRecursion, list_all}
+use Rattle.std.proofs.lemmas.Bool.{and_from, eq-eqb}
+use Rattle.std.proofs.lemmas.List.Sums.{length-filter}
+use Rattle.vt_value.specs.declared.refusal.Refusal.{Refusal}
+use Rattle.vt_value.specs.declared.refusal.Refusal.TheVariants.{SeveralShards}
+use Rattle.vt_value.specs.Values.{Row}
+use Rattle.keyrange.specs.declared.KeyRange.{KeyRange}
+use Rattle.keyrange.specs.Ranges.{has_id}
+use Rattle.vschema.specs.declared.schema.Place.{Place}
+use Rattle.vschema.specs.declared.schema.Table.{Table}
+use Rattle.vschema.specs.declared.changes.Write.{Write}
+use Rattle.vschema.specs.declared.changes.Write.TheVariants.{Insert, Update, Delete}
+use Rattle.vschema.specs.Schema.{row_id}
+use Rattle.vschema.specs.Storable.{is_storable}
+use Rattle.vschema.specs.Database.{lies_in}
+use Rattle.vschema.specs.TypedWrites.{IsTypedWrite}
+use Rattle.sql_eval.specs.Writes.{written_table}
+use Rattle.planner.specs.declared.routes.Route.{Route}
+use Rattle.planner.specs.Routes.{table_at, write_route, insert_route, takes}
+use Rattle.journal.specs.Runs.{IsLegal, NumbersBelow, number_of}
+use Rattle.journal.specs.Views.{PassView}
+use Rattle.journal.proofs.Fronts.{prefix_self, prefix_trans}
+use Rattle.shard_run.specs.declared.Shard.{Shard}
+use Rattle.shard_run.specs.declared.Mode.{Mode}
+use Rattle.shard_run.specs.declared.Mode.TheVariants.{Following, Serving, Frozen, Retired, Dropped}
+use Rattle.shard_run.specs.declared.Entry.{Entry}
+use Rattle.shard_run.specs.Runs.{Opening, mode, is_serving}
+use Rattle.shard_run.specs.Legal.{IsOnItsSlot}
+use Rattle.shard_law.proofs.Lists.{In, In-from_filter, In-filter, In-from_map, Contains-from_In}
+use Rattle.serving.specs.Partitions.{Seat, IsPartition, ranges}
+use Rattle.shard.specs.declared.limits.Limits.{Limits}
+use Rattle.shard.specs.declared.state.Committed.{Committed}
+use Rattle.shard.specs.Shards.{MayFollow, HasLooked, commit_of}
+use Rattle.shard.specs.Commits as c
+use Rattle.shard.specs.Commits.{IsPlaced, HasAnswered, IsCommitRefusal}
+use Rattle.route_engine.specs.Answers as a
+use Rattle.route_engine.specs.Answers.{needed, needed_by, NeedsAlone, HasGone, HasWritten, IsHeldUp, MayWriteRefuse, is_writable}
+use Rattle.route_engine.specs.Scatter.{IsTried, written, again, tried}
+use Rattle.shard_law.proofs.Fitting.{fits-from_typed}
+use Rattle.route_engine.proofs.Everywhere.{everywhere}
+use Rattle.route_engine.proofs.Gathers.{stays}
+use Rattle.route_engine.proofs.Placing.{some_in, row_taken, only_one}
+use Rattle.route_engine.proofs.Selecting.{gone_on}
+
+-- the part of a partition in which an id lies
+pub home_in : (seats : List Seat) → IsPartition seats → (id : List ℕ) → (seat : Seat) × In seat seats × (has_id seat.1 id ≡ true)
+home_in seats is id =
+    let one = length-filter (λ r. has_id r id) (ranges seats) ∙ everywhere (ranges seats) is.named is.whole id in
+    let w = some_in (filter (λ r. has_id r id) (ranges seats)) one in
+    let g = In-from_filter (λ r. has_id r id) w.0 (ranges seats) w.1 in
+    let v = In-from_map (λ (seat : Seat). seat.1) w.0 seats g.0 in
+    (v.0, v.1, subst (λ (r : KeyRange). has_id r id ≡ true) (sym v.2) g.1)
+
+module _ (t : Table) (rows : List Row) (seats : List Seat) (is : IsPartition seats) (seat : Seat) (alone : needed t (insert_route t rows) seats ≡ seat ∷ []) where
+  abbrev there : Place
+  there = record { keyspace = t.keyspace; range = seat.1 }
+
+  row_lies : (row : Row) → In row rows → is_storable t row ≡ true → lies_in there t row ≡ true
+  row_lies row h fits =
+      let w = home_in seats is (row_id t row) in
+      let same : w.0 ≡ seat = only_one w.0 seat (needed t (insert_route t rows) seats) alone
+      (In-filter (λ s. takes t (insert_route t rows) s.1) w.0 (row_taken t rows row h fits w.0.1 w.2) seats w.1) in
+      and_from (t.keyspace == t.keyspace) (has_id seat.1 (row_id t row)) (eq-eqb t.keyspace t.keyspace refl)
+      (subst (λ (s : Seat). has_id s.1 (row_id t row) ≡ true) same w.2)
+
+  pub all_lie : (more : List Row) → ((row : Row) → In row more → In row rows) → AllByRecursion (λ row. is_storable t row ≡ true) more
+      → list_all (lies_in there t) more ≡ true
+  all_lie [] inn fits = refl
+  all_lie (row ∷ more) inn fits =
+      and_from (lies_in there t row) (list_all (lies_in there t) more) (row_lies row (inn row (inl refl)) fits.0)
+      (all_lie more (λ r h. inn r (inr h)) fits.1)
+
+pub placed : (o : Opening) (w : Write) → IsTypedWrite o.schema w → (seats : List Seat) → IsPartition seats → (seat : Seat) → needed_by o w seats ≡ seat ∷ []
+    → IsPlaced o.schema (record { keyspace = (table_at o.schema (written_table w)).keyspace; range = seat.1 }) w
+placed o (Insert n rows) typed seats is seat alone =
+    all_lie (table_at o.schema n) rows seats is seat alone rows (λ row h. h) (fits-from_typed o.schema (Insert n rows) typed)
+placed o (Update n assignments condition) typed seats is seat alone = refl
+placed o (Delete n condition) typed seats is seat alone = refl
+
+gone_by : (o : Opening) (slot : ℕ) (p now : PassView Entry) → HasLooked o slot p now → HasGone o p now
+gone_by o slot p now is = ((slot, length now.seen) ∷ [], record { legal = is.legal; later = is.later; own = is.own; pass = is.pass })
+
+not_writable : (m : Mode) → is_serving m ≡ false → is_writable m ≡ false
+not_writable Following is = refl
+not_writable Serving is = is
+not_writable Frozen is = refl
+not_writable Retired is = refl
+not_writable Dropped is = refl
+
+module _ (o : Opening) (limits : Limits) (w : Write) (typed : IsTypedWrite o.schema w) (t : Table) (t_is : t ≡ table_at o.schema (written_table w)) (r : Route)
+    (r_is : r ≡ write_route o.schema w) (seats : List Seat) (is : IsPartition seats) (p : PassView Entry) (legal : IsLegal (MayFollow o) p.seen) where
+  needed_is : needed t r seats ≡ needed_by o w seats
+  needed_is = ap (λ (x : Table). needed x r seats) t_is ∙ ap (λ (x : Route). needed (table_at o.schema (written_table w)) x seats) r_is
+
+  pub nowhere : needed t r seats ≡ [] → IsTried o limits p w (Ok 0) p
+  nowhere none = written (a.nowhere seats is (sym needed_is ∙ none) ([], stays o p legal))
+
+  pub several : 2 ≤ length (needed t r seats) → MayWriteRefuse o limits p w SeveralShards p
+  several more = a.several seats is (subst (λ (l : List Seat). 2 ≤ length l) needed_is more) ([], stays o p legal)
+
+  module _ (slot : ℕ) (range : KeyRange) (one : needed t r seats ≡ (slot, range) ∷ []) where
+    abbrev place : Place
+    place = record { keyspace = t.keyspace; range = range }
+
+    pub placed_there : IsPlaced o.schema place w
+    placed_there =
+        subst (λ (x : Table). IsPlaced o.schema (record { keyspace = x.keyspace; range = range }) w) (sym t_is)
+        (placed o w typed seats is (slot, range) (sym needed_is ∙ one))
+
+    module _ (s : Shard) (on_slot : s.slot ≡ slot) (in_place : s.place ≡ place) (now : PassView Entry) where
+      alone : NeedsAlone o w s
+      alone = record {
+        seats = seats;
+        partition = is;
+        keyspace = ap (λ (x : Place). x.keyspace) in_place ∙ ap (λ (x : Table). x.keyspace) t_is;
+        only =
+            sym needed_is ∙ one ∙ ap (λ (i : ℕ). (i, range) ∷ []) (sym on_slot)
+            ∙ ap (λ (x : Place). (s.slot, x.range) ∷ []) (sym in_place);
+      }
+
+      held_up : HasLooked o s.slot p now → IsOnItsSlot o now.seen s → is_writable (mode o now.seen s.slot) ≡ false
+          → IsHeldUp o (table_at o.schema (written_table w)) (write_route o.schema w) is_writable p.seen now.seen
+      held_up look stands off = record {
+        seats = seats;
+        partition = is;
+        seat = (slot, range);
+        needed = Contains-from_In (slot, range) (needed_by o w seats) (subst (In (slot, range)) (sym one ∙ needed_is) (inl refl));
+        run = now.seen;
+        since = look.later;
+        until = prefix_self now.seen;
+        shard = s;
+        stands = stands;
+        on_slot = on_slot;
+        in_place = in_place ∙ ap (λ (x : Table). record { keyspace = x.keyspace; range = range }) t_is;
+        held_up = off;
+      }
+
+      pub answered : IsOnItsSlot o now.seen s → (r : Committed) → HasAnswered o limits s p w r now → IsTried o limits p w (tried r) now
+      answered stands _ (c.committed h) = written (a.wrote s alone ([], stays o p legal) h)
+      answered stands _ (c.frozen look m) = again (gone_by o s.slot p now look) (held_up look stands (ap is_writable m))
+      answered stands _ (c.not_serving look m) = again (gone_by o s.slot p now look) (held_up look stands (not_writable (mode o now.seen s.slot) m))
+
+      pub refused : (e : Refusal) → HasLooked o slot p now → IsCommitRefusal o limits s now.seen w e → MayWriteRefuse o limits p w e now
+      refused e look why = a.refused s alone ([], stays o p legal) (subst (λ i. HasLooked o i p now) (sym on_slot) look) why
+
+-- ---- after tries before
+
+module _ (o : Opening) (limits : Limits) (w : Write) (p since now : PassView Entry) (gone : HasGone o p since) where
+  pub written_after : (count : ℕ) → HasWritten o limits since w (record { answer = Rattle.route_engine.specs.declared.reply.Answer.TheVariants.Count count; reads = [] }) now
+      → HasWritten o limits p w (record { answer = Rattle.route_engine.specs.declared.reply.Answer.TheVariants.Count count; reads = [] }) now
+  written_after _ (a.nowhere seats is none more) = a.nowhere seats is none (gone_on o p since now gone more)
+  written_after _ (a.wrote s alone more h) = a.wrote s alone (gone_on o p since _ gone more) h
+
+  pub held_after : (t : Table) (r : Route) → IsHeldUp o t r is_writable since.seen now.seen → IsHeldUp o t r is_writable p.seen now.seen
+  held_after t r is = record {
+    seats = is.seats;
+    partition = is.partition;
+    seat = is.seat;
+    needed = is.needed;
+    run = is.run;
+    since = prefix_trans p.seen since.seen is.run gone.1.later is.since;
+    until = is.until;
+    shard = is.shard;
+    stands = is.stands;
+    on_slot = is.on_slot;
+    in_place = is.in_place;
+    held_up = is.held_up;
+  }
+
+  pub refused_after : (e : Refusal) → MayWriteRefuse o limits since w e now → MayWriteRefuse o limits p w e now
+  refused_after _ (a.no_memory more) = a.no_memory (gone_on o p since now gone more)
+  refused_after _ (a.several seats is h more) = a.several seats is h (gone_on o p since now gone more)
+  refused_after _ (a.buffer_full more held) = a.buffer_full (gone_on o p since now gone more) (held_after _ _ held)
+  refused_after _ (a.refused s alone more look why) = a.refused s alone (gone_on o p since _ gone more) look why
+
+-- numbers are still above those of the session's commits
+pub still_above : (o : Opening) (p now : PassView Entry) → HasGone o p now
+    → ((n : ℕ) → p.session ≡ Some n → NumbersBelow commit_of n p.statements p.seen) → (n : ℕ) → now.session ≡ Some n
+    → NumbersBelow commit_of n now.statements now.seen
+still_above o p now (added, is) above n mine =
+    let session : p.session ≡ Some n = ap (λ (v : PassView Entry). v.session) (sym is.pass) ∙ mine in
+    let statements : p.statements ≡ now.statements = ap (λ (v : PassView Entry). v.statements) (sym is.pass) in
+    subst (λ k. NumbersBelow commit_of n k now.seen) statements
+    (subst (λ l. All (λ e. number_of (commit_of e) < p.statements) l) (sym (is.own n session)) (above n session))
+
+pub same_session : (o : Opening) (p now : PassView Entry) → HasGone o p now → now.session ≡ p.session
+same_session o p now (added, is) = ap (λ (v : PassView Entry). v.session) is.pass
+
+-- what comes back is the write, after looks, by one of which its shard took no commits
+pub record CameBack (o : Opening) (w w' : Write) (p now : PassView Entry) : Type 0 where
+  pub same : w' ≡ w
+  pub gone : HasGone o p now
+  pub held : IsHeldUp o (table_at o.schema (written_table w)) (write_route o.schema w) is_writable p.seen now.seen
+
+pub came_back : (o : Opening) (limits : Limits) (w w' : Write) (p now : PassView Entry) (r : Result ℕ Write) → r ≡ Err w' → IsTried o limits p w r now
+    → CameBack o w w' p now
+came_back o limits w w' p now _ is (written h) = absurd (cc is)
+came_back o limits w w' p now _ is (again gone held) = record { same = same w w' is; gone = gone; held = held }
+  where
+    same : (x y : Write) → ◌≡◌ {A = Result ℕ Write} (Err x) (Err y) → y ≡ x
+    same x y e = sym (ap (λ (r : Result ℕ Write). write_of x r) e)
+      where
+        write_of : Write → Result ℕ Write → Write
+        write_of d (Ok n) = d
+        write_of d (Err v) = v
+
+pub is_written : (o : Opening) (limits : Limits) (w : Write) (count : ℕ) (p now : PassView Entry) (r : Result ℕ Write) → r ≡ Ok count → IsTried o limits p w r now
+    → HasWritten o limits p w (record { answer = Rattle.route_engine.specs.declared.reply.Answer.TheVariants.Count count; reads = [] }) now
+is_written o limits w count p now _ is (written {count = n} h) = subst (λ k. HasWritten o limits p w (record { answer = Rattle.route_engine.specs.declared.reply.Answer.TheVariants.Count k; reads = [] }) now) (same n count is) h
+  where
+    same : (x y : ℕ) → ◌≡◌ {A = Result ℕ Write} (Ok x) (Ok y) → x ≡ y
+    same x y e = ap (λ (r : Result ℕ Write). number_or x r) e
+      where
+        number_or : ℕ → Result ℕ Write → ℕ
+        number_or d (Ok n) = n
+        number_or d (Err v) = d
+is_written o limits w count p now _ is (again gone held) = absurd (cc is)

@@ -1,0 +1,14 @@
+use Rattle.std.proofs.Common.{◌≡◌, ℕ, List}
+use Rattle.std.specs.Io.KnownBytes.{Appends, Consumes}
+use Rattle.session.specs.declared.session_core.TheConstants.{COMMAND_LIMIT}
+use Rattle.session.specs.Outcomes.{Means}
+use Rattle.session.specs.Sessions.{HasTalked}
+use Rattle.session.proofs.command_phase.serve_pieces.Given as goal
+
+abbrev pub invariant-loop : goal.invariant-loop
+invariant-loop g l = record {
+  session : l.pass.session ≡ l.initial.pass.session;
+  limit : l.core.framing.limit ≡ COMMAND_LIMIT;
+  talked : (read : List ℕ) × (written : List ℕ) × Consumes (g.R.Source.unread l.initial.source) (g.R.Source.unread l.source) read
+      × Appends (g.S.Sink.taken l.initial.sink) (g.S.Sink.taken l.sink) written × HasTalked (Means g.W.World.opening g.W.World.limits) l.core l.initial.pass read written l.pass;
+}
