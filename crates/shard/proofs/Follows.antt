@@ -1,5 +1,5 @@
 -- A following step: when it is lawful, also where the source goes on meanwhile, and when nothing is left to follow.
-use Rattle.std.proofs.Common.{◌≡◌, ◌⊎◌, inl, inr, take, get_or, ℕ, zero, suc, ◌+◌, ◌<◌, ◌≤◌, ◌^◌, Bool, true, false, ◌&&◌, cond, List, [], ◌∷◌, ◌++◌, length, filter, count_by, slice_get, Some, refl, sym, ap, ◌∙◌, subst, arith, length-append}
+use Rattle.std.proofs.Common.{flat_map, ◌≡◌, ◌⊎◌, inl, inr, take, get_or, ℕ, zero, suc, ◌+◌, ◌<◌, ◌≤◌, ◌^◌, Bool, true, false, ◌&&◌, cond, List, [], ◌∷◌, ◌++◌, length, filter, count_by, slice_get, Some, refl, sym, ap, ◌∙◌, subst, arith, length-append}
 use Rattle.std.specs.Prelude.{Contains}
 use Rattle.std.proofs.lemmas.List.Elements.{filter-append}
 use Rattle.std.specs.List.{AllByRecursion}
@@ -35,6 +35,10 @@ use Rattle.shard.proofs.Commits.{applied-append}
 use Rattle.shard.proofs.Legality.{stands-next, legal_is}
 use Rattle.shard.proofs.Tables.{taken_there}
 use Rattle.shard.proofs.Looks.{following_lives}
+use Rattle.shard.specs.declared.forward.Step.{Step}
+use Rattle.shard.specs.declared.forward.Step.TheVariants.{Followed}
+use Rattle.shard.specs.Progress.{steps_of, steps_on}
+use Rattle.shard.proofs.Progress.{steps-push}
 use Rattle.shard.proofs.Bags.{all_applied-same}
 use Rattle.shard.proofs.States.{held-same, stored-same, holds_of, entries-on, after_look, mode_after_look, alone_here}
 use Rattle.shard.proofs.Modes.{here, stands_there, mode_there}
@@ -156,9 +160,9 @@ module _ (o : Opening) (most : Limits) (seat : SeatView Entry) (c : Contents) (i
       stored_on-push run e s.slot ∙ ap (λ (l : Run). stored_on s.slot run ++ l) one ∙ ap (λ (l : Run). l ++ e ∷ []) (stored-same o seat.seen run s same)
 
   pub after_follow : (seat' : SeatView Entry) (c' : Contents) → seat'.seen ≡ run ++ e ∷ [] → seat'.slot ≡ seat.slot → c'.shard ≡ s
-      → c'.store.rows ≡ all_applied f.changes c.store.rows → c'.mode ≡ c.mode → c'.stored.items ≡ c.stored.items ++ e ∷ [] → c'.limits ≡ c.limits
+      → c'.store.rows ≡ all_applied f.changes c.store.rows → c'.mode ≡ c.mode → c'.stored.items ≡ c.stored.items ++ e ∷ [] → c'.steps.items ≡ c.steps.items ++ Followed f.source f.place ∷ [] → c'.limits ≡ c.limits
       → length (entries_on s.slot seat.seen) < 2 ^ 40 → IsAfter o most seat' c'
-  after_follow seat' c' seen at shard_is rows modes stores limits_are room =
+  after_follow seat' c' seen at shard_is rows modes stores came limits_are room =
       let now : SameRows c'.store.rows (held o (run ++ e ∷ []) s) =
       subst (SameRows c'.store.rows) (sym held_now)
       (subst (λ (db : Database). SameRows db (all_applied f.changes (held o seat.seen s))) (sym rows)
@@ -178,6 +182,9 @@ module _ (o : Opening) (most : Limits) (seat : SeatView Entry) (c : Contents) (i
           stored =
               stores ∙ ap (λ (l : Run). l ++ e ∷ []) has.stored ∙ sym stored_now ∙ ap (λ (t : Shard). stored_on t.slot (run ++ e ∷ [])) (sym shard_is)
               ∙ ap (stored_on c'.shard.slot) (sym seen);
+          steps =
+              came ∙ ap (λ (l : List Step). l ++ Followed f.source f.place ∷ []) (has.steps ∙ ap (flat_map (λ (x : Entry). steps_of x.event)) (sym same))
+              ∙ sym (steps-push run e s.slot on) ∙ ap (λ (t : Shard). steps_on t.slot (run ++ e ∷ [])) (sym shard_is) ∙ ap (steps_on c'.shard.slot) (sym seen);
           within = λ serves.
               absurd (false≢true (sym (ap is_serving (ap (λ r. mode o r c'.shard.slot) seen
               ∙ ap (λ (t : Shard). mode o (run ++ e ∷ []) t.slot) shard_is ∙ mode_follows)) ∙ serves));

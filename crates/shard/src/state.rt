@@ -1,4 +1,4 @@
-ghost use Rattle.std.specs.Prelude.{◌≡◌, ◌⊎◌, ◌+◌, ◌<◌, ◌≤◌, ◌^◌, ◌++◌, ◌∷◌, [], ℕ, true, false, List, Some, IsSome, IfOk, IfErr, OnOk, OnErr, Contains, length, vec_len};
+ghost use Rattle.std.specs.Prelude.{◌≡◌, ◌⊎◌, ◌+◌, ◌<◌, ◌≤◌, ◌^◌, ◌++◌, ◌∷◌, [], ℕ, true, false, List, Some, IsSome, IfOk, IfErr, MatchOption, None, OnOk, OnErr, Contains, length, vec_len};
 ghost use Rattle.vschema.specs.TypedWrites.{IsTypedWrite};
 ghost use Rattle.sql_eval.specs.Queries.{Allowed};
 ghost use Rattle.journal.specs.Views.{IsLater};
@@ -12,6 +12,7 @@ ghost use Rattle.shard.specs.Shards.{beyond, is_plain, IsAfter, MayFollow, slot_
 
 use crate::contents::{Author, Contents};
 use crate::limits::{Limits, MOST_ENTRIES};
+use crate::forward::Step;
 use crate::store::Store;
 use crate::world::{ShardLaw, World};
 use journal::{Naming, Pass, ShardSeat};
@@ -123,6 +124,8 @@ impl<W: World, J: Naming> ShardState<W, J> {
     ghost use Rattle.journal.specs.Runs.{NumbersBelow};
     ghost use Rattle.shard_run.specs.Runs.{first_rows, held};
     ghost use Rattle.shard_run.specs.Openings.{IsOpening};
+    ghost use Rattle.shard_run.specs.Copies.{position, has_copied_all};
+    ghost use Rattle.shard.specs.Progress.{behind};
     ghost use Rattle.shard_run.specs.Legal.{IsOnItsSlot, MayRetire, MayServe};
     ghost use Rattle.journal.specs.Views.{PassView};
     ghost use Rattle.shard.specs.Shards.{HasLooked, HasAppended, Answers, opening_shards, seat_of, IsNext};
@@ -157,6 +160,7 @@ impl<W: World, J: Naming> ShardState<W, J> {
             store,
             mode: first_mode,
             stored: Vec::new(alloc),
+            steps: Vec::new(alloc),
             limits,
         };
         ShardState {
@@ -205,6 +209,34 @@ impl<W: World, J: Naming> ShardState<W, J> {
         ensures { result ≡ length (stored_on self.now.shard.slot self.now.seen) }
     {
         self.contents.stored.len() as u64
+    }
+
+    /// The last step with a source by which the shard came forward: behind it the shard stands in the source, and without one it has no
+    /// position there.
+    pub fn last_step(&self, source: usize) -> Option<&Step>
+        requires lives { mode W.opening self.now.seen self.now.shard.slot ≡ Mode.Retired → ⊥ }
+        ensures { MatchOption result (position self.now.seen self.now.shard.slot source ≡ None) (λ step. position self.now.seen self.now.shard.slot source ≡ Some (behind step.now)) }
+    {
+        let mut last = None;
+        for step in self.contents.steps.as_slice() {
+            if step.source() == source {
+                last = Some(step);
+            }
+        }
+        last
+    }
+
+    /// Whether it has copied the whole table from a source.
+    pub fn has_copied(&self, source: usize, table: usize) -> bool
+        requires lives { mode W.opening self.now.seen self.now.shard.slot ≡ Mode.Retired → ⊥ }
+        ensures { result ≡ has_copied_all self.now.seen self.now.shard.slot source table }
+    {
+        for step in self.contents.steps.as_slice() {
+            if step.is_last_copy_of(source, table) {
+                return true;
+            }
+        }
+        false
     }
 
     /// What the shard does. The rows of a dropped one are gone, and it is retired.
@@ -374,9 +406,13 @@ impl<W: World, J: Naming> ShardState<W, J> {
         {
             return Err(Refusal::ShardFull);
         }
+        let came = Step::Followed {
+            source: taken.source,
+            place: taken.place,
+        };
         let step = self.contents.prepare_follow(alloc, taken)?;
         self.seat.append(pass, &step.entry);
-        let _ = self.contents.take(step);
+        self.contents.take_step(step, came);
         Ok(())
     }
 

@@ -20,7 +20,7 @@ returns-clause-after g c =
     let a = c.append.ensures in
     let v = c.replace-shard.ensures.value in
     m.after g.W.World.opening g.W.World.limits c.args.seat.now c.args.contents.now c.requires.after a.seen.0 a.seen.1.alone c.args.event c.requires.plain c.args.next
-    c.requires.next c.requires.room c.requires.lives c.append.new.self _ (a.seen.2 ∙ ap (λ (s : Shard). a.seen.0 ++ record { shard = s; event = c.args.event } ∷ []) v) (ap (λ (s : SeatView Entry). s.slot) a.seat) v refl refl refl refl c.requires.within
+    c.requires.next c.requires.room c.requires.lives c.append.new.self _ (a.seen.2 ∙ ap (λ (s : Shard). a.seen.0 ++ record { shard = s; event = c.args.event } ∷ []) v) (ap (λ (s : SeatView Entry). s.slot) a.seat) v refl refl refl refl refl c.requires.within
 
 pub returns-clause-now : goal.returns-clause-now
 returns-clause-now g c =

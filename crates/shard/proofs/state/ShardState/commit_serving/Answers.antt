@@ -58,7 +58,7 @@ invariant_of-self g c =
       same_contents _ _ c.look-entries.new.self c.self.inside.contents c.prepare.new.self
           (after_look _ _ c.self.inside.seat c.look-entries.new.self c.args.pass.now c.self.inside.contents c.self.inside.targets l.seen
           (ap (λ (s : SeatView Entry). s.slot) l.seat) is)
-          p.shard p.rows p.mode p.stored p.same_limits,
+          p.shard p.rows p.mode p.stored p.steps p.same_limits,
       subst (λ (s : Shard). Names g.W.World.opening c.look-entries.new.self.seen s c.self.inside.targets) (sym p.shard)
           (names_after_look _ _ c.self.inside.seat c.look-entries.new.self c.args.pass.now c.self.inside.contents c.self.inside.targets l.seen
           (ap (λ (s : SeatView Entry). s.slot) l.seat) is c.self.invariant.1),
@@ -121,7 +121,7 @@ left g c =
     c.in_ok-prepared.prepared.entry ok.entry is.changed c.requires.typed is.placed is.mine a.seen.0 a.seen.1 c.append.new.self c.append.new.pass
     c.take.new.self c.take.result a.seen.2 a.seat a.pass c.statements.ensures a.legal c.look-entries.result l.count ok.limits t.count
     (t.shard ∙ ok.shard) (t.rows ∙ ap (all_applied c.in_ok-prepared.prepared.changes.items) ok.rows)
-    (t.stored ∙ ap (λ (l : List Entry). l ++ c.in_ok-prepared.prepared.entry ∷ []) ok.stored) (t.mode ∙ ok.mode) (t.limits ∙ ok.same_limits)
+    (t.stored ∙ ap (λ (l : List Entry). l ++ c.in_ok-prepared.prepared.entry ∷ []) ok.stored) (ap (λ v. v.items) t.steps ∙ ok.steps) (t.mode ∙ ok.mode) (t.limits ∙ ok.same_limits)
 
 pub invariant_of-self-2 : goal.invariant_of-self-2
 invariant_of-self-2 g c =

@@ -8,6 +8,8 @@ use Rattle.shard_run.specs.declared.Entry.{Entry}
 use Rattle.shard_run.specs.declared.Event.TheVariants.{Follow}
 use Rattle.shard_run.specs.Runs.{mode}
 use Rattle.shard.specs.declared.limits.Limits.{Limits}
+use Rattle.shard.specs.declared.forward.Step.{Step}
+use Rattle.shard.specs.declared.forward.Step.TheVariants.{Followed}
 use Rattle.shard.specs.Shards.{MayFollow, Names}
 use Rattle.shard.proofs.Looks.{following_lives}
 use Rattle.shard.proofs.States.{looked, same_contents, names_none}
@@ -35,7 +37,7 @@ pub invariant_of-self-in_err-step : goal.invariant_of-self-in_err-step
 invariant_of-self-in_err-step g c =
     let p = c.prepare_follow.ensures in
     let l = looked _ _ c.self.inside.seat c.look-entries.new.self c.args.pass.now _ _ c.look-entries.ensures.seen c.look-entries.ensures.seat c.self.invariant in (
-      same_contents _ _ c.look-entries.new.self c.self.inside.contents c.prepare_follow.new.self l.is p.shard p.rows p.mode p.stored p.same_limits,
+      same_contents _ _ c.look-entries.new.self c.self.inside.contents c.prepare_follow.new.self l.is p.shard p.rows p.mode p.stored p.steps p.same_limits,
       subst (λ (s : Shard). Names g.W.World.opening c.look-entries.new.self.seen s c.self.inside.targets) (sym p.shard) l.names,
     )
 
@@ -54,7 +56,7 @@ invariant_of-self-2 g c =
     let most = g.W.World.limits in
     let ok = c.in_ok-step.ensures in
     let a = c.append.ensures in
-    let t = c.take.ensures in
+    let t = c.take_step.ensures in
     let seat = c.look-entries.new.self in
     let had = c.self.inside.contents in
     let is = f.now_is o most c.self.inside.seat seat had c.self.inside.targets c.args.pass.now c.look-entries.new.pass c.self.invariant l.seen l.seat l.pass
@@ -67,16 +69,17 @@ invariant_of-self-2 g c =
     let ends = a.seen.2 ∙ ap (λ (e : Entry). a.seen.0 ++ e ∷ []) ok.entry in
     let shard_is = t.shard ∙ ok.shard in
     let changes = ok.changes in (
-      f.after_follow o most seat had is follows a.seen.0 a.seen.1.alone c.args.taken c.append.new.self c.take.new.self ends
+      f.after_follow o most seat had is follows a.seen.0 a.seen.1.alone c.args.taken c.append.new.self c.take_step.new.self ends
           (ap (λ (s : SeatView Entry). s.slot) a.seat) shard_is
           (t.rows ∙ ap (λ (db : Rattle.vschema.specs.Database.Database). all_applied c.in_ok-step.step.changes.items db) ok.rows
           ∙ ap (λ (l : List RowChange). all_applied l had.store.rows) changes)
           (t.mode ∙ ok.mode)
           (t.stored ∙ ap (λ (l : List Entry). l ++ c.in_ok-step.step.entry ∷ []) ok.stored ∙ ap (λ (e : Entry). had.stored.items ++ e ∷ []) ok.entry)
+          (t.steps ∙ ap (λ (l : List Step). l ++ Followed c.args.taken.source c.args.taken.place ∷ []) ok.steps)
           (t.limits ∙ ok.same_limits) (omega (arith, count, few)),
-      names_none o c.append.new.self.seen c.take.new.self.shard c.self.inside.targets
-          (following_lives (mode o c.append.new.self.seen c.take.new.self.shard.slot)
-          (ap (λ (r : List Entry). mode o r c.take.new.self.shard.slot) ends
+      names_none o c.append.new.self.seen c.take_step.new.self.shard c.self.inside.targets
+          (following_lives (mode o c.append.new.self.seen c.take_step.new.self.shard.slot)
+          (ap (λ (r : List Entry). mode o r c.take_step.new.self.shard.slot) ends
           ∙ ap (λ (s : Shard). mode o (a.seen.0 ++ record { shard = had.shard; event = Follow c.args.taken } ∷ []) s.slot) shard_is
           ∙ f.mode_follows o most seat had is follows a.seen.0 a.seen.1.alone c.args.taken)),
     )
