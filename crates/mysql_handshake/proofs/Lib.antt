@@ -1,0 +1,6 @@
+mod Fits
+mod Masks
+mod Greetings
+mod Responses
+mod Zeros
+mod Examples

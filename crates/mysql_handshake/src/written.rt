@@ -1,0 +1,118 @@
+//! What the server writes in the connection phase.
+ghost use Rattle.std.specs.Prelude.{◌≡◌, ◌+◌, ◌≤◌, ◌++◌, ◌∷◌, [], length, IfErr, IfOk, IsOk, OnErr, OnOk};
+ghost use Rattle.mysql_packet.specs.Frames.{frame, number_after};
+ghost use Rattle.mysql_handshake.specs.Handshakes.{plugin_name, greeting_start, greeting_flags, greeting_payload, auth_switch_payload};
+
+use arrayvec::ArrayVec;
+use bytes::BytesMut;
+use mysql_message::numbers::little_endian;
+use mysql_packet::put_payload;
+use vt_value::Refusal;
+
+/// More than the payload of a greeting or an AuthSwitchRequest takes.
+const MAX_PAYLOAD: usize = 80;
+
+/// The room with which a greeting or an AuthSwitchRequest can't fail.
+pub const HANDSHAKE_ROOM: usize = 84;
+
+const VERSION: &[u8] = b"8.0.0-router";
+
+/// The lower capabilities, the character set, the status, the upper capabilities, the length of the salt with its zero.
+const GREETING_FLAGS: [u8; 19] = [
+    0x00, 0x0D, 0xA2, 0x3F, 0x02, 0x00, 0x08, 0x01, 0x15, 0, 0, 0, 0, 0, 0, 0, 0, 0, 0,
+];
+
+/// The name between a zero, which ends the salt, and its own.
+const ENDED_NAME: &[u8] = b"\0mysql_native_password\0";
+
+const PLUGIN_NAME: &[u8] = b"mysql_native_password";
+
+fn extend(payload: &mut ArrayVec<u8, MAX_PAYLOAD>, more: &[u8])
+    requires { length payload.old.items + length more.now ≤ 80 }
+    ensures { payload.new.items ≡ payload.old.items ++ more.now }
+{
+    let _ = payload.try_extend_from_slice(more);
+}
+
+fn greeting_start(id: u32) -> ArrayVec<u8, MAX_PAYLOAD>
+    ensures bytes { result.items ≡ greeting_start id }
+    ensures len { length result.items ≡ 18 }
+{
+    let [first, second, third, fourth, ..] = little_endian(u64::from(id));
+    let mut payload = ArrayVec::new();
+    payload.push(0x0A);
+    extend(&mut payload, VERSION);
+    extend(&mut payload, &[0x00, first, second, third, fourth]);
+    payload
+}
+
+fn greeting_payload(id: u32, salt: &[u8]) -> ArrayVec<u8, MAX_PAYLOAD>
+    requires { length salt.now ≡ 20 }
+    ensures bytes { result.items ≡ greeting_payload id salt.now }
+    ensures len { length result.items ≤ 80 }
+{
+    let (front, back) = salt.split_at(8);
+    let mut payload = greeting_start(id);
+    extend(&mut payload, front);
+    extend(&mut payload, &GREETING_FLAGS);
+    extend(&mut payload, back);
+    extend(&mut payload, ENDED_NAME);
+    payload
+}
+
+fn auth_switch_payload(salt: &[u8; 20]) -> ArrayVec<u8, MAX_PAYLOAD>
+    ensures { result.items ≡ auth_switch_payload salt.now }
+{
+    let mut payload = ArrayVec::new();
+    payload.push(0xFE);
+    extend(&mut payload, PLUGIN_NAME);
+    payload.push(0x00);
+    extend(&mut payload, salt);
+    payload.push(0x00);
+    payload
+}
+
+#[tactic(auto, using(crate::proofs::Fits::length_handshake_frame))]
+fn put_short(number: u8, payload: &[u8], out: &mut BytesMut) -> Result<u8, Refusal>
+    requires { length payload.now ≤ 80 }
+    ensures ok { OnOk result (out.new.items ≡ out.old.items ++ frame number payload.now) }
+    ensures next { IfOk result (λ n. n ≡ number_after number payload.now) }
+    ensures err { OnErr result (out.new.items ≡ out.old.items) }
+    ensures memory { IfErr result (λ e. e ≡ Refusal.OutOfMemory) }
+    ensures room { 84 ≤ out.old.spare → IsOk result }
+    ensures capacity { length out.old.items + out.old.spare ≤ length out.new.items + out.new.spare }
+{
+    put_payload(number, payload, out)
+}
+
+/// Appends the greeting of the connection with this id, whose packet has the number 0. It gives the sequence number
+/// after it. It refuses only for want of memory, and then leaves the buffer as it was.
+pub fn put_greeting(id: u32, salt: &[u8; 20], out: &mut BytesMut) -> Result<u8, Refusal>
+    ensures ok { OnOk result (out.new.items ≡ out.old.items ++ frame 0 (greeting_payload id salt.now)) }
+    ensures next { IfOk result (λ n. n ≡ number_after 0 (greeting_payload id salt.now)) }
+    ensures err { OnErr result (out.new.items ≡ out.old.items) }
+    ensures memory { IfErr result (λ e. e ≡ Refusal.OutOfMemory) }
+    // With that much room it can't fail.
+    ensures room { HANDSHAKE_ROOM ≤ out.old.spare → IsOk result }
+    // No room is ever lost.
+    ensures capacity { length out.old.items + out.old.spare ≤ length out.new.items + out.new.spare }
+{
+    let payload = greeting_payload(id, salt.as_slice());
+    put_short(0, payload.as_slice(), out)
+}
+
+/// Appends the request to answer the salt by `mysql_native_password`. It gives the sequence number after it. It refuses
+/// only for want of memory, and then leaves the buffer as it was.
+pub fn put_auth_switch(number: u8, salt: &[u8; 20], out: &mut BytesMut) -> Result<u8, Refusal>
+    ensures ok { OnOk result (out.new.items ≡ out.old.items ++ frame number (auth_switch_payload salt.now)) }
+    ensures next { IfOk result (λ n. n ≡ number_after number (auth_switch_payload salt.now)) }
+    ensures err { OnErr result (out.new.items ≡ out.old.items) }
+    ensures memory { IfErr result (λ e. e ≡ Refusal.OutOfMemory) }
+    // With that much room it can't fail.
+    ensures room { HANDSHAKE_ROOM ≤ out.old.spare → IsOk result }
+    // No room is ever lost.
+    ensures capacity { length out.old.items + out.old.spare ≤ length out.new.items + out.new.spare }
+{
+    let payload = auth_switch_payload(salt);
+    put_short(number, payload.as_slice(), out)
+}
