@@ -8,8 +8,10 @@ mod end;
 mod reply;
 mod serving;
 mod session_core;
+mod standing;
 
 pub use devices::{DeviceFailed, Reader, Sink, Source, Writer};
 pub use end::{End, SessionFault};
 pub use serving::serve;
 pub use session_core::{COMMAND_LIMIT, Core};
+pub use standing::{Phase, Standing};

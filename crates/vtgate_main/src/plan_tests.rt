@@ -49,13 +49,13 @@ fn plan<R: Threads + Wait + Sync>(
     let mut words = vec![in alloc; String::from_str(alloc, "plan")?]?;
     words.push(String::from_str(alloc, shards)?)?;
     words.push(String::from_str(alloc, sql)?)?;
-    let mut reader = Reader(input);
-    let mut output = Writer(Vec::new(alloc));
-    let mut errors = Writer(Vec::new(alloc));
+    let mut reader = Reader::new(input);
+    let mut output = Writer::new(Vec::new(alloc));
+    let mut errors = Writer::new(Vec::new(alloc));
     let status = run(rt, alloc, &words, &mut reader, &mut output, &mut errors);
     Ok(Left {
-        output: output.0,
-        errors: errors.0,
+        output: output.writer,
+        errors: errors.writer,
         status,
     })
 }

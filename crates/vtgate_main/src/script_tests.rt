@@ -27,13 +27,13 @@ fn run_input<R: Threads + Wait + Sync>(
 ) -> Result<Left, Fail> {
     let mut words = vec![in alloc; String::from_str(alloc, "script")?]?;
     words.push(String::from_str(alloc, shards)?)?;
-    let mut reader = Reader(input);
-    let mut output = Writer(Vec::new(alloc));
-    let mut errors = Writer(Vec::new(alloc));
+    let mut reader = Reader::new(input);
+    let mut output = Writer::new(Vec::new(alloc));
+    let mut errors = Writer::new(Vec::new(alloc));
     let status = run(rt, alloc, &words, &mut reader, &mut output, &mut errors);
     Ok(Left {
-        output: output.0,
-        errors: errors.0,
+        output: output.writer,
+        errors: errors.writer,
         status,
     })
 }
@@ -280,9 +280,9 @@ fn fails<R: Abort + Threads + Wait + Sync, I: Source, O: Sink>(
 ) -> Result<(), Fail> {
     let mut words = vec![in alloc; String::from_str(alloc, "script")?]?;
     words.push(String::from_str(alloc, "-80,80-")?)?;
-    let mut errors = Writer(Vec::new(alloc));
+    let mut errors = Writer::new(Vec::new(alloc));
     let status = run(rt, alloc, &words, input, output, &mut errors);
-    assert_eq!(rt; errors.0.as_slice(), b"failed\n".as_slice());
+    assert_eq!(rt; errors.writer.as_slice(), b"failed\n".as_slice());
     assert_eq!(rt; status, 1);
     Ok(())
 }
@@ -290,13 +290,20 @@ fn fails<R: Abort + Threads + Wait + Sync, I: Source, O: Sink>(
 #[test]
 fn failing_devices_end_a_script(rt: HostRuntime) -> Result<(), Fail> {
     let alloc = rt.alloc();
-    let mut output = Writer(Vec::new(alloc));
-    fails(&rt, alloc, &mut FailingSource(SCHEMA), &mut output)?;
-    assert_eq!(rt; output.0.as_slice(), b"".as_slice());
+    let mut output = Writer::new(Vec::new(alloc));
+    let mut failing = FailingSource {
+        unread: SCHEMA,
+        failures: 0,
+    };
+    fails(&rt, alloc, &mut failing, &mut output)?;
+    assert_eq!(rt; output.writer.as_slice(), b"".as_slice());
     let mut input = SCHEMA.to_vec(alloc)?;
     input.extend_from_slice(b"\n! a\n! b\n! c\n")?;
-    let mut output = FailingSink { writes_left: 2 };
-    fails(&rt, alloc, &mut Reader(input.as_slice()), &mut output)?;
+    let mut output = FailingSink {
+        writes_left: 2,
+        failures: 0,
+    };
+    fails(&rt, alloc, &mut Reader::new(input.as_slice()), &mut output)?;
     assert_eq!(rt; output.writes_left, 0);
     Ok(())
 }
