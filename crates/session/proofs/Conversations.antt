@@ -1,9 +1,10 @@
--- A conversation goes on: by the reply to one more command, by the fault behind the commands, by one more piece.
-use Rattle.std.proofs.Common.{◌≡◌, ℕ, ◌+◌, ◌<◌, true, false, List, [], ◌∷◌, ◌++◌, length, take, drop, get_or, Option, Some, None, is_some, refl, sym, ap, subst, ◌∙◌, append_assoc}
+-- A conversation goes on: by the reply to one more payload, by the fault behind the payloads, by one more piece.
+use Rattle.std.proofs.Common.{◌≡◌, ℕ, ◌+◌, ◌<◌, true, false, List, [], ◌∷◌, ◌++◌, length, take, drop, get_or, Option, Some, None, refl, sym, ap, subst, ◌∙◌, append_assoc}
 use Rattle.std.proofs.lemmas.List.{take_more, take-append-drop}
-use Rattle.std.specs.Prelude.{Bool, IsTrue, ◌↔◌, IsNone, IfSome, IfOk, Result, Ok, Err}
-use Rattle.std.specs.Io.KnownBytes.{Appends, Consumes}
-use Rattle.std.proofs.KnownBytes.{Appends-nil, Appends-trans, Consumes-trans}
+use Rattle.std.specs.Prelude.{Bool, IsTrue, ◌↔◌, IsNone, IfSome, IfOk, OnErr, Result, Ok, Err}
+use Rattle.std.specs.Io.KnownBytes.{Appends}
+use Rattle.std.proofs.KnownBytes.{Appends-nil, Appends-trans}
+use mathlib.Core.List.{IsPrefix}
 use Rattle.mysql_packet.specs.declared.framer.Payload.{Payload}
 use Rattle.mysql_packet.specs.declared.framer.Fault.{Fault}
 use Rattle.mysql_packet.specs.declared.framer.Fed.{Fed}
@@ -13,74 +14,152 @@ use Rattle.resultset.specs.declared.Outcome.{Outcome}
 use Rattle.session.specs.declared.end.End.{End}
 use Rattle.session.specs.declared.end.SessionFault.{SessionFault}
 use Rattle.session.specs.declared.end.End.TheVariants.{Quit, Closed, Truncated, Broken}
-use Rattle.session.specs.Talk.{Replies, Talk, IsByCommand, IsByInput, refusal_bytes}
+use Rattle.session.specs.declared.standing.Phase.{Phase}
+use Rattle.session.specs.declared.standing.Standing.{Standing}
+use Rattle.session.specs.declared.standing.Standing.TheVariants.{At, Ended}
+use Rattle.session.specs.Devices.{AppendsFront}
+use Rattle.session.specs.Faults.{IsFrontOf, IsCutOff, Holds, HasBrokenOff, IsUnfinished}
+use Rattle.session.specs.Faults as f
+use Rattle.session.specs.Standings.{end_of}
+use Rattle.session.specs.Talk.{Terms, Answers, Replies, Talk, IsByCommand, IsByInput, refusal_bytes}
 use Rattle.session.specs.Talk as t
 use Rattle.session.specs.Sessions.{SessionState, HasTalked, HasTalkedOn, AnswersFed, FedBy}
 use Rattle.session.specs.Sessions as s
-use Rattle.session.proofs.RepliesLemmas.{go_on, stay_ended}
-
-none_is : {A : Type 0} (o : Option A) → is_some o ≡ false → o ≡ None
-none_is None e = refl
-none_is (Some x) e = absurd cc
+use Rattle.session.proofs.RepliesLemmas.{go_on, one_reply, stay_ended}
 
 abbrev Known : Type 0
 Known = Option (List ℕ)
+
+pub on_err : {A E : Type 0} (r : Result A E) (P : Type 0) → P → OnErr r P
+on_err (Ok x) P p = tt
+on_err (Err e) P p = p
+
+-- a fault that is passed on
+pub same_fault : {A B : Type 0} (x y : SessionFault) → ◌≡◌ {A = Result A SessionFault} (Err x) (Err y) → ◌≡◌ {A = Result B SessionFault} (Err x) (Err y)
+same_fault {A} {B} x y e =
+    let same : x ≡ y = cc in subst (λ (f : SessionFault). ◌≡◌ {A = Result B SessionFault} (Err x) (Err f)) same refl
 
 -- the device has taken some bytes, of which this holds
 abbrev pub Written : Known → Known → (List ℕ → Type 0) → Type 0
 Written a b P = (out : List ℕ) × Appends a b out × P out
 
-module _ {S : Type 0} (May : S → List ℕ → Outcome → S → Type 0) (first : S) where
-  pub nothing_yet : (a : Known) → Written a a (λ out. Replies May first [] out None first)
+prefix_behind : {A : Type 0} (before xs ys : List A) → IsPrefix xs ys → IsPrefix (before ++ xs) (before ++ ys)
+prefix_behind before xs ys p = (p.0, append_assoc before xs p.0 ∙ ap (λ w. before ++ w) p.1)
+
+front_behind : (a b c : Known) (xs ys : List ℕ) → Appends a b xs → AppendsFront b c ys → AppendsFront a c (xs ++ ys)
+front_behind a b c xs ys p q = (xs ++ q.0, prefix_behind xs q.0 ys q.1, Appends-trans a b c xs q.0 p q.2)
+
+module _ {S : Type 0} (terms : Terms S) (May : S → List ℕ → Outcome → S → Type 0) (begin : Phase) (first : S) where
+  pub nothing_yet : (a : Known) → Written a a (λ out. Replies terms May begin first [] out (At begin) first)
   nothing_yet a = ([], Appends-nil a, t.none)
 
-  pub next_reply : (mid now : S) (a b c : Known) (i : ℕ) (ps : List Payload) (p : Payload) (end : Option End) → i < length ps → p ≡ get_or ps i p
-      → Written a b (λ out. Replies May first (take i ps) out None mid) → Written b c (λ out. Replies May mid (p ∷ []) out end now)
-      → Written a c (λ out. Replies May first (take (i + 1) ps) out end now)
-  next_reply mid now a b c i ps p end lt is r q =
-      let front : take i ps ++ p ∷ [] ≡ take (i + 1) ps = ap (λ (x : Payload). take i ps ++ x ∷ []) is ∙ sym (take_more ps i p lt) in
-      let P : List Payload → Type 0 = λ qs. Replies May first qs (r.0 ++ q.0) end now in
-      (r.0 ++ q.0, Appends-trans a b c r.0 q.0 r.1 q.1, subst P front (go_on May first mid now (take i ps) (p ∷ []) r.0 q.0 None end refl r.2 q.2))
+  abbrev Front : Known → Known → List Payload → S → Type 0
+  Front a b ps now = (done : List Payload) × (out : List ℕ) × (standing : Standing) × IsPrefix done ps × AppendsFront a b out
+      × Replies terms May begin first done out standing now
 
-  pub all_ended : (now : S) (a b : Known) (n : ℕ) (ps : List Payload) (end : Option End) → is_some end ≡ true
-      → Written a b (λ out. Replies May first (take n ps) out end now) → Written a b (λ out. Replies May first ps out end now)
-  all_ended now a b n ps None some r = absurd cc
-  all_ended now a b n ps (Some e) some r =
-      let P : List Payload → Type 0 = λ qs. Replies May first qs r.0 (Some e) now in
-      (r.0, r.1, subst P (take-append-drop n ps) (stay_ended May first now (take n ps) (drop n ps) r.0 (Some e) e refl r.2))
+  module _ (mid now : S) (a b c : Known) (i : ℕ) (ps : List Payload) (p : Payload) (phase : Phase) (standing : Standing) (lt : i < length ps) (is : p ≡ get_or ps i p)
+      (before : Written a b (λ out. Replies terms May begin first (take i ps) out (At phase) mid)) where
+    front : take i ps ++ p ∷ [] ≡ take (i + 1) ps
+    front = ap (λ (x : Payload). take i ps ++ x ∷ []) is ∙ sym (take_more ps i p lt)
 
-  pub not_ended : (now : S) (a b : Known) (ps : List Payload) (end : Option End) → is_some end ≡ false
-      → Written a b (λ out. Replies May first ps out end now) → Written a b (λ out. Replies May first ps out None now)
-  not_ended now a b ps end none r =
-      let P : Option End → Type 0 = λ e. Replies May first ps r.0 e now in
-      (r.0, r.1, subst P (none_is end none) r.2)
+    both : (out : List ℕ) → Answers terms May phase mid p out standing now → Replies terms May begin first (take (i + 1) ps) (before.0 ++ out) standing now
+    both out answers =
+        subst (λ (qs : List Payload). Replies terms May begin first qs (before.0 ++ out) standing now) front
+        (go_on terms May begin phase first mid now (take i ps) (p ∷ []) before.0 out (At phase) standing refl before.2 (one_reply terms May phase mid now p out standing answers))
 
-  pub fed_ended : (now : S) (a b : Known) (fed : Fed) (end : Option End) → is_some end ≡ true
-      → Written a b (λ out. Replies May first fed.payloads out end now) → Written a b (λ out. AnswersFed May first fed out end now)
-  fed_ended now a b fed None some r = absurd cc
-  fed_ended now a b fed (Some e) some r = (r.0, r.1, s.ended r.2)
+    pub next_reply : Written b c (λ out. Answers terms May phase mid p out standing now) → Written a c (λ out. Replies terms May begin first (take (i + 1) ps) out standing now)
+    next_reply q = (before.0 ++ q.0, Appends-trans a b c before.0 q.0 before.1 q.1, both q.0 q.2)
 
-  pub fed_goes_on : (now : S) (a b : Known) (fed : Fed) (end : Option End) → is_some end ≡ false → fed.fault ≡ None
-      → Written a b (λ out. Replies May first fed.payloads out end now) → Written a b (λ out. AnswersFed May first fed out None now)
-  fed_goes_on now a b fed end none no_fault r = let q = not_ended now a b fed.payloads end none r in (q.0, q.1, s.goes_on no_fault q.2)
+  -- the sink failed at the reply to one payload
+  pub cut_reply : (mid now : S) (a b c : Known) (i : ℕ) (ps : List Payload) (p : Payload) (phase : Phase) → i < length ps → p ≡ get_or ps i p
+      → Written a b (λ out. Replies terms May begin first (take i ps) out (At phase) mid)
+      → (out : List ℕ) × (standing : Standing) × AppendsFront b c out × Answers terms May phase mid p out standing now → Front a c ps now
+  cut_reply mid now a b c i ps p phase lt is before cut = (
+    take (i + 1) ps,
+    before.0 ++ cut.0,
+    cut.1,
+    (drop (i + 1) ps, take-append-drop (i + 1) ps),
+    front_behind a b c before.0 cut.0 before.1 cut.2,
+    both mid now a b c i ps p phase cut.1 lt is before cut.0 cut.3,
+  )
 
-  pub fed_refused : (now : S) (a b c : Known) (fed : Fed) (fault : Fault) (end : Option End) → is_some end ≡ false → fed.fault ≡ Some fault
-      → Written a b (λ out. Replies May first fed.payloads out end now) → Appends b c (refusal_bytes fault.number fault.refusal)
-      → Written a c (λ out. AnswersFed May first fed out (Some Broken) now)
-  fed_refused now a b c fed fault end none is r told =
-      let q = not_ended now a b fed.payloads end none r in
+  pub all_ended : (now : S) (a b : Known) (n : ℕ) (ps : List Payload) (standing : Standing) (end : End) → standing ≡ Ended end
+      → Written a b (λ out. Replies terms May begin first (take n ps) out standing now) → Written a b (λ out. Replies terms May begin first ps out (Ended end) now)
+  all_ended now a b n ps standing end is r =
+      let P : List Payload → Type 0 = λ qs. Replies terms May begin first qs r.0 standing now in
+      let Q : Standing → Type 0 = λ b. Replies terms May begin first ps r.0 b now in
+      (r.0, r.1, subst Q is (subst P (take-append-drop n ps) (stay_ended terms May begin first now (take n ps) (drop n ps) r.0 standing end is r.2)))
+
+  pub standing_is : (now : S) (a b : Known) (ps : List Payload) (standing then : Standing) → standing ≡ then
+      → Written a b (λ out. Replies terms May begin first ps out standing now) → Written a b (λ out. Replies terms May begin first ps out then now)
+  standing_is now a b ps standing then is r = (r.0, r.1, subst (λ (x : Standing). Replies terms May begin first ps r.0 x now) is r.2)
+
+  pub fed_ended : (now : S) (a b : Known) (fed : Fed) (standing : Standing) (end : End) → standing ≡ Ended end
+      → Written a b (λ out. Replies terms May begin first fed.payloads out standing now) → Written a b (λ out. AnswersFed terms May begin first fed out (Ended end) now)
+  fed_ended now a b fed standing end is r = let q = standing_is now a b fed.payloads standing (Ended end) is r in (q.0, q.1, s.ended q.2)
+
+  pub fed_goes_on : (now : S) (a b : Known) (fed : Fed) (standing : Standing) (next : Phase) → standing ≡ At next → fed.fault ≡ None
+      → Written a b (λ out. Replies terms May begin first fed.payloads out standing now) → Written a b (λ out. AnswersFed terms May begin first fed out (At next) now)
+  fed_goes_on now a b fed standing next is no_fault r = let q = standing_is now a b fed.payloads standing (At next) is r in (q.0, q.1, s.goes_on no_fault q.2)
+
+  pub fed_refused : (now : S) (a b c : Known) (fed : Fed) (fault : Fault) (standing : Standing) (next : Phase) → standing ≡ At next → fed.fault ≡ Some fault
+      → Written a b (λ out. Replies terms May begin first fed.payloads out standing now) → Appends b c (refusal_bytes fault.number fault.refusal)
+      → Written a c (λ out. AnswersFed terms May begin first fed out (Ended Broken) now)
+  fed_refused now a b c fed fault standing next at is r told =
+      let q = standing_is now a b fed.payloads standing (At next) at r in
       (q.0 ++ refusal_bytes fault.number fault.refusal, Appends-trans a b c q.0 (refusal_bytes fault.number fault.refusal) q.1 told, s.refused fault is q.2)
 
-module _ {S : Type 0} (May : S → List ℕ → Outcome → S → Type 0) (old new : SessionState) (piece : List ℕ) (fed : Fed)
-    (by : FedBy old.framing new.framing piece fed) (first mid now : S) (stream out : List ℕ) (before : HasTalked May old first stream out mid) where
+  answers_of : (ps : List Payload) (out : List ℕ) (standing : Standing) (now : S) → Replies terms May begin first ps out standing now
+      → AnswersFed terms May begin first (record { payloads = ps; fault = None }) out standing now
+  answers_of ps out (At next) now r = s.goes_on refl r
+  answers_of ps out (Ended end) now r = s.ended r
+
+  -- the sink failed at the replies to the payloads, or at the refusal of the fault behind them
+  pub fed_cut : (now : S) (a b : Known) (fed : Fed) → Front a b fed.payloads now → Written a b (λ written. IsCutOff terms May begin first fed written now)
+  fed_cut now a b fed cut = (
+    cut.4.0,
+    cut.4.2,
+    record {
+      part = record { payloads = cut.0; fault = None };
+      told = cut.1;
+      standing = cut.2;
+      front = f.some refl cut.3;
+      answers = answers_of cut.0 cut.1 cut.2 now cut.5;
+      taken = cut.4.1;
+    },
+  )
+
+  pub refusal_cut : (now : S) (a b c : Known) (fed : Fed) (fault : Fault) (standing : Standing) (next : Phase) → standing ≡ At next → fed.fault ≡ Some fault
+      → Written a b (λ out. Replies terms May begin first fed.payloads out standing now) → AppendsFront b c (refusal_bytes fault.number fault.refusal)
+      → Written a c (λ written. IsCutOff terms May begin first fed written now)
+  refusal_cut now a b c fed fault standing next at is r cut =
+      let q = standing_is now a b fed.payloads standing (At next) at r in (
+        q.0 ++ cut.0,
+        Appends-trans a b c q.0 cut.0 q.1 cut.2,
+        record {
+          part = fed;
+          told = q.0 ++ refusal_bytes fault.number fault.refusal;
+          standing = Ended Broken;
+          front = f.all;
+          answers = s.refused fault is q.2;
+          taken = prefix_behind q.0 cut.0 (refusal_bytes fault.number fault.refusal) cut.1;
+        },
+      )
+
+module _ {S : Type 0} (terms : Terms S) (May : S → List ℕ → Outcome → S → Type 0) (old new : SessionState) (piece : List ℕ) (fed : Fed)
+    (by : FedBy old.framing new.framing piece fed) (phase : Phase) (at : old.standing ≡ At phase) (begin : Phase) (first mid now : S) (stream out : List ℕ)
+    (before : HasTalked terms May begin old first stream out mid) where
   abbrev payloads : List Payload
   payloads = before.payloads ++ fed.payloads
 
-  joined : (written : List ℕ) (end : Option End) → Replies May mid fed.payloads written end now → Replies May first payloads (out ++ written) end now
-  joined written end r = go_on May first mid now before.payloads fed.payloads out written None end refl before.replies r
+  joined : (more : List Payload) (written : List ℕ) (standing : Standing) → Replies terms May phase mid more written standing now
+      → Replies terms May begin first (before.payloads ++ more) (out ++ written) standing now
+  joined more written standing r =
+      let same : At before.phase ≡ At phase = sym before.goes_on ∙ at in
+      go_on terms May begin phase first mid now before.payloads more out written (At before.phase) standing same before.replies r
 
-  ended_by : (written : List ℕ) (e : End) → Replies May first payloads (out ++ written) (Some e) now → (o : Option Fault) → fed.fault ≡ o
-      → Talk old.framing.limit May first (stream ++ piece) (out ++ written) e now
+  ended_by : (written : List ℕ) (e : End) → Replies terms May begin first payloads (out ++ written) (Ended e) now → (o : Option Fault) → fed.fault ≡ o
+      → Talk old.framing.limit terms May begin first (stream ++ piece) (out ++ written) e now
   ended_by written e r None is =
       let read = by.payloads is stream before.payloads before.read in
       let L : ℕ → Type 0 = λ n. Splits n (stream ++ piece) payloads new.framing.rest in
@@ -88,31 +167,79 @@ module _ {S : Type 0} (May : S → List ℕ → Outcome → S → Type 0) (old n
   ended_by written e r (Some f) is = t.ended_before payloads f (by.fault f is stream before.payloads before.read) r
 
   abbrev Limited : ℕ → List ℕ → End → Type 0
-  Limited n bytes e = Talk n May first (stream ++ piece) bytes e now
+  Limited n bytes e = Talk n terms May begin first (stream ++ piece) bytes e now
 
-  pub talked_on : (written : List ℕ) (end : Option End) → new.ended ≡ end → AnswersFed May mid fed written end now
-      → HasTalkedOn May new first (stream ++ piece) (out ++ written) end now
+  pub talked_on : (written : List ℕ) (standing : Standing) → new.standing ≡ standing → AnswersFed terms May phase mid fed written standing now
+      → HasTalkedOn terms May begin new first (stream ++ piece) (out ++ written) (end_of standing) now
   talked_on written _ is (s.ended {end = e} r) =
       let L : ℕ → Type 0 = λ n. Limited n (out ++ written) e in
-      subst L (sym by.limit) (ended_by written e (joined written (Some e) r) fed.fault refl)
-  talked_on written _ is (s.goes_on no_fault r) =
-      record { payloads = payloads; goes_on = is; read = by.payloads no_fault stream before.payloads before.read; replies = joined written None r }
-  talked_on _ _ is (s.refused {out = said} f fault r) =
+      subst L (sym by.limit) (ended_by written e (joined fed.payloads written (Ended e) r) fed.fault refl)
+  talked_on written _ is (s.goes_on {at = next} no_fault r) = record {
+    payloads = payloads;
+    phase = next;
+    goes_on = is;
+    read = by.payloads no_fault stream before.payloads before.read;
+    replies = joined fed.payloads written (At next) r;
+  }
+  talked_on _ _ is (s.refused {out = said} {at = next} f fault r) =
       let told : List ℕ = refusal_bytes f.number f.refusal in
       let L : ℕ → Type 0 = λ n. Limited n (out ++ (said ++ told)) Broken in
       let P : List ℕ → Type 0 = λ bytes. Limited old.framing.limit bytes Broken in
       subst L (sym by.limit)
-      (subst P (append_assoc out said told) (t.refused payloads f (by.fault f fault stream before.payloads before.read) (joined said None r)))
+      (subst P (append_assoc out said told) (t.refused payloads f (by.fault f fault stream before.payloads before.read) (joined fed.payloads said (At next) r)))
+
+  -- ---- the sink failed
+
+  held : Holds old.framing.limit (stream ++ piece) (record { payloads = payloads; fault = fed.fault })
+  held = record {
+    whole =
+        λ no_fault. (
+          new.framing.rest,
+          subst (λ (n : ℕ). Splits n (stream ++ piece) payloads new.framing.rest) by.limit (by.payloads no_fault stream before.payloads before.read).splits,
+        );
+    refused = λ fault is. by.fault fault is stream before.payloads before.read;
+  }
+
+  abbrev behind : Fed → Fed
+  behind part = record { payloads = before.payloads ++ part.payloads; fault = part.fault }
+
+  front_of : (part whole : Fed) → IsFrontOf part whole → IsFrontOf (behind part) (behind whole)
+  front_of part whole (f.some none front) = f.some none (prefix_behind before.payloads part.payloads whole.payloads front)
+  front_of _ _ (f.all {fed = part}) = f.all
+
+  answered : (part : Fed) (told : List ℕ) (standing : Standing) → AnswersFed terms May phase mid part told standing now
+      → AnswersFed terms May begin first (behind part) (out ++ told) standing now
+  answered part told _ (s.ended {end = e} r) = s.ended (joined part.payloads told (Ended e) r)
+  answered part told _ (s.goes_on {at = next} no_fault r) = s.goes_on no_fault (joined part.payloads told (At next) r)
+  answered part _ _ (s.refused {out = said} {at = next} f fault r) =
+      let told : List ℕ = refusal_bytes f.number f.refusal in
+      subst (λ (bs : List ℕ). AnswersFed terms May begin first (behind part) bs (Ended Broken) now) (append_assoc out said told)
+      (s.refused f fault (joined part.payloads said (At next) r))
+
+  pub broken_off : (written : List ℕ) → IsCutOff terms May phase mid fed written now
+      → HasBrokenOff old.framing.limit terms May begin first (stream ++ piece) (out ++ written) now
+  broken_off written cut = record {
+    fed = behind fed;
+    holds = held;
+    cut = record {
+      part = behind cut.part;
+      told = out ++ cut.told;
+      standing = cut.standing;
+      front = front_of cut.part fed cut.front;
+      answers = answered cut.part cut.told cut.standing cut.answers;
+      taken = prefix_behind out written cut.told cut.taken;
+    };
+  }
 
 -- the end of the input, between two payloads or within one
-pub whole_end : {S : Type 0} (May : S → List ℕ → Outcome → S → Type 0) (s now : S) (limit : ℕ) (bytes out : List ℕ) (payloads : List Payload) (rest : List ℕ) (end : End)
-    → Splits limit bytes payloads rest → Replies May s payloads out None now → (rest ≡ [] → end ≡ Closed) → ((rest ≡ [] → ⊥) → end ≡ Truncated)
-    → Talk limit May s bytes out end now
-whole_end {S} May s now limit bytes out payloads [] end splits replies closed truncated =
-    let P : End → Type 0 = λ e. Talk limit May s bytes out e now in
+pub whole_end : {S : Type 0} (terms : Terms S) (May : S → List ℕ → Outcome → S → Type 0) (begin at : Phase) (s now : S) (limit : ℕ) (bytes out : List ℕ) (payloads : List Payload) (rest : List ℕ) (end : End)
+    → Splits limit bytes payloads rest → Replies terms May begin s payloads out (At at) now → (rest ≡ [] → end ≡ Closed) → ((rest ≡ [] → ⊥) → end ≡ Truncated)
+    → Talk limit terms May begin s bytes out end now
+whole_end {S} terms May begin at s now limit bytes out payloads [] end splits replies closed truncated =
+    let P : End → Type 0 = λ e. Talk limit terms May begin s bytes out e now in
     subst P (sym (closed refl)) (t.closed payloads splits replies)
-whole_end {S} May s now limit bytes out payloads (b ∷ rest) end splits replies closed truncated =
-    let P : End → Type 0 = λ e. Talk limit May s bytes out e now in
+whole_end {S} terms May begin at s now limit bytes out payloads (b ∷ rest) end splits replies closed truncated =
+    let P : End → Type 0 = λ e. Talk limit terms May begin s bytes out e now in
     subst P (sym (truncated (λ e. cc))) (t.truncated payloads b rest splits replies)
 
 -- what the clauses of the framer say, as equations
@@ -126,50 +253,31 @@ fed_by old new piece fed ok refused limit = record {
   limit = limit;
 }
 
--- the answer to a piece, in a session that knows what its framer said
-pub talked : {S : Type 0} (May : S → List ℕ → Outcome → S → Type 0) (mid now : S) (old new : SessionState) (piece : List ℕ) (a b : Known) (r : Result (Option End) SessionFault)
-    → IfOk r (λ end. (fed : Fed) × FedBy old.framing new.framing piece fed × ((out : List ℕ) × Appends a b out × AnswersFed May mid fed out end now))
-    → IfOk r (λ end. new.ended ≡ end)
-    → IfOk r (λ end. (first : S) (bytes out : List ℕ) → HasTalked May old first bytes out mid
-    → (written : List ℕ) × Appends a b written × HasTalkedOn May new first (bytes ++ piece) (out ++ written) end now)
-talked May mid now old new piece a b (Ok end) said is =
-    λ first bytes out before. (said.2.0, said.2.1, talked_on May old new piece said.0 said.1 first mid now bytes out before said.2.0 end is said.2.2)
-talked May mid now old new piece a b (Err e) said is = tt
-
 pub is_end : (between : Bool) (rest : List ℕ) (end : End) → IsTrue between ↔ (rest ≡ []) → (between ≡ true → end ≡ Closed) → (between ≡ false → end ≡ Truncated)
     → (rest ≡ [] → end ≡ Closed) × ((rest ≡ [] → ⊥) → end ≡ Truncated)
 is_end true rest end both closed truncated = (λ is. closed refl, λ not. absurd (not (both.0 refl)))
 is_end false rest end both closed truncated = (λ is. absurd (let wrong : IsTrue false = both.1 is in cc), λ not. truncated refl)
 
 -- replies end by a command
-pub replies_end : {S : Type 0} (May : S → List ℕ → Outcome → S → Type 0) (s now : S) (ps : List Payload) (out : List ℕ) (end : Option End)
-    → Replies May s ps out end now → IfSome end IsByCommand
-replies_end May _ _ _ _ _ t.none = tt
-replies_end May _ _ _ _ _ (t.out_of_order first) = tt
-replies_end May _ _ _ _ _ (t.quits first command) = tt
-replies_end May _ _ _ _ _ (t.unknown {s} {t = now} {more = ps} {out} {end} first command r) = replies_end May s now ps out end r
-replies_end May _ _ _ _ _ (t.pinged {s} {t = now} {more = ps} {out} {end} first command r) = replies_end May s now ps out end r
-replies_end May _ _ _ _ _ (t.queried {mid} {t = now} {more = ps} {out} {end} text outcome first command may r) = replies_end May mid now ps out end r
+answers_end : {S : Type 0} (terms : Terms S) (May : S → List ℕ → Outcome → S → Type 0) (at : Phase) (s now : S) (p : Payload) (out : List ℕ) (b : Standing)
+    → Answers terms May at s p out b now → IfSome (end_of b) IsByCommand
+answers_end terms May _ _ _ _ _ _ (t.out_of_order first) = tt
+answers_end terms May _ _ _ _ _ _ (t.quits first command) = tt
+answers_end terms May _ _ _ _ _ _ (t.unknown first command) = tt
+answers_end terms May _ _ _ _ _ _ (t.pinged first command) = tt
+answers_end terms May _ _ _ _ _ _ (t.queried text outcome first command may) = tt
 
-fed_ends : {S : Type 0} (May : S → List ℕ → Outcome → S → Type 0) (mid now : S) (fed : Fed) (out : List ℕ) (end : Option End)
-    → AnswersFed May mid fed out end now → IfSome end IsByCommand
-fed_ends May mid _ fed _ _ (s.ended {out} {end} {now} r) = replies_end May mid now fed.payloads out (Some end) r
-fed_ends May mid _ fed _ _ (s.goes_on no_fault r) = tt
-fed_ends May mid _ fed _ _ (s.refused fault is r) = tt
+replies_end : {S : Type 0} (terms : Terms S) (May : S → List ℕ → Outcome → S → Type 0) (at : Phase) (s now : S) (ps : List Payload) (out : List ℕ) (b : Standing)
+    → Replies terms May at s ps out b now → IfSome (end_of b) IsByCommand
+replies_end terms May _ _ _ _ _ _ t.none = tt
+replies_end terms May _ _ _ _ _ _ (t.goes {next} {mid} {t = now} {more = ps} {rest} {standing} a r) = replies_end terms May next mid now ps rest standing r
+replies_end terms May _ _ _ _ _ _ (t.ends {at} {s} {t = now} {p} {out} {end} a) = answers_end terms May at s now p out (Ended end) a
 
-pub ends_by_command : {S : Type 0} (May : S → List ℕ → Outcome → S → Type 0) (mid now : S) (old new : Framing) (piece : List ℕ) (a b : Known) (r : Result (Option End) SessionFault)
-    → IfOk r (λ end. (fed : Fed) × FedBy old new piece fed × ((out : List ℕ) × Appends a b out × AnswersFed May mid fed out end now))
-    → IfOk r (λ end. IfSome end IsByCommand)
-ends_by_command May mid now old new piece a b (Ok end) said = fed_ends May mid now said.0 said.2.0 end said.2.2
-ends_by_command May mid now old new piece a b (Err e) said = tt
-
-pub served : {S : Type 0} (May : S → List ℕ → Outcome → S → Type 0) (mid now : S) (old new : SessionState) (a b c d : Known) (piece : List ℕ) (r : Result (Option End) SessionFault) → Consumes a b piece
-    → IfOk r (λ end. (first : S) (bytes out : List ℕ) → HasTalked May old first bytes out mid
-    → (written : List ℕ) × Appends c d written × HasTalkedOn May new first (bytes ++ piece) (out ++ written) end now)
-    → IfOk r (λ end. (first : S) (bytes out : List ℕ) → HasTalked May old first bytes out mid
-    → (read : List ℕ) × (written : List ℕ) × Consumes a b read × Appends c d written × HasTalkedOn May new first (bytes ++ read) (out ++ written) end now)
-served May mid now old new a b c d piece (Ok end) takes said = λ first bytes out before. let q = said first bytes out before in (piece, q.0, takes, q.1, q.2)
-served May mid now old new a b c d piece (Err e) takes said = tt
+pub fed_ends : {S : Type 0} (terms : Terms S) (May : S → List ℕ → Outcome → S → Type 0) (at : Phase) (mid now : S) (fed : Fed) (out : List ℕ) (standing : Standing)
+    → AnswersFed terms May at mid fed out standing now → IfSome (end_of standing) IsByCommand
+fed_ends terms May at mid _ fed _ _ (s.ended {out} {end} {now} r) = replies_end terms May at mid now fed.payloads out (Ended end) r
+fed_ends terms May at mid _ fed _ _ (s.goes_on no_fault r) = tt
+fed_ends terms May at mid _ fed _ _ (s.refused fault is r) = tt
 
 pub not_by_input : (X : Type 0) (r : Result (Option End) SessionFault) → IfOk r (λ end. IfSome end IsByCommand) → IfOk r (λ end. IfSome end (λ e. IsByInput e → X))
 not_by_input X (Err e) by = tt
@@ -178,28 +286,3 @@ not_by_input X (Ok (Some Quit)) by = λ is. absurd is
 not_by_input X (Ok (Some Broken)) by = λ is. absurd is
 not_by_input X (Ok (Some Closed)) by = absurd by
 not_by_input X (Ok (Some Truncated)) by = absurd by
-
--- what was read and written so far, of which this holds
-abbrev pub SoFar : Known → Known → Known → Known → (List ℕ → List ℕ → Type 0) → Type 0
-SoFar a b c d P = (read : List ℕ) × (written : List ℕ) × Consumes a b read × Appends c d written × P read written
-
-module _ {S : Type 0} (May : S → List ℕ → Outcome → S → Type 0) (first : S) where
-  pub one_more : (mid now : S) (old new : SessionState) (a b c d e f : Known) (end : Option End) → SoFar a b d e (λ read written. HasTalked May old first read written mid)
-      → ((first : S) (bytes out : List ℕ) → HasTalked May old first bytes out mid → SoFar b c e f (λ read written. HasTalkedOn May new first (bytes ++ read) (out ++ written) end now))
-      → SoFar a c d f (λ read written. HasTalkedOn May new first read written end now)
-  one_more mid now old new a b c d e f end before said =
-      let next = said first before.0 before.1 before.4 in
-      (before.0 ++ next.0, before.1 ++ next.1, Consumes-trans a b c before.0 next.0 before.2 next.2, Appends-trans d e f before.1 next.1 before.3 next.3, next.4)
-
-  pub still_goes_on : (now : S) (new : SessionState) (a c d f : Known) (end : Option End) → end ≡ None
-      → SoFar a c d f (λ read written. HasTalkedOn May new first read written end now) → SoFar a c d f (λ read written. HasTalked May new first read written now)
-  still_goes_on now new a c d f end is r =
-      let P : Option End → Type 0 = λ o. HasTalkedOn May new first r.0 r.1 o now in
-      (r.0, r.1, r.2, r.3, subst P is r.4)
-
-  pub has_ended : (now : S) (new : SessionState) (a c d f : Known) (limit : ℕ) (o : Option End) (end : End) → o ≡ Some end → new.framing.limit ≡ limit
-      → SoFar a c d f (λ read written. HasTalkedOn May new first read written o now) → SoFar a c d f (λ read written. Talk limit May first read written end now)
-  has_ended now new a c d f limit o end is same r =
-      let P : Option End → Type 0 = λ x. HasTalkedOn May new first r.0 r.1 x now in
-      let L : ℕ → Type 0 = λ n. Talk n May first r.0 r.1 end now in
-      (r.0, r.1, r.2, r.3, subst L same (subst P is r.4))

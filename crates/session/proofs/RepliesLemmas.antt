@@ -1,5 +1,5 @@
--- Replies to one command, and to the commands behind it.
-use Rattle.std.proofs.Common.{◌≡◌, ℕ, true, false, ◌==◌, List, [], ◌∷◌, ◌++◌, Option, Some, None, sym, subst, ◌∙◌, append_assoc, ◌⊎◌, inl, inr}
+-- Replies to one payload, and to the payloads behind it.
+use Rattle.std.proofs.Common.{◌≡◌, ℕ, false, ◌==◌, List, [], ◌∷◌, ◌++◌, Some, None, sym, subst, append_assoc, eq-eqb, ◌⊎◌, inl, inr}
 use Rattle.std.proofs.lemmas.List.{append-nil}
 use Rattle.vt_value.specs.declared.refusal.Refusal.TheVariants.{OutOfMemory, PacketsOutOfOrder, UnknownCommand}
 use Rattle.mysql_packet.specs.declared.framer.Payload.{Payload}
@@ -23,60 +23,63 @@ use Rattle.vschema.specs.declared.schema.VSchema.{VSchema}
 use Rattle.vschema.specs.declared.schema.Typed.{Typed}
 use Rattle.session.specs.declared.end.End.{End}
 use Rattle.session.specs.declared.end.End.TheVariants.{Quit, Broken}
-use Rattle.session.specs.Outcomes.{Means, Seen, Shows, HasRows, IsRows}
+use Rattle.session.specs.declared.standing.Phase.{Phase}
+use Rattle.session.specs.declared.standing.Phase.TheVariants.{Commands}
+use Rattle.session.specs.declared.standing.Standing.{Standing}
+use Rattle.session.specs.declared.standing.Standing.TheVariants.{At, Ended}
+use Rattle.session.specs.Standings.{first_number}
+use Rattle.session.specs.Outcomes.{Means, Seen, Shows, HasRows, IsRows, router_terms}
 use Rattle.session.specs.Outcomes as q
-use Rattle.session.specs.Talk.{Replies, refusal_bytes, reply_number}
+use Rattle.session.specs.Talk.{Terms, Answers, Replies, refusal_bytes, reply_number}
 use Rattle.session.specs.Talk as t
 
-module _ {S : Type 0} (May : S → List ℕ → Outcome → S → Type 0) where
-  pub one_ping : (s : S) (p : Payload) (out : List ℕ) → p.first == 0 ≡ true → command_of p.bytes ≡ Some ping
-      → out ≡ frame (reply_number p) (ok_payload 0 autocommit) → Replies May s (p ∷ []) out None s
-  one_ping s p out first is e = subst (λ (bs : List ℕ). Replies May s (p ∷ []) bs None s) (append-nil _ ∙ sym e) (t.pinged first is t.none)
+module _ {S : Type 0} (terms : Terms S) (May : S → List ℕ → Outcome → S → Type 0) where
+  module _ (bits : ℕ) where
+    pub one_ping : (s : S) (p : Payload) (out : List ℕ) → p.first ≡ 0 → command_of p.bytes ≡ Some ping
+        → out ≡ frame (reply_number p) (ok_payload 0 (terms.status s)) → Answers terms May (Commands bits) s p out (At (Commands bits)) s
+    one_ping s p out first is e = subst (λ (bs : List ℕ). Answers terms May (Commands bits) s p bs (At (Commands bits)) s) (sym e) (t.pinged (eq-eqb p.first 0 first) is)
 
-  pub one_unknown : (s : S) (p : Payload) (out : List ℕ) → p.first == 0 ≡ true → command_of p.bytes ≡ None
-      → out ≡ frame (reply_number p) (err_payload UnknownCommand) → Replies May s (p ∷ []) out None s
-  one_unknown s p out first is e = subst (λ (bs : List ℕ). Replies May s (p ∷ []) bs None s) (append-nil _ ∙ sym e) (t.unknown first is t.none)
+    pub one_unknown : (s : S) (p : Payload) (out : List ℕ) → p.first ≡ 0 → command_of p.bytes ≡ None
+        → out ≡ frame (reply_number p) (err_payload UnknownCommand) → Answers terms May (Commands bits) s p out (At (Commands bits)) s
+    one_unknown s p out first is e = subst (λ (bs : List ℕ). Answers terms May (Commands bits) s p bs (At (Commands bits)) s) (sym e) (t.unknown (eq-eqb p.first 0 first) is)
 
-  pub one_query : (s now : S) (p : Payload) (out text : List ℕ) (outcome : Outcome) → p.first == 0 ≡ true → command_of p.bytes ≡ Some (query text)
-      → May s text outcome now → out ≡ encoded outcome (reply_number p) autocommit → Replies May s (p ∷ []) out None now
-  one_query s now p out text outcome first is may e =
-      subst (λ (bs : List ℕ). Replies May s (p ∷ []) bs None now) (append-nil _ ∙ sym e) (t.queried text outcome first is may t.none)
+    pub one_query : (s now : S) (p : Payload) (out text : List ℕ) (outcome : Outcome) → p.first ≡ 0 → command_of p.bytes ≡ Some (query text)
+        → May s text outcome now → out ≡ encoded outcome (reply_number p) (terms.status now) → Answers terms May (Commands bits) s p out (At (Commands bits)) now
+    one_query s now p out text outcome first is may e =
+        subst (λ (bs : List ℕ). Answers terms May (Commands bits) s p bs (At (Commands bits)) now) (sym e) (t.queried text outcome (eq-eqb p.first 0 first) is may)
 
-  pub one_quit : (s : S) (p : Payload) (out : List ℕ) → p.first == 0 ≡ true → command_of p.bytes ≡ Some quit → out ≡ [] → Replies May s (p ∷ []) out (Some Quit) s
-  one_quit s p out first is e = subst (λ (bs : List ℕ). Replies May s (p ∷ []) bs (Some Quit) s) (sym e) (t.quits first is)
+    pub one_quit : (s : S) (p : Payload) (out : List ℕ) → p.first ≡ 0 → command_of p.bytes ≡ Some quit → out ≡ []
+        → Answers terms May (Commands bits) s p out (Ended Quit) s
+    one_quit s p out first is e = subst (λ (bs : List ℕ). Answers terms May (Commands bits) s p bs (Ended Quit) s) (sym e) (t.quits (eq-eqb p.first 0 first) is)
 
-  pub one_out_of_order : (s : S) (p : Payload) (out : List ℕ) → p.first == 0 ≡ false → out ≡ refusal_bytes p.first PacketsOutOfOrder
-      → Replies May s (p ∷ []) out (Some Broken) s
-  one_out_of_order s p out first e = subst (λ (bs : List ℕ). Replies May s (p ∷ []) bs (Some Broken) s) (sym e) (t.out_of_order first)
+  pub one_out_of_order : (at : Phase) (s : S) (p : Payload) (out : List ℕ) → p.first == first_number at ≡ false → out ≡ refusal_bytes p.first PacketsOutOfOrder
+      → Answers terms May at s p out (Ended Broken) s
+  one_out_of_order at s p out first e = subst (λ (bs : List ℕ). Answers terms May at s p bs (Ended Broken) s) (sym e) (t.out_of_order first)
 
-  -- the commands behind those that are answered
-  pub go_on : (s mid now : S) (ps qs : List Payload) (out more : List ℕ) (end end' : Option End) → end ≡ None → Replies May s ps out end mid
-      → Replies May mid qs more end' now → Replies May s (ps ++ qs) (out ++ more) end' now
-  go_on _ _ now _ qs _ more _ end' is t.none rest = rest
-  go_on _ _ now _ qs _ more _ end' is (t.out_of_order first) rest = absurd (cc)
-  go_on _ _ now _ qs _ more _ end' is (t.quits first command) rest = absurd (cc)
-  go_on _ _ now _ qs _ more _ end' is (t.unknown {s} {t = mid} {p} {more = ps} {out} first command r) rest =
-      subst (λ (bs : List ℕ). Replies May s (p ∷ ps ++ qs) bs end' now) (sym (append_assoc (frame (reply_number p) (err_payload UnknownCommand)) out more))
-      (t.unknown first command (go_on s mid now ps qs out more _ end' is r rest))
-  go_on _ _ now _ qs _ more _ end' is (t.pinged {s} {t = mid} {p} {more = ps} {out} first command r) rest =
-      subst (λ (bs : List ℕ). Replies May s (p ∷ ps ++ qs) bs end' now) (sym (append_assoc (frame (reply_number p) (ok_payload 0 autocommit)) out more))
-      (t.pinged first command (go_on s mid now ps qs out more _ end' is r rest))
-  go_on _ _ now _ qs _ more _ end' is (t.queried {s} {mid = then} {t = mid} {p} {more = ps} {out} text outcome first command may r) rest =
-      subst (λ (bs : List ℕ). Replies May s (p ∷ ps ++ qs) bs end' now) (sym (append_assoc (encoded outcome (reply_number p) autocommit) out more))
-      (t.queried text outcome first command may (go_on then mid now ps qs out more _ end' is r rest))
+  -- what is written for one payload
+  pub one_reply : (at : Phase) (s now : S) (p : Payload) (out : List ℕ) (standing : Standing) → Answers terms May at s p out standing now
+      → Replies terms May at s (p ∷ []) out standing now
+  one_reply at s now p out (At next) a =
+      subst (λ (bs : List ℕ). Replies terms May at s (p ∷ []) bs (At next) now) (append-nil out) (t.goes a t.none)
+  one_reply at s now p out (Ended end) a = t.ends a
 
-  -- commands behind the end are not answered
-  pub stay_ended : (s now : S) (ps qs : List Payload) (out : List ℕ) (end : Option End) (e : End) → end ≡ Some e → Replies May s ps out end now
-      → Replies May s (ps ++ qs) out end now
-  stay_ended _ _ _ qs _ _ e is t.none = absurd (cc)
-  stay_ended _ _ _ qs _ _ e is (t.out_of_order first) = t.out_of_order first
-  stay_ended _ _ _ qs _ _ e is (t.quits first command) = t.quits first command
-  stay_ended _ _ _ qs _ _ e is (t.unknown {s} {t = now} {more = ps} {out} {end} first command r) =
-      t.unknown first command (stay_ended s now ps qs out end e is r)
-  stay_ended _ _ _ qs _ _ e is (t.pinged {s} {t = now} {more = ps} {out} {end} first command r) =
-      t.pinged first command (stay_ended s now ps qs out end e is r)
-  stay_ended _ _ _ qs _ _ e is (t.queried {mid = then} {t = now} {more = ps} {out} {end} text outcome first command may r) =
-      t.queried text outcome first command may (stay_ended then now ps qs out end e is r)
+  -- the payloads behind those that are answered
+  pub go_on : (at next : Phase) (s mid now : S) (ps qs : List Payload) (out more : List ℕ) (b standing : Standing) → b ≡ At next
+      → Replies terms May at s ps out b mid → Replies terms May next mid qs more standing now → Replies terms May at s (ps ++ qs) (out ++ more) standing now
+  go_on _ next _ _ now _ qs _ more _ standing is (t.none {at} {s}) rest =
+      let same : next ≡ at = cc in subst (λ (x : Phase). Replies terms May x s qs more standing now) same rest
+  go_on _ next _ _ now _ qs _ more _ standing is (t.goes {at} {next = then} {s} {mid = half} {t = mid} {p} {more = ps} {out} {rest = told} {standing = b} a r) rest =
+      subst (λ (bs : List ℕ). Replies terms May at s (p ∷ ps ++ qs) bs standing now) (sym (append_assoc out told more))
+      (t.goes a (go_on then next half mid now ps qs told more b standing is r rest))
+  go_on _ next _ _ now _ qs _ more _ standing is (t.ends a) rest = absurd (cc)
+
+  -- payloads behind the end are not answered
+  pub stay_ended : (at : Phase) (s now : S) (ps qs : List Payload) (out : List ℕ) (b : Standing) (end : End) → b ≡ Ended end
+      → Replies terms May at s ps out b now → Replies terms May at s (ps ++ qs) out b now
+  stay_ended _ _ _ _ qs _ _ end is t.none = absurd (cc)
+  stay_ended _ _ _ _ qs _ _ end is (t.goes {at} {next} {s} {mid} {t = now} {p} {more = ps} {out} {rest} {standing = b} a r) =
+      t.goes a (stay_ended next mid now ps qs rest b end is r)
+  stay_ended _ _ _ _ qs _ _ end is (t.ends a) = t.ends a
 
 -- a reply with rows only looked
 rows_read : (o : Opening) (l : Limits) (p : Seen) (t : Typed) (reply : Reply) (now : Seen) → Gives o l p t reply now → HasRows reply.answer → HasGone o p now
@@ -99,13 +102,13 @@ unshown : (o : Opening) (l : Limits) (p : Seen) (text : List ℕ) (outcome : Out
 unshown o l p text outcome now (q.answered reply is shows) rows = no_room o l p text reply now is (shows_rows o.schema reply.answer outcome shows rows)
 unshown o l p text _ now (q.refused why) rows = absurd rows
 
-pub one_query_or_refusal : (o : Opening) (l : Limits) (s now : Seen) (p : Payload) (out text : List ℕ) (outcome : Outcome) → p.first == 0 ≡ true
+pub one_query_or_refusal : (o : Opening) (l : Limits) (bits : ℕ) (s now : Seen) (p : Payload) (out text : List ℕ) (outcome : Outcome) → p.first ≡ 0
     → command_of p.bytes ≡ Some (query text) → Means o l s text outcome now
     → (out ≡ encoded outcome (reply_number p) autocommit) ⊎ (IsRows outcome × (out ≡ encoded (Refused OutOfMemory) (reply_number p) autocommit))
-    → Replies (Means o l) s (p ∷ []) out None now
-one_query_or_refusal o l s now p out text outcome first is may (inl e) = one_query (Means o l) s now p out text outcome first is may e
-one_query_or_refusal o l s now p out text outcome first is may (inr (rows, e)) =
-    one_query (Means o l) s now p out text (Refused OutOfMemory) first is (unshown o l s text outcome now may rows) e
+    → Answers router_terms (Means o l) (Commands bits) s p out (At (Commands bits)) now
+one_query_or_refusal o l bits s now p out text outcome first is may (inl e) = one_query router_terms (Means o l) bits s now p out text outcome first is may e
+one_query_or_refusal o l bits s now p out text outcome first is may (inr (rows, e)) =
+    one_query router_terms (Means o l) bits s now p out text (Refused OutOfMemory) first is (unshown o l s text outcome now may rows) e
 
 -- a result set with the columns and rows of an answer
 pub shows : (schema : VSchema) (selected : Selected) (set : ResultSet) → AreColumns schema selected.table selected.items set.columns

@@ -14,7 +14,9 @@ use Rattle.route_engine.specs.declared.reply.Answer.TheVariants as a
 use Rattle.route_engine.specs.declared.reply.Reply.{Reply}
 use Rattle.shard.specs.declared.limits.Limits.{Limits}
 use Rattle.route_engine.specs.Answers.{counted, IsReply, IsRefusal}
+use Rattle.mysql_message.specs.Messages.{autocommit}
 use Rattle.session.specs.Columns.{AreColumns}
+use Rattle.session.specs.Talk.{Terms}
 
 -- what the session's pass has seen
 abbrev pub Seen : Type 0
@@ -41,3 +43,7 @@ pub data Means (o : Opening) (limits : Limits) (p : Seen) (text : List ℕ) : Ou
   answered : {outcome : Outcome} {now : Seen} (reply : Reply) → IsReply o limits (counted p) text reply now → Shows o.schema reply.answer outcome
       → Means o limits p text outcome now
   refused : {r : Refusal} {now : Seen} → IsRefusal o limits p text r now → Means o limits p text (Refused r) now
+
+-- The terms of the router's conversations: no transaction is ever open.
+abbrev pub router_terms : Terms Seen
+router_terms = record { status = λ seen. autocommit }

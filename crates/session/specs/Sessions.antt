@@ -8,39 +8,43 @@ use Rattle.mysql_packet.specs.Framing.{Framing, HasRead}
 use Rattle.resultset.specs.declared.Outcome.{Outcome}
 use Rattle.session.specs.declared.end.End.{End}
 use Rattle.session.specs.declared.end.End.TheVariants.{Broken}
-use Rattle.session.specs.Talk.{Replies, Talk, refusal_bytes}
+use Rattle.session.specs.declared.standing.Phase.{Phase}
+use Rattle.session.specs.declared.standing.Standing.{Standing}
+use Rattle.session.specs.declared.standing.Standing.TheVariants.{At, Ended}
+use Rattle.session.specs.Talk.{Terms, Replies, Talk, refusal_bytes}
 
--- the id of its connection and the capabilities that both sides set, what its framer knows, and how it ended, if it did
+-- the id of its connection, what its framer knows, and how it stands
 pub record SessionState : Type 0 where
   pub id : ℕ
-  pub capabilities : ℕ
   pub framing : Framing
-  pub ended : Option End
+  pub standing : Standing
 
--- The session goes on: of the bytes so far it has written the replies to each whole payload, and nothing else. That led from what it
--- had seen at first to what it has seen now.
-pub record HasTalked {S : Type 0} (May : S → List ℕ → Outcome → S → Type 0) (s : SessionState) (first : S) (bytes out : List ℕ) (now : S) : Type 0 where
+-- The session goes on: of the bytes so far it has written the replies to each whole payload, and nothing else. That led from the phase
+-- and from what it had seen at first to the phase that it is in and what it has seen now.
+pub record HasTalked {S : Type 0} (terms : Terms S) (May : S → List ℕ → Outcome → S → Type 0) (begin : Phase) (s : SessionState) (first : S) (bytes out : List ℕ) (now : S) : Type 0 where
   pub payloads : List Payload
-  pub goes_on : s.ended ≡ None
+  pub phase : Phase
+  pub goes_on : s.standing ≡ At phase
   pub read : HasRead s.framing bytes payloads
-  pub replies : Replies May first payloads out None now
+  pub replies : Replies terms May begin first payloads out (At phase) now
 
--- What is written for the payloads and the fault that a piece gave, and how that ends the session, if it does.
-pub data AnswersFed {S : Type 0} (May : S → List ℕ → Outcome → S → Type 0) (first : S) (fed : Fed) : List ℕ → Option End → S → Type 0 where
-  ended : {out : List ℕ} {end : End} {now : S} → Replies May first fed.payloads out (Some end) now → AnswersFed May first fed out (Some end) now
-  goes_on : {out : List ℕ} {now : S} → fed.fault ≡ None → Replies May first fed.payloads out None now → AnswersFed May first fed out None now
-  refused : {out : List ℕ} {now : S} (fault : Fault) → fed.fault ≡ Some fault → Replies May first fed.payloads out None now
-      → AnswersFed May first fed (out ++ refusal_bytes fault.number fault.refusal) (Some Broken) now
+-- What is written for the payloads and the fault that a piece gave, and how the session then stands.
+pub data AnswersFed {S : Type 0} (terms : Terms S) (May : S → List ℕ → Outcome → S → Type 0) (begin : Phase) (first : S) (fed : Fed) : List ℕ → Standing → S → Type 0 where
+  ended : {out : List ℕ} {end : End} {now : S} → Replies terms May begin first fed.payloads out (Ended end) now
+      → AnswersFed terms May begin first fed out (Ended end) now
+  goes_on : {out : List ℕ} {at : Phase} {now : S} → fed.fault ≡ None → Replies terms May begin first fed.payloads out (At at) now
+      → AnswersFed terms May begin first fed out (At at) now
+  refused : {out : List ℕ} {at : Phase} {now : S} (fault : Fault) → fed.fault ≡ Some fault → Replies terms May begin first fed.payloads out (At at) now
+      → AnswersFed terms May begin first fed (out ++ refusal_bytes fault.number fault.refusal) (Ended Broken) now
 
 -- The session goes on, or has had its whole conversation over the bytes.
-abbrev pub HasTalkedOn : {S : Type 0} → (S → List ℕ → Outcome → S → Type 0) → SessionState → S → List ℕ → List ℕ → Option End → S → Type 0
-HasTalkedOn May s first bytes out None now = HasTalked May s first bytes out now
-HasTalkedOn May s first bytes out (Some end) now = Talk s.framing.limit May first bytes out end now
+abbrev pub HasTalkedOn : {S : Type 0} → Terms S → (S → List ℕ → Outcome → S → Type 0) → Phase → SessionState → S → List ℕ → List ℕ → Option End → S → Type 0
+HasTalkedOn terms May begin s first bytes out None now = HasTalked terms May begin s first bytes out now
+HasTalkedOn terms May begin s first bytes out (Some end) now = Talk s.framing.limit terms May begin first bytes out end now
 
 -- the state after a piece: its framer has the same limit, and the connection is the same
 pub record IsNext (old new : SessionState) : Type 0 where
   pub id : new.id ≡ old.id
-  pub capabilities : new.capabilities ≡ old.capabilities
   pub limit : new.framing.limit ≡ old.framing.limit
 
 -- What its framer says of a piece: these payloads and the fault behind them, however the stream was cut before.

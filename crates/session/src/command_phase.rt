@@ -1,15 +1,19 @@
-ghost use Rattle.std.specs.Prelude.{◌≡◌, ℕ, ◌<◌, List, ◌++◌, IsSome, IfOk, IfSome, length, vec_len, []};
+ghost use Rattle.std.specs.Prelude.{◌≡◌, ℕ, ◌<◌, List, ◌++◌, None, Err, IsSome, IfOk, IfErr, IfSome, length, vec_len};
 ghost use Rattle.std.specs.Io.{ReadsAtMost};
-ghost use Rattle.std.specs.Io.KnownBytes.{Appends, Consumes, IsAtEnd, ReadConsumes};
+ghost use Rattle.std.specs.Io.KnownBytes.{Appends, Consumes, IsAtEnd, Keeps, ReadConsumes};
 ghost use Rattle.route_engine.specs.Alone.{NoOthers};
 ghost use Rattle.session.specs.Alone.{MeansAlone};
-ghost use Rattle.session.specs.Outcomes.{Means, Seen};
+ghost use Rattle.session.specs.Devices.{read_failures_after, write_failures_after};
+ghost use Rattle.session.specs.Faults.{IsUnfinished, HasBrokenOff};
+ghost use Rattle.session.specs.Outcomes.{Means, Seen, router_terms};
 ghost use Rattle.session.specs.Sessions.{HasTalked, HasTalkedOn};
+ghost use Rattle.session.specs.Standings.{end_of};
 ghost use Rattle.session.specs.Talk.{Talk, IsByInput};
 
 use crate::devices::{Sink, Source};
 use crate::end::{End, SessionFault};
 use crate::session_core::{COMMAND_LIMIT, Core, begins_with};
+use crate::standing::Phase;
 use journal::{Naming, Pass};
 use route_engine::{Engine, Gate};
 use shard::{ShardLaw, World};
@@ -30,6 +34,8 @@ fn zeroed(alloc: Global, len: usize) -> Result<Vec<u8>, AllocError>
 fn read_piece<R: Source>(source: &mut R, buffer: &mut [u8]) -> Result<usize, SessionFault>
     ensures bytes { ReadConsumes (R.unread source.old) (R.unread source.new) result buffer.new }
     ensures bound { ReadsAtMost result buffer.new }
+    ensures count { R.failures source.new ≡ read_failures_after result (R.failures source.old) }
+    ensures cause { IfErr result (λ e. e ≡ SessionFault.Read) }
 {
     match source.read(buffer) {
         Ok(n) => Ok(n),
@@ -37,7 +43,7 @@ fn read_piece<R: Source>(source: &mut R, buffer: &mut [u8]) -> Result<usize, Ses
     }
 }
 
-/// Reads one piece of the input, and answers the commands that it completes, or ends the session with the input.
+/// Reads one piece of the input, and answers the payloads that it completes, or ends the session with the input.
 fn serve_piece<W: World + Send + Sync, J: Naming + Send + Sync, G: Gate, R: Source, S: Sink>(
     rt: &(impl Threads + Wait + Sync),
     alloc: Global,
@@ -49,13 +55,24 @@ fn serve_piece<W: World + Send + Sync, J: Naming + Send + Sync, G: Gate, R: Sour
     sink: &mut S,
 ) -> Result<Option<End>, SessionFault>
     requires room { 0 < length buffer.old }
-    requires open_session { core.old.ended ≡ None }
+    requires open_session { end_of core.old.standing ≡ None }
     requires session { IsSome pass.old.session }
-    ensures talk { IfOk result (λ end. (first : Seen) (bytes out : List ℕ) → HasTalked (Means W.opening W.limits) core.old first bytes out pass.old →
+    ensures talk { IfOk result (λ end. (begin : Phase) (first : Seen) (bytes out : List ℕ)
+        → HasTalked router_terms (Means W.opening W.limits) begin core.old first bytes out pass.old →
         (read : List ℕ) × (written : List ℕ)
         × Consumes (R.unread source.old) (R.unread source.new) read × Appends (S.taken sink.old) (S.taken sink.new) written
-        × HasTalkedOn (Means W.opening W.limits) core.new first (bytes ++ read) (out ++ written) end pass.new) }
+        × HasTalkedOn router_terms (Means W.opening W.limits) begin core.new first (bytes ++ read) (out ++ written) end pass.new) }
     ensures at_end { IfOk result (λ end. IfSome end (λ e. IsByInput e → IsAtEnd (R.unread source.new))) }
+    ensures read { result ≡ Err SessionFault.Read → Keeps (R.unread source.old) (R.unread source.new) × (sink.new ≡ sink.old) × (pass.new ≡ pass.old) }
+    ensures memory { result ≡ Err SessionFault.Memory → ((piece : List ℕ) × Consumes (R.unread source.old) (R.unread source.new) piece)
+        × (sink.new ≡ sink.old) × (pass.new ≡ pass.old) }
+    ensures write { result ≡ Err SessionFault.Write → (begin : Phase) (first : Seen) (bytes out : List ℕ)
+        → HasTalked router_terms (Means W.opening W.limits) begin core.old first bytes out pass.old →
+        (read : List ℕ) × (written : List ℕ)
+        × Consumes (R.unread source.old) (R.unread source.new) read × Appends (S.taken sink.old) (S.taken sink.new) written
+        × HasBrokenOff core.old.framing.limit router_terms (Means W.opening W.limits) begin first (bytes ++ read) (out ++ written) pass.new }
+    ensures source_count { R.failures source.new ≡ read_failures_after result (R.failures source.old) }
+    ensures sink_count { S.failures sink.new ≡ write_failures_after result (S.failures sink.old) }
     ensures limit { core.new.framing.limit ≡ core.old.framing.limit }
     ensures session { pass.new.session ≡ pass.old.session }
 {
@@ -66,37 +83,8 @@ fn serve_piece<W: World + Send + Sync, J: Naming + Send + Sync, G: Gate, R: Sour
     core.feed(rt, alloc, engine, pass, &buffer[..n], sink)
 }
 
-/// Reads the input piece by piece, and answers it, until the session ends.
-fn serve_pieces<W: World + Send + Sync, J: Naming + Send + Sync, G: Gate, R: Source, S: Sink>(
-    rt: &(impl Threads + Wait + Sync),
-    alloc: Global,
-    engine: &Engine<W, J, G>,
-    pass: &mut Pass<ShardLaw<W>, J>,
-    core: &mut Core,
-    buffer: &mut [u8],
-    source: &mut R,
-    sink: &mut S,
-) -> Result<End, SessionFault>
-    requires room { 0 < length buffer.old }
-    requires limit { core.old.framing.limit ≡ COMMAND_LIMIT }
-    requires begins { HasTalked (Means W.opening W.limits) core.old pass.old [] [] pass.old }
-    requires session { IsSome pass.old.session }
-    ensures talk { IfOk result (λ end. (read : List ℕ) × (written : List ℕ)
-        × Consumes (R.unread source.old) (R.unread source.new) read × Appends (S.taken sink.old) (S.taken sink.new) written
-        × Talk COMMAND_LIMIT (Means W.opening W.limits) pass.old read written end pass.new) }
-    ensures at_end { IfOk result (λ end. IsByInput end → IsAtEnd (R.unread source.new)) }
-    ensures session { pass.new.session ≡ pass.old.session }
-{
-    for _ in 0..u64::MAX {
-        if let Some(end) = serve_piece(rt, alloc, engine, pass, core, buffer, source, sink)? {
-            return Ok(end);
-        }
-    }
-    Err(SessionFault::Read)
-}
-
 /// Serves one connection from its command phase on, until it ends: reads commands from the source, and writes their replies to
-/// the sink. A source that gave 2^64 - 1 pieces counts as failed.
+/// the sink.
 pub fn serve<W: World + Send + Sync, J: Naming + Send + Sync, G: Gate, R: Source, S: Sink>(
     rt: &(impl Threads + Wait + Sync),
     alloc: Global,
@@ -112,14 +100,29 @@ pub fn serve<W: World + Send + Sync, J: Naming + Send + Sync, G: Gate, R: Source
     // over what the run leaves at a look of the pass, each behind the one before.
     ensures talk { IfOk result (λ end. (read : List ℕ) × (written : List ℕ)
         × Consumes (R.unread source.old) (R.unread source.new) read × Appends (S.taken sink.old) (S.taken sink.new) written
-        × Talk COMMAND_LIMIT (Means W.opening W.limits) pass.old read written end pass.new) }
+        × Talk COMMAND_LIMIT router_terms (Means W.opening W.limits) (Phase.Commands capabilities) pass.old read written end pass.new) }
     // Where no other session came between, it is one over one database, which knows no shards: each outcome is one that its text has
     // over the rows that the commands before it left.
     ensures alone { IfOk result (λ end. NoOthers pass.old pass.new → (read : List ℕ) × (written : List ℕ)
         × Consumes (R.unread source.old) (R.unread source.new) read × Appends (S.taken sink.old) (S.taken sink.new) written
-        × Talk COMMAND_LIMIT (MeansAlone W.opening W.limits) pass.old read written end pass.new) }
+        × Talk COMMAND_LIMIT router_terms (MeansAlone W.opening W.limits) (Phase.Commands capabilities) pass.old read written end pass.new) }
     // It ends before the end of the input only by a command or a fault.
     ensures at_end { IfOk result (λ end. IsByInput end → IsAtEnd (R.unread source.new)) }
+    // Where the source failed, each payload that was read whole is answered, and nothing else was written.
+    ensures read { result ≡ Err SessionFault.Read → (read : List ℕ) × (written : List ℕ)
+        × Consumes (R.unread source.old) (R.unread source.new) read × Appends (S.taken sink.old) (S.taken sink.new) written
+        × IsUnfinished COMMAND_LIMIT router_terms (Means W.opening W.limits) (Phase.Commands capabilities) pass.old read written pass.new }
+    // A piece that was read and for which there is no memory counts as not read.
+    ensures memory { result ≡ Err SessionFault.Memory → (read : List ℕ) × (piece : List ℕ) × (written : List ℕ)
+        × Consumes (R.unread source.old) (R.unread source.new) (read ++ piece) × Appends (S.taken sink.old) (S.taken sink.new) written
+        × IsUnfinished COMMAND_LIMIT router_terms (Means W.opening W.limits) (Phase.Commands capabilities) pass.old read written pass.new }
+    // Where the sink failed, a front of the payloads is answered, each once, and the sink took a front of the replies.
+    ensures write { result ≡ Err SessionFault.Write → (read : List ℕ) × (written : List ℕ)
+        × Consumes (R.unread source.old) (R.unread source.new) read × Appends (S.taken sink.old) (S.taken sink.new) written
+        × HasBrokenOff COMMAND_LIMIT router_terms (Means W.opening W.limits) (Phase.Commands capabilities) pass.old read written pass.new }
+    // That a device failed is told exactly where it did, in this call.
+    ensures source_count { R.failures source.new ≡ read_failures_after result (R.failures source.old) }
+    ensures sink_count { S.failures sink.new ≡ write_failures_after result (S.failures sink.old) }
     // Whatever happened, the pass is still its session's.
     ensures session { pass.new.session ≡ pass.old.session }
 {
@@ -130,14 +133,21 @@ pub fn serve<W: World + Send + Sync, J: Naming + Send + Sync, G: Gate, R: Source
     let Ok(mut buffer) = zeroed(alloc, PIECE) else {
         return Err(SessionFault::Memory);
     };
-    serve_pieces(
-        rt,
-        alloc,
-        engine,
-        pass,
-        &mut core,
-        &mut buffer,
-        source,
-        sink,
-    )
+    for _ in rt.forever() {
+        match serve_piece(
+            rt,
+            alloc,
+            engine,
+            pass,
+            &mut core,
+            &mut buffer,
+            source,
+            sink,
+        ) {
+            Ok(None) => {}
+            Ok(Some(end)) => return Ok(end),
+            Err(fault) => return Err(fault),
+        }
+    }
+    unreachable!()
 }

@@ -8,8 +8,10 @@ mod devices;
 mod end;
 mod reply;
 mod session_core;
+mod standing;
 
 pub use command_phase::serve;
 pub use devices::{DeviceFailed, Reader, Sink, Source, Writer};
 pub use end::{End, SessionFault};
 pub use session_core::{COMMAND_LIMIT, Core};
+pub use standing::{Phase, Standing};

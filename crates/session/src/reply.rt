@@ -1,16 +1,16 @@
-ghost use Rattle.std.specs.Prelude.{◌≡◌, ◌+◌, ◌≤◌, ◌⊎◌, [], ◌∷◌, length, IsSome, IfOk, IfErr, Option};
+ghost use Rattle.std.specs.Prelude.{◌≡◌, ◌+◌, ◌≤◌, ◌⊎◌, [], length, IsSome, IfOk, IfErr, Option};
 ghost use Rattle.mysql_message.specs.Messages.{autocommit};
 ghost use Rattle.mysql_packet.specs.Frames.{frame};
 ghost use Rattle.mysql_message.specs.Messages.{ok_payload, err_payload};
 ghost use Rattle.resultset.specs.declared.Outcome.{Outcome};
 ghost use Rattle.resultset.specs.Encoding.{encoded};
-ghost use Rattle.session.specs.declared.end.End.{End};
 ghost use Rattle.session.specs.Columns.{AreColumns};
-ghost use Rattle.session.specs.Outcomes.{Means, Shows, HasRows, IsRows};
-ghost use Rattle.session.specs.Talk.{Replies};
+ghost use Rattle.session.specs.Outcomes.{Means, Shows, HasRows, IsRows, router_terms};
+ghost use Rattle.session.specs.Talk.{Answers};
 
 use crate::columns::columns_of;
 use crate::end::End;
+use crate::standing::{Phase, Standing, first_number};
 use bytes::BytesMut;
 use journal::{Naming, Pass};
 use mysql_message::{Command, put_err, put_ok, read_command};
@@ -127,39 +127,65 @@ fn put_outcome(alloc: Global, outcome: &Outcome, number: u8, reply: &mut BytesMu
     }
 }
 
-/// The reply to one command, and the end of the session, if it ends it.
-pub fn put_reply<W: World + Send + Sync, J: Naming + Send + Sync, G: Gate>(
+/// The reply to a command whose numbers are right, and how the session then stands.
+fn put_command<W: World + Send + Sync, J: Naming + Send + Sync, G: Gate>(
     rt: &(impl Threads + Wait + Sync),
     alloc: Global,
     engine: &Engine<W, J, G>,
     pass: &mut Pass<ShardLaw<W>, J>,
+    capabilities: u32,
     payload: &Payload,
     reply: &mut BytesMut,
-) -> Option<End>
+) -> Standing
     requires empty { reply.old.items ≡ [] }
     requires room { REPLY_ROOM ≤ reply.old.spare }
     requires session { IsSome pass.old.session }
-    ensures replies { Replies (Means W.opening W.limits) pass.old (payload.now ∷ []) reply.new.items result pass.new }
+    requires number { payload.now.first ≡ 0 }
+    ensures answers { Answers router_terms (Means W.opening W.limits) (Phase.Commands capabilities) pass.old payload.now reply.new.items result pass.new }
     ensures room { REPLY_ROOM ≤ length reply.new.items + reply.new.spare }
     ensures session { pass.new.session ≡ pass.old.session }
 {
-    if payload.first != 0 {
-        put_refusal(
-            payload.first.wrapping_add(1),
-            Refusal::PacketsOutOfOrder,
-            reply,
-        );
-        return Some(End::Broken);
-    }
     let number = payload.last.wrapping_add(1);
     match read_command(payload.bytes.as_slice()) {
         Err(refusal) => put_refusal(number, refusal, reply),
-        Ok(Command::Quit) => return Some(End::Quit),
+        Ok(Command::Quit) => return Standing::Ended(End::Quit),
         Ok(Command::Ping) => put_pong(number, reply),
         Ok(Command::Query(text)) => {
             let outcome = outcome_of(rt, alloc, engine, pass, text);
             put_outcome(alloc, &outcome, number, reply);
         }
     }
-    None
+    Standing::At(Phase::Commands(capabilities))
+}
+
+/// What is written for one payload in the phase, and how the session then stands.
+pub fn put_reply<W: World + Send + Sync, J: Naming + Send + Sync, G: Gate>(
+    rt: &(impl Threads + Wait + Sync),
+    alloc: Global,
+    engine: &Engine<W, J, G>,
+    pass: &mut Pass<ShardLaw<W>, J>,
+    phase: Phase,
+    payload: &Payload,
+    reply: &mut BytesMut,
+) -> Standing
+    requires empty { reply.old.items ≡ [] }
+    requires room { REPLY_ROOM ≤ reply.old.spare }
+    requires session { IsSome pass.old.session }
+    ensures answers { Answers router_terms (Means W.opening W.limits) phase pass.old payload.now reply.new.items result pass.new }
+    ensures room { REPLY_ROOM ≤ length reply.new.items + reply.new.spare }
+    ensures session { pass.new.session ≡ pass.old.session }
+{
+    if payload.first != first_number(phase) {
+        put_refusal(
+            payload.first.wrapping_add(1),
+            Refusal::PacketsOutOfOrder,
+            reply,
+        );
+        return Standing::Ended(End::Broken);
+    }
+    match phase {
+        Phase::Commands(capabilities) => {
+            put_command(rt, alloc, engine, pass, capabilities, payload, reply)
+        }
+    }
 }

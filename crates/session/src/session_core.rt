@@ -1,17 +1,20 @@
-ghost use Rattle.std.specs.Prelude.{◌≡◌, ℕ, ◌+◌, ◌≤◌, true, false, List, length, IsSome, IfOk, IfErr, OnErr, ◌⊎◌};
+ghost use Rattle.std.specs.Prelude.{◌≡◌, ℕ, ◌+◌, ◌≤◌, true, false, List, length, Err, IsSome, IfOk, IfErr, ◌⊎◌};
 ghost use Rattle.std.specs.Io.KnownBytes.{Appends};
 ghost use Rattle.mysql_packet.specs.declared.framer.Fed.{Fed};
 ghost use Rattle.vschema.specs.WellFormed.{is_vschema};
 ghost use Rattle.journal.specs.Runs.{IsLegal};
 ghost use Rattle.shard_run.specs.Openings.{IsOpening};
 ghost use Rattle.shard.specs.Shards.{MayFollow};
-ghost use Rattle.session.specs.Outcomes.{Means};
+ghost use Rattle.session.specs.Devices.{write_failures_after};
+ghost use Rattle.session.specs.Faults.{IsCutOff};
+ghost use Rattle.session.specs.Outcomes.{Means, router_terms};
 ghost use Rattle.session.specs.Sessions.{AnswersFed, FedBy};
 
 use crate::answers::answer_fed;
 use crate::devices::Sink;
 use crate::end::{End, SessionFault};
 use crate::reply::REPLY_ROOM;
+use crate::standing::{Phase, Standing, end_of};
 use bytes::BytesMut;
 use journal::{Naming, Pass};
 use mysql_packet::Framer;
@@ -39,21 +42,26 @@ pub fn begins_with<W: World + Send + Sync, J: Naming + Send + Sync, G: Gate>(
     let _ = pass.session();
 }
 
-/// The replies to a piece of the input.
+/// The replies to a piece of the input, from the phase on, and how the session then stands.
 fn feed_parts<W: World + Send + Sync, J: Naming + Send + Sync, G: Gate, S: Sink>(
     rt: &(impl Threads + Wait + Sync),
     alloc: Global,
     engine: &Engine<W, J, G>,
     pass: &mut Pass<ShardLaw<W>, J>,
+    phase: Phase,
     piece: &[u8],
     framer: &mut Framer,
     reply: &mut BytesMut,
     sink: &mut S,
-) -> Result<Option<End>, SessionFault>
+) -> Result<Standing, SessionFault>
     requires room { REPLY_ROOM ≤ length reply.old.items + reply.old.spare }
     requires session { IsSome pass.old.session }
-    ensures answers { IfOk result (λ end. (fed : Fed) × FedBy framer.old framer.new piece.now fed × ((out : List ℕ)
-        × Appends (S.taken sink.old) (S.taken sink.new) out × AnswersFed (Means W.opening W.limits) pass.old fed out end pass.new)) }
+    ensures answers { IfOk result (λ standing. (fed : Fed) × FedBy framer.old framer.new piece.now fed × ((out : List ℕ)
+        × Appends (S.taken sink.old) (S.taken sink.new) out × AnswersFed router_terms (Means W.opening W.limits) phase pass.old fed out standing pass.new)) }
+    ensures write { result ≡ Err SessionFault.Write → (fed : Fed) × FedBy framer.old framer.new piece.now fed × ((written : List ℕ)
+        × Appends (S.taken sink.old) (S.taken sink.new) written × IsCutOff router_terms (Means W.opening W.limits) phase pass.old fed written pass.new) }
+    ensures memory { result ≡ Err SessionFault.Memory → (pass.new ≡ pass.old) × (sink.new ≡ sink.old) × (framer.new ≡ framer.old) }
+    ensures count { S.failures sink.new ≡ write_failures_after result (S.failures sink.old) }
     ensures limit { framer.new.limit ≡ framer.old.limit }
     ensures room { REPLY_ROOM ≤ length reply.new.items + reply.new.spare }
     ensures cause { IfErr result (λ e. (e ≡ SessionFault.Memory) ⊎ (e ≡ SessionFault.Write)) }
@@ -62,20 +70,19 @@ fn feed_parts<W: World + Send + Sync, J: Naming + Send + Sync, G: Gate, S: Sink>
     let Ok(fed) = framer.feed(piece) else {
         return Err(SessionFault::Memory);
     };
-    match answer_fed(rt, alloc, engine, pass, &fed, reply, sink) {
-        Ok(end) => Ok(end),
+    match answer_fed(rt, alloc, engine, pass, phase, &fed, reply, sink) {
+        Ok(standing) => Ok(standing),
         Err(_) => Err(SessionFault::Write),
     }
 }
 
-/// A session, without the devices that its bytes come from and go to. Contracts see what it knows of its input, and how it ended.
+/// A session, without the devices that its bytes come from and go to. Contracts see what it knows of its input, and how it stands.
 #[derive(Drop)]
 pub struct Core {
     framer: Framer,
     reply: BytesMut,
-    ended: Option<End>,
+    standing: Standing,
     id: u32,
-    capabilities: u32,
 }
 
 impl Model for Core {
@@ -85,9 +92,9 @@ impl Model for Core {
 
     ghost Value = { SessionState };
 
-    ghost view = { λ c. record { id = c.id; capabilities = c.capabilities; framing = c.framer; ended = c.ended } };
+    ghost view = { λ c. record { id = c.id; framing = c.framer; standing = c.standing } };
 
-    // The refusal of a command always has room.
+    // The refusal of a payload always has room.
     ghost invariant = { λ c. REPLY_ROOM ≤ length c.reply.items + c.reply.spare };
 }
 
@@ -102,25 +109,17 @@ fn end_between(is_between_payloads: bool) -> End
     }
 }
 
-/// How a session stands after a piece.
-fn ended_by(answer: Result<Option<End>, SessionFault>) -> Option<End>
-    ensures ok { IfOk answer (λ end. result ≡ end) }
-    ensures err { OnErr answer (result ≡ Some End.Broken) }
-{
-    match answer {
-        Ok(end) => end,
-        Err(_) => Some(End::Broken),
-    }
-}
-
 impl Core {
-    ghost use Rattle.std.specs.Prelude.{◌≡◌, ℕ, List, [], ◌++◌, None, Some, Ok, IsSome, IfOk, IfErr, IfSome, OnErr, ◌⊎◌};
+    ghost use Rattle.std.specs.Prelude.{◌≡◌, ℕ, List, [], ◌++◌, None, Some, Ok, Err, IsSome, IfOk, IfErr, IfSome, OnErr, ◌⊎◌};
     ghost use Rattle.std.specs.Io.KnownBytes.{Appends};
     ghost use Rattle.shard_run.specs.Runs.{Opening};
     ghost use Rattle.shard.specs.declared.limits.Limits.{Limits};
     ghost use Rattle.route_engine.specs.Alone.{NoOthers};
     ghost use Rattle.session.specs.Alone.{MeansAlone};
-    ghost use Rattle.session.specs.Outcomes.{Means, Seen};
+    ghost use Rattle.session.specs.Devices.{write_failures_after};
+    ghost use Rattle.session.specs.Faults.{HasBrokenOff};
+    ghost use Rattle.session.specs.Outcomes.{Means, Seen, router_terms};
+    ghost use Rattle.session.specs.Standings.{end_of};
     ghost use Rattle.session.specs.Talk.{Talk, IsByCommand};
     ghost use Rattle.session.specs.Sessions.{HasTalked, HasTalkedOn, IsNext};
 
@@ -128,19 +127,19 @@ impl Core {
     /// capabilities that both sides set. Makes room for the refusal of a command, and refuses only where it can't.
     pub fn commands(alloc: Global, id: u32, capabilities: u32) -> Result<Core, Refusal>
         // Nothing has been read or written.
-        ensures begins { IfOk result (λ core. (o : Opening) (l : Limits) (p : Seen) → HasTalked (Means o l) core p [] [] p) }
+        ensures begins { IfOk result (λ core. (o : Opening) (l : Limits) (p : Seen)
+            → HasTalked router_terms (Means o l) (Phase.Commands capabilities) core p [] [] p) }
+        ensures standing { IfOk result (λ core. core.standing ≡ Standing.At (Phase.Commands capabilities)) }
         ensures limit { IfOk result (λ core. core.framing.limit ≡ COMMAND_LIMIT) }
         ensures id { IfOk result (λ core. core.id ≡ id) }
-        ensures capabilities { IfOk result (λ core. core.capabilities ≡ capabilities) }
         ensures err { IfErr result (λ e. e ≡ Refusal.OutOfMemory) }
     {
         let reply = BytesMut::with_capacity(alloc, REPLY_ROOM)?;
         Ok(Core {
             framer: Framer::new(alloc, COMMAND_LIMIT),
             reply,
-            ended: None,
+            standing: Standing::At(Phase::Commands(capabilities)),
             id,
-            capabilities,
         })
     }
 
@@ -151,27 +150,28 @@ impl Core {
         self.id
     }
 
-    /// The capabilities that both sides set.
-    pub fn capabilities(&self) -> u32
-        ensures { result ≡ self.now.capabilities }
+    /// How the session stands.
+    pub fn standing(&self) -> Standing
+        ensures { result ≡ self.now.standing }
     {
-        self.capabilities
+        self.standing
     }
 
     /// How the session ends where its input ends here, unless it has ended before: between two payloads, or within one.
     pub fn end_of_input(&self) -> End
-        ensures ended { IfSome self.now.ended (λ end. result ≡ end) }
+        ensures ended { IfSome (end_of self.now.standing) (λ end. result ≡ end) }
         // The conversation is then whole.
-        ensures whole { (o : Opening) (l : Limits) (first now : Seen) (bytes out : List ℕ) → HasTalked (Means o l) self.now first bytes out now →
-            Talk self.now.framing.limit (Means o l) first bytes out result now }
+        ensures whole { (o : Opening) (l : Limits) (begin : Phase) (first now : Seen) (bytes out : List ℕ)
+            → HasTalked router_terms (Means o l) begin self.now first bytes out now
+            → Talk self.now.framing.limit router_terms (Means o l) begin first bytes out result now }
     {
-        match self.ended {
-            Some(end) => end,
-            None => end_between(self.framer.is_between_payloads()),
+        match self.standing {
+            Standing::Ended(end) => end,
+            Standing::At(_) => end_between(self.framer.is_between_payloads()),
         }
     }
 
-    /// Takes the next piece of the input, and writes the replies to the commands that it completes, each once it is known
+    /// Takes the next piece of the input, and writes the replies to the payloads that it completes, each once it is known
     /// whole. `None` says that the session goes on. A session that has ended takes nothing and writes nothing, and tells
     /// again how it ended: after a fault as `End::Broken`.
     pub fn feed<W: World + Send + Sync, J: Naming + Send + Sync, G: Gate, S: Sink>(
@@ -186,37 +186,57 @@ impl Core {
         requires session { IsSome pass.old.session }
         // However the input was cut before: of the bytes so far exactly the conversation over them has been written, where each
         // query has an outcome that its text may have over what the run leaves at a look of the pass, each behind the one before.
-        ensures talk { IfOk result (λ end. (first : Seen) (bytes out : List ℕ) → HasTalked (Means W.opening W.limits) self.old first bytes out pass.old →
+        ensures talk { IfOk result (λ end. (begin : Phase) (first : Seen) (bytes out : List ℕ)
+            → HasTalked router_terms (Means W.opening W.limits) begin self.old first bytes out pass.old →
             (written : List ℕ) × Appends (S.taken sink.old) (S.taken sink.new) written
-            × HasTalkedOn (Means W.opening W.limits) self.new first (bytes ++ piece.now) (out ++ written) end pass.new) }
+            × HasTalkedOn router_terms (Means W.opening W.limits) begin self.new first (bytes ++ piece.now) (out ++ written) end pass.new) }
         // Where no other session comes between, a conversation over one database goes on over it.
-        ensures alone { IfOk result (λ end. (first : Seen) (bytes out : List ℕ) → HasTalked (MeansAlone W.opening W.limits) self.old first bytes out pass.old →
+        ensures alone { IfOk result (λ end. (begin : Phase) (first : Seen) (bytes out : List ℕ)
+            → HasTalked router_terms (MeansAlone W.opening W.limits) begin self.old first bytes out pass.old →
             NoOthers pass.old pass.new → (written : List ℕ) × Appends (S.taken sink.old) (S.taken sink.new) written
-            × HasTalkedOn (MeansAlone W.opening W.limits) self.new first (bytes ++ piece.now) (out ++ written) end pass.new) }
-        ensures ended { IfOk result (λ end. self.new.ended ≡ end) }
+            × HasTalkedOn router_terms (MeansAlone W.opening W.limits) begin self.new first (bytes ++ piece.now) (out ++ written) end pass.new) }
+        ensures ended { IfOk result (λ end. end_of self.new.standing ≡ end) }
         // A piece ends no session as the end of the input does.
-        ensures by_command { self.old.ended ≡ None → IfOk result (λ end. IfSome end IsByCommand) }
-        ensures fault { OnErr result (self.new.ended ≡ Some End.Broken) }
+        ensures by_command { end_of self.old.standing ≡ None → IfOk result (λ end. IfSome end IsByCommand) }
+        ensures fault { OnErr result (self.new.standing ≡ Standing.Ended End.Broken) }
         ensures cause { IfErr result (λ e. (e ≡ SessionFault.Memory) ⊎ (e ≡ SessionFault.Write)) }
-        ensures again { IfSome self.old.ended (λ end. (result ≡ Ok (Some end)) × (self.new ≡ self.old) × (sink.new ≡ sink.old) × (pass.new ≡ pass.old)) }
+        // A piece for which there is no memory counts as not fed.
+        ensures memory { result ≡ Err SessionFault.Memory → (pass.new ≡ pass.old) × (sink.new ≡ sink.old) × (self.new.framing ≡ self.old.framing) }
+        // Where the sink failed, a front of the payloads is answered, each once, and the sink took a front of the replies.
+        ensures write { result ≡ Err SessionFault.Write → (begin : Phase) (first : Seen) (bytes out : List ℕ)
+            → HasTalked router_terms (Means W.opening W.limits) begin self.old first bytes out pass.old →
+            (written : List ℕ) × Appends (S.taken sink.old) (S.taken sink.new) written
+            × HasBrokenOff self.old.framing.limit router_terms (Means W.opening W.limits) begin first (bytes ++ piece.now) (out ++ written) pass.new }
+        // That the sink failed is told exactly where it did, in this call.
+        ensures count { S.failures sink.new ≡ write_failures_after result (S.failures sink.old) }
+        ensures again { IfSome (end_of self.old.standing) (λ end. (result ≡ Ok (Some end)) × (self.new ≡ self.old) × (sink.new ≡ sink.old) × (pass.new ≡ pass.old)) }
         ensures next { IsNext self.old self.new }
         ensures session { pass.new.session ≡ pass.old.session }
     {
-        if let Some(end) = self.ended {
-            return Ok(Some(end));
-        }
+        let phase = match self.standing {
+            Standing::Ended(end) => return Ok(Some(end)),
+            Standing::At(phase) => phase,
+        };
         begins_with(engine, pass);
-        let result = feed_parts(
+        match feed_parts(
             rt,
             alloc,
             engine,
             pass,
+            phase,
             piece,
             &mut self.framer,
             &mut self.reply,
             sink,
-        );
-        self.ended = ended_by(result);
-        result
+        ) {
+            Ok(standing) => {
+                self.standing = standing;
+                Ok(end_of(standing))
+            }
+            Err(fault) => {
+                self.standing = Standing::Ended(End::Broken);
+                Err(fault)
+            }
+        }
     }
 }

@@ -29,13 +29,13 @@ fn words<R: Env + AllocGlobal>(rt: &R, alloc: Global) -> io::Result<Vec<String>>
 }
 
 fn main(rt: HostRuntime) -> ExitCode {
-    let mut errors = Writer(rt.stderr());
+    let mut errors = Writer::new(rt.stderr());
     let Ok(words) = words(&rt, rt.alloc()) else {
         let _ = errors.write(FAILED);
         return ExitCode::from(FAILURE);
     };
-    let mut input = Reader(rt.stdin());
-    let mut output = Writer(rt.stdout());
+    let mut input = Reader::new(rt.stdin());
+    let mut output = Writer::new(rt.stdout());
     let status = run(
         &rt,
         rt.alloc(),

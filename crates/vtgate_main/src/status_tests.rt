@@ -37,15 +37,15 @@ fn leaves<R: Threads + Wait + Sync>(
     wanted: Left,
 ) -> Result<bool, Fail> {
     let given = words_of(alloc, words)?;
-    let mut input = Reader(input);
-    let mut output = Writer(Vec::new(alloc));
-    let mut errors = Writer(Vec::new(alloc));
+    let mut input = Reader::new(input);
+    let mut output = Writer::new(Vec::new(alloc));
+    let mut errors = Writer::new(Vec::new(alloc));
     let status = run(rt, alloc, &given, &mut input, &mut output, &mut errors);
     let (wanted_status, wanted_output, told) = wanted;
     Ok(
         status == wanted_status
-            && output.0.as_slice() == wanted_output
-            && errors.0.as_slice() == told,
+            && output.writer.as_slice() == wanted_output
+            && errors.writer.as_slice() == told,
     )
 }
 
@@ -162,15 +162,22 @@ fn fails<R: Threads + Wait + Sync, I: Source, O: Sink>(
     output: &mut O,
 ) -> Result<bool, Fail> {
     let words = words_of(alloc, &["script", "-80,80-"])?;
-    let mut errors = Writer(Vec::new(alloc));
+    let mut errors = Writer::new(Vec::new(alloc));
     let status = run(rt, alloc, &words, input, output, &mut errors);
-    Ok(status == 1 && errors.0.as_slice() == b"failed\n".as_slice())
+    Ok(status == 1 && errors.writer.as_slice() == b"failed\n".as_slice())
 }
 
 #[test]
 fn a_failing_source_ends_a_script(rt: HostRuntime) -> Result<(), Fail> {
-    let mut output = FailingSink { writes_left: 1 };
-    assert!(rt; fails(&rt, rt.alloc(), &mut FailingSource(BOTH), &mut output)?);
+    let mut output = FailingSink {
+        writes_left: 1,
+        failures: 0,
+    };
+    let mut input = FailingSource {
+        unread: BOTH,
+        failures: 0,
+    };
+    assert!(rt; fails(&rt, rt.alloc(), &mut input, &mut output)?);
     assert_eq!(rt; output.writes_left, 1);
     Ok(())
 }
@@ -181,8 +188,11 @@ const THREE_LINES: &[u8] =
 
 #[test]
 fn a_failing_sink_ends_a_script(rt: HostRuntime) -> Result<(), Fail> {
-    let mut output = FailingSink { writes_left: 2 };
-    assert!(rt; fails(&rt, rt.alloc(), &mut Reader(THREE_LINES), &mut output)?);
+    let mut output = FailingSink {
+        writes_left: 2,
+        failures: 0,
+    };
+    assert!(rt; fails(&rt, rt.alloc(), &mut Reader::new(THREE_LINES), &mut output)?);
     assert_eq!(rt; output.writes_left, 0);
     Ok(())
 }

@@ -95,10 +95,13 @@ fn talk_opened<J: Naming + Send + Sync>(
     requires { opened ≡ J.table }
 {
     let (engine, mut pass) = first_router::<J>(alloc, opened).ok().ok_or("no memory")?;
-    let mut source = Reader(input);
-    let mut sink = Writer(Vec::new(alloc));
+    let mut source = Reader::new(input);
+    let mut sink = Writer::new(Vec::new(alloc));
     let end = serve(rt, alloc, &engine, &mut pass, 1, 0, &mut source, &mut sink);
-    let Writer(written) = sink;
+    let Writer {
+        writer: written,
+        failures: _,
+    } = sink;
     Ok((written, end))
 }
 
@@ -303,14 +306,14 @@ fn tells_its_usage<R: Abort + Threads + Wait + Sync>(
     alloc: Global,
     words: &[String],
 ) -> Result<(), Fail> {
-    let mut input = Reader(PING);
-    let mut output = Writer(Vec::new(alloc));
-    let mut errors = Writer(Vec::new(alloc));
+    let mut input = Reader::new(PING);
+    let mut output = Writer::new(Vec::new(alloc));
+    let mut errors = Writer::new(Vec::new(alloc));
     let status = run(rt, alloc, words, &mut input, &mut output, &mut errors);
     assert_eq!(rt; status, 2);
-    assert_eq!(rt; output.0.as_slice(), b"".as_slice());
+    assert_eq!(rt; output.writer.as_slice(), b"".as_slice());
     assert_eq!(rt;
-        errors.0.as_slice(),
+        errors.writer.as_slice(),
         b"usage: vtgate serve|plan|script\n".as_slice()
     );
     Ok(())
@@ -336,13 +339,13 @@ fn serves_first<R: Abort + Threads + Wait + Sync>(
     replies: &[u8],
 ) -> Result<(), Fail> {
     let words = vec![in alloc; String::from_str(alloc, "first")?]?;
-    let mut input = Reader(input);
-    let mut output = Writer(Vec::new(alloc));
-    let mut errors = Writer(Vec::new(alloc));
+    let mut input = Reader::new(input);
+    let mut output = Writer::new(Vec::new(alloc));
+    let mut errors = Writer::new(Vec::new(alloc));
     let status = run(rt, alloc, &words, &mut input, &mut output, &mut errors);
     assert_eq!(rt; status, 0);
-    assert_eq!(rt; output.0.as_slice(), replies);
-    assert_eq!(rt; errors.0.as_slice(), b"".as_slice());
+    assert_eq!(rt; output.writer.as_slice(), replies);
+    assert_eq!(rt; errors.writer.as_slice(), b"".as_slice());
     Ok(())
 }
 

@@ -4,7 +4,9 @@ use crate::tests::{PING, PONG, QUIT, open, query, talk};
 use first_world::{First, first_router};
 use journal::{Naming, Opened, Pass};
 use route_engine::{Engine, Open};
-use session::{Core, DeviceFailed, End, SessionFault, Sink, Source, Writer, serve};
+use session::{
+    Core, DeviceFailed, End, Phase, SessionFault, Sink, Source, Standing, Writer, serve,
+};
 use shard::ShardLaw;
 use std::alloc::Global;
 use std::marker::Brand;
@@ -69,13 +71,16 @@ fn feed_bytes<J: Naming + Send + Sync, R: Abort + Threads + Wait + Sync>(
     let (whole, _) = talk(rt, alloc, &input)?;
     let mut core = Core::commands(alloc, 7, 0).ok().ok_or("no memory")?;
     assert_eq!(rt; core.id(), 7);
-    assert_eq!(rt; core.capabilities(), 0);
-    let mut sink = Writer(Vec::new(alloc));
+    assert_eq!(rt; core.standing(), Standing::At(Phase::Commands(0)));
+    let mut sink = Writer::new(Vec::new(alloc));
     let (engine, pass) = first_router::<J>(alloc, opened).ok().ok_or("no memory")?;
     let ends = feed_each(rt, alloc, &engine, pass, &mut core, &input, &mut sink)?;
     assert_eq!(rt; ends, 6);
     assert_eq!(rt; core.end_of_input(), End::Quit);
-    let Writer(written) = sink;
+    let Writer {
+        writer: written,
+        failures: _,
+    } = sink;
     assert_eq!(rt; written.as_slice(), whole.as_slice());
     Ok(())
 }
@@ -88,19 +93,27 @@ fn pieces_of_one_byte_give_the_same_replies(rt: HostRuntime) -> Result<(), Fail>
 
 /// A source that fails once its bytes are read.
 #[derive(Drop)]
-pub(crate) struct FailingSource<'a>(pub(crate) &'a [u8]);
+pub(crate) struct FailingSource<'a> {
+    pub(crate) unread: &'a [u8],
+    pub(crate) failures: u64,
+}
 
 impl Source for FailingSource<'_> {
     ghost unread = { λ _. None };
 
+    ghost failures = { λ s. s.failures };
+
     fn read(&mut self, buffer: &mut [u8]) -> Result<usize, DeviceFailed> {
-        match (self.0, buffer) {
+        match (self.unread, buffer) {
             ([first, rest @ ..], [place, ..]) => {
                 *place = *first;
-                self.0 = rest;
+                self.unread = rest;
                 Ok(1)
             }
-            _ => Err(DeviceFailed),
+            _ => {
+                self.failures = self.failures.wrapping_add(1);
+                Err(DeviceFailed)
+            }
         }
     }
 }
@@ -109,13 +122,17 @@ impl Source for FailingSource<'_> {
 #[derive(Drop)]
 pub(crate) struct FailingSink {
     pub(crate) writes_left: u32,
+    pub(crate) failures: u64,
 }
 
 impl Sink for FailingSink {
     ghost taken = { λ _. None };
 
+    ghost failures = { λ s. s.failures };
+
     fn write(&mut self, _bytes: &[u8]) -> Result<(), DeviceFailed> {
         if self.writes_left == 0 {
+            self.failures = self.failures.wrapping_add(1);
             return Err(DeviceFailed);
         }
         self.writes_left -= 1;
@@ -131,11 +148,15 @@ fn fail_source<J: Naming + Send + Sync, R: Abort + Threads + Wait + Sync>(
 ) -> Result<(), Fail>
     requires { IsSome pass.old.session }
 {
-    let mut source = FailingSource(PING);
-    let mut sink = Writer(Vec::new(alloc));
+    let mut source = FailingSource {
+        unread: PING,
+        failures: 0,
+    };
+    let mut sink = Writer::new(Vec::new(alloc));
     let end = serve(rt, alloc, engine, pass, 1, 0, &mut source, &mut sink);
     assert_eq!(rt; end, Err(SessionFault::Read));
-    assert_eq!(rt; sink.0.as_slice(), PONG);
+    assert_eq!(rt; source.failures, 1);
+    assert_eq!(rt; sink.writer.as_slice(), PONG);
     Ok(())
 }
 
@@ -148,11 +169,15 @@ fn fail_sink<J: Naming + Send + Sync, R: Abort + Threads + Wait + Sync>(
     requires { IsSome pass.old.session }
 {
     let mut core = Core::commands(alloc, 1, 0).ok().ok_or("no memory")?;
-    let mut sink = FailingSink { writes_left: 1 };
+    let mut sink = FailingSink {
+        writes_left: 1,
+        failures: 0,
+    };
     let whole = feed_piece(rt, alloc, engine, pass, &mut core, PING, &mut sink);
     assert_eq!(rt; whole, Ok(None));
     let broken = feed_piece(rt, alloc, engine, pass, &mut core, PING, &mut sink);
     assert_eq!(rt; broken, Err(SessionFault::Write));
+    assert_eq!(rt; sink.failures, 1);
     sink.writes_left = 1;
     let later = feed_piece(rt, alloc, engine, pass, &mut core, PING, &mut sink);
     assert_eq!(rt; later, Ok(Some(End::Broken)));

@@ -1,22 +1,29 @@
-use Rattle.std.proofs.Common.{refl, sym, ◌∙◌}
-use Rattle.session.proofs.Conversations.{nothing_yet, next_reply, all_ended, not_ended}
+use Rattle.std.proofs.Common.{refl, ◌∙◌}
+use Rattle.session.proofs.Conversations.{nothing_yet, next_reply, cut_reply, all_ended, standing_is, on_err}
 use Rattle.session.proofs.answers.answer_all.Goals as goal
 
 pub loop-payload-init : goal.loop-payload-init
-loop-payload-init g c = record { session = refl; room = c.requires.room; replies = nothing_yet _ _ _ }
+loop-payload-init g c = record { session = refl; room = c.requires.room; count = refl; replies = nothing_yet _ _ _ _ _ }
 
-pub returns-then-is_some-clause-replies : goal.returns-then-is_some-clause-replies
-returns-then-is_some-clause-replies g c =
-    all_ended _ _ _ _ _ _ c.args.payloads.now c.in_ok-end.end (sym c.if-is_some.ensures)
-    (next_reply _ _ _ _ _ _ _ c.loop-payload.payload-index c.args.payloads.now c.payload-item.result c.in_ok-end.end c.loop-payload-test.true c.payload-item.is
-    c.loop-payload.invariant.replies c.in_ok-end.ensures.replies)
+pub returns-in_err-next-clause-cut : goal.returns-in_err-next-clause-cut
+returns-in_err-next-clause-cut g c =
+    on_err _ _
+    (cut_reply _ _ _ _ _ _ _ _ _ c.loop-payload.payload-index c.args.payloads.now c.payload-item.result c.loop-payload.phase c.loop-payload-test.true c.payload-item.is
+    c.loop-payload.invariant.replies c.in_err-next.ensures.cut)
+
+pub returns-in-Ended-clause-replies : goal.returns-in-Ended-clause-replies
+returns-in-Ended-clause-replies g c =
+    all_ended _ _ _ _ _ _ _ _ c.args.payloads.now c.in_ok-next.field-0 c.in-Ended.end c.in-Ended.is
+    (next_reply _ _ _ _ _ _ _ _ _ c.loop-payload.payload-index c.args.payloads.now c.payload-item.result c.loop-payload.phase c.in_ok-next.field-0 c.loop-payload-test.true
+    c.payload-item.is c.loop-payload.invariant.replies c.in_ok-next.ensures.answers)
 
 pub loop-payload-preserved : goal.loop-payload-preserved
 loop-payload-preserved g c = record {
-  session = c.in_ok-end.ensures.session ∙ c.loop-payload.invariant.session;
-  room = c.in_ok-end.ensures.room;
+  session = c.in_ok-next.ensures.session ∙ c.loop-payload.invariant.session;
+  room = c.in_ok-next.ensures.room;
+  count = c.in_ok-next.ensures.count ∙ c.loop-payload.invariant.count;
   replies =
-      not_ended _ _ _ _ _ _ _ (sym c.if-is_some.ensures)
-      (next_reply _ _ _ _ _ _ _ c.loop-payload.payload-index c.args.payloads.now c.payload-item.result c.in_ok-end.end c.loop-payload-test.true c.payload-item.is
-      c.loop-payload.invariant.replies c.in_ok-end.ensures.replies);
+      standing_is _ _ _ _ _ _ _ _ c.in_ok-next.field-0 _ c.in-At.is
+      (next_reply _ _ _ _ _ _ _ _ _ c.loop-payload.payload-index c.args.payloads.now c.payload-item.result c.loop-payload.phase c.in_ok-next.field-0 c.loop-payload-test.true
+      c.payload-item.is c.loop-payload.invariant.replies c.in_ok-next.ensures.answers);
 }

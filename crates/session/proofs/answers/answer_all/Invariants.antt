@@ -1,7 +1,8 @@
-use Rattle.std.proofs.Common.{◌≡◌, ℕ, List, ◌+◌, ◌≤◌, length, take, None}
+use Rattle.std.proofs.Common.{◌≡◌, ℕ, List, ◌+◌, ◌≤◌, length, take}
 use Rattle.std.specs.Io.KnownBytes.{Appends}
 use Rattle.session.specs.declared.reply.TheConstants.{REPLY_ROOM}
-use Rattle.session.specs.Outcomes.{Means}
+use Rattle.session.specs.declared.standing.Standing.TheVariants.{At}
+use Rattle.session.specs.Outcomes.{Means, router_terms}
 use Rattle.session.specs.Talk.{Replies}
 use Rattle.session.proofs.answers.answer_all.Given as goal
 
@@ -9,6 +10,7 @@ abbrev pub invariant-loop-payload : goal.invariant-loop-payload
 invariant-loop-payload g l = record {
   session : l.pass.session ≡ l.initial.pass.session;
   room : REPLY_ROOM ≤ length l.reply.items + l.reply.spare;
+  count : g.S.Sink.failures l.sink ≡ g.S.Sink.failures l.initial.sink;
   replies : (out : List ℕ) × Appends (g.S.Sink.taken l.initial.sink) (g.S.Sink.taken l.sink) out
-      × Replies (Means g.W.World.opening g.W.World.limits) l.initial.pass (take l.payload-index l.payloads) out None l.pass;
+      × Replies router_terms (Means g.W.World.opening g.W.World.limits) l.fn.begin l.initial.pass (take l.payload-index l.payloads) out (At l.phase) l.pass;
 }

@@ -7,3 +7,10 @@ returns-in-Ok-answer_fed-clause-answers g c = (
   fed_by c.args.framer.now c.feed.new.self c.args.piece.now c.in-Ok.fed c.in-Ok.ensures.payloads c.in-Ok.ensures.fault c.in-Ok.ensures.limit,
   c.in-Ok-answer_fed.ensures.answers,
 )
+
+pub returns-clause-write : goal.returns-clause-write
+returns-clause-write g c = λ is. (
+  c.in-Ok.fed,
+  fed_by c.args.framer.now c.feed.new.self c.args.piece.now c.in-Ok.fed c.in-Ok.ensures.payloads c.in-Ok.ensures.fault c.in-Ok.ensures.limit,
+  c.in-Err.ensures.cut,
+)

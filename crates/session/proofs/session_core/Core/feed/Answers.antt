@@ -1,17 +1,35 @@
-use Rattle.session.proofs.Alone.{talked_alone}
-use Rattle.session.proofs.Conversations.{talked, ends_by_command}
+use Rattle.std.proofs.Common.{refl}
+use Rattle.session.proofs.Alone.{fed_alone}
+use Rattle.session.proofs.Conversations.{talked_on, broken_off, fed_ends, same_fault}
 use Rattle.session.proofs.session_core.Core.feed.Goals as goal
 
-pub returns-clause-talk : goal.returns-clause-talk
-returns-clause-talk g c =
-    rw (← c.self.view_is)
-    (talked _ _ _ _ _ c.args.piece.now _ _ c.feed_parts-result.result c.feed_parts-result.ensures.answers c.ended_by-self-inside.ensures.ok)
+pub returns-in-Ok-clause-talk : goal.returns-in-Ok-clause-talk
+returns-in-Ok-clause-talk g c =
+    rw (c.end_of.ensures, ← c.self.view_is)
+    (λ begin first bytes out before.
+    let said = c.in-Ok.ensures.answers in
+    (said.2.0, said.2.1, talked_on _ _ _ _ c.args.piece.now said.0 said.1 c.in-At.phase c.in-At.is begin first _ _ bytes out before said.2.0 c.in-Ok.standing refl said.2.2))
 
-pub returns-clause-by_command : goal.returns-clause-by_command
-returns-clause-by_command g c = λ going. ends_by_command _ _ _ _ _ c.args.piece.now _ _ c.feed_parts-result.result c.feed_parts-result.ensures.answers
+pub returns-in-Ok-clause-alone : goal.returns-in-Ok-clause-alone
+returns-in-Ok-clause-alone g c =
+    rw (c.end_of.ensures, ← c.self.view_is)
+    (λ begin first bytes out before alone.
+    let said = c.in-Ok.ensures.answers in (
+      said.2.0,
+      said.2.1,
+      talked_on _ _ _ _ c.args.piece.now said.0 said.1 c.in-At.phase c.in-At.is begin first _ _ bytes out before said.2.0 c.in-Ok.standing refl
+          (fed_alone _ _ _ c.begins_with.ensures.opens c.begins_with.ensures.formed c.in-At.phase _ _ said.0 said.2.0 c.in-Ok.standing c.begins_with.ensures.legal said.2.2 alone),
+    ))
 
-pub returns-clause-alone : goal.returns-clause-alone
-returns-clause-alone g c =
+pub returns-in-Ok-clause-by_command : goal.returns-in-Ok-clause-by_command
+returns-in-Ok-clause-by_command g c =
+    rw c.end_of.ensures
+    (λ going.
+    let said = c.in-Ok.ensures.answers in fed_ends _ _ c.in-At.phase _ _ said.0 said.2.0 c.in-Ok.standing said.2.2)
+
+pub returns-in-Err-clause-write : goal.returns-in-Err-clause-write
+returns-in-Err-clause-write g c =
     rw (← c.self.view_is)
-    (talked_alone _ _ c.begins_with.ensures.opens c.begins_with.ensures.formed _ _ _ _ c.args.piece.now _ _ c.begins_with.ensures.legal c.feed_parts-result.result
-    c.feed_parts-result.ensures.answers c.ended_by-self-inside.ensures.ok)
+    (λ is begin first bytes out before.
+    let said = c.in-Err.ensures.write (same_fault _ _ is) in
+    (said.2.0, said.2.1, broken_off _ _ _ (record c.args.self.now { framing = c.feed_parts.new.framer }) c.args.piece.now said.0 said.1 c.in-At.phase c.in-At.is begin first _ _ bytes out before said.2.0 said.2.2))

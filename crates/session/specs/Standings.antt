@@ -1,0 +1,15 @@
+-- How a session stands.
+use Rattle.std.specs.Prelude.{ℕ, Option, Some, None}
+use Rattle.session.specs.declared.end.End.{End}
+use Rattle.session.specs.declared.standing.Phase.{Phase}
+use Rattle.session.specs.declared.standing.Phase.TheVariants.{Commands}
+use Rattle.session.specs.declared.standing.Standing.{Standing}
+use Rattle.session.specs.declared.standing.Standing.TheVariants.{At, Ended}
+
+-- the sequence number with which the next payload begins
+abbrev pub first_number : Phase → ℕ
+first_number (Commands capabilities) = 0
+
+abbrev pub end_of : Standing → Option End
+end_of (At phase) = None
+end_of (Ended end) = Some end
