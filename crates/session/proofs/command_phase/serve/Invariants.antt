@@ -1,7 +1,7 @@
 use Rattle.std.proofs.Common.{◌≡◌, ℕ, List, None, vec_len}
 use Rattle.std.specs.Io.KnownBytes.{Appends, Consumes}
 use Rattle.session.specs.declared.session_core.TheConstants.{COMMAND_LIMIT}
-use Rattle.session.specs.declared.serving.TheConstants.{PIECE}
+use Rattle.session.specs.declared.command_phase.TheConstants.{PIECE}
 use Rattle.session.specs.declared.standing.Phase.TheVariants.{Commands}
 use Rattle.session.specs.Outcomes.{Means, router_terms}
 use Rattle.session.specs.Sessions.{HasTalked}
