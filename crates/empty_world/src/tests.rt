@@ -7,6 +7,7 @@ ghost use Rattle.empty_opening.specs.Empty.{opening_of, FitRanges};
 
 mod gates;
 mod locks;
+mod waiting;
 
 use crate::empty_router;
 use empty_opening::opening_shards;

@@ -1,0 +1,256 @@
+//! Statements on a shard that takes no commits for a while: queries are answered, and writes wait in the buffer, or find it full.
+ghost use denote.Param.Send.{IsSend, IsSync};
+ghost use Rattle.std.specs.Prelude.{◌≡◌, IsSome, IsTrue};
+ghost use Rattle.vschema.specs.WellFormed.{is_vschema};
+ghost use Rattle.shard.specs.Shards.{most_limits};
+ghost use Rattle.empty_opening.specs.Empty.{opening_of, FitRanges};
+
+use super::gates::told;
+use super::{SHOP, fits, halves};
+use crate::router::opened_shards;
+use buffer::Buffer;
+use journal::{Naming, Opened, Pass};
+use keyrange::KeyRange;
+use route_engine::{Engine, Open};
+use shard::{MOST_ENTRIES, Shard, ShardLaw, World};
+use shard_run::Mode;
+use std::alloc::Global;
+use std::hint::spin_loop;
+use std::marker::Brand;
+use std::sync::{Arc, Wait};
+use std::test::Fail;
+use std::thread::{Threads, join};
+use vschema::VSchema;
+use vt_value::Refusal;
+
+// Rows with even numbers lie on the first shard.
+const FIRST: &[u8] = b"INSERT INTO t (id, c) VALUES (10, 1)";
+
+const SECOND: &[u8] = b"INSERT INTO t (id, c) VALUES (12, 1)";
+
+const OTHER: &[u8] = b"INSERT INTO t (id, c) VALUES (7, 1)";
+
+const ALL: &[u8] = b"SELECT id FROM t";
+
+// From now on the shard takes no commits; false where it serves no more, or has too many entries.
+fn freeze<W: World, J: Naming>(
+    rt: &impl Wait,
+    shard: &Shard<W, J>,
+    pass: &mut Pass<ShardLaw<W>, J>,
+) -> bool
+    ensures { pass.new.session ≡ pass.old.session }
+{
+    let mut state = shard.lock(rt);
+    let entries = state.look(pass);
+    if state.mode() == Mode::Serving && entries < MOST_ENTRIES {
+        state.freeze(pass);
+        return true;
+    }
+    false
+}
+
+// It takes them again.
+fn thaw<W: World, J: Naming>(
+    rt: &impl Wait,
+    shard: &Shard<W, J>,
+    pass: &mut Pass<ShardLaw<W>, J>,
+) -> bool
+    ensures { pass.new.session ≡ pass.old.session }
+{
+    let mut state = shard.lock(rt);
+    let _ = state.look(pass);
+    if state.mode() == Mode::Frozen {
+        state.thaw(pass);
+        return true;
+    }
+    false
+}
+
+// What a frozen shard's statements give where nobody may wait: a query of all rows, a write to it, one to the other shard, and once it is
+// thawed the write again.
+fn without_room<W: World + Send + Sync, J: Naming + Send + Sync>(
+    rt: &(impl Threads + Wait + Sync),
+    alloc: Global,
+    schema: VSchema,
+    ranges: &[KeyRange],
+    opened: Opened<ShardLaw<W>>,
+) -> Result<(Option<u64>, Result<u64, Refusal>, u64, u64), Refusal>
+    requires opened { opened ≡ J.table }
+    requires opening { W.opening ≡ opening_of schema ranges.now }
+    requires limits { W.limits ≡ most_limits }
+    requires formed { IsTrue (is_vschema schema) }
+    requires fit { FitRanges schema ranges.now }
+{
+    let (held, keyspaces, mut opener, mut first) = opened_shards::<W, J>(alloc, &schema, ranges, opened)?;
+    let engine = Engine::new(schema, keyspaces, Buffer::new(0), Open);
+    let mut pass = opener.open(&mut first)?;
+    let [low, ..] = held.as_slice() else {
+        return Err(Refusal::NotSupported);
+    };
+    if !freeze(rt, low, &mut pass) {
+        return Err(Refusal::NotSupported);
+    }
+    let rows = told(rt, alloc, &engine, &mut pass, ALL).ok();
+    let refused = told(rt, alloc, &engine, &mut pass, FIRST);
+    let other = told(rt, alloc, &engine, &mut pass, OTHER)?;
+    if !thaw(rt, low, &mut pass) {
+        return Err(Refusal::NotSupported);
+    }
+    let again = told(rt, alloc, &engine, &mut pass, FIRST)?;
+    Ok((rows, refused, other, again))
+}
+
+// The same in the world that has this VSchema and these ranges, and no rows.
+fn without_room_in_empty_world<W: World + Send + Sync, R: Threads + Wait + Sync>(
+    rt: &R,
+    alloc: Global,
+    schema: VSchema,
+    ranges: &[KeyRange],
+) -> Result<(Option<u64>, Result<u64, Refusal>, u64, u64), Refusal>
+    requires opening { W.opening ≡ opening_of schema ranges.now }
+    requires limits { W.limits ≡ most_limits }
+    requires formed { IsTrue (is_vschema schema) }
+    requires fit { FitRanges schema ranges.now }
+{
+    let opened = Opened::<ShardLaw<W>>::new(alloc)?;
+    without_room::<W, Brand>(rt, alloc, schema, ranges, opened)
+}
+
+#[test]
+fn always_buffer_full_would_refuse_what_is_not_frozen(rt: HostRuntime) -> Result<(), Fail> {
+    let alloc = rt.alloc();
+    let schema = VSchema::read(alloc, SHOP)?;
+    let ranges = halves()?;
+    if !fits(alloc, &schema, &ranges)? {
+        return Err(Fail::new("no opening"));
+    }
+    let (rows, refused, other, again) = without_room_in_empty_world::<Brand, HostRuntime>(
+        &rt, alloc, schema, &ranges,
+    )?;
+    assert_eq!(rt; rows, Some(0));
+    assert_eq!(rt; refused, Err(Refusal::BufferFull));
+    assert_eq!(rt; other, 1);
+    assert_eq!(rt; again, 1);
+    Ok(())
+}
+
+// A write to the frozen shard, which waits until it is thawed.
+fn first_write<W: World + Send + Sync, J: Naming + Send + Sync>(
+    rt: &(impl Threads + Wait + Sync),
+    alloc: Global,
+    engine: &Engine<W, J, Open>,
+    mut pass: Pass<ShardLaw<W>, J>,
+) -> Result<u64, Refusal>
+    requires { IsSome pass.session }
+{
+    told(rt, alloc, engine, &mut pass, FIRST)
+}
+
+// Once that waits, a second write to it; then the shard is thawed, and the buffer released.
+fn second_write<W: World + Send + Sync, J: Naming + Send + Sync>(
+    rt: &(impl Threads + Wait + Sync),
+    alloc: Global,
+    engine: &Engine<W, J, Open>,
+    shard: &Shard<W, J>,
+    mut pass: Pass<ShardLaw<W>, J>,
+) -> Result<u64, Refusal>
+    requires { IsSome pass.session }
+{
+    for _ in 0..10_000_000 {
+        if engine.buffer().waiting(rt) > 0 {
+            break;
+        }
+        spin_loop();
+    }
+    let second = told(rt, alloc, engine, &mut pass, SECOND);
+    let _ = thaw(rt, shard, &mut pass);
+    engine.buffer().release(rt);
+    second
+}
+
+// Both, by two sessions in threads of their own.
+fn write_both<W: World + Send + Sync, J: Naming + Send + Sync, R: Threads + Wait + Sync>(
+    rt: &R,
+    alloc: Global,
+    engine: &Engine<W, J, Open>,
+    shard: &Shard<W, J>,
+    one: Pass<ShardLaw<W>, J>,
+    other: Pass<ShardLaw<W>, J>,
+) -> (Result<u64, Refusal>, Result<u64, Refusal>)
+    requires one { IsSome one.session }
+    requires other { IsSome other.session }
+{
+    let (waited, second) = join(
+        rt,
+        move || -> Result<u64, Refusal>
+            requires { IsSync R.row × IsSend W.row × IsSync W.row × IsSend J.row × IsSync J.row × IsSome one.session }
+        { first_write(rt, alloc, engine, one) },
+        move || -> Result<u64, Refusal>
+            requires { IsSync R.row × IsSend W.row × IsSync W.row × IsSend J.row × IsSync J.row × IsSome other.session }
+        { second_write(rt, alloc, engine, shard, other) },
+    );
+    (waited, second)
+}
+
+// What both give, and how many rows there are then.
+fn with_room_for_one<W: World + Send + Sync, J: Naming + Send + Sync, R: Threads + Wait + Sync>(
+    rt: &R,
+    alloc: Global,
+    schema: VSchema,
+    ranges: &[KeyRange],
+    opened: Opened<ShardLaw<W>>,
+) -> Result<(u64, Result<u64, Refusal>, u64), Refusal>
+    requires opened { opened ≡ J.table }
+    requires opening { W.opening ≡ opening_of schema ranges.now }
+    requires limits { W.limits ≡ most_limits }
+    requires formed { IsTrue (is_vschema schema) }
+    requires fit { FitRanges schema ranges.now }
+{
+    let (held, keyspaces, mut opener, mut seen) = opened_shards::<W, J>(alloc, &schema, ranges, opened)?;
+    let engine = Engine::new(schema, keyspaces, Buffer::new(1), Open);
+    let one = opener.open(&mut seen)?;
+    let other = opener.open(&mut seen)?;
+    let mut last = opener.open(&mut seen)?;
+    let [low, ..] = held.as_slice() else {
+        return Err(Refusal::NotSupported);
+    };
+    if !freeze(rt, low, &mut last) {
+        return Err(Refusal::NotSupported);
+    }
+    let (waited, second) = write_both(rt, alloc, &engine, low, one, other);
+    let rows = told(rt, alloc, &engine, &mut last, ALL)?;
+    Ok((waited?, second, rows))
+}
+
+// The same in the world that has this VSchema and these ranges, and no rows.
+fn with_room_in_empty_world<W: World + Send + Sync, R: Threads + Wait + Sync>(
+    rt: &R,
+    alloc: Global,
+    schema: VSchema,
+    ranges: &[KeyRange],
+) -> Result<(u64, Result<u64, Refusal>, u64), Refusal>
+    requires opening { W.opening ≡ opening_of schema ranges.now }
+    requires limits { W.limits ≡ most_limits }
+    requires formed { IsTrue (is_vschema schema) }
+    requires fit { FitRanges schema ranges.now }
+{
+    let opened = Opened::<ShardLaw<W>>::new(alloc)?;
+    with_room_for_one::<W, Brand, R>(rt, alloc, schema, ranges, opened)
+}
+
+#[test]
+fn buffered_statement_commits_twice_would_add_two_rows(rt: HostRuntime) -> Result<(), Fail> {
+    let alloc = rt.alloc();
+    let schema = VSchema::read(alloc, SHOP)?;
+    let ranges = halves()?;
+    if !fits(alloc, &schema, &ranges)? {
+        return Err(Fail::new("no opening"));
+    }
+    let (waited, second, rows) = with_room_in_empty_world::<Brand, HostRuntime>(
+        &rt, alloc, schema, &ranges,
+    )?;
+    assert_eq!(rt; waited, 1);
+    assert_eq!(rt; second, Err(Refusal::BufferFull));
+    assert_eq!(rt; rows, 1);
+    Ok(())
+}
