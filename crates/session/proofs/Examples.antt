@@ -1,15 +1,19 @@
 -- Conversations of documented examples: a ping and a quit, an order of packets that is wrong, a header that is too large, an empty
 -- payload.
-use Rattle.std.proofs.Common.{ℕ, List, [], ◌∷◌, refl, lit<, lit≤, inl}
+use Rattle.std.proofs.Common.{ℕ, true, List, [], ◌∷◌, refl, lit<, lit≤, inl}
 use Rattle.std.specs.Prelude.{codes}
 use Rattle.mysql_packet.specs.declared.framer.Payload.{Payload}
 use Rattle.mysql_packet.specs.declared.framer.Fault.{Fault}
 use Rattle.mysql_packet.specs.Frames.{IsPartial}
 use Rattle.vt_value.specs.declared.refusal.Refusal.TheVariants.{PacketTooLarge}
 use Rattle.resultset.specs.declared.Outcome.{Outcome}
+use Rattle.vschema.specs.declared.schema.VSchema.{VSchema}
 use Rattle.session.specs.declared.end.End.TheVariants.{Quit, Closed, Broken}
 use Rattle.session.specs.Talk.{Talk}
 use Rattle.session.specs.Talk as t
+
+abbrev schema : VSchema
+schema = record { keyspaces = (record { name = codes "shop"; sharded = true }) ∷ []; tables = [] }
 
 abbrev Never : Unit {0} → List ℕ → Outcome → Unit {0} → Type 0
 Never s text outcome now = ⊥
@@ -20,21 +24,21 @@ payload number bytes = record { first = number; last = number; bytes = bytes }
 nothing_left : IsPartial 1048576 []
 nothing_left = (0, [], [], lit< tt, (tt, lit≤ tt), refl, inl (lit< tt))
 
-ping_then_quit : Talk 1048576 Never tt (1 ∷ 0 ∷ 0 ∷ 0 ∷ 0x0E ∷ 1 ∷ 0 ∷ 0 ∷ 0 ∷ 1 ∷ []) (7 ∷ 0 ∷ 0 ∷ 1 ∷ 0 ∷ 0 ∷ 0 ∷ 2 ∷ 0 ∷ 0 ∷ 0 ∷ []) Quit tt
+ping_then_quit : Talk 1048576 schema Never tt (1 ∷ 0 ∷ 0 ∷ 0 ∷ 0x0E ∷ 1 ∷ 0 ∷ 0 ∷ 0 ∷ 1 ∷ []) (7 ∷ 0 ∷ 0 ∷ 1 ∷ 0 ∷ 0 ∷ 0 ∷ 2 ∷ 0 ∷ 0 ∷ 0 ∷ []) Quit tt
 ping_then_quit =
     t.ended (payload 0 (0x0E ∷ []) ∷ payload 0 (1 ∷ []) ∷ []) []
     (record { whole = refl; each = (((lit< tt, refl), lit≤ tt), (((lit< tt, refl), lit≤ tt), tt)); partial = nothing_left })
     (t.pinged refl refl (t.quits refl refl))
 
 -- a command whose first number is 1
-wrong_number : Talk 1048576 Never tt (1 ∷ 0 ∷ 0 ∷ 1 ∷ 0x0E ∷ [])
+wrong_number : Talk 1048576 schema Never tt (1 ∷ 0 ∷ 0 ∷ 1 ∷ 0x0E ∷ [])
     (0x1D ∷ 0 ∷ 0 ∷ 2 ∷ 0xFF ∷ 0x84 ∷ 0x04 ∷ 0x23 ∷ 0x30 ∷ 0x38 ∷ 0x53 ∷ 0x30 ∷ 0x31 ∷ codes "packets out of order") Broken tt
 wrong_number =
     t.ended (payload 1 (0x0E ∷ []) ∷ []) []
     (record { whole = refl; each = (((lit< tt, refl), lit≤ tt), tt); partial = nothing_left }) (t.out_of_order refl)
 
 -- a first header that tells 2 ^ 20 + 1 bytes
-too_large : Talk 1048576 Never tt (1 ∷ 0 ∷ 0x10 ∷ 0 ∷ [])
+too_large : Talk 1048576 schema Never tt (1 ∷ 0 ∷ 0x10 ∷ 0 ∷ [])
     (0x19 ∷ 0 ∷ 0 ∷ 1 ∷ 0xFF ∷ 0x81 ∷ 0x04 ∷ 0x23 ∷ 0x30 ∷ 0x38 ∷ 0x53 ∷ 0x30 ∷ 0x31 ∷ codes "packet too large") Broken tt
 too_large =
     let fault : Fault = record { refusal = PacketTooLarge; number = 0 } in
@@ -53,8 +57,20 @@ too_large =
     t.none
 
 -- an empty payload is an unknown command, and the session goes on
-unknown : Talk 1048576 Never tt (0 ∷ 0 ∷ 0 ∷ 0 ∷ [])
+unknown : Talk 1048576 schema Never tt (0 ∷ 0 ∷ 0 ∷ 0 ∷ [])
     (0x18 ∷ 0 ∷ 0 ∷ 1 ∷ 0xFF ∷ 0x17 ∷ 0x04 ∷ 0x23 ∷ 0x30 ∷ 0x38 ∷ 0x53 ∷ 0x30 ∷ 0x31 ∷ codes "unknown command") Closed tt
 unknown =
     t.closed (payload 0 [] ∷ [])
     (record { whole = refl; each = (((lit< tt, refl), lit≤ tt), tt); partial = nothing_left }) (t.unknown refl refl t.none)
+
+-- a keyspace that there is, and one that there isn't
+uses_a_keyspace : Talk 1048576 schema Never tt (5 ∷ 0 ∷ 0 ∷ 0 ∷ 0x02 ∷ codes "shop") (7 ∷ 0 ∷ 0 ∷ 1 ∷ 0 ∷ 0 ∷ 0 ∷ 2 ∷ 0 ∷ 0 ∷ 0 ∷ []) Closed tt
+uses_a_keyspace =
+    t.closed (payload 0 (0x02 ∷ codes "shop") ∷ [])
+    (record { whole = refl; each = (((lit< tt, refl), lit≤ tt), tt); partial = nothing_left }) (t.selected (codes "shop") refl refl refl t.none)
+
+uses_no_keyspace : Talk 1048576 schema Never tt (2 ∷ 0 ∷ 0 ∷ 0 ∷ 0x02 ∷ codes "x")
+    (0x19 ∷ 0 ∷ 0 ∷ 1 ∷ 0xFF ∷ 0x19 ∷ 0x04 ∷ 0x23 ∷ 0x34 ∷ 0x32 ∷ 0x30 ∷ 0x30 ∷ 0x30 ∷ codes "no such database") Closed tt
+uses_no_keyspace =
+    t.closed (payload 0 (0x02 ∷ codes "x") ∷ [])
+    (record { whole = refl; each = (((lit< tt, refl), lit≤ tt), tt); partial = nothing_left }) (t.unknown_keyspace (codes "x") refl refl refl t.none)

@@ -29,7 +29,7 @@ fn answer<W: World + Send + Sync, J: Naming + Send + Sync, G: Gate, S: Sink>(
     requires room { REPLY_ROOM ≤ length reply.old.items + reply.old.spare }
     requires session { IsSome pass.old.session }
     ensures replies { IfOk result (λ end. (out : List ℕ) × Appends (S.taken sink.old) (S.taken sink.new) out
-        × Replies (Means W.opening W.limits) pass.old (payload.now ∷ []) out end pass.new) }
+        × Replies W.opening.schema (Means W.opening W.limits) pass.old (payload.now ∷ []) out end pass.new) }
     ensures room { REPLY_ROOM ≤ length reply.new.items + reply.new.spare }
     ensures session { pass.new.session ≡ pass.old.session }
 {
@@ -51,7 +51,7 @@ fn answer_all<W: World + Send + Sync, J: Naming + Send + Sync, G: Gate, S: Sink>
     requires room { REPLY_ROOM ≤ length reply.old.items + reply.old.spare }
     requires session { IsSome pass.old.session }
     ensures replies { IfOk result (λ end. (out : List ℕ) × Appends (S.taken sink.old) (S.taken sink.new) out
-        × Replies (Means W.opening W.limits) pass.old payloads.now out end pass.new) }
+        × Replies W.opening.schema (Means W.opening W.limits) pass.old payloads.now out end pass.new) }
     ensures room { REPLY_ROOM ≤ length reply.new.items + reply.new.spare }
     ensures session { pass.new.session ≡ pass.old.session }
 {
@@ -91,7 +91,7 @@ pub fn answer_fed<W: World + Send + Sync, J: Naming + Send + Sync, G: Gate, S: S
     requires room { REPLY_ROOM ≤ length reply.old.items + reply.old.spare }
     requires session { IsSome pass.old.session }
     ensures answers { IfOk result (λ end. (out : List ℕ) × Appends (S.taken sink.old) (S.taken sink.new) out
-        × AnswersFed (Means W.opening W.limits) pass.old fed.now out end pass.new) }
+        × AnswersFed W.opening.schema (Means W.opening W.limits) pass.old fed.now out end pass.new) }
     ensures room { REPLY_ROOM ≤ length reply.new.items + reply.new.spare }
     ensures session { pass.new.session ≡ pass.old.session }
 {

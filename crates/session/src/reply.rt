@@ -1,4 +1,4 @@
-ghost use Rattle.std.specs.Prelude.{◌≡◌, ◌+◌, ◌≤◌, ◌⊎◌, [], ◌∷◌, length, IsSome, IfOk, IfErr, Option};
+ghost use Rattle.std.specs.Prelude.{◌≡◌, ◌+◌, ◌≤◌, ◌⊎◌, true, false, [], ◌∷◌, length, IsSome, IfOk, IfErr, Option};
 ghost use Rattle.mysql_message.specs.Messages.{autocommit};
 ghost use Rattle.mysql_packet.specs.Frames.{frame};
 ghost use Rattle.mysql_message.specs.Messages.{ok_payload, err_payload};
@@ -7,7 +7,8 @@ ghost use Rattle.resultset.specs.Encoding.{encoded};
 ghost use Rattle.session.specs.declared.end.End.{End};
 ghost use Rattle.session.specs.Columns.{AreColumns};
 ghost use Rattle.session.specs.Outcomes.{Means, Shows, HasRows, IsRows};
-ghost use Rattle.session.specs.Talk.{Replies};
+ghost use Rattle.resultset.specs.declared.SetEnd.TheVariants.{EofPackets};
+ghost use Rattle.session.specs.Talk.{Replies, has_keyspace};
 
 use crate::columns::columns_of;
 use crate::end::End;
@@ -15,7 +16,7 @@ use bytes::BytesMut;
 use journal::{Naming, Pass};
 use mysql_message::{Command, put_err, put_ok, read_command};
 use mysql_packet::Payload;
-use resultset::{Outcome, ResultSet, encode};
+use resultset::{Outcome, ResultSet, SetEnd, encode};
 use route_engine::{Answer, Engine, Gate, Selected};
 use shard::{ShardLaw, World};
 use std::alloc::Global;
@@ -103,11 +104,20 @@ fn put_count(number: u8, count: u64, reply: &mut BytesMut)
 fn put_rows(alloc: Global, outcome: &Outcome, number: u8, reply: &mut BytesMut)
     requires empty { reply.old.items ≡ [] }
     requires room { REPLY_ROOM ≤ reply.old.spare }
-    ensures bytes { (reply.new.items ≡ encoded outcome.now number autocommit)
-        ⊎ (reply.new.items ≡ encoded (Outcome.Refused Refusal.OutOfMemory) number autocommit) }
+    ensures bytes { (reply.new.items ≡ encoded EofPackets outcome.now number autocommit)
+        ⊎ (reply.new.items ≡ encoded EofPackets (Outcome.Refused Refusal.OutOfMemory) number autocommit) }
     ensures room { REPLY_ROOM ≤ length reply.new.items + reply.new.spare }
 {
-    if encode(alloc, outcome, number, AUTOCOMMIT, reply).is_err() {
+    if encode(
+        alloc,
+        outcome,
+        number,
+        AUTOCOMMIT,
+        SetEnd::EofPackets,
+        reply,
+    )
+    .is_err()
+    {
         put_refusal(number, Refusal::OutOfMemory, reply);
     }
 }
@@ -116,14 +126,41 @@ fn put_rows(alloc: Global, outcome: &Outcome, number: u8, reply: &mut BytesMut)
 fn put_outcome(alloc: Global, outcome: &Outcome, number: u8, reply: &mut BytesMut)
     requires empty { reply.old.items ≡ [] }
     requires room { REPLY_ROOM ≤ reply.old.spare }
-    ensures bytes { (reply.new.items ≡ encoded outcome.now number autocommit)
-        ⊎ (IsRows outcome.now × (reply.new.items ≡ encoded (Outcome.Refused Refusal.OutOfMemory) number autocommit)) }
+    ensures bytes { (reply.new.items ≡ encoded EofPackets outcome.now number autocommit)
+        ⊎ (IsRows outcome.now × (reply.new.items ≡ encoded EofPackets (Outcome.Refused Refusal.OutOfMemory) number autocommit)) }
     ensures room { REPLY_ROOM ≤ length reply.new.items + reply.new.spare }
 {
     match outcome {
         Outcome::Count(count) => put_count(number, *count, reply),
         Outcome::Refused(refusal) => put_refusal(number, *refusal, reply),
         Outcome::Rows(_) => put_rows(alloc, outcome, number, reply),
+    }
+}
+
+fn has_keyspace(schema: &VSchema, name: &[u8]) -> bool
+    ensures { result ≡ has_keyspace schema.now name.now }
+{
+    schema
+        .keyspaces
+        .as_slice()
+        .iter()
+        .any(|keyspace| keyspace.name.as_slice() == name)
+}
+
+/// The reply to the wish to use a keyspace, which changes nothing.
+fn put_selected(schema: &VSchema, name: &[u8], number: u8, reply: &mut BytesMut)
+    requires empty { reply.old.items ≡ [] }
+    requires room { REPLY_ROOM ≤ reply.old.spare }
+    ensures known { has_keyspace schema.now name.now ≡ true
+        → reply.new.items ≡ frame number (ok_payload 0 autocommit) }
+    ensures unknown { has_keyspace schema.now name.now ≡ false
+        → reply.new.items ≡ frame number (err_payload Refusal.UnknownKeyspace) }
+    ensures room { REPLY_ROOM ≤ length reply.new.items + reply.new.spare }
+{
+    if has_keyspace(schema, name) {
+        put_count(number, 0, reply);
+    } else {
+        put_refusal(number, Refusal::UnknownKeyspace, reply);
     }
 }
 
@@ -139,7 +176,7 @@ pub fn put_reply<W: World + Send + Sync, J: Naming + Send + Sync, G: Gate>(
     requires empty { reply.old.items ≡ [] }
     requires room { REPLY_ROOM ≤ reply.old.spare }
     requires session { IsSome pass.old.session }
-    ensures replies { Replies (Means W.opening W.limits) pass.old (payload.now ∷ []) reply.new.items result pass.new }
+    ensures replies { Replies W.opening.schema (Means W.opening W.limits) pass.old (payload.now ∷ []) reply.new.items result pass.new }
     ensures room { REPLY_ROOM ≤ length reply.new.items + reply.new.spare }
     ensures session { pass.new.session ≡ pass.old.session }
 {
@@ -156,6 +193,7 @@ pub fn put_reply<W: World + Send + Sync, J: Naming + Send + Sync, G: Gate>(
         Err(refusal) => put_refusal(number, refusal, reply),
         Ok(Command::Quit) => return Some(End::Quit),
         Ok(Command::Ping) => put_pong(number, reply),
+        Ok(Command::InitDb(name)) => put_selected(engine.schema(), name, number, reply),
         Ok(Command::Query(text)) => {
             let outcome = outcome_of(rt, alloc, engine, pass, text);
             put_outcome(alloc, &outcome, number, reply);

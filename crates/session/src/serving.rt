@@ -51,10 +51,10 @@ fn serve_piece<W: World + Send + Sync, J: Naming + Send + Sync, G: Gate, R: Sour
     requires room { 0 < length buffer.old }
     requires open_session { core.old.ended ≡ None }
     requires session { IsSome pass.old.session }
-    ensures talk { IfOk result (λ end. (first : Seen) (bytes out : List ℕ) → HasTalked (Means W.opening W.limits) core.old first bytes out pass.old →
+    ensures talk { IfOk result (λ end. (first : Seen) (bytes out : List ℕ) → HasTalked W.opening.schema (Means W.opening W.limits) core.old first bytes out pass.old →
         (read : List ℕ) × (written : List ℕ)
         × Consumes (R.unread source.old) (R.unread source.new) read × Appends (S.taken sink.old) (S.taken sink.new) written
-        × HasTalkedOn (Means W.opening W.limits) core.new first (bytes ++ read) (out ++ written) end pass.new) }
+        × HasTalkedOn W.opening.schema (Means W.opening W.limits) core.new first (bytes ++ read) (out ++ written) end pass.new) }
     ensures at_end { IfOk result (λ end. IfSome end (λ e. IsByInput e → IsAtEnd (R.unread source.new))) }
     ensures limit { core.new.framing.limit ≡ core.old.framing.limit }
     ensures session { pass.new.session ≡ pass.old.session }
@@ -83,12 +83,12 @@ pub fn serve<W: World + Send + Sync, J: Naming + Send + Sync, G: Gate, R: Source
     // over what the run leaves at a look of the pass, each behind the one before.
     ensures talk { IfOk result (λ end. (read : List ℕ) × (written : List ℕ)
         × Consumes (R.unread source.old) (R.unread source.new) read × Appends (S.taken sink.old) (S.taken sink.new) written
-        × Talk COMMAND_LIMIT (Means W.opening W.limits) pass.old read written end pass.new) }
+        × Talk COMMAND_LIMIT W.opening.schema (Means W.opening W.limits) pass.old read written end pass.new) }
     // Where no other session came between, it is one over one database, which knows no shards: each outcome is one that its text has
     // over the rows that the commands before it left.
     ensures alone { IfOk result (λ end. NoOthers pass.old pass.new → (read : List ℕ) × (written : List ℕ)
         × Consumes (R.unread source.old) (R.unread source.new) read × Appends (S.taken sink.old) (S.taken sink.new) written
-        × Talk COMMAND_LIMIT (MeansAlone W.opening W.limits) pass.old read written end pass.new) }
+        × Talk COMMAND_LIMIT W.opening.schema (MeansAlone W.opening W.limits) pass.old read written end pass.new) }
     // It ends before the end of the input only by a command or a fault.
     ensures at_end { IfOk result (λ end. IsByInput end → IsAtEnd (R.unread source.new)) }
     // Whatever happened, the pass is still its session's.

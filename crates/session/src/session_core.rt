@@ -53,7 +53,7 @@ fn feed_parts<W: World + Send + Sync, J: Naming + Send + Sync, G: Gate, S: Sink>
     requires room { REPLY_ROOM ≤ length reply.old.items + reply.old.spare }
     requires session { IsSome pass.old.session }
     ensures answers { IfOk result (λ end. (fed : Fed) × FedBy framer.old framer.new piece.now fed × ((out : List ℕ)
-        × Appends (S.taken sink.old) (S.taken sink.new) out × AnswersFed (Means W.opening W.limits) pass.old fed out end pass.new)) }
+        × Appends (S.taken sink.old) (S.taken sink.new) out × AnswersFed W.opening.schema (Means W.opening W.limits) pass.old fed out end pass.new)) }
     ensures limit { framer.new.limit ≡ framer.old.limit }
     ensures room { REPLY_ROOM ≤ length reply.new.items + reply.new.spare }
     ensures cause { IfErr result (λ e. (e ≡ SessionFault.Memory) ⊎ (e ≡ SessionFault.Write)) }
@@ -128,7 +128,7 @@ impl Core {
     /// capabilities that both sides set. Makes room for the refusal of a command, and refuses only where it can't.
     pub fn commands(alloc: Global, id: u32, capabilities: u32) -> Result<Core, Refusal>
         // Nothing has been read or written.
-        ensures begins { IfOk result (λ core. (o : Opening) (l : Limits) (p : Seen) → HasTalked (Means o l) core p [] [] p) }
+        ensures begins { IfOk result (λ core. (o : Opening) (l : Limits) (p : Seen) → HasTalked o.schema (Means o l) core p [] [] p) }
         ensures limit { IfOk result (λ core. core.framing.limit ≡ COMMAND_LIMIT) }
         ensures id { IfOk result (λ core. core.id ≡ id) }
         ensures capabilities { IfOk result (λ core. core.capabilities ≡ capabilities) }
@@ -162,8 +162,8 @@ impl Core {
     pub fn end_of_input(&self) -> End
         ensures ended { IfSome self.now.ended (λ end. result ≡ end) }
         // The conversation is then whole.
-        ensures whole { (o : Opening) (l : Limits) (first now : Seen) (bytes out : List ℕ) → HasTalked (Means o l) self.now first bytes out now →
-            Talk self.now.framing.limit (Means o l) first bytes out result now }
+        ensures whole { (o : Opening) (l : Limits) (first now : Seen) (bytes out : List ℕ) → HasTalked o.schema (Means o l) self.now first bytes out now →
+            Talk self.now.framing.limit o.schema (Means o l) first bytes out result now }
     {
         match self.ended {
             Some(end) => end,
@@ -186,13 +186,13 @@ impl Core {
         requires session { IsSome pass.old.session }
         // However the input was cut before: of the bytes so far exactly the conversation over them has been written, where each
         // query has an outcome that its text may have over what the run leaves at a look of the pass, each behind the one before.
-        ensures talk { IfOk result (λ end. (first : Seen) (bytes out : List ℕ) → HasTalked (Means W.opening W.limits) self.old first bytes out pass.old →
+        ensures talk { IfOk result (λ end. (first : Seen) (bytes out : List ℕ) → HasTalked W.opening.schema (Means W.opening W.limits) self.old first bytes out pass.old →
             (written : List ℕ) × Appends (S.taken sink.old) (S.taken sink.new) written
-            × HasTalkedOn (Means W.opening W.limits) self.new first (bytes ++ piece.now) (out ++ written) end pass.new) }
+            × HasTalkedOn W.opening.schema (Means W.opening W.limits) self.new first (bytes ++ piece.now) (out ++ written) end pass.new) }
         // Where no other session comes between, a conversation over one database goes on over it.
-        ensures alone { IfOk result (λ end. (first : Seen) (bytes out : List ℕ) → HasTalked (MeansAlone W.opening W.limits) self.old first bytes out pass.old →
+        ensures alone { IfOk result (λ end. (first : Seen) (bytes out : List ℕ) → HasTalked W.opening.schema (MeansAlone W.opening W.limits) self.old first bytes out pass.old →
             NoOthers pass.old pass.new → (written : List ℕ) × Appends (S.taken sink.old) (S.taken sink.new) written
-            × HasTalkedOn (MeansAlone W.opening W.limits) self.new first (bytes ++ piece.now) (out ++ written) end pass.new) }
+            × HasTalkedOn W.opening.schema (MeansAlone W.opening W.limits) self.new first (bytes ++ piece.now) (out ++ written) end pass.new) }
         ensures ended { IfOk result (λ end. self.new.ended ≡ end) }
         // A piece ends no session as the end of the input does.
         ensures by_command { self.old.ended ≡ None → IfOk result (λ end. IfSome end IsByCommand) }

@@ -95,7 +95,7 @@ fn serve_opened<J: Naming + Send + Sync, I: Source, O: Sink>(
     requires { opened ≡ J.table }
     ensures { IfOk result (λ end. (read : List ℕ) × (written : List ℕ) × (seen : Seen)
         × Consumes (I.unread input.old) (I.unread input.new) read × Appends (O.taken output.old) (O.taken output.new) written
-        × Talk COMMAND_LIMIT (Means first_opening most_limits) (new_pass [] (Some 0)) read written end seen) }
+        × Talk COMMAND_LIMIT first_opening.schema (Means first_opening most_limits) (new_pass [] (Some 0)) read written end seen) }
 {
     let Ok((engine, mut pass)) = first_router::<J>(alloc, opened) else {
         return Err(Failed);
@@ -115,7 +115,7 @@ fn serve_first<I: Source, O: Sink>(
 ) -> Result<End, Failed>
     ensures { IfOk result (λ end. (read : List ℕ) × (written : List ℕ) × (seen : Seen)
         × Consumes (I.unread input.old) (I.unread input.new) read × Appends (O.taken output.old) (O.taken output.new) written
-        × Talk COMMAND_LIMIT (Means first_opening most_limits) (new_pass [] (Some 0)) read written end seen) }
+        × Talk COMMAND_LIMIT first_opening.schema (Means first_opening most_limits) (new_pass [] (Some 0)) read written end seen) }
 {
     let Ok(opened) = Opened::new(alloc) else {
         return Err(Failed);
@@ -134,7 +134,7 @@ fn run_first<I: Source, O: Sink, E: Sink>(
     ensures first { result ≡ SUCCESS →
         (read : List ℕ) × (written : List ℕ) × (end : End) × (seen : Seen)
         × Consumes (I.unread input.old) (I.unread input.new) read × Appends (O.taken output.old) (O.taken output.new) written
-        × Talk COMMAND_LIMIT (Means first_opening most_limits) (new_pass [] (Some 0)) read written end seen }
+        × Talk COMMAND_LIMIT first_opening.schema (Means first_opening most_limits) (new_pass [] (Some 0)) read written end seen }
     ensures status { result ≢ WRONG_WORDS }
 {
     match serve_first(rt, alloc, input, output) {
@@ -163,7 +163,7 @@ pub fn run<I: Source, O: Sink, E: Sink>(
     ensures first { IsTrue (is_first (map string_bytes words.now)) → result ≡ SUCCESS →
         (read : List ℕ) × (written : List ℕ) × (end : End) × (seen : Seen)
         × Consumes (I.unread input.old) (I.unread input.new) read × Appends (O.taken output.old) (O.taken output.new) written
-        × Talk COMMAND_LIMIT (Means first_opening most_limits) (new_pass [] (Some 0)) read written end seen }
+        × Talk COMMAND_LIMIT first_opening.schema (Means first_opening most_limits) (new_pass [] (Some 0)) read written end seen }
     ensures status { IsTrue (is_first (map string_bytes words.now)) → result ≢ WRONG_WORDS }
     ensures plan { (shards sql : List ℕ) → map string_bytes words.now ≡ codes "plan" ∷ shards ∷ sql ∷ [] → result ≡ SUCCESS
         → HasPlanned shards sql (I.unread input.old) (I.unread input.new) (O.taken output.old) (O.taken output.new) }

@@ -10,5 +10,5 @@ invariant-loop-payload g l = record {
   session : l.pass.session ≡ l.initial.pass.session;
   room : REPLY_ROOM ≤ length l.reply.items + l.reply.spare;
   replies : (out : List ℕ) × Appends (g.S.Sink.taken l.initial.sink) (g.S.Sink.taken l.sink) out
-      × Replies (Means g.W.World.opening g.W.World.limits) l.initial.pass (take l.payload-index l.payloads) out None l.pass;
+      × Replies g.W.World.opening.schema (Means g.W.World.opening g.W.World.limits) l.initial.pass (take l.payload-index l.payloads) out None l.pass;
 }

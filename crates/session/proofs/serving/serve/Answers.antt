@@ -6,14 +6,14 @@ use Rattle.session.proofs.serving.serve.Goals as goal
 
 pub returns-in-Some-clause-talk : goal.returns-in-Some-clause-talk
 returns-in-Some-clause-talk g c =
-    has_ended _ _ _ c.serve_piece.new.core _ _ _ _ _ c.in_ok-end.field-0 c.in-Some.end c.in-Some.is (c.in_ok-end.ensures.limit ∙ c.loop.invariant.limit)
-    (one_more _ _ _ _ c.loop.core c.serve_piece.new.core _ _ _ _ _ _ c.in_ok-end.field-0 c.loop.invariant.talked c.in_ok-end.ensures.talk)
+    has_ended _ _ _ _ c.serve_piece.new.core _ _ _ _ _ c.in_ok-end.field-0 c.in-Some.end c.in-Some.is (c.in_ok-end.ensures.limit ∙ c.loop.invariant.limit)
+    (one_more _ _ _ _ _ c.loop.core c.serve_piece.new.core _ _ _ _ _ _ c.in_ok-end.field-0 c.loop.invariant.talked c.in_ok-end.ensures.talk)
 
 pub returns-in-Some-clause-alone : goal.returns-in-Some-clause-alone
 returns-in-Some-clause-alone g c =
     served_alone g.W.World.opening g.W.World.limits c.begins_with.ensures.opens c.begins_with.ensures.formed _ _ _ c.in-Some.end _ _ _ _ c.begins_with.ensures.legal
-    (has_ended _ _ _ c.serve_piece.new.core _ _ _ _ _ c.in_ok-end.field-0 c.in-Some.end c.in-Some.is (c.in_ok-end.ensures.limit ∙ c.loop.invariant.limit)
-    (one_more _ _ _ _ c.loop.core c.serve_piece.new.core _ _ _ _ _ _ c.in_ok-end.field-0 c.loop.invariant.talked c.in_ok-end.ensures.talk))
+    (has_ended _ _ _ _ c.serve_piece.new.core _ _ _ _ _ c.in_ok-end.field-0 c.in-Some.end c.in-Some.is (c.in_ok-end.ensures.limit ∙ c.loop.invariant.limit)
+    (one_more _ _ _ _ _ c.loop.core c.serve_piece.new.core _ _ _ _ _ _ c.in_ok-end.field-0 c.loop.invariant.talked c.in_ok-end.ensures.talk))
 
 pub loop-preserved : goal.loop-preserved
 loop-preserved g c = record {
@@ -21,8 +21,8 @@ loop-preserved g c = record {
   buffer = c.loop.invariant.buffer;
   limit = c.in_ok-end.ensures.limit ∙ c.loop.invariant.limit;
   talked =
-      still_goes_on _ _ _ c.serve_piece.new.core _ _ _ _ c.in_ok-end.field-0 c.in_default-2.is
-      (one_more _ _ _ _ c.loop.core c.serve_piece.new.core _ _ _ _ _ _ c.in_ok-end.field-0 c.loop.invariant.talked c.in_ok-end.ensures.talk);
+      still_goes_on _ _ _ _ c.serve_piece.new.core _ _ _ _ c.in_ok-end.field-0 c.in_default-2.is
+      (one_more _ _ _ _ _ c.loop.core c.serve_piece.new.core _ _ _ _ _ _ c.in_ok-end.field-0 c.loop.invariant.talked c.in_ok-end.ensures.talk);
 }
 
 pub loop-init : goal.loop-init

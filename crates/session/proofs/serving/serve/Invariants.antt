@@ -12,5 +12,5 @@ invariant-loop g l = record {
   buffer : vec_len l.buffer ≡ PIECE;
   limit : l.core.framing.limit ≡ COMMAND_LIMIT;
   talked : (read : List ℕ) × (written : List ℕ) × Consumes (g.R.Source.unread l.initial.source) (g.R.Source.unread l.source) read
-      × Appends (g.S.Sink.taken l.initial.sink) (g.S.Sink.taken l.sink) written × HasTalked (Means g.W.World.opening g.W.World.limits) l.core l.initial.pass read written l.pass;
+      × Appends (g.S.Sink.taken l.initial.sink) (g.S.Sink.taken l.sink) written × HasTalked g.W.World.opening.schema (Means g.W.World.opening g.W.World.limits) l.core l.initial.pass read written l.pass;
 }

@@ -6,4 +6,4 @@ returns-in-None-clause-whole c =
     rw (← c.self.view_is)
     (λ o l first now bytes out before.
     let ends = is_end c.is_between_payloads.result c.self.inside.framer.rest c.end_between.result c.is_between_payloads.ensures c.end_between.ensures.between c.end_between.ensures.within in
-    whole_end _ _ _ c.self.inside.framer.limit bytes out before.payloads c.self.inside.framer.rest _ before.read.splits before.replies ends.0 ends.1)
+    whole_end _ _ _ _ c.self.inside.framer.limit bytes out before.payloads c.self.inside.framer.rest _ before.read.splits before.replies ends.0 ends.1)
