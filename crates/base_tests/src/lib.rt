@@ -1,9 +1,11 @@
 //! Tests of crates that know no VSchema: values, keyspace ids, packets and messages, bytes of results, tokens, printed statements, ranges,
-//! operators, aggregates and runs. They stand above those crates, so that each of them is proved once.
+//! operators, aggregates, runs, handshakes and the queue of connections. They stand above those crates, so that each of them is proved once.
 #![tactic(auto)]
 
 #[cfg(test)]
 mod framing;
+#[cfg(test)]
+mod handshakes;
 #[cfg(test)]
 mod lexing;
 #[cfg(test)]
@@ -14,6 +16,8 @@ mod parts;
 mod printing;
 #[cfg(test)]
 mod pulling;
+#[cfg(test)]
+mod queues;
 #[cfg(test)]
 mod ranges;
 #[cfg(test)]

@@ -1,6 +1,6 @@
 //! Commands and replies of worked bytes.
 use bytes::BytesMut;
-use mysql_message::{Command, numbers, put_eof, put_err, put_ok, read_command};
+use mysql_message::{Command, numbers, put_eof, put_err, put_ok, put_set_end, read_command};
 use std::test::Fail;
 use vt_value::Refusal;
 
@@ -14,6 +14,7 @@ fn commands(rt: HostRuntime) {
             Ok(Command::Query(b"SELECT 1"))
         )
     );
+    assert!(rt; matches!(read_command(b"\x02shop"), Ok(Command::InitDb(b"shop"))));
     for payload in [b"".as_slice(), b"\x16", b"\x00"] {
         assert!(rt; matches!(read_command(payload), Err(Refusal::UnknownCommand)));
     }
@@ -25,9 +26,11 @@ fn replies(rt: HostRuntime) -> Result<(), Fail> {
     assert_eq!(rt; put_ok(1, 0, 2, &mut out)?, 2);
     assert_eq!(rt; put_err(255, Refusal::DuplicateKey, &mut out)?, 0);
     assert_eq!(rt; put_eof(48, 2, &mut out)?, 49);
+    assert_eq!(rt; put_set_end(49, 2, &mut out)?, 50);
     let mut want = Vec::from_slice(rt.alloc(), b"\x07\x00\x00\x01\x00\x00\x00\x02\x00\x00\x00")?;
     want.extend_from_slice(b"\x16\x00\x00\xFF\xFF\x26\x04#23000duplicate key")?;
     want.extend_from_slice(b"\x05\x00\x00\x30\xFE\x00\x00\x02\x00")?;
+    want.extend_from_slice(b"\x07\x00\x00\x31\xFE\x00\x00\x02\x00\x00\x00")?;
     assert_eq!(rt; out.as_slice(), want.as_slice());
     Ok(())
 }

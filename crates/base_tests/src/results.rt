@@ -3,7 +3,7 @@ ghost use Rattle.std.specs.Prelude.{IsTrue};
 ghost use Rattle.resultset.specs.Flags.{flags_fit};
 
 use bytes::BytesMut;
-use resultset::{Column, Kind, Outcome, ResultSet, decode, encode};
+use resultset::{Column, Kind, Outcome, ResultSet, SetEnd, decode, encode};
 use std::alloc::Global;
 use std::test::Fail;
 use vt_value::{Items, Refusal, Row, Value};
@@ -115,18 +115,27 @@ fn each_kind(alloc: Global) -> Result<Outcome, Fail> {
 }
 
 fn spelled(alloc: Global, outcome: &Outcome) -> Result<Vec<u8>, Fail> {
+    spelled_with(alloc, outcome, SetEnd::EofPackets)
+}
+
+fn spelled_with(alloc: Global, outcome: &Outcome, end: SetEnd) -> Result<Vec<u8>, Fail> {
     let mut out = BytesMut::new(alloc);
-    encode(alloc, outcome, 1, 2, &mut out)?;
+    encode(alloc, outcome, 1, 2, end, &mut out)?;
     Ok(Vec::from_slice(alloc, out.as_slice())?)
 }
 
 /// Whether the spelling of the result is read as the result again.
 fn is_read_again(alloc: Global, outcome: &Outcome) -> Result<bool, Fail> {
-    let bytes = spelled(alloc, outcome)?;
-    match decode(alloc, 1, 2, &bytes)? {
-        Some(again) => Ok(format!(in alloc; "{again:?}")? == format!(in alloc; "{outcome:?}")?),
-        None => Ok(false),
+    for end in [SetEnd::EofPackets, SetEnd::OkPacket] {
+        let bytes = spelled_with(alloc, outcome, end)?;
+        let Some(again) = decode(alloc, 1, 2, end, &bytes)? else {
+            return Ok(false);
+        };
+        if format!(in alloc; "{again:?}")? != format!(in alloc; "{outcome:?}")? {
+            return Ok(false);
+        }
     }
+    Ok(true)
 }
 
 #[test]
@@ -144,6 +153,19 @@ fn documented_results(rt: HostRuntime) -> Result<(), Fail> {
         assert_eq!(rt; spelled(alloc, outcome)?.as_slice(), *bytes);
         assert!(rt; is_read_again(alloc, outcome)?);
     }
+    Ok(())
+}
+
+#[test]
+fn result_without_eof_packets(rt: HostRuntime) -> Result<(), Fail> {
+    let alloc = rt.alloc();
+    let outcome = ids(alloc, 1)?;
+    let bytes = spelled_with(alloc, &outcome, SetEnd::OkPacket)?;
+    let behind = b"\x02\x00\x00\x03\x015\x07\x00\x00\x04\xFE\x00\x00\x02\x00\x00\x00";
+    assert!(rt; bytes.as_slice().ends_with(behind));
+    assert_eq!(rt; bytes.len(), ONE_COLUMN.len() - 7);
+    assert!(rt; decode(alloc, 1, 2, SetEnd::OkPacket, &bytes)?.is_some());
+    assert!(rt; decode(alloc, 1, 2, SetEnd::EofPackets, &bytes)?.is_none());
     Ok(())
 }
 
@@ -244,7 +266,10 @@ fn no_spellings(rt: HostRuntime) -> Result<(), Fail> {
         bytes.extend_from_slice(second)?;
         bytes.extend_from_slice(third)?;
         bytes.extend_from_slice(fourth)?;
-        assert!(rt; decode(alloc, 1, 2, &bytes)?.is_none(), "at {i}");
+        assert!(rt;
+            decode(alloc, 1, 2, SetEnd::EofPackets, &bytes)?.is_none(),
+            "at {i}"
+        );
     }
     Ok(())
 }

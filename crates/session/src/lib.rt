@@ -5,6 +5,8 @@ mod answers;
 mod columns;
 mod devices;
 mod end;
+mod hello;
+mod login;
 mod reply;
 mod serving;
 mod session_core;
@@ -12,6 +14,7 @@ mod standing;
 
 pub use devices::{DeviceFailed, Reader, Sink, Source, Writer};
 pub use end::{End, SessionFault};
+pub use hello::{Access, Hello};
 pub use serving::serve;
 pub use session_core::{COMMAND_LIMIT, Core};
-pub use standing::{Phase, Standing};
+pub use standing::{Login, Phase, Standing};
