@@ -6,6 +6,7 @@ use crate::{
 };
 use keyrange::one_range;
 use mysql_packet::{bounded_rest, one_framing, read_back};
+use resultset::SetEnd;
 use sql_lexer::{longest, one_lexing};
 use sql_parser::{one_tree, print_reads};
 use std::alloc::Global;
@@ -62,7 +63,8 @@ fn answer_bytes(alloc: Global, area: &str, case: &str, told: &mut Told) -> Resul
         "string" => packets::length_encoded_string(alloc, case, told),
         "read_lenenc" => packets::read_number(alloc, case, told),
         "read_string" => packets::read_string(alloc, case, told),
-        "result" => results::result_again(alloc, case, told),
+        "result" => results::result_again(alloc, case, SetEnd::EofPackets, told),
+        "result_to_ok" => results::result_again(alloc, case, SetEnd::OkPacket, told),
         _ => Err(Unanswered::BadLine),
     }
 }

@@ -36,6 +36,7 @@
 //! | `read_lenenc` | bytes | the number at their front, and what follows |
 //! | `read_string` | bytes | the text at their front, and what follows |
 //! | `result` | the bytes of a result from number 1, status 2 | the result, and its bytes as they are spelled again |
+//! | `result_to_ok` | the same of a result whose sets end with an OK packet | the same |
 //! | `lines` | a text | its lines, each in brackets |
 //! | `line` | a line of a script | what it says |
 //! | `rows` | rows | their printed form |

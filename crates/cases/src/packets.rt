@@ -96,6 +96,10 @@ fn put_command(told: &mut Told, command: Command) {
     match command {
         Command::Quit => told.put("quit"),
         Command::Ping => told.put("ping"),
+        Command::InitDb(name) => {
+            told.put("init_db ");
+            told.put_text(name);
+        }
         Command::Query(text) => {
             told.put("query ");
             told.put_text(text);

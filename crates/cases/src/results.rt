@@ -2,16 +2,21 @@
 use crate::fields::{Unanswered, bytes_of};
 use crate::told::Told;
 use bytes::BytesMut;
-use resultset::{Column, Kind, Outcome, decode, encode};
+use resultset::{Column, Kind, Outcome, SetEnd, decode, encode};
 use std::alloc::Global;
 
-/// The result that bytes spell, and its bytes.
-pub(crate) fn result_again(alloc: Global, case: &str, told: &mut Told) -> Result<(), Unanswered> {
+/// The result that bytes spell whose result sets end so, and its bytes.
+pub(crate) fn result_again(
+    alloc: Global,
+    case: &str,
+    end: SetEnd,
+    told: &mut Told,
+) -> Result<(), Unanswered> {
     let bytes = bytes_of(alloc, case)?;
-    let found = decode(alloc, 1, 2, &bytes);
+    let found = decode(alloc, 1, 2, end, &bytes);
     drop(bytes);
     match found? {
-        Some(outcome) => put_again(alloc, told, &outcome),
+        Some(outcome) => put_again(alloc, told, end, &outcome),
         None => {
             told.put("none");
             Ok(())
@@ -19,11 +24,16 @@ pub(crate) fn result_again(alloc: Global, case: &str, told: &mut Told) -> Result
     }
 }
 
-fn put_again(alloc: Global, told: &mut Told, outcome: &Outcome) -> Result<(), Unanswered> {
+fn put_again(
+    alloc: Global,
+    told: &mut Told,
+    end: SetEnd,
+    outcome: &Outcome,
+) -> Result<(), Unanswered> {
     put_outcome(told, outcome);
     told.put(" ");
     let mut bytes = BytesMut::new(alloc);
-    let done = encode(alloc, outcome, 1, 2, &mut bytes);
+    let done = encode(alloc, outcome, 1, 2, end, &mut bytes);
     told.put_bytes(bytes.as_slice());
     drop(bytes);
     let _next = done?;

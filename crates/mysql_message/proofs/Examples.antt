@@ -3,7 +3,7 @@ use Rattle.std.proofs.Common.{[], ◌∷◌, ◌≡◌, refl, Some, None}
 use Rattle.std.specs.Prelude.{codes}
 use Rattle.vt_value.specs.declared.refusal.Refusal.TheVariants.{SyntaxError, DuplicateKey, PacketsOutOfOrder}
 use Rattle.mysql_packet.specs.Frames.{frame}
-use Rattle.mysql_message.specs.Messages.{quit, query, ping, ok_payload, eof_payload, err_payload, command_of}
+use Rattle.mysql_message.specs.Messages.{quit, init_db, query, ping, ok_payload, eof_payload, set_end_payload, err_payload, command_of}
 
 ping_reply : frame 1 (ok_payload 0 2) ≡ 7 ∷ 0 ∷ 0 ∷ 1 ∷ 0 ∷ 0 ∷ 0 ∷ 2 ∷ 0 ∷ 0 ∷ 0 ∷ []
 ping_reply = refl
@@ -26,6 +26,15 @@ out_of_order_reply = refl
 
 last_packet : frame 48 (eof_payload 2) ≡ 5 ∷ 0 ∷ 0 ∷ 0x30 ∷ 0xFE ∷ 0 ∷ 0 ∷ 2 ∷ 0 ∷ []
 last_packet = refl
+
+end_of_one_row : frame 4 (set_end_payload 2) ≡ 7 ∷ 0 ∷ 0 ∷ 4 ∷ 0xFE ∷ 0 ∷ 0 ∷ 2 ∷ 0 ∷ 0 ∷ 0 ∷ []
+end_of_one_row = refl
+
+a_keyspace : command_of (0x02 ∷ codes "shop") ≡ Some (init_db (codes "shop"))
+a_keyspace = refl
+
+no_keyspace : command_of (0x02 ∷ []) ≡ Some (init_db [])
+no_keyspace = refl
 
 a_query : command_of (0x03 ∷ codes "SELECT 1") ≡ Some (query (codes "SELECT 1"))
 a_query = refl

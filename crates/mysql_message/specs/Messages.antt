@@ -4,7 +4,7 @@ use Rattle.vt_value.specs.declared.refusal.Refusal.{Refusal}
 use Rattle.vt_value.specs.Refusals.{code_of, state_of, message_of}
 use Rattle.mysql_packet.specs.Numbers.{little_endian, length_encoded}
 use Rattle.mysql_message.specs.declared.command.Command.{Command}
-use Rattle.mysql_message.specs.declared.command.Command.TheVariants.{Quit, Query, Ping}
+use Rattle.mysql_message.specs.declared.command.Command.TheVariants.{Quit, InitDb, Query, Ping}
 
 -- SERVER_STATUS_AUTOCOMMIT
 abbrev pub autocommit : ℕ
@@ -19,6 +19,10 @@ ok_payload affected status =
 abbrev pub eof_payload : ℕ → List ℕ
 eof_payload status = 0xFE ∷ little_endian 2 0 ++ little_endian 2 status
 
+-- The end of a result set where CLIENT_DEPRECATE_EOF is set: an OK packet of no affected rows, by the header of EOF.
+abbrev pub set_end_payload : ℕ → List ℕ
+set_end_payload status = 0xFE ∷ length_encoded 0 ++ length_encoded 0 ++ little_endian 2 status ++ little_endian 2 0
+
 -- ERR: the code, `#` and the SQL state, the message
 abbrev pub err_payload : Refusal → List ℕ
 err_payload r = 0xFF ∷ little_endian 2 (code_of r) ++ 0x23 ∷ state_of r ++ message_of r
@@ -26,20 +30,23 @@ err_payload r = 0xFF ∷ little_endian 2 (code_of r) ++ 0x23 ∷ state_of r ++ m
 -- what a client asks for
 pub data Request : Type 0 where
   quit : Request
+  init_db : List ℕ → Request
   query : List ℕ → Request
   ping : Request
 
 abbrev pub request_of : Command → Request
 request_of Quit = quit
+request_of (InitDb name) = init_db name.now
 request_of (Query text) = query text.now
 request_of Ping = ping
 
--- The command that a payload is, if it is one: COM_QUIT, COM_QUERY, COM_PING. What follows the byte of COM_QUIT or COM_PING
+-- The command that a payload is, if it is one: COM_QUIT, COM_INIT_DB with a keyspace's name, COM_QUERY, COM_PING. What follows the byte of COM_QUIT or COM_PING
 -- isn't looked at.
 abbrev pub command_of : List ℕ → Option Request
 command_of [] = None
 command_of (b ∷ bytes) =
     if b == 0x01 then Some quit
+    else if b == 0x02 then Some (init_db bytes)
     else if b == 0x03 then Some (query bytes)
     else if b == 0x0E then Some ping
     else None

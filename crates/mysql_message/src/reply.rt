@@ -1,6 +1,6 @@
 ghost use Rattle.std.specs.Prelude.{◌≡◌, ◌+◌, ◌≤◌, ◌++◌, length, IfErr, IfOk, IsOk, OnErr, OnOk};
 ghost use Rattle.mysql_packet.specs.Frames.{frame, number_after};
-ghost use Rattle.mysql_message.specs.Messages.{ok_payload, eof_payload, err_payload};
+ghost use Rattle.mysql_message.specs.Messages.{ok_payload, eof_payload, set_end_payload, err_payload};
 
 use crate::numbers::{length_encoded, little_endian};
 use arrayvec::ArrayVec;
@@ -41,6 +41,23 @@ pub fn put_eof(number: u8, status: u16, out: &mut BytesMut) -> Result<u8, Refusa
 {
     let [low, high, ..] = little_endian(u64::from(status));
     put_short(number, &[0xFE, 0x00, 0x00, low, high], out)
+}
+
+/// Appends the packet that ends a result set where client and server set CLIENT_DEPRECATE_EOF: no affected rows, 0 as
+/// the last insert id, the status, no warnings. It gives the sequence number after it. It refuses only for want of
+/// memory, and then leaves the buffer as it was.
+pub fn put_set_end(number: u8, status: u16, out: &mut BytesMut) -> Result<u8, Refusal>
+    ensures ok { OnOk result (out.new.items ≡ out.old.items ++ frame number (set_end_payload status)) }
+    ensures next { IfOk result (λ n. n ≡ number_after number (set_end_payload status)) }
+    ensures err { OnErr result (out.new.items ≡ out.old.items) }
+    ensures memory { IfErr result (λ e. e ≡ Refusal.OutOfMemory) }
+    // With that much room it can't fail.
+    ensures room { 64 ≤ out.old.spare → IsOk result }
+    // No room is ever lost.
+    ensures capacity { length out.old.items + out.old.spare ≤ length out.new.items + out.new.spare }
+{
+    let [low, high, ..] = little_endian(u64::from(status));
+    put_short(number, &[0xFE, 0x00, 0x00, low, high, 0x00, 0x00], out)
 }
 
 /// Appends an ERR packet: the error code, `#` and the SQL state, and the message of the refusal. It gives the sequence

@@ -87,12 +87,12 @@ on_err (Ok x) p = tt
 on_err (Err e) p = p
 
 -- the payloads of a result set, as they are written
-pub set_shape : (p count eof : List ℕ) (defs' defs rows' rows : List (List ℕ)) → p ≡ count → defs' ≡ defs → rows' ≡ rows
-    → (((p ∷ defs') ++ eof ∷ []) ++ rows') ++ eof ∷ [] ≡ ((count ∷ defs) ++ (eof ∷ rows)) ++ eof ∷ []
-set_shape p count eof defs' defs rows' rows e1 e2 e3 =
-    ap (λ (l : List (List ℕ)). l ++ eof ∷ [])
-    (append_assoc (p ∷ defs') (eof ∷ []) rows' ∙ ap (λ (q : List ℕ). (q ∷ defs') ++ (eof ∷ rows')) e1
-    ∙ ap (λ (d : List (List ℕ)). (count ∷ d) ++ (eof ∷ rows')) e2 ∙ ap (λ (r : List (List ℕ)). (count ∷ defs) ++ (eof ∷ r)) e3)
+pub set_shape : (p count last : List ℕ) (defs' defs behind rows' rows : List (List ℕ)) → p ≡ count → defs' ≡ defs → rows' ≡ rows
+    → (((p ∷ defs') ++ behind) ++ rows') ++ last ∷ [] ≡ ((count ∷ defs) ++ (behind ++ rows)) ++ last ∷ []
+set_shape p count last defs' defs behind rows' rows e1 e2 e3 =
+    ap (λ (l : List (List ℕ)). l ++ last ∷ [])
+    (append_assoc (p ∷ defs') behind rows' ∙ ap (λ (q : List ℕ). (q ∷ defs') ++ (behind ++ rows')) e1
+    ∙ ap (λ (d : List (List ℕ)). (count ∷ d) ++ (behind ++ rows')) e2 ∙ ap (λ (r : List (List ℕ)). (count ∷ defs) ++ (behind ++ r)) e3)
 
 -- What the last packet's result says of all of them.
 module _ {E : Type 0} {start : List ℕ} {first size : ℕ} where

@@ -1,4 +1,5 @@
--- The packets of a result: the text protocol of the MySQL client/server protocol, with EOF packets.
+-- The packets of a result: the text protocol of the MySQL client/server protocol, with EOF packets, and without them where
+-- client and server set CLIENT_DEPRECATE_EOF.
 use Rattle.std.specs.Prelude.{◌≡◌, ℕ, ℤ, pos, negsuc, neg_ℤ, ◌^◌, ◌<◌, ◌≤◌, ◌≤ℤ◌, List, [], ◌∷◌, ◌++◌, length, map, flat_map, codes}
 use Rattle.std.specs.Fmt.{signed_decimal}
 use Rattle.std.specs.List.{AllByRecursion}
@@ -7,11 +8,13 @@ use Rattle.vt_value.specs.declared.value.Value.TheVariants.{Null, Int, Bytes}
 use Rattle.vt_value.specs.Values.{Row}
 use Rattle.mysql_packet.specs.Numbers.{little_endian, length_encoded, length_encoded_string}
 use Rattle.mysql_packet.specs.Frames.{frames_from}
-use Rattle.mysql_message.specs.Messages.{ok_payload, eof_payload, err_payload}
+use Rattle.mysql_message.specs.Messages.{ok_payload, eof_payload, set_end_payload, err_payload}
 use Rattle.resultset.specs.declared.Kind.{Kind}
 use Rattle.resultset.specs.declared.Kind.TheVariants.{BigInt, BigIntUnsigned, VarBinary, Count as count_kind, Sum}
 use Rattle.resultset.specs.declared.Column.{Column}
 use Rattle.resultset.specs.declared.ResultSet.{ResultSet}
+use Rattle.resultset.specs.declared.SetEnd.{SetEnd}
+use Rattle.resultset.specs.declared.SetEnd.TheVariants.{EofPackets, OkPacket}
 use Rattle.resultset.specs.declared.Outcome.{Outcome}
 use Rattle.resultset.specs.declared.Outcome.TheVariants.{Rows, Count, Refused}
 use Rattle.resultset.specs.Flags.{type_of, length_of}
@@ -43,23 +46,32 @@ fixed_fields kind flags =
 abbrev pub definition_payload : Column → List ℕ
 definition_payload c = name_fields c ++ fixed_fields c.kind c.flags
 
--- a result set: the number of columns, each definition, EOF, each row, EOF
-abbrev pub set_payloads : ResultSet → ℕ → List (List ℕ)
-set_payloads set status =
-    length_encoded (length set.columns) ∷ map definition_payload set.columns
-    ++ eof_payload status ∷ map row_payload set.rows ++ eof_payload status ∷ []
+-- what stands behind the definitions of a result set, and what behind its rows
+abbrev pub behind_definitions : SetEnd → ℕ → List (List ℕ)
+behind_definitions EofPackets status = eof_payload status ∷ []
+behind_definitions OkPacket status = []
 
-abbrev pub payloads_of : Outcome → ℕ → List (List ℕ)
-payloads_of (Rows set) status = set_payloads set status
-payloads_of (Count n) status = ok_payload n status ∷ []
-payloads_of (Refused r) status = err_payload r ∷ []
+abbrev pub behind_rows : SetEnd → ℕ → List ℕ
+behind_rows EofPackets status = eof_payload status
+behind_rows OkPacket status = set_end_payload status
+
+-- a result set: the number of columns, each definition and what stands behind them, each row and what stands behind them
+abbrev pub set_payloads : SetEnd → ResultSet → ℕ → List (List ℕ)
+set_payloads end set status =
+    (length_encoded (length set.columns) ∷ map definition_payload set.columns)
+    ++ (behind_definitions end status ++ map row_payload set.rows) ++ behind_rows end status ∷ []
+
+abbrev pub payloads_of : SetEnd → Outcome → ℕ → List (List ℕ)
+payloads_of end (Rows set) status = set_payloads end set status
+payloads_of end (Count n) status = ok_payload n status ∷ []
+payloads_of end (Refused r) status = err_payload r ∷ []
 
 -- the one spelling of a result, from its first sequence number
-abbrev pub encoded : Outcome → ℕ → ℕ → List ℕ
-encoded outcome number status = frames_from number (payloads_of outcome status)
+abbrev pub encoded : SetEnd → Outcome → ℕ → ℕ → List ℕ
+encoded end outcome number status = frames_from number (payloads_of end outcome status)
 
-abbrev pub Encodes : Outcome → ℕ → ℕ → List ℕ → Type 0
-Encodes outcome number status bytes = bytes ≡ encoded outcome number status
+abbrev pub Encodes : SetEnd → Outcome → ℕ → ℕ → List ℕ → Type 0
+Encodes end outcome number status bytes = bytes ≡ encoded end outcome number status
 
 -- SUM over a table of 2 ^ 60 numbers lies far within these bounds
 abbrev pub sum_bound : ℤ

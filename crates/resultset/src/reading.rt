@@ -7,7 +7,7 @@ ghost use Rattle.mysql_packet.specs.Numbers.{length_encoded};
 ghost use Rattle.resultset.specs.declared.Column.{Column};
 ghost use Rattle.resultset.specs.declared.Outcome.{Outcome};
 ghost use Rattle.resultset.specs.declared.ResultSet.{ResultSet};
-ghost use Rattle.resultset.specs.Encoding.{RowFits, IsResult, Encodes, IsTyped, row_payload, set_payloads};
+ghost use Rattle.resultset.specs.Encoding.{RowFits, IsResult, Encodes, IsTyped, row_payload, behind_definitions, set_payloads};
 ghost use Rattle.resultset.specs.Reading.{Gives};
 
 use crate::columns::columns;
@@ -15,32 +15,33 @@ use crate::refusals::refusal_of;
 use crate::unframing::payloads;
 use crate::unread::Unread;
 use crate::values::value_at;
-use crate::{Column, Outcome, ResultSet, encode};
+use crate::{Column, Outcome, ResultSet, SetEnd, encode};
 use bytes::BytesMut;
 use mysql_message::numbers::read_length_encoded;
 use std::alloc::Global;
 use vt_value::{Items, Refusal, Row};
 
-/// The result that has exactly this spelling, with this first sequence number and this status; none where no result
-/// has it. For a client that wants to know what it was told. It refuses only for want of memory.
+/// The result that has exactly this spelling, with this first sequence number, this status and these ends; none where no
+/// result has it. For a client that wants to know what it was told. It refuses only for want of memory.
 pub fn decode(
     alloc: Global,
     number: u8,
     status: u16,
+    end: SetEnd,
     bytes: &[u8],
 ) -> Result<Option<Outcome>, Refusal>
-    ensures found { IfOk result (λ o. IfSome o (λ x. IsResult x × Encodes x number status bytes.now)) }
-    ensures only { IfOk result (λ o. (x : Outcome) → IsResult x → IsTyped x → Encodes x number status bytes.now
+    ensures found { IfOk result (λ o. IfSome o (λ x. IsResult x × Encodes end x number status bytes.now)) }
+    ensures only { IfOk result (λ o. (x : Outcome) → IsResult x → IsTyped x → Encodes end x number status bytes.now
         → o ≡ Some x) }
     ensures memory { IfErr result (λ e. e ≡ Refusal.OutOfMemory) }
 {
-    let outcome = match read(alloc, bytes) {
+    let outcome = match read(alloc, end, bytes) {
         Ok(outcome) => outcome,
         Err(Unread::Malformed) => return Ok(None),
         Err(Unread::OutOfMemory) => return Err(Refusal::OutOfMemory),
     };
     let mut again = BytesMut::new(alloc);
-    encode(alloc, &outcome, number, status, &mut again)?;
+    encode(alloc, &outcome, number, status, end, &mut again)?;
     if again.as_slice() == bytes {
         Ok(Some(outcome))
     } else {
@@ -49,9 +50,9 @@ pub fn decode(
 }
 
 /// The only result that the bytes may spell.
-fn read(alloc: Global, bytes: &[u8]) -> Result<Outcome, Unread>
+fn read(alloc: Global, end: SetEnd, bytes: &[u8]) -> Result<Outcome, Unread>
     ensures fits { IfOk result IsResult }
-    ensures again { (x : Outcome) (number status : ℕ) → IsResult x → IsTyped x → Encodes x number status bytes.now
+    ensures again { (x : Outcome) (number status : ℕ) → IsResult x → IsTyped x → Encodes end x number status bytes.now
         → Gives result (λ y. y ≡ x) }
 {
     let payloads = payloads(alloc, bytes)?;
@@ -62,7 +63,7 @@ fn read(alloc: Global, bytes: &[u8]) -> Result<Outcome, Unread>
     match first.as_slice() {
         [0x00, count @ ..] => read_count(count),
         [0xFF, _, _, _, _, _, _, _, _, message @ ..] => read_refusal(message),
-        head => Ok(Outcome::Rows(read_set(alloc, head, payloads)?)),
+        head => Ok(Outcome::Rows(read_set(alloc, end, head, payloads)?)),
     }
 }
 
@@ -88,10 +89,15 @@ fn read_refusal(message: &[u8]) -> Result<Outcome, Unread>
 }
 
 /// The result set whose first payload is the head.
-fn read_set(alloc: Global, head: &[u8], payloads: &[Items<u8>]) -> Result<ResultSet, Unread>
+fn read_set(
+    alloc: Global,
+    end: SetEnd,
+    head: &[u8],
+    payloads: &[Items<u8>],
+) -> Result<ResultSet, Unread>
     ensures fits { IfOk result (λ set. IsResult (Outcome.Rows set)) }
     ensures again { (set : ResultSet) (status : ℕ) → IsResult (Outcome.Rows set) → IsTyped (Outcome.Rows set)
-        → head.now ≡ length_encoded (length set.columns) → payloads.now ≡ set_payloads set status
+        → head.now ≡ length_encoded (length set.columns) → payloads.now ≡ set_payloads end set status
         → Gives result (λ y. y ≡ set) }
 {
     let len = payloads.len();
@@ -99,12 +105,27 @@ fn read_set(alloc: Global, head: &[u8], payloads: &[Items<u8>]) -> Result<Result
         return Err(Unread::Malformed);
     };
     let count = count as usize;
-    if count == 0 || len < 3 || len - 3 < count {
+    let behind = packets_behind_definitions(end);
+    if count == 0 || len < behind + 2 || len - (behind + 2) < count {
         return Err(Unread::Malformed);
     }
     let columns = columns(alloc, &payloads[1..count + 1])?;
-    let rows = rows(alloc, columns.as_slice(), &payloads[count + 2..len - 1])?;
+    let rows = rows(
+        alloc,
+        columns.as_slice(),
+        &payloads[count + 1 + behind..len - 1],
+    )?;
     Ok(ResultSet { columns, rows })
+}
+
+/// How many packets stand behind the definitions of a result set.
+fn packets_behind_definitions(end: SetEnd) -> usize
+    ensures { result ≡ length (behind_definitions end 0) }
+{
+    match end {
+        SetEnd::EofPackets => 1,
+        SetEnd::OkPacket => 0,
+    }
 }
 
 fn rows(alloc: Global, columns: &[Column], payloads: &[Items<u8>]) -> Result<Items<Row>, Unread>

@@ -3,29 +3,31 @@ ghost use Rattle.mysql_packet.specs.Numbers.{little_endian, length_encoded};
 ghost use Rattle.mysql_packet.specs.Frames.{frame, frames_from, number_after, number_after_all};
 ghost use Rattle.resultset.specs.Flags.{type_of, length_of};
 ghost use Rattle.resultset.specs.Encoding.{value_bytes, row_payload, definition_payload, name_fields};
-ghost use Rattle.resultset.specs.Encoding.{fixed_fields, set_payloads, payloads_of, encoded, IsSmall};
+ghost use Rattle.resultset.specs.Encoding.{fixed_fields, behind_definitions, behind_rows, set_payloads, payloads_of, encoded, IsSmall};
 
-use crate::{Column, Kind, Outcome, ResultSet};
+use crate::{Column, Kind, Outcome, ResultSet, SetEnd};
 use bytes::BytesMut;
 use itoa::Buffer;
 use mysql_message::numbers::{little_endian, put_length_encoded, put_length_encoded_string};
-use mysql_message::{put_eof, put_err, put_ok};
+use mysql_message::{put_eof, put_err, put_ok, put_set_end};
 use mysql_packet::put_payload;
 use std::alloc::Global;
 use vt_value::{Refusal, Row, Value};
 
 /// Appends the packets of a result, the first with this sequence number, and gives the number after the last. A count
 /// is an OK packet and a refusal an ERR packet. A result set is the number of its columns, a definition of each, EOF,
-/// its rows, EOF, a packet for each. It refuses only for want of memory, and then leaves the buffer as it was.
+/// its rows, EOF, a packet for each; without EOF packets it ends with a packet laid out as OK. It refuses only for want
+/// of memory, and then leaves the buffer as it was.
 pub fn encode(
     alloc: Global,
     outcome: &Outcome,
     number: u8,
     status: u16,
+    end: SetEnd,
     out: &mut BytesMut,
 ) -> Result<u8, Refusal>
-    ensures ok { OnOk result (out.new.items ≡ out.old.items ++ encoded outcome.now number status) }
-    ensures next { IfOk result (λ n. n ≡ number_after_all number (payloads_of outcome.now status)) }
+    ensures ok { OnOk result (out.new.items ≡ out.old.items ++ encoded end outcome.now number status) }
+    ensures next { IfOk result (λ n. n ≡ number_after_all number (payloads_of end outcome.now status)) }
     ensures err { OnErr result (out.new.items ≡ out.old.items) }
     ensures memory { IfErr result (λ e. e ≡ Refusal.OutOfMemory) }
     // With that much room a count or a refusal can't fail.
@@ -34,7 +36,7 @@ pub fn encode(
     ensures capacity { length out.old.items + out.old.spare ≤ length out.new.items + out.new.spare }
 {
     match outcome {
-        Outcome::Rows(set) => put_set_or_nothing(alloc, set, number, status, out),
+        Outcome::Rows(set) => put_set_or_nothing(alloc, set, number, status, end, out),
         Outcome::Count(affected) => put_ok(number, *affected, status, out),
         Outcome::Refused(refusal) => put_err(number, *refusal, out),
     }
@@ -45,16 +47,17 @@ fn put_set_or_nothing(
     set: &ResultSet,
     number: u8,
     status: u16,
+    end: SetEnd,
     out: &mut BytesMut,
 ) -> Result<u8, Refusal>
-    ensures ok { OnOk result (out.new.items ≡ out.old.items ++ frames_from number (set_payloads set.now status)) }
-    ensures next { IfOk result (λ n. n ≡ number_after_all number (set_payloads set.now status)) }
+    ensures ok { OnOk result (out.new.items ≡ out.old.items ++ frames_from number (set_payloads end set.now status)) }
+    ensures next { IfOk result (λ n. n ≡ number_after_all number (set_payloads end set.now status)) }
     ensures err { OnErr result (out.new.items ≡ out.old.items) }
     ensures memory { IfErr result (λ e. e ≡ Refusal.OutOfMemory) }
     ensures capacity { length out.old.items + out.old.spare ≤ length out.new.items + out.new.spare }
 {
     let len = out.len();
-    let result = put_set(alloc, set, number, status, out);
+    let result = put_set(alloc, set, number, status, end, out);
     if result.is_err() {
         out.truncate(len);
     }
@@ -66,10 +69,11 @@ fn put_set(
     set: &ResultSet,
     number: u8,
     status: u16,
+    end: SetEnd,
     out: &mut BytesMut,
 ) -> Result<u8, Refusal>
-    ensures ok { OnOk result (out.new.items ≡ out.old.items ++ frames_from number (set_payloads set.now status)) }
-    ensures next { IfOk result (λ n. n ≡ number_after_all number (set_payloads set.now status)) }
+    ensures ok { OnOk result (out.new.items ≡ out.old.items ++ frames_from number (set_payloads end set.now status)) }
+    ensures next { IfOk result (λ n. n ≡ number_after_all number (set_payloads end set.now status)) }
     ensures err { OnErr result (take (length out.old.items) out.new.items ≡ out.old.items) }
     ensures memory { IfErr result (λ e. e ≡ Refusal.OutOfMemory) }
     ensures capacity { length out.old.items + out.old.spare ≤ length out.new.items + out.new.spare }
@@ -78,9 +82,42 @@ fn put_set(
     put_length_encoded(set.columns.len() as u64, &mut payload)?;
     let number = put_payload(number, &payload, out)?;
     let number = put_definitions(set.columns.as_slice(), number, &mut payload, out)?;
-    let number = put_eof(number, status, out)?;
+    let number = put_definitions_end(number, status, end, out)?;
     let number = put_rows(set.rows.as_slice(), number, &mut payload, out)?;
-    put_eof(number, status, out)
+    put_rows_end(number, status, end, out)
+}
+
+/// Appends what stands behind the definitions.
+fn put_definitions_end(
+    number: u8,
+    status: u16,
+    end: SetEnd,
+    out: &mut BytesMut,
+) -> Result<u8, Refusal>
+    ensures ok { OnOk result (out.new.items ≡ out.old.items ++ frames_from number (behind_definitions end status)) }
+    ensures next { IfOk result (λ n. n ≡ number_after_all number (behind_definitions end status)) }
+    ensures err { OnErr result (out.new.items ≡ out.old.items) }
+    ensures memory { IfErr result (λ e. e ≡ Refusal.OutOfMemory) }
+    ensures capacity { length out.old.items + out.old.spare ≤ length out.new.items + out.new.spare }
+{
+    match end {
+        SetEnd::EofPackets => put_eof(number, status, out),
+        SetEnd::OkPacket => Ok(number),
+    }
+}
+
+/// Appends what stands behind the rows.
+fn put_rows_end(number: u8, status: u16, end: SetEnd, out: &mut BytesMut) -> Result<u8, Refusal>
+    ensures ok { OnOk result (out.new.items ≡ out.old.items ++ frame number (behind_rows end status)) }
+    ensures next { IfOk result (λ n. n ≡ number_after number (behind_rows end status)) }
+    ensures err { OnErr result (out.new.items ≡ out.old.items) }
+    ensures memory { IfErr result (λ e. e ≡ Refusal.OutOfMemory) }
+    ensures capacity { length out.old.items + out.old.spare ≤ length out.new.items + out.new.spare }
+{
+    match end {
+        SetEnd::EofPackets => put_eof(number, status, out),
+        SetEnd::OkPacket => put_set_end(number, status, out),
+    }
 }
 
 /// Appends a packet for each definition. The payload is scratch, for its memory.

@@ -27,7 +27,7 @@ use Rattle.session.specs.Outcomes.{Seen, Means}
 use Rattle.session.specs.Outcomes as means
 use Rattle.session.specs.Alone.{MeansOver, MeansAlone}
 use Rattle.session.specs.Alone as over
-use Rattle.session.specs.Talk.{Terms, Answers, Replies, Talk}
+use Rattle.session.specs.Talk.{Terms, Answers, Replies, Conversation, Talk}
 use Rattle.session.specs.Talk as t
 use Rattle.session.proofs.Servings.{SoFar}
 
@@ -51,9 +51,12 @@ module _ (o : Opening) (l : Limits) (terms : Terms Seen) where
 
   answers_on : (at : Phase) (s now : Seen) (p : Payload) (out : List ℕ) (b : Standing) → Answers terms (Means o l) at s p out b now → Follows s now
   answers_on _ s _ _ _ _ (t.out_of_order first) = same_seen s
+  answers_on _ s _ _ _ _ (t.logs_in is) = same_seen s
   answers_on _ s _ _ _ _ (t.quits first command) = same_seen s
   answers_on _ s _ _ _ _ (t.unknown first command) = same_seen s
   answers_on _ s _ _ _ _ (t.pinged first command) = same_seen s
+  answers_on _ s _ _ _ _ (t.selected name first command is) = same_seen s
+  answers_on _ s _ _ _ _ (t.unknown_keyspace name first command is) = same_seen s
   answers_on _ s _ _ _ _ (t.queried {now} text outcome first command may) =
       record { on = means_on s text outcome now may; session = means_session s text outcome now may }
 
@@ -75,9 +78,12 @@ module _ (o : Opening) (l : Limits) (terms : Terms Seen) where
     answers_alone : (at : Phase) (s now : Seen) (p : Payload) (out : List ℕ) (b : Standing) → Answers terms (Means o l) at s p out b now
         → IsLegal (MayFollow o) s.seen → NoOthers s now → Answers terms (MeansAlone o l) at s p out b now
     answers_alone _ s _ _ _ _ (t.out_of_order first) legal alone = t.out_of_order first
+    answers_alone _ s _ _ _ _ (t.logs_in is) legal alone = t.logs_in is
     answers_alone _ s _ _ _ _ (t.quits first command) legal alone = t.quits first command
     answers_alone _ s _ _ _ _ (t.unknown first command) legal alone = t.unknown first command
     answers_alone _ s _ _ _ _ (t.pinged first command) legal alone = t.pinged first command
+    answers_alone _ s _ _ _ _ (t.selected name first command is) legal alone = t.selected name first command is
+    answers_alone _ s _ _ _ _ (t.unknown_keyspace name first command is) legal alone = t.unknown_keyspace name first command is
     answers_alone _ s _ _ _ _ (t.queried {now} text outcome first command may) legal alone =
         t.queried text outcome first command (record { means = may; over = means_over s text outcome now may legal alone })
 
@@ -91,32 +97,37 @@ module _ (o : Opening) (l : Limits) (terms : Terms Seen) where
         (replies_alone next mid now ps rest b r (follows.on.legal legal) (behind s now alone mid follows.on.later later follows.session))
     replies_alone _ s _ _ _ _ (t.ends {at} {t = now} {p} {out} {end} a) legal alone = t.ends (answers_alone at s now p out (Ended end) a legal alone)
 
+    conversation_alone : (begin : Standing) (s now : Seen) (ps : List Payload) (out : List ℕ) (b : Standing) → Conversation terms (Means o l) begin s ps out b now
+        → IsLegal (MayFollow o) s.seen → NoOthers s now → Conversation terms (MeansAlone o l) begin s ps out b now
+    conversation_alone _ s _ _ _ _ t.new legal alone = t.new
+    conversation_alone _ s _ _ _ _ (t.begun {standing = b} {at} {t = now} {ps} {out} g r) legal alone = t.begun g (replies_alone at s now ps out b r legal alone)
+
     -- a whole conversation
-    pub talk_alone : (limit : ℕ) (begin : Phase) (s now : Seen) (bytes out : List ℕ) (end : End) → IsLegal (MayFollow o) s.seen
+    pub talk_alone : (limit : ℕ) (begin : Standing) (s now : Seen) (bytes out : List ℕ) (end : End) → IsLegal (MayFollow o) s.seen
         → Talk limit terms (Means o l) begin s bytes out end now → NoOthers s now → Talk limit terms (MeansAlone o l) begin s bytes out end now
     talk_alone limit begin s _ bytes _ _ legal (t.ended {out} {end} {t = now} payloads rest splits r) alone =
-        t.ended payloads rest splits (replies_alone begin s now payloads out (Ended end) r legal alone)
+        t.ended payloads rest splits (conversation_alone begin s now payloads out (Ended end) r legal alone)
     talk_alone limit begin s _ bytes _ _ legal (t.ended_before {out} {end} {t = now} payloads fault refused r) alone =
-        t.ended_before payloads fault refused (replies_alone begin s now payloads out (Ended end) r legal alone)
+        t.ended_before payloads fault refused (conversation_alone begin s now payloads out (Ended end) r legal alone)
     talk_alone limit begin s _ bytes _ _ legal (t.refused {out} {at} {t = now} payloads fault refused r) alone =
-        t.refused payloads fault refused (replies_alone begin s now payloads out (At at) r legal alone)
+        t.refused payloads fault refused (conversation_alone begin s now payloads out (At at) r legal alone)
     talk_alone limit begin s _ bytes _ _ legal (t.closed {out} {at} {t = now} payloads splits r) alone =
-        t.closed payloads splits (replies_alone begin s now payloads out (At at) r legal alone)
+        t.closed payloads splits (conversation_alone begin s now payloads out (At at) r legal alone)
     talk_alone limit begin s _ bytes _ _ legal (t.truncated {out} {at} {t = now} payloads b rest splits r) alone =
-        t.truncated payloads b rest splits (replies_alone begin s now payloads out (At at) r legal alone)
+        t.truncated payloads b rest splits (conversation_alone begin s now payloads out (At at) r legal alone)
 
     -- of what was read and written
-    pub served_alone : (limit : ℕ) (begin : Phase) (s now : Seen) (end : End) (a b c d : Option (List ℕ)) → IsLegal (MayFollow o) s.seen
+    pub served_alone : (limit : ℕ) (begin : Standing) (s now : Seen) (end : End) (a b c d : Option (List ℕ)) → IsLegal (MayFollow o) s.seen
         → SoFar a b c d (λ read written. Talk limit terms (Means o l) begin s read written end now) → NoOthers s now
         → SoFar a b c d (λ read written. Talk limit terms (MeansAlone o l) begin s read written end now)
     served_alone limit begin s now end a b c d legal talk alone =
         (talk.0, talk.1, talk.2, talk.3, talk_alone limit begin s now talk.0 talk.1 end legal talk.4 alone)
 
     -- the answer to a piece
-    pub fed_alone : (at : Phase) (s now : Seen) (fed : Fed) (out : List ℕ) (b : Standing) → IsLegal (MayFollow o) s.seen
+    pub fed_alone : (at : Standing) (s now : Seen) (fed : Fed) (out : List ℕ) (b : Standing) → IsLegal (MayFollow o) s.seen
         → AnswersFed terms (Means o l) at s fed out b now → NoOthers s now → AnswersFed terms (MeansAlone o l) at s fed out b now
-    fed_alone at s _ fed _ _ legal (sessions.ended {out} {end} {now} r) alone = sessions.ended (replies_alone at s now fed.payloads out (Ended end) r legal alone)
+    fed_alone at s _ fed _ _ legal (sessions.ended {out} {end} {now} r) alone = sessions.ended (conversation_alone at s now fed.payloads out (Ended end) r legal alone)
     fed_alone at s _ fed _ _ legal (sessions.goes_on {out} {at = next} {now} no_fault r) alone =
-        sessions.goes_on no_fault (replies_alone at s now fed.payloads out (At next) r legal alone)
+        sessions.goes_on no_fault (conversation_alone at s now fed.payloads out (At next) r legal alone)
     fed_alone at s _ fed _ _ legal (sessions.refused {out} {at = next} {now} fault is r) alone =
-        sessions.refused fault is (replies_alone at s now fed.payloads out (At next) r legal alone)
+        sessions.refused fault is (conversation_alone at s now fed.payloads out (At next) r legal alone)

@@ -5,6 +5,7 @@ use Rattle.std.specs.Prelude.{Bool, IsTrue, ◌↔◌, IsNone, IfSome, IfOk, OnE
 use Rattle.std.specs.Io.KnownBytes.{Appends}
 use Rattle.std.proofs.KnownBytes.{Appends-nil, Appends-trans}
 use mathlib.Core.List.{IsPrefix}
+use Rattle.journal.proofs.Fronts.{prefix_nil, prefix_more}
 use Rattle.mysql_packet.specs.declared.framer.Payload.{Payload}
 use Rattle.mysql_packet.specs.declared.framer.Fault.{Fault}
 use Rattle.mysql_packet.specs.declared.framer.Fed.{Fed}
@@ -13,19 +14,29 @@ use Rattle.mysql_packet.specs.Frames.{Splits, IsRefusedAfter}
 use Rattle.resultset.specs.declared.Outcome.{Outcome}
 use Rattle.session.specs.declared.end.End.{End}
 use Rattle.session.specs.declared.end.SessionFault.{SessionFault}
-use Rattle.session.specs.declared.end.End.TheVariants.{Quit, Closed, Truncated, Broken}
+use Rattle.session.specs.declared.end.End.TheVariants.{Quit, Closed, Truncated, Broken, Denied}
 use Rattle.session.specs.declared.standing.Phase.{Phase}
+use Rattle.session.specs.declared.standing.Phase.TheVariants.{Response}
+use Rattle.mysql_packet.specs.Frames.{frame}
+use Rattle.mysql_handshake.specs.Handshakes.{greeting_payload}
 use Rattle.session.specs.declared.standing.Standing.{Standing}
-use Rattle.session.specs.declared.standing.Standing.TheVariants.{At, Ended}
+use Rattle.session.specs.declared.standing.Standing.TheVariants.{New, At, Ended}
 use Rattle.session.specs.Devices.{AppendsFront}
 use Rattle.session.specs.Faults.{IsFrontOf, IsCutOff, Holds, HasBrokenOff, IsUnfinished}
 use Rattle.session.specs.Faults as f
-use Rattle.session.specs.Standings.{end_of}
-use Rattle.session.specs.Talk.{Terms, Answers, Replies, Talk, IsByCommand, IsByInput, refusal_bytes}
+use Rattle.mysql_handshake.specs.Native.{is_right}
+use Rattle.vschema.specs.declared.schema.Keyspace.{Keyspace}
+use Rattle.session.specs.declared.hello.Hello.{Hello}
+use Rattle.session.specs.declared.standing.Login.{Login}
+use Rattle.session.specs.Standings.{end_of, HasBegun}
+use Rattle.session.specs.Logins.{Admits, LogsIn, login_of}
+use Rattle.session.specs.Logins as l
+use Rattle.session.specs.Packets.{refusal_bytes, reply_number}
+use Rattle.session.specs.Talk.{Terms, Greets, Answers, Replies, Conversation, Talk, IsByCommand, IsByInput}
 use Rattle.session.specs.Talk as t
 use Rattle.session.specs.Sessions.{SessionState, HasTalked, HasTalkedOn, AnswersFed, FedBy}
 use Rattle.session.specs.Sessions as s
-use Rattle.session.proofs.RepliesLemmas.{go_on, one_reply, stay_ended}
+use Rattle.session.proofs.RepliesLemmas.{go_on, talk_on, not_new, one_reply, stay_ended}
 
 abbrev Known : Type 0
 Known = Option (List ℕ)
@@ -94,46 +105,87 @@ module _ {S : Type 0} (terms : Terms S) (May : S → List ℕ → Outcome → S 
       → Written a b (λ out. Replies terms May begin first ps out standing now) → Written a b (λ out. Replies terms May begin first ps out then now)
   standing_is now a b ps standing then is r = (r.0, r.1, subst (λ (x : Standing). Replies terms May begin first ps r.0 x now) is r.2)
 
+-- a new session's greeting
+module _ (hello : Hello) (begin : Standing) (a b : Known) (bytes : List ℕ) (new : begin ≡ New) (is : bytes ≡ frame 0 (greeting_payload hello.id hello.salt)) where
+  greets_so : Greets hello begin bytes Response
+  greets_so =
+      subst (λ (x : Standing). Greets hello x bytes Response) (sym new) (subst (λ (front : List ℕ). Greets hello New front Response) (sym is) t.greets)
+
+  pub greeted : Appends a b bytes → Written a b (λ front. Greets hello begin front Response)
+  greeted taken = (bytes, taken, greets_so)
+
+  pub greeted_front : AppendsFront a b bytes → (front : List ℕ) × (phase : Phase) × AppendsFront a b front × Greets hello begin front phase
+  greeted_front taken = (bytes, Response, taken, greets_so)
+
+module _ {S : Type 0} (terms : Terms S) (May : S → List ℕ → Outcome → S → Type 0) (begin : Standing) (first : S) where
+  -- the greeting, where there is one, and the replies behind it
+  pub begun : (now : S) (a b c : Known) (at : Phase) (ps : List Payload) (standing : Standing) → Written a b (λ front. Greets terms.hello begin front at)
+      → Written b c (λ out. Replies terms May at first ps out standing now) → Written a c (λ out. Conversation terms May begin first ps out standing now)
+  begun now a b c at ps standing g r = (g.0 ++ r.0, Appends-trans a b c g.0 r.0 g.1 r.1, t.begun g.2 r.2)
+
+  standing_then : (now : S) (a b : Known) (ps : List Payload) (standing then : Standing) → standing ≡ then
+      → Written a b (λ out. Conversation terms May begin first ps out standing now) → Written a b (λ out. Conversation terms May begin first ps out then now)
+  standing_then now a b ps standing then is r = (r.0, r.1, subst (λ (x : Standing). Conversation terms May begin first ps r.0 x now) is r.2)
+
   pub fed_ended : (now : S) (a b : Known) (fed : Fed) (standing : Standing) (end : End) → standing ≡ Ended end
-      → Written a b (λ out. Replies terms May begin first fed.payloads out standing now) → Written a b (λ out. AnswersFed terms May begin first fed out (Ended end) now)
-  fed_ended now a b fed standing end is r = let q = standing_is now a b fed.payloads standing (Ended end) is r in (q.0, q.1, s.ended q.2)
+      → Written a b (λ out. Conversation terms May begin first fed.payloads out standing now) → Written a b (λ out. AnswersFed terms May begin first fed out (Ended end) now)
+  fed_ended now a b fed standing end is r = let q = standing_then now a b fed.payloads standing (Ended end) is r in (q.0, q.1, s.ended q.2)
 
   pub fed_goes_on : (now : S) (a b : Known) (fed : Fed) (standing : Standing) (next : Phase) → standing ≡ At next → fed.fault ≡ None
-      → Written a b (λ out. Replies terms May begin first fed.payloads out standing now) → Written a b (λ out. AnswersFed terms May begin first fed out (At next) now)
-  fed_goes_on now a b fed standing next is no_fault r = let q = standing_is now a b fed.payloads standing (At next) is r in (q.0, q.1, s.goes_on no_fault q.2)
+      → Written a b (λ out. Conversation terms May begin first fed.payloads out standing now) → Written a b (λ out. AnswersFed terms May begin first fed out (At next) now)
+  fed_goes_on now a b fed standing next is no_fault r = let q = standing_then now a b fed.payloads standing (At next) is r in (q.0, q.1, s.goes_on no_fault q.2)
 
   pub fed_refused : (now : S) (a b c : Known) (fed : Fed) (fault : Fault) (standing : Standing) (next : Phase) → standing ≡ At next → fed.fault ≡ Some fault
-      → Written a b (λ out. Replies terms May begin first fed.payloads out standing now) → Appends b c (refusal_bytes fault.number fault.refusal)
+      → Written a b (λ out. Conversation terms May begin first fed.payloads out standing now) → Appends b c (refusal_bytes fault.number fault.refusal)
       → Written a c (λ out. AnswersFed terms May begin first fed out (Ended Broken) now)
   fed_refused now a b c fed fault standing next at is r told =
-      let q = standing_is now a b fed.payloads standing (At next) at r in
+      let q = standing_then now a b fed.payloads standing (At next) at r in
       (q.0 ++ refusal_bytes fault.number fault.refusal, Appends-trans a b c q.0 (refusal_bytes fault.number fault.refusal) q.1 told, s.refused fault is q.2)
 
-  answers_of : (ps : List Payload) (out : List ℕ) (standing : Standing) (now : S) → Replies terms May begin first ps out standing now
-      → AnswersFed terms May begin first (record { payloads = ps; fault = None }) out standing now
-  answers_of ps out (At next) now r = s.goes_on refl r
-  answers_of ps out (Ended end) now r = s.ended r
+  answers_of : (at : Phase) (ps : List Payload) (greeting out : List ℕ) (standing : Standing) (now : S) → Greets terms.hello begin greeting at
+      → Replies terms May at first ps out standing now → AnswersFed terms May begin first (record { payloads = ps; fault = None }) (greeting ++ out) standing now
+  answers_of at ps greeting out New now g r = absurd (not_new terms May at first now ps out New refl r)
+  answers_of at ps greeting out (At next) now g r = s.goes_on refl (t.begun g r)
+  answers_of at ps greeting out (Ended end) now g r = s.ended (t.begun g r)
+
+  -- the sink failed at the greeting
+  pub greeting_cut : (a b : Known) (fed : Fed) → (front : List ℕ) × (phase : Phase) × AppendsFront a b front × Greets terms.hello begin front phase
+      → Written a b (λ written. IsCutOff terms May begin first fed written first)
+  greeting_cut a b fed cut = (
+    cut.2.0,
+    cut.2.2,
+    record {
+      part = record { payloads = []; fault = None };
+      told = cut.0 ++ [];
+      standing = At cut.1;
+      front = f.some refl (prefix_nil fed.payloads);
+      answers = s.goes_on refl (t.begun cut.3 t.none);
+      taken = prefix_more cut.2.0 cut.0 [] cut.2.1;
+    },
+  )
 
   -- the sink failed at the replies to the payloads, or at the refusal of the fault behind them
-  pub fed_cut : (now : S) (a b : Known) (fed : Fed) → Front a b fed.payloads now → Written a b (λ written. IsCutOff terms May begin first fed written now)
-  fed_cut now a b fed cut = (
-    cut.4.0,
-    cut.4.2,
+  pub fed_cut : (now : S) (a b c : Known) (at : Phase) (fed : Fed) → Written a b (λ front. Greets terms.hello begin front at)
+      → (done : List Payload) × (out : List ℕ) × (standing : Standing) × IsPrefix done fed.payloads × AppendsFront b c out × Replies terms May at first done out standing now
+      → Written a c (λ written. IsCutOff terms May begin first fed written now)
+  fed_cut now a b c at fed g cut = (
+    g.0 ++ cut.4.0,
+    Appends-trans a b c g.0 cut.4.0 g.1 cut.4.2,
     record {
       part = record { payloads = cut.0; fault = None };
-      told = cut.1;
+      told = g.0 ++ cut.1;
       standing = cut.2;
       front = f.some refl cut.3;
-      answers = answers_of cut.0 cut.1 cut.2 now cut.5;
-      taken = cut.4.1;
+      answers = answers_of at cut.0 g.0 cut.1 cut.2 now g.2 cut.5;
+      taken = prefix_behind g.0 cut.4.0 cut.1 cut.4.1;
     },
   )
 
   pub refusal_cut : (now : S) (a b c : Known) (fed : Fed) (fault : Fault) (standing : Standing) (next : Phase) → standing ≡ At next → fed.fault ≡ Some fault
-      → Written a b (λ out. Replies terms May begin first fed.payloads out standing now) → AppendsFront b c (refusal_bytes fault.number fault.refusal)
+      → Written a b (λ out. Conversation terms May begin first fed.payloads out standing now) → AppendsFront b c (refusal_bytes fault.number fault.refusal)
       → Written a c (λ written. IsCutOff terms May begin first fed written now)
   refusal_cut now a b c fed fault standing next at is r cut =
-      let q = standing_is now a b fed.payloads standing (At next) at r in (
+      let q = standing_then now a b fed.payloads standing (At next) at r in (
         q.0 ++ cut.0,
         Appends-trans a b c q.0 cut.0 q.1 cut.2,
         record {
@@ -147,18 +199,16 @@ module _ {S : Type 0} (terms : Terms S) (May : S → List ℕ → Outcome → S 
       )
 
 module _ {S : Type 0} (terms : Terms S) (May : S → List ℕ → Outcome → S → Type 0) (old new : SessionState) (piece : List ℕ) (fed : Fed)
-    (by : FedBy old.framing new.framing piece fed) (phase : Phase) (at : old.standing ≡ At phase) (begin : Phase) (first mid now : S) (stream out : List ℕ)
+    (by : FedBy old.framing new.framing piece fed) (begin : Standing) (first mid now : S) (stream out : List ℕ)
     (before : HasTalked terms May begin old first stream out mid) where
   abbrev payloads : List Payload
   payloads = before.payloads ++ fed.payloads
 
-  joined : (more : List Payload) (written : List ℕ) (standing : Standing) → Replies terms May phase mid more written standing now
-      → Replies terms May begin first (before.payloads ++ more) (out ++ written) standing now
-  joined more written standing r =
-      let same : At before.phase ≡ At phase = sym before.goes_on ∙ at in
-      go_on terms May begin phase first mid now before.payloads more out written (At before.phase) standing same before.replies r
+  joined : (more : List Payload) (written : List ℕ) (standing : Standing) → Conversation terms May old.standing mid more written standing now
+      → Conversation terms May begin first (before.payloads ++ more) (out ++ written) standing now
+  joined more written standing r = talk_on terms May begin old.standing standing first mid now before.payloads more out written before.replies r
 
-  ended_by : (written : List ℕ) (e : End) → Replies terms May begin first payloads (out ++ written) (Ended e) now → (o : Option Fault) → fed.fault ≡ o
+  ended_by : (written : List ℕ) (e : End) → Conversation terms May begin first payloads (out ++ written) (Ended e) now → (o : Option Fault) → fed.fault ≡ o
       → Talk old.framing.limit terms May begin first (stream ++ piece) (out ++ written) e now
   ended_by written e r None is =
       let read = by.payloads is stream before.payloads before.read in
@@ -169,17 +219,16 @@ module _ {S : Type 0} (terms : Terms S) (May : S → List ℕ → Outcome → S 
   abbrev Limited : ℕ → List ℕ → End → Type 0
   Limited n bytes e = Talk n terms May begin first (stream ++ piece) bytes e now
 
-  pub talked_on : (written : List ℕ) (standing : Standing) → new.standing ≡ standing → AnswersFed terms May phase mid fed written standing now
+  pub talked_on : (written : List ℕ) (standing : Standing) → new.standing ≡ standing → AnswersFed terms May old.standing mid fed written standing now
       → HasTalkedOn terms May begin new first (stream ++ piece) (out ++ written) (end_of standing) now
   talked_on written _ is (s.ended {end = e} r) =
       let L : ℕ → Type 0 = λ n. Limited n (out ++ written) e in
       subst L (sym by.limit) (ended_by written e (joined fed.payloads written (Ended e) r) fed.fault refl)
   talked_on written _ is (s.goes_on {at = next} no_fault r) = record {
     payloads = payloads;
-    phase = next;
-    goes_on = is;
+    goes_on = ap end_of is;
     read = by.payloads no_fault stream before.payloads before.read;
-    replies = joined fed.payloads written (At next) r;
+    replies = subst (λ (b : Standing). Conversation terms May begin first payloads (out ++ written) b now) (sym is) (joined fed.payloads written (At next) r);
   }
   talked_on _ _ is (s.refused {out = said} {at = next} f fault r) =
       let told : List ℕ = refusal_bytes f.number f.refusal in
@@ -207,7 +256,7 @@ module _ {S : Type 0} (terms : Terms S) (May : S → List ℕ → Outcome → S 
   front_of part whole (f.some none front) = f.some none (prefix_behind before.payloads part.payloads whole.payloads front)
   front_of _ _ (f.all {fed = part}) = f.all
 
-  answered : (part : Fed) (told : List ℕ) (standing : Standing) → AnswersFed terms May phase mid part told standing now
+  answered : (part : Fed) (told : List ℕ) (standing : Standing) → AnswersFed terms May old.standing mid part told standing now
       → AnswersFed terms May begin first (behind part) (out ++ told) standing now
   answered part told _ (s.ended {end = e} r) = s.ended (joined part.payloads told (Ended e) r)
   answered part told _ (s.goes_on {at = next} no_fault r) = s.goes_on no_fault (joined part.payloads told (At next) r)
@@ -216,7 +265,7 @@ module _ {S : Type 0} (terms : Terms S) (May : S → List ℕ → Outcome → S 
       subst (λ (bs : List ℕ). AnswersFed terms May begin first (behind part) bs (Ended Broken) now) (append_assoc out said told)
       (s.refused f fault (joined part.payloads said (At next) r))
 
-  pub broken_off : (written : List ℕ) → IsCutOff terms May phase mid fed written now
+  pub broken_off : (written : List ℕ) → IsCutOff terms May old.standing mid fed written now
       → HasBrokenOff old.framing.limit terms May begin first (stream ++ piece) (out ++ written) now
   broken_off written cut = record {
     fed = behind fed;
@@ -232,13 +281,15 @@ module _ {S : Type 0} (terms : Terms S) (May : S → List ℕ → Outcome → S 
   }
 
 -- the end of the input, between two payloads or within one
-pub whole_end : {S : Type 0} (terms : Terms S) (May : S → List ℕ → Outcome → S → Type 0) (begin at : Phase) (s now : S) (limit : ℕ) (bytes out : List ℕ) (payloads : List Payload) (rest : List ℕ) (end : End)
-    → Splits limit bytes payloads rest → Replies terms May begin s payloads out (At at) now → (rest ≡ [] → end ≡ Closed) → ((rest ≡ [] → ⊥) → end ≡ Truncated)
+pub whole_end : {S : Type 0} (terms : Terms S) (May : S → List ℕ → Outcome → S → Type 0) (begin at : Standing) (s now : S) (limit : ℕ) (bytes out : List ℕ) (payloads : List Payload) (rest : List ℕ) (end : End)
+    → HasBegun at → end_of at ≡ None → Splits limit bytes payloads rest → Conversation terms May begin s payloads out at now → (rest ≡ [] → end ≡ Closed) → ((rest ≡ [] → ⊥) → end ≡ Truncated)
     → Talk limit terms May begin s bytes out end now
-whole_end {S} terms May begin at s now limit bytes out payloads [] end splits replies closed truncated =
+whole_end {S} terms May begin New s now limit bytes out payloads rest end has goes splits replies closed truncated = absurd has
+whole_end {S} terms May begin (Ended e) s now limit bytes out payloads rest end has goes splits replies closed truncated = absurd cc
+whole_end {S} terms May begin (At at) s now limit bytes out payloads [] end has goes splits replies closed truncated =
     let P : End → Type 0 = λ e. Talk limit terms May begin s bytes out e now in
     subst P (sym (closed refl)) (t.closed payloads splits replies)
-whole_end {S} terms May begin at s now limit bytes out payloads (b ∷ rest) end splits replies closed truncated =
+whole_end {S} terms May begin (At at) s now limit bytes out payloads (b ∷ rest) end has goes splits replies closed truncated =
     let P : End → Type 0 = λ e. Talk limit terms May begin s bytes out e now in
     subst P (sym (truncated (λ e. cc))) (t.truncated payloads b rest splits replies)
 
@@ -259,12 +310,29 @@ is_end true rest end both closed truncated = (λ is. closed refl, λ not. absurd
 is_end false rest end both closed truncated = (λ is. absurd (let wrong : IsTrue false = both.1 is in cc), λ not. truncated refl)
 
 -- replies end by a command
+admits_ends : (status number : ℕ) (login : Login) (right : Bool) (out : List ℕ) (b : Standing) → Admits status number login right out b → IfSome (end_of b) IsByCommand
+admits_ends status number login right _ _ (l.denied is) = tt
+admits_ends status number login right _ _ (l.unknown is none) = tt
+admits_ends status number login right _ _ (l.admitted is known) = tt
+
+logs_in_ends : (hello : Hello) (keyspaces : List Keyspace) (status : ℕ) (at : Phase) (p : Payload) (out : List ℕ) (b : Standing)
+    → LogsIn hello keyspaces status at p out b → IfSome (end_of b) IsByCommand
+logs_in_ends hello keyspaces status _ _ _ _ (l.unreadable first none) = tt
+logs_in_ends hello keyspaces status _ _ _ _ (l.switches r first is other) = tt
+logs_in_ends hello keyspaces status _ p _ _ (l.responds {out} {standing} r first is other a) =
+    admits_ends status (reply_number p) (login_of hello keyspaces r) (is_right hello.access.stage2 hello.salt r.answer) out standing a
+logs_in_ends hello keyspaces status _ p _ _ (l.answers {out} {standing} {login} first a) =
+    admits_ends status (reply_number p) login (is_right hello.access.stage2 hello.salt p.bytes) out standing a
+
 answers_end : {S : Type 0} (terms : Terms S) (May : S → List ℕ → Outcome → S → Type 0) (at : Phase) (s now : S) (p : Payload) (out : List ℕ) (b : Standing)
     → Answers terms May at s p out b now → IfSome (end_of b) IsByCommand
 answers_end terms May _ _ _ _ _ _ (t.out_of_order first) = tt
+answers_end terms May at s _ p _ _ (t.logs_in {out} {standing} l) = logs_in_ends terms.hello terms.keyspaces (terms.status s) at p out standing l
 answers_end terms May _ _ _ _ _ _ (t.quits first command) = tt
 answers_end terms May _ _ _ _ _ _ (t.unknown first command) = tt
 answers_end terms May _ _ _ _ _ _ (t.pinged first command) = tt
+answers_end terms May _ _ _ _ _ _ (t.selected name first command is) = tt
+answers_end terms May _ _ _ _ _ _ (t.unknown_keyspace name first command is) = tt
 answers_end terms May _ _ _ _ _ _ (t.queried text outcome first command may) = tt
 
 replies_end : {S : Type 0} (terms : Terms S) (May : S → List ℕ → Outcome → S → Type 0) (at : Phase) (s now : S) (ps : List Payload) (out : List ℕ) (b : Standing)
@@ -273,9 +341,14 @@ replies_end terms May _ _ _ _ _ _ t.none = tt
 replies_end terms May _ _ _ _ _ _ (t.goes {next} {mid} {t = now} {more = ps} {rest} {standing} a r) = replies_end terms May next mid now ps rest standing r
 replies_end terms May _ _ _ _ _ _ (t.ends {at} {s} {t = now} {p} {out} {end} a) = answers_end terms May at s now p out (Ended end) a
 
-pub fed_ends : {S : Type 0} (terms : Terms S) (May : S → List ℕ → Outcome → S → Type 0) (at : Phase) (mid now : S) (fed : Fed) (out : List ℕ) (standing : Standing)
+talk_ends : {S : Type 0} (terms : Terms S) (May : S → List ℕ → Outcome → S → Type 0) (begin : Standing) (s now : S) (ps : List Payload) (out : List ℕ) (b : Standing)
+    → Conversation terms May begin s ps out b now → IfSome (end_of b) IsByCommand
+talk_ends terms May _ _ _ _ _ _ t.new = tt
+talk_ends terms May _ _ _ _ _ _ (t.begun {standing = b} {at} {s} {t = now} {ps} {out} g r) = replies_end terms May at s now ps out b r
+
+pub fed_ends : {S : Type 0} (terms : Terms S) (May : S → List ℕ → Outcome → S → Type 0) (at : Standing) (mid now : S) (fed : Fed) (out : List ℕ) (standing : Standing)
     → AnswersFed terms May at mid fed out standing now → IfSome (end_of standing) IsByCommand
-fed_ends terms May at mid _ fed _ _ (s.ended {out} {end} {now} r) = replies_end terms May at mid now fed.payloads out (Ended end) r
+fed_ends terms May at mid _ fed _ _ (s.ended {out} {end} {now} r) = talk_ends terms May at mid now fed.payloads out (Ended end) r
 fed_ends terms May at mid _ fed _ _ (s.goes_on no_fault r) = tt
 fed_ends terms May at mid _ fed _ _ (s.refused fault is r) = tt
 
@@ -284,5 +357,6 @@ not_by_input X (Err e) by = tt
 not_by_input X (Ok None) by = tt
 not_by_input X (Ok (Some Quit)) by = λ is. absurd is
 not_by_input X (Ok (Some Broken)) by = λ is. absurd is
+not_by_input X (Ok (Some Denied)) by = λ is. absurd is
 not_by_input X (Ok (Some Closed)) by = absurd by
 not_by_input X (Ok (Some Truncated)) by = absurd by

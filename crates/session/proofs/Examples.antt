@@ -1,6 +1,6 @@
 -- Conversations of documented examples: a ping and a quit, an order of packets that is wrong, a header that is too large, an empty
 -- payload.
-use Rattle.std.proofs.Common.{ℕ, List, [], ◌∷◌, refl, lit<, lit≤, inl}
+use Rattle.std.proofs.Common.{ℕ, List, [], ◌∷◌, refl, lit<, lit≤, inl, None}
 use Rattle.std.specs.Prelude.{codes}
 use Rattle.mysql_packet.specs.declared.framer.Payload.{Payload}
 use Rattle.mysql_packet.specs.declared.framer.Fault.{Fault}
@@ -9,6 +9,7 @@ use Rattle.vt_value.specs.declared.refusal.Refusal.TheVariants.{PacketTooLarge}
 use Rattle.resultset.specs.declared.Outcome.{Outcome}
 use Rattle.session.specs.declared.end.End.TheVariants.{Quit, Closed, Broken}
 use Rattle.session.specs.declared.standing.Phase.TheVariants.{Commands}
+use Rattle.session.specs.declared.standing.Standing.TheVariants.{At}
 use Rattle.session.specs.Talk.{Terms, Talk}
 use Rattle.session.specs.Talk as t
 
@@ -16,7 +17,7 @@ abbrev Never : Unit {0} → List ℕ → Outcome → Unit {0} → Type 0
 Never s text outcome now = ⊥
 
 abbrev plain : Terms (Unit {0})
-plain = record { status = λ s. 2 }
+plain = record { hello = record { access = record { user = []; stage2 = None }; salt = []; id = 0 }; keyspaces = []; status = λ s. 2 }
 
 abbrev payload : ℕ → List ℕ → Payload
 payload number bytes = record { first = number; last = number; bytes = bytes }
@@ -24,21 +25,21 @@ payload number bytes = record { first = number; last = number; bytes = bytes }
 nothing_left : IsPartial 1048576 []
 nothing_left = (0, [], [], lit< tt, (tt, lit≤ tt), refl, inl (lit< tt))
 
-ping_then_quit : Talk 1048576 plain Never (Commands 0) tt (1 ∷ 0 ∷ 0 ∷ 0 ∷ 0x0E ∷ 1 ∷ 0 ∷ 0 ∷ 0 ∷ 1 ∷ []) (7 ∷ 0 ∷ 0 ∷ 1 ∷ 0 ∷ 0 ∷ 0 ∷ 2 ∷ 0 ∷ 0 ∷ 0 ∷ []) Quit tt
+ping_then_quit : Talk 1048576 plain Never (At (Commands 0)) tt (1 ∷ 0 ∷ 0 ∷ 0 ∷ 0x0E ∷ 1 ∷ 0 ∷ 0 ∷ 0 ∷ 1 ∷ []) (7 ∷ 0 ∷ 0 ∷ 1 ∷ 0 ∷ 0 ∷ 0 ∷ 2 ∷ 0 ∷ 0 ∷ 0 ∷ []) Quit tt
 ping_then_quit =
     t.ended (payload 0 (0x0E ∷ []) ∷ payload 0 (1 ∷ []) ∷ []) []
     (record { whole = refl; each = (((lit< tt, refl), lit≤ tt), (((lit< tt, refl), lit≤ tt), tt)); partial = nothing_left })
-    (t.goes (t.pinged refl refl) (t.ends (t.quits refl refl)))
+    (t.begun t.goes_on (t.goes (t.pinged refl refl) (t.ends (t.quits refl refl))))
 
 -- a command whose first number is 1
-wrong_number : Talk 1048576 plain Never (Commands 0) tt (1 ∷ 0 ∷ 0 ∷ 1 ∷ 0x0E ∷ [])
+wrong_number : Talk 1048576 plain Never (At (Commands 0)) tt (1 ∷ 0 ∷ 0 ∷ 1 ∷ 0x0E ∷ [])
     (0x1D ∷ 0 ∷ 0 ∷ 2 ∷ 0xFF ∷ 0x84 ∷ 0x04 ∷ 0x23 ∷ 0x30 ∷ 0x38 ∷ 0x53 ∷ 0x30 ∷ 0x31 ∷ codes "packets out of order") Broken tt
 wrong_number =
     t.ended (payload 1 (0x0E ∷ []) ∷ []) []
-    (record { whole = refl; each = (((lit< tt, refl), lit≤ tt), tt); partial = nothing_left }) (t.ends (t.out_of_order refl))
+    (record { whole = refl; each = (((lit< tt, refl), lit≤ tt), tt); partial = nothing_left }) (t.begun t.goes_on (t.ends (t.out_of_order refl)))
 
 -- a first header that tells 2 ^ 20 + 1 bytes
-too_large : Talk 1048576 plain Never (Commands 0) tt (1 ∷ 0 ∷ 0x10 ∷ 0 ∷ [])
+too_large : Talk 1048576 plain Never (At (Commands 0)) tt (1 ∷ 0 ∷ 0x10 ∷ 0 ∷ [])
     (0x19 ∷ 0 ∷ 0 ∷ 1 ∷ 0xFF ∷ 0x81 ∷ 0x04 ∷ 0x23 ∷ 0x30 ∷ 0x38 ∷ 0x53 ∷ 0x30 ∷ 0x31 ∷ codes "packet too large") Broken tt
 too_large =
     let fault : Fault = record { refusal = PacketTooLarge; number = 0 } in
@@ -54,11 +55,11 @@ too_large =
       refused = refl;
       in_range = (lit< tt, lit< tt, lit< tt);
     })
-    t.none
+    (t.begun t.goes_on t.none)
 
 -- an empty payload is an unknown command, and the session goes on
-unknown : Talk 1048576 plain Never (Commands 0) tt (0 ∷ 0 ∷ 0 ∷ 0 ∷ [])
+unknown : Talk 1048576 plain Never (At (Commands 0)) tt (0 ∷ 0 ∷ 0 ∷ 0 ∷ [])
     (0x18 ∷ 0 ∷ 0 ∷ 1 ∷ 0xFF ∷ 0x17 ∷ 0x04 ∷ 0x23 ∷ 0x30 ∷ 0x38 ∷ 0x53 ∷ 0x30 ∷ 0x31 ∷ codes "unknown command") Closed tt
 unknown =
     t.closed (payload 0 [] ∷ [])
-    (record { whole = refl; each = (((lit< tt, refl), lit≤ tt), tt); partial = nothing_left }) (t.goes (t.unknown refl refl) t.none)
+    (record { whole = refl; each = (((lit< tt, refl), lit≤ tt), tt); partial = nothing_left }) (t.begun t.goes_on (t.goes (t.unknown refl refl) t.none))

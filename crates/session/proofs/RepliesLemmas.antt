@@ -1,10 +1,10 @@
 -- Replies to one payload, and to the payloads behind it.
-use Rattle.std.proofs.Common.{◌≡◌, ℕ, false, ◌==◌, List, [], ◌∷◌, ◌++◌, Some, None, sym, subst, append_assoc, eq-eqb, ◌⊎◌, inl, inr}
+use Rattle.std.proofs.Common.{◌≡◌, ℕ, Bool, refl, true, false, ◌==◌, List, [], ◌∷◌, ◌++◌, Option, Some, None, sym, subst, append_assoc, eq-eqb, ◌⊎◌, inl, inr}
 use Rattle.std.proofs.lemmas.List.{append-nil}
-use Rattle.vt_value.specs.declared.refusal.Refusal.TheVariants.{OutOfMemory, PacketsOutOfOrder, UnknownCommand}
+use Rattle.vt_value.specs.declared.refusal.Refusal.TheVariants.{OutOfMemory, PacketsOutOfOrder, UnknownCommand, UnknownKeyspace}
 use Rattle.mysql_packet.specs.declared.framer.Payload.{Payload}
 use Rattle.mysql_packet.specs.Frames.{frame}
-use Rattle.mysql_message.specs.Messages.{quit, query, ping, command_of, ok_payload, err_payload, autocommit}
+use Rattle.mysql_message.specs.Messages.{quit, init_db, query, ping, command_of, ok_payload, err_payload, autocommit}
 use Rattle.resultset.specs.declared.Outcome.{Outcome}
 use Rattle.resultset.specs.declared.Outcome.TheVariants.{Refused, Rows}
 use Rattle.resultset.specs.declared.ResultSet.{ResultSet}
@@ -26,12 +26,34 @@ use Rattle.session.specs.declared.end.End.TheVariants.{Quit, Broken}
 use Rattle.session.specs.declared.standing.Phase.{Phase}
 use Rattle.session.specs.declared.standing.Phase.TheVariants.{Commands}
 use Rattle.session.specs.declared.standing.Standing.{Standing}
-use Rattle.session.specs.declared.standing.Standing.TheVariants.{At, Ended}
+use Rattle.session.specs.declared.standing.Standing.TheVariants.{New, At, Ended}
 use Rattle.session.specs.Standings.{first_number}
-use Rattle.session.specs.Outcomes.{Means, Seen, Shows, HasRows, IsRows, router_terms}
+use Rattle.session.specs.Outcomes.{Means, Seen, Shows, HasRows, IsRows, terms_of}
 use Rattle.session.specs.Outcomes as q
-use Rattle.session.specs.Talk.{Terms, Answers, Replies, refusal_bytes, reply_number}
+use Rattle.session.specs.Packets.{refusal_bytes, reply_number}
+use Rattle.std.specs.Io.KnownBytes.{Appends}
+use Rattle.mysql_handshake.specs.Native.{is_right}
+use Rattle.vschema.specs.declared.schema.Keyspace.{Keyspace}
+use Rattle.session.specs.declared.standing.Login.{Login}
+use Rattle.session.specs.Logins.{Admits, LogsIn, has_keyspace, login_of}
+use Rattle.session.specs.Logins as l
+use Rattle.session.specs.declared.hello.Hello.{Hello}
+use Rattle.session.specs.Talk.{Terms, Answers, Replies, Conversation, set_end_of}
 use Rattle.session.specs.Talk as t
+
+admits_goes : (status number : ℕ) (login : Login) (right : Bool) (out : List ℕ) (b : Standing) → Admits status number login right out b → b ≡ New → ⊥
+admits_goes status number login right _ _ (l.denied wrong) is = cc
+admits_goes status number login right _ _ (l.unknown right' none) is = cc
+admits_goes status number login right _ _ (l.admitted right' known) is = cc
+
+logs_in_goes : (hello : Hello) (keyspaces : List Keyspace) (status : ℕ) (at : Phase) (p : Payload) (out : List ℕ) (b : Standing)
+    → LogsIn hello keyspaces status at p out b → b ≡ New → ⊥
+logs_in_goes hello keyspaces status _ _ _ _ (l.unreadable first none) is = cc
+logs_in_goes hello keyspaces status _ _ _ _ (l.switches r first reads other) is = cc
+logs_in_goes hello keyspaces status _ p _ _ (l.responds {out} {standing} r first reads other a) is =
+    admits_goes status (reply_number p) (login_of hello keyspaces r) (is_right hello.access.stage2 hello.salt r.answer) out standing a is
+logs_in_goes hello keyspaces status _ p _ _ (l.answers {out} {standing} {login} first a) is =
+    admits_goes status (reply_number p) login (is_right hello.access.stage2 hello.salt p.bytes) out standing a is
 
 module _ {S : Type 0} (terms : Terms S) (May : S → List ℕ → Outcome → S → Type 0) where
   module _ (bits : ℕ) where
@@ -43,8 +65,19 @@ module _ {S : Type 0} (terms : Terms S) (May : S → List ℕ → Outcome → S 
         → out ≡ frame (reply_number p) (err_payload UnknownCommand) → Answers terms May (Commands bits) s p out (At (Commands bits)) s
     one_unknown s p out first is e = subst (λ (bs : List ℕ). Answers terms May (Commands bits) s p bs (At (Commands bits)) s) (sym e) (t.unknown (eq-eqb p.first 0 first) is)
 
+    pub one_selected : (s : S) (p : Payload) (out name : List ℕ) → p.first ≡ 0 → command_of p.bytes ≡ Some (init_db name)
+        → (has_keyspace terms.keyspaces name ≡ true → out ≡ frame (reply_number p) (ok_payload 0 (terms.status s)))
+        → (has_keyspace terms.keyspaces name ≡ false → out ≡ frame (reply_number p) (err_payload UnknownKeyspace))
+        → Answers terms May (Commands bits) s p out (At (Commands bits)) s
+    one_selected s p out name first is known unknown = by_name (has_keyspace terms.keyspaces name) refl
+      where
+        by_name : (b : Bool) → has_keyspace terms.keyspaces name ≡ b → Answers terms May (Commands bits) s p out (At (Commands bits)) s
+        by_name true e = subst (λ (bs : List ℕ). Answers terms May (Commands bits) s p bs (At (Commands bits)) s) (sym (known e)) (t.selected name (eq-eqb p.first 0 first) is e)
+        by_name false e =
+            subst (λ (bs : List ℕ). Answers terms May (Commands bits) s p bs (At (Commands bits)) s) (sym (unknown e)) (t.unknown_keyspace name (eq-eqb p.first 0 first) is e)
+
     pub one_query : (s now : S) (p : Payload) (out text : List ℕ) (outcome : Outcome) → p.first ≡ 0 → command_of p.bytes ≡ Some (query text)
-        → May s text outcome now → out ≡ encoded outcome (reply_number p) (terms.status now) → Answers terms May (Commands bits) s p out (At (Commands bits)) now
+        → May s text outcome now → out ≡ encoded (set_end_of bits) outcome (reply_number p) (terms.status now) → Answers terms May (Commands bits) s p out (At (Commands bits)) now
     one_query s now p out text outcome first is may e =
         subst (λ (bs : List ℕ). Answers terms May (Commands bits) s p bs (At (Commands bits)) now) (sym e) (t.queried text outcome (eq-eqb p.first 0 first) is may)
 
@@ -56,12 +89,28 @@ module _ {S : Type 0} (terms : Terms S) (May : S → List ℕ → Outcome → S 
       → Answers terms May at s p out (Ended Broken) s
   one_out_of_order at s p out first e = subst (λ (bs : List ℕ). Answers terms May at s p bs (Ended Broken) s) (sym e) (t.out_of_order first)
 
+  -- what is written leads to no new session
+  answers_go : (at : Phase) (s now : S) (p : Payload) (out : List ℕ) (b : Standing) → Answers terms May at s p out b now → b ≡ New → ⊥
+  answers_go _ _ _ _ _ _ (t.out_of_order first) is = cc
+  answers_go at s _ p _ _ (t.logs_in {out} {standing} logs) is = logs_in_goes terms.hello terms.keyspaces (terms.status s) at p out standing logs is
+  answers_go _ _ _ _ _ _ (t.quits first command) is = cc
+  answers_go _ _ _ _ _ _ (t.unknown first command) is = cc
+  answers_go _ _ _ _ _ _ (t.pinged first command) is = cc
+  answers_go _ _ _ _ _ _ (t.selected name first command known) is = cc
+  answers_go _ _ _ _ _ _ (t.unknown_keyspace name first command known) is = cc
+  answers_go _ _ _ _ _ _ (t.queried text outcome first command may) is = cc
+
+  pub never_new : (at : Phase) (s now : S) (p : Payload) (b : Standing) (a c : Option (List ℕ)) → b ≡ New
+      → (out : List ℕ) × Appends a c out × Answers terms May at s p out b now → ⊥
+  never_new at s now p b a c is said = answers_go at s now p said.0 b said.2 is
+
   -- what is written for one payload
   pub one_reply : (at : Phase) (s now : S) (p : Payload) (out : List ℕ) (standing : Standing) → Answers terms May at s p out standing now
       → Replies terms May at s (p ∷ []) out standing now
   one_reply at s now p out (At next) a =
       subst (λ (bs : List ℕ). Replies terms May at s (p ∷ []) bs (At next) now) (append-nil out) (t.goes a t.none)
   one_reply at s now p out (Ended end) a = t.ends a
+  one_reply at s now p out New a = absurd (answers_go at s now p out New a refl)
 
   -- the payloads behind those that are answered
   pub go_on : (at next : Phase) (s mid now : S) (ps qs : List Payload) (out more : List ℕ) (b standing : Standing) → b ≡ At next
@@ -72,6 +121,26 @@ module _ {S : Type 0} (terms : Terms S) (May : S → List ℕ → Outcome → S 
       subst (λ (bs : List ℕ). Replies terms May at s (p ∷ ps ++ qs) bs standing now) (sym (append_assoc out told more))
       (t.goes a (go_on then next half mid now ps qs told more b standing is r rest))
   go_on _ next _ _ now _ qs _ more _ standing is (t.ends a) rest = absurd (cc)
+
+  pub not_new : (at : Phase) (s now : S) (ps : List Payload) (out : List ℕ) (b : Standing) → b ≡ New → Replies terms May at s ps out b now → ⊥
+  not_new _ _ _ _ _ _ is t.none = cc
+  not_new _ _ _ _ _ _ is (t.goes {next} {mid} {t = now} {more = ps} {rest} {standing = b} a r) = not_new next mid now ps rest b is r
+  not_new _ _ _ _ _ _ is (t.ends a) = cc
+
+  follow : (at : Phase) (b standing : Standing) (s mid now : S) (ps qs : List Payload) (out more : List ℕ) → Conversation terms May b mid qs more standing now
+      → (b' : Standing) → b' ≡ b → Replies terms May at s ps out b' mid → Replies terms May at s (ps ++ qs) (out ++ more) standing now
+  follow at _ _ s _ _ ps _ out _ (t.new {s = mid}) b' is r = absurd (not_new at s mid ps out b' is r)
+  follow at _ _ s _ _ ps qs out _ (t.begun {standing} {s = mid} {t = now} {out = more} t.greets q) b' is r = absurd (not_new at s mid ps out b' is r)
+  follow at _ _ s _ _ ps qs out _ (t.begun {standing} {at = next} {s = mid} {t = now} {out = more} t.goes_on q) b' is r =
+      go_on at next s mid now ps qs out more b' standing is r q
+
+  -- a conversation that goes on
+  pub talk_on : (begin b standing : Standing) (s mid now : S) (ps qs : List Payload) (out more : List ℕ) → Conversation terms May begin s ps out b mid
+      → Conversation terms May b mid qs more standing now → Conversation terms May begin s (ps ++ qs) (out ++ more) standing now
+  talk_on _ _ standing _ _ now _ qs _ more t.new rest = rest
+  talk_on _ _ standing _ _ now _ qs _ more (t.begun {begin} {standing = b} {at} {s} {t = mid} {ps} {front} {out} g r) rest =
+      subst (λ (bs : List ℕ). Conversation terms May begin s (ps ++ qs) bs standing now) (sym (append_assoc front out more))
+      (t.begun g (follow at b standing s mid now ps qs out more rest b refl r))
 
   -- payloads behind the end are not answered
   pub stay_ended : (at : Phase) (s now : S) (ps qs : List Payload) (out : List ℕ) (b : Standing) (end : End) → b ≡ Ended end
@@ -102,13 +171,13 @@ unshown : (o : Opening) (l : Limits) (p : Seen) (text : List ℕ) (outcome : Out
 unshown o l p text outcome now (q.answered reply is shows) rows = no_room o l p text reply now is (shows_rows o.schema reply.answer outcome shows rows)
 unshown o l p text _ now (q.refused why) rows = absurd rows
 
-pub one_query_or_refusal : (o : Opening) (l : Limits) (bits : ℕ) (s now : Seen) (p : Payload) (out text : List ℕ) (outcome : Outcome) → p.first ≡ 0
+pub one_query_or_refusal : (o : Opening) (l : Limits) (hello : Hello) (bits : ℕ) (s now : Seen) (p : Payload) (out text : List ℕ) (outcome : Outcome) → p.first ≡ 0
     → command_of p.bytes ≡ Some (query text) → Means o l s text outcome now
-    → (out ≡ encoded outcome (reply_number p) autocommit) ⊎ (IsRows outcome × (out ≡ encoded (Refused OutOfMemory) (reply_number p) autocommit))
-    → Answers router_terms (Means o l) (Commands bits) s p out (At (Commands bits)) now
-one_query_or_refusal o l bits s now p out text outcome first is may (inl e) = one_query router_terms (Means o l) bits s now p out text outcome first is may e
-one_query_or_refusal o l bits s now p out text outcome first is may (inr (rows, e)) =
-    one_query router_terms (Means o l) bits s now p out text (Refused OutOfMemory) first is (unshown o l s text outcome now may rows) e
+    → (out ≡ encoded (set_end_of bits) outcome (reply_number p) autocommit) ⊎ (IsRows outcome × (out ≡ encoded (set_end_of bits) (Refused OutOfMemory) (reply_number p) autocommit))
+    → Answers (terms_of o hello) (Means o l) (Commands bits) s p out (At (Commands bits)) now
+one_query_or_refusal o l hello bits s now p out text outcome first is may (inl e) = one_query (terms_of o hello) (Means o l) bits s now p out text outcome first is may e
+one_query_or_refusal o l hello bits s now p out text outcome first is may (inr (rows, e)) =
+    one_query (terms_of o hello) (Means o l) bits s now p out text (Refused OutOfMemory) first is (unshown o l s text outcome now may rows) e
 
 -- a result set with the columns and rows of an answer
 pub shows : (schema : VSchema) (selected : Selected) (set : ResultSet) → AreColumns schema selected.table selected.items set.columns

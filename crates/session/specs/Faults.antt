@@ -6,10 +6,9 @@ use Rattle.mysql_packet.specs.declared.framer.Fault.{Fault}
 use Rattle.mysql_packet.specs.declared.framer.Fed.{Fed}
 use Rattle.mysql_packet.specs.Frames.{Splits, IsRefusedAfter}
 use Rattle.resultset.specs.declared.Outcome.{Outcome}
-use Rattle.session.specs.declared.standing.Phase.{Phase}
 use Rattle.session.specs.declared.standing.Standing.{Standing}
-use Rattle.session.specs.declared.standing.Standing.TheVariants.{At}
-use Rattle.session.specs.Talk.{Terms, Replies}
+use Rattle.session.specs.Talk.{Terms, Conversation}
+use Rattle.session.specs.Standings.{end_of}
 use Rattle.session.specs.Sessions.{AnswersFed}
 
 -- a front of the payloads, or all of them and the fault behind them
@@ -19,7 +18,7 @@ pub data IsFrontOf : Fed → Fed → Type 0 where
 
 -- The sink failed: a front of the payloads and of the fault behind them is answered, which led from what the session had seen at first to
 -- what it has seen now, and the sink took a front of what is written for that.
-pub record IsCutOff {S : Type 0} (terms : Terms S) (May : S → List ℕ → Outcome → S → Type 0) (begin : Phase) (first : S) (fed : Fed) (written : List ℕ) (now : S) : Type 0 where
+pub record IsCutOff {S : Type 0} (terms : Terms S) (May : S → List ℕ → Outcome → S → Type 0) (begin : Standing) (first : S) (fed : Fed) (written : List ℕ) (now : S) : Type 0 where
   pub part : Fed
   pub told : List ℕ
   pub standing : Standing
@@ -34,15 +33,16 @@ pub record Holds (limit : ℕ) (bytes : List ℕ) (fed : Fed) : Type 0 where
 
 -- Of the conversation over the bytes that were read the sink failed to take all: a front of the payloads is answered, and the sink took a
 -- front of the replies.
-pub record HasBrokenOff (limit : ℕ) {S : Type 0} (terms : Terms S) (May : S → List ℕ → Outcome → S → Type 0) (begin : Phase) (first : S) (bytes written : List ℕ) (now : S) : Type 0 where
+pub record HasBrokenOff (limit : ℕ) {S : Type 0} (terms : Terms S) (May : S → List ℕ → Outcome → S → Type 0) (begin : Standing) (first : S) (bytes written : List ℕ) (now : S) : Type 0 where
   pub fed : Fed
   pub holds : Holds limit bytes fed
   pub cut : IsCutOff terms May begin first fed written now
 
 -- A conversation that goes on: of the bytes so far each whole payload has its replies, and nothing else was written.
-pub record IsUnfinished (limit : ℕ) {S : Type 0} (terms : Terms S) (May : S → List ℕ → Outcome → S → Type 0) (begin : Phase) (first : S) (bytes out : List ℕ) (now : S) : Type 0 where
+pub record IsUnfinished (limit : ℕ) {S : Type 0} (terms : Terms S) (May : S → List ℕ → Outcome → S → Type 0) (begin : Standing) (first : S) (bytes out : List ℕ) (now : S) : Type 0 where
   pub payloads : List Payload
   pub rest : List ℕ
-  pub phase : Phase
+  pub standing : Standing
+  pub goes_on : end_of standing ≡ None
   pub read : Splits limit bytes payloads rest
-  pub replies : Replies terms May begin first payloads out (At phase) now
+  pub replies : Conversation terms May begin first payloads out standing now

@@ -1,6 +1,8 @@
 pub mod Columns
 pub mod Outcomes
 pub mod Standings
+pub mod Packets
+pub mod Logins
 pub mod Talk
 pub mod Sessions
 pub mod Faults

@@ -16,6 +16,7 @@ use Rattle.shard.specs.declared.limits.Limits.{Limits}
 use Rattle.route_engine.specs.Answers.{counted, IsReply, IsRefusal}
 use Rattle.mysql_message.specs.Messages.{autocommit}
 use Rattle.session.specs.Columns.{AreColumns}
+use Rattle.session.specs.declared.hello.Hello.{Hello}
 use Rattle.session.specs.Talk.{Terms}
 
 -- what the session's pass has seen
@@ -45,5 +46,5 @@ pub data Means (o : Opening) (limits : Limits) (p : Seen) (text : List ℕ) : Ou
   refused : {r : Refusal} {now : Seen} → IsRefusal o limits p text r now → Means o limits p text (Refused r) now
 
 -- The terms of the router's conversations: no transaction is ever open.
-abbrev pub router_terms : Terms Seen
-router_terms = record { status = λ seen. autocommit }
+abbrev pub terms_of : Opening → Hello → Terms Seen
+terms_of o hello = record { hello = hello; keyspaces = o.schema.keyspaces; status = λ seen. autocommit }

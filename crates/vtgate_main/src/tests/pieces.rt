@@ -5,7 +5,7 @@ use first_world::{First, first_router};
 use journal::{Naming, Opened, Pass};
 use route_engine::{Engine, Open};
 use session::{
-    Core, DeviceFailed, End, Phase, SessionFault, Sink, Source, Standing, Writer, serve,
+    Access, Core, DeviceFailed, End, Phase, SessionFault, Sink, Source, Standing, Writer, serve,
 };
 use shard::ShardLaw;
 use std::alloc::Global;
@@ -14,6 +14,7 @@ use std::process::Abort;
 use std::sync::Wait;
 use std::test::Fail;
 use std::thread::Threads;
+use vt_value::Items;
 
 /// Feeds a piece to a session.
 fn feed_piece<J: Naming + Send + Sync, S: Sink>(
@@ -140,6 +141,10 @@ impl Sink for FailingSink {
     }
 }
 
+/// The response of a client of PROTOCOL_41 and SECURE_CONNECTION, without a name, an answer or a database.
+pub(crate) const RESPONSE: &[u8] =
+    b"\x22\x00\x00\x01\x00\x82\x00\x00\x00\x00\x00\x00\x00\x00\x00\x00\x00\x00\x00\x00\x00\x00\x00\x00\x00\x00\x00\x00\x00\x00\x00\x00\x00\x00\x00\x00\x00\x00";
+
 fn fail_source<J: Naming + Send + Sync, R: Abort + Threads + Wait + Sync>(
     rt: &R,
     alloc: Global,
@@ -148,15 +153,32 @@ fn fail_source<J: Naming + Send + Sync, R: Abort + Threads + Wait + Sync>(
 ) -> Result<(), Fail>
     requires { IsSome pass.old.session }
 {
+    let mut input = RESPONSE.to_vec(alloc)?;
+    input.extend_from_slice(PING)?;
+    let access = Access {
+        user: Items::new(alloc),
+        stage2: None,
+    };
     let mut source = FailingSource {
-        unread: PING,
+        unread: input.as_slice(),
         failures: 0,
     };
     let mut sink = Writer::new(Vec::new(alloc));
-    let end = serve(rt, alloc, engine, pass, 1, 0, &mut source, &mut sink);
+    let end = serve(
+        rt,
+        alloc,
+        engine,
+        pass,
+        &access,
+        &[7; 20],
+        1,
+        &mut source,
+        &mut sink,
+    );
     assert_eq!(rt; end, Err(SessionFault::Read));
     assert_eq!(rt; source.failures, 1);
-    assert_eq!(rt; sink.writer.as_slice(), PONG);
+    // A greeting of 84 bytes, an OK for the response, and one for the ping.
+    assert_eq!(rt; sink.writer.len(), 106);
     Ok(())
 }
 

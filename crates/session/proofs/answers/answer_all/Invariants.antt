@@ -2,7 +2,7 @@ use Rattle.std.proofs.Common.{◌≡◌, ℕ, List, ◌+◌, ◌≤◌, length, 
 use Rattle.std.specs.Io.KnownBytes.{Appends}
 use Rattle.session.specs.declared.reply.TheConstants.{REPLY_ROOM}
 use Rattle.session.specs.declared.standing.Standing.TheVariants.{At}
-use Rattle.session.specs.Outcomes.{Means, router_terms}
+use Rattle.session.specs.Outcomes.{Means, terms_of}
 use Rattle.session.specs.Talk.{Replies}
 use Rattle.session.proofs.answers.answer_all.Given as goal
 
@@ -12,5 +12,5 @@ invariant-loop-payload g l = record {
   room : REPLY_ROOM ≤ length l.reply.items + l.reply.spare;
   count : g.S.Sink.failures l.sink ≡ g.S.Sink.failures l.initial.sink;
   replies : (out : List ℕ) × Appends (g.S.Sink.taken l.initial.sink) (g.S.Sink.taken l.sink) out
-      × Replies router_terms (Means g.W.World.opening g.W.World.limits) l.fn.begin l.initial.pass (take l.payload-index l.payloads) out (At l.phase) l.pass;
+      × Replies (terms_of g.W.World.opening l.fn.hello) (Means g.W.World.opening g.W.World.limits) l.fn.begin l.initial.pass (take l.payload-index l.payloads) out (At l.phase) l.pass;
 }

@@ -2,21 +2,24 @@ use Rattle.std.proofs.Common.{◌≡◌, ℕ, List, None, vec_len}
 use Rattle.std.specs.Io.KnownBytes.{Appends, Consumes}
 use Rattle.session.specs.declared.session_core.TheConstants.{COMMAND_LIMIT}
 use Rattle.session.specs.declared.command_phase.TheConstants.{PIECE}
-use Rattle.session.specs.declared.standing.Phase.TheVariants.{Commands}
-use Rattle.session.specs.Outcomes.{Means, router_terms}
+use Rattle.session.specs.declared.hello.Hello.{Hello}
+use Rattle.session.specs.declared.standing.Standing.TheVariants.{New}
+use Rattle.session.specs.Outcomes.{Means, terms_of}
 use Rattle.session.specs.Sessions.{HasTalked}
 use Rattle.session.specs.Standings.{end_of}
 use Rattle.session.proofs.command_phase.serve.Given as goal
 
 abbrev pub invariant-loop : goal.invariant-loop
-invariant-loop g l = record {
-  session : l.pass.session ≡ l.initial.pass.session;
-  buffer : vec_len l.buffer ≡ PIECE;
-  limit : l.core.framing.limit ≡ COMMAND_LIMIT;
-  open_session : end_of l.core.standing ≡ None;
-  source_count : g.R.Source.failures l.source ≡ g.R.Source.failures l.initial.source;
-  sink_count : g.S.Sink.failures l.sink ≡ g.S.Sink.failures l.initial.sink;
-  talked : (read : List ℕ) × (written : List ℕ) × Consumes (g.R.Source.unread l.initial.source) (g.R.Source.unread l.source) read
-      × Appends (g.S.Sink.taken l.initial.sink) (g.S.Sink.taken l.sink) written
-      × HasTalked router_terms (Means g.W.World.opening g.W.World.limits) (Commands l.capabilities) l.core l.initial.pass read written l.pass;
-}
+invariant-loop g l =
+    let hello : Hello = record { access = l.fn.access; salt = l.fn.salt; id = l.fn.id } in record {
+      session : l.pass.session ≡ l.initial.pass.session;
+      buffer : vec_len l.buffer ≡ PIECE;
+      limit : l.core.framing.limit ≡ COMMAND_LIMIT;
+      open_session : end_of l.core.standing ≡ None;
+      connection : l.core.hello ≡ hello;
+      source_count : g.R.Source.failures l.source ≡ g.R.Source.failures l.initial.source;
+      sink_count : g.S.Sink.failures l.sink ≡ g.S.Sink.failures l.initial.sink;
+      talked : (read : List ℕ) × (written : List ℕ) × Consumes (g.R.Source.unread l.initial.source) (g.R.Source.unread l.source) read
+          × Appends (g.S.Sink.taken l.initial.sink) (g.S.Sink.taken l.sink) written
+          × HasTalked (terms_of g.W.World.opening hello) (Means g.W.World.opening g.W.World.limits) New l.core l.initial.pass read written l.pass;
+    }

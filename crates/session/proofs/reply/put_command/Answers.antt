@@ -2,27 +2,35 @@ use Rattle.std.proofs.Common.{ap, sym, ◌∙◌}
 use Rattle.vt_value.specs.declared.refusal.Refusal.{Refusal}
 use Rattle.mysql_packet.specs.Frames.{frame}
 use Rattle.mysql_message.specs.Messages.{command_of, err_payload}
-use Rattle.session.specs.Talk.{reply_number}
-use Rattle.session.proofs.RepliesLemmas.{one_quit, one_unknown, one_ping, one_query_or_refusal}
+use Rattle.session.specs.Packets.{reply_number}
+use Rattle.session.proofs.RepliesLemmas.{one_quit, one_unknown, one_ping, one_selected, one_query_or_refusal}
 use Rattle.session.proofs.reply.put_command.Goals as goal
 
 pub returns-in-Ok-Quit-clause-answers : goal.returns-in-Ok-Quit-clause-answers
 returns-in-Ok-Quit-clause-answers g c =
     let e = rw c.in-Ok-Quit.field-0-is at c.in-Ok-Quit.ensures.command in
-    one_quit _ _ _ _ c.args.payload.now _ c.requires.number (sym (e ∙ ap command_of c.as_slice.ensures)) c.requires.empty
+    λ hello. one_quit _ _ _ _ c.args.payload.now _ c.requires.number (sym (e ∙ ap command_of c.as_slice.ensures)) c.requires.empty
 
 pub returns-in-Err-clause-answers : goal.returns-in-Err-clause-answers
 returns-in-Err-clause-answers g c =
-    one_unknown _ _ _ _ c.args.payload.now _ c.requires.number
+    λ hello. one_unknown _ _ _ _ c.args.payload.now _ c.requires.number
     (sym (c.in-Err.ensures.command ∙ ap command_of c.as_slice.ensures)) (c.put_refusal.ensures.bytes ∙ ap (λ (r : Refusal). frame (reply_number c.args.payload.now) (err_payload r)) c.in-Err.ensures.err)
 
 pub returns-in-Ok-Ping-clause-answers : goal.returns-in-Ok-Ping-clause-answers
 returns-in-Ok-Ping-clause-answers g c =
     let e = rw c.in-Ok-Ping.field-0-is at c.in-Ok-Ping.ensures.command in
-    one_ping _ _ _ _ c.args.payload.now _ c.requires.number (sym (e ∙ ap command_of c.as_slice.ensures)) c.put_pong.ensures.bytes
+    λ hello. one_ping _ _ _ _ c.args.payload.now _ c.requires.number (sym (e ∙ ap command_of c.as_slice.ensures)) c.put_pong.ensures.bytes
 
 pub returns-in-Ok-Query-clause-answers : goal.returns-in-Ok-Query-clause-answers
 returns-in-Ok-Query-clause-answers g c =
     let e = rw c.in-Ok-Query.field-0-is at c.in-Ok-Query.ensures.command in
-    one_query_or_refusal _ _ _ _ _ c.args.payload.now _ _ _ c.requires.number (sym (e ∙ ap command_of c.as_slice.ensures))
-    c.outcome_of-outcome.ensures.means c.put_outcome.ensures.bytes
+    let bytes = rw c.set_end_of.ensures at c.put_outcome.ensures.bytes in
+    λ hello. one_query_or_refusal _ _ hello _ _ _ c.args.payload.now _ _ _ c.requires.number (sym (e ∙ ap command_of c.as_slice.ensures))
+    c.outcome_of-outcome.ensures.means bytes
+
+pub returns-in-Ok-InitDb-clause-answers : goal.returns-in-Ok-InitDb-clause-answers
+returns-in-Ok-InitDb-clause-answers g c =
+    let e = rw c.in-Ok-InitDb.field-0-is at c.in-Ok-InitDb.ensures.command in
+    let known = rw (c.schema.ensures.schema, c.schema.ensures.opening) at c.put_selected.ensures.known in
+    let unknown = rw (c.schema.ensures.schema, c.schema.ensures.opening) at c.put_selected.ensures.unknown in
+    λ hello. one_selected _ _ _ _ c.args.payload.now _ _ c.requires.number (sym (e ∙ ap command_of c.as_slice.ensures)) known unknown

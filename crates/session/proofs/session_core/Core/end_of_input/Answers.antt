@@ -1,9 +1,9 @@
 use Rattle.session.proofs.Conversations.{whole_end, is_end}
 use Rattle.session.proofs.session_core.Core.end_of_input.Goals as goal
 
-pub returns-in-At-clause-whole : goal.returns-in-At-clause-whole
-returns-in-At-clause-whole c =
+pub returns-in-None-clause-whole : goal.returns-in-None-clause-whole
+returns-in-None-clause-whole c =
     rw (← c.self.view_is)
-    (λ o l begin first now bytes out before.
+    (λ has o l begin first now bytes out before.
     let ends = is_end c.is_between_payloads.result c.self.inside.framer.rest c.end_between.result c.is_between_payloads.ensures c.end_between.ensures.between c.end_between.ensures.within in
-    whole_end _ _ _ _ _ _ c.self.inside.framer.limit bytes out before.payloads c.self.inside.framer.rest _ before.read.splits before.replies ends.0 ends.1)
+    whole_end _ _ _ c.self.inside.standing _ _ c.self.inside.framer.limit bytes out before.payloads c.self.inside.framer.rest _ has before.goes_on before.read.splits before.replies ends.0 ends.1)

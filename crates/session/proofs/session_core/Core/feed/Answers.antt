@@ -1,35 +1,45 @@
-use Rattle.std.proofs.Common.{refl}
+use Rattle.std.proofs.Common.{refl, sym, ◌∙◌}
 use Rattle.session.proofs.Alone.{fed_alone}
 use Rattle.session.proofs.Conversations.{talked_on, broken_off, fed_ends, same_fault}
+use Rattle.session.proofs.Begun.{fed_begun, ended_begun}
 use Rattle.session.proofs.session_core.Core.feed.Goals as goal
 
 pub returns-in-Ok-clause-talk : goal.returns-in-Ok-clause-talk
 returns-in-Ok-clause-talk g c =
-    rw (c.end_of.ensures, ← c.self.view_is)
+    rw (c.end_of-in-Ok.ensures, ← c.self.view_is)
     (λ begin first bytes out before.
     let said = c.in-Ok.ensures.answers in
-    (said.2.0, said.2.1, talked_on _ _ _ _ c.args.piece.now said.0 said.1 c.in-At.phase c.in-At.is begin first _ _ bytes out before said.2.0 c.in-Ok.standing refl said.2.2))
+    (said.2.0, said.2.1, talked_on _ _ _ _ c.args.piece.now said.0 said.1 begin first _ _ bytes out before said.2.0 c.in-Ok.standing refl said.2.2))
 
 pub returns-in-Ok-clause-alone : goal.returns-in-Ok-clause-alone
 returns-in-Ok-clause-alone g c =
-    rw (c.end_of.ensures, ← c.self.view_is)
+    rw (c.end_of-in-Ok.ensures, ← c.self.view_is)
     (λ begin first bytes out before alone.
     let said = c.in-Ok.ensures.answers in (
       said.2.0,
       said.2.1,
-      talked_on _ _ _ _ c.args.piece.now said.0 said.1 c.in-At.phase c.in-At.is begin first _ _ bytes out before said.2.0 c.in-Ok.standing refl
-          (fed_alone _ _ _ c.begins_with.ensures.opens c.begins_with.ensures.formed c.in-At.phase _ _ said.0 said.2.0 c.in-Ok.standing c.begins_with.ensures.legal said.2.2 alone),
+      talked_on _ _ _ _ c.args.piece.now said.0 said.1 begin first _ _ bytes out before said.2.0 c.in-Ok.standing refl
+          (fed_alone _ _ _ c.begins_with.ensures.opens c.begins_with.ensures.formed _ _ _ said.0 said.2.0 c.in-Ok.standing c.begins_with.ensures.legal said.2.2 alone),
     ))
 
 pub returns-in-Ok-clause-by_command : goal.returns-in-Ok-clause-by_command
 returns-in-Ok-clause-by_command g c =
-    rw c.end_of.ensures
+    rw c.end_of-in-Ok.ensures
     (λ going.
-    let said = c.in-Ok.ensures.answers in fed_ends _ _ c.in-At.phase _ _ said.0 said.2.0 c.in-Ok.standing said.2.2)
+    let said = c.in-Ok.ensures.answers in fed_ends _ _ _ _ _ said.0 said.2.0 c.in-Ok.standing said.2.2)
 
 pub returns-in-Err-clause-write : goal.returns-in-Err-clause-write
 returns-in-Err-clause-write g c =
     rw (← c.self.view_is)
     (λ is begin first bytes out before.
-    let said = c.in-Err.ensures.write (same_fault _ _ is) in
-    (said.2.0, said.2.1, broken_off _ _ _ (record c.args.self.now { framing = c.feed_parts.new.framer }) c.args.piece.now said.0 said.1 c.in-At.phase c.in-At.is begin first _ _ bytes out before said.2.0 said.2.2))
+    let said = c.in-Err.ensures.write (same_fault _ _ is) in (
+      said.2.0,
+      said.2.1,
+      broken_off _ _ _ (record c.args.self.now { framing = c.feed_parts.new.framer }) c.args.piece.now said.0 said.1 begin first _ _ bytes out before said.2.0 said.2.2,
+    ))
+
+pub returns-in-Ok-clause-begun : goal.returns-in-Ok-clause-begun
+returns-in-Ok-clause-begun g c = let said = c.in-Ok.ensures.answers in fed_begun _ _ _ _ _ said.0 said.2.0 c.in-Ok.standing said.2.2
+
+pub returns-in-Some-clause-begun : goal.returns-in-Some-clause-begun
+returns-in-Some-clause-begun g c = rw (← c.self.view_is) (ended_begun c.self.inside.standing c.in-Some.end (sym c.end_of.ensures ∙ c.in-Some.is))

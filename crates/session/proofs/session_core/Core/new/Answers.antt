@@ -1,0 +1,6 @@
+use Rattle.std.proofs.Common.{[], refl}
+use Rattle.session.specs.Talk as t
+use Rattle.session.proofs.session_core.Core.new.Goals as goal
+
+pub returns-clause-begins : goal.returns-clause-begins
+returns-clause-begins c = λ o l p. record { payloads = []; goes_on = refl; read = c.new.ensures.start; replies = t.new }
