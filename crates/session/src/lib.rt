@@ -3,18 +3,18 @@
 
 mod answers;
 mod columns;
+mod command_phase;
 mod devices;
 mod end;
 mod hello;
 mod login;
 mod reply;
-mod command_phase;
 mod session_core;
 mod standing;
 
+pub use command_phase::serve;
 pub use devices::{DeviceFailed, Reader, Sink, Source, Writer};
 pub use end::{End, SessionFault};
 pub use hello::{Access, Hello};
-pub use command_phase::serve;
 pub use session_core::{COMMAND_LIMIT, Core};
 pub use standing::{Login, Phase, Standing};
