@@ -1,6 +1,8 @@
-ghost use Rattle.std.specs.Prelude.{◌≡◌, ℕ, ◌<◌, List, ◌++◌, None, Err, IsSome, IfOk, IfErr, IfSome, length, vec_len};
+ghost use Rattle.std.specs.Prelude.{◌≡◌, ℕ, ◌<◌, List, [], ◌++◌, None, Err, IsSome, IfOk, IfErr, IfSome, length, vec_len};
 ghost use Rattle.std.specs.Io.{ReadsAtMost};
 ghost use Rattle.std.specs.Io.KnownBytes.{Appends, Consumes, IsAtEnd, Keeps, ReadConsumes};
+ghost use Rattle.shard_run.specs.Runs.{Opening};
+ghost use Rattle.shard.specs.declared.limits.Limits.{Limits};
 ghost use Rattle.route_engine.specs.Alone.{NoOthers};
 ghost use Rattle.session.specs.Alone.{MeansAlone};
 ghost use Rattle.session.specs.Devices.{read_failures_after, write_failures_after};
@@ -88,6 +90,53 @@ fn serve_piece<W: World + Send + Sync, J: Naming + Send + Sync, G: Gate, R: Sour
     core.feed(rt, alloc, engine, pass, &buffer[..n], sink)
 }
 
+/// Serves the connection of a session that is new, until it ends.
+fn serve_on<W: World + Send + Sync, J: Naming + Send + Sync, G: Gate, R: Source, S: Sink>(
+    rt: &(impl Threads + Wait + Sync),
+    alloc: Global,
+    engine: &Engine<W, J, G>,
+    pass: &mut Pass<ShardLaw<W>, J>,
+    core: &mut Core,
+    buffer: &mut [u8],
+    source: &mut R,
+    sink: &mut S,
+) -> Result<End, SessionFault>
+    requires session { IsSome pass.old.session }
+    requires room { 0 < length buffer.old }
+    requires limit { core.old.framing.limit ≡ COMMAND_LIMIT }
+    requires open_session { end_of core.old.standing ≡ None }
+    requires begins { (o : Opening) (l : Limits) (p : Seen) → HasTalked (terms_of o core.old.hello) (Means o l) Standing.New core.old p [] [] p }
+    ensures talk { IfOk result (λ end. (read : List ℕ) × (written : List ℕ)
+        × Consumes (R.unread source.old) (R.unread source.new) read × Appends (S.taken sink.old) (S.taken sink.new) written
+        × Talk COMMAND_LIMIT (terms_of W.opening core.old.hello) (Means W.opening W.limits) Standing.New pass.old read written end pass.new) }
+    ensures alone { IfOk result (λ end. NoOthers pass.old pass.new → (read : List ℕ) × (written : List ℕ)
+        × Consumes (R.unread source.old) (R.unread source.new) read × Appends (S.taken sink.old) (S.taken sink.new) written
+        × Talk COMMAND_LIMIT (terms_of W.opening core.old.hello) (MeansAlone W.opening W.limits) Standing.New pass.old read written end pass.new) }
+    ensures at_end { IfOk result (λ end. IsByInput end → IsAtEnd (R.unread source.new)) }
+    ensures read { result ≡ Err SessionFault.Read → (read : List ℕ) × (written : List ℕ)
+        × Consumes (R.unread source.old) (R.unread source.new) read × Appends (S.taken sink.old) (S.taken sink.new) written
+        × IsUnfinished COMMAND_LIMIT (terms_of W.opening core.old.hello) (Means W.opening W.limits) Standing.New pass.old read written pass.new }
+    ensures memory { result ≡ Err SessionFault.Memory → (read : List ℕ) × (piece : List ℕ) × (written : List ℕ)
+        × Consumes (R.unread source.old) (R.unread source.new) (read ++ piece) × Appends (S.taken sink.old) (S.taken sink.new) written
+        × IsUnfinished COMMAND_LIMIT (terms_of W.opening core.old.hello) (Means W.opening W.limits) Standing.New pass.old read written pass.new }
+    ensures write { result ≡ Err SessionFault.Write → (read : List ℕ) × (written : List ℕ)
+        × Consumes (R.unread source.old) (R.unread source.new) read × Appends (S.taken sink.old) (S.taken sink.new) written
+        × HasBrokenOff COMMAND_LIMIT (terms_of W.opening core.old.hello) (Means W.opening W.limits) Standing.New pass.old read written pass.new }
+    ensures source_count { R.failures source.new ≡ read_failures_after result (R.failures source.old) }
+    ensures sink_count { S.failures sink.new ≡ write_failures_after result (S.failures sink.old) }
+    ensures session { pass.new.session ≡ pass.old.session }
+{
+    begins_with(engine, pass);
+    for _ in rt.forever() {
+        match serve_piece(rt, alloc, engine, pass, core, buffer, source, sink) {
+            Ok(None) => {}
+            Ok(Some(end)) => return Ok(end),
+            Err(fault) => return Err(fault),
+        }
+    }
+    unreachable!()
+}
+
 /// Serves one connection, the one with this id, until it ends: greets its client by the salt, lets in whom `access` tells, reads commands
 /// from the source, and writes their replies to the sink.
 pub fn serve<W: World + Send + Sync, J: Naming + Send + Sync, G: Gate, R: Source, S: Sink>(
@@ -132,28 +181,20 @@ pub fn serve<W: World + Send + Sync, J: Naming + Send + Sync, G: Gate, R: Source
     // Whatever happened, the pass is still its session's.
     ensures session { pass.new.session ≡ pass.old.session }
 {
-    begins_with(engine, pass);
     let Ok(mut core) = Core::new(alloc, access, salt, id) else {
         return Err(SessionFault::Memory);
     };
     let Ok(mut buffer) = zeroed(alloc, PIECE) else {
         return Err(SessionFault::Memory);
     };
-    for _ in rt.forever() {
-        match serve_piece(
-            rt,
-            alloc,
-            engine,
-            pass,
-            &mut core,
-            &mut buffer,
-            source,
-            sink,
-        ) {
-            Ok(None) => {}
-            Ok(Some(end)) => return Ok(end),
-            Err(fault) => return Err(fault),
-        }
-    }
-    unreachable!()
+    serve_on(
+        rt,
+        alloc,
+        engine,
+        pass,
+        &mut core,
+        &mut buffer,
+        source,
+        sink,
+    )
 }

@@ -1,11 +1,7 @@
-use Rattle.std.proofs.Common.{[], refl, ap, ◌∙◌}
+use Rattle.std.proofs.Common.{[]}
 use Rattle.std.proofs.KnownBytes.{Appends-nil, Consumes-nil}
 use Rattle.session.specs.declared.standing.Standing.TheVariants.{New}
-use Rattle.session.specs.Outcomes.{terms_of}
-use Rattle.session.specs.Standings.{end_of}
-use Rattle.session.proofs.Alone.{served_alone}
-use Rattle.session.proofs.Conversations.{same_fault}
-use Rattle.session.proofs.Servings.{one_more, still_goes_on, still_open, has_ended, stopped, starved, cut_short, unstarted, begins_so}
+use Rattle.session.proofs.Servings.{unstarted}
 use Rattle.session.proofs.command_phase.serve.Goals as goal
 
 pub returns-in_default-clause-memory : goal.returns-in_default-clause-memory
@@ -14,60 +10,17 @@ returns-in_default-clause-memory g c = λ is. ([], [], [], Consumes-nil (g.R.Sou
 pub returns-in_default-zeroed-clause-memory : goal.returns-in_default-zeroed-clause-memory
 returns-in_default-zeroed-clause-memory g c = λ is. ([], [], [], Consumes-nil (g.R.Source.unread c.args.source.now), Appends-nil (g.S.Sink.taken c.args.sink.now), unstarted _ _ New _ _)
 
-pub returns-in-Err-clause-read : goal.returns-in-Err-clause-read
-returns-in-Err-clause-read g c = λ is.
-    let said = c.in-Err.ensures.read (same_fault _ _ is) in
-    stopped _ _ _ _ _ _ c.loop.core _ _ _ _ _ _ _ c.loop.invariant.limit c.loop.invariant.talked said.0 (ap g.S.Sink.taken said.1) said.2
+pub returns-clause-talk : goal.returns-clause-talk
+returns-clause-talk g c = rw c.in-Ok.ensures.hello at c.serve_on.ensures.talk
 
-pub returns-in-Err-clause-memory : goal.returns-in-Err-clause-memory
-returns-in-Err-clause-memory g c = λ is.
-    let said = c.in-Err.ensures.memory (same_fault _ _ is) in
-    starved _ _ _ _ _ _ c.loop.core _ _ _ _ _ _ _ c.loop.invariant.limit c.loop.invariant.talked said.0 (ap g.S.Sink.taken said.1) said.2
+pub returns-clause-alone : goal.returns-clause-alone
+returns-clause-alone g c = rw c.in-Ok.ensures.hello at c.serve_on.ensures.alone
 
-pub returns-in-Err-clause-write : goal.returns-in-Err-clause-write
-returns-in-Err-clause-write g c = λ is.
-    cut_short (terms_of g.W.World.opening) _ _ _ _ _ c.loop.invariant.connection _ _ c.loop.core _ _ _ _ _ _ _ c.loop.invariant.limit c.loop.invariant.talked (c.in-Err.ensures.write (same_fault _ _ is))
+pub returns-clause-read : goal.returns-clause-read
+returns-clause-read g c = rw c.in-Ok.ensures.hello at c.serve_on.ensures.read
 
-pub returns-in-Ok-Some-clause-talk : goal.returns-in-Ok-Some-clause-talk
-returns-in-Ok-Some-clause-talk g c =
-    has_ended _ _ _ _ _ c.serve_piece.new.core _ _ _ _ _ c.in-Ok-Some.field-0 c.in-Ok-Some.end c.in-Ok-Some.field-0-is (c.in-Ok-Some.ensures.next.limit ∙ c.loop.invariant.limit)
-    (one_more (terms_of g.W.World.opening) _ _ _ _ _ c.loop.invariant.connection _ _ c.loop.core c.serve_piece.new.core _ _ _ _ _ _ c.in-Ok-Some.field-0 c.loop.invariant.talked c.in-Ok-Some.ensures.talk)
+pub returns-clause-memory : goal.returns-clause-memory
+returns-clause-memory g c = rw c.in-Ok.ensures.hello at c.serve_on.ensures.memory
 
-pub returns-in-Ok-Some-clause-alone : goal.returns-in-Ok-Some-clause-alone
-returns-in-Ok-Some-clause-alone g c =
-    served_alone g.W.World.opening g.W.World.limits _ c.begins_with.ensures.opens c.begins_with.ensures.formed _ _ _ _ c.in-Ok-Some.end _ _ _ _ c.begins_with.ensures.legal
-    (has_ended _ _ _ _ _ c.serve_piece.new.core _ _ _ _ _ c.in-Ok-Some.field-0 c.in-Ok-Some.end c.in-Ok-Some.field-0-is (c.in-Ok-Some.ensures.next.limit ∙ c.loop.invariant.limit)
-    (one_more (terms_of g.W.World.opening) _ _ _ _ _ c.loop.invariant.connection _ _ c.loop.core c.serve_piece.new.core _ _ _ _ _ _ c.in-Ok-Some.field-0 c.loop.invariant.talked c.in-Ok-Some.ensures.talk))
-
-pub loop-preserved : goal.loop-preserved
-loop-preserved g c =
-    let talked =
-    still_goes_on _ _ _ _ _ c.serve_piece.new.core _ _ _ _ c.in-Ok-None.field-0 c.in-Ok-None.field-0-is
-    (one_more (terms_of g.W.World.opening) _ _ _ _ _ c.loop.invariant.connection _ _ c.loop.core c.serve_piece.new.core _ _ _ _ _ _ c.in-Ok-None.field-0 c.loop.invariant.talked c.in-Ok-None.ensures.talk) in record {
-      session = c.in-Ok-None.ensures.session ∙ c.loop.invariant.session;
-      buffer = c.loop.invariant.buffer;
-      limit = c.in-Ok-None.ensures.next.limit ∙ c.loop.invariant.limit;
-      connection = c.in-Ok-None.ensures.next.hello ∙ c.loop.invariant.connection;
-      open_session = still_open _ _ _ _ _ _ _ _ _ _ talked;
-      source_count = c.in-Ok-None.ensures.source_count ∙ c.loop.invariant.source_count;
-      sink_count = c.in-Ok-None.ensures.sink_count ∙ c.loop.invariant.sink_count;
-      talked = talked;
-    }
-
-pub loop-init : goal.loop-init
-loop-init g c = record {
-  session = refl;
-  buffer = c.in-Ok-zeroed.ensures;
-  limit = c.in-Ok.ensures.limit;
-  open_session = ap end_of c.in-Ok.ensures.standing;
-  connection = c.in-Ok.ensures.hello;
-  source_count = refl;
-  sink_count = refl;
-  talked = (
-    [],
-    [],
-    Consumes-nil (g.R.Source.unread c.args.source.now),
-    Appends-nil (g.S.Sink.taken c.args.sink.now),
-    begins_so (terms_of g.W.World.opening) _ _ _ _ _ c.in-Ok.ensures.hello _ (c.in-Ok.ensures.begins g.W.World.opening g.W.World.limits c.args.pass.now),
-  );
-}
+pub returns-clause-write : goal.returns-clause-write
+returns-clause-write g c = rw c.in-Ok.ensures.hello at c.serve_on.ensures.write

@@ -1,19 +1,17 @@
-use Rattle.std.proofs.Common.{◌≡◌, ℕ, List, None, vec_len}
+use Rattle.std.proofs.Common.{◌≡◌, ℕ, List, None}
 use Rattle.std.specs.Io.KnownBytes.{Appends, Consumes}
 use Rattle.session.specs.declared.session_core.TheConstants.{COMMAND_LIMIT}
-use Rattle.session.specs.declared.command_phase.TheConstants.{PIECE}
 use Rattle.session.specs.declared.hello.Hello.{Hello}
 use Rattle.session.specs.declared.standing.Standing.TheVariants.{New}
 use Rattle.session.specs.Outcomes.{Means, terms_of}
 use Rattle.session.specs.Sessions.{HasTalked}
 use Rattle.session.specs.Standings.{end_of}
-use Rattle.session.proofs.command_phase.serve.Given as goal
+use Rattle.session.proofs.command_phase.serve_on.Given as goal
 
 abbrev pub invariant-loop : goal.invariant-loop
 invariant-loop g l =
-    let hello : Hello = record { access = l.fn.access; salt = l.fn.salt; id = l.fn.id } in record {
+    let hello : Hello = l.fn.core.hello in record {
       session : l.pass.session ≡ l.initial.pass.session;
-      buffer : vec_len l.buffer ≡ PIECE;
       limit : l.core.framing.limit ≡ COMMAND_LIMIT;
       open_session : end_of l.core.standing ≡ None;
       connection : l.core.hello ≡ hello;
