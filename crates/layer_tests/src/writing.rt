@@ -7,7 +7,8 @@ ghost use Rattle.layer_tests.specs.SmallWorld.{small_schema, small_shard, insert
 
 use journal::{Naming, Opened, Pass, ShardSeat};
 use keyrange::KeyRange;
-use shard::{Limits, Shard, ShardLaw, ShardState, Store, World};
+use shard::{Committed, Limits, Read, Reading, Shard, ShardLaw, ShardState, Store, World};
+use shard_run::Mode;
 use sql_tree::{Assignment, Item};
 use std::alloc::Global;
 use std::marker::Brand;
@@ -101,15 +102,21 @@ fn delete() -> Write
     Write::Delete(0, None)
 }
 
+fn place() -> Place
+    ensures { result ≡ small_shard.place }
+{
+    Place {
+        keyspace: 0,
+        range: KeyRange::full(),
+    }
+}
+
 fn shard(alloc: Global) -> shard_run::Shard
     ensures { result ≡ small_shard }
 {
     shard_run::Shard {
         slot: 0,
-        place: Place {
-            keyspace: 0,
-            range: KeyRange::full(),
-        },
+        place: place(),
         sources: Items::new(alloc),
     }
 }
@@ -130,7 +137,12 @@ fn state<J: Naming>(
     let mut store = Store::new(alloc);
     store.push_table(Vec::new(alloc))?;
     let limits = Limits { rows: 2, stored: 4 };
-    Ok(ShardState::new(alloc, seat, shard(alloc), store, limits))
+    Ok(ShardState::new(alloc, seat, shard(alloc), store, Mode::Serving, limits))
+}
+
+// A write that the shard, which always serves, gave back.
+fn not_taken(_write: Write) -> Result<u64, Refusal> {
+    Err(Refusal::NotSupported)
 }
 
 // The next statement of the session.
@@ -148,7 +160,28 @@ fn write<J: Naming>(
 {
     let schema = schema(alloc)?;
     pass.next_statement()?;
-    shard.commit(rt, alloc, pass, 0, &schema, write)
+    match shard.commit(rt, alloc, pass, 0, &place(), &schema, write)? {
+        Committed::Count(count) => Ok(count),
+        Committed::Frozen(write) => not_taken(write),
+        Committed::NotServing(write) => not_taken(write),
+    }
+}
+
+// What the shard, which always serves, gives for a query.
+fn read<J: Naming>(
+    rt: &impl Wait,
+    alloc: Global,
+    shard: &Shard<Small, J>,
+    pass: &mut Pass<ShardLaw<Small>, J>,
+    query: &Query,
+) -> Result<Reading, Refusal>
+    requires { IsSome pass.old.session }
+    ensures { IsSome pass.new.session }
+{
+    match shard.read(rt, alloc, pass, 0, &place(), query)? {
+        Read::Rows(reading) => Ok(reading),
+        Read::NotServing => Err(Refusal::NotSupported),
+    }
 }
 
 // INSERT INTO t VALUES (id, NULL)
@@ -243,7 +276,7 @@ fn counted<J: Naming>(
     ensures session { IsSome pass.new.session }
 {
     let query = query(alloc, Item::CountRows)?;
-    let reading = shard.read(rt, alloc, pass, 0, &query)?;
+    let reading = read(rt, alloc, shard, pass, &query)?;
     match reading.rows.as_slice() {
         [row] => Ok(number_in(row)),
         _ => Ok(None),
@@ -261,7 +294,7 @@ fn counts<J: Naming>(
     ensures session { IsSome pass.new.session }
 {
     let query = query(alloc, Item::Column(0))?;
-    let reading = shard.read(rt, alloc, pass, 0, &query)?;
+    let reading = read(rt, alloc, shard, pass, &query)?;
     Ok((reading.rows.len(), reading.entries))
 }
 
