@@ -7,7 +7,10 @@ use vt_value::Row;
 #[derive(Drop)]
 pub enum Step {
     /// It took over what the source's stored entry at this place changes.
-    Followed { source: usize, place: u64 },
+    Followed {
+        source: usize,
+        place: u64,
+    },
     /// It copied rows of a table as they were behind so many stored entries, all that were left where it was the last such step, and the
     /// last of these rows.
     Copied {

@@ -11,8 +11,8 @@ ghost use Rattle.journal.specs.Runs.{IsLegal};
 ghost use Rattle.shard.specs.Shards.{beyond, is_plain, IsAfter, MayFollow, slot_of, commit_of};
 
 use crate::contents::{Author, Contents};
-use crate::limits::{Limits, MOST_ENTRIES};
 use crate::forward::Step;
+use crate::limits::{Limits, MOST_ENTRIES};
 use crate::store::Store;
 use crate::world::{ShardLaw, World};
 use journal::{Naming, Pass, ShardSeat};

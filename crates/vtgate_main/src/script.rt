@@ -44,8 +44,9 @@ fn run_opened<W: World + Send + Sync, J: Naming + Send + Sync, R: Threads + Wait
     requires ranges { FitRanges schema ranges.now }
     ensures { OnOk result (HasGiven (opening_of schema ranges.now) lines.now (O.taken output.old) (O.taken output.new)) }
 {
-    let Ok((engine, opener, pass)) = empty_router::<W, J, Open>(alloc, schema, ranges, opened, 0, Open)
-    else {
+    let Ok((engine, opener, pass)) = empty_router::<W, J, Open>(
+        alloc, schema, ranges, opened, 0, Open,
+    ) else {
         return Err(Fault::OutOfMemory);
     };
     let mut sessions = Sessions::new(alloc, opener, pass);

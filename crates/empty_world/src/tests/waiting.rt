@@ -81,7 +81,9 @@ fn without_room<W: World + Send + Sync, J: Naming + Send + Sync>(
     requires formed { IsTrue (is_vschema schema) }
     requires fit { FitRanges schema ranges.now }
 {
-    let (held, keyspaces, mut opener, mut first) = opened_shards::<W, J>(alloc, &schema, ranges, opened)?;
+    let (held, keyspaces, mut opener, mut first) = opened_shards::<W, J>(
+        alloc, &schema, ranges, opened,
+    )?;
     let engine = Engine::new(schema, keyspaces, Buffer::new(0), Open);
     let mut pass = opener.open(&mut first)?;
     let [low, ..] = held.as_slice() else {
@@ -206,7 +208,9 @@ fn with_room_for_one<W: World + Send + Sync, J: Naming + Send + Sync, R: Threads
     requires formed { IsTrue (is_vschema schema) }
     requires fit { FitRanges schema ranges.now }
 {
-    let (held, keyspaces, mut opener, mut seen) = opened_shards::<W, J>(alloc, &schema, ranges, opened)?;
+    let (held, keyspaces, mut opener, mut seen) = opened_shards::<W, J>(
+        alloc, &schema, ranges, opened,
+    )?;
     let engine = Engine::new(schema, keyspaces, Buffer::new(1), Open);
     let one = opener.open(&mut seen)?;
     let other = opener.open(&mut seen)?;

@@ -10,4 +10,3 @@ open-requires-2-send-L-Entry g c κs within = search (entry_send, sendable)
 
 pub open-requires-3-send-L-Entry : goal.open-requires-3-send-L-Entry
 open-requires-3-send-L-Entry g c κs within = search (entry_send, sendable)
-

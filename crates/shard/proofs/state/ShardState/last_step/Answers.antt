@@ -27,13 +27,13 @@ loop-step-preserved g c =
     let before = behind_last c.args.source None (take c.loop-step.step-index c.as_slice-step-items.result.now) in
     subst (Tells g c) (sym (next g c)) (elim c.if-source.branch [
       | then-source w ↦
-            let e : (source_of c.step-item.result == c.args.source) ≡ true =
-            eq-eqb (source_of c.step-item.result) c.args.source (sym c.source.ensures ∙ w.if-source.true) in
-            rw w.last-is (ap (λ (b : Bool). if b then Some (behind c.step-item.result) else before) e)
+          let e : (source_of c.step-item.result == c.args.source) ≡ true =
+          eq-eqb (source_of c.step-item.result) c.args.source (sym c.source.ensures ∙ w.if-source.true) in
+          rw w.last-is (ap (λ (b : Bool). if b then Some (behind c.step-item.result) else before) e)
       | else-source w ↦
-            let e : (source_of c.step-item.result == c.args.source) ≡ false =
-            ne_eqb (source_of c.step-item.result) c.args.source (λ same. w.if-source.false (c.source.ensures ∙ same)) in
-            subst (Tells g c) (sym (ap (λ (b : Bool). if b then Some (behind c.step-item.result) else before) e)) (rw w.last-is c.loop-step.invariant)
+          let e : (source_of c.step-item.result == c.args.source) ≡ false =
+          ne_eqb (source_of c.step-item.result) c.args.source (λ same. w.if-source.false (c.source.ensures ∙ same)) in
+          subst (Tells g c) (sym (ap (λ (b : Bool). if b then Some (behind c.step-item.result) else before) e)) (rw w.last-is c.loop-step.invariant)
     ])
 
 pub returns : goal.returns
