@@ -1,5 +1,5 @@
 -- A table's rows, each in the slot of its own key: the values of the table's key columns.
-use Rattle.std.specs.Prelude.{◌≡◌, ℕ, Bool, List, [], ◌∷◌, length, map, slice_index, Some}
+use Rattle.std.specs.Prelude.{◌≡◌, ℕ, Bool, List, length, map, slice_index, Some}
 use Rattle.std.specs.List.{AllByRecursion}
 use Rattle.std.specs.Ordering.{is_eq}
 use Rattle.vt_value.specs.declared.value.Value.{Value}
