@@ -1,9 +1,9 @@
-ghost use Rattle.std.specs.Prelude.{◌≡◌, ◌<◌, ◌++◌, ◌∷◌, [], false, IsSome, IfOk, IfErr, OnOk, OnErr, IsPermutation, option_to_list, option_copied, filter, length};
+ghost use Rattle.std.specs.Prelude.{◌≡◌, ◌<◌, ◌++◌, ◌∷◌, [], IsSome, IfOk, IfErr, OnOk, OnErr, IsPermutation, option_to_list, option_copied, filter, length, is_some, if◌then◌else◌};
 ghost use Rattle.std.specs.List.{list_any};
 ghost use Rattle.vt_value.specs.Values.{value_at};
 ghost use Rattle.vschema.specs.Database.{without};
-ghost use Rattle.shard_store.specs.Slots.{rows_in, slot_at, slots_from};
-ghost use Rattle.shard_store.specs.Tables.{key_at, has_key, begins_with};
+ghost use Rattle.shard_store.specs.Slots.{rows_in, slot_at, row_at, slots_from, with_slot, without_slot};
+ghost use Rattle.shard_store.specs.Tables.{key_at, has_key, begins_with, CanTake};
 
 use crate::key::RowKey;
 use crate::slots::Slots;
@@ -125,6 +125,7 @@ impl StoredTable {
         ensures rows { rows_in self.new.slots ≡ rows_in self.old.slots }
         ensures ok { OnOk result (IsSome (slot_at self.new.slots key)) }
         ensures kept { (k : RowKey) → IsSome (slot_at self.old.slots k) → slot_at self.new.slots k ≡ slot_at self.old.slots k }
+        ensures slots { OnOk result (self.new.slots ≡ (if is_some (slot_at self.old.slots key) then self.old.slots else with_slot key self.old.slots)) }
         ensures places { self.new.places ≡ self.old.places }
         ensures err { IfErr result (λ e. e ≡ Refusal.OutOfMemory) }
         ensures unchanged { OnErr result (self.new ≡ self.old) }
@@ -136,6 +137,7 @@ impl StoredTable {
     /// Gives up the slot of a key, unless it has a row. Takes no memory.
     pub fn sweep(&mut self, key: &RowKey)
         ensures rows { rows_in self.new.slots ≡ rows_in self.old.slots }
+        ensures slots { self.new.slots ≡ (if is_some (row_at self.old.slots key.now) then self.old.slots else without_slot key.now self.old.slots) }
         ensures places { self.new.places ≡ self.old.places }
     {
         self.slots.sweep(key);
@@ -143,9 +145,7 @@ impl StoredTable {
 
     /// Adds a row whose key has a slot and no row. Takes no memory.
     pub fn add(&mut self, key: &RowKey, row: Row)
-        requires key { key.now.values ≡ key_at self.old.places row }
-        requires slot { IsSome (slot_at self.old.slots key.now) }
-        requires absent { list_any (has_key self.old.places key.now.values) (rows_in self.old.slots) ≡ false }
+        requires { CanTake self.old key.now row (rows_in self.old.slots) }
         ensures rows { IsPermutation (rows_in self.new.slots) (rows_in self.old.slots ++ row ∷ []) }
         ensures kept { (k : RowKey) → IsSome (slot_at self.old.slots k) → IsSome (slot_at self.new.slots k) }
         ensures places { self.new.places ≡ self.old.places }
@@ -168,5 +168,17 @@ impl StoredTable {
             self.slots.take(key);
             self.count -= 1;
         }
+    }
+
+    /// Puts a row in the place of another one, which has the same key. Takes no memory.
+    pub fn replace(&mut self, key: &RowKey, old: &Row, new: Row)
+        requires key { key.now.values ≡ key_at self.old.places old.now }
+        requires fits { CanTake self.old key.now new (without old.now (rows_in self.old.slots)) }
+        ensures rows { IsPermutation (rows_in self.new.slots) (without old.now (rows_in self.old.slots) ++ new ∷ []) }
+        ensures kept { (k : RowKey) → IsSome (slot_at self.old.slots k) → IsSome (slot_at self.new.slots k) }
+        ensures places { self.new.places ≡ self.old.places }
+    {
+        self.remove(key, old);
+        self.add(key, new);
     }
 }

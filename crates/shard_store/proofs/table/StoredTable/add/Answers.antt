@@ -23,7 +23,7 @@ overflow_add-self c =
 pub invariant_of-self : goal.invariant_of-self
 invariant_of-self c = record {
   keyed = keyed_added c.self.inside.places c.args.key.now c.args.row c.self.inside.slots c.add.new.self c.add.ensures.slots
-      (subst (λ (t : TableView). c.args.key.now.values ≡ key_at t.places c.args.row) (sym c.self.view_is) c.requires.key) c.self.invariant.keyed;
+      (subst (λ (t : TableView). c.args.key.now.values ≡ key_at t.places c.args.row) (sym c.self.view_is) c.requires.at) c.self.invariant.keyed;
   counted =
       let more = length_permutation (rows_in c.add.new.self) (rows_in c.self.inside.slots ++ c.args.row ∷ []) c.add.ensures.rows in
       let n = length-append (rows_in c.self.inside.slots) (c.args.row ∷ []) in
