@@ -1,18 +1,19 @@
 -- What a change of one table does to a list of tables, and changes one after the other.
-use Rattle.std.proofs.Common.{◌≡◌, ◌<◌, ℕ, zero, suc, false, List, [], ◌∷◌, length, get_or, set, IsSome, IsPermutation, refl, sym, ap, ◌∙◌, subst, arith}
+use Rattle.std.proofs.Common.{◌≡◌, ◌<◌, ℕ, zero, suc, false, List, [], ◌∷◌, ◌++◌, length, get_or, set, IsSome, IsPermutation, refl, sym, ap, ◌∙◌, subst, arith}
+use Rattle.std.proofs.Math.Seq.{map-set_same}
 use Rattle.std.proofs.lemmas.List.{get_or-map, length-set}
 use Rattle.std.proofs.lemmas.List.Sorted.{IsPermutation-refl, IsPermutation-trans, list_any-IsPermutation}
 use Rattle.std.specs.List.{list_any}
 use Rattle.vt_value.specs.Values.{Row}
 use Rattle.vschema.specs.declared.changes.RowChange.{RowChange}
 use Rattle.vschema.specs.declared.changes.RowChange.TheVariants.{Added, Replaced, Removed}
-use Rattle.vschema.specs.Database.{Database, SameRows, rows_of, without, applied, all_applied}
+use Rattle.vschema.specs.Database.{Database, SameRows, rows_of, without, changed_table, applied, all_applied}
 use Rattle.sql_eval.proofs.ChangeLemmas.{rows-same}
 use Rattle.shard_store.specs.declared.key.RowKey.{RowKey}
 use Rattle.shard_store.specs.declared.key.KeyedChange.{KeyedChange}
 use Rattle.shard_store.specs.Slots.{rows_in, slot_at}
 use Rattle.shard_store.specs.Tables.{TableView, key_at, has_key, CanTake}
-use Rattle.shard_store.specs.Stored.{database, table_at, KeepsSlots, CanDo, CanDoAll, changes_in}
+use Rattle.shard_store.specs.Stored.{database, table_at, KeepsSlots, CanDo, CanDoAll, IsLawful, AreLawful, HasSlotFor, HasSlotsFor, AreOfTables, changes_in}
 use Rattle.shard_store.proofs.Bags.{without-same, applied-same}
 
 pub SameRows-refl : (a : Database) → SameRows a a
@@ -125,6 +126,41 @@ do_same ts a b same key (Replaced n old new) h = (
       (without-same old (rows_of a n) (rows_of b n) (rows-same a b same n)) h.2,
 )
 do_same ts a b same key (Removed n row) h = h
+
+can_do : (ts : List TableView) (db : Database) (key : RowKey) (c : RowChange) → IsSome (slot_at (table_at ts (changed_table c)).slots key)
+    → IsLawful ts db key c → CanDo ts db key c
+can_do ts db key (Added n row) slot h = (h.0, record { at = h.1; slot = slot; absent = h.2 })
+can_do ts db key (Replaced n old new) slot h = (h.0, h.1, record { at = h.2; slot = slot; absent = h.3 })
+can_do ts db key (Removed n row) slot h = h
+
+pub can_do_all : (ts : List TableView) (db : Database) (cs : List KeyedChange) → HasSlotsFor ts cs → AreLawful ts db cs → CanDoAll ts db cs
+can_do_all ts db [] slots h = tt
+can_do_all ts db (c ∷ cs) slots h = (can_do ts db c.key c.change slots.0 h.0, can_do_all ts (applied c.change db) cs slots.1 h.1)
+
+-- a table whose rows have not changed
+pub unchanged : (ts : List TableView) (i : ℕ) (old new : TableView) → old ≡ get_or ts i old → rows_in new.slots ≡ rows_in old.slots
+    → database (set ts i new) ≡ database ts
+unchanged ts i old new e h = map-set_same (λ (t : TableView). rows_in t.slots) ts i new old (h ∙ ap (λ (t : TableView). rows_in t.slots) e)
+
+-- the table at a place that it was set at
+pub set_there : (ts : List TableView) (i : ℕ) (t : TableView) → i < length ts → table_at (set ts i t) i ≡ t
+set_there [] i t l = absurd (omega (arith, l))
+set_there (u ∷ ts) zero t l = refl
+set_there (u ∷ ts) (suc i) t l = set_there ts i t (omega (arith, l))
+
+pub slots_kept : (a b : List TableView) → KeepsSlots a b → (cs : List KeyedChange) → HasSlotsFor a cs → HasSlotsFor b cs
+slots_kept a b kept [] h = tt
+slots_kept a b kept (c ∷ cs) h = (kept.slots (changed_table c.change) c.key h.0, slots_kept a b kept cs h.1)
+
+pub slots_more : (ts : List TableView) (cs : List KeyedChange) (c : KeyedChange) → HasSlotsFor ts cs → HasSlotFor ts c → HasSlotsFor ts (cs ++ c ∷ [])
+slots_more ts [] c h there = (there, tt)
+slots_more ts (d ∷ cs) c h there = (h.0, slots_more ts cs c h.1 there)
+
+pub tables_at : (ts : List TableView) (cs : List KeyedChange) (i : ℕ) (c : KeyedChange) → AreOfTables ts cs → i < length cs → c ≡ get_or cs i c
+    → changed_table c.change < length ts
+tables_at ts [] i c h l e = absurd (omega (arith, l))
+tables_at ts (d ∷ cs) zero c h l e = subst (λ (x : KeyedChange). changed_table x.change < length ts) (sym e) h.0
+tables_at ts (d ∷ cs) (suc i) c h l e = tables_at ts cs i c h.1 (omega (arith, l)) e
 
 -- the tables stand so far that the changes that are left can be done, and give these rows
 pub record Reached (ts : List TableView) (left : List KeyedChange) (end : Database) : Type 0 where

@@ -1,8 +1,8 @@
 ghost use Rattle.std.specs.Prelude.{◌≡◌, ◌<◌, ◌++◌, ◌∷◌, [], OnOk, OnErr, IfErr, length};
 ghost use Rattle.vschema.specs.declared.changes.RowChange.TheVariants.{Added, Replaced, Removed};
-ghost use Rattle.vschema.specs.Database.{SameRows, rows_of, without, applied, all_applied};
+ghost use Rattle.vschema.specs.Database.{SameRows, rows_of, without, changed_table, applied, all_applied};
 ghost use Rattle.shard_store.specs.Tables.{key_at, CanTake};
-ghost use Rattle.shard_store.specs.Stored.{database, table_at, KeepsSlots, CanDo, CanDoAll, changes_in};
+ghost use Rattle.shard_store.specs.Stored.{database, table_at, KeepsSlots, CanDo, AreLawful, HasSlotFor, HasSlotsFor, AreOfTables, changes_in};
 
 use crate::key::{KeyedChange, RowKey};
 use crate::table::StoredTable;
@@ -24,6 +24,16 @@ impl Model for StoredTables {
     ghost Value = { List TableView };
 
     ghost view = { λ s. s.tables.items };
+}
+
+fn changed_table(change: &RowChange) -> usize
+    ensures { result ≡ changed_table change.now }
+{
+    match change {
+        RowChange::Added(place, _) => *place,
+        RowChange::Replaced(place, _, _) => *place,
+        RowChange::Removed(place, _) => *place,
+    }
 }
 
 impl StoredTables {
@@ -52,6 +62,32 @@ impl StoredTables {
         ensures { result.now ≡ table_at self.now place }
     {
         &self.tables[place]
+    }
+
+    // Makes a slot for a change, where its key has none.
+    fn reserve_one(&mut self, alloc: Global, keyed: &KeyedChange) -> Result<(), Refusal>
+        requires { changed_table keyed.now.change < length self.old }
+        ensures rows { database self.new ≡ database self.old }
+        ensures ok { OnOk result (HasSlotFor self.new keyed.now) }
+        ensures kept { KeepsSlots self.old self.new }
+        ensures err { IfErr result (λ e. e ≡ Refusal.OutOfMemory) }
+    {
+        let place = changed_table(&keyed.change);
+        self.tables[place].reserve(alloc, &keyed.key)
+    }
+
+    /// Makes a slot for each change, where its key has none. Refuses for want of memory; the rows stay as they are.
+    pub fn reserve(&mut self, alloc: Global, changes: &[KeyedChange]) -> Result<(), Refusal>
+        requires { AreOfTables self.old changes.now }
+        ensures rows { database self.new ≡ database self.old }
+        ensures ok { OnOk result (HasSlotsFor self.new changes.now) }
+        ensures kept { KeepsSlots self.old self.new }
+        ensures err { IfErr result (λ e. e ≡ Refusal.OutOfMemory) }
+    {
+        for change in changes {
+            self.reserve_one(alloc, change)?;
+        }
+        Ok(())
     }
 
     fn add(&mut self, place: usize, key: &RowKey, row: Row)
@@ -97,7 +133,8 @@ impl StoredTables {
 
     /// Does the changes, in order. Takes no memory.
     pub fn apply(&mut self, changes: Vec<KeyedChange>)
-        requires { CanDoAll self.old (database self.old) changes.items }
+        requires slots { HasSlotsFor self.old changes.items }
+        requires lawful { AreLawful self.old (database self.old) changes.items }
         ensures rows { SameRows (database self.new) (all_applied (changes_in changes.items) (database self.old)) }
         ensures kept { KeepsSlots self.old self.new }
     {

@@ -121,16 +121,19 @@ impl StoredTable {
     }
 
     /// Makes a slot for a key, where it has none. Refuses for want of memory; the rows stay as they are.
-    pub fn reserve(&mut self, key: RowKey) -> Result<(), Refusal>
+    pub fn reserve(&mut self, alloc: Global, key: &RowKey) -> Result<(), Refusal>
         ensures rows { rows_in self.new.slots ≡ rows_in self.old.slots }
-        ensures ok { OnOk result (IsSome (slot_at self.new.slots key)) }
+        ensures ok { OnOk result (IsSome (slot_at self.new.slots key.now)) }
         ensures kept { (k : RowKey) → IsSome (slot_at self.old.slots k) → slot_at self.new.slots k ≡ slot_at self.old.slots k }
-        ensures slots { OnOk result (self.new.slots ≡ (if is_some (slot_at self.old.slots key) then self.old.slots else with_slot key self.old.slots)) }
+        ensures slots { OnOk result (self.new.slots ≡ (if is_some (slot_at self.old.slots key.now) then self.old.slots else with_slot key.now self.old.slots)) }
         ensures places { self.new.places ≡ self.old.places }
         ensures err { IfErr result (λ e. e ≡ Refusal.OutOfMemory) }
         ensures unchanged { OnErr result (self.new ≡ self.old) }
     {
-        self.slots.reserve(key)?;
+        if self.slots.has(key) {
+            return Ok(());
+        }
+        self.slots.reserve(key.copy(alloc)?)?;
         Ok(())
     }
 

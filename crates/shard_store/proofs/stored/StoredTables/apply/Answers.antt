@@ -3,7 +3,7 @@ use Rattle.std.specs.Vec.Iter.{into_iter_items}
 use Rattle.vschema.specs.Database.{all_applied}
 use Rattle.shard_store.specs.declared.key.KeyedChange.{KeyedChange}
 use Rattle.shard_store.specs.Stored.{database, changes_in}
-use Rattle.shard_store.proofs.Done.{Reached, reached_first, reached_can, reached_next, KeepsSlots-refl, KeepsSlots-trans}
+use Rattle.shard_store.proofs.Done.{can_do_all, Reached, reached_first, reached_can, reached_next, KeepsSlots-refl, KeepsSlots-trans}
 use Rattle.shard_store.proofs.stored.StoredTables.apply.Goals as goal
 
 pub loop-change-init : goal.loop-change-init
@@ -11,7 +11,7 @@ loop-change-init c =
     let gives : into_iter_items c.into_iter-change-iterator.result ≡ c.args.changes.items = search rules in
     record {
       reached = subst (λ (l : List KeyedChange). Reached c.args.self.now l (all_applied (changes_in c.args.changes.items) (database c.args.self.now))) (sym gives)
-          (reached_first c.args.self.now c.args.changes.items c.requires);
+          (reached_first c.args.self.now c.args.changes.items (can_do_all c.args.self.now (database c.args.self.now) c.args.changes.items c.requires.slots c.requires.lawful));
       kept = KeepsSlots-refl c.args.self.now;
     }
 
