@@ -1,0 +1,234 @@
+-- A table's rows, where each stands in the slot of its own key.
+use Rattle.std.proofs.Common.{◌≡◌, ◌≤◌, ℕ, Bool, true, false, cond, ◌||◌, List, [], ◌∷◌, ◌++◌, length, filter, option_to_list, Option, Some, None, is_some, option_copied, Bor, refl, sym, ap, ◌∙◌, subst, arith}
+use Rattle.std.proofs.lemmas.List.{append-nil, length-append}
+use Rattle.std.specs.List.{AllByRecursion, list_any}
+use Rattle.std.specs.List.Sorted.{IsStrictlySortedBy}
+use Rattle.std.specs.Map.{keys_of}
+use Rattle.std.specs.Ordering.{is_eq, match_ordering}
+use Rattle.std.specs.Option.{option_and_then}
+use Rattle.std.specs.Cmp.{Equal-is}
+use Rattle.std.specs.Cmp.Lexicographic.{slice_cmp}
+use Rattle.std.specs.declared.cmp.Ordering.{Ordering}
+use Rattle.std.specs.declared.cmp.Ordering.TheVariants.{Less, Equal, Greater}
+use Rattle.vt_value.specs.declared.value.Value.{Value}
+use Rattle.vt_value.specs.Values.{Row, value_cmp}
+use Rattle.vschema.specs.Database.{same_row, without}
+use Rattle.shard_store.specs.declared.key.RowKey.{RowKey}
+use Rattle.shard_store.specs.Keys.{key_cmp}
+use Rattle.shard_store.specs.Slots.{Slot, rows_in, slot_at, row_at, begins, slots_with, with_slot, with_row, without_slot}
+use Rattle.shard_store.specs.Tables.{key_at, has_key, begins_with, IsAtItsKey}
+use Rattle.shard_store.specs.Proofs.KeyLemmas.{key-same}
+use Rattle.shard_store.proofs.Rows.{row_is, nil_is, head_is, tail_is}
+use Rattle.shard_store.proofs.Bags.{same_self}
+use Rattle.shard_store.proofs.Prefix.{Ascend, ascend}
+
+abbrev pub Keyed : List ℕ → List Slot → Type 0
+Keyed places slots = AllByRecursion (IsAtItsKey places) slots
+
+-- a test of rows that is a test of their keys keeps the rows of the slots whose keys pass
+filter_slots : (places : List ℕ) (p : Row → Bool) (q : RowKey → Bool) → ((k : RowKey) (row : Row) → k.values ≡ key_at places row → p row ≡ q k)
+    → (slots : List Slot) → Keyed places slots → filter p (rows_in slots) ≡ rows_in (filter (λ s. q s.0) slots)
+filter_slots places p q same [] h = refl
+filter_slots places p q same (s ∷ slots) h = by (filter_slots places p q same slots h.1) s.1 refl (q s.0) refl
+  where
+    by : filter p (rows_in slots) ≡ rows_in (filter (λ s. q s.0) slots) → (o : Option Row) → s.1 ≡ o → (b : Bool) → q s.0 ≡ b
+        → filter p (option_to_list s.1 ++ rows_in slots) ≡ rows_in (cond (q s.0) (s ∷ filter (λ s. q s.0) slots) (filter (λ s. q s.0) slots))
+    by ih None e true t = simp (t, e, ih)
+    by ih None e false t = simp (t, e, ih)
+    by ih (Some row) e true t =
+        let g : p row ≡ true = same s.0 row (h.0 row e) ∙ t in
+        simp (t, e, g, ih)
+    by ih (Some row) e false t =
+        let g : p row ≡ false = same s.0 row (h.0 row e) ∙ t in
+        simp (t, e, g, ih)
+
+none_at : (k : RowKey) (slots : List Slot) → AllByRecursion (λ q. key_cmp k q.0 ≡ Less) slots → filter (λ s. is_eq (key_cmp k s.0)) slots ≡ []
+none_at k [] h = refl
+none_at k (s ∷ slots) h =
+    let first = h.0 in
+    let rest = none_at k slots h.1 in
+    simp (first, rest)
+
+-- in ascending keys one slot at most has the key
+at_key : (k : RowKey) (slots : List Slot) → Ascend slots → rows_in (filter (λ s. is_eq (key_cmp k s.0)) slots) ≡ option_to_list (row_at slots k)
+at_key k [] up = refl
+at_key k (s ∷ slots) up = by (at_key k slots up.1) (is_eq (key_cmp k s.0)) refl
+  where
+    by : rows_in (filter (λ s. is_eq (key_cmp k s.0)) slots) ≡ option_to_list (row_at slots k) → (b : Bool) → is_eq (key_cmp k s.0) ≡ b
+        → rows_in (cond (is_eq (key_cmp k s.0)) (s ∷ filter (λ s. is_eq (key_cmp k s.0)) slots) (filter (λ s. is_eq (key_cmp k s.0)) slots))
+        ≡ option_to_list (row_at (s ∷ slots) k)
+    by ih true t =
+        let same : k ≡ s.0 = key-same k s.0 ((Equal-is (key_cmp k s.0)).0 t) in
+        let none : filter (λ q. is_eq (key_cmp k q.0)) slots ≡ [] =
+        subst (λ (x : RowKey). filter (λ q. is_eq (key_cmp x q.0)) slots ≡ []) (sym same) (none_at s.0 slots up.0) in
+        simp (t, none, append-nil)
+    by ih false t = simp t ih
+
+-- the row at a key is the only one that has it
+pub found : (places : List ℕ) (key : RowKey) (slots : List Slot) → Keyed places slots → IsStrictlySortedBy key_cmp (keys_of slots)
+    → filter (has_key places key.values) (rows_in slots) ≡ option_to_list (row_at slots key)
+found places key slots h up =
+    filter_slots places (has_key places key.values) (λ k. is_eq (key_cmp key k))
+    (λ k row at. ap (λ (vs : Row). is_eq (slice_cmp value_cmp key.values vs)) (sym at)) slots h
+    ∙ at_key key slots (ascend slots up)
+
+-- the rows whose keys begin with the value are those whose first key column has it
+pub begun : (places : List ℕ) (v : Value) (slots : List Slot) → 1 ≤ length places → Keyed places slots
+    → rows_in (slots_with v slots) ≡ filter (begins_with places v) (rows_in slots)
+begun [] v slots some h = absurd (omega (arith, some))
+begun (n ∷ places) v slots some h =
+    sym (filter_slots (n ∷ places) (begins_with (n ∷ places) v) (λ k. begins v k.values)
+    (λ k row at. ap (λ (vs : Row). begins v vs) (sym at)) slots h)
+
+some_first : (x : Row) (xs : List Row) (o : Option Row) → x ∷ xs ≡ option_to_list o → (o ≡ Some x) × (xs ≡ [])
+some_first x xs None e = nil_is (sym e)
+some_first x xs (Some r) e = (ap Some (sym (head_is e)), tail_is e)
+
+-- a row passes where the only one that passes is there
+pub any_found : (p : Row → Bool) (xs : List Row) (o : Option Row) → filter p xs ≡ option_to_list o → list_any p xs ≡ is_some o
+any_found p [] None e = refl
+any_found p [] (Some r) e = nil_is e
+any_found p (x ∷ xs) o e = by (any_found p xs o) (p x) refl
+  where
+    by : (filter p xs ≡ option_to_list o → list_any p xs ≡ is_some o) → (b : Bool) → p x ≡ b → (p x || list_any p xs) ≡ is_some o
+    by ih true t =
+        let f : x ∷ filter p xs ≡ option_to_list o = rw t at e in
+        let g = ap is_some (some_first x (filter p xs) o f).0 in
+        simp (t, g)
+    by ih false t =
+        let f : filter p xs ≡ option_to_list o = rw t at e in
+        let g = ih f in
+        simp (t, g)
+
+pub copied_some : {T : Type 0} (o : Option (Bor T)) → is_some (option_copied o) ≡ is_some o
+copied_some None = refl
+copied_some (Some x) = refl
+
+free_of : (o : Option (Option Row)) → is_some (option_and_then (λ slot. slot) o) ≡ false → is_some o ≡ true → o ≡ Some None
+free_of None none there = absurd (cc there)
+free_of (Some None) none there = refl
+free_of (Some (Some row)) none there = absurd (cc none)
+
+-- a slot at a key that no row has is free
+pub free_slot : (places : List ℕ) (key : RowKey) (slots : List Slot) → Keyed places slots → IsStrictlySortedBy key_cmp (keys_of slots)
+    → list_any (has_key places key.values) (rows_in slots) ≡ false → is_some (slot_at slots key) ≡ true → slot_at slots key ≡ Some None
+free_slot places key slots h up none there =
+    free_of (slot_at slots key)
+    (sym (any_found (has_key places key.values) (rows_in slots) (row_at slots key) (found places key slots h up)) ∙ none) there
+
+-- a slot with a row, by its row
+pub slot_of_row : (slots : List Slot) (key : RowKey) (row : Row) → row_at slots key ≡ Some row → slot_at slots key ≡ Some (Some row)
+slot_of_row slots key row is = by (slot_at slots key) is
+  where
+    by : (o : Option (Option Row)) → option_and_then (λ slot. slot) o ≡ Some row → o ≡ Some (Some row)
+    by None e = absurd (cc e)
+    by (Some slot) e = ap Some e
+
+-- a row that is not the one at its key is not there
+lacks : (places : List ℕ) (row : Row) (values : List Value) → values ≡ key_at places row → (xs : List Row) (o : Option Row)
+    → filter (has_key places values) xs ≡ option_to_list o → (o ≡ Some row → ⊥) → without row xs ≡ xs
+lacks places row values key [] o e differs = refl
+lacks places row values key (x ∷ xs) o e differs =
+    by (lacks places row values key xs) (same_row row x) refl (has_key places values x) refl
+  where
+    by : ((o : Option Row) → filter (has_key places values) xs ≡ option_to_list o → (o ≡ Some row → ⊥) → without row xs ≡ xs)
+        → (b : Bool) → same_row row x ≡ b → (d : Bool) → has_key places values x ≡ d → cond (same_row row x) xs (x ∷ without row xs) ≡ x ∷ xs
+    by ih true t true u =
+        let f : x ∷ filter (has_key places values) xs ≡ option_to_list o = rw u at e in
+        absurd (differs ((some_first x (filter (has_key places values) xs) o f).0 ∙ ap Some (sym (row_is row x t))))
+    by ih true t false u =
+        let g : has_key places values x ≡ true =
+        subst (λ (r : Row). same_row values (key_at places r) ≡ true) (row_is row x t)
+        (subst (λ (vs : Row). same_row vs (key_at places row) ≡ true) (sym key) (same_self (key_at places row))) in
+        absurd (cc (sym g ∙ u))
+    by ih false t true u =
+        let f : x ∷ filter (has_key places values) xs ≡ option_to_list o = rw u at e in
+        let rest = ih None (some_first x (filter (has_key places values) xs) o f).1 (λ n. absurd (cc n)) in
+        simp t (ap (λ (z : List Row). x ∷ z) rest)
+    by ih false t false u =
+        let f : filter (has_key places values) xs ≡ option_to_list o = rw u at e in
+        let rest = ih o f differs in
+        simp t (ap (λ (z : List Row). x ∷ z) rest)
+
+pub not_there : (places : List ℕ) (key : RowKey) (slots : List Slot) (row : Row) → Keyed places slots → IsStrictlySortedBy key_cmp (keys_of slots)
+    → key.values ≡ key_at places row → (row_at slots key ≡ Some row → ⊥) → without row (rows_in slots) ≡ rows_in slots
+not_there places key slots row h up is differs =
+    lacks places row key.values is (rows_in slots) (row_at slots key) (found places key slots h up) differs
+
+-- a row at its key stands in the slots as the others do
+pub keyed_row : (places : List ℕ) (key : RowKey) (row : Option Row) (slots : List Slot) → ((r : Row) → row ≡ Some r → key.values ≡ key_at places r)
+    → Keyed places slots → Keyed places (with_row key row slots)
+keyed_row places key row [] fit h = tt
+keyed_row places key row (s ∷ slots) fit h = by (keyed_row places key row slots fit h.1) (is_eq (key_cmp key s.0)) refl
+  where
+    by : Keyed places (with_row key row slots) → (b : Bool) → is_eq (key_cmp key s.0) ≡ b
+        → Keyed places (cond (is_eq (key_cmp key s.0)) ((s.0, row) ∷ slots) (s ∷ with_row key row slots))
+    by ih true t =
+        let same : key ≡ s.0 = key-same key s.0 ((Equal-is (key_cmp key s.0)).0 t) in
+        subst (λ (b : Bool). Keyed places (cond b ((s.0, row) ∷ slots) (s ∷ with_row key row slots))) (sym t)
+        ((λ r e. ap (λ (k : RowKey). k.values) (sym same) ∙ fit r e), h.1)
+    by ih false t =
+        subst (λ (b : Bool). Keyed places (cond b ((s.0, row) ∷ slots) (s ∷ with_row key row slots))) (sym t) (h.0, ih)
+
+keyed_slot : (places : List ℕ) (key : RowKey) (slots : List Slot) → Keyed places slots → Keyed places (with_slot key slots)
+keyed_slot places key [] h = ((λ r e. absurd (cc e)), tt)
+keyed_slot places key (s ∷ slots) h = by (keyed_slot places key slots h.1) (key_cmp key s.0) refl
+  where
+    by : Keyed places (with_slot key slots) → (o : Ordering) → key_cmp key s.0 ≡ o
+        → Keyed places (match_ordering (key_cmp key s.0) ((key, None) ∷ s ∷ slots) ((s.0, None) ∷ slots) (s ∷ with_slot key slots))
+    by ih Less t =
+        subst (λ (o : Ordering). Keyed places (match_ordering o ((key, None) ∷ s ∷ slots) ((s.0, None) ∷ slots) (s ∷ with_slot key slots))) (sym t)
+        ((λ r e. absurd (cc e)), h)
+    by ih Equal t =
+        subst (λ (o : Ordering). Keyed places (match_ordering o ((key, None) ∷ s ∷ slots) ((s.0, None) ∷ slots) (s ∷ with_slot key slots))) (sym t)
+        ((λ r e. absurd (cc e)), h.1)
+    by ih Greater t =
+        subst (λ (o : Ordering). Keyed places (match_ordering o ((key, None) ∷ s ∷ slots) ((s.0, None) ∷ slots) (s ∷ with_slot key slots))) (sym t)
+        (h.0, ih)
+
+keyed_less : (places : List ℕ) (key : RowKey) (slots : List Slot) → Keyed places slots → Keyed places (without_slot key slots)
+keyed_less places key [] h = tt
+keyed_less places key (s ∷ slots) h = by (keyed_less places key slots h.1) (is_eq (key_cmp key s.0)) refl
+  where
+    by : Keyed places (without_slot key slots) → (b : Bool) → is_eq (key_cmp key s.0) ≡ b
+        → Keyed places (cond (is_eq (key_cmp key s.0)) slots (s ∷ without_slot key slots))
+    by ih true t = subst (λ (b : Bool). Keyed places (cond b slots (s ∷ without_slot key slots))) (sym t) h.1
+    by ih false t = subst (λ (b : Bool). Keyed places (cond b slots (s ∷ without_slot key slots))) (sym t) (h.0, ih)
+
+keyed_either : (places : List ℕ) (a b : List Slot) → Keyed places a → Keyed places b → (c : Bool) → Keyed places (cond c a b)
+keyed_either places a b f g true = f
+keyed_either places a b f g false = g
+
+pub keyed_reserved : (places : List ℕ) (key : RowKey) (old new : List Slot) → new ≡ cond (is_some (slot_at old key)) old (with_slot key old)
+    → Keyed places old → Keyed places new
+keyed_reserved places key old new is h =
+    subst (Keyed places) (sym is) (keyed_either places old (with_slot key old) h (keyed_slot places key old h) (is_some (slot_at old key)))
+
+pub keyed_swept : (places : List ℕ) (key : RowKey) (old new : List Slot) → new ≡ cond (is_some (row_at old key)) old (without_slot key old)
+    → Keyed places old → Keyed places new
+keyed_swept places key old new is h =
+    subst (Keyed places) (sym is) (keyed_either places old (without_slot key old) h (keyed_less places key old h) (is_some (row_at old key)))
+
+pub keyed_added : (places : List ℕ) (key : RowKey) (row : Row) (old new : List Slot) → new ≡ with_row key (Some row) old → key.values ≡ key_at places row
+    → Keyed places old → Keyed places new
+keyed_added places key row old new is at h =
+    subst (Keyed places) (sym is) (keyed_row places key (Some row) old (λ r e. subst (λ (x : Row). key.values ≡ key_at places x) (row_of e) at) h)
+  where
+    row_of : {a b : Row} → ◌≡◌ {A = Option Row} (Some a) (Some b) → a ≡ b
+    row_of e = cc e
+
+pub keyed_taken : (places : List ℕ) (key : RowKey) (old new : List Slot) → new ≡ with_row key None old → Keyed places old → Keyed places new
+keyed_taken places key old new is h = subst (Keyed places) (sym is) (keyed_row places key None old (λ r e. absurd (cc e)) h)
+
+one_row : (o : Option Row) → length (option_to_list o) ≤ 1
+one_row None = omega arith
+one_row (Some r) = omega arith
+
+-- no more rows than slots
+pub rows_fit : (slots : List Slot) → length (rows_in slots) ≤ length slots
+rows_fit [] = omega arith
+rows_fit (s ∷ slots) =
+    let n = length-append (option_to_list s.1) (rows_in slots) in
+    let one = one_row s.1 in
+    let rest = rows_fit slots in
+    omega (arith, n, one, rest)

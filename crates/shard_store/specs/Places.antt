@@ -1,0 +1,22 @@
+-- The columns by whose values a table's rows are stored.
+use Rattle.std.specs.Prelude.{ℕ, Bool, true, not, List, [], ◌∷◌, ◌++◌, filter, Option, Some, None}
+use Rattle.vschema.specs.declared.schema.Table.{Table}
+use Rattle.vschema.specs.declared.schema.ColumnVindex.{ColumnVindex}
+use Rattle.vschema.specs.Checks.{has_number}
+
+-- the place of the vindex column, in a table that has one
+abbrev pub vindex_places : Option ColumnVindex → List ℕ
+vindex_places None = []
+vindex_places (Some v) = v.column ∷ []
+
+-- the vindex column first, and then the others of the primary key
+abbrev pub key_places : Table → List ℕ
+key_places t = vindex_places t.vindex ++ filter (λ n. not (has_number (vindex_places t.vindex) n)) t.primary_key
+
+-- the vindex column is one of the primary key's, as in each table of a well-formed VSchema
+abbrev pub right_by : Option ColumnVindex → List ℕ → Bool
+right_by None ns = true
+right_by (Some v) ns = has_number ns v.column
+
+abbrev pub is_vindex_in_key : Table → Bool
+is_vindex_in_key t = right_by t.vindex t.primary_key

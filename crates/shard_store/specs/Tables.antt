@@ -1,0 +1,41 @@
+-- A table's rows, each in the slot of its own key: the values of the table's key columns.
+use Rattle.std.specs.Prelude.{false, IsSome, ◌≡◌, ℕ, Bool, List, length, map, slice_index, Some}
+use Rattle.std.specs.List.{AllByRecursion, list_any}
+use Rattle.std.specs.Ordering.{is_eq}
+use Rattle.vt_value.specs.declared.value.Value.{Value}
+use Rattle.vt_value.specs.Values.{Row, value_at, value_cmp}
+use Rattle.vschema.specs.Database.{same_row}
+use Rattle.shard_store.specs.Slots.{Slot, rows_in, slot_at}
+use Rattle.shard_store.specs.declared.key.RowKey.{RowKey}
+
+-- a table: its slots, and the places of its key columns
+pub record TableView : Type 0 where
+  pub slots : List Slot
+  pub places : List ℕ
+
+-- the values of a row's key columns
+abbrev pub key_at : List ℕ → Row → List Value
+key_at places row = map (value_at row) places
+
+-- the row has these values in its key columns
+abbrev pub has_key : List ℕ → List Value → Row → Bool
+has_key places values row = same_row values (key_at places row)
+
+-- the row's first key column has the value
+abbrev pub begins_with : List ℕ → Value → Row → Bool
+begins_with places v row = is_eq (value_cmp v (value_at row (slice_index places 0)))
+
+-- a slot's row, if it has one, has the slot's key
+abbrev pub IsAtItsKey : List ℕ → Slot → Type 0
+IsAtItsKey places s = (row : Row) → s.1 ≡ Some row → s.0.values ≡ key_at places row
+
+-- what is true of each stored table: its rows are at their keys, and their count is known
+pub record IsStored (places : List ℕ) (slots : List Slot) (count : ℕ) : Type 0 where
+  pub keyed : AllByRecursion (IsAtItsKey places) slots
+  pub counted : count ≡ length (rows_in slots)
+
+-- a table that has a slot for the row can take it beside these rows: no row of them has its key
+pub record CanTake (t : TableView) (key : RowKey) (row : Row) (rows : List Row) : Type 0 where
+  pub at : key.values ≡ key_at t.places row
+  pub slot : IsSome (slot_at t.slots key)
+  pub absent : list_any (has_key t.places key.values) rows ≡ false

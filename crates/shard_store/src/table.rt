@@ -1,0 +1,187 @@
+ghost use Rattle.std.specs.Prelude.{◌≡◌, ◌<◌, ◌++◌, ◌∷◌, [], IsSome, IfOk, IfErr, OnOk, OnErr, IsPermutation, option_to_list, option_copied, filter, length, is_some, if◌then◌else◌};
+ghost use Rattle.std.specs.List.{list_any};
+ghost use Rattle.vt_value.specs.Values.{value_at};
+ghost use Rattle.vschema.specs.Database.{without};
+ghost use Rattle.shard_store.specs.Slots.{rows_in, slot_at, row_at, slots_from, with_slot, without_slot};
+ghost use Rattle.shard_store.specs.Tables.{key_at, has_key, begins_with, CanTake};
+
+use crate::key::RowKey;
+use crate::slots::Slots;
+use crate::walk::{RowsInOrder, RowsWith};
+use std::alloc::Global;
+use std::marker::Model;
+use vt_value::{Items, Refusal, Row, Value, copy};
+
+/// The rows of a table, each in the slot of its own key: the values of the table's key columns. No two rows have the same key.
+/// Contracts see the slots, in the order of the keys, and the places of the key columns.
+#[derive(Drop)]
+pub struct StoredTable {
+    slots: Slots,
+    places: Items<usize>,
+    count: usize,
+}
+
+impl Model for StoredTable {
+    ghost use Rattle.shard_store.specs.Tables.{TableView, IsStored};
+
+    ghost Value = { TableView };
+
+    ghost view = { λ t. record { slots = t.slots; places = t.places } };
+
+    ghost invariant = { λ t. IsStored t.places t.slots t.count };
+}
+
+fn copy_at(alloc: Global, row: &Row, place: usize) -> Result<Value, Refusal>
+    ensures ok { IfOk result (λ v. v ≡ value_at row.now place) }
+    ensures err { IfErr result (λ e. e ≡ Refusal.OutOfMemory) }
+{
+    match row.as_slice().get(place) {
+        Some(value) => copy(alloc, value),
+        None => Ok(Value::Null),
+    }
+}
+
+fn key_values(alloc: Global, places: &[usize], row: &Row) -> Result<Row, Refusal>
+    ensures ok { IfOk result (λ values. values ≡ key_at places.now row.now) }
+    ensures err { IfErr result (λ e. e ≡ Refusal.OutOfMemory) }
+{
+    let mut values = Items::new(alloc);
+    for place in places {
+        values.push(copy_at(alloc, row, *place)?)?;
+    }
+    Ok(values)
+}
+
+impl StoredTable {
+    /// A table without rows, whose key columns are at these places.
+    pub fn new(alloc: Global, places: Items<usize>) -> StoredTable
+        ensures slots { result.slots ≡ [] }
+        ensures places { result.places ≡ places }
+    {
+        StoredTable {
+            slots: Slots::new(alloc),
+            places,
+            count: 0,
+        }
+    }
+
+    /// The key of a row of this table. Refuses for want of memory.
+    pub fn key_of(&self, alloc: Global, row: &Row) -> Result<RowKey, Refusal>
+        ensures ok { IfOk result (λ key. key.values ≡ key_at self.now.places row.now) }
+        ensures err { IfErr result (λ e. e ≡ Refusal.OutOfMemory) }
+    {
+        let values = key_values(alloc, self.places.as_slice(), row)?;
+        Ok(RowKey { values })
+    }
+
+    /// How many rows the table has.
+    pub fn row_count(&self) -> usize
+        ensures { result ≡ length (rows_in self.now.slots) }
+    {
+        self.count
+    }
+
+    /// All rows, in the order of their keys.
+    pub fn rows(&self) -> RowsInOrder<'_>
+        ensures { result ≡ rows_in self.now.slots }
+    {
+        self.slots.rows()
+    }
+
+    /// The rows in the order of their keys, from a key on.
+    pub fn rows_from(&self, key: &RowKey) -> RowsInOrder<'_>
+        ensures { result ≡ rows_in (slots_from key.now self.now.slots) }
+    {
+        self.slots.rows_from(key)
+    }
+
+    /// The rows whose first key column has a value, in the order of their keys. Refuses for want of memory for that value's key.
+    pub fn rows_with<'a>(&'a self, alloc: Global, value: &'a Value) -> Result<RowsWith<'a>, Refusal>
+        requires { 0 < length self.now.places }
+        ensures ok { IfOk result (λ rows. rows ≡ filter (begins_with self.now.places value.now) (rows_in self.now.slots)) }
+        ensures err { IfErr result (λ e. e ≡ Refusal.OutOfMemory) }
+    {
+        let rows = self.slots.rows_with(alloc, value)?;
+        Ok(rows)
+    }
+
+    /// The row that has a key, if one has it.
+    pub fn get(&self, key: &RowKey) -> Option<&Row>
+        ensures { option_to_list (option_copied result) ≡ filter (has_key self.now.places key.now.values) (rows_in self.now.slots) }
+    {
+        let _slots = self.slots.len();
+        self.slots.get(key)
+    }
+
+    /// Whether a row has a key.
+    pub fn contains(&self, key: &RowKey) -> bool
+        ensures { result ≡ list_any (has_key self.now.places key.now.values) (rows_in self.now.slots) }
+    {
+        self.get(key).is_some()
+    }
+
+    /// Makes a slot for a key, where it has none. Refuses for want of memory; the rows stay as they are.
+    pub fn reserve(&mut self, alloc: Global, key: &RowKey) -> Result<(), Refusal>
+        ensures rows { rows_in self.new.slots ≡ rows_in self.old.slots }
+        ensures ok { OnOk result (IsSome (slot_at self.new.slots key.now)) }
+        ensures kept { (k : RowKey) → IsSome (slot_at self.old.slots k) → slot_at self.new.slots k ≡ slot_at self.old.slots k }
+        ensures slots { OnOk result (self.new.slots ≡ (if is_some (slot_at self.old.slots key.now) then self.old.slots else with_slot key.now self.old.slots)) }
+        ensures places { self.new.places ≡ self.old.places }
+        ensures err { IfErr result (λ e. e ≡ Refusal.OutOfMemory) }
+        ensures unchanged { OnErr result (self.new ≡ self.old) }
+    {
+        if self.slots.has(key) {
+            return Ok(());
+        }
+        self.slots.reserve(key.copy(alloc)?)?;
+        Ok(())
+    }
+
+    /// Gives up the slot of a key, unless it has a row. Takes no memory.
+    pub fn sweep(&mut self, key: &RowKey)
+        ensures rows { rows_in self.new.slots ≡ rows_in self.old.slots }
+        ensures slots { self.new.slots ≡ (if is_some (row_at self.old.slots key.now) then self.old.slots else without_slot key.now self.old.slots) }
+        ensures places { self.new.places ≡ self.old.places }
+    {
+        self.slots.sweep(key);
+    }
+
+    /// Adds a row whose key has a slot and no row. Takes no memory.
+    pub fn add(&mut self, key: &RowKey, row: Row)
+        requires { CanTake self.old key.now row (rows_in self.old.slots) }
+        ensures rows { IsPermutation (rows_in self.new.slots) (rows_in self.old.slots ++ row ∷ []) }
+        ensures kept { (k : RowKey) → IsSome (slot_at self.old.slots k) → IsSome (slot_at self.new.slots k) }
+        ensures places { self.new.places ≡ self.old.places }
+    {
+        let _before = self.slots.len();
+        self.slots.add(key, row);
+        let _after = self.slots.len();
+        self.count += 1;
+    }
+
+    /// Removes a row, if it is there; the slot of its key stays. Takes no memory.
+    pub fn remove(&mut self, key: &RowKey, row: &Row)
+        requires { key.now.values ≡ key_at self.old.places row.now }
+        ensures rows { IsPermutation (rows_in self.new.slots) (without row.now (rows_in self.old.slots)) }
+        ensures kept { (k : RowKey) → IsSome (slot_at self.old.slots k) → IsSome (slot_at self.new.slots k) }
+        ensures places { self.new.places ≡ self.old.places }
+    {
+        let _slots = self.slots.len();
+        if self.slots.holds(key, row) {
+            self.slots.take(key);
+            self.count -= 1;
+        }
+    }
+
+    /// Puts a row in the place of another one, which has the same key. Takes no memory.
+    pub fn replace(&mut self, key: &RowKey, old: &Row, new: Row)
+        requires key { key.now.values ≡ key_at self.old.places old.now }
+        requires fits { CanTake self.old key.now new (without old.now (rows_in self.old.slots)) }
+        ensures rows { IsPermutation (rows_in self.new.slots) (without old.now (rows_in self.old.slots) ++ new ∷ []) }
+        ensures kept { (k : RowKey) → IsSome (slot_at self.old.slots k) → IsSome (slot_at self.new.slots k) }
+        ensures places { self.new.places ≡ self.old.places }
+    {
+        self.remove(key, old);
+        self.add(key, new);
+    }
+}
