@@ -27,7 +27,10 @@ packets = []
 for text in texts:
     length = len(text) + 1
     packets.append(length.to_bytes(3, "little") + b"\0\x03" + text)
+# the answer to the greeting of a client without a name
+login = b"\x22\0\0\x01" + b"\0\x82\0\0" + b"\0\0\0\x01" + b"\x3f" + bytes(25)
 with open(sys.argv[2], "wb") as out:
+    out.write(login)
     count = int(sys.argv[1])
     for at in range(count):
         out.write(packets[at % len(packets)])

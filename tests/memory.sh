@@ -128,8 +128,8 @@ echo "$told" > "$work/plan.part.refused"
 : > "$work/plan.part.nothing"
 in_turn plan "$work/schema" "${plan[@]}"
 
-# A connection: a packet of a COM_QUERY for each statement, and the ERR packet of the refusal.
-: > "$work/first.0"
+# A connection: the answer to the greeting, a packet of a COM_QUERY for each statement, and the ERR packet of the refusal.
+{ printf '\x22\x00\x00\x01\x00\x82\x00\x00\x00\x00\x00\x01\x3f'; head -c 25 /dev/zero; } > "$work/first.0"
 count=0
 while IFS= read -r text; do
     count=$((count + 1))
