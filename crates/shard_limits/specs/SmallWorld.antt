@@ -1,25 +1,27 @@
 -- A small world, over which the tests run: the unsharded table t (id, c) without rows, on one shard that holds at most two rows and stores at
 -- most four entries.
-use Rattle.std.specs.Prelude.{ℕ, List, [], ◌∷◌, codes, pos, true, false, None}
+use Rattle.std.specs.Prelude.{ℕ, [], ◌∷◌, codes, pos, true, false, None}
 use Rattle.vt_value.specs.declared.value.Value.TheVariants.{Null, Int}
 use Rattle.vschema.specs.declared.schema.ColumnType.TheVariants.{BigIntUnsigned}
 use Rattle.vschema.specs.declared.schema.VSchema.{VSchema}
-use Rattle.vschema.specs.declared.schema.Table.{Table}
-use Rattle.vschema.specs.declared.schema.Column.{Column}
 use Rattle.vschema.specs.declared.changes.Write.{Write}
 use Rattle.vschema.specs.declared.changes.Write.TheVariants.{Insert, Update, Delete}
 use Rattle.shard_run.specs.declared.Shard.{Shard}
 use Rattle.shard_run.specs.Runs.{Opening}
 use Rattle.shard.specs.declared.limits.Limits.{Limits}
 
-abbrev pub small_columns : List Column
-small_columns = record { name = codes "id"; kind = BigIntUnsigned; nullable = false } ∷ record { name = codes "c"; kind = BigIntUnsigned; nullable = true } ∷ []
-
-abbrev pub small_table : Table
-small_table = record { name = codes "t"; keyspace = 0; columns = small_columns; primary_key = 0 ∷ []; vindex = None }
-
 abbrev pub small_schema : VSchema
-small_schema = record { keyspaces = record { name = codes "shop"; sharded = false } ∷ []; tables = small_table ∷ [] }
+small_schema = record {
+  keyspaces = record { name = codes "shop"; sharded = false } ∷ [];
+  tables = record {
+    name = codes "t";
+    keyspace = 0;
+    columns = record { name = codes "id"; kind = BigIntUnsigned; nullable = false } ∷ record { name = codes "c"; kind = BigIntUnsigned; nullable = true } ∷ [];
+    primary_key = 0 ∷ [];
+    vindex = None;
+  }
+      ∷ [];
+}
 
 abbrev pub small_shard : Shard
 small_shard = record { slot = 0; place = record { keyspace = 0; range = record { begin = []; end = None } }; sources = [] }

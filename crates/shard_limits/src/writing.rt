@@ -1,17 +1,18 @@
 //! Writes and reads of one small shard.
-ghost use Rattle.std.specs.Prelude.{◌≡◌, ◌<◌, ◌∷◌, [], codes, false, IsSome, IfOk};
+ghost use Rattle.std.specs.Prelude.{◌≡◌, ◌<◌, ◌∷◌, [], IsSome, IfOk};
 ghost use Rattle.vschema.specs.TypedWrites.{IsTypedWrite};
 ghost use Rattle.journal.specs.Views.{fresh_seats};
 ghost use Rattle.shard.specs.Commits.{IsPlaced};
-ghost use Rattle.shard_limits.specs.SmallWorld.{small_columns, small_table, small_schema, small_shard, insert_of, update_all, delete_all};
+ghost use Rattle.shard_limits.specs.SmallWorld.{small_schema, small_shard, insert_of, update_all, delete_all};
 
-use journal::{Naming, Opened, Opener, Pass, ShardSeat};
+use journal::{Naming, Opened, Pass, ShardSeat};
 use keyrange::KeyRange;
 use shard::{Committed, Limits, Read, Reading, Shard, ShardLaw, ShardState, Store, World};
 use shard_run::Mode;
 use sql_tree::{Assignment, Item};
 use std::alloc::Global;
 use std::marker::Brand;
+use std::process::Abort;
 use std::sync::Wait;
 use std::test::Fail;
 use vschema::{Column, ColumnType, Columns, Keyspace, Place, Query, Table, VSchema, Write};
@@ -55,45 +56,26 @@ fn column(alloc: Global, name: &[u8], nullable: bool) -> Result<Column, Refusal>
     })
 }
 
-fn columns(alloc: Global) -> Result<Columns, Refusal>
-    ensures { IfOk result (λ columns. columns ≡ small_columns) }
-{
-    let mut columns = Columns::new(alloc);
-    columns.insert(column(alloc, b"id", false)?)?;
-    columns.insert(column(alloc, b"c", true)?)?;
-    Ok(columns)
-}
-
-fn table(alloc: Global) -> Result<Table, Refusal>
-    ensures { IfOk result (λ table. table ≡ small_table) }
-{
-    let name = Items::from_slice(alloc, b"t")?;
-    let primary_key = one(alloc, 0)?;
-    Ok(Table {
-        name,
-        keyspace: 0,
-        columns: columns(alloc)?,
-        primary_key,
-        vindex: None,
-    })
-}
-
-fn keyspace(alloc: Global) -> Result<Keyspace, Refusal>
-    ensures { IfOk result (λ k. k ≡ record { name = codes "shop"; sharded = false }) }
-{
-    Ok(Keyspace {
-        name: Items::from_slice(alloc, b"shop")?,
-        sharded: false,
-    })
-}
-
 fn schema(alloc: Global) -> Result<VSchema, Refusal>
     ensures { IfOk result (λ schema. schema ≡ small_schema) }
 {
-    let keyspaces = one(alloc, keyspace(alloc)?)?;
+    let keyspace = Keyspace {
+        name: Items::from_slice(alloc, b"shop")?,
+        sharded: false,
+    };
+    let mut columns = Columns::new(alloc);
+    columns.insert(column(alloc, b"id", false)?)?;
+    columns.insert(column(alloc, b"c", true)?)?;
+    let table = Table {
+        name: Items::from_slice(alloc, b"t")?,
+        keyspace: 0,
+        columns,
+        primary_key: one(alloc, 0)?,
+        vindex: None,
+    };
     Ok(VSchema {
-        keyspaces,
-        tables: one(alloc, table(alloc)?)?,
+        keyspaces: one(alloc, keyspace)?,
+        tables: one(alloc, table)?,
     })
 }
 
@@ -158,31 +140,30 @@ fn state<J: Naming>(
     Ok(ShardState::new(alloc, seat, shard(alloc), store, Mode::Serving, limits))
 }
 
+// A write that the shard, which always serves, gave back.
+fn not_taken(_write: Write) -> Result<u64, Refusal> {
+    Err(Refusal::NotSupported)
+}
+
 // The next statement of the session.
 fn write<J: Naming>(
     rt: &impl Wait,
     alloc: Global,
     shard: &Shard<Small, J>,
     pass: &mut Pass<ShardLaw<Small>, J>,
-    schema: &VSchema,
     write: Write,
 ) -> Result<u64, Refusal>
-    requires schema { schema.now ≡ small_schema }
     requires typed { IsTypedWrite small_schema write }
     requires placed { IsPlaced small_schema small_shard.place write }
     requires session { IsSome pass.old.session }
     ensures session { IsSome pass.new.session }
 {
-<<<<<<< ours
-    match pass.next_statement() {
-        Ok(_) => shard.commit(rt, alloc, pass, 0, schema, write),
-        Err(refusal) => Err(refusal),
-=======
     let schema = schema(alloc)?;
     pass.next_statement()?;
     match shard.commit(rt, alloc, pass, 0, &place(), &schema, write)? {
         Committed::Count(count) => Ok(count),
-        _ => Err(Refusal::NotSupported),
+        Committed::Frozen(write) => not_taken(write),
+        Committed::NotServing(write) => not_taken(write),
     }
 }
 
@@ -200,7 +181,6 @@ fn read<J: Naming>(
     match shard.read(rt, alloc, pass, 0, &place(), query)? {
         Read::Rows(reading) => Ok(reading),
         Read::NotServing => Err(Refusal::NotSupported),
->>>>>>> theirs
     }
 }
 
@@ -210,16 +190,14 @@ fn insert_row<J: Naming>(
     alloc: Global,
     shard: &Shard<Small, J>,
     pass: &mut Pass<ShardLaw<Small>, J>,
-    schema: &VSchema,
     id: u64,
 ) -> Result<u64, Refusal>
-    requires schema { schema.now ≡ small_schema }
     requires below { id < 4 }
     requires session { IsSome pass.old.session }
     ensures session { IsSome pass.new.session }
 {
     let row = insert(alloc, id)?;
-    write(rt, alloc, shard, pass, schema, row)
+    write(rt, alloc, shard, pass, row)
 }
 
 // The same, once more where the first had no memory: a commit that was refused for it has changed nothing.
@@ -228,16 +206,14 @@ fn insert_again<J: Naming>(
     alloc: Global,
     shard: &Shard<Small, J>,
     pass: &mut Pass<ShardLaw<Small>, J>,
-    schema: &VSchema,
     id: u64,
 ) -> Result<u64, Refusal>
-    requires schema { schema.now ≡ small_schema }
     requires below { id < 4 }
     requires session { IsSome pass.old.session }
     ensures session { IsSome pass.new.session }
 {
-    match insert_row(rt, alloc, shard, pass, schema, id) {
-        Err(Refusal::OutOfMemory) => insert_row(rt, alloc, shard, pass, schema, id),
+    match insert_row(rt, alloc, shard, pass, id) {
+        Err(Refusal::OutOfMemory) => insert_row(rt, alloc, shard, pass, id),
         done => done,
     }
 }
@@ -248,14 +224,12 @@ fn update_rows<J: Naming>(
     alloc: Global,
     shard: &Shard<Small, J>,
     pass: &mut Pass<ShardLaw<Small>, J>,
-    schema: &VSchema,
 ) -> Result<u64, Refusal>
-    requires schema { schema.now ≡ small_schema }
     requires session { IsSome pass.old.session }
     ensures session { IsSome pass.new.session }
 {
     let sevens = update(alloc)?;
-    write(rt, alloc, shard, pass, schema, sevens)
+    write(rt, alloc, shard, pass, sevens)
 }
 
 // DELETE FROM t
@@ -264,13 +238,11 @@ fn delete_rows<J: Naming>(
     alloc: Global,
     shard: &Shard<Small, J>,
     pass: &mut Pass<ShardLaw<Small>, J>,
-    schema: &VSchema,
 ) -> Result<u64, Refusal>
-    requires schema { schema.now ≡ small_schema }
     requires session { IsSome pass.old.session }
     ensures session { IsSome pass.new.session }
 {
-    write(rt, alloc, shard, pass, schema, delete())
+    write(rt, alloc, shard, pass, delete())
 }
 
 // SELECT item FROM t
@@ -304,13 +276,7 @@ fn counted<J: Naming>(
     ensures session { IsSome pass.new.session }
 {
     let query = query(alloc, Item::CountRows)?;
-<<<<<<< ours
-    let reading = shard.read(rt, alloc, pass, 0, &query);
-    drop(query);
-    let reading = reading?;
-=======
     let reading = read(rt, alloc, shard, pass, &query)?;
->>>>>>> theirs
     match reading.rows.as_slice() {
         [row] => Ok(number_in(row)),
         _ => Ok(None),
@@ -328,106 +294,48 @@ fn counts<J: Naming>(
     ensures session { IsSome pass.new.session }
 {
     let query = query(alloc, Item::Column(0))?;
-<<<<<<< ours
-    let reading = shard.read(rt, alloc, pass, 0, &query);
-    drop(query);
-    let reading = reading?;
-=======
     let reading = read(rt, alloc, shard, pass, &query)?;
->>>>>>> theirs
     Ok((reading.rows.len(), reading.entries))
 }
 
-// Two rows fill the shard; a key that is there, and a third row, are refused.
-fn fills<J: Naming>(
-    rt: &impl Wait,
-    alloc: Global,
-    shard: &Shard<Small, J>,
-    pass: &mut Pass<ShardLaw<Small>, J>,
-    schema: &VSchema,
-) -> Result<bool, Refusal>
-    requires schema { schema.now ≡ small_schema }
-    requires session { IsSome pass.old.session }
-    ensures session { IsSome pass.new.session }
-{
-    let first = insert_again(rt, alloc, shard, pass, schema, 1);
-    let twice = insert_again(rt, alloc, shard, pass, schema, 1);
-    let one_row = counts(rt, alloc, shard, pass)?;
-    let second = insert_again(rt, alloc, shard, pass, schema, 2);
-    let third = insert_again(rt, alloc, shard, pass, schema, 3);
-    let two_rows = counts(rt, alloc, shard, pass)?;
-    let counted = counted(rt, alloc, shard, pass)?;
-    Ok(
-        [first, twice, second, third]
-            == [
-                Ok(1),
-                Err(Refusal::DuplicateKey),
-                Ok(1),
-                Err(Refusal::ShardFull),
-            ]
-            && one_row == (1, 1)
-            && two_rows == (2, 2)
-            && counted == Some(2),
-    )
-}
-
-// An update and a delete are the third and the fourth stored entry; a fifth is refused.
-fn empties<J: Naming>(
-    rt: &impl Wait,
-    alloc: Global,
-    shard: &Shard<Small, J>,
-    pass: &mut Pass<ShardLaw<Small>, J>,
-    schema: &VSchema,
-) -> Result<bool, Refusal>
-    requires schema { schema.now ≡ small_schema }
-    requires session { IsSome pass.old.session }
-    ensures session { IsSome pass.new.session }
-{
-    let updated = update_rows(rt, alloc, shard, pass, schema);
-    let deleted = delete_rows(rt, alloc, shard, pass, schema);
-    let no_rows = counts(rt, alloc, shard, pass)?;
-    let counted = counted(rt, alloc, shard, pass)?;
-    let fifth = insert_again(rt, alloc, shard, pass, schema, 1);
-    let no_row = counts(rt, alloc, shard, pass)?;
-    Ok(
-        [updated, deleted, fifth] == [Ok(2), Ok(2), Err(Refusal::ShardFull)]
-            && no_rows == (0, 4)
-            && no_row == (0, 4)
-            && counted == Some(0),
-    )
-}
-
-fn writes_of_session<J: Naming>(
-    rt: &impl Wait,
-    alloc: Global,
-    shard: &Shard<Small, J>,
-    opener: &mut Opener<ShardLaw<Small>, J>,
-    first: &mut Pass<ShardLaw<Small>, J>,
-) -> Result<bool, Refusal> {
-    let schema = schema(alloc)?;
-    let mut pass = opener.open(first)?;
-    match fills(rt, alloc, shard, &mut pass, &schema) {
-        Ok(true) => empties(rt, alloc, shard, &mut pass, &schema),
-        other => other,
-    }
-}
-
-fn writes_in_turn<J: Naming>(
-    rt: &impl Wait,
+fn writes_in_turn<J: Naming, R: Wait + Abort>(
+    rt: &R,
     alloc: Global,
     opened: Opened<ShardLaw<Small>>,
-) -> Result<bool, Refusal>
+) -> Result<(), Fail>
     requires { opened ≡ J.table }
 {
     let (seats, mut opener, mut first) = opened.named::<J>(alloc)?;
     let shard = Shard::new(state(alloc, first_seat(seats))?);
-    writes_of_session(rt, alloc, &shard, &mut opener, &mut first)
+    let mut pass = opener.open(&mut first)?;
+    assert_eq!(rt; insert_again(rt, alloc, &shard, &mut pass, 1), Ok(1));
+    assert_eq!(rt;
+        insert_again(rt, alloc, &shard, &mut pass, 1),
+        Err(Refusal::DuplicateKey)
+    );
+    assert_eq!(rt; counts(rt, alloc, &shard, &mut pass)?, (1, 1));
+    assert_eq!(rt; insert_again(rt, alloc, &shard, &mut pass, 2), Ok(1));
+    assert_eq!(rt;
+        insert_again(rt, alloc, &shard, &mut pass, 3),
+        Err(Refusal::ShardFull)
+    );
+    assert_eq!(rt; counts(rt, alloc, &shard, &mut pass)?, (2, 2));
+    assert_eq!(rt; counted(rt, alloc, &shard, &mut pass)?, Some(2));
+    assert_eq!(rt; update_rows(rt, alloc, &shard, &mut pass), Ok(2));
+    assert_eq!(rt; delete_rows(rt, alloc, &shard, &mut pass), Ok(2));
+    assert_eq!(rt; counts(rt, alloc, &shard, &mut pass)?, (0, 4));
+    assert_eq!(rt; counted(rt, alloc, &shard, &mut pass)?, Some(0));
+    assert_eq!(rt;
+        insert_again(rt, alloc, &shard, &mut pass, 1),
+        Err(Refusal::ShardFull)
+    );
+    assert_eq!(rt; counts(rt, alloc, &shard, &mut pass)?, (0, 4));
+    Ok(())
 }
 
 // a key that is there, the limit of rows and the limit of stored entries refuse, and then nothing has changed
 #[test]
 fn writes_are_one_entry_each(rt: HostRuntime) -> Result<(), Fail> {
     let opened = Opened::<ShardLaw<Small>>::new(rt.alloc())?;
-    assert!(rt; writes_in_turn::<Brand>(&rt, rt.alloc(), opened)?);
-    Ok(())
+    writes_in_turn::<Brand, _>(&rt, rt.alloc(), opened)
 }

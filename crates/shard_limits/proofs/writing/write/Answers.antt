@@ -1,0 +1,29 @@
+use Rattle.std.proofs.Common.{◌≡◌, ℕ, Option, sym, ap, subst, ◌∙◌, rules}
+use Rattle.std.specs.Prelude.{IsSome}
+use Rattle.vschema.specs.declared.changes.Write.{Write}
+use Rattle.journal.specs.Views.{PassView}
+use Rattle.shard_run.specs.declared.Entry.{Entry}
+use Rattle.shard_run.specs.declared.Shard.{Shard}
+use Rattle.shard_run.specs.Runs.{Opening}
+use Rattle.shard.specs.declared.limits.Limits.{Limits}
+use Rattle.shard.specs.declared.state.Committed.{Committed}
+use Rattle.shard.specs.Commits as a
+use Rattle.shard.specs.Commits.{HasAnswered}
+use Rattle.shard_limits.proofs.writing.write.Goals as goal
+
+-- what a shard answers leaves the session
+same_session : (o : Opening) (l : Limits) (s : Shard) (p : PassView Entry) (w : Write) (c : Committed) (now : PassView Entry) → HasAnswered o l s p w c now
+    → now.session ≡ p.session
+same_session o l s p w _ now (a.committed h) = ap (λ (v : PassView Entry). v.session) h.pass ∙ ap (λ (v : PassView Entry). v.session) h.look.pass
+same_session o l s p w _ now (a.frozen look m) = ap (λ (v : PassView Entry). v.session) look.pass
+same_session o l s p w _ now (a.not_serving look m) = ap (λ (v : PassView Entry). v.session) look.pass
+
+pub returns-in-Frozen : goal.returns-in-Frozen
+returns-in-Frozen g c = record {
+  session = subst (λ (s : Option ℕ). IsSome s) (sym (same_session _ _ _ _ _ _ c.commit.new.pass c.in_ok-count.ensures.commit.4)) (search rules);
+}
+
+pub returns : goal.returns
+returns g c = record {
+  session = subst (λ (s : Option ℕ). IsSome s) (sym (same_session _ _ _ _ _ _ c.commit.new.pass c.in_ok-count.ensures.commit.4)) (search rules);
+}
