@@ -43,3 +43,6 @@ join-one-requires-send-F g c κs within =
 
 pub meet-requires-send-L-Entry : goal.meet-requires-send-L-Entry
 meet-requires-send-L-Entry g c κs within = search (entry_send, sendable)
+
+pub named-requires-send-L-Entry : goal.named-requires-send-L-Entry
+named-requires-send-L-Entry g c κs within = search (entry_send, sendable)
