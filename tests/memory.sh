@@ -141,4 +141,7 @@ SELECT * FROM t ORDER BY c LIMIT 3
 SELECT COUNT(*) FROM t WHERE c = 7
 TEXTS
 runs first "$count" '\x16\x00\x00\x01\xff\x0d\x04#HY001out of memory' first
+# without memory to begin, nothing is written, and without memory for the client's answer only the greeting
+: > "$work/first.part.nothing"
+"$program" first < /dev/null > "$work/first.part.greeting"
 in_turn first "$work/first.input" first
