@@ -2,7 +2,8 @@
 use crate::fields::Unanswered;
 use crate::told::Told;
 use crate::{
-    aggregates, ids, lines, packets, pulled, ranges, results, schemas, statements, values,
+    aggregates, handshakes, ids, lines, packets, pulled, ranges, results, schemas, statements,
+    values,
 };
 use keyrange::one_range;
 use mysql_packet::{bounded_rest, one_framing, read_back};
@@ -63,6 +64,7 @@ fn answer_bytes(alloc: Global, area: &str, case: &str, told: &mut Told) -> Resul
         "string" => packets::length_encoded_string(alloc, case, told),
         "read_lenenc" => packets::read_number(alloc, case, told),
         "read_string" => packets::read_string(alloc, case, told),
+        "native" => handshakes::native(alloc, case, told),
         "result" => results::result_again(alloc, case, SetEnd::EofPackets, told),
         "result_to_ok" => results::result_again(alloc, case, SetEnd::OkPacket, told),
         _ => Err(Unanswered::BadLine),

@@ -35,6 +35,7 @@
 //! | `string` | a text | its length-encoded bytes |
 //! | `read_lenenc` | bytes | the number at their front, and what follows |
 //! | `read_string` | bytes | the text at their front, and what follows |
+//! | `native` | a password's stage 2, or `-`, a salt, a response | whether the response is right |
 //! | `result` | the bytes of a result from number 1, status 2 | the result, and its bytes as they are spelled again |
 //! | `result_to_ok` | the same of a result whose sets end with an OK packet | the same |
 //! | `lines` | a text | its lines, each in brackets |
@@ -54,6 +55,7 @@
 mod aggregates;
 mod answers;
 mod fields;
+mod handshakes;
 mod ids;
 mod lines;
 mod packets;
