@@ -119,7 +119,7 @@ pub fn open<T: Drop>(
 }
 
 /// A pass for a thread that takes. It has seen what the other has, and has the next number.
-pub fn new_taker<T: Drop>(queue: &ConnectionQueue<T>, pass: &mut Known<T>) -> Known<T>
+pub fn new_taker<T>(queue: &ConnectionQueue<T>, pass: &mut Known<T>) -> Known<T>
     requires of { IsPassOf queue.now pass.old }
     requires puts { (view pass.old).puts ≡ true }
     ensures of { IsPassOf queue.now pass.new }
@@ -133,7 +133,7 @@ pub fn new_taker<T: Drop>(queue: &ConnectionQueue<T>, pass: &mut Known<T>) -> Kn
 }
 
 /// Puts a connection behind all that were put before. Where the queue is full it hands the connection back.
-pub fn put<T: Drop, R: Wait>(
+pub fn put<T, R: Wait>(
     rt: &R,
     queue: &ConnectionQueue<T>,
     pass: &mut Known<T>,
@@ -153,7 +153,7 @@ pub fn put<T: Drop, R: Wait>(
 }
 
 /// Takes the first connection of those that no one took yet. None where the queue is empty.
-pub fn take<T: Drop, R: Wait>(rt: &R, queue: &ConnectionQueue<T>, pass: &mut Known<T>) -> Option<T>
+pub fn take<T, R: Wait>(rt: &R, queue: &ConnectionQueue<T>, pass: &mut Known<T>) -> Option<T>
     requires of { IsPassOf queue.now pass.old }
     requires takes { (view pass.old).takes ≡ true }
     ensures of { IsPassOf queue.now pass.new }
@@ -167,7 +167,7 @@ pub fn take<T: Drop, R: Wait>(rt: &R, queue: &ConnectionQueue<T>, pass: &mut Kno
 }
 
 /// Joins the pass of a thread that has ended into that of the one that puts, which then knows what either had seen taken.
-pub fn absorb<T: Drop>(queue: &ConnectionQueue<T>, pass: &mut Known<T>, ended: Known<T>)
+pub fn absorb<T>(queue: &ConnectionQueue<T>, pass: &mut Known<T>, ended: Known<T>)
     requires of { IsPassOf queue.now pass.old }
     requires puts { (view pass.old).puts ≡ true }
     requires ended_of { IsPassOf queue.now ended }
