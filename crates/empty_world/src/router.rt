@@ -146,6 +146,36 @@ fn opening_keyspaces<W: World, J: Naming>(
     Ok(all)
 }
 
+// The opening shards, and the partitions of so many keyspaces, which begin with the opening's.
+fn held_and_served<W: World, J: Naming>(
+    alloc: Global,
+    tables: usize,
+    keyspaces: usize,
+    shards: &[shard_run::Shard],
+    seats: Vec<ShardSeat<ShardLaw<W>, J>>,
+) -> Result<(Vec<Arc<Shard<W, J>, Global>>, Vec<Serving<Shard<W, J>>>), Refusal>
+    requires opens { IsOpening W.opening }
+    requires limits { W.limits ≡ most_limits }
+    requires each { keyspaces ≡ length W.opening.schema.keyspaces }
+    requires rows { (s : which.Shard) → Contains (opening_shards W.opening) s → first_rows W.opening s ≡ replicate tables [] }
+    requires opening { opening_shards W.opening ≡ shards.now }
+    requires slots { (i : ℕ) (d : which.Shard) → i < length shards.now → (slice_index_or shards.now i d).slot ≡ i }
+    requires few { length shards.now ≤ 64 }
+    requires seats { seats.items ≡ fresh_seats 64 }
+    ensures held { IfOk result (λ r. map (λ h. h.value) r.0.items ≡ map seat_of shards.now) }
+    ensures each { IfOk result (λ r. vec_len r.1 ≡ keyspaces) }
+    ensures err { IfErr result (λ e. e ≡ Refusal.OutOfMemory) }
+{
+    let held = empty_shards(alloc, tables, shards, seats)?;
+    match opening_keyspaces(alloc, keyspaces, shards, held.as_slice()) {
+        Ok(all) => Ok((held, all)),
+        Err(refusal) => {
+            drop(held);
+            Err(refusal)
+        }
+    }
+}
+
 /// The shards of an opening without rows, in the journal that was opened, the partitions that each keyspace begins with, the opener of
 /// their sessions, and a first pass, which has seen nothing.
 pub(crate) fn opened_shards<W: World, J: Naming>(
@@ -176,10 +206,18 @@ pub(crate) fn opened_shards<W: World, J: Naming>(
 {
     let shards = opening_shards(alloc, schema, ranges)?;
     let (seats, opener, pass) = opened.named::<J>(alloc)?;
-    let held = empty_shards(alloc, empty_tables(schema), shards.as_slice(), seats)?;
+    let tables = empty_tables(schema);
     let keyspaces = schema.keyspaces.len();
-    let all = opening_keyspaces(alloc, keyspaces, shards.as_slice(), held.as_slice())?;
-    Ok((held, all, opener, pass))
+    let made = held_and_served(alloc, tables, keyspaces, shards.as_slice(), seats);
+    drop(shards);
+    match made {
+        Ok((held, all)) => Ok((held, all, opener, pass)),
+        Err(refusal) => {
+            drop(opener);
+            drop(pass);
+            Err(refusal)
+        }
+    }
 }
 
 /// The engine over a VSchema and the ranges of its sharded keyspace, whose tables are empty, in the journal that was opened; the opener

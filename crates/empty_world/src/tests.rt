@@ -1,4 +1,4 @@
-ghost use Rattle.std.specs.Prelude.{◌≡◌, IsTrue, IfOk};
+ghost use Rattle.std.specs.Prelude.{◌≡◌, IsTrue, IsSome, IfOk};
 ghost use Rattle.std.specs.List.{AllByRecursion};
 ghost use Rattle.keyrange.specs.Names.{IsNamed};
 ghost use Rattle.vschema.specs.WellFormed.{is_vschema};
@@ -7,17 +7,18 @@ ghost use Rattle.empty_opening.specs.Empty.{opening_of, FitRanges};
 
 mod gates;
 mod locks;
+mod modes;
 mod waiting;
 
 use crate::empty_router;
 use empty_opening::opening_shards;
-use journal::{Naming, Opened};
+use gates::told;
+use journal::{Naming, Opened, Pass};
 use keyrange::{KeyRange, covers_once};
-use route_engine::{Answer, Open, Reply};
+use route_engine::{Answer, Engine, Open, Reply};
 use shard::{ShardLaw, World};
 use std::alloc::Global;
 use std::marker::Brand;
-use std::process::Abort;
 use std::sync::Wait;
 use std::test::Fail;
 use std::thread::Threads;
@@ -45,17 +46,44 @@ fn fits(alloc: Global, schema: &VSchema, ranges: &[KeyRange]) -> Result<bool, Re
     Ok(shards.len() <= 64 && covers_once(ranges))
 }
 
-fn insert_and_select<
-    W: World + Send + Sync,
-    J: Naming + Send + Sync,
-    R: Threads + Wait + Sync + Abort,
->(
-    rt: &R,
+// Whether a query gave one row, of the one number 7.
+fn is_seven(answer: &Answer) -> bool {
+    let Answer::Rows(selected) = answer else {
+        return false;
+    };
+    let [row] = selected.rows.as_slice() else {
+        return false;
+    };
+    matches!(row.as_slice(), [Value::Int(7)])
+}
+
+// How many rows an INSERT adds, and whether a query gives its row then.
+fn insert_then_select<W: World + Send + Sync, J: Naming + Send + Sync>(
+    rt: &(impl Threads + Wait + Sync),
+    alloc: Global,
+    engine: &Engine<W, J, Open>,
+    pass: &mut Pass<ShardLaw<W>, J>,
+) -> Result<(u64, bool), Refusal>
+    requires { IsSome pass.old.session }
+{
+    let count = told(
+        rt,
+        alloc,
+        engine,
+        pass,
+        b"INSERT INTO t (id, c) VALUES (2, 7)",
+    )?;
+    let Reply { answer, .. } = engine.execute(rt, alloc, pass, b"SELECT c FROM t WHERE id = 2")?;
+    Ok((count, is_seven(&answer)))
+}
+
+fn insert_and_select<W: World + Send + Sync, J: Naming + Send + Sync>(
+    rt: &(impl Threads + Wait + Sync),
     alloc: Global,
     schema: VSchema,
     ranges: &[KeyRange],
     opened: Opened<ShardLaw<W>>,
-) -> Result<(), Fail>
+) -> Result<(u64, bool), Refusal>
     requires name { opened ≡ J.table }
     requires opening { W.opening ≡ opening_of schema ranges.now }
     requires limits { W.limits ≡ most_limits }
@@ -65,47 +93,35 @@ fn insert_and_select<
     let (engine, mut opener, mut first) = empty_router::<W, J, Open>(
         alloc, schema, ranges, opened, 0, Open,
     )?;
-    let mut pass = opener.open(&mut first)?;
-    let Reply { answer, .. } = engine.execute(
-        rt,
-        alloc,
-        &mut pass,
-        b"INSERT INTO t (id, c) VALUES (2, 7)",
-    )?;
-    let Answer::Count(count) = answer else {
-        return Err(Fail::new("no count"));
+    let given = match opener.open(&mut first) {
+        Ok(pass) => {
+            let mut pass = pass;
+            let given = insert_then_select(rt, alloc, &engine, &mut pass);
+            drop(pass);
+            given
+        }
+        Err(refusal) => Err(refusal),
     };
-    assert_eq!(rt; count, 1);
-    let Reply { answer, .. } = engine.execute(
-        rt,
-        alloc,
-        &mut pass,
-        b"SELECT c FROM t WHERE id = 2",
-    )?;
-    let Answer::Rows(selected) = answer else {
-        return Err(Fail::new("no rows"));
-    };
-    let [row] = selected.rows.as_slice() else {
-        return Err(Fail::new("other rows"));
-    };
-    assert!(rt; matches!(row.as_slice(), [Value::Int(7)]));
-    Ok(())
+    drop(engine);
+    drop(opener);
+    drop(first);
+    given
 }
 
 // The same in the world that has this VSchema and these ranges, and no rows.
-fn in_empty_world<W: World + Send + Sync, R: Threads + Wait + Sync + Abort>(
-    rt: &R,
+fn in_empty_world<W: World + Send + Sync>(
+    rt: &(impl Threads + Wait + Sync),
     alloc: Global,
     schema: VSchema,
     ranges: &[KeyRange],
-) -> Result<(), Fail>
+) -> Result<(u64, bool), Refusal>
     requires opening { W.opening ≡ opening_of schema ranges.now }
     requires limits { W.limits ≡ most_limits }
     requires schema { IsTrue (is_vschema schema) }
     requires ranges { FitRanges schema ranges.now }
 {
     let opened = Opened::<ShardLaw<W>>::new(alloc)?;
-    insert_and_select::<W, Brand, R>(rt, alloc, schema, ranges, opened)
+    insert_and_select::<W, Brand>(rt, alloc, schema, ranges, opened)
 }
 
 #[test]
@@ -116,5 +132,8 @@ fn always_out_of_memory_would_find_no_row(rt: HostRuntime) -> Result<(), Fail> {
     if !fits(alloc, &schema, &ranges)? {
         return Err(Fail::new("no opening"));
     }
-    in_empty_world::<Brand, HostRuntime>(&rt, alloc, schema, &ranges)
+    let (count, is_there) = in_empty_world::<Brand>(&rt, alloc, schema, &ranges)?;
+    assert_eq!(rt; count, 1);
+    assert_eq!(rt; is_there, true);
+    Ok(())
 }

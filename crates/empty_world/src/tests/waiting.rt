@@ -33,7 +33,7 @@ const OTHER: &[u8] = b"INSERT INTO t (id, c) VALUES (7, 1)";
 const ALL: &[u8] = b"SELECT id FROM t";
 
 // From now on the shard takes no commits; false where it serves no more, or has too many entries.
-fn freeze<W: World, J: Naming>(
+pub(super) fn freeze<W: World, J: Naming>(
     rt: &impl Wait,
     shard: &Shard<W, J>,
     pass: &mut Pass<ShardLaw<W>, J>,

@@ -1,8 +1,7 @@
-use Rattle.std.proofs.Common.{◌≡◌, ℕ, Bool, [], length, ap, sym, subst, ◌∙◌}
+use Rattle.std.proofs.Common.{Bool, [], length, ap, sym, ◌∙◌}
 use Rattle.std.specs.Prelude.{if◌then◌else◌}
 use Rattle.shard_run.specs.declared.Shard.{Shard}
 use Rattle.shard_run.specs.declared.Mode.TheVariants.{Following, Serving}
-use Rattle.shard_run.specs.Legal.{IsOnItsSlot}
 use Rattle.shard_run.specs.Runs.{is_opening}
 use Rattle.shard.proofs.Legality.{on_its_slot, opening_slot, tables_held}
 use Rattle.empty_world.proofs.router.empty_shard.Goals as goal

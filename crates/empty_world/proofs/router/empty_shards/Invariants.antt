@@ -1,4 +1,4 @@
-use Rattle.std.proofs.Common.{◌≡◌, ℕ, ◌-◌, map, take}
+use Rattle.std.proofs.Common.{◌≡◌, ◌-◌, map, take}
 use Rattle.std.specs.Vec.Iter.{into_iter_items}
 use Rattle.serving.specs.Partitions.{Seat}
 use Rattle.route_engine.specs.Seats.{seat_of}

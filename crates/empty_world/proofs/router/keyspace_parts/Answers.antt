@@ -1,4 +1,4 @@
-use Rattle.std.proofs.Common.{◌≡◌, ◌==◌, ◌<◌, Bool, true, false, ap, sym, subst, ◌∙◌}
+use Rattle.std.proofs.Common.{◌==◌, ap, sym, ◌∙◌}
 use Rattle.std.proofs.lemmas.Bool.{eq-eqb, ne_eqb}
 use Rattle.shard_run.specs.declared.Shard.{Shard}
 use Rattle.route_engine.specs.Seats.{seat_of}

@@ -1,4 +1,4 @@
-use Rattle.std.proofs.Common.{◌≡◌, ℕ, map, filter, take, ◌==◌}
+use Rattle.std.proofs.Common.{◌≡◌, map, filter, take, ◌==◌}
 use Rattle.route_engine.specs.Seats.{seat_of}
 use Rattle.empty_world.proofs.router.keyspace_parts.Given as goal
 

@@ -11,13 +11,13 @@ use Rattle.empty_world.proofs.router.opened_shards.Goals as goal
 pub named-requires-send-L-Entry : goal.named-requires-send-L-Entry
 named-requires-send-L-Entry g c κs within = search (entry_send, sendable)
 
-pub empty_shards-requires-clause-rows : goal.empty_shards-requires-clause-rows
-empty_shards-requires-clause-rows g c = λ s there.
-    subst (λ (o : Opening). Contains (opening_shards o) s → first_rows o s ≡ replicate c.empty_tables.result []) (sym c.requires.opening)
-    (λ h. first_rows_are c.args.schema.now c.args.ranges.now s h ∙ c.empty_tables.ensures) there
+pub held_and_served-made-requires-clause-rows : goal.held_and_served-made-requires-clause-rows
+held_and_served-made-requires-clause-rows g c = λ s there.
+    subst (λ (o : Opening). Contains (opening_shards o) s → first_rows o s ≡ replicate c.empty_tables-tables.result []) (sym c.requires.opening)
+    (λ h. first_rows_are c.args.schema.now c.args.ranges.now s h ∙ c.empty_tables-tables.ensures) there
 
-pub empty_shards-requires-clause-slots : goal.empty_shards-requires-clause-slots
-empty_shards-requires-clause-slots g c = λ i d below.
+pub held_and_served-made-requires-clause-slots : goal.held_and_served-made-requires-clause-slots
+held_and_served-made-requires-clause-slots g c = λ i d below.
     let e : c.as_slice.result.now ≡ empty_shards c.args.schema.now c.args.ranges.now =
     c.as_slice.ensures ∙ c.in_ok-shards.ensures.shards ∙ opening_is c.args.schema.now c.args.ranges.now in
     subst (λ (xs : List Shard). i < length xs → (get_or xs i d).slot ≡ i) (sym e) (on_own_slots c.args.schema.now c.args.ranges.now i d) below

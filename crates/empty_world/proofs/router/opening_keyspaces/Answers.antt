@@ -1,4 +1,4 @@
-use Rattle.std.proofs.Common.{◌≡◌, ◌==◌, ◌<◌, List, length, map, filter, sym, subst, ◌∙◌, ap, arith}
+use Rattle.std.proofs.Common.{◌==◌, ◌<◌, List, length, map, filter, subst, arith}
 use Rattle.shard_run.specs.declared.Shard.{Shard}
 use Rattle.serving.specs.Partitions.{IsPartition}
 use Rattle.route_engine.specs.Seats.{seat_of}

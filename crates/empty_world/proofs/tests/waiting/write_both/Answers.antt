@@ -1,7 +1,7 @@
 use denote.RattleType.{RattleType}
 use denote.Exit.{no}
 use denote.Param.{param}
-use denote.Param.Send.{IsSync, param_send, arg_send, shr_send, sendable}
+use denote.Param.Send.{IsSync, param_send, arg_send, shr_send}
 use denote.Struct.Field.{shr_ref_field}
 use denote.Struct.Tuple.{TupleAt}
 use Rattle.std.proofs.Common.{List, [], ◌∷◌}
@@ -15,7 +15,6 @@ use Rattle.route_engine.proofs.Sent.{captures_send, engine_sync, pass_send}
 use Rattle.shard.specs.contracts.world.ShardLaw as law
 use Rattle.shard.specs.contracts.world.ShardLawLaw.TheImpl as laws
 use Rattle.shard_run.specs.contracts.Entry as entry
-use Rattle.shard_run.proofs.Sent.{entry_send}
 use Rattle.empty_world.proofs.tests.waiting.write_both.Goals as goal
 
 -- what the first thread's closure captures: the handle, the allocator, the engine and the pass

@@ -1,0 +1,48 @@
+use Rattle.std.proofs.Common.{◌≡◌, [], ap, sym, subst, ◌∙◌, refl}
+use Rattle.vschema.specs.declared.changes.Write.{Write}
+use Rattle.sql_eval.specs.Writes.{written_table}
+use Rattle.planner.specs.Routes.{table_at, write_route}
+use Rattle.route_engine.specs.Answers as a
+use Rattle.route_engine.proofs.Gathers.{stays}
+use Rattle.route_engine.proofs.Selecting.{gone_on}
+use Rattle.route_engine.proofs.Trying as w
+use Rattle.route_engine.proofs.engine.Engine.commit_until.Goals as goal
+
+pub loop-init : goal.loop-init
+loop-init g c = record { next = tt; finite = tt; gone = ([], stays _ _ c.requires.legal); same = refl }
+
+pub commit-requires-clause-table : goal.commit-requires-clause-table
+commit-requires-clause-table g c κs within =
+    c.requires.table ∙ ap (λ (w : Write). table_at g.W.World.opening.schema (written_table w)) (sym c.loop.invariant.same)
+
+pub commit-requires-clause-route : goal.commit-requires-clause-route
+commit-requires-clause-route g c κs within = c.requires.route ∙ ap (write_route g.W.World.opening.schema) (sym c.loop.invariant.same)
+
+pub commit-requires-clause-typed : goal.commit-requires-clause-typed
+commit-requires-clause-typed g c κs within =
+    subst (Rattle.vschema.specs.TypedWrites.IsTypedWrite g.W.World.opening.schema) (sym c.loop.invariant.same) c.requires.typed
+
+pub returns-in-Ok-Ok-clause-ok : goal.returns-in-Ok-Ok-clause-ok
+returns-in-Ok-Ok-clause-ok g c =
+    let done = rw c.loop.invariant.same at c.in-Ok-Ok.ensures.ok in
+    w.written_after g.W.World.opening g.W.World.limits c.args.write c.args.pass.now c.loop.pass c.commit.new.pass c.loop.invariant.gone c.in-Ok-Ok.count
+    (w.is_written g.W.World.opening g.W.World.limits c.args.write c.in-Ok-Ok.count c.loop.pass c.commit.new.pass c.in-Ok-Ok.field-0 c.in-Ok-Ok.field-0-is done)
+
+pub returns-in-Err-clause-err : goal.returns-in-Err-clause-err
+returns-in-Err-clause-err g c =
+    let why = rw c.loop.invariant.same at c.in-Err.ensures.err in
+    w.refused_after g.W.World.opening g.W.World.limits c.args.write c.args.pass.now c.loop.pass c.commit.new.pass c.loop.invariant.gone _ why
+
+pub returns-in-Err-wait-clause-err : goal.returns-in-Err-wait-clause-err
+returns-in-Err-wait-clause-err g c =
+    let done = rw c.loop.invariant.same at c.in-Ok-Err.ensures.ok in
+    let back = w.came_back g.W.World.opening g.W.World.limits c.args.write c.in-Ok-Err.again c.loop.pass c.commit.new.pass c.in-Ok-Err.field-0 c.in-Ok-Err.field-0-is done in
+    rw c.in-Err-wait.ensures.full
+    (w.refused_after g.W.World.opening g.W.World.limits c.args.write c.args.pass.now c.loop.pass c.commit.new.pass c.loop.invariant.gone _
+    (a.buffer_full back.gone back.held))
+
+pub loop-preserved : goal.loop-preserved
+loop-preserved g c =
+    let done = rw c.loop.invariant.same at c.in-Ok-Err.ensures.ok in
+    let back = w.came_back g.W.World.opening g.W.World.limits c.args.write c.in-Ok-Err.again c.loop.pass c.commit.new.pass c.in-Ok-Err.field-0 c.in-Ok-Err.field-0-is done in
+    record { next = tt; finite = tt; gone = gone_on _ _ _ _ c.loop.invariant.gone back.gone; same = back.same }
