@@ -28,10 +28,10 @@ use vt_value::{Items, Refusal, Row};
 /// Contracts see a `ShardView`: which shard it is, and the run that its seat has seen.
 #[derive(Drop)]
 pub struct ShardState<W: World, J: Naming> {
-    seat: ShardSeat<ShardLaw<W>, J>,
-    contents: Contents,
+    pub(crate) seat: ShardSeat<ShardLaw<W>, J>,
+    pub(crate) contents: Contents,
     // once it is retired, those that take its place
-    targets: Items<Shard>,
+    pub(crate) targets: Items<Shard>,
 }
 
 impl<W: World, J: Naming> Model for ShardState<W, J> {

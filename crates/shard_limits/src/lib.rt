@@ -4,4 +4,6 @@
 #[cfg(test)]
 mod law;
 #[cfg(test)]
+mod transactions;
+#[cfg(test)]
 mod writing;

@@ -19,7 +19,7 @@ use vschema::{Column, ColumnType, Columns, Keyspace, Place, Query, Table, VSchem
 use vt_value::{Items, Refusal, Row, Value};
 
 // At most two rows, and at most four stored entries.
-struct Small;
+pub(crate) struct Small;
 
 impl World for Small {
     ghost use Rattle.shard_limits.specs.SmallWorld.{small_opening, small_limits};
@@ -56,7 +56,7 @@ fn column(alloc: Global, name: &[u8], nullable: bool) -> Result<Column, Refusal>
     })
 }
 
-fn schema(alloc: Global) -> Result<VSchema, Refusal>
+pub(crate) fn schema(alloc: Global) -> Result<VSchema, Refusal>
     ensures { IfOk result (λ schema. schema ≡ small_schema) }
 {
     let keyspace = Keyspace {
@@ -79,7 +79,7 @@ fn schema(alloc: Global) -> Result<VSchema, Refusal>
     })
 }
 
-fn insert(alloc: Global, id: u64) -> Result<Write, Refusal>
+pub(crate) fn insert(alloc: Global, id: u64) -> Result<Write, Refusal>
     ensures { IfOk result (λ w. w ≡ insert_of id) }
 {
     let row = two(alloc, Value::Int(id as i128), Value::Null)?;
@@ -102,7 +102,7 @@ fn delete() -> Write
     Write::Delete(0, None)
 }
 
-fn place() -> Place
+pub(crate) fn place() -> Place
     ensures { result ≡ small_shard.place }
 {
     Place {
@@ -121,14 +121,16 @@ fn shard(alloc: Global) -> shard_run::Shard
     }
 }
 
-fn first_seat<J: Naming>(seats: Vec<ShardSeat<ShardLaw<Small>, J>>) -> ShardSeat<ShardLaw<Small>, J>
+pub(crate) fn first_seat<J: Naming>(
+    seats: Vec<ShardSeat<ShardLaw<Small>, J>>,
+) -> ShardSeat<ShardLaw<Small>, J>
     requires { seats.items ≡ fresh_seats 64 }
     ensures { result ≡ record { seen = []; slot = 0 } }
 {
     seats.into_iter().next().unwrap()
 }
 
-fn state<J: Naming>(
+pub(crate) fn state<J: Naming>(
     alloc: Global,
     seat: ShardSeat<ShardLaw<Small>, J>,
 ) -> Result<ShardState<Small, J>, Refusal>
@@ -185,7 +187,7 @@ fn read<J: Naming>(
 }
 
 // INSERT INTO t VALUES (id, NULL)
-fn insert_row<J: Naming>(
+pub(crate) fn insert_row<J: Naming>(
     rt: &impl Wait,
     alloc: Global,
     shard: &Shard<Small, J>,
@@ -246,7 +248,9 @@ fn delete_rows<J: Naming>(
 }
 
 // SELECT item FROM t
-fn query(alloc: Global, item: Item<usize>) -> Result<Query, Refusal> {
+pub(crate) fn query(alloc: Global, item: Item<usize>) -> Result<Query, Refusal>
+    ensures { IfOk result (λ query. query.table ≡ 0) }
+{
     Ok(Query {
         table: 0,
         items: one(alloc, item)?,
@@ -284,7 +288,7 @@ fn counted<J: Naming>(
 }
 
 // How many rows the shard has, and how many entries.
-fn counts<J: Naming>(
+pub(crate) fn counts<J: Naming>(
     rt: &impl Wait,
     alloc: Global,
     shard: &Shard<Small, J>,

@@ -1,4 +1,4 @@
-use Rattle.std.proofs.Common.{◌≡◌, true, false, take, sym, ap, ◌∙◌}
+use Rattle.std.proofs.Common.{sym, ap, ◌∙◌}
 use Rattle.std.specs.List.{list_any}
 use Rattle.shard.specs.Progress.{is_last_copy_of}
 use Rattle.shard.proofs.Progress.{copied_told, any_at, take_whole}

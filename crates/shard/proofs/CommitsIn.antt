@@ -1,0 +1,91 @@
+-- A transaction's commit: its entry is lawful, has room where the counts say so, and is refused for its written causes.
+use Rattle.std.proofs.Common.{◌≡◌, ℕ, ◌<◌, true, List, length, sym, ap, ◌∙◌, arith}
+use Rattle.std.specs.List.{AllByRecursion}
+use mathlib.Core.List.{IsPrefix}
+use Rattle.vt_value.specs.declared.refusal.Refusal.{Refusal}
+use Rattle.vschema.specs.Database.{changed_table}
+use Rattle.vschema.specs.TypedWrites.{IsTypedWrite}
+use Rattle.sql_eval.specs.Writes.{written_table}
+use Rattle.journal.specs.Runs.{IsLegal, NumbersBelow}
+use Rattle.journal.specs.Views.{SeatView, PassView}
+use Rattle.journal.proofs.Fronts.{prefix_trans}
+use Rattle.shard_run.specs.declared.Shard.{Shard}
+use Rattle.shard_run.specs.declared.Entry.{Entry}
+use Rattle.shard_run.specs.Runs.{Run, Opening, held, entries_on, stored_on}
+use Rattle.shard_run.specs.Openings.{row_count}
+use Rattle.shard_law.proofs.Lists.{all-weaker}
+use Rattle.shard_law.proofs.Typed.{table_there}
+use Rattle.shard.specs.declared.limits.Limits.{Limits}
+use Rattle.shard.specs.declared.contents.Contents.{Contents}
+use Rattle.shard.specs.Shards.{IsAfter, MayFollow, commit_of}
+use Rattle.shard.specs.Commits.{HasRoom}
+use Rattle.shard.specs.Transactions.{PendingView, IsClear, is_conflict, IsPending, IsPendingOf, entry_of, has_room_for, IsAllUnprepared, IsCommitAllRefusal}
+use Rattle.shard.specs.Transactions as t
+use Rattle.shard.proofs.Bags.{length-same}
+use Rattle.shard.proofs.Commits as commits
+use Rattle.shard.proofs.Moves.{pending_later, pending_may}
+use Rattle.shard.proofs.States.{stored-same}
+use Rattle.shard.proofs.Tables.{all_there}
+use Rattle.shard.proofs.Totals.{room_for, no_room_for}
+
+module _ (o : Opening) (most : Limits) (seat : SeatView Entry) (c : Contents) (is : IsAfter o most seat c) (p : PassView Entry) (tx : PendingView)
+    (clear : IsClear o c.shard seat.seen tx) (tied : IsPendingOf o c.shard tx p) (prior : IsPrefix p.seen seat.seen) where
+  abbrev s : Shard
+  s = c.shard
+
+  -- a run that has no more entries on the slot
+  module _ (run : Run) (legal : IsLegal (MayFollow o) run) (before : IsPrefix seat.seen run) (alone : entries_on seat.slot run ≡ entries_on seat.slot seat.seen) where
+    here : entries_on s.slot run ≡ entries_on s.slot seat.seen
+    here = commits.here o most seat c is clear.serving run legal alone
+
+    pub clear_here : IsClear o s run tx
+    clear_here = record {
+      serving = commits.serves o most seat c is clear.serving run legal alone;
+      unchanged = ap (λ (l : List Entry). is_conflict l tx.touched) (stored-same o seat.seen run s here) ∙ clear.unchanged;
+    }
+
+    pub pending_here : IsPending o s run tx
+    pending_here =
+        pending_later o s tied.0 run tx tied.2
+        (prefix_trans tied.0 p.seen run tied.1 (prefix_trans p.seen seat.seen run prior before)) legal clear_here
+
+    pub lawful : (session number : ℕ) → NumbersBelow commit_of session number run → MayFollow o run (entry_of s session number tx.writes tx.changes)
+    lawful session number low =
+        pending_may o s is.opens run tx pending_here (commits.stands o most seat c is clear.serving run legal alone) clear_here.serving session number low
+
+    tables_held : length (held o run s) ≡ length o.schema.tables
+    tables_held =
+        sym (length-same c.store.rows (held o run s) (commits.rows o most seat c is clear.serving run legal alone))
+        ∙ (commits.has o most seat c is clear.serving).tables
+
+    -- its writes are on tables of the shard
+    written_there : AllByRecursion (λ w. written_table w < length (held o run s)) tx.writes
+    written_there =
+        all-weaker (IsTypedWrite o.schema) (λ w. written_table w < length (held o run s))
+        (λ w h. let a = table_there o.schema w h in let k = tables_held in omega (arith, a, k)) tx.writes pending_here.typed
+
+    pub changes_there : AllByRecursion (λ c. changed_table c < length o.schema.tables) tx.changes
+    changes_there = all_there o.schema tx.writes (held o run s) tx.changes pending_here.typed pending_here.made
+
+    tested : (entries stored' : ℕ) → entries ≡ length (entries_on s.slot seat.seen) → stored' ≡ length c.stored.items
+        → has_room_for c.limits entries stored' (row_count c.store.rows) tx.changes
+        ≡ has_room_for most (length (entries_on s.slot run)) (length (stored_on s.slot run)) (row_count (held o run s)) tx.changes
+    tested entries stored' es ss =
+        ap (λ (l : Limits). has_room_for l entries stored' (row_count c.store.rows) tx.changes) is.limits
+        ∙ ap (λ (n : ℕ). has_room_for most n stored' (row_count c.store.rows) tx.changes) (es ∙ ap length (sym here))
+        ∙ ap (λ (n : ℕ). has_room_for most (length (entries_on s.slot run)) n (row_count c.store.rows) tx.changes)
+        (ss ∙ ap length (commits.stored_here o most seat c is clear.serving run legal alone))
+        ∙ ap (λ (n : ℕ). has_room_for most (length (entries_on s.slot run)) (length (stored_on s.slot run)) n tx.changes)
+        (commits.counted o most seat c is clear.serving run legal alone)
+
+    pub has_room : (entries stored' : ℕ) → entries ≡ length (entries_on s.slot seat.seen) → stored' ≡ length c.stored.items
+        → has_room_for c.limits entries stored' (row_count c.store.rows) tx.changes ≡ true → HasRoom o most s run tx.changes
+    has_room entries stored' es ss h =
+        room_for o.schema most o s run tx.writes tx.changes pending_here.made written_there (sym (tested entries stored' es ss) ∙ h)
+
+    pub refused : (entries stored' : ℕ) (e : Refusal) → entries ≡ length (entries_on s.slot seat.seen) → stored' ≡ length c.stored.items
+        → IsAllUnprepared c.limits entries stored' (row_count c.store.rows) tx.changes e → IsCommitAllRefusal o most s run tx e
+    refused entries stored' _ es ss (t.no_memory) = t.no_memory
+    refused entries stored' _ es ss (t.full h) =
+        t.full clear_here
+        (no_room_for o.schema most o s run tx.writes tx.changes pending_here.made written_there (sym (tested entries stored' es ss) ∙ h))

@@ -1,0 +1,95 @@
+use Rattle.std.proofs.Common.{◌<◌, List, [], ◌∷◌, ◌++◌, length, map, inl, inr, refl, sym, ap, subst, ◌∙◌, arith}
+use Rattle.vschema.specs.declared.changes.RowChange.{RowChange}
+use Rattle.vschema.specs.Database.{Database, all_applied}
+use Rattle.journal.specs.Views.{SeatView}
+use Rattle.shard_run.specs.declared.Shard.{Shard}
+use Rattle.shard_run.specs.declared.Entry.{Entry}
+use Rattle.shard_run.specs.declared.Event.TheVariants.{Copy}
+use Rattle.shard_run.specs.Copies.{is_last}
+use Rattle.shard_run.specs.Runs.{mode}
+use Rattle.shard.specs.declared.forward.Step.{Step}
+use Rattle.shard.specs.declared.forward.Step.TheVariants.{Copied}
+use Rattle.shard.specs.Progress.{last_row}
+use Rattle.shard.specs.Shards.{MayFollow, Names}
+use Rattle.shard.proofs.Looks.{following_lives}
+use Rattle.shard.proofs.States.{looked, same_contents, names_none}
+use Rattle.shard.proofs.Follows as f
+use Rattle.shard.proofs.CopySteps as k
+use Rattle.shard.proofs.state.ShardState.copy.Goals as goal
+
+pub invariant_of-self : goal.invariant_of-self
+invariant_of-self g c =
+    let l = looked _ _ c.self.inside.seat c.look-entries.new.self c.args.pass.now _ _ c.look-entries.ensures.seen c.look-entries.ensures.seat c.self.invariant in
+    (l.is, l.names)
+
+pub returns-then-entries-ge-MOST_ENTRIES-clause-err : goal.returns-then-entries-ge-MOST_ENTRIES-clause-err
+returns-then-entries-ge-MOST_ENTRIES-clause-err g c =
+    let l = c.look-entries.ensures in
+    let o = g.W.World.opening in
+    let most = g.W.World.limits in
+    let had = c.self.inside.contents in
+    let count = f.count_is o most c.self.inside.seat c.look-entries.new.self had c.self.inside.targets c.args.pass.now c.look-entries.new.pass c.self.invariant l.seen
+    l.seat l.pass c.args.self.now c.self.view_is c.requires.following c.look-entries.result l.count in
+    let told = f.entries_told o most c.self.inside.seat c.look-entries.new.self had c.self.inside.targets c.args.pass.now c.look-entries.new.pass c.self.invariant l.seen
+    l.seat l.pass c.args.self.now c.self.view_is c.requires.following in
+    let h = c.if-entries-ge-MOST_ENTRIES.true in
+    inr (refl, omega (arith, count, told, h))
+
+pub prepare_copy-requires : goal.prepare_copy-requires
+prepare_copy-requires g c =
+    let l = c.look-entries.ensures in
+    let tables = f.tables_now g.W.World.opening g.W.World.limits c.self.inside.seat c.look-entries.new.self c.self.inside.contents c.self.inside.targets c.args.pass.now
+    c.look-entries.new.pass c.self.invariant l.seen l.seat l.pass c.args.self.now c.self.view_is c.requires.following in
+    let there = c.requires.next.next.table.0 in
+    omega (arith, tables, there)
+
+pub invariant_of-self-in_err-prepared : goal.invariant_of-self-in_err-prepared
+invariant_of-self-in_err-prepared g c =
+    let p = c.prepare_copy.ensures in
+    let l = looked _ _ c.self.inside.seat c.look-entries.new.self c.args.pass.now _ _ c.look-entries.ensures.seen c.look-entries.ensures.seat c.self.invariant in (
+      same_contents _ _ c.look-entries.new.self c.self.inside.contents c.prepare_copy.new.self l.is p.shard p.rows p.mode p.stored p.steps p.same_limits,
+      subst (λ (s : Shard). Names g.W.World.opening c.look-entries.new.self.seen s c.self.inside.targets) (sym p.shard) l.names,
+    )
+
+pub append-requires-clause-lawful : goal.append-requires-clause-lawful
+append-requires-clause-lawful g c κs within run next =
+    let l = c.look-entries.ensures in
+    let o = g.W.World.opening in
+    subst (MayFollow o run) (sym c.in_ok-prepared.ensures.entry)
+    (k.copy_lawful o g.W.World.limits c.self.inside.seat c.look-entries.new.self c.self.inside.contents c.self.inside.targets c.args.pass.now
+    c.look-entries.new.pass c.self.invariant l.seen l.seat l.pass c.args.self.now c.self.view_is c.requires.following c.args.taken c.requires.next run next)
+
+pub invariant_of-self-2 : goal.invariant_of-self-2
+invariant_of-self-2 g c =
+    let l = c.look-entries.ensures in
+    let o = g.W.World.opening in
+    let most = g.W.World.limits in
+    let ok = c.in_ok-prepared.ensures in
+    let a = c.append.ensures in
+    let t = c.take_copy.ensures in
+    let seat = c.look-entries.new.self in
+    let had = c.self.inside.contents in
+    let taken = c.args.taken in
+    let is = f.now_is o most c.self.inside.seat seat had c.self.inside.targets c.args.pass.now c.look-entries.new.pass c.self.invariant l.seen l.seat l.pass
+    c.args.self.now c.self.view_is c.requires.following in
+    let follows = f.follows_now o most c.self.inside.seat seat had c.self.inside.targets c.args.pass.now c.look-entries.new.pass c.self.invariant l.seen l.seat l.pass
+    c.args.self.now c.self.view_is c.requires.following in
+    let count = f.count_is o most c.self.inside.seat seat had c.self.inside.targets c.args.pass.now c.look-entries.new.pass c.self.invariant l.seen l.seat l.pass
+    c.args.self.now c.self.view_is c.requires.following c.look-entries.result l.count in
+    let few = c.if-entries-ge-MOST_ENTRIES.false in
+    let ends = a.seen.2 ∙ ap (λ (e : Entry). a.seen.0 ++ e ∷ []) ok.entry in
+    let shard_is = t.shard ∙ ok.shard in (
+      k.after_copy o most seat had is follows a.seen.0 a.seen.1.alone taken c.append.new.self c.take_copy.new.self ends
+          (ap (λ (s : SeatView Entry). s.slot) a.seat) shard_is
+          (t.rows ∙ ap (λ (db : Database). all_applied c.in_ok-prepared.prepared.changes.items db) ok.rows
+          ∙ ap (λ (l : List RowChange). all_applied l had.store.rows) ok.changes)
+          (t.mode ∙ ok.mode) (ap (λ v. v.items) t.stored ∙ ok.stored)
+          (t.steps ∙ ap (λ (l : List Step). l ++ c.in_ok-prepared.prepared.step ∷ []) ok.steps
+          ∙ ap (λ (s : Step). had.steps.items ++ s ∷ []) ok.step)
+          (t.limits ∙ ok.same_limits) (omega (arith, count, few)),
+      names_none o c.append.new.self.seen c.take_copy.new.self.shard c.self.inside.targets
+          (following_lives (mode o c.append.new.self.seen c.take_copy.new.self.shard.slot)
+          (ap (λ (r : List Entry). mode o r c.take_copy.new.self.shard.slot) ends
+          ∙ ap (λ (s : Shard). mode o (a.seen.0 ++ record { shard = had.shard; event = Copy taken } ∷ []) s.slot) shard_is
+          ∙ k.mode_copies o most seat had is follows a.seen.0 a.seen.1.alone taken)),
+    )

@@ -1,0 +1,67 @@
+use Rattle.std.proofs.Common.{◌≡◌, ℕ, ◌≤◌, ◌^◌, List, length, ap, sym, subst, ◌∙◌, arith}
+use Rattle.std.proofs.lemmas.Result.{err_from_is_err_and}
+use Rattle.vschema.specs.declared.changes.RowChange.{RowChange}
+use Rattle.vschema.specs.Database.{rows_of, all_applied}
+use Rattle.sql_eval.specs.Groups.{CanBeSummed}
+use Rattle.sql_eval.specs.Queries.{IsAnswer}
+use Rattle.shard_run.specs.Runs.{stored_on}
+use Rattle.shard.specs.Shards.{seat_of}
+use Rattle.shard.specs.Transactions.{touched_with, PendingView}
+use Rattle.shard.specs.Transactions as t
+use Rattle.shard.proofs.LooksIn as l
+use Rattle.shard.proofs.state.ShardState.read_in.Goals as goal
+
+pub returns-in_err-entries-clause-err : goal.returns-in_err-entries-clause-err
+returns-in_err-entries-clause-err g c =
+    let p = err_from_is_err_and c.from_residual.result c.from_residual.ensures.1 in
+    rw (p.1, p.2) (t.stopped c.in_err-entries.ensures.err)
+
+pub returns-in_err-rows-clause-err : goal.returns-in_err-rows-clause-err
+returns-in_err-rows-clause-err g c =
+    let p = err_from_is_err_and c.from_residual-in_err-rows.result c.from_residual-in_err-rows.ensures.1 in
+    rw (p.1, p.2, c.in_err-rows.ensures.err) t.no_memory
+
+pub returns-in_err-touch-clause-err : goal.returns-in_err-touch-clause-err
+returns-in_err-touch-clause-err g c =
+    let p = err_from_is_err_and c.from_residual-in_err-touch.result c.from_residual-in_err-touch.ensures.1 in
+    rw (p.1, p.2, c.in_err-touch.ensures.err) t.no_memory
+
+pub select_behind-requires-clause-there : goal.select_behind-requires-clause-there
+select_behind-requires-clause-there g c =
+    let e = c.in_ok-entries.ensures in
+    let long = l.tables g.W.World.opening g.W.World.limits c.self.inside.seat c.self.inside.contents c.self.invariant.0 _ c.self.view_is c.args.self.now.shard e.shard
+    c.args.tx.now e.clear e.seen.legal in
+    let there = c.requires.there in
+    omega (arith, long, there)
+
+pub select_behind-requires-clause-summed : goal.select_behind-requires-clause-summed
+select_behind-requires-clause-summed g c aggregated few =
+    let e = c.in_ok-entries.ensures in
+    let own : c.as_slice.result.now ≡ c.args.tx.now.changes = c.as_slice.ensures.value ∙ ap (λ (x : PendingView). x.changes) c.tx.view_is in
+    let rows = c.self.inside.contents.store.rows in
+    let n = c.args.query.now.table in
+    subst (λ (changes : List RowChange). CanBeSummed (rows_of (all_applied changes rows) n)) (sym own)
+    (l.summed g.W.World.opening g.W.World.limits c.self.inside.seat c.self.inside.contents c.self.invariant.0 _ c.self.view_is c.args.self.now.shard e.shard
+    c.args.tx.now e.clear e.seen.legal (seat_of c.args.self.now) c.args.pass.now e.seen c.requires.tied c.requires.session c.requires.above n
+    (subst (λ (changes : List RowChange). length (rows_of (all_applied changes rows) n) ≤ 2 ^ 60) own few))
+
+pub returns-clause-read : goal.returns-clause-read
+returns-clause-read g c =
+    let e = c.in_ok-entries.ensures in
+    let tx : PendingView = c.args.tx.now in
+    let n : ℕ = c.args.query.now.table in
+    let own : c.as_slice.result.now ≡ tx.changes = c.as_slice.ensures.value ∙ ap (λ (x : PendingView). x.changes) c.tx.view_is in
+    let rows = c.self.inside.contents.store.rows in
+    let stored : c.len.result ≡ length (stored_on c.args.self.now.shard.slot c.check.new.self.seen) =
+    c.len.ensures ∙ c.self.inside.contents.stored.ok.0
+    ∙ l.stored_is g.W.World.opening g.W.World.limits c.self.inside.seat c.self.inside.contents c.self.invariant.0 _ c.self.view_is c.args.self.now.shard e.shard
+    c.args.tx.now e.clear e.seen.legal in
+    record {
+      clear = e.clear;
+      allowed =
+          l.allowed g.W.World.opening g.W.World.limits c.self.inside.seat c.self.inside.contents c.self.invariant.0 _ c.self.view_is c.args.self.now.shard e.shard
+          c.args.tx.now e.clear e.seen.legal tx.changes c.args.query.now c.in_ok-rows.rows
+          (subst (λ (changes : List RowChange). IsAnswer c.args.query.now (rows_of (all_applied changes rows) n) c.in_ok-rows.rows) own c.in_ok-rows.ensures.ok);
+      count = e.entries;
+      touch = c.in_ok-touch.ensures.ok ∙ ap (λ (k : ℕ). record tx { touched = touched_with tx.touched (record { table = n; stored = k }) }) stored;
+    }

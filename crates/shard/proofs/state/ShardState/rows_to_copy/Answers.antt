@@ -1,0 +1,35 @@
+use Rattle.std.proofs.Common.{◌≡◌, ◌<◌, true, length, refl, sym, ap, subst, ◌∙◌}
+use Rattle.std.specs.Prelude.{option_copied}
+use Rattle.vschema.specs.declared.schema.VSchema.{VSchema}
+use Rattle.vschema.specs.Database.{rows_of}
+use Rattle.journal.specs.Runs.{IsLegal}
+use Rattle.shard_run.specs.Copies.{table_at}
+use Rattle.shard_run.specs.Runs.{mode, is_serving, stored_on}
+use Rattle.shard.specs.Shards.{ShardView, MayFollow}
+use Rattle.shard.specs.Copying.{IsCopyFor}
+use Rattle.shard.proofs.Legality.{legal_is}
+use Rattle.shard.proofs.CopySteps.{copy_for, first_as, table_is}
+use Rattle.shard.proofs.state.ShardState.rows_to_copy.Goals as goal
+
+pub returns-clause-copy : goal.returns-clause-copy
+returns-clause-copy g c =
+    let o = g.W.World.opening in
+    let n = c.args.next.now.table in
+    let seat = c.self.inside.seat in
+    let had = c.self.inside.contents in
+    let view = c.self.view_is in
+    let there : n < length c.as_slice.result.now = subst (λ l. n < length l) (sym c.as_slice.ensures) c.requires.there in
+    let table = table_is c.args.schema.now c.as_slice.result.now c.as_slice.ensures n c.index-as_slice-next.result there c.index-as_slice-next.is
+    ∙ ap (λ (s : VSchema). table_at s n) c.requires.schema in
+    let first = first_as c.args.place.now c.index-as_slice-next.result (table_at o.schema n) (option_copied c.as_ref.result) c.args.next.now.after c.rows-rows.result.now
+    (rows_of had.store.rows n) c.in_ok-first.first.items table c.as_ref.ensures.value c.rows-rows.ensures c.in_ok-first.ensures.ok in
+    let legal = legal_is o seat.seen (subst (λ (x : ShardView). IsLegal (MayFollow o) x.seen) (sym view) c.requires.legal) in
+    let serves = subst (λ (x : ShardView). is_serving (mode o x.seen x.shard.slot) ≡ true) (sym view) c.requires.serves in (
+      refl,
+      subst (λ (x : ShardView). IsCopyFor o x.seen x.shard c.args.place.now c.args.next.now.after
+          (record { source = c.slot.result; table = n; place = c.stored.result; rows = c.from_vec.result })) view
+          (copy_for o g.W.World.limits seat had c.self.invariant.0 c.requires.formed legal serves n c.args.place.now c.args.next.now.after c.in_ok-first.first.items
+          (record { source = c.slot.result; table = n; place = c.stored.result; rows = c.from_vec.result }) first
+          (c.slot.ensures.slot ∙ ap (λ (x : ShardView). x.shard.slot) (sym view)) refl
+          (c.stored.ensures ∙ ap (λ (x : ShardView). length (stored_on x.shard.slot x.seen)) (sym view)) c.from_vec.ensures),
+    )

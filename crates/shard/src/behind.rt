@@ -1,0 +1,133 @@
+//! What a transaction sees: the rows that the shard holds, with the transaction's own changes.
+ghost use Rattle.std.specs.Prelude.{◌≡◌, ◌⊎◌, ◌==◌, ◌<◌, ◌≤◌, ◌^◌, ◌++◌, ◌∷◌, [], true, Ok, Err, OnOk, IfOk, IfErr, length};
+ghost use Rattle.std.specs.List.{list_any};
+ghost use Rattle.vschema.specs.Checks.{is_aggregated};
+ghost use Rattle.vschema.specs.Database.{rows_of, all_applied, changed_table};
+ghost use Rattle.sql_eval.specs.Groups.{CanBeSummed};
+ghost use Rattle.sql_eval.specs.Queries.{IsAnswer};
+ghost use Rattle.sql_eval.specs.Writes.{written_table, changes_of};
+ghost use Rattle.shard.specs.Stores.{row_after};
+
+use crate::contents::{Contents, written_table};
+use crate::store::{Store, TableRows, changed_table};
+use sql_eval::{change_local, select_local};
+use std::alloc::Global;
+use vschema::{Query, RowChange, VSchema, Write};
+use vt_value::{Items, Refusal, Row, copy_row};
+
+/// Whether one of the changes is of the table at a place.
+pub(crate) fn changes_any(place: usize, changes: &[RowChange]) -> bool
+    ensures { result ≡ list_any (λ c. changed_table c == place) changes.now }
+{
+    changes.iter().any(|change| changed_table(change) == place)
+}
+
+fn copy_rows(alloc: Global, rows: &[Row]) -> Result<Vec<Row>, Refusal>
+    ensures ok { IfOk result (λ v. v.items ≡ rows.now) }
+    ensures err { IfErr result (λ e. e ≡ Refusal.OutOfMemory) }
+{
+    let mut copied = Vec::new(alloc);
+    for row in rows {
+        copied.push(copy_row(alloc, row)?)?;
+    }
+    Ok(copied)
+}
+
+impl TableRows {
+    // Adds a copy of a row.
+    fn add_copy(&mut self, alloc: Global, row: &Row) -> Result<(), Refusal>
+        ensures ok { OnOk result (self.new.rows ≡ self.old.rows ++ row.now ∷ []) }
+        ensures err { IfErr result (λ e. e ≡ Refusal.OutOfMemory) }
+    {
+        let row = copy_row(alloc, row)?;
+        self.rows.push(row)?;
+        Ok(())
+    }
+
+    // Does a change of one of these rows, with a copy of the row that it puts in.
+    fn change(&mut self, alloc: Global, change: &RowChange) -> Result<(), Refusal>
+        ensures ok { OnOk result (self.new.rows ≡ row_after change.now self.old.rows) }
+        ensures err { IfErr result (λ e. e ≡ Refusal.OutOfMemory) }
+    {
+        match change {
+            RowChange::Added(_, row) => self.add_copy(alloc, row),
+            RowChange::Replaced(_, old, new) => {
+                self.remove(old);
+                self.add_copy(alloc, new)
+            }
+            RowChange::Removed(_, row) => {
+                self.remove(row);
+                Ok(())
+            }
+        }
+    }
+}
+
+impl Store {
+    // A copy of what the changes leave of the rows of the table at a place.
+    fn rows_behind(
+        &self,
+        alloc: Global,
+        place: usize,
+        changes: &[RowChange],
+    ) -> Result<TableRows, Refusal>
+        requires { place < length self.now.rows }
+        ensures ok { IfOk result (λ behind. behind.rows ≡ rows_of (all_applied changes.now self.now.rows) place) }
+        ensures err { IfErr result (λ e. e ≡ Refusal.OutOfMemory) }
+    {
+        let mut behind = TableRows::new(copy_rows(alloc, self.rows(place))?);
+        for change in changes {
+            if changed_table(change) == place {
+                behind.change(alloc, change)?;
+            }
+        }
+        Ok(behind)
+    }
+}
+
+impl Contents {
+    /// What the query gives over the rows with these changes done. No row is copied where none of them is of the query's table.
+    pub(crate) fn select_behind(
+        &self,
+        alloc: Global,
+        query: &Query,
+        changes: &[RowChange],
+    ) -> Result<Items<Row>, Refusal>
+        requires there { query.now.table < length self.now.store.rows }
+        requires summed { is_aggregated query.now ≡ true → length (rows_of (all_applied changes.now self.now.store.rows) query.now.table) ≤ 2 ^ 60
+            → CanBeSummed (rows_of (all_applied changes.now self.now.store.rows) query.now.table) }
+        ensures ok { IfOk result (IsAnswer query.now (rows_of (all_applied changes.now self.now.store.rows) query.now.table)) }
+        ensures err { IfErr result (λ e. e ≡ Refusal.OutOfMemory) }
+    {
+        let place = query.table;
+        if !changes_any(place, changes) {
+            return select_local(alloc, query, self.store.rows(place));
+        }
+        let behind = self.store.rows_behind(alloc, place, changes)?;
+        select_local(alloc, query, behind.rows())
+    }
+
+    /// The changes of the write over the rows with these changes done, unless it has a primary key that is there already. No row is copied
+    /// where none of them is of the write's table.
+    pub(crate) fn changes_behind(
+        &self,
+        alloc: Global,
+        schema: &VSchema,
+        write: &Write,
+        changes: &[RowChange],
+    ) -> Result<Items<RowChange>, Refusal>
+        requires there { written_table write.now < length schema.now.tables }
+        requires tables { length self.now.store.rows ≡ length schema.now.tables }
+        ensures ok { IfOk result (λ more. changes_of schema.now write.now (all_applied changes.now self.now.store.rows) ≡ Ok more) }
+        ensures err { IfErr result (λ e. (e ≡ Refusal.OutOfMemory)
+            ⊎ ((e ≡ Refusal.DuplicateKey) × (changes_of schema.now write.now (all_applied changes.now self.now.store.rows) ≡ Err Refusal.DuplicateKey))) }
+    {
+        let place = written_table(write);
+        let table = &schema.tables.as_slice()[place];
+        if !changes_any(place, changes) {
+            return change_local(alloc, table, write, self.store.rows(place));
+        }
+        let behind = self.store.rows_behind(alloc, place, changes)?;
+        change_local(alloc, table, write, behind.rows())
+    }
+}

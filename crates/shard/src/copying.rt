@@ -1,0 +1,473 @@
+//! How a target takes over what its sources have: how far it has come with each, what a source has for it then, and the Copy.
+ghost use Rattle.std.specs.Prelude.{◌≡◌, ◌⊎◌, ◌<◌, ◌≤◌, ◌^◌, ◌++◌, ◌∷◌, [], ◌&&◌, ◌||◌, ◌==◌, List, true, false, not, None, IsTrue, IfOk, IfErr, IfSome, OnOk, OnErr, MatchOption, map, filter, length, option_copied, slice_index_or, vec_len, vec_capacity};
+ghost use Rattle.std.specs.List.{AllByRecursion};
+ghost use Rattle.keyrange.specs.Ranges.{is_before};
+ghost use Rattle.vt_value.specs.Values as values;
+ghost use Rattle.vschema.specs.WellFormed.{is_vschema};
+ghost use Rattle.vschema.specs.declared.changes.RowChange as row;
+ghost use Rattle.vschema.specs.Database.{all_applied, changed_table, changed_row, change_lies_in, restricted_changes};
+ghost use Rattle.journal.specs.Runs.{IsLegal};
+ghost use Rattle.journal.specs.Views.{IsLater, PassView};
+ghost use Rattle.shard_run.specs.declared.Entry.{Entry};
+ghost use Rattle.shard_run.specs.declared.Event.{Event};
+ghost use Rattle.shard_run.specs.Runs.{mode, is_serving, entries_on, stored_on, stored_changes};
+ghost use Rattle.shard_run.specs.Copies.{position, table_at, is_last, has_copied_all, is_copied, change_is_copied};
+ghost use Rattle.shard.specs.Stores.{HasRoomFor};
+ghost use Rattle.shard.specs.Progress.{behind, last_row};
+ghost use Rattle.shard.specs.Shards.{slot_of, commit_of, MayFollow, HasLooked, HasAppended, seat_of};
+ghost use Rattle.shard.specs.Copying.{HasCopiedAll, IsNextTable, IsProgress, IsEntryFor, IsCopyFor, IsNextCopy, is_reached};
+ghost use Rattle.shard.specs.inner.Rowed.{row_of, first_named};
+
+use crate::choosing::{COPY_STEP, first_wanted, is_reached, lies_in};
+use crate::contents::Contents;
+use crate::copies::{copy_change, copy_shard};
+use crate::forward::Step;
+use crate::limits::MOST_ENTRIES;
+use crate::state::ShardState;
+use crate::store::changed_table;
+use crate::world::{ShardLaw, World};
+use journal::{Naming, Pass};
+use shard_run::{Copied, Entry, Event, Follow, Mode};
+use std::alloc::Global;
+use vschema::{Place, RowChange, VSchema};
+use vt_value::{Items, Refusal, Row, copy_row};
+
+/// The table that a target copies next from a source, by its place in the VSchema, and the last row of it that the target has.
+#[derive(Drop)]
+pub struct NextTable {
+    pub table: usize,
+    pub after: Option<Row>,
+}
+
+/// How far a target has come with a source.
+#[derive(Drop)]
+pub struct SourceProgress {
+    /// Behind how many of the source's stored entries it stands. None before its first Copy from there.
+    pub behind: Option<u128>,
+    /// Where it copies on. None where it has copied all tables.
+    pub next: Option<NextTable>,
+}
+
+impl Step {
+    // Behind how many of the source's stored entries the target stands after the step.
+    fn behind(&self) -> u128
+        ensures { result ≡ behind self.now }
+    {
+        match self {
+            Step::Followed { place, .. } => u128::from(*place) + 1,
+            Step::Copied { place, .. } => u128::from(*place),
+        }
+    }
+
+    // The last row that it copied of the table from the source.
+    fn row_of(&self, source: usize, table: usize) -> Option<&Row>
+        ensures { option_copied result ≡ row_of source table self.now }
+    {
+        match self {
+            Step::Followed { .. } => None,
+            Step::Copied {
+                source: from,
+                table: of,
+                row,
+                ..
+            } => {
+                if *from == source && *of == table {
+                    row.as_ref()
+                } else {
+                    None
+                }
+            }
+        }
+    }
+}
+
+fn changed_row(change: &RowChange) -> &Row
+    ensures { result.now ≡ changed_row change.now }
+{
+    match change {
+        RowChange::Added(_, row) => row,
+        RowChange::Replaced(_, _, new) => new,
+        RowChange::Removed(_, row) => row,
+    }
+}
+
+fn change_lies_in(schema: &VSchema, place: &Place, change: &RowChange) -> bool
+    requires { changed_table change.now < length schema.now.tables }
+    ensures { result ≡ change_lies_in schema.now place.now change.now }
+{
+    let table = &schema.tables.as_slice()[changed_table(change)];
+    lies_in(place, table, changed_row(change))
+}
+
+// Equal changes, of the rows that lie in the place.
+fn restricted_changes(
+    alloc: Global,
+    schema: &VSchema,
+    place: &Place,
+    changes: &[RowChange],
+) -> Result<Items<RowChange>, Refusal>
+    requires { AllByRecursion (λ c. changed_table c < length schema.now.tables) changes.now }
+    ensures ok { IfOk result (λ kept. kept ≡ restricted_changes schema.now place.now changes.now) }
+    ensures err { IfErr result (λ e. e ≡ Refusal.OutOfMemory) }
+{
+    let mut kept = Items::new(alloc);
+    for change in changes {
+        if change_lies_in(schema, place, change) {
+            kept.push(copy_change(alloc, change)?)?;
+        }
+    }
+    Ok(kept)
+}
+
+// The changes that an event stores.
+fn stored_changes(event: &Event) -> &[RowChange]
+    ensures { result.now ≡ stored_changes event.now }
+{
+    match event {
+        Event::Commit(commit) => commit.changes.as_slice(),
+        Event::Follow(follow) => follow.changes.as_slice(),
+        _ => &[],
+    }
+}
+
+// The first by name of two tables, where the other was found.
+fn first_named(schema: &VSchema, n: usize, found: Option<usize>) -> usize
+    requires n { n < length schema.now.tables }
+    requires found { IfSome found (λ m. m < length schema.now.tables) }
+    ensures { result ≡ first_named schema.now n found }
+{
+    let tables = schema.tables.as_slice();
+    match found {
+        Some(m)
+            if !tables[n]
+                .name
+                .as_slice()
+                .cmp(tables[m].name.as_slice())
+                .is_lt() => m,
+        _ => n,
+    }
+}
+
+// An equal row.
+fn copied(alloc: Global, row: Option<&Row>) -> Result<Option<Row>, Refusal>
+    ensures ok { IfOk result (λ r. r ≡ option_copied row.entry) }
+    ensures err { IfErr result (λ e. e ≡ Refusal.OutOfMemory) }
+{
+    match row {
+        Some(row) => Ok(Some(copy_row(alloc, row)?)),
+        None => Ok(None),
+    }
+}
+
+fn last_row(alloc: Global, rows: &[Row]) -> Result<Option<Row>, Refusal>
+    ensures ok { IfOk result (λ last. last ≡ last_row rows.now) }
+    ensures err { IfErr result (λ e. e ≡ Refusal.OutOfMemory) }
+{
+    copied(alloc, rows.last())
+}
+
+// The rows as changes that add them to a table.
+fn added(alloc: Global, table: usize, rows: &[Row]) -> Result<Vec<RowChange>, Refusal>
+    ensures ok { IfOk result (λ changes. changes.items ≡ map (row.RowChange.Added table) rows.now) }
+    ensures err { IfErr result (λ e. e ≡ Refusal.OutOfMemory) }
+{
+    let mut changes = Vec::new(alloc);
+    for row in rows {
+        changes.push(RowChange::Added(table, copy_row(alloc, row)?))?;
+    }
+    Ok(changes)
+}
+
+// A Copy for which all memory is made: its entry, its rows once more as changes, and the step that it is.
+#[derive(Drop)]
+struct PreparedCopy {
+    entry: Entry,
+    changes: Vec<RowChange>,
+    step: Step,
+}
+
+impl Contents {
+    // Makes all memory of a Copy; what the shard holds stays as it is.
+    fn prepare_copy(&mut self, alloc: Global, taken: Copied) -> Result<PreparedCopy, Refusal>
+        requires { taken.table < length self.old.store.rows }
+        ensures changes { IfOk result (λ p. p.changes.items ≡ map (row.RowChange.Added taken.table) taken.rows) }
+        ensures entry { IfOk result (λ p. p.entry ≡ record { shard = self.old.shard; event = Event.Copy taken }) }
+        ensures step { IfOk result (λ p. p.step ≡ Step.Copied taken.source taken.table taken.place (is_last taken) (last_row taken.rows)) }
+        ensures room { IfOk result (λ p. HasRoomFor self.new.store p.changes.items) }
+        ensures one_step { OnOk result (vec_len self.new.steps < vec_capacity self.new.steps) }
+        ensures err { IfErr result (λ e. e ≡ Refusal.OutOfMemory) }
+        ensures shard { self.new.shard ≡ self.old.shard }
+        ensures rows { self.new.store.rows ≡ self.old.store.rows }
+        ensures mode { self.new.mode ≡ self.old.mode }
+        ensures stored { self.new.stored.items ≡ self.old.stored.items }
+        ensures steps { self.new.steps.items ≡ self.old.steps.items }
+        ensures same_limits { self.new.limits ≡ self.old.limits }
+    {
+        let changes = added(alloc, taken.table, taken.rows.as_slice())?;
+        self.store.reserve_all(changes.as_slice())?;
+        self.steps.reserve(1)?;
+        let step = Step::Copied {
+            source: taken.source,
+            table: taken.table,
+            place: taken.place,
+            last: taken.rows.len() < COPY_STEP,
+            row: last_row(alloc, taken.rows.as_slice())?,
+        };
+        let shard = copy_shard(alloc, &self.shard)?;
+        let event = Event::Copy(taken);
+        Ok(PreparedCopy {
+            entry: Entry { shard, event },
+            changes,
+            step,
+        })
+    }
+
+    // Takes over a Copy for which memory was made. Takes no memory.
+    fn take_copy(&mut self, prepared: PreparedCopy)
+        requires room { HasRoomFor self.old.store prepared.changes.items }
+        requires one_step { vec_len self.old.steps < vec_capacity self.old.steps }
+        ensures rows { self.new.store.rows ≡ all_applied prepared.changes.items self.old.store.rows }
+        ensures stored { self.new.stored ≡ self.old.stored }
+        ensures steps { self.new.steps.items ≡ self.old.steps.items ++ prepared.step ∷ [] }
+        ensures shard { self.new.shard ≡ self.old.shard }
+        ensures mode { self.new.mode ≡ self.old.mode }
+        ensures limits { self.new.limits ≡ self.old.limits }
+    {
+        let PreparedCopy {
+            entry: _,
+            changes,
+            step,
+        } = prepared;
+        self.store.apply(changes);
+        self.steps.push_reserved(step);
+    }
+}
+
+impl<W: World, J: Naming> ShardState<W, J> {
+    // Whether a table is of its keyspace and not wholly copied from the source.
+    fn is_unfinished(&self, schema: &VSchema, source: usize, n: usize) -> bool
+        requires lives { mode W.opening self.now.seen self.now.shard.slot ≡ Mode.Retired → ⊥ }
+        requires there { n < length schema.now.tables }
+        ensures { result ≡ (((table_at schema.now n).keyspace == self.now.shard.place.keyspace) && not (has_copied_all self.now.seen self.now.shard.slot source n)) }
+    {
+        schema.tables.as_slice()[n].keyspace == self.shard().place.keyspace
+            && !self.has_copied(source, n)
+    }
+
+    // The first table of its keyspace, by name, that it hasn't wholly copied from the source.
+    fn next_table(&self, schema: &VSchema, source: usize) -> Option<usize>
+        requires schema { schema.now ≡ W.opening.schema }
+        requires lives { mode W.opening self.now.seen self.now.shard.slot ≡ Mode.Retired → ⊥ }
+        ensures { MatchOption result (HasCopiedAll W.opening self.now.seen self.now.shard source) (IsNextTable W.opening self.now.seen self.now.shard source) }
+    {
+        let mut found = None;
+        for n in 0..schema.tables.len() {
+            if self.is_unfinished(schema, source, n) {
+                found = Some(first_named(schema, n, found));
+            }
+        }
+        found
+    }
+
+    // The last row of the table that it copied from the source, which tells what is copied of it.
+    fn last_copied(&self, source: usize, table: usize) -> Option<&Row>
+        requires lives { mode W.opening self.now.seen self.now.shard.slot ≡ Mode.Retired → ⊥ }
+        requires legal { IsLegal (MayFollow W.opening) self.now.seen }
+        ensures { (row : values.Row) → is_copied W.opening.schema self.now.seen self.now.shard.slot source table row
+            ≡ (has_copied_all self.now.seen self.now.shard.slot source table || is_reached (table_at W.opening.schema table) (option_copied result) row) }
+    {
+        let mut last = None;
+        for step in self.contents.steps.as_slice() {
+            last = match step.row_of(source, table) {
+                Some(row) => Some(row),
+                None => last,
+            };
+        }
+        last
+    }
+
+    // Behind how many of the source's stored entries it stands.
+    fn behind(&self, source: usize) -> Option<u128>
+        requires lives { mode W.opening self.now.seen self.now.shard.slot ≡ Mode.Retired → ⊥ }
+        ensures { result ≡ position self.now.seen self.now.shard.slot source }
+    {
+        match self.last_step(source) {
+            Some(step) => Some(step.behind()),
+            None => None,
+        }
+    }
+
+    // Where it copies on with the source.
+    fn next_rows(
+        &self,
+        alloc: Global,
+        schema: &VSchema,
+        source: usize,
+    ) -> Result<Option<NextTable>, Refusal>
+        requires schema { schema.now ≡ W.opening.schema }
+        requires lives { mode W.opening self.now.seen self.now.shard.slot ≡ Mode.Retired → ⊥ }
+        requires legal { IsLegal (MayFollow W.opening) self.now.seen }
+        ensures next { IfOk result (λ next. MatchOption next (HasCopiedAll W.opening self.now.seen self.now.shard source)
+            (λ n. IsNextTable W.opening self.now.seen self.now.shard source n.table
+            × ((row : values.Row) → is_copied W.opening.schema self.now.seen self.now.shard.slot source n.table row ≡ is_reached (table_at W.opening.schema n.table) n.after row))) }
+        ensures err { IfErr result (λ e. e ≡ Refusal.OutOfMemory) }
+    {
+        let Some(table) = self.next_table(schema, source) else {
+            return Ok(None);
+        };
+        let after = copied(alloc, self.last_copied(source, table))?;
+        Ok(Some(NextTable { table, after }))
+    }
+
+    /// How far a target that follows has come with a source, by its slot. Refuses for want of memory.
+    pub fn progress(
+        &self,
+        alloc: Global,
+        schema: &VSchema,
+        source: usize,
+    ) -> Result<SourceProgress, Refusal>
+        requires schema { schema.now ≡ W.opening.schema }
+        requires following { mode W.opening self.now.seen self.now.shard.slot ≡ Mode.Following }
+        requires legal { IsLegal (MayFollow W.opening) self.now.seen }
+        ensures progress { IfOk result (IsProgress W.opening self.now.seen self.now.shard source) }
+        ensures err { IfErr result (λ e. e ≡ Refusal.OutOfMemory) }
+    {
+        let behind = self.behind(source);
+        let next = self.next_rows(alloc, schema, source)?;
+        Ok(SourceProgress { behind, next })
+    }
+
+    // Whether the row of a table is copied from the source.
+    fn is_copied(&self, schema: &VSchema, source: usize, n: usize, row: &Row) -> bool
+        requires schema { schema.now ≡ W.opening.schema }
+        requires lives { mode W.opening self.now.seen self.now.shard.slot ≡ Mode.Retired → ⊥ }
+        requires legal { IsLegal (MayFollow W.opening) self.now.seen }
+        requires there { n < length schema.now.tables }
+        ensures { result ≡ is_copied W.opening.schema self.now.seen self.now.shard.slot source n row.now }
+    {
+        let last = self.last_copied(source, n);
+        self.has_copied(source, n) || is_reached(&schema.tables.as_slice()[n], last, row)
+    }
+
+    // Whether a change is of a row that is copied from the source.
+    fn change_is_copied(&self, schema: &VSchema, source: usize, change: &RowChange) -> bool
+        requires schema { schema.now ≡ W.opening.schema }
+        requires lives { mode W.opening self.now.seen self.now.shard.slot ≡ Mode.Retired → ⊥ }
+        requires legal { IsLegal (MayFollow W.opening) self.now.seen }
+        requires there { changed_table change.now < length schema.now.tables }
+        ensures { result ≡ change_is_copied W.opening.schema self.now.seen self.now.shard.slot source change.now }
+    {
+        self.is_copied(schema, source, changed_table(change), changed_row(change))
+    }
+
+    /// Of what a source's entry changes in a target's place, the changes of rows that the target has copied from there.
+    pub fn copied_changes(
+        &self,
+        alloc: Global,
+        schema: &VSchema,
+        taken: &Follow,
+    ) -> Result<Follow, Refusal>
+        requires schema { schema.now ≡ W.opening.schema }
+        requires lives { mode W.opening self.now.seen self.now.shard.slot ≡ Mode.Retired → ⊥ }
+        requires legal { IsLegal (MayFollow W.opening) self.now.seen }
+        requires there { AllByRecursion (λ c. changed_table c < length schema.now.tables) taken.now.changes }
+        ensures ok { IfOk result (λ f. f ≡ record taken.now { changes = filter (change_is_copied W.opening.schema self.now.seen self.now.shard.slot taken.now.source) taken.now.changes }) }
+        ensures err { IfErr result (λ e. e ≡ Refusal.OutOfMemory) }
+    {
+        let mut changes = Items::new(alloc);
+        for change in taken.changes.as_slice() {
+            if self.change_is_copied(schema, taken.source, change) {
+                changes.push(copy_change(alloc, change)?)?;
+            }
+        }
+        Ok(Follow {
+            source: taken.source,
+            place: taken.place,
+            changes,
+        })
+    }
+
+    /// What the entry that the shard has stored at a place, counted from 0, changes in a target's place. None where it hasn't stored so
+    /// many. Refuses for want of memory.
+    pub fn entry_for(
+        &self,
+        alloc: Global,
+        schema: &VSchema,
+        place: &Place,
+        at: u64,
+    ) -> Result<Option<Follow>, Refusal>
+        requires schema { schema.now ≡ W.opening.schema }
+        requires lives { mode W.opening self.now.seen self.now.shard.slot ≡ Mode.Retired → ⊥ }
+        requires legal { IsLegal (MayFollow W.opening) self.now.seen }
+        ensures entry { IfOk result (λ r. MatchOption r (length (stored_on self.now.shard.slot self.now.seen) ≤ at)
+            (λ f. (f.place ≡ at) × IsEntryFor W.opening self.now.seen self.now.shard.slot place.now f)) }
+        ensures err { IfErr result (λ e. e ≡ Refusal.OutOfMemory) }
+    {
+        let stored = self.contents.stored.as_slice();
+        if at >= stored.len() as u64 {
+            return Ok(None);
+        }
+        let entry = &stored[at as usize];
+        let changes = restricted_changes(alloc, schema, place, stored_changes(&entry.event))?;
+        Ok(Some(Follow {
+            source: self.slot(),
+            place: at,
+            changes,
+        }))
+    }
+
+    /// The next rows of a table for a target, as a shard that serves has them: of those that lie in the target's place behind the last row
+    /// there, the first 100 by primary key. Refuses for want of memory.
+    pub fn rows_to_copy(
+        &self,
+        alloc: Global,
+        schema: &VSchema,
+        place: &Place,
+        next: &NextTable,
+    ) -> Result<Copied, Refusal>
+        requires schema { schema.now ≡ W.opening.schema }
+        requires formed { IsTrue (is_vschema W.opening.schema) }
+        requires serves { is_serving (mode W.opening self.now.seen self.now.shard.slot) ≡ true }
+        requires legal { IsLegal (MayFollow W.opening) self.now.seen }
+        requires there { next.now.table < length schema.now.tables }
+        ensures copy { IfOk result (λ c. (c.table ≡ next.now.table) × IsCopyFor W.opening self.now.seen self.now.shard place.now next.now.after c) }
+        ensures err { IfErr result (λ e. e ≡ Refusal.OutOfMemory) }
+    {
+        let table = &schema.tables.as_slice()[next.table];
+        let rows = self.contents.store.rows(next.table);
+        let first = first_wanted(alloc, place, table, next.after.as_ref(), rows)?;
+        Ok(Copied {
+            source: self.slot(),
+            table: next.table,
+            place: self.stored(),
+            rows: Items::from_vec(first),
+        })
+    }
+
+    /// Takes over the rows of a Copy that is next for it, on a target that follows: one look, which the pass keeps, and then one entry.
+    /// Refuses for want of memory, and what would pass the limit of entries; then the look was made, and nothing else.
+    pub fn copy(
+        &mut self,
+        alloc: Global,
+        pass: &mut Pass<ShardLaw<W>, J>,
+        taken: Copied,
+    ) -> Result<(), Refusal>
+        requires following { mode W.opening self.old.seen self.old.shard.slot ≡ Mode.Following }
+        requires next { IsNextCopy W.opening pass.old.seen self.old taken }
+        ensures copied { OnOk result ((looked : PassView Entry) × HasLooked W.opening self.old.shard.slot pass.old looked
+            × HasAppended W.opening (record { seen = looked.seen; shard = self.old.shard }) (Event.Copy taken) looked pass.new) }
+        ensures looked { OnErr result (HasLooked W.opening self.old.shard.slot pass.old pass.new) }
+        ensures err { IfErr result (λ e. (e ≡ Refusal.OutOfMemory) ⊎ ((e ≡ Refusal.ShardFull) × (2 ^ 40 ≤ length (entries_on self.old.shard.slot pass.new.seen)))) }
+        ensures seen { self.new.seen ≡ pass.new.seen }
+        ensures shard { self.new.shard ≡ self.old.shard }
+    {
+        let entries = self.seat.look(pass);
+        if entries >= MOST_ENTRIES {
+            return Err(Refusal::ShardFull);
+        }
+        let prepared = self.contents.prepare_copy(alloc, taken)?;
+        self.seat.append(pass, &prepared.entry);
+        self.contents.take_copy(prepared);
+        Ok(())
+    }
+}

@@ -1,0 +1,16 @@
+use Rattle.std.proofs.Common.{ap}
+use Rattle.journal.specs.Views.{PassView}
+use Rattle.shard_run.specs.declared.Entry.{Entry}
+use Rattle.shard_limits.proofs.Here.{here_same, here_written}
+use Rattle.shard_limits.proofs.transactions.write_in.Goals as goal
+
+pub returns-in_err-next_statement-clause-tied : goal.returns-in_err-next_statement-clause-tied
+returns-in_err-next_statement-clause-tied g c =
+    here_same c.args.tx.now c.args.pass.now c.next_statement.new.self (ap (λ (v : PassView Entry). v.seen) c.in_err-next_statement.ensures.unchanged) c.requires.tied
+
+pub returns-clause-tied : goal.returns-clause-tied
+returns-clause-tied g c =
+    let now = c.next_statement.new.self in
+    let here = here_same c.args.tx.now c.args.pass.now now (ap (λ (v : PassView Entry). v.seen) c.in_ok-next_statement.ensures.counted) c.requires.tied in
+    here_written c.args.tx.now c.write_in.new.tx now c.write_in.new.pass c.place.result c.place.ensures here c.args.write c.write_in.result c.requires.typed
+    c.requires.placed c.write_in.ensures.written
