@@ -1,0 +1,31 @@
+use Rattle.std.proofs.Common.{◌≡◌, rules, subst}
+use Rattle.follow.specs.declared.steps.Step.{Step}
+use Rattle.follow.specs.declared.steps.Step.TheVariants.{Level}
+use Rattle.follow.specs.Steps.{HasMoved}
+use Rattle.follow.proofs.Onward.{onward_trans}
+use Rattle.follow.proofs.Moves.{moved_with, level_with, all_level_with}
+use Rattle.follow.proofs.steps.bring_forward_with.Goals as goal
+
+pub returns-then-ne-clause-moved : goal.returns-then-ne-clause-moved
+returns-then-ne-clause-moved g c =
+    moved_with (λ s. s.which) g.W.World.opening c.args.target.now.which c.args.pass.now c.args.sources.now c.loop-source.source-index c.source-item.result
+    c.loop-source-test.true c.source-item.is c.loop-source.pass c.bring_forward.new.pass c.loop-source.invariant.onward c.bring_forward.ensures.onward
+    c.loop-source.invariant.level c.in_ok-step.step c.in_ok-step.ensures.moved
+
+pub loop-source-preserved : goal.loop-source-preserved
+loop-source-preserved g c =
+    let o = g.W.World.opening in
+    let same : c.in_ok-step.step ≡ Level = search rules in
+    record {
+      onward = onward_trans o c.args.pass.now c.loop-source.pass c.bring_forward.new.pass c.loop-source.invariant.onward c.bring_forward.ensures.onward;
+      level =
+          level_with (λ s. s.which) o c.args.target.now.which c.args.pass.now c.args.sources.now c.loop-source.source-index c.source-item.result
+          c.loop-source-test.true c.source-item.is c.loop-source.pass c.bring_forward.new.pass c.loop-source.invariant.onward c.bring_forward.ensures.onward
+          c.loop-source.invariant.level
+          (subst (HasMoved o c.source-item.result.which c.args.target.now.which c.loop-source.pass c.bring_forward.new.pass) same c.in_ok-step.ensures.moved);
+    }
+
+pub returns-clause-moved : goal.returns-clause-moved
+returns-clause-moved g c =
+    all_level_with (λ s. s.which) g.W.World.opening c.args.target.now.which c.args.pass.now c.args.sources.now c.loop-source.source-index c.loop-source.pass
+    c.loop-source-test.false c.loop-source.invariant.onward c.loop-source.invariant.level

@@ -1,0 +1,38 @@
+use Rattle.std.proofs.Common.{◌≡◌, length, sym, ap, subst, ◌∙◌}
+use Rattle.journal.specs.Views.{PassView}
+use Rattle.shard_run.specs.declared.Shard.{Shard}
+use Rattle.shard_run.specs.declared.Entry.{Entry}
+use Rattle.shard_run.specs.declared.Event.TheVariants.{Copy}
+use Rattle.shard_run.specs.Runs.{Run, entries_on}
+use Rattle.shard.specs.Shards.{seat_of}
+use Rattle.shard.specs.Copying.{IsNextCopy}
+use Rattle.shard.proofs.Legality.{legal_is}
+use Rattle.follow.proofs.Onward.{still, looked, has_looked, stepped}
+use Rattle.follow.proofs.Moves.{copy_next}
+use Rattle.follow.proofs.steps.try_copy.Goals as goal
+
+pub copy-requires-clause-next : goal.copy-requires-clause-next
+copy-requires-clause-next g c =
+    let o = g.W.World.opening in
+    let l = c.look-now.ensures in
+    let st = c.look-now.new.self in
+    let target = c.args.target.now in
+    let seen : st.seen ≡ c.look-now.new.pass.seen = sym (ap (λ (x : PassView Entry). x.seen) l.pass) in
+    let same : st.shard ≡ target = c.is.ensures c.if-is.true in
+    let count : c.args.entries ≡ length (entries_on target.slot st.seen) =
+    sym c.if-now-entries.true ∙ l.count ∙ ap (λ (s : Shard). length (entries_on s.slot st.seen)) (sym l.shard ∙ same) in
+    let next = copy_next o c.args.pass.now.seen st.seen l.seen.pass (legal_is o st.seen l.seen.legal) target c.args.entries c.args.taken c.requires.next count in
+    subst (λ (r : Run). IsNextCopy o r st c.args.taken) seen
+    (subst (λ (s : Shard). IsNextCopy o st.seen (record { seen = st.seen; shard = s }) c.args.taken) (sym same) next)
+
+pub returns-in_ok-copy-clause-copied : goal.returns-in_ok-copy-clause-copied
+returns-in_ok-copy-clause-copied g c e =
+    let o = g.W.World.opening in
+    let l = c.look-now.ensures in
+    let st = c.look-now.new.self in
+    let target = c.args.target.now in
+    let same : st.shard ≡ target = c.is.ensures c.if-is.true in
+    let w = c.in_ok-copy.ensures.copied in
+    let first = looked o c.args.pass.now c.args.pass.now c.look-now.new.pass (seat_of c.args.state.now) st.seen _ (still o c.args.pass.now c.requires.legal) l.seen l.pass in
+    stepped o c.args.pass.now w.0 c.copy.new.pass (record { seen = w.0.seen; shard = st.shard }) target (Copy c.args.taken)
+    (has_looked o c.args.pass.now c.look-now.new.pass w.0 st.shard.slot first w.1) w.2 same

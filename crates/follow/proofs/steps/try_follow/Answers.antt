@@ -1,0 +1,57 @@
+use Rattle.std.proofs.Common.{◌≡◌, ◌<◌, length, filter, sym, ap, subst, ◌∙◌}
+use Rattle.std.specs.List.{AllByRecursion}
+use Rattle.vschema.specs.declared.schema.VSchema.{VSchema}
+use Rattle.vschema.specs.declared.changes.RowChange.{RowChange}
+use Rattle.vschema.specs.Database.{changed_table}
+use Rattle.journal.specs.Views.{PassView}
+use Rattle.shard_run.specs.declared.Shard.{Shard}
+use Rattle.shard_run.specs.declared.Follow as F
+use Rattle.shard_run.specs.declared.Entry.{Entry}
+use Rattle.shard_run.specs.declared.Event.TheVariants.{Follow}
+use Rattle.shard_run.specs.Runs.{Run, entries_on}
+use Rattle.shard_run.specs.Copies.{change_is_copied}
+use Rattle.shard.specs.Shards.{IsNext, seat_of}
+use Rattle.shard.proofs.Legality.{legal_is}
+use Rattle.follow.proofs.Onward.{still, looked, has_looked, stepped}
+use Rattle.follow.proofs.Moves.{entry_there, follow_next}
+use Rattle.follow.proofs.steps.try_follow.Goals as goal
+
+pub copied_changes-requires-clause-there : goal.copied_changes-requires-clause-there
+copied_changes-requires-clause-there g c =
+    let o = g.W.World.opening in
+    let l = c.look-now.ensures in
+    let st = c.look-now.new.self in
+    subst (λ (s : VSchema). AllByRecursion (λ (x : RowChange). changed_table x < length s.tables) c.args.taken.now.changes) (sym c.requires.schema)
+    (entry_there o c.args.pass.now.seen st.seen l.seen.pass (legal_is o st.seen l.seen.legal) c.args.target.now c.args.entries c.args.taken.now c.requires.next)
+
+pub follow-requires-clause-next : goal.follow-requires-clause-next
+follow-requires-clause-next g c =
+    let o = g.W.World.opening in
+    let l = c.look-now.ensures in
+    let st = c.look-now.new.self in
+    let target = c.args.target.now in
+    let f = c.args.taken.now in
+    let seen : st.seen ≡ c.look-now.new.pass.seen = sym (ap (λ (x : PassView Entry). x.seen) l.pass) in
+    let same : st.shard ≡ target = c.is.ensures c.if-is.true in
+    let count : c.args.entries ≡ length (entries_on target.slot st.seen) =
+    sym c.if-now-entries.true ∙ l.count ∙ ap (λ (s : Shard). length (entries_on s.slot st.seen)) (sym l.shard ∙ same) in
+    let taken_is = c.in_ok-taken.ensures.ok
+    ∙ ap (λ (s : Shard). record f { changes = filter (change_is_copied o.schema st.seen s.slot f.source) f.changes }) same in
+    let next = follow_next o c.args.pass.now.seen st.seen l.seen.pass (legal_is o st.seen l.seen.legal) target c.args.entries f c.in_ok-taken.taken c.requires.next count taken_is in
+    subst (λ (r : Run). IsNext o r st c.in_ok-taken.taken) seen
+    (subst (λ (s : Shard). IsNext o st.seen (record { seen = st.seen; shard = s }) c.in_ok-taken.taken) (sym same) next)
+
+pub returns-in_ok-follow-clause-followed : goal.returns-in_ok-follow-clause-followed
+returns-in_ok-follow-clause-followed g c e =
+    let o = g.W.World.opening in
+    let l = c.look-now.ensures in
+    let st = c.look-now.new.self in
+    let target = c.args.target.now in
+    let same : st.shard ≡ target = c.is.ensures c.if-is.true in
+    let w = c.in_ok-follow.ensures.followed in
+    let first = looked o c.args.pass.now c.args.pass.now c.look-now.new.pass (seat_of c.args.state.now) st.seen _ (still o c.args.pass.now c.requires.legal) l.seen l.pass in (
+      c.in_ok-taken.taken,
+      ap (λ (x : F.Follow). x.source) c.in_ok-taken.ensures.ok,
+      stepped o c.args.pass.now w.0 c.follow.new.pass (record { seen = w.0.seen; shard = st.shard }) target (Follow c.in_ok-taken.taken)
+          (has_looked o c.args.pass.now c.look-now.new.pass w.0 st.shard.slot first w.1) w.2 same,
+    )

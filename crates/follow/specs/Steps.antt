@@ -1,0 +1,63 @@
+-- What a step of a target with a source leaves in what the pass has seen.
+use Rattle.std.specs.Prelude.{◌≡◌, ◌⊎◌, ◌≤◌, ◌^◌, ℕ, [], ◌∷◌, ◌++◌, length, Some, List}
+use Rattle.std.specs.List.{AllByRecursion}
+use mathlib.Core.List.{IsPrefix}
+use Rattle.journal.specs.Runs.{IsLegal}
+use Rattle.journal.specs.Views.{PassView}
+use Rattle.shard_run.specs.declared.Shard.{Shard}
+use Rattle.shard_run.specs.declared.Event.{Event}
+use Rattle.shard_run.specs.declared.Event.TheVariants as events
+use Rattle.shard_run.specs.declared.Copied as C
+use Rattle.shard_run.specs.declared.Follow as F
+use Rattle.shard_run.specs.declared.Entry.{Entry}
+use Rattle.shard_run.specs.Runs.{Run, Opening, stored_on, entries_on}
+use Rattle.shard_run.specs.Copies.{position}
+use Rattle.shard.specs.Shards.{MayFollow}
+use Rattle.shard.specs.declared.limits.Limits.{Limits}
+use Rattle.shard.specs.Copying.{HasCopiedAll}
+use Rattle.follow.specs.declared.steps.Step.{Step}
+use Rattle.follow.specs.declared.steps.Step.TheVariants.{Copied, Followed, Level}
+
+-- the pass has seen a legal run that begins with what it had seen
+pub record IsOnward (o : Opening) (p now : PassView Entry) : Type 0 where
+  pub legal : IsLegal (MayFollow o) now.seen
+  pub later : IsPrefix p.seen now.seen
+  pub session : now.session ≡ p.session
+
+-- the same, and its run ends with this entry of the shard
+pub record HasStepped (o : Opening) (s : Shard) (event : Event) (p now : PassView Entry) : Type 0 where
+  pub onward : IsOnward o p now
+  pub before : Run
+  pub since : IsPrefix p.seen before
+  pub seen : now.seen ≡ before ++ record { shard = s; event = event } ∷ []
+
+-- a run between what a pass had seen and what it has seen now
+pub record IsBetween (p now : PassView Entry) (run : Run) : Type 0 where
+  pub since : IsPrefix p.seen run
+  pub until : IsPrefix run now.seen
+
+-- After a run the target has copied each table of its keyspace from the source, and stands behind as many entries as the source has stored
+-- after another.
+pub record IsLevel (o : Opening) (source target : Shard) (run looked : Run) : Type 0 where
+  pub copied : HasCopiedAll o run target source.slot
+  pub level : (n : ℕ) → position run target.slot source.slot ≡ Some n → n ≡ length (stored_on source.slot looked)
+
+-- the shard on the slot has as many entries as it may have, or stores as many
+abbrev pub IsFull : Limits → ℕ → Run → Type 0
+IsFull most slot run = (2 ^ 40 ≤ length (entries_on slot run)) ⊎ (most.stored ≤ length (stored_on slot run))
+
+-- What a step of a target with a source does. Either its one entry ends what the pass has seen: a Copy, behind all entries that the source had
+-- stored at a look since the step began, or a Follow. Or there is none, and the target was level with what the source had stored at a look.
+pub data HasMoved (o : Opening) (source target : Shard) (p now : PassView Entry) : Step → Type 0 where
+  copied : (c : C.Copied) → c.source ≡ source.slot → (looked : Run) → IsBetween p now looked → c.place ≡ length (stored_on source.slot looked)
+      → HasStepped o target (events.Copy c) p now → HasMoved o source target p now Copied
+  followed : (f : F.Follow) → f.source ≡ source.slot → HasStepped o target (events.Follow f) p now → HasMoved o source target p now Followed
+  level : IsOnward o p now → (run looked : Run) → IsBetween p now run → IsBetween p now looked → IsLevel o source target run looked
+      → HasMoved o source target p now Level
+
+-- What a step with several sources does, in their order: what one with the first of them that the target isn't level with does, or none is
+-- left.
+pub data HasMovedWith (o : Opening) (sources : List Shard) (target : Shard) (p now : PassView Entry) : Step → Type 0 where
+  one : {step : Step} (before after : List Shard) (source : Shard) → sources ≡ before ++ source ∷ after
+      → AllByRecursion (λ s. HasMoved o s target p now Level) before → HasMoved o source target p now step → HasMovedWith o sources target p now step
+  all_level : IsOnward o p now → AllByRecursion (λ s. HasMoved o s target p now Level) sources → HasMovedWith o sources target p now Level
