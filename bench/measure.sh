@@ -14,4 +14,5 @@ trap 'rm -rf "$work"' EXIT
 "$program" queries "${ROWS:-1000}" rates > "$work/queries"
 "$program" writes "${WRITES:-4000}" rates > "$work/writes"
 python3 "$top/bench/tables.py" "$work" > "$work/page"
+sed -n '/^<!-- bench\/serve.sh begins/,/^<!-- bench\/serve.sh ends/p' "$top/docs/PERFORMANCE.md" >> "$work/page"
 mv "$work/page" "$top/docs/PERFORMANCE.md"

@@ -5,25 +5,25 @@ use std::alloc::Global;
 use std::test::Fail;
 use vt_value::Refusal;
 
-const SALT: [u8; 20] = [
+pub(crate) const SALT: [u8; 20] = [
     0x50, 0x61, 0x4D, 0x61, 0x60, 0x34, 0x72, 0x40, 0x2C, 0x53, 0x6B, 0x25, 0x61, 0x72, 0x4B, 0x65,
     0x29, 0x34, 0x6E, 0x6F,
 ];
 
 /// What the server knows of a password.
-const STAGE2: [u8; 20] = [
+pub(crate) const STAGE2: [u8; 20] = [
     0x97, 0xAD, 0x46, 0x70, 0x07, 0xCD, 0x36, 0x88, 0xBF, 0x0D, 0x92, 0x00, 0xB9, 0xA0, 0x53, 0x48,
     0x3B, 0x24, 0x94, 0xC4,
 ];
 
 /// What the client then answers to the salt.
-const RIGHT: [u8; 20] = [
+pub(crate) const RIGHT: [u8; 20] = [
     0x6A, 0x87, 0xC3, 0x50, 0xAA, 0xA0, 0x1D, 0x80, 0xC3, 0x14, 0x4C, 0x25, 0x6C, 0x5A, 0xAF, 0x40,
     0x2D, 0xED, 0xB2, 0x76,
 ];
 
 /// An answer with these capabilities, and then these bytes.
-fn payload(alloc: Global, capabilities: &[u8; 4], rest: &[u8]) -> Result<Vec<u8>, Fail> {
+pub(crate) fn payload(alloc: Global, capabilities: &[u8; 4], rest: &[u8]) -> Result<Vec<u8>, Fail> {
     let mut payload = Vec::from_slice(alloc, capabilities)?;
     payload.extend_from_slice(b"\x00\x00\x00\x01\x3F")?;
     payload.extend_from_slice(&[0; 23])?;

@@ -4,3 +4,4 @@ pub mod Printing
 pub mod Places
 pub mod Scripts
 pub mod Fits
+pub mod Sent

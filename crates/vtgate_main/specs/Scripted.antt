@@ -1,6 +1,6 @@
 -- What `vtgate script` reads and prints: a VSchema, and lines that are run in order.
-use Rattle.std.specs.Prelude.{◌≡◌, ◌≢◌, ℕ, List, [], ◌∷◌, ◌++◌, length, codes, Some, Ok}
-use Rattle.std.specs.List.{AllByRecursion}
+use Rattle.std.specs.Prelude.{◌≡◌, ◌≢◌, ℕ, List, [], ◌∷◌, ◌++◌, length, Some, Ok, if◌then◌else◌}
+use Rattle.std.specs.List.{AllByRecursion, list_any}
 use Rattle.std.specs.Io.KnownBytes.{Appends, Consumes, IsAtEnd}
 use Rattle.vt_value.specs.declared.refusal.Refusal.{Refusal}
 use Rattle.keyrange.specs.declared.KeyRange.{KeyRange}
@@ -17,7 +17,8 @@ use Rattle.route_engine.specs.Answers.{counted, IsReply, IsRefusal}
 use Rattle.empty_opening.specs.Empty.{opening_of, FitRanges}
 use Rattle.vtgate_lines.specs.Lines.{IsStatementLine, IsAdminLine, IsNextLine}
 use Rattle.vtgate_lines.specs.Partitions.{IsPartition}
-use Rattle.vtgate_lines.specs.Printed.{line, rows_text, count_text, refusal_text}
+use Rattle.serve_lines.specs.Admin.{admin_text, unknown_text}
+use Rattle.vtgate_lines.specs.Printed.{rows_text, count_text, refusal_text}
 use Rattle.vtgate_main.specs.Planned.{Known}
 
 -- what is printed of an answer: its rows, or its count
@@ -59,28 +60,29 @@ pub data Runs (o : Opening) (s : Progress) (name sql : List ℕ) : List ℕ → 
       → Prints o (met s.seen p) sql text now
       → Runs o s name sql text (record { sessions = before ++ record { name = name; pass = now } ∷ after; seen = now.seen })
 
-abbrev pub unknown_text : List ℕ
-unknown_text = line (codes "unknown")
+-- the ranges of the shards that serve the sharded keyspace: without one, none
+abbrev pub serving_ranges : VSchema → List KeyRange → List KeyRange
+serving_ranges schema ranges = if list_any (λ k. k.sharded) schema.keyspaces then ranges else []
 
--- what is printed for a line; there are no admin commands yet
-pub data Gives (o : Opening) (s : Progress) (text : List ℕ) : List ℕ → Progress → Type 0 where
+-- what is printed for a line, where these ranges are served
+pub data Gives (o : Opening) (serving : List KeyRange) (s : Progress) (text : List ℕ) : List ℕ → Progress → Type 0 where
   statement : {printed : List ℕ} {now : Progress} (name sql : List ℕ) → IsStatementLine text name sql → Runs o s name sql printed now
-      → Gives o s text printed now
-  admin : (words : List ℕ) → IsAdminLine text words → Gives o s text unknown_text s
+      → Gives o serving s text printed now
+  admin : (words : List ℕ) → IsAdminLine text words → Gives o serving s text (admin_text serving words) s
   unknown : ((name sql : List ℕ) → IsStatementLine text name sql → ⊥) → ((words : List ℕ) → IsAdminLine text words → ⊥)
-      → Gives o s text unknown_text s
+      → Gives o serving s text unknown_text s
 
 -- what is printed for all lines of an input, in order
-pub data AllGive (o : Opening) : Progress → List ℕ → List ℕ → Progress → Type 0 where
-  none : {s : Progress} → AllGive o s [] [] s
-  next : {s mid now : Progress} {input text rest printed out : List ℕ} → IsNextLine input text rest → Gives o s text printed mid
-      → AllGive o mid rest out now → AllGive o s input (printed ++ out) now
+pub data AllGive (o : Opening) (serving : List KeyRange) : Progress → List ℕ → List ℕ → Progress → Type 0 where
+  none : {s : Progress} → AllGive o serving s [] [] s
+  next : {s mid now : Progress} {input text rest printed out : List ℕ} → IsNextLine input text rest → Gives o serving s text printed mid
+      → AllGive o serving mid rest out now → AllGive o serving s input (printed ++ out) now
 
 -- exactly that was printed
-pub record HasGiven (o : Opening) (input : List ℕ) (taken now : Known) : Type 0 where
+pub record HasGiven (o : Opening) (serving : List KeyRange) (input : List ℕ) (taken now : Known) : Type 0 where
   pub out : List ℕ
   pub last : Progress
-  pub gives : AllGive o at_first input out last
+  pub gives : AllGive o serving at_first input out last
   pub printed : Appends taken now out
 
 -- The input was read to its end. Its first line declares the VSchema, and the others are run over it and the ranges that the word of the
@@ -97,4 +99,4 @@ pub record HasScripted (shards : List ℕ) (unread rest taken now : Known) : Typ
   pub ranges : List KeyRange
   pub partition : IsPartition shards ranges
   pub fit : FitRanges schema ranges
-  pub given : HasGiven (opening_of schema ranges) lines taken now
+  pub given : HasGiven (opening_of schema ranges) (serving_ranges schema ranges) lines taken now

@@ -1,11 +1,6 @@
 -- The words of the command line.
 use Rattle.std.specs.Prelude.{ℕ, Bool, List, [], ◌∷◌, codes, bytes_eq, false}
 
--- the words of the command line that ask for it
-abbrev pub is_first : List (List ℕ) → Bool
-is_first (word ∷ []) = bytes_eq word (codes "first")
-is_first _ = false
-
 -- `plan`, the word of the shards, and a statement
 abbrev pub is_plan : List (List ℕ) → Bool
 is_plan (word ∷ shards ∷ sql ∷ []) = bytes_eq word (codes "plan")

@@ -1,7 +1,7 @@
 //! Why a run has failed.
 ghost use Rattle.std.specs.Prelude.{◌≢◌};
 
-use crate::run::{FAILED, FAILURE, OUT_OF_MEMORY, SUCCESS, USAGE, WRONG_WORDS};
+use crate::run::{CANNOT_BIND, FAILED, FAILURE, OUT_OF_MEMORY, SUCCESS, USAGE, WRONG_WORDS};
 use itoa::Buffer;
 use session::Sink;
 use vschema::SchemaFault;
@@ -19,6 +19,8 @@ pub enum Fault {
     Refused(Refusal),
     /// There is no memory.
     OutOfMemory,
+    /// A port can't be bound.
+    CannotBind,
     /// A device failed.
     Failed,
 }
@@ -51,6 +53,10 @@ pub fn refuse<O: Sink, E: Sink>(fault: Fault, output: &mut O, errors: &mut E) ->
         }
         Fault::OutOfMemory => {
             let _ = errors.write(OUT_OF_MEMORY);
+            FAILURE
+        }
+        Fault::CannotBind => {
+            let _ = errors.write(CANNOT_BIND);
             FAILURE
         }
         Fault::Failed => {

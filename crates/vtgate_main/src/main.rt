@@ -1,17 +1,18 @@
 //! The router's program.
 #![tactic(auto)]
 
+#[cfg(test)]
+mod failing_devices;
 mod fault;
 mod input;
 mod plan;
 mod run;
 mod script;
+mod serve;
 mod sessions;
 mod setup;
 #[cfg(test)]
 mod status_tests;
-#[cfg(test)]
-mod tests;
 
 use run::{FAILED, FAILURE, run};
 use session::{Reader, Sink, Writer};

@@ -7,17 +7,18 @@ ghost use Rattle.shard.specs.Shards.{most_limits};
 ghost use Rattle.empty_opening.specs.Empty.{opening_of, FitRanges};
 ghost use Rattle.vtgate_lines.specs.Lines.{IsNextLine};
 ghost use Rattle.vtgate_lines.specs.Partitions.{IsPartition};
-ghost use Rattle.vtgate_main.specs.Scripted.{HasGiven, HasScripted};
+ghost use Rattle.vtgate_main.specs.Scripted.{HasGiven, HasScripted, serving_ranges};
 
 use crate::fault::{Fault, refuse};
 use crate::input::read_all;
 use crate::run::SUCCESS;
 use crate::sessions::{Sessions, run_lines};
-use crate::setup::{has_too_many, ranges_of, schema_of};
+use crate::setup::{has_too_many, ranges_of, schema_of, serving_ranges};
 use empty_world::empty_router;
 use journal::{Naming, Opened};
 use keyrange::KeyRange;
 use route_engine::Open;
+use serve_lines::Administration;
 use session::{Sink, Source};
 use shard::{ShardLaw, World};
 use std::alloc::Global;
@@ -34,6 +35,7 @@ fn run_opened<W: World + Send + Sync, J: Naming + Send + Sync, R: Threads + Wait
     schema: VSchema,
     ranges: &[KeyRange],
     opened: Opened<ShardLaw<W>>,
+    administration: &Administration<'_>,
     lines: &[u8],
     output: &mut O,
 ) -> Result<(), Fault>
@@ -42,7 +44,8 @@ fn run_opened<W: World + Send + Sync, J: Naming + Send + Sync, R: Threads + Wait
     requires limits { W.limits ≡ most_limits }
     requires schema { IsTrue (is_vschema schema) }
     requires ranges { FitRanges schema ranges.now }
-    ensures { OnOk result (HasGiven (opening_of schema ranges.now) lines.now (O.taken output.old) (O.taken output.new)) }
+    requires serving { administration.now ≡ serving_ranges schema ranges.now }
+    ensures { OnOk result (HasGiven (opening_of schema ranges.now) (serving_ranges schema ranges.now) lines.now (O.taken output.old) (O.taken output.new)) }
 {
     let Ok((engine, opener, pass)) = empty_router::<W, J, Open>(
         alloc, schema, ranges, opened, 0, Open,
@@ -50,7 +53,15 @@ fn run_opened<W: World + Send + Sync, J: Naming + Send + Sync, R: Threads + Wait
         return Err(Fault::OutOfMemory);
     };
     let mut sessions = Sessions::new(alloc, opener, pass);
-    run_lines(rt, alloc, &engine, &mut sessions, lines, output)
+    run_lines(
+        rt,
+        alloc,
+        &engine,
+        administration,
+        &mut sessions,
+        lines,
+        output,
+    )
 }
 
 // The same in the world that begins with this VSchema and these ranges, and no rows.
@@ -59,6 +70,7 @@ fn run_in_world<W: World + Send + Sync, R: Threads + Wait + Sync, O: Sink>(
     alloc: Global,
     schema: VSchema,
     ranges: &[KeyRange],
+    administration: &Administration<'_>,
     lines: &[u8],
     output: &mut O,
 ) -> Result<(), Fault>
@@ -66,12 +78,22 @@ fn run_in_world<W: World + Send + Sync, R: Threads + Wait + Sync, O: Sink>(
     requires limits { W.limits ≡ most_limits }
     requires schema { IsTrue (is_vschema schema) }
     requires ranges { FitRanges schema ranges.now }
-    ensures { OnOk result (HasGiven (opening_of schema ranges.now) lines.now (O.taken output.old) (O.taken output.new)) }
+    requires serving { administration.now ≡ serving_ranges schema ranges.now }
+    ensures { OnOk result (HasGiven (opening_of schema ranges.now) (serving_ranges schema ranges.now) lines.now (O.taken output.old) (O.taken output.new)) }
 {
     let Ok(opened) = Opened::<ShardLaw<W>>::new(alloc) else {
         return Err(Fault::OutOfMemory);
     };
-    run_opened::<W, Brand, R, O>(rt, alloc, schema, ranges, opened, lines, output)
+    run_opened::<W, Brand, R, O>(
+        rt,
+        alloc,
+        schema,
+        ranges,
+        opened,
+        administration,
+        lines,
+        output,
+    )
 }
 
 // The VSchema of the first line, over the ranges, and the other lines.
@@ -95,6 +117,33 @@ fn begin<'l>(
     Ok((schema, lines))
 }
 
+// The lines, run over the VSchema and the ranges.
+fn run_over<R: Threads + Wait + Sync, O: Sink>(
+    rt: &R,
+    alloc: Global,
+    schema: VSchema,
+    ranges: &[KeyRange],
+    lines: &[u8],
+    output: &mut O,
+) -> Result<(), Fault>
+    requires schema { IsTrue (is_vschema schema) }
+    requires ranges { FitRanges schema ranges.now }
+    ensures { OnOk result (HasGiven (opening_of schema ranges.now) (serving_ranges schema ranges.now) lines.now (O.taken output.old) (O.taken output.new)) }
+{
+    match Administration::new(alloc, serving_ranges(&schema, ranges)) {
+        Err(_) => Err(Fault::OutOfMemory),
+        Ok(administration) => run_in_world::<Brand, R, O>(
+            rt,
+            alloc,
+            schema,
+            ranges,
+            &administration,
+            lines,
+            output,
+        ),
+    }
+}
+
 fn scripted<R: Threads + Wait + Sync, I: Source, O: Sink>(
     rt: &R,
     alloc: Global,
@@ -108,7 +157,7 @@ fn scripted<R: Threads + Wait + Sync, I: Source, O: Sink>(
     let ranges = ranges_of(alloc, shards)?;
     let text = read_all(alloc, input)?;
     let (schema, lines) = begin(alloc, &ranges, &text)?;
-    run_in_world::<Brand, R, O>(rt, alloc, schema, &ranges, lines, output)
+    run_over(rt, alloc, schema, &ranges, lines, output)
 }
 
 /// Runs the lines of an input, of which the first declares the VSchema, over the ranges that the word of the shards tells, and gives the

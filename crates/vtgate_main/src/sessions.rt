@@ -4,12 +4,14 @@ ghost use Rattle.std.specs.Io.KnownBytes.{Appends};
 ghost use mathlib.Core.List.{IsPrefix};
 ghost use Rattle.shard.specs.Shards.{most_limits};
 ghost use Rattle.vtgate_lines.specs.Printed.{rows_text, refusal_text};
-ghost use Rattle.vtgate_main.specs.Scripted.{Prints, HasGiven, at_first, met, unknown_text};
+ghost use Rattle.serve_lines.specs.Admin.{unknown_text};
+ghost use Rattle.vtgate_main.specs.Scripted.{Prints, HasGiven, at_first, met};
 ghost use Rattle.vtgate_main.specs.UnderWay.{IsShown, IsTold};
 
 use crate::fault::Fault;
 use journal::{Naming, Opener, Pass};
 use route_engine::{Answer, Engine, Open, Reply};
+use serve_lines::Administration;
 use session::{DeviceFailed, Sink};
 use shard::{ShardLaw, World};
 use std::alloc::Global;
@@ -253,24 +255,25 @@ impl<W: World + Send + Sync, J: Naming + Send + Sync> Sessions<W, J> {
         rt: &R,
         alloc: Global,
         engine: &Engine<W, J, Open>,
+        administration: &Administration<'_>,
         line: &[u8],
         output: &mut O,
     ) -> Result<(), Fault>
         requires limits { W.limits ≡ most_limits }
-        ensures { OnOk result ((text : List ℕ) × Appends (O.taken output.old) (O.taken output.new) text × Gives W.opening self.old line.now text self.new) }
+        ensures { OnOk result ((text : List ℕ) × Appends (O.taken output.old) (O.taken output.new) text × Gives W.opening administration.now self.old line.now text self.new) }
     {
         match read_line(line) {
             Line::Statement(name, sql) => self.run_statement(rt, alloc, engine, name, sql, output),
-            Line::Admin(_) => write_unknown(output),
-            Line::Unknown => write_unknown(output),
+            Line::Admin(words) => write_all(administration.reply(words), output),
+            Line::Unknown => write_all(b"unknown\n", output),
         }
     }
 }
 
-fn write_unknown<O: Sink>(output: &mut O) -> Result<(), Fault>
-    ensures { OnOk result (Appends (O.taken output.old) (O.taken output.new) unknown_text) }
+fn write_all<O: Sink>(text: &[u8], output: &mut O) -> Result<(), Fault>
+    ensures { OnOk result (Appends (O.taken output.old) (O.taken output.new) text.now) }
 {
-    match output.write(b"unknown\n") {
+    match output.write(text) {
         Ok(()) => Ok(()),
         Err(_) => Err(Fault::Failed),
     }
@@ -287,17 +290,18 @@ pub fn run_lines<
     rt: &R,
     alloc: Global,
     engine: &Engine<W, J, Open>,
+    administration: &Administration<'_>,
     sessions: &mut Sessions<W, J>,
     lines: &[u8],
     output: &mut O,
 ) -> Result<(), Fault>
     requires limits { W.limits ≡ most_limits }
     requires first { sessions.old ≡ at_first }
-    ensures { OnOk result (HasGiven W.opening lines.now (O.taken output.old) (O.taken output.new)) }
+    ensures { OnOk result (HasGiven W.opening administration.now lines.now (O.taken output.old) (O.taken output.new)) }
 {
     let mut rest = lines;
     while let Some((line, more)) = next_line(rest) {
-        sessions.run_line(rt, alloc, engine, line, output)?;
+        sessions.run_line(rt, alloc, engine, administration, line, output)?;
         rest = more;
     }
     Ok(())

@@ -1,11 +1,13 @@
-//! Statuses of `plan` and `script`, and devices that fail.
+//! Statuses of runs, and devices that fail.
+use crate::failing_devices::{FailingSink, FailingSource};
 use crate::run::run;
-use crate::tests::pieces::{FailingSink, FailingSource};
 use session::{Reader, Sink, Source, Writer};
 use std::alloc::Global;
+use std::net::{Net, TcpListener, TcpStream};
 use std::sync::Wait;
 use std::test::Fail;
 use std::thread::Threads;
+use std::time::Clock;
 
 /// A sharded and an unsharded keyspace, without tables; only the unsharded one, and only the sharded one.
 const BOTH: &[u8] =
@@ -29,7 +31,7 @@ fn words_of(alloc: Global, words: &[&str]) -> Result<Vec<String>, Fail> {
 }
 
 /// Whether the program leaves this where it is run with these words.
-fn leaves<R: Threads + Wait + Sync>(
+fn leaves<R: Threads + Wait + Sync + Clock + Net<Listener = TcpListener, Stream = TcpStream>>(
     rt: &R,
     alloc: Global,
     words: &[&str],
@@ -79,6 +81,86 @@ fn wrong_words_come_before_the_input(rt: HostRuntime) -> Result<(), Fail> {
     Ok(())
 }
 
+/// Words of `serve`, of which the place is replaced by a wrong one.
+const SERVE: [&str; 10] = [
+    "serve", "-80,80-", "nowhere", "nowhere", "1", "1", "1", "u", "-", "n",
+];
+
+const WRONG: [(usize, &str); 17] = [
+    (0, "first"),
+    (1, ""),
+    (1, "-80"),
+    (4, "0"),
+    (4, "33"),
+    (4, "01"),
+    (4, "+1"),
+    (4, ""),
+    (5, "0"),
+    (5, "1001"),
+    (6, "4294967296"),
+    (6, "-1"),
+    (6, "00"),
+    (8, ""),
+    (8, "2470c0c06dee42fd1618bb99005adca2ec9d1e1"),
+    (8, "2470C0C06DEE42FD1618BB99005ADCA2EC9D1E19"),
+    (8, "2470c0c06dee42fd1618bb99005adca2ec9d1e1g"),
+];
+
+#[test]
+fn each_wrong_word_of_serve_is_refused(rt: HostRuntime) -> Result<(), Fail> {
+    let alloc = rt.alloc();
+    for (place, wrong) in &WRONG {
+        let mut words = SERVE;
+        if let Some(word) = words.get_mut(*place) {
+            *word = wrong;
+        }
+        assert!(rt;
+            leaves(&rt, alloc, &words, b"no VSchema", (2, b"", USAGE))?,
+            "{wrong}"
+        );
+    }
+    assert!(rt; leaves(&rt, alloc, &SERVE[..9], b"no VSchema", (2, b"", USAGE))?);
+    Ok(())
+}
+
+#[test]
+fn a_port_that_cannot_be_bound_ends_serve(rt: HostRuntime) -> Result<(), Fail> {
+    let alloc = rt.alloc();
+    assert!(rt; leaves(&rt, alloc, &SERVE, BOTH, (1, b"", b"cannot bind\n"))?);
+    assert!(rt; leaves(&rt, alloc, &SERVE, b"{", (2, b"", b"VSchema V1\n"))?);
+    Ok(())
+}
+
+#[test]
+fn a_script_tells_its_status(rt: HostRuntime) -> Result<(), Fail> {
+    let alloc = rt.alloc();
+    let mut input = BOTH.to_vec(alloc)?;
+    input.extend_from_slice(b"\n! status\n! status \n! step\n")?;
+    let told = b"serving -80 80- none\nunknown\nunknown\n";
+    assert!(rt; leaves(&rt, alloc, &["script", "80-,-80"], &input, (0, told, b""))?);
+    let mut input = UNSHARDED.to_vec(alloc)?;
+    input.extend_from_slice(b"\n! status")?;
+    assert!(rt;
+        leaves(
+            &rt,
+            alloc,
+            &["script", "-"],
+            &input,
+            (0, b"serving none\n", b"")
+        )?
+    );
+    Ok(())
+}
+
+#[test]
+fn the_program_tells_its_usage(rt: HostRuntime) -> Result<(), Fail> {
+    let alloc = rt.alloc();
+    assert!(rt; leaves(&rt, alloc, &[], b"", (2, b"", USAGE))?);
+    assert!(rt; leaves(&rt, alloc, &["x"], b"", (2, b"", USAGE))?);
+    assert!(rt; leaves(&rt, alloc, &["first"], b"", (2, b"", USAGE))?);
+    Ok(())
+}
+
 /// Inputs whose first line declares no VSchema, and what is told of them.
 const FAULTS: [(&[u8], &[u8]); 5] = [
     (b"", b"VSchema V1\n"),
@@ -111,7 +193,7 @@ fn many(alloc: Global, count: u8) -> Result<String, Fail> {
 }
 
 /// Whether `plan` and `script` take so many ranges under each of the inputs, or tell their usage.
-fn take<R: Threads + Wait + Sync>(
+fn take<R: Threads + Wait + Sync + Clock + Net<Listener = TcpListener, Stream = TcpStream>>(
     rt: &R,
     alloc: Global,
     shards: &str,
@@ -155,12 +237,11 @@ fn an_unsharded_keyspace_leaves_no_room_for_64_ranges(rt: HostRuntime) -> Result
 }
 
 /// Whether a script of which a device fails tells this.
-fn fails<R: Threads + Wait + Sync, I: Source, O: Sink>(
-    rt: &R,
-    alloc: Global,
-    input: &mut I,
-    output: &mut O,
-) -> Result<bool, Fail> {
+fn fails<
+    R: Threads + Wait + Sync + Clock + Net<Listener = TcpListener, Stream = TcpStream>,
+    I: Source,
+    O: Sink,
+>(rt: &R, alloc: Global, input: &mut I, output: &mut O) -> Result<bool, Fail> {
     let words = words_of(alloc, &["script", "-80,80-"])?;
     let mut errors = Writer::new(Vec::new(alloc));
     let status = run(rt, alloc, &words, input, output, &mut errors);

@@ -13,12 +13,23 @@ returns-in-Some-clause-untouched g c shards sql words none =
       c.run_plan.ensures.untouched none_there,
     )
 
-pub returns-clause-unread : goal.returns-clause-unread
-returns-clause-unread g c shards words none =
+pub returns-in-Some-script_words-clause-unread : goal.returns-in-Some-script_words-clause-unread
+returns-in-Some-script_words-clause-unread g c shards words none =
     let found = c.in-Some-script_words.ensures.found in
     let same : c.in-Some-script_words.shards.now ≡ shards = cc (found, words) in
     let none_there : (ranges : List KeyRange) → IsPartition c.in-Some-script_words.shards.now ranges → ⊥ =
     λ ranges p. none ranges (subst (λ (s : List ℕ). IsPartition s ranges) same p) in (
       λ done. let h = c.run_script.ensures.scripted done in none_there h.ranges h.partition,
       c.run_script.ensures.untouched none_there,
+    )
+
+pub returns-clause-unserved : goal.returns-clause-unserved
+returns-clause-unserved g c asking asks none =
+    let found = c.in-Some-read_words.ensures.found.words in
+    let words = asks.words in
+    let same : c.in-Some-read_words.asked.shards ≡ asking.shards = cc (found, words) in
+    let none_there : (ranges : List KeyRange) → IsPartition c.in-Some-read_words.asked.shards ranges → ⊥ =
+    λ ranges p. none ranges (subst (λ (s : List ℕ). IsPartition s ranges) same p) in (
+      λ done. let h = c.run_serve.ensures.served done in none_there h.ranges h.partition,
+      c.run_serve.ensures.untouched none_there,
     )

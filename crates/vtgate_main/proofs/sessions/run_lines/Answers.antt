@@ -10,9 +10,9 @@ pub loop-line-preserved : goal.loop-line-preserved
 loop-line-preserved g c =
     let next = rw c.in-Some.is at c.next_line.ensures.found in
     let ran = c.in_ok-run_line.ensures in
-    one_more _ _ _ _ _ _ _ _ ran.0 _ _ _ c.loop-line.invariant next ran.2 ran.1
+    one_more _ _ _ _ _ _ _ _ _ ran.0 _ _ _ c.loop-line.invariant next ran.2 ran.1
 
 pub returns : goal.returns
 returns g c =
     let none = rw c.in_default.is at c.next_line.ensures.none in
-    ends _ _ _ _ _ _ _ c.requires.first c.loop-line.invariant none
+    ends _ _ _ _ _ _ _ _ c.requires.first c.loop-line.invariant none

@@ -1,0 +1,41 @@
+#!/usr/bin/env bash
+# Measures the router's server beside MariaDB's server and a bare echo of the same bytes, all by one client program over loopback, one cell
+# after the other in one run: point SELECTs, INSERTs, UPDATEs by key, a scatter over 4 shards, and a mix, by 1 to 32 connections. Prints the
+# tables; with --write puts them into docs/PERFORMANCE.md.
+# Usage: bench/serve.sh [--quick] [--write] [--kinds KIND,..] [--connections N,..] [--rounds N] [--seconds S] [--rows N] [PROGRAM]
+# PROGRAM is built by `rt run` in crates/vtgate_main where none is given. Each server has 3 rounds of 1 second a cell; with --quick one of
+# 0.3, with 1, 4 and 32 connections alone. Needs a C compiler; installs Debian's MariaDB server where there is none, and runs it in a
+# folder of its own.
+set -euo pipefail
+top=$(cd "$(dirname "$0")/.." && pwd)
+. "$top/bench/program.sh"
+kinds=point,insert,update,scatter,mix connections=1,2,4,8,16,32 rounds=3 seconds=1 rows=20000 document=() program=''
+while [ $# -gt 0 ]; do
+    case $1 in
+        --write) document=("$top/docs/PERFORMANCE.md") ;;
+        --quick) connections=1,4,32 rounds=1 seconds=0.3 ;;
+        --kinds) kinds=$2 && shift ;;
+        --connections) connections=$2 && shift ;;
+        --rounds) rounds=$2 && shift ;;
+        --seconds) seconds=$2 && shift ;;
+        --rows) rows=$2 && shift ;;
+        -*) echo "no such choice: $1" >&2 && exit 2 ;;
+        *) program=$1 ;;
+    esac
+    shift
+done
+if ! dpkg-query -W mariadb-server mariadb-client > /dev/null 2>&1; then
+    as_root=()
+    [ "$(id -u)" = 0 ] || as_root=(sudo)
+    "${as_root[@]}" apt-get update -qq
+    DEBIAN_FRONTEND=noninteractive "${as_root[@]}" apt-get install -y -qq --no-install-recommends mariadb-server mariadb-client >&2
+fi
+program=$(program_of vtgate_main "$program")
+work=$(mktemp -d)
+trap 'rm -rf "$work"' EXIT
+"${CC:-cc}" -O2 -Wall -Wextra -D_GNU_SOURCE -o "$work/load" "$top/bench/serve/load.c" -lpthread
+python3 "$top/bench/serve/measure.py" "$(realpath "$program")" "$work/load" "$work" \
+    --kinds "$kinds" --connections "$connections" --rounds "$rounds" --seconds "$seconds" --rows "$rows" | tee "$work/cells" >&2
+how="$rounds rounds of $seconds seconds"
+version=$(dpkg-query -W -f '${Version}' mariadb-server)
+python3 "$top/bench/serve/tables.py" "$work/cells" "$how" "$rows" "$version" "${document[@]}"

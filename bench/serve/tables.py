@@ -1,0 +1,87 @@
+"""Writes the cells that measure.py printed as tables. Called by bench/serve.sh with their file, how they were measured, of
+how many rows, and MariaDB's version; with a document too, puts them there between its marks, or at its end where it has none.
+Usage: tables.py CELLS HOW ROWS VERSION [DOCUMENT]"""
+
+import datetime
+import os
+import pathlib
+import sys
+
+BEGIN, END = "<!-- bench/serve.sh begins -->", "<!-- bench/serve.sh ends -->"
+KINDS = {
+    "point": "`SELECT c FROM t WHERE id = N`, of {rows} rows",
+    "insert": "`INSERT INTO t (id, c) VALUES (N, 1000)`, beside {rows} rows",
+    "update": "`UPDATE t SET c = M WHERE id = N`, of {rows} rows",
+    "scatter": "`SELECT id, c FROM few ORDER BY c, id LIMIT 10`, of 100 rows on 4 shards",
+    "mix": "of 20 statements 16 points, 2 updates, 1 insert, 1 scatter",
+}
+HEAD = """## The server
+
+Written by `bench/serve.sh` on {day}, on a machine of {cores} processors. One client program asks each server over loopback, one thread a
+connection, each statement once the last is answered. A cell is the round with the middle rate of {how}, after a quarter of a
+round that isn't counted; the three servers take turns. The router has 4 shards and 32 workers, and keeps rows in memory alone. MariaDB's
+server ({version}) has one InnoDB table for each of the router's, no binary log, and no flush at each commit. The echo
+answers each request with the bytes of the router's reply, and knows nothing else. Rates are statements a second, latencies microseconds;
+client and servers share the processors, so compare ratios, not figures.
+"""
+COLUMNS = ("connections", "router", "50th", "99th", "MariaDB", "50th", "99th", "echo", "50th", "99th", "router : MariaDB", "router : echo")
+
+
+def read_cells(path):
+    cells = {}
+    for line in path.read_text().splitlines():
+        kind, count, server, rate, half, most = line.split()
+        cells.setdefault(kind, {}).setdefault(int(count), {})[server] = (int(rate), int(half), int(most))
+    return cells
+
+
+def row_of(count, servers):
+    row = [count]
+    for name in ("router", "MariaDB", "echo"):
+        rate, half, most = servers[name]
+        row += [rate, f"{half / 1000:.0f}", f"{most / 1000:.0f}"]
+    router = servers["router"][0]
+    return row + [f"{router / servers['MariaDB'][0]:.2f}", f"{router / servers['echo'][0]:.2f}"]
+
+
+def section(cells, how, rows, version):
+    lines = [HEAD.format(day=datetime.date.today(), cores=os.cpu_count(), how=how, version=version)]
+    for kind, counts in cells.items():
+        text = KINDS[kind].format(rows=rows)
+        lines += [f"### {kind[0].upper()}{kind[1:]}", "", f"{text[0].upper()}{text[1:]}.", ""]
+        lines += ["| " + " | ".join(COLUMNS) + " |", "|" + "---|" * len(COLUMNS)]
+        lines += ["| " + " | ".join(map(str, row_of(count, servers))) + " |" for count, servers in counts.items()]
+        lines.append("")
+    return "\n".join(lines)
+
+
+def wishes(cells):
+    """How far the point SELECTs are from what is wished of them."""
+    points = cells.get("point", {})
+    rates = {count: {name: it[0] for name, it in servers.items()} for count, servers in points.items()}
+    if rates:
+        least, count = min((it["router"] / it["MariaDB"], count) for count, it in rates.items())
+        yield f"points: at least {least:.2f} times MariaDB's rate (at {count} connections); the wish is 1.5"
+    if 1 in rates:
+        yield f"points: {rates[1]['router'] / rates[1]['echo']:.2f} of the echo's rate with one connection; the wish is 0.7"
+
+
+def put_between(text, part):
+    if BEGIN not in text:
+        return f"{text.rstrip()}\n\n{BEGIN}\n{part}{END}\n"
+    front, rest = text.split(BEGIN)
+    return f"{front}{BEGIN}\n{part}{END}{rest.split(END)[1]}"
+
+
+def main():
+    cells = read_cells(pathlib.Path(sys.argv[1]))
+    part = section(cells, *sys.argv[2:5])
+    print(*wishes(cells), sep="\n", file=sys.stderr)
+    if len(sys.argv) > 5:
+        document = pathlib.Path(sys.argv[5])
+        document.write_text(put_between(document.read_text(), part))
+    else:
+        print(part, end="")
+
+
+main()

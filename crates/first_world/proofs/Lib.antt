@@ -1,2 +1,0 @@
-pub mod FirstWorld
-pub mod FirstText

@@ -1,0 +1,4 @@
+pub mod Numbers
+pub mod Printables
+pub mod Digests
+pub mod TenWords

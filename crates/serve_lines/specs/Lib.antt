@@ -1,0 +1,3 @@
+pub mod Salts
+pub mod Asking
+pub mod Admin

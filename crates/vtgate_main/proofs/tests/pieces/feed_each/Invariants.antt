@@ -1,6 +1,0 @@
-use Rattle.std.proofs.Common.{IsSome}
-use Rattle.vtgate_main.proofs.tests.pieces.feed_each.Given as goal
-
--- the pass is a session's
-abbrev pub invariant-loop-byte : goal.invariant-loop-byte
-invariant-loop-byte g l = IsSome l.pass.session

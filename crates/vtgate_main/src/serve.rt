@@ -1,0 +1,273 @@
+//! `vtgate serve`: connections over TCP.
+mod admin_port;
+mod client;
+mod connection;
+mod entrance;
+#[cfg(test)]
+mod loopback_tests;
+mod ports;
+
+ghost use Rattle.std.specs.Prelude.{◌≡◌, ℕ, List, IsTrue, IfOk, OnOk};
+ghost use Rattle.std.specs.Io.KnownBytes.{Appends};
+ghost use Rattle.keyrange.specs.declared.KeyRange.{KeyRange};
+ghost use Rattle.vschema.specs.WellFormed.{is_vschema};
+ghost use Rattle.shard.specs.Shards.{most_limits};
+ghost use Rattle.empty_opening.specs.Empty.{opening_of, FitRanges};
+ghost use Rattle.vtgate_lines.specs.Partitions.{IsPartition};
+ghost use Rattle.vtgate_main.specs.Planned.{HasRead};
+ghost use Rattle.vtgate_main.specs.Scripted.{serving_ranges};
+ghost use Rattle.vtgate_main.specs.Served.{HasServed, listening_text};
+
+use crate::fault::{Fault, refuse};
+use crate::input::read_all;
+use crate::run::SUCCESS;
+use crate::serve::connection::Welcome;
+use crate::serve::entrance::Acceptor;
+use crate::serve::ports::{Ports, bind, serve_beside_admin};
+use crate::setup::{has_too_many, ranges_of, schema_of, serving_ranges};
+use empty_world::empty_router;
+use journal::{Naming, Opened, Opener, Pass};
+use keyrange::KeyRange;
+use route_engine::{Engine, Gate, Open};
+use serve_lines::{Administration, Asked};
+use session::{Access, Sink, Source};
+use shard::{ShardLaw, World};
+use std::alloc::Global;
+use std::marker::Brand;
+use std::net::{Net, TcpListener, TcpStream};
+use std::sync::Wait;
+use std::thread::Threads;
+use std::time::Clock;
+use vschema::VSchema;
+use vt_value::Items;
+
+/// What is told once both ports are bound.
+const LISTENING: &[u8] = b"listening\n";
+
+/// After how many connections it ends.
+fn last_connection(asked: &Asked<'_>) -> u32 {
+    if asked.connections == 0 {
+        u32::MAX
+    } else {
+        asked.connections
+    }
+}
+
+fn welcome_of(alloc: Global, asked: &Asked<'_>) -> Result<Welcome, Fault>
+    ensures user { IfOk result (λ w. w.access.user ≡ asked.now.user) }
+    ensures stage2 { IfOk result (λ w. w.access.stage2 ≡ asked.now.stage2) }
+    ensures nonce { IfOk result (λ w. w.nonce ≡ asked.now.nonce) }
+{
+    let Ok(user) = Items::from_slice(alloc, asked.user) else {
+        return Err(Fault::Failed);
+    };
+    let Ok(nonce) = Items::from_slice(alloc, asked.nonce) else {
+        return Err(Fault::Failed);
+    };
+    Ok(Welcome {
+        access: Access {
+            user,
+            stage2: asked.stage2,
+        },
+        nonce,
+    })
+}
+
+/// What a server is told: what the words ask for, whom it lets in, what answers admin lines, and its ports.
+#[derive(Drop)]
+pub struct Setting<'s> {
+    pub asked: &'s Asked<'s>,
+    pub welcome: Welcome,
+    pub administration: Administration<'s>,
+    pub ports: Ports,
+}
+
+/// What a server is told that serves the ranges on the ports.
+pub fn setting_of<'s>(
+    alloc: Global,
+    asked: &'s Asked<'s>,
+    schema: &VSchema,
+    ranges: &'s [KeyRange],
+    ports: Ports,
+) -> Result<Setting<'s>, Fault>
+    ensures asked { IfOk result (λ s. s.asked.now ≡ asked.now) }
+    ensures user { IfOk result (λ s. s.welcome.access.user ≡ asked.now.user) }
+    ensures stage2 { IfOk result (λ s. s.welcome.access.stage2 ≡ asked.now.stage2) }
+    ensures nonce { IfOk result (λ s. s.welcome.nonce ≡ asked.now.nonce) }
+    ensures serving { IfOk result (λ s. s.administration ≡ serving_ranges schema.now ranges.now) }
+{
+    let welcome = welcome_of(alloc, asked)?;
+    match Administration::new(alloc, serving_ranges(schema, ranges)) {
+        Ok(administration) => Ok(Setting {
+            asked,
+            welcome,
+            administration,
+            ports,
+        }),
+        Err(_) => Err(Fault::Failed),
+    }
+}
+
+// Tells that it listens, and serves by the engine.
+fn serve_by<
+    W: World + Send + Sync,
+    J: Naming + Send + Sync,
+    G: Gate,
+    R: Threads + Wait + Sync + Clock,
+    O: Sink,
+>(
+    rt: &R,
+    alloc: Global,
+    engine: &Engine<W, J, G>,
+    opener: Opener<ShardLaw<W>, J>,
+    pass: Pass<ShardLaw<W>, J>,
+    setting: &Setting<'_>,
+    output: &mut O,
+) -> Result<(), Fault>
+    ensures { OnOk result (Appends (O.taken output.old) (O.taken output.new) listening_text) }
+{
+    if output.write(LISTENING).is_err() {
+        return Err(Fault::Failed);
+    }
+    let asked = setting.asked;
+    let last = last_connection(asked);
+    serve_beside_admin(
+        rt,
+        alloc,
+        engine,
+        &setting.welcome,
+        asked.workers,
+        Acceptor::new(&setting.ports.clients, opener, pass, last),
+        &setting.ports.admin,
+        &setting.administration,
+    )
+}
+
+/// Serves over the VSchema and the ranges in the journal that was opened. The gate stands round each shard's read.
+pub fn serve_opened<
+    W: World + Send + Sync,
+    J: Naming + Send + Sync,
+    G: Gate,
+    R: Threads + Wait + Sync + Clock,
+    O: Sink,
+>(
+    rt: &R,
+    alloc: Global,
+    schema: VSchema,
+    ranges: &[KeyRange],
+    opened: Opened<ShardLaw<W>>,
+    gate: G,
+    setting: &Setting<'_>,
+    output: &mut O,
+) -> Result<(), Fault>
+    requires name { opened ≡ J.table }
+    requires opening { W.opening ≡ opening_of schema ranges.now }
+    requires limits { W.limits ≡ most_limits }
+    requires schema { IsTrue (is_vschema schema) }
+    requires ranges { FitRanges schema ranges.now }
+    ensures { OnOk result (Appends (O.taken output.old) (O.taken output.new) listening_text) }
+{
+    let asked = setting.asked;
+    let waiting = u64::from(asked.buffer);
+    match empty_router::<W, J, G>(alloc, schema, ranges, opened, waiting, gate) {
+        Err(_) => Err(Fault::Failed),
+        Ok((engine, opener, pass)) => serve_by(rt, alloc, &engine, opener, pass, setting, output),
+    }
+}
+
+// The same in the world that begins with this VSchema and these ranges, and no rows.
+fn serve_in_world<W: World + Send + Sync, R: Threads + Wait + Sync + Clock, O: Sink>(
+    rt: &R,
+    alloc: Global,
+    schema: VSchema,
+    ranges: &[KeyRange],
+    setting: &Setting<'_>,
+    output: &mut O,
+) -> Result<(), Fault>
+    requires opening { W.opening ≡ opening_of schema ranges.now }
+    requires limits { W.limits ≡ most_limits }
+    requires schema { IsTrue (is_vschema schema) }
+    requires ranges { FitRanges schema ranges.now }
+    ensures { OnOk result (Appends (O.taken output.old) (O.taken output.new) listening_text) }
+{
+    let Ok(opened) = Opened::<ShardLaw<W>>::new(alloc) else {
+        return Err(Fault::Failed);
+    };
+    serve_opened::<W, Brand, Open, R, O>(rt, alloc, schema, ranges, opened, Open, setting, output)
+}
+
+// Binds the ports, and serves over the VSchema and the ranges.
+fn serve_over<
+    R: Threads + Wait + Sync + Clock + Net<Listener = TcpListener, Stream = TcpStream>,
+    O: Sink,
+>(
+    rt: &R,
+    alloc: Global,
+    asked: &Asked<'_>,
+    schema: VSchema,
+    ranges: &[KeyRange],
+    output: &mut O,
+) -> Result<(), Fault>
+    requires schema { IsTrue (is_vschema schema) }
+    requires ranges { FitRanges schema ranges.now }
+    ensures { OnOk result (Appends (O.taken output.old) (O.taken output.new) listening_text) }
+{
+    let ports = bind(rt, asked.address, asked.admin)?;
+    match setting_of(alloc, asked, &schema, ranges, ports) {
+        Err(fault) => Err(fault),
+        Ok(setting) => serve_in_world::<Brand, R, O>(rt, alloc, schema, ranges, &setting, output),
+    }
+}
+
+// The VSchema that the whole input declares, over the ranges.
+fn read_schema<I: Source>(
+    alloc: Global,
+    ranges: &[KeyRange],
+    input: &mut I,
+) -> Result<VSchema, Fault>
+    requires { (word : List ℕ) × IsPartition word ranges.now }
+    ensures read { IfOk result (λ schema. HasRead (I.unread input.old) (I.unread input.new) schema) }
+    ensures formed { IfOk result (λ schema. IsTrue (is_vschema schema)) }
+    ensures fit { IfOk result (λ schema. FitRanges schema ranges.now) }
+{
+    let bytes = read_all(alloc, input)?;
+    let schema = schema_of(alloc, &bytes)?;
+    if has_too_many(&schema, ranges) {
+        return Err(Fault::WrongWords);
+    }
+    Ok(schema)
+}
+
+fn served<
+    R: Threads + Wait + Sync + Clock + Net<Listener = TcpListener, Stream = TcpStream>,
+    I: Source,
+    O: Sink,
+>(rt: &R, alloc: Global, asked: &Asked<'_>, input: &mut I, output: &mut O) -> Result<(), Fault>
+    ensures ok { OnOk result (HasServed asked.now.shards (I.unread input.old) (I.unread input.new) (O.taken output.old) (O.taken output.new)) }
+    ensures untouched { ((ranges : List KeyRange) → IsPartition asked.now.shards ranges → ⊥) → (input.new ≡ input.old) × (output.new ≡ output.old) }
+{
+    let ranges = ranges_of(alloc, asked.shards)?;
+    let schema = read_schema(alloc, &ranges, input)?;
+    serve_over(rt, alloc, asked, schema, &ranges, output)
+}
+
+/// Serves connections as the words ask, under the VSchema that the whole input declares, and gives the status 0 after the last one. The
+/// status is 1 where a port can't be bound, which is told, where no thread could be started, where a device fails and where there is no
+/// memory for what it runs over; and 2 where the word of the shards tells no ranges, or more than 63 beside an unsharded keyspace, and
+/// where the input declares no VSchema.
+pub fn run_serve<
+    R: Threads + Wait + Sync + Clock + Net<Listener = TcpListener, Stream = TcpStream>,
+    I: Source,
+    O: Sink,
+    E: Sink,
+>(rt: &R, alloc: Global, asked: &Asked<'_>, input: &mut I, output: &mut O, errors: &mut E) -> u8
+    ensures served { result ≡ SUCCESS → HasServed asked.now.shards (I.unread input.old) (I.unread input.new) (O.taken output.old) (O.taken output.new) }
+    // A wrong word is refused before anything is read.
+    ensures untouched { ((ranges : List KeyRange) → IsPartition asked.now.shards ranges → ⊥) → input.new ≡ input.old }
+{
+    match served(rt, alloc, asked, input, output) {
+        Ok(()) => SUCCESS,
+        Err(Fault::OutOfMemory) => refuse(Fault::Failed, output, errors),
+        Err(fault) => refuse(fault, output, errors),
+    }
+}

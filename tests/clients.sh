@@ -1,0 +1,20 @@
+#!/usr/bin/env bash
+# Has real clients speak to the router over sockets: the mariadb command line, PyMySQL, go-sql-driver and DBD::mysql each run the statements
+# of tests/clients/statements, and what each shows is compared; then logins, packets, clients that go away, and the admin port.
+# Usage: tests/clients.sh [PROGRAM]   (built by `rt run` in crates/vtgate_main where none is given; installs Debian's packages of the clients)
+set -euo pipefail
+top=$(cd "$(dirname "$0")/.." && pwd)
+. "$top/bench/program.sh"
+packages=(mariadb-client python3-pymysql golang-go golang-github-go-sql-driver-mysql-dev libdbd-mysql-perl libdbd-mariadb-perl)
+if ! dpkg-query -W "${packages[@]}" > /dev/null 2>&1; then
+    as_root=()
+    [ "$(id -u)" = 0 ] || as_root=(sudo)
+    "${as_root[@]}" apt-get update -qq
+    DEBIAN_FRONTEND=noninteractive "${as_root[@]}" apt-get install -y -qq --no-install-recommends "${packages[@]}" >&2
+fi
+program=$(program_of vtgate_main "${1:-}")
+program=$(realpath "$program")
+work=$(mktemp -d)
+trap 'rm -rf "$work"' EXIT
+(cd "$top/tests/clients/go_sql_driver" && GO111MODULE=off GOPATH=/usr/share/gocode go build -o "$work/by_go" .)
+GO_CLIENT=$work/by_go /usr/bin/python3 "$top/tests/clients/run.py" "$program"
