@@ -9,7 +9,7 @@ use crate::lookups::{is_nullable, keys, lacks_column, mismatch, vindex_of, vinde
 use crate::names::is_name;
 use crate::schema::Column;
 use crate::whole::whole_has;
-use crate::write_checks::{has_name, has_twice};
+use crate::write_checks::has_name;
 use sql_tree::Name;
 use vt_value::Items;
 
@@ -35,6 +35,17 @@ fn is_misplaced(sharded: bool, found: &Option<Items<DeclaredKey>>) -> bool
         None => sharded,
         Some(found) => !sharded || found.len() == 0,
     }
+}
+
+fn has_twice(names: &[Name]) -> bool
+    ensures { result ≡ has_twice names.now }
+{
+    for (i, name) in names.iter().enumerate() {
+        if has_name(&names[i + 1..], name) {
+            return true;
+        }
+    }
+    false
 }
 
 fn is_table_ill_formed(keyspace: &DeclaredKeyspace, table: &DeclaredTable) -> bool

@@ -15,6 +15,7 @@ mod parts;
 mod reading;
 mod resolve;
 mod schema;
+mod twice;
 mod whole;
 mod words;
 mod write_checks;

@@ -2,7 +2,7 @@ ghost use Rattle.std.specs.Prelude.{◌≡◌, ◌==◌, not, ◌&&◌, map, zip
 ghost use Rattle.std.specs.List.{list_any};
 ghost use Rattle.vschema.specs.Resolved.{place, places_from};
 ghost use Rattle.vschema.specs.Checks.{is_unknown, has_number};
-ghost use Rattle.vschema.specs.WriteChecks.{has_twice, sets_twice, beside, is_out_of_range, is_too_long, is_key_column};
+ghost use Rattle.vschema.specs.WriteChecks.{beside, is_out_of_range, is_too_long, is_key_column};
 ghost use Rattle.vschema.specs.StoredChecks.{fails};
 
 use crate::checks::{differ, has_number, is_text_type, value_is_text};
@@ -26,36 +26,6 @@ pub fn has_name(names: &[Name], name: &Name) -> bool
     ensures { result ≡ list_any (bytes_eq name.now) names.now }
 {
     names.iter().any(|other| is_name(name, other))
-}
-
-/// Whether a name stands twice.
-pub fn has_twice(names: &[Name]) -> bool
-    ensures { result ≡ has_twice names.now }
-{
-    for (i, name) in names.iter().enumerate() {
-        if has_name(&names[i + 1..], name) {
-            return true;
-        }
-    }
-    false
-}
-
-fn sets_name(assignments: &[Assignment<Name>], name: &Name) -> bool
-    ensures { result ≡ list_any (λ a. bytes_eq name.now a.column) assignments.now }
-{
-    assignments.iter().any(|other| is_name(name, &other.column))
-}
-
-/// Whether SET names a column twice.
-pub fn sets_twice(assignments: &[Assignment<Name>]) -> bool
-    ensures { result ≡ sets_twice assignments.now }
-{
-    for (i, assignment) in assignments.iter().enumerate() {
-        if sets_name(&assignments[i + 1..], &assignment.column) {
-            return true;
-        }
-    }
-    false
 }
 
 /// Whether a row has another number of values than these.

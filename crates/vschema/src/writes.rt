@@ -1,7 +1,7 @@
-ghost use Rattle.std.specs.Prelude.{◌≡◌, ◌⊎◌, ◌==◌, IfOk, IfErr, map, option_map, Ok, Err};
+ghost use Rattle.std.specs.Prelude.{◌≡◌, ◌⊎◌, ◌==◌, IfOk, IfErr, map, option_map, false, Ok, Err};
 ghost use Rattle.vschema.specs.Schema.{place_from};
 ghost use Rattle.vschema.specs.Resolved.{places_from};
-ghost use Rattle.vschema.specs.WriteChecks.{named, insert_places, has_wrong_count, insert_names_unknown, inserted_values, has_other_kind, leaves_out_column, assigned_values, update_names_unknown, update_is_not_supported};
+ghost use Rattle.vschema.specs.WriteChecks.{has_twice, sets_twice, named, insert_places, has_wrong_count, insert_names_unknown, inserted_values, has_other_kind, leaves_out_column, assigned_values, update_names_unknown, update_is_not_supported};
 ghost use Rattle.vschema.specs.TypedWrites.{value_for, whole_row, resolved_assignment, insert_over, update_over, delete_over, unless_refused, stored_checks, insert_checks, update_checks, delete_checks, typed_insert, typed_update, typed_delete};
 ghost use Rattle.vschema.specs.StoredChecks.{fails, unless};
 ghost use Rattle.std.specs.List.{list_any};
@@ -11,9 +11,10 @@ use crate::checks::{filter_mixes, filter_names_unknown, some_unknown};
 use crate::names::table_place;
 use crate::resolve::{place, resolve_filter, resolve_names};
 use crate::schema::{Table, VSchema};
+use crate::twice::{has_twice, sets_twice};
 use crate::write_checks::{
-    StoredCheck, assignments_fail, has_twice, has_wrong_count, leaves_out_column, rows_fail,
-    sets_key, sets_twice, sets_unknown,
+    StoredCheck, assignments_fail, has_wrong_count, leaves_out_column, rows_fail, sets_key,
+    sets_unknown,
 };
 use sql_tree::{Assignment, Delete, Insert, Name, Update};
 use std::alloc::Global;
@@ -95,13 +96,13 @@ fn inserted_refusal(table: &Table, insert: &Insert, places: &[usize]) -> Option<
     }
 }
 
+// The refusal of an INSERT that names no column twice.
 fn insert_refusal(table: &Table, insert: &Insert, places: &[usize]) -> Option<Refusal>
     requires places { places.now ≡ insert_places table.now insert.now.columns }
+    requires once { has_twice (named insert.now.columns) ≡ false }
     ensures { (w : Write) → unless_refused (insert_checks table.now insert.now) w ≡ unless result w }
 {
-    if has_twice(names_of(&insert.columns)) {
-        Some(Refusal::ColumnNamedTwice)
-    } else if has_other_count(table, insert, places) {
+    if has_other_count(table, insert, places) {
         Some(Refusal::WrongValueCount)
     } else if names_unknown(table, insert) {
         Some(Refusal::UnknownColumn)
@@ -187,6 +188,9 @@ fn insert_into(
     ensures err { IfErr result (λ e. (e ≡ Refusal.OutOfMemory)
         ⊎ (unless_refused (insert_checks table.now insert.now) (insert_over place table.now insert.now) ≡ Err e)) }
 {
+    if has_twice(alloc, names_of(&insert.columns))? {
+        return Err(Refusal::ColumnNamedTwice);
+    }
     let places = insert_places(alloc, table, &insert.columns)?;
     if let Some(refusal) = insert_refusal(table, insert, places.as_slice()) {
         return Err(refusal);
@@ -226,12 +230,12 @@ fn assigned_refusal(table: &Table, update: &Update) -> Option<Refusal>
     }
 }
 
+// The refusal of an UPDATE that sets no column twice.
 fn update_refusal(table: &Table, update: &Update) -> Option<Refusal>
+    requires once { sets_twice update.now.assignments ≡ false }
     ensures { (w : Write) → unless_refused (update_checks table.now update.now) w ≡ unless result w }
 {
-    if sets_twice(update.assignments.as_slice()) {
-        Some(Refusal::ColumnNamedTwice)
-    } else if update_names_unknown(table, update) {
+    if update_names_unknown(table, update) {
         Some(Refusal::UnknownColumn)
     } else if update_is_not_supported(table, update) {
         Some(Refusal::NotSupported)
@@ -276,6 +280,9 @@ fn update_of(alloc: Global, place: usize, table: &Table, update: &Update) -> Res
     ensures err { IfErr result (λ e. (e ≡ Refusal.OutOfMemory)
         ⊎ (unless_refused (update_checks table.now update.now) (update_over place table.now update.now) ≡ Err e)) }
 {
+    if sets_twice(alloc, update.assignments.as_slice())? {
+        return Err(Refusal::ColumnNamedTwice);
+    }
     if let Some(refusal) = update_refusal(table, update) {
         return Err(refusal);
     }
