@@ -10,3 +10,4 @@ pub mod Permutations
 pub mod DistinctRows
 pub mod Rejoined
 pub mod SameAnswers
+pub mod PlaceLemmas

@@ -1,15 +1,16 @@
 //! The groups of aggregated queries.
-ghost use Rattle.std.specs.Prelude.{◌≡◌, IfOk, IfErr, map, length};
+ghost use Rattle.std.specs.Prelude.{◌≡◌, IfOk, IfErr, map, length, unwrap_or};
 ghost use Rattle.aggregate.specs.Groups.{AreSummable};
 ghost use Rattle.vschema.specs.Checks.{is_aggregate};
-ghost use Rattle.sql_eval.specs.Grouping.{shown_place, aggregates_of, one_of, part_value, part_row, place_from, item_places, placed_key, grouping_of, group_columns, group_order, grouped};
+ghost use Rattle.vschema.specs.FirstPlaces.{first_place};
+ghost use Rattle.sql_eval.specs.Grouping.{shown_place, aggregates_of, one_of, part_value, part_row, item_places, placed_key, grouping_of, group_columns, group_order, grouped};
 
 use crate::rows::value_at;
 use aggregate::GroupMerge;
 use operators::{Operator, collect, project_row};
 use sql_tree::{Item, Key};
 use std::alloc::Global;
-use vschema::Query;
+use vschema::{FirstPlaces, Query};
 use vt_value::{Items, Refusal, Row, Value, copy};
 
 /// How parts are joined to groups.
@@ -147,15 +148,10 @@ pub fn part_rows(
     Ok(parts)
 }
 
-fn place_of(columns: &[usize], column: usize, other: usize) -> usize
-    ensures { result ≡ place_from 0 other columns.now column }
+fn place_of(columns: &FirstPlaces, column: usize, other: usize) -> usize
+    ensures { result ≡ unwrap_or (first_place columns.now column) other }
 {
-    for (place, named) in columns.iter().enumerate() {
-        if *named == column {
-            return place;
-        }
-    }
-    other
+    columns.get(column).unwrap_or(other)
 }
 
 fn item_places(
@@ -167,6 +163,7 @@ fn item_places(
     ensures ok { IfOk result (λ places. places ≡ item_places other columns.now (length columns.now) items.now) }
     ensures err { IfErr result (λ e. e ≡ Refusal.OutOfMemory) }
 {
+    let first = FirstPlaces::of(alloc, columns)?;
     let mut places = Items::new(alloc);
     let mut next = columns.len();
     for item in items {
@@ -174,7 +171,7 @@ fn item_places(
             places.push(next)?;
             next += 1;
         } else {
-            places.push(place_of(columns, shown_place(item), other))?;
+            places.push(place_of(&first, shown_place(item), other))?;
         }
     }
     Ok(places)
@@ -190,6 +187,26 @@ pub fn group_columns(alloc: Global, query: &Query) -> Result<Items<usize>, Refus
     item_places(alloc, columns, items, columns.len() + items.len())
 }
 
+fn placed_keys(
+    alloc: Global,
+    columns: &[usize],
+    keys: &[Key<usize>],
+    other: usize,
+) -> Result<Items<Key<usize>>, Refusal>
+    ensures ok { IfOk result (λ placed. placed ≡ map (placed_key other columns.now) keys.now) }
+    ensures err { IfErr result (λ e. e ≡ Refusal.OutOfMemory) }
+{
+    let first = FirstPlaces::of(alloc, columns)?;
+    let mut placed = Items::new(alloc);
+    for key in keys {
+        placed.push(Key {
+            column: place_of(&first, key.column, other),
+            descending: key.descending,
+        })?;
+    }
+    Ok(placed)
+}
+
 /// The sort keys of an aggregated query, by the places of their columns in the rows of its groups. Refuses only for want of memory.
 pub fn group_order(alloc: Global, query: &Query) -> Result<Items<Key<usize>>, Refusal>
     ensures ok { IfOk result (λ keys. keys ≡ group_order query.now) }
@@ -197,13 +214,5 @@ pub fn group_order(alloc: Global, query: &Query) -> Result<Items<Key<usize>>, Re
 {
     let columns = query.group_by.as_slice();
     let other = columns.len() + query.items.as_slice().len();
-    let order_by = query.order_by.as_slice();
-    let mut keys = Items::new(alloc);
-    for key in order_by {
-        keys.push(Key {
-            column: place_of(columns, key.column, other),
-            descending: key.descending,
-        })?;
-    }
-    Ok(keys)
+    placed_keys(alloc, columns, query.order_by.as_slice(), other)
 }

@@ -12,3 +12,4 @@ pub mod Json
 pub mod Documents
 pub mod Faults
 pub mod Refused
+pub mod FirstPlaces

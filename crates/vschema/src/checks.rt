@@ -1,13 +1,16 @@
-ghost use Rattle.std.specs.Prelude.{◌≡◌, map, not};
+ghost use Rattle.std.specs.Prelude.{◌≡◌, ◌||◌, map, is_none, IfOk};
 ghost use Rattle.std.specs.List.{list_any};
 ghost use Rattle.vschema.specs.Resolved.{place};
 ghost use Rattle.vschema.specs.Checks.{is_unknown, operand_is_unknown, condition_names_unknown, filter_has, item_names_unknown, list_names_unknown, names_unknown_column};
 ghost use Rattle.vschema.specs.Checks.{is_text_type, value_is_text, column_is_text, operand_is_text, differ, condition_mixes, is_text_sum, sums_text, select_is_not_supported};
-ghost use Rattle.vschema.specs.Checks.{has_number, is_aggregate, is_ungrouped, shows_ungrouped};
+ghost use Rattle.vschema.specs.Checks.{has_number, is_aggregate, shows_ungrouped};
+ghost use Rattle.vschema.specs.FirstPlaces.{first_place, shows_other};
 
+use crate::first_places::FirstPlaces;
 use crate::names::{column_place, is_unknown};
 use crate::schema::{ColumnType, Query, Table};
 use sql_tree::{Condition, Item, Key, Name, Operand, Select, SelectList};
+use std::alloc::{AllocError, Global};
 use vt_value::Value;
 
 fn operand_is_unknown(table: &Table, operand: &Operand<Name>) -> bool
@@ -266,33 +269,41 @@ impl Query {
     }
 }
 
-fn is_ungrouped(group_by: &[usize], item: &Item<usize>) -> bool
-    ensures { result ≡ is_ungrouped group_by.now item.now }
+fn is_ungrouped(grouped: &FirstPlaces, item: &Item<usize>) -> bool
+    ensures { result ≡ shows_other grouped.now item.now }
 {
     match item {
-        Item::Column(place) => !has_number(group_by, *place),
+        Item::Column(place) => grouped.get(*place).is_none(),
         _ => false,
     }
 }
 
-fn some_item_ungrouped(group_by: &[usize], items: &[Item<usize>]) -> bool
-    ensures { result ≡ list_any (is_ungrouped group_by.now) items.now }
+fn some_item_ungrouped(grouped: &FirstPlaces, items: &[Item<usize>]) -> bool
+    ensures { result ≡ list_any (shows_other grouped.now) items.now }
 {
-    items.iter().any(|item| is_ungrouped(group_by, item))
+    items.iter().any(|item| is_ungrouped(grouped, item))
 }
 
-fn some_key_ungrouped(group_by: &[usize], keys: &[Key<usize>]) -> bool
-    ensures { result ≡ list_any (λ k. not (has_number group_by.now k.column)) keys.now }
+fn some_key_ungrouped(grouped: &FirstPlaces, keys: &[Key<usize>]) -> bool
+    ensures { result ≡ list_any (λ k. is_none (first_place grouped.now k.column)) keys.now }
 {
-    keys.iter().any(|key| !has_number(group_by, key.column))
+    keys.iter().any(|key| grouped.get(key.column).is_none())
 }
 
-/// Whether an aggregated query shows a plain column, or orders by one, that isn't in its GROUP BY.
-pub fn shows_ungrouped(query: &Query) -> bool
-    ensures { result ≡ shows_ungrouped query.now }
+fn has_ungrouped(grouped: &FirstPlaces, query: &Query) -> bool
+    ensures { result ≡ list_any (shows_other grouped.now) query.now.items || list_any (λ k. is_none (first_place grouped.now k.column)) query.now.order_by }
 {
-    let group_by = query.group_by.as_slice();
-    query.is_aggregated()
-        && (some_item_ungrouped(group_by, query.items.as_slice())
-            || some_key_ungrouped(group_by, query.order_by.as_slice()))
+    some_item_ungrouped(grouped, query.items.as_slice())
+        || some_key_ungrouped(grouped, query.order_by.as_slice())
+}
+
+/// Whether an aggregated query shows a plain column, or orders by one, that isn't in its GROUP BY. Refuses only for want of memory.
+pub fn shows_ungrouped(alloc: Global, query: &Query) -> Result<bool, AllocError>
+    ensures { IfOk result (λ shows. shows ≡ shows_ungrouped query.now) }
+{
+    if !query.is_aggregated() {
+        return Ok(false);
+    }
+    let grouped = FirstPlaces::of(alloc, query.group_by.as_slice())?;
+    Ok(has_ungrouped(&grouped, query))
 }

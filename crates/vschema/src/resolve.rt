@@ -1,4 +1,5 @@
-ghost use Rattle.std.specs.Prelude.{◌≡◌, ◌⊎◌, IfOk, IfErr, map, slice_get, option_map, Ok, Err};
+ghost use Rattle.std.specs.Prelude.{◌≡◌, ◌⊎◌, IfOk, IfErr, IfSome, IfNone, map, slice_get, option_map, Ok, Err, Some, None, true, false};
+ghost use Rattle.vschema.specs.Checks.{shows_ungrouped};
 ghost use Rattle.vschema.specs.Resolved.{place, places_from, resolved_operand, resolved_condition, resolved_item, resolved_list, resolved_key};
 ghost use Rattle.vschema.specs.TypedStatement.{over, checked, typed_select, typed_statement};
 
@@ -240,6 +241,27 @@ fn query_over(alloc: Global, place: usize, table: &Table, select: &Select) -> Re
     })
 }
 
+fn grouping_refusal(alloc: Global, query: &Query) -> Option<Refusal>
+    ensures none { IfNone result (shows_ungrouped query.now ≡ false) }
+    ensures some { IfSome result (λ r. (r ≡ Refusal.OutOfMemory) ⊎ ((r ≡ Refusal.NotGrouped) × (shows_ungrouped query.now ≡ true))) }
+{
+    match shows_ungrouped(alloc, query) {
+        Ok(false) => None,
+        Ok(true) => Some(Refusal::NotGrouped),
+        Err(failed) => Some(Refusal::from(failed)),
+    }
+}
+
+fn unless_refused(query: Query, refusal: Option<Refusal>) -> Result<Query, Refusal>
+    ensures ok { IfOk result (λ q. (q ≡ query) × (refusal ≡ None)) }
+    ensures err { IfErr result (λ r. refusal ≡ Some r) }
+{
+    match refusal {
+        None => Ok(query),
+        Some(refusal) => Err(refusal),
+    }
+}
+
 fn resolve_over(
     alloc: Global,
     place: usize,
@@ -256,10 +278,8 @@ fn resolve_over(
         return Err(Refusal::NotSupported);
     }
     let query = query_over(alloc, place, table, select)?;
-    if shows_ungrouped(&query) {
-        return Err(Refusal::NotGrouped);
-    }
-    Ok(query)
+    let refusal = grouping_refusal(alloc, &query);
+    unless_refused(query, refusal)
 }
 
 fn resolve_select(alloc: Global, schema: &VSchema, select: &Select) -> Result<Query, Refusal>

@@ -1,8 +1,15 @@
-use Rattle.std.proofs.Common.{inr, sym, ◌∙◌}
-use Rattle.vschema.proofs.Checked.{not_grouped}
+use Rattle.std.proofs.Common.{sym, ◌∙◌}
+use Rattle.vschema.proofs.Checked.{grouped_ok, grouped_err}
 use Rattle.vschema.proofs.resolve.resolve_over.Goals as goal
 
-pub returns-then-shows_ungrouped-clause-err : goal.returns-then-shows_ungrouped-clause-err
-returns-then-shows_ungrouped-clause-err c =
-    inr (not_grouped c.args.place c.args.table.now c.args.select.now c.in_ok-query.query (sym c.names_unknown_column.ensures ∙ c.if-names_unknown_column.false)
-    (sym c.is_not_supported.ensures ∙ c.if-is_not_supported.false) c.in_ok-query.ensures.ok (sym c.shows_ungrouped.ensures ∙ c.if-shows_ungrouped.true))
+pub returns-clause-ok : goal.returns-clause-ok
+returns-clause-ok c =
+    grouped_ok c.args.place c.args.table.now c.args.select.now c.in_ok-query.query c.grouping_refusal-refusal.result c.unless_refused.result
+    (sym c.names_unknown_column.ensures ∙ c.if-names_unknown_column.false) (sym c.is_not_supported.ensures ∙ c.if-is_not_supported.false)
+    c.in_ok-query.ensures.ok c.grouping_refusal-refusal.ensures.none c.unless_refused.ensures.ok
+
+pub returns-clause-err : goal.returns-clause-err
+returns-clause-err c =
+    grouped_err c.args.place c.args.table.now c.args.select.now c.in_ok-query.query c.grouping_refusal-refusal.result c.unless_refused.result
+    (sym c.names_unknown_column.ensures ∙ c.if-names_unknown_column.false) (sym c.is_not_supported.ensures ∙ c.if-is_not_supported.false)
+    c.in_ok-query.ensures.ok c.grouping_refusal-refusal.ensures.some c.unless_refused.ensures.err
