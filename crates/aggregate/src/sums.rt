@@ -11,7 +11,8 @@ use vt_value::{Refusal, Value};
 #[derive(Clone, Copy, Debug)]
 pub struct Sum;
 
-fn number(value: &Value) -> Option<i128>
+/// The part of one value: its number, 0 of a text, none of NULL.
+pub fn number(value: &Value) -> Option<i128>
     ensures { result ≡ present_number value.now }
 {
     match value {
