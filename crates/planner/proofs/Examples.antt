@@ -122,3 +122,7 @@ joined_counts : finish_of by_c
       limit = Some (record { count = 1; offset = 0 });
     }
 joined_counts = refl
+
+-- the unsharded keyspace's own shard is none of these
+apart : taken_places t route.Unsharded (low ∷ high ∷ []) ≡ []
+apart = refl

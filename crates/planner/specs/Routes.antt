@@ -1,6 +1,6 @@
 -- The route of a statement: the shards that it needs, by its condition, as Vitess routes EqualUnique, IN and Scatter.
 -- The conjuncts of a condition are the members of its AND, nested ANDs opened, from the left.
-use Rattle.std.specs.Prelude.{ℕ, Bool, true, false, not, ◌||◌, ◌==◌, List, [], ◌∷◌, map, filter, flat_map, zip, slice_get, slice_index_or, Option, Some, None, if◌then◌else◌}
+use Rattle.std.specs.Prelude.{ℕ, Bool, true, false, not, ◌&&◌, ◌||◌, ◌==◌, List, [], ◌∷◌, map, filter, flat_map, zip, slice_get, slice_index_or, Option, Some, None, if◌then◌else◌}
 use Rattle.std.specs.List.{list_any, list_all}
 use Rattle.vt_value.specs.declared.value.Value.{Value}
 use Rattle.vt_value.specs.declared.value.Comparison.{Comparison}
@@ -157,6 +157,15 @@ takes t (route.EqualUnique v) range = has_id range (id_of t v)
 takes t (route.In values) range = list_any (λ v. has_id range (id_of t v)) values
 takes t route.Scatter range = true
 
--- the places of the ranges that the route takes, in their order
+-- whether a route is to the sharded keyspace
+abbrev pub is_sharded : Route → Bool
+is_sharded route.Unsharded = false
+is_sharded route.None = true
+is_sharded (route.EqualUnique v) = true
+is_sharded (route.In values) = true
+is_sharded route.Scatter = true
+
+-- The places of the sharded keyspace's ranges that the route takes, in their order. The shard of the unsharded keyspace is none of them.
 abbrev pub taken_places : Table → Route → List KeyRange → List ℕ
-taken_places t r ranges = map (λ p. p.0) (filter (λ p. takes t r p.1) (zip (places_from 0 ranges) ranges))
+taken_places t r ranges =
+    map (λ p. p.0) (filter (λ p. is_sharded r && takes t r p.1) (zip (places_from 0 ranges) ranges))

@@ -1,7 +1,7 @@
-ghost use Rattle.std.specs.Prelude.{◌≡◌, IfOk, IfErr};
+ghost use Rattle.std.specs.Prelude.{◌≡◌, ◌&&◌, [], IfOk, IfErr};
 ghost use Rattle.std.specs.List.{list_any};
 ghost use Rattle.keyrange.specs.Ranges.{has_id};
-ghost use Rattle.planner.specs.Routes.{id_of, takes, taken_places};
+ghost use Rattle.planner.specs.Routes.{id_of, is_sharded, takes, taken_places};
 
 use crate::routes::Route;
 use keyrange::KeyRange;
@@ -40,7 +40,17 @@ pub fn takes(table: &Table, route: &Route, range: &KeyRange) -> bool
     }
 }
 
-/// The places of the ranges that the route of a statement on the table takes, in their order. Refuses only for want of memory.
+fn takes_sharded(table: &Table, route: &Route, range: &KeyRange) -> bool
+    ensures { result ≡ is_sharded route.now && takes table.now route.now range.now }
+{
+    match route {
+        Route::Unsharded => false,
+        _ => takes(table, route, range),
+    }
+}
+
+/// The places of the sharded keyspace's ranges that the route of a statement on the table takes, in their order: none for a table of the
+/// unsharded keyspace. Refuses only for want of memory.
 pub fn shards(
     alloc: Global,
     table: &Table,
@@ -48,11 +58,12 @@ pub fn shards(
     ranges: &[KeyRange],
 ) -> Result<Vec<usize>, Refusal>
     ensures ok { IfOk result (λ places. places.items ≡ taken_places table.now route.now ranges.now) }
+    ensures unsharded { IfOk result (λ places. route.now ≡ Route.Unsharded → places.items ≡ []) }
     ensures err { IfErr result (λ e. e ≡ Refusal.OutOfMemory) }
 {
     let mut places = Vec::new(alloc);
     for (place, range) in ranges.iter().enumerate() {
-        if takes(table, route, range) {
+        if takes_sharded(table, route, range) {
             places.push(place)?;
         }
     }
