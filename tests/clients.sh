@@ -1,6 +1,6 @@
 #!/usr/bin/env bash
-# Has real clients speak to the router over sockets: the mariadb command line, PyMySQL, go-sql-driver and DBD::mysql each run the statements
-# of tests/clients/statements, and what each shows is compared; then logins, packets, clients that go away, and the admin port.
+# Has real clients speak to the router over sockets: the mariadb command line, PyMySQL, go-sql-driver, DBD::mysql and DBD::MariaDB each run
+# the statements of tests/clients/statements, and what each shows is compared; then logins, packets, clients that go away, and the admin port.
 # Usage: tests/clients.sh [PROGRAM]   (built by `rt run` in crates/vtgate_main where none is given; installs Debian's packages of the clients)
 set -euo pipefail
 top=$(cd "$(dirname "$0")/.." && pwd)

@@ -28,6 +28,7 @@ use Rattle.sql_tree.specs.declared.Insert as I
 use Rattle.sql_tree.specs.declared.Update as U
 use Rattle.sql_tree.specs.declared.Delete as D
 use Rattle.sql_tree.specs.declared.Statement.{Statement}
+use Rattle.sql_tree.specs.declared.Statement.TheVariants.{SetNames}
 use Rattle.sql_tree.specs.Literals.{Name}
 use Rattle.sql_tree.specs.Printing.{name_text, bracketed, item_text, list_text, filter_text, key_text, clause_text, limit_text, columns_text, row_text, assignment_text, charset_text, select_text, insert_text, update_text, delete_text, printed}
 use Rattle.sql_parser.specs.Grammar.{Lexemes, Listed, Bracketed, Optional, call, max_depth, ReadsName, ReadsLiteral, ReadsItem, ReadsList, ReadsWhere, ReadsGroup, ReadsKey, ReadsOrder, ReadsLimit, ReadsAssignment, ReadsCharacterSet, ReadsSelect, ReadsInsert, ReadsUpdate, ReadsDelete, ReadsStatement, ReadsText, Reads}
@@ -261,6 +262,15 @@ charset_prints : (ts : Lexemes) (x : CharacterSet) → ReadsCharacterSet ts x �
 charset_prints _ _ (g.by_identifier bytes) w = record { says = identifier bytes ∷ []; reads = g.by_identifier bytes; part = one_name bytes w }
 charset_prints _ _ (g.by_text bytes) w = record { says = text bytes ∷ []; reads = g.by_text bytes; part = text_part bytes }
 
+set_prints : (ts : Lexemes) (set : CharacterSet) → ReadsCharacterSet ts set → Words ts → As ReadsStatement (printed (SetNames set)) (SetNames set)
+set_prints ts set r w =
+    let a = charset_prints ts set r w in
+    record {
+      says = keyword k.Set ∷ keyword k.Names ∷ a.says;
+      reads = g.set_names a.reads;
+      part = λ rest ms b x. word k.Set _ _ at_blank ((between_blanks k.Names).says _ _ (a.part rest ms b x));
+    }
+
 statement_prints : (ts : Lexemes) (x : Statement) → ReadsStatement ts x → Words ts → As ReadsStatement (printed x) x
 statement_prints _ _ (g.select_is {ts} {s} r) w = let a = select_prints ts s r w in record { says = a.says; reads = g.select_is a.reads; part = a.part }
 statement_prints _ _ (g.insert_is {ts} {s} r) w = let a = insert_prints ts s r w in record { says = a.says; reads = g.insert_is a.reads; part = a.part }
@@ -270,13 +280,8 @@ statement_prints _ _ g.begin w = record { says = keyword k.Begin ∷ []; reads =
 statement_prints _ _ g.start_transaction w = record { says = keyword k.Begin ∷ []; reads = g.begin; part = word k.Begin }
 statement_prints _ _ g.commit w = record { says = keyword k.Commit ∷ []; reads = g.commit; part = word k.Commit }
 statement_prints _ _ g.rollback w = record { says = keyword k.Rollback ∷ []; reads = g.rollback; part = word k.Rollback }
-statement_prints _ _ (g.set_names {ts} {set} r) w =
-    let a = charset_prints ts set r w in
-    record {
-      says = keyword k.Set ∷ keyword k.Names ∷ a.says;
-      reads = g.set_names a.reads;
-      part = λ rest ms b x. word k.Set _ _ at_blank ((between_blanks k.Names).says _ _ (a.part rest ms b x));
-    }
+statement_prints _ _ (g.set_names {ts} {set} r) w = set_prints ts set r w
+statement_prints _ _ (g.set_setting {name} {ts} {set} named r) w = set_prints ts set r (and_parts (is_word name) (list_all is_named (operator Eq ∷ ts)) w).1
 
 text_prints : (ts : Lexemes) (x : Statement) → ReadsText ts x → Words ts → As ReadsStatement (printed x) x
 text_prints _ _ (g.statement {ts} {s} r) w = statement_prints ts s r w

@@ -1,24 +1,26 @@
 -- The two laws for whole texts: what is read is in the grammar, and what is in the grammar is read.
-use Rattle.std.proofs.Common.{◌≡◌, ◌≤◌, true, [], ◌∷◌, ◌++◌, Some, refl, sym, ap, subst, ◌∙◌, append_assoc, arith, Option}
+use Rattle.std.proofs.Common.{◌≡◌, ◌≤◌, Bool, true, false, if◌then◌else◌, None, [], ◌∷◌, ◌++◌, Some, refl, sym, ap, subst, ◌∙◌, append_assoc, arith, Option}
 use Rattle.std.proofs.lemmas.List.{append-nil}
 use Rattle.std.proofs.lemmas.Bool.{leb-true, le-leb, and_parts}
+use Rattle.vt_value.specs.declared.value.Comparison.TheVariants.{Eq}
 use Rattle.sql_lexer.specs.declared.token.Keyword.TheVariants as k
 use Rattle.sql_lexer.specs.declared.token.Sign.TheVariants.{Semicolon}
-use Rattle.sql_lexer.specs.Lexemes.{keyword, identifier, text, sign}
+use Rattle.sql_lexer.specs.Lexemes.{keyword, identifier, text, sign, operator}
 use Rattle.sql_lexer.specs.Results.{◌>>=◌}
 use Rattle.sql_lexer.proofs.Options.{some_is, bound, guard_some}
 use Rattle.sql_tree.specs.declared.CharacterSet.{CharacterSet}
 use Rattle.sql_tree.specs.declared.CharacterSet.TheVariants as charset
 use Rattle.sql_tree.specs.declared.Select as S
 use Rattle.sql_tree.specs.declared.Statement.{Statement}
-use Rattle.sql_tree.specs.declared.Statement.TheVariants.{Select, Insert, Update, Delete, Begin, Commit, Rollback}
-use Rattle.sql_tree.specs.Literals.{literals_of}
-use Rattle.sql_parser.specs.Grammar.{Lexemes, max_literals, ReadsSelect, ReadsCharacterSet, ReadsStatement, ReadsText}
+use Rattle.sql_tree.specs.declared.Statement.TheVariants.{Select, Insert, Update, Delete, Begin, Commit, Rollback, SetNames}
+use Rattle.sql_tree.specs.Literals.{Name, literals_of}
+use Rattle.sql_parser.specs.Grammar.{Lexemes, max_literals, is_setting, ReadsSelect, ReadsCharacterSet, ReadsStatement, ReadsText}
 use Rattle.sql_parser.specs.Grammar as g
-use Rattle.sql_parser.specs.Reading.{select_at, insert_at, update_at, delete_at, from_at, name_at, charset_at, control_at, statement_at, is_end, is_text, text_at}
+use Rattle.sql_parser.specs.Reading.{select_at, insert_at, update_at, delete_at, from_at, name_at, charset_at, equals_at, setting_at, control_at, statement_at, is_end, is_text, text_at}
 use Rattle.sql_parser.proofs.Sound.{Front, glue}
 use Rattle.sql_parser.proofs.ClauseLaws.{list_sound, from_is, where_sound, group_sound, order_sound, limit_sound, list_again, where_again, group_again, order_again, limit_again}
-use Rattle.sql_parser.proofs.WriteLaws.{insert_sound, update_sound, delete_sound, insert_again, update_again, delete_again}
+use Rattle.sql_parser.proofs.LiteralLaws.{name_is}
+use Rattle.sql_parser.proofs.WriteLaws.{equals_is, insert_sound, update_sound, delete_sound, insert_again, update_again, delete_again}
 use Rattle.sql_parser.proofs.Behind.{Behind, earlier, end, semicolon, group_behind, order_behind, limit_behind}
 
 -- ---- what is read is in the grammar
@@ -55,6 +57,25 @@ charset_sound (text bytes ∷ ts) x e =
     (record { front = text bytes ∷ []; parts = refl; reads = g.by_text bytes })
 charset_sound _ x e = absurd cc
 
+-- what is read where a test is passed
+where_passed : {A : Type 0} (b : Bool) (read : Option A) (x : A) → (if b then read else None) ≡ Some x → (b ≡ true) × (read ≡ Some x)
+where_passed true read x e = (refl, e)
+where_passed false read x e = absurd cc
+
+setting_sound : (ts : Lexemes) (x : Statement × Lexemes) → setting_at ts ≡ Some x → Front ReadsStatement (keyword k.Set ∷ ts) x
+unfolding setting_at
+setting_sound ts x e =
+    bound _ _ _ e (λ name p e1. bound _ _ _ e1 (λ rest q e2. bound _ _ _ e2 (λ set r e3.
+    let named = where_passed (is_setting name.0) (equals_at name.1) rest q in
+    let f = charset_sound rest set r in
+    let behind : name.1 ≡ operator Eq ∷ f.front ++ set.1 = equals_is name.1 rest named.1 ∙ ap (λ (us : Lexemes). operator Eq ∷ us) f.parts in
+    let parts = name_is ts name p ∙ ap (λ (us : Lexemes). identifier name.0 ∷ us) behind in
+    subst (Front ReadsStatement (keyword k.Set ∷ ts)) (some_is _ x e3) (record {
+      front = keyword k.Set ∷ identifier name.0 ∷ operator Eq ∷ f.front;
+      parts = ap (λ (us : Lexemes). keyword k.Set ∷ us) parts;
+      reads = g.set_setting named.0 f.reads;
+    }))))
+
 control_sound : (ts : Lexemes) (x : Statement × Lexemes) → control_at ts ≡ Some x → Front ReadsStatement ts x
 unfolding control_at
 control_sound (keyword k.Begin ∷ ts) x e =
@@ -75,6 +96,7 @@ control_sound (keyword k.Set ∷ keyword k.Names ∷ ts) x e =
       parts = ap (λ (us : Lexemes). keyword k.Set ∷ keyword k.Names ∷ us) f.parts;
       reads = g.set_names f.reads;
     }))
+control_sound (keyword k.Set ∷ ts) x e = setting_sound ts x e
 control_sound _ x e = absurd cc
 
 -- a statement of one kind
@@ -140,7 +162,7 @@ charset_again _ _ (g.by_identifier bytes) rest = refl
 charset_again _ _ (g.by_text bytes) rest = refl
 
 statement_again : (ts : Lexemes) (x : Statement) → ReadsStatement ts x → (rest : Lexemes) → Behind 4 rest → statement_at (ts ++ rest) ≡ Some (x, rest)
-unfolding statement_at control_at
+unfolding statement_at control_at setting_at name_at equals_at
 statement_again _ _ (g.select_is {ts} {s} r) rest b = let m = select_again ts s r rest b in rw (m.1, m.2) refl
 statement_again _ _ (g.insert_is {ts} {s} r) rest b = let m = insert_again ts s r rest (earlier 4 0 (omega arith) rest b) in rw (m.1, m.2) refl
 statement_again _ _ (g.update_is {ts} {s} r) rest b = let m = update_again ts s r rest (earlier 4 1 (omega arith) rest b) in rw (m.1, m.2) refl
@@ -150,6 +172,7 @@ statement_again _ _ g.start_transaction rest b = refl
 statement_again _ _ g.commit rest b = refl
 statement_again _ _ g.rollback rest b = refl
 statement_again _ _ (g.set_names {ts} {set} r) rest b = rw (charset_again ts set r rest) refl
+statement_again _ _ (g.set_setting {name} {ts} {set} named r) rest b = rw (named, charset_again ts set r rest) refl
 
 pub text_again : (ts : Lexemes) (x : Statement) → ReadsText ts x → literals_of x ≤ max_literals → text_at ts ≡ Some x
 unfolding text_at

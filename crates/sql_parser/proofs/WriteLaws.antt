@@ -40,7 +40,7 @@ unfolding set_at
 set_is (keyword k.Set ∷ ts) rest e = ap (λ (us : Lexemes). keyword k.Set ∷ us) (some_is ts rest e)
 set_is _ rest e = absurd cc
 
-equals_is : (ts rest : Lexemes) → equals_at ts ≡ Some rest → ts ≡ operator Eq ∷ rest
+pub equals_is : (ts rest : Lexemes) → equals_at ts ≡ Some rest → ts ≡ operator Eq ∷ rest
 unfolding equals_at
 equals_is (operator Eq ∷ ts) rest e = ap (λ (us : Lexemes). operator Eq ∷ us) (some_is ts rest e)
 equals_is _ rest e = absurd cc

@@ -1,5 +1,7 @@
 -- The grammar of statements, by cases over whole lists of tokens.
-use Rattle.std.specs.Prelude.{ℕ, zero, suc, ◌<◌, ◌≤◌, ◌^◌, true, false, pos, neg_ℤ, List, [], ◌∷◌, ◌++◌, Option, Some, None}
+use Rattle.std.specs.Prelude.{◌≡◌, ℕ, zero, suc, ◌<◌, ◌≤◌, ◌^◌, Bool, true, false, pos, neg_ℤ, List, [], ◌∷◌, ◌++◌, map, codes, bytes_eq, Option, Some, None}
+use Rattle.std.specs.Char.{to_ascii_lowercase}
+use Rattle.std.specs.List.{list_any}
 use Rattle.vt_value.specs.declared.value.Value.{Value}
 use Rattle.vt_value.specs.declared.value.Value.TheVariants.{Null, Int, Bytes}
 use Rattle.vt_value.specs.declared.value.Comparison.{Comparison}
@@ -209,7 +211,15 @@ pub data ReadsDelete : Lexemes → D.Delete → Type 0 where
   delete : {filter_tokens : Lexemes} {table : Name} {filter : Option (Condition Name)} → Optional ReadsWhere filter_tokens filter
       → ReadsDelete (keyword K.Delete ∷ keyword K.From ∷ identifier table ∷ filter_tokens) (record { table = table; filter = filter })
 
--- START TRANSACTION is a second spelling of BEGIN
+-- what clients set to a character set or to a collation beside SET NAMES
+abbrev pub settings : List (List ℕ)
+settings = codes "character_set_server" ∷ codes "collation_connection" ∷ codes "collation_server" ∷ []
+
+-- the name is one of these, in any case
+abbrev pub is_setting : Name → Bool
+is_setting word = list_any (λ setting. bytes_eq (map to_ascii_lowercase word) setting) settings
+
+-- START TRANSACTION is a second spelling of BEGIN, and SET of one of the settings one of SET NAMES: both change nothing.
 pub data ReadsStatement : Lexemes → Statement → Type 0 where
   select_is : {ts : Lexemes} {s : S.Select} → ReadsSelect ts s → ReadsStatement ts (Select s)
   insert_is : {ts : Lexemes} {s : I.Insert} → ReadsInsert ts s → ReadsStatement ts (Insert s)
@@ -220,6 +230,8 @@ pub data ReadsStatement : Lexemes → Statement → Type 0 where
   commit : ReadsStatement (keyword K.Commit ∷ []) Commit
   rollback : ReadsStatement (keyword K.Rollback ∷ []) Rollback
   set_names : {ts : Lexemes} {set : CharacterSet} → ReadsCharacterSet ts set → ReadsStatement (keyword K.Set ∷ keyword K.Names ∷ ts) (SetNames set)
+  set_setting : {name : Name} {ts : Lexemes} {set : CharacterSet} → is_setting name ≡ true → ReadsCharacterSet ts set
+      → ReadsStatement (keyword K.Set ∷ identifier name ∷ operator Eq ∷ ts) (SetNames set)
 
 -- a statement, and at most one semicolon
 pub data ReadsText : Lexemes → Statement → Type 0 where

@@ -27,7 +27,7 @@ use Rattle.sql_tree.specs.declared.Delete as D
 use Rattle.sql_tree.specs.declared.Statement.{Statement}
 use Rattle.sql_tree.specs.declared.Statement.TheVariants.{Select, Insert, Update, Delete, Begin, Commit, Rollback, SetNames}
 use Rattle.sql_tree.specs.Literals.{Name, literals_of}
-use Rattle.sql_parser.specs.Grammar.{Lexemes, max_depth, max_literals}
+use Rattle.sql_parser.specs.Grammar.{Lexemes, max_depth, max_literals, is_setting}
 
 -- what is read at the front, and what stands behind it
 abbrev pub Read : Type 0 → Type 0
@@ -304,6 +304,14 @@ charset_at (identifier bytes ∷ rest) = Some (charset.Identifier bytes, rest)
 charset_at (text bytes ∷ rest) = Some (charset.Text bytes, rest)
 charset_at _ = None
 
+-- a setting, = and what it is set to, behind SET
+unfoldable pub setting_at : Lexemes → Read Statement
+setting_at ts = do
+  name ← name_at ts
+  rest ← if is_setting name.0 then equals_at name.1 else None
+  set ← charset_at rest
+  Some (SetNames set.0, set.1)
+
 -- a statement of sessions and transactions
 unfoldable pub control_at : Lexemes → Read Statement
 control_at (keyword k.Begin ∷ rest) = Some (Begin, rest)
@@ -311,6 +319,7 @@ control_at (keyword k.Start ∷ keyword k.Transaction ∷ rest) = Some (Begin, r
 control_at (keyword k.Commit ∷ rest) = Some (Commit, rest)
 control_at (keyword k.Rollback ∷ rest) = Some (Rollback, rest)
 control_at (keyword k.Set ∷ keyword k.Names ∷ rest) = charset_at rest >>= λ set. Some (SetNames set.0, set.1)
+control_at (keyword k.Set ∷ rest) = setting_at rest
 control_at _ = None
 
 unfoldable pub statement_at : Lexemes → Read Statement

@@ -1,10 +1,11 @@
-ghost use Rattle.std.specs.Prelude.{◌≡◌, ◌⊎◌, ℕ, IfOk, IfErr, MatchResult, List};
+ghost use Rattle.std.specs.Prelude.{◌≡◌, ◌⊎◌, ℕ, IfOk, IfErr, MatchResult, List, map, bytes_eq};
+ghost use Rattle.std.specs.Char.{to_ascii_lowercase};
 ghost use Rattle.sql_lexer.specs.Lexemes.{lexemes_of};
 ghost use Rattle.sql_lexer.specs.Results.{Gives};
 ghost use Rattle.sql_tree.specs.declared.Statement.{Statement};
 ghost use Rattle.sql_tree.specs.Printing.{printed};
-ghost use Rattle.sql_parser.specs.Grammar.{Reads};
-ghost use Rattle.sql_parser.specs.Reading.{select_at, charset_at, control_at, statement_at, is_end, is_text, text_at};
+ghost use Rattle.sql_parser.specs.Grammar.{Reads, is_setting};
+ghost use Rattle.sql_parser.specs.Reading.{select_at, charset_at, setting_at, control_at, statement_at, is_end, is_text, text_at};
 
 use crate::clauses::{filter, from, group, limit, order};
 use crate::counting::has_few_literals;
@@ -13,8 +14,9 @@ use crate::kinds::{
     BEGIN, COMMIT, DELETE, INSERT, INTO, NAMES, ROLLBACK, SELECT, SEMICOLON, SET, START,
     TRANSACTION, UPDATE,
 };
+use crate::names::name;
 use crate::said;
-use crate::writes::{delete, insert, update};
+use crate::writes::{delete, equals, insert, update};
 use sql_lexer::{Token, TokenKind, lex};
 use sql_tree::{CharacterSet, Select, Statement};
 use std::alloc::Global;
@@ -87,7 +89,42 @@ fn character_set<'s>(
     }
 }
 
-/// BEGIN | START TRANSACTION | COMMIT | ROLLBACK | SET NAMES (identifier | string)
+fn is_in_any_case(name: &[u8], word: &[u8]) -> bool
+    ensures { result ≡ bytes_eq (map to_ascii_lowercase name.now) (map to_ascii_lowercase word.now) }
+{
+    name.eq_ignore_ascii_case(word)
+}
+
+/// Whether a name is one of those that clients set to a character set or to a collation beside SET NAMES.
+fn is_setting(name: &[u8]) -> bool
+    ensures { result ≡ is_setting name.now }
+{
+    is_in_any_case(name, b"character_set_server")
+        || is_in_any_case(name, b"collation_connection")
+        || is_in_any_case(name, b"collation_server")
+}
+
+/// setting = (identifier | string), behind SET.
+#[tactic(auto, unfolding(crate::specs::Reading::setting_at))]
+fn setting<'s>(
+    alloc: Global,
+    text: &[u8],
+    tokens: &'s [Token],
+) -> Result<(Statement, &'s [Token]), Refusal>
+    ensures { Gives (λ x. (x.0, lexemes_of text.now x.1.now)) result (setting_at (lexemes_of text.now tokens.now)) }
+{
+    let (name, rest) = name(alloc, text, tokens)?;
+    let is_known = is_setting(name.as_slice());
+    drop(name);
+    if !is_known {
+        return Err(Refusal::SyntaxError);
+    }
+    let rest = equals(rest)?;
+    let (set, rest) = character_set(alloc, text, rest)?;
+    Ok((Statement::SetNames(set), rest))
+}
+
+/// BEGIN | START TRANSACTION | COMMIT | ROLLBACK | SET NAMES (identifier | string) | SET setting = (identifier | string)
 #[tactic(auto, unfolding(crate::specs::Reading::control_at))]
 fn control<'s>(
     alloc: Global,
@@ -116,6 +153,7 @@ fn control<'s>(
             let (set, rest) = character_set(alloc, text, rest)?;
             Ok((Statement::SetNames(set), rest))
         }
+        [Token { kind: SET, .. }, rest @ ..] => setting(alloc, text, rest),
         _ => Err(Refusal::SyntaxError),
     }
 }

@@ -40,7 +40,7 @@ fn set(tokens: &[Token]) -> Result<&[Token], Refusal>
 
 /// What stands behind `=`.
 #[tactic(auto, unfolding(crate::specs::Reading::equals_at))]
-fn equals(tokens: &[Token]) -> Result<&[Token], Refusal>
+pub fn equals(tokens: &[Token]) -> Result<&[Token], Refusal>
     ensures { (text : List ℕ)
         → Gives (λ rest. lexemes_of text rest.now) result (equals_at (lexemes_of text tokens.now)) }
 {
