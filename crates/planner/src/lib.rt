@@ -4,6 +4,7 @@
 mod conjuncts;
 mod copies;
 mod finishing;
+mod members;
 mod pieces;
 mod planning;
 mod plans;
@@ -11,6 +12,7 @@ mod routes;
 mod taking;
 
 pub use copies::copy_items;
+pub use members::{Member, Members};
 pub use planning::plan;
 pub use plans::{Finish, Plan};
 pub use routes::{Route, write_route};

@@ -1,14 +1,15 @@
 //! The query that each shard answers: under IN the members are cut to the shard's own.
-ghost use Rattle.std.specs.Prelude.{◌≡◌, ◌&&◌, IfOk, IfErr, map, flat_map, filter, is_some, Some, if◌then◌else◌};
+ghost use Rattle.std.specs.Prelude.{◌≡◌, ◌&&◌, IsTrue, IfSome, IfOk, IfErr, map, flat_map, filter, is_some, Some, if◌then◌else◌};
 ghost use Rattle.std.specs.List.{list_any};
 ghost use Rattle.keyrange.specs.Ranges.{has_id};
 ghost use Rattle.planner.specs.Routes.{among, first_of, type_at, is_held, id_of};
 ghost use Rattle.planner.specs.Plans.{has_among, first_cut, cut_in, cut_by, cut_of, is_member_of, shard_filter, piece_of};
 
 use crate::copies::{copy_condition, copy_items, copy_keys, copy_operand, copy_places};
+use crate::members::Member;
 use crate::plans::Plan;
 use crate::routes::{Route, is_held, type_at};
-use crate::taking::has_value;
+use crate::taking::{has_member, has_value};
 use keyrange::KeyRange;
 use sql_tree::{Condition, Operand};
 use std::alloc::Global;
@@ -45,13 +46,45 @@ struct Home<'h> {
     table: &'h Table,
     vindex: ColumnVindex,
     range: &'h KeyRange,
+    /// The values of the route, in the order in which the members come.
+    known: &'h [Member],
 }
 
-fn is_own(home: &Home, value: &Value) -> bool
+// Whether both are the same text.
+fn is_same_text(a: &Value, b: &Value) -> bool
+    ensures { IsTrue result → a.now ≡ b.now }
+{
+    match (a, b) {
+        (Value::Bytes(a), Value::Bytes(b)) => a.as_slice() == b.as_slice(),
+        _ => false,
+    }
+}
+
+// What is known of a value: the member at a place, where it has this value.
+fn known_at<'k>(known: &'k [Member], at: usize, value: &Value) -> Option<&'k Member>
+    ensures { IfSome result (λ member. member.now.value ≡ value.now) }
+{
+    match known.get(at) {
+        Some(member) if is_same_text(&member.value, value) => Some(member),
+        _ => None,
+    }
+}
+
+fn is_in_range(home: &Home, value: &Value, known: Option<&Member>) -> bool
+    requires { IfSome known (λ member. member.now.value ≡ value.now) }
+    ensures { result ≡ has_id home.now.range.now (id_of home.now.table.now value.now) }
+{
+    match known {
+        Some(member) => has_member(home.table, home.range, member),
+        None => has_value(home.table, home.range, value),
+    }
+}
+
+fn is_own(home: &Home, value: &Value, known: Option<&Member>) -> bool
+    requires { IfSome known (λ member. member.now.value ≡ value.now) }
     ensures { result ≡ is_member_of home.now.table.now home.now.vindex home.now.range.now value.now }
 {
-    is_held(type_at(home.table, home.vindex.column), value)
-        && has_value(home.table, home.range, value)
+    is_held(type_at(home.table, home.vindex.column), value) && is_in_range(home, value, known)
 }
 
 fn own_members(alloc: Global, home: &Home, members: &[Value]) -> Result<Items<Value>, Refusal>
@@ -59,8 +92,13 @@ fn own_members(alloc: Global, home: &Home, members: &[Value]) -> Result<Items<Va
     ensures err { IfErr result (λ e. e ≡ Refusal.OutOfMemory) }
 {
     let mut list = Items::new(alloc);
+    let mut at = 0;
     for member in members {
-        if is_own(home, member) {
+        let known = known_at(home.known, at, member);
+        if known.is_some() {
+            at += 1;
+        }
+        if is_own(home, member, known) {
             list.push(copy(alloc, member)?)?;
         }
     }
@@ -157,11 +195,12 @@ fn shard_condition(
     ensures err { IfErr result (λ e. e ≡ Refusal.OutOfMemory) }
 {
     match (route, table.vindex) {
-        (Route::In(_), Some(vindex)) => {
+        (Route::In(values), Some(vindex)) => {
             let home = Home {
                 table,
                 vindex,
                 range,
+                known: values.as_slice(),
             };
             cut_condition(alloc, &home, condition)
         }

@@ -4,10 +4,12 @@ ghost use Rattle.vschema.specs.WriteChecks.{is_out_of_range, is_too_long};
 ghost use Rattle.planner.specs.Routes.{type_at, is_held, route_among, route_by, sharded_route, filter_route, route_of, insert_route, write_route};
 
 use crate::conjuncts::{first_among, first_equal, is_never, is_null};
+use crate::members::Members;
 use sql_tree::Condition;
 use std::alloc::Global;
-use vschema::{ColumnType, Table, VSchema, Write};
-use vt_value::{Items, Refusal, Row, Value, copy};
+use vindex::AnyVindex;
+use vschema::{ColumnType, ColumnVindex, Table, VSchema, Write};
+use vt_value::{Refusal, Row, Value, copy};
 
 /// Which shards of its keyspace a statement needs.
 #[derive(Drop)]
@@ -19,7 +21,7 @@ pub enum Route {
     /// The shard of this value of the vindex column.
     EqualUnique(Value),
     /// The shards of these values of the vindex column.
-    In(Items<Value>),
+    In(Members),
     /// Every shard.
     Scatter,
 }
@@ -62,26 +64,36 @@ pub fn is_held(kind: ColumnType, value: &Value) -> bool
     !(is_null(value) || is_out_of_range(kind, value) || is_too_long(kind, value))
 }
 
-/// Copies of the values that a column of the type may hold.
-fn held(alloc: Global, kind: ColumnType, values: &[Value]) -> Result<Items<Value>, Refusal>
+/// Copies of the values that a column of the type may hold, on which this vindex is.
+fn held(
+    alloc: Global,
+    vindex: AnyVindex,
+    kind: ColumnType,
+    values: &[Value],
+) -> Result<Members, Refusal>
     ensures ok { IfOk result (λ list. list ≡ filter (is_held kind) values.now) }
     ensures err { IfErr result (λ e. e ≡ Refusal.OutOfMemory) }
 {
-    let mut list = Items::new(alloc);
+    let mut list = Members::new(alloc);
     for value in values {
         if is_held(kind, value) {
-            list.push(copy(alloc, value)?)?;
+            list.push(vindex, copy(alloc, value)?)?;
         }
     }
     Ok(list)
 }
 
-fn route_among(alloc: Global, kind: ColumnType, members: &[Value]) -> Result<Route, Refusal>
+fn route_among(
+    alloc: Global,
+    vindex: AnyVindex,
+    kind: ColumnType,
+    members: &[Value],
+) -> Result<Route, Refusal>
     ensures ok { IfOk result (λ route. route ≡ route_among (filter (is_held kind) members.now)) }
     ensures err { IfErr result (λ e. e ≡ Refusal.OutOfMemory) }
 {
-    let values = held(alloc, kind, members)?;
-    if values.as_slice().is_empty() {
+    let values = held(alloc, vindex, kind, members)?;
+    if values.is_empty() {
         Ok(Route::None)
     } else {
         Ok(Route::In(values))
@@ -90,13 +102,14 @@ fn route_among(alloc: Global, kind: ColumnType, members: &[Value]) -> Result<Rou
 
 fn sharded_route(
     alloc: Global,
-    column: usize,
+    vindex: ColumnVindex,
     kind: ColumnType,
     condition: &Condition<usize>,
 ) -> Result<Route, Refusal>
-    ensures ok { IfOk result (λ route. route ≡ sharded_route column kind condition.now) }
+    ensures ok { IfOk result (λ route. route ≡ sharded_route vindex.column kind condition.now) }
     ensures err { IfErr result (λ e. e ≡ Refusal.OutOfMemory) }
 {
+    let column = vindex.column;
     if is_never(condition) {
         return Ok(Route::None);
     }
@@ -107,7 +120,7 @@ fn sharded_route(
         return Ok(Route::None);
     }
     match first_among(alloc, column, condition)? {
-        Some(members) => route_among(alloc, kind, members.as_slice()),
+        Some(members) => route_among(alloc, vindex.vindex, kind, members.as_slice()),
         None => Ok(Route::Scatter),
     }
 }
@@ -127,7 +140,7 @@ pub fn route_of(
     match filter {
         Some(condition) => {
             let kind = type_at(table, vindex.column);
-            sharded_route(alloc, vindex.column, kind, condition)
+            sharded_route(alloc, vindex, kind, condition)
         }
         None => Ok(Route::Scatter),
     }
@@ -143,13 +156,13 @@ fn value_at(alloc: Global, row: &Row, place: usize) -> Result<Value, Refusal>
     }
 }
 
-fn values_at(alloc: Global, rows: &[Row], place: usize) -> Result<Items<Value>, Refusal>
-    ensures ok { IfOk result (λ list. list ≡ map (λ row. value_at row place) rows.now) }
+fn values_at(alloc: Global, rows: &[Row], vindex: ColumnVindex) -> Result<Members, Refusal>
+    ensures ok { IfOk result (λ list. list ≡ map (λ row. value_at row vindex.column) rows.now) }
     ensures err { IfErr result (λ e. e ≡ Refusal.OutOfMemory) }
 {
-    let mut list = Items::new(alloc);
+    let mut list = Members::new(alloc);
     for row in rows {
-        list.push(value_at(alloc, row, place)?)?;
+        list.push(vindex.vindex, value_at(alloc, row, vindex.column)?)?;
     }
     Ok(list)
 }
@@ -161,7 +174,7 @@ fn insert_route(alloc: Global, table: &Table, rows: &[Row]) -> Result<Route, Ref
     match table.vindex {
         None => Ok(Route::Unsharded),
         Some(vindex) => {
-            let values = values_at(alloc, rows, vindex.column)?;
+            let values = values_at(alloc, rows, vindex)?;
             Ok(Route::In(values))
         }
     }

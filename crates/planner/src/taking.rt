@@ -3,9 +3,11 @@ ghost use Rattle.std.specs.List.{list_any};
 ghost use Rattle.keyrange.specs.Ranges.{has_id};
 ghost use Rattle.planner.specs.Routes.{id_of, is_sharded, takes, taken_places};
 
+use crate::members::Member;
 use crate::routes::Route;
 use keyrange::KeyRange;
 use std::alloc::Global;
+use vindex::AnyVindex;
 use vschema::Table;
 use vt_value::{Refusal, Value};
 
@@ -22,10 +24,24 @@ pub fn has_value(table: &Table, range: &KeyRange, value: &Value) -> bool
     }
 }
 
-fn has_one_of(table: &Table, range: &KeyRange, values: &[Value]) -> bool
-    ensures { result ≡ list_any (λ v. has_id range.now (id_of table.now v)) values.now }
+/// The same of a value whose digest may be known.
+pub fn has_member(table: &Table, range: &KeyRange, member: &Member) -> bool
+    ensures { result ≡ has_id range.now (id_of table.now member.now.value) }
 {
-    values.iter().any(|value| has_value(table, range, value))
+    match (table.vindex, &member.digest) {
+        (Some(vindex), Some(digest)) if vindex.vindex == AnyVindex::BinaryMd5 => {
+            range.contains(digest)
+        }
+        _ => has_value(table, range, &member.value),
+    }
+}
+
+fn has_one_of(table: &Table, range: &KeyRange, members: &[Member]) -> bool
+    ensures { result ≡ list_any (λ m. has_id range.now (id_of table.now m.value)) members.now }
+{
+    members
+        .iter()
+        .any(|member| has_member(table, range, member))
 }
 
 /// Whether the route of a statement on the table takes the shard of a range.

@@ -1,0 +1,15 @@
+use Rattle.std.proofs.Common.{◌≡◌, ◌∙◌, ap, sym}
+use Rattle.std.specs.List.{list_any}
+use Rattle.vt_value.specs.declared.value.Value.{Value}
+use Rattle.keyrange.specs.Ranges.{has_id}
+use Rattle.vschema.proofs.Lists.{list_any_map}
+use Rattle.planner.specs.declared.members.Member.{Member}
+use Rattle.planner.specs.Routes.{id_of, takes}
+use Rattle.planner.proofs.taking.takes.Goals as goal
+
+pub returns-in-In : goal.returns-in-In
+returns-in-In c =
+    let lies = λ (v : Value). has_id c.args.range.now (id_of c.args.table.now v) in
+    let value = λ (m : Member). m.value in
+    rw (c.in-In.is)
+    (c.has_one_of.ensures ∙ sym (list_any_map lies value c.as_slice.result.now) ∙ ap (list_any lies) c.as_slice.ensures)
