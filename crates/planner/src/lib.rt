@@ -15,5 +15,5 @@ pub use copies::copy_items;
 pub use members::{Member, Members};
 pub use planning::plan;
 pub use plans::{Finish, Plan};
-pub use routes::{Route, write_route};
+pub use routes::{Route, route_of, write_route};
 pub use taking::{shards, takes};

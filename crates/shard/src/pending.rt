@@ -1,4 +1,4 @@
-ghost use Rattle.std.specs.Prelude.{◌≡◌, ◌++◌, ◌<◌, ◌∷◌, [], IfOk, IfErr, OnOk, OnErr, length, vec_len, vec_capacity};
+ghost use Rattle.std.specs.Prelude.{◌≡◌, false, ◌↔◌, ◌++◌, ◌<◌, ◌∷◌, [], IfOk, IfErr, OnOk, OnErr, length, vec_len, vec_capacity};
 ghost use Rattle.shard.specs.Transactions.{nothing_done, changes_table, is_changed, is_conflict, is_touched, touched_with};
 
 use crate::behind::changes_any;
@@ -88,6 +88,13 @@ impl Pending {
             writes: Vec::new(alloc),
             changes: Vec::new(alloc),
         }
+    }
+
+    /// Whether it has written.
+    pub fn has_written(&self) -> bool
+        ensures { result ≡ false ↔ (self.now.writes ≡ []) }
+    {
+        !self.writes.is_empty()
     }
 
     /// Whether an entry that the shard has stored since a touch changes a row of the touched table.
