@@ -8,6 +8,7 @@ ghost use Rattle.empty_opening.specs.Empty.{opening_of, FitRanges};
 mod gates;
 mod locks;
 mod modes;
+mod transactions;
 mod waiting;
 
 use crate::empty_router;
@@ -15,7 +16,7 @@ use empty_opening::opening_shards;
 use gates::told;
 use journal::{Naming, Opened, Pass};
 use keyrange::{KeyRange, covers_once};
-use route_engine::{Answer, Engine, Open, Reply};
+use route_engine::{Answer, Engine, Open, Reply, Tx};
 use shard::{ShardLaw, World};
 use std::alloc::Global;
 use std::marker::Brand;
@@ -73,7 +74,10 @@ fn insert_then_select<W: World + Send + Sync, J: Naming + Send + Sync>(
         pass,
         b"INSERT INTO t (id, c) VALUES (2, 7)",
     )?;
-    let Reply { answer, .. } = engine.execute(rt, alloc, pass, b"SELECT c FROM t WHERE id = 2")?;
+    let mut tx = Tx::new();
+    let reply = engine.execute(rt, alloc, pass, &mut tx, b"SELECT c FROM t WHERE id = 2");
+    drop(tx);
+    let Reply { answer, .. } = reply?;
     Ok((count, is_seven(&answer)))
 }
 

@@ -19,3 +19,14 @@ pub mod WholeWrites
 pub mod Over
 mod OverExample
 pub mod Openings
+pub mod Told
+pub mod Going
+pub mod Causes
+pub mod Anywhere
+pub mod InTransaction
+pub mod Refusing
+pub mod Stepping
+pub mod Leading
+pub mod Calling
+pub mod Doing
+pub mod Keeping

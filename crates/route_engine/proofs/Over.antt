@@ -110,7 +110,7 @@ refusal_on o l p text e now (a.numbered why) =
 
 -- ---- over the one database
 
-legal_last : (o : Opening) (before run : Run) (e : Entry) → LegalAfter (MayFollow o) before (run ++ e ∷ []) → MayFollow o (before ++ run) e
+pub legal_last : (o : Opening) (before run : Run) (e : Entry) → LegalAfter (MayFollow o) before (run ++ e ∷ []) → MayFollow o (before ++ run) e
 legal_last o before [] e h = subst (λ (r : Run). MayFollow o r e) (sym (append-nil before)) h.0
 legal_last o before (x ∷ run) e h =
     subst (λ (r : Run). MayFollow o r e) (Rattle.std.proofs.lemmas.List.append_assoc before (x ∷ []) run) (legal_last o (before ++ x ∷ []) run e h.1)
@@ -119,7 +119,7 @@ all_applied-append : (xs ys : List RowChange) (db : Database) → all_applied (x
 all_applied-append [] ys db = refl
 all_applied-append (c ∷ xs) ys db = all_applied-append xs ys (applied c db)
 
-one_push : (o : Opening) (before : Run) (e : Entry) → one o (before ++ e ∷ []) ≡ all_applied (commit_changes e.event) (one o before)
+pub one_push : (o : Opening) (before : Run) (e : Entry) → one o (before ++ e ∷ []) ≡ all_applied (commit_changes e.event) (one o before)
 one_push o before e =
     ap (λ (l : List RowChange). all_applied l (opening_rows o)) (commits-push before e)
     ∙ all_applied-append (commits before) (commit_changes e.event) (opening_rows o)
@@ -177,7 +177,7 @@ module _ (o : Opening) (opens : IsOpening o) (formed : is_vschema o.schema ≡ t
       (subst (λ (n : ℕ). GivesOver o.schema (one o p.seen) (typed.Write w) (Count n) (all_applied c.changes (one o p.seen))) counted' (over.writes c.changes is))
 
 -- a write that needs no shard
-nowhere_over : (o : Opening) → IsOpening o → is_vschema o.schema ≡ true → (run : Run) → Legal o run → (w : Write) → IsTypedWrite o.schema w
+pub nowhere_over : (o : Opening) → IsOpening o → is_vschema o.schema ≡ true → (run : Run) → Legal o run → (w : Write) → IsTypedWrite o.schema w
     → (seats : List Seat) → IsPartition seats → needed_by o w seats ≡ [] → GivesOver o.schema (one o run) (typed.Write w) (Count 0) (one o run)
 nowhere_over o opens formed run legal w is seats partition none =
     over.writes [] ([], no_changes o opens formed run legal seats partition w is none, IsPermutation-refl [])

@@ -79,7 +79,7 @@ placed o (Insert n rows) typed seats is seat alone =
 placed o (Update n assignments condition) typed seats is seat alone = refl
 placed o (Delete n condition) typed seats is seat alone = refl
 
-gone_by : (o : Opening) (slot : ℕ) (p now : PassView Entry) → HasLooked o slot p now → HasGone o p now
+pub gone_by : (o : Opening) (slot : ℕ) (p now : PassView Entry) → HasLooked o slot p now → HasGone o p now
 gone_by o slot p now is = ((slot, length now.seen) ∷ [], record { legal = is.legal; later = is.later; own = is.own; pass = is.pass })
 
 not_writable : (m : Mode) → is_serving m ≡ false → is_writable m ≡ false

@@ -123,14 +123,14 @@ vindex_right schema e n there =
 
 module _ (o : Opening) (opens : IsOpening o) (formed : is_vschema o.schema ≡ true) (run : Run) (legal : Legal o run) (n : ℕ) (there : n < length o.schema.tables)
     (seats : List Seat) (partition : IsPartition seats) where
-  abbrev t : Table
+  abbrev pub t : Table
   t = table_at o.schema n
 
-  abbrev rows : List Row
+  abbrev pub rows : List Row
   rows = rows_of (one o run) n
 
   -- the place of a seat
-  abbrev place_of : Seat → Place
+  abbrev pub place_of : Seat → Place
   place_of seat = record { keyspace = t.keyspace; range = seat.1 }
 
   -- each row lies in a seat, and one that a condition keeps in one that the condition's route takes
@@ -161,18 +161,18 @@ module _ (o : Opening) (opens : IsOpening o) (formed : is_vschema o.schema ≡ t
       taken home true e = e
       taken {shard} home false e = absurd (false≢true (sym (skipped t shard c row home e) ∙ kept))
 
-  abbrev Keeps : Option (Condition ℕ) → (Row → Bool) → Type 0
+  abbrev pub Keeps : Option (Condition ℕ) → (Row → Bool) → Type 0
   Keeps c p = AllByRecursion (λ row. is_kept c row ≡ true → p row ≡ true) rows
 
   -- the rows that a condition keeps lie in the one seat that it needs, and none is kept where it needs none
-  kept_here : (c : Option (Condition ℕ)) (seat : Seat) → needed t (route_of t c) seats ≡ seat ∷ [] → Keeps c (lies_in (place_of seat) t)
+  pub kept_here : (c : Option (Condition ℕ)) (seat : Seat) → needed t (route_of t c) seats ≡ seat ∷ [] → Keeps c (lies_in (place_of seat) t)
   kept_here c seat alone =
       all-from_In (λ row. is_kept c row ≡ true → lies_in (place_of seat) t row ≡ true) rows
       (λ row h kept. let w = kept_home c row h kept in
       subst (λ (u : Seat). lies_in (place_of u) t row ≡ true)
       (only_one w.seat seat (needed t (route_of t c) seats) alone (In-filter (λ u. takes t (route_of t c) u.1) w.seat w.needs seats w.inside)) w.lies)
 
-  kept_nowhere : (c : Option (Condition ℕ)) → needed t (route_of t c) seats ≡ [] → Keeps c (λ row. false)
+  pub kept_nowhere : (c : Option (Condition ℕ)) → needed t (route_of t c) seats ≡ [] → Keeps c (λ row. false)
   kept_nowhere c none =
       all-from_In (λ row. is_kept c row ≡ true → false ≡ true) rows
       (λ row h kept. let w = kept_home c row h kept in
@@ -185,10 +185,10 @@ module _ (o : Opening) (opens : IsOpening o) (formed : is_vschema o.schema ≡ t
       (Rattle.shard_law.proofs.Lists.all-weaker (λ row. is_kept c row ≡ true → p row ≡ true) (λ row. p row ≡ false → row_updates n assignments c row ≡ [])
       (λ row h off. updates_none n assignments c row (unkept (is_kept c row) (p row) h off)) rows keeps)
 
-  kept_over : (c : Option (Condition ℕ)) (p : Row → Bool) → Keeps c p → filter (is_kept c) (filter p rows) ≡ filter (is_kept c) rows
+  pub kept_over : (c : Option (Condition ℕ)) (p : Row → Bool) → Keeps c p → filter (is_kept c) (filter p rows) ≡ filter (is_kept c) rows
   kept_over c p keeps = filter-filter_weaker p (is_kept c) rows keeps
 
-  filter_false : (xs : List Row) → filter (λ row. false) xs ≡ []
+  pub filter_false : (xs : List Row) → filter (λ row. false) xs ≡ []
   filter_false [] = refl
   filter_false (x ∷ xs) = filter_false xs
 

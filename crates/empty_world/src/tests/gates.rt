@@ -4,12 +4,13 @@ ghost use Rattle.std.specs.Prelude.{◌≡◌, IsSome, IsTrue, IfOk};
 ghost use Rattle.vschema.specs.WellFormed.{is_vschema};
 ghost use Rattle.shard.specs.Shards.{most_limits};
 ghost use Rattle.empty_opening.specs.Empty.{opening_of, FitRanges};
+ghost use Rattle.route_engine.specs.Pendings.{IsOf};
 
 use super::{SHOP, fits, halves};
 use crate::empty_router;
 use journal::{Naming, Opened, Pass};
 use keyrange::KeyRange;
-use route_engine::{Answer, Engine, Gate, Reply};
+use route_engine::{Answer, Engine, Gate, Reply, Tx};
 use shard::{ShardLaw, World};
 use std::alloc::Global;
 use std::hint::spin_loop;
@@ -107,7 +108,27 @@ pub(super) fn told<W: World + Send + Sync, J: Naming + Send + Sync, G: Gate>(
     requires { IsSome pass.old.session }
     ensures { pass.new.session ≡ pass.old.session }
 {
-    let Reply { answer, .. } = engine.execute(rt, alloc, pass, text)?;
+    let mut tx = Tx::new();
+    let told = told_in(rt, alloc, engine, pass, &mut tx, text);
+    drop(tx);
+    told
+}
+
+// The same in a session's transaction.
+pub(super) fn told_in<W: World + Send + Sync, J: Naming + Send + Sync, G: Gate>(
+    rt: &(impl Threads + Wait + Sync),
+    alloc: Global,
+    engine: &Engine<W, J, G>,
+    pass: &mut Pass<ShardLaw<W>, J>,
+    tx: &mut Tx<W, J>,
+    text: &[u8],
+) -> Result<u64, Refusal>
+    requires session { IsSome pass.old.session }
+    requires tx { IsOf W.opening tx.old pass.old }
+    ensures session { pass.new.session ≡ pass.old.session }
+    ensures tx { IsOf W.opening tx.new pass.new }
+{
+    let Reply { answer, .. } = engine.execute(rt, alloc, pass, tx, text)?;
     match answer {
         Answer::Rows(selected) => Ok(selected.rows.len() as u64),
         Answer::Count(count) => Ok(count),

@@ -50,7 +50,7 @@ pub(super) fn freeze<W: World, J: Naming>(
 }
 
 // It takes them again.
-fn thaw<W: World, J: Naming>(
+pub(super) fn thaw<W: World, J: Naming>(
     rt: &impl Wait,
     shard: &Shard<W, J>,
     pass: &mut Pass<ShardLaw<W>, J>,

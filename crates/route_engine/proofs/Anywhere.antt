@@ -1,0 +1,120 @@
+-- Statements that need no shard, a primary key that is there already, and a pass that has seen more.
+use Rattle.std.proofs.Common.{◌≡◌, ℕ, ◌<◌, true, false, List, [], ◌∷◌, ◌++◌, length, get_or, filter, Option, Some, None, Err, refl, sym, ap, ◌∙◌, subst}
+use mathlib.Core.List.{IsPrefix}
+use Rattle.vt_value.specs.Values.{Row}
+use Rattle.vt_value.specs.declared.refusal.Refusal.TheVariants.{DuplicateKey}
+use Rattle.vschema.specs.declared.schema.Query.{Query}
+use Rattle.vschema.specs.declared.schema.Typed.TheVariants as typed
+use Rattle.vschema.specs.declared.changes.Write.{Write}
+use Rattle.vschema.specs.Schema.{no_table}
+use Rattle.vschema.specs.Database.{Database, SameRows, rows_of, restrict, all_applied}
+use Rattle.vschema.specs.TypedWrites.{IsTypedWrite}
+use Rattle.vschema.specs.WellFormed.{is_vschema}
+use Rattle.sql_eval.specs.Conditions.{is_kept}
+use Rattle.sql_eval.specs.Queries.{IsAnswer}
+use Rattle.sql_eval.specs.Writes.{written_table, changes_of}
+use Rattle.sql_eval.proofs.ChangeLemmas.{same_changes, rows-same}
+use Rattle.journal.specs.Runs.{IsLegal, NumbersBelow, by_session}
+use Rattle.journal.specs.Views.{PassView}
+use Rattle.journal.proofs.Fronts.{prefix_trans}
+use Rattle.serving.specs.Partitions.{Seat, IsPartition}
+use Rattle.shard_run.specs.declared.Mode.TheVariants.{Serving}
+use Rattle.shard_run.specs.declared.Shard.{Shard}
+use Rattle.shard_run.specs.declared.Entry.{Entry}
+use Rattle.shard_run.specs.Runs.{Run, Opening, one, held, mode, is_serving}
+use Rattle.shard_run.specs.Legal.{IsOnItsSlot}
+use Rattle.shard_run.specs.Openings.{IsOpening}
+use Rattle.shard.specs.Shards.{MayFollow, commit_of}
+use Rattle.shard.specs.Transactions.{PendingView, entry_of}
+use Rattle.shard.proofs.Legality.{legal_is, part_held}
+use Rattle.shard.proofs.Moves.{pending_may}
+use Rattle.shard.proofs.Pendings.{legal_then, stands_then, held_then, one_then, serves_then}
+use Rattle.route_engine.specs.declared.reply.Selected.{Selected}
+use Rattle.route_engine.specs.declared.reply.Answer.TheVariants.{Rows, Count}
+use Rattle.route_engine.specs.Answers.{NeedsAlone, needed_by}
+use Rattle.route_engine.specs.Alone as over
+use Rattle.route_engine.specs.Transactions.{Step, Transaction, needed_for}
+use Rattle.route_engine.specs.Pendings as stands
+use Rattle.route_engine.specs.Pendings.{OpenView, Stands, IsAnywhere}
+use Rattle.route_engine.proofs.Going as g
+use Rattle.route_engine.proofs.Over.{nowhere_over}
+use Rattle.route_engine.proofs.Told.{answers_kept}
+use Rattle.route_engine.proofs.WholeWrites.{kept_nowhere, kept_over, filter_false, whole_changes}
+
+-- a pass that has seen more, and no more commits of its session
+pub stands_met : (o : Opening) (p q : PassView Entry) (v : Option OpenView) (t : Option Transaction) → IsPrefix p.seen q.seen → q.session ≡ p.session
+    → ((n : ℕ) → p.session ≡ Some n → filter (by_session commit_of n) q.seen ≡ filter (by_session commit_of n) p.seen) → Stands o p v t → Stands o q v t
+stands_met o p q _ _ more same own stands.closed = stands.closed
+stands_met o p q _ _ more same own (stands.unbound {t} legal all) = stands.unbound legal all
+stands_met o p q _ _ more same own (stands.bound {v} {t} is) = stands.bound (record {
+  shard = is.shard;
+  stands = is.stands;
+  serves = is.serves;
+  bound = is.bound;
+  uses = is.uses;
+  pending = is.pending;
+  told = is.told;
+  touches =
+      subst (λ (i : Option ℕ). Rattle.std.specs.List.AllByRecursion (Rattle.route_engine.specs.Pendings.IsTouchOf o is.shard i t.at t.steps) v.pending.touched) (sym same)
+      is.touches;
+  seen = prefix_trans t.at p.seen q.seen is.seen more;
+  own = λ n mine. let m = sym same ∙ mine in own n m ∙ is.own n m;
+})
+
+module _ (o : Opening) (opens : IsOpening o) (formed : is_vschema o.schema ≡ true) where
+  -- a query that needs no shard, over no rows
+  pub reads_nowhere : (q : Query) (selected : Selected) (seen : Run) → q.table < length o.schema.tables → (seats : List Seat) → IsPartition seats
+      → needed_for o q seats ≡ [] → selected.table ≡ q.table → selected.items ≡ q.items → IsAnswer q [] selected.rows
+      → IsAnywhere o (record { typed = typed.Select q; answer = Rows selected; on = None; seen = seen })
+  reads_nowhere q selected seen there seats partition none table items answer = record {
+    none = (seats, partition, none);
+    on = refl;
+    same = λ run legal.
+        let legal' = legal_is o run legal in
+        let rows : List Row = rows_of (one o run) q.table in
+        let keeps = kept_nowhere o opens formed run legal' q.table there seats partition q.filter none in
+        over.selects table items
+        (answers_kept q [] rows selected.rows
+        (sym (ap (filter (is_kept q.filter)) (filter_false o opens formed run legal' q.table there seats partition rows))
+        ∙ kept_over o opens formed run legal' q.table there seats partition q.filter (λ row. false) keeps) answer);
+  }
+
+  -- a write that needs no shard
+  pub writes_nowhere : (w : Write) (seen : Run) → IsTypedWrite o.schema w → (seats : List Seat) → IsPartition seats → needed_by o w seats ≡ []
+      → IsAnywhere o (record { typed = typed.Write w; answer = Count 0; on = None; seen = seen })
+  writes_nowhere w seen is seats partition none = record {
+    none = (seats, partition, none);
+    on = refl;
+    same = λ run legal. nowhere_over o opens formed run (legal_is o run legal) w is seats partition none;
+  }
+
+  pub names_anywhere : (seen : Run) → IsAnywhere o (record { typed = typed.SetNames; answer = Count 0; on = None; seen = seen })
+  names_anywhere seen = record { none = tt; on = refl; same = λ run legal. over.sets_names }
+
+  -- a primary key that is there already on the one shard is there in the one database
+  pub duplicate_over : (s : Shard) (run : Run) → IsOnItsSlot o run s → IsLegal (MayFollow o) run → mode o run s.slot ≡ Serving → (w : Write)
+      → IsTypedWrite o.schema w → NeedsAlone o w s → changes_of o.schema w (held o run s) ≡ Err DuplicateKey
+      → changes_of o.schema w (one o run) ≡ Err DuplicateKey
+  duplicate_over s run stands legal serves w is alone refused =
+      let n = written_table w in
+      let here : Database = restrict o.schema s.place (one o run) in
+      let part : SameRows (held o run s) here = part_held o opens run s stands (ap is_serving serves) legal in
+      let same = same_changes (get_or o.schema.tables n no_table) w (rows_of (held o run s) n) (rows_of here n) (rows-same (held o run s) here part n) in
+      sym (whole_changes o opens formed run (legal_is o run legal) w is s alone) ∙ same.refused refused
+
+  -- and so it is with the transaction's own writes
+  pub duplicate_in : (s : Shard) (run : Run) (tx : PendingView) (steps : List Step) → g.IsAt o s run tx steps → IsOnItsSlot o run s
+      → mode o run s.slot ≡ Serving → (session number : ℕ) → NumbersBelow commit_of session number run → (w : Write)
+      → IsTypedWrite o.schema w → NeedsAlone o w s → changes_of o.schema w (all_applied tx.changes (held o run s)) ≡ Err DuplicateKey
+      → changes_of o.schema w (all_applied tx.changes (one o run)) ≡ Err DuplicateKey
+  duplicate_in s run tx steps at stands serves session number low w is alone refused =
+      let may = pending_may o s opens run tx at.pending stands serves session number low in
+      let e : Entry = entry_of s session number tx.writes tx.changes in
+      let legal = at.pending.legal in
+      let then = legal_then o opens s run stands legal serves session number low tx.writes tx.changes may in
+      let slot_then = stands_then o opens s run stands legal serves session number low tx.writes tx.changes may in
+      let held_is = held_then o opens s run stands legal serves session number low tx.writes tx.changes may in
+      let one_is = one_then o opens s run stands legal serves session number low tx.writes tx.changes may in
+      let serving = serves_then o opens s run stands legal serves session number low tx.writes tx.changes may in
+      ap (changes_of o.schema w) (sym one_is)
+      ∙ duplicate_over s (run ++ e ∷ []) slot_then then serving w is alone (ap (changes_of o.schema w) held_is ∙ refused)

@@ -1,0 +1,261 @@
+-- What the engine's parts do in an open transaction, from what they tell of its shard.
+use Rattle.std.proofs.Common.{◌≡◌, ◌⊎◌, inl, inr, ℕ, ◌<◌, ◌≤◌, true, List, [], ◌∷◌, length, Option, Some, None, Result, Ok, Err, refl, sym, ap, subst, ◌∙◌}
+use Rattle.std.specs.Prelude.{IsSome, IfOk, IfErr, OnOk}
+use Rattle.vt_value.specs.declared.refusal.Refusal.{Refusal}
+use Rattle.vt_value.specs.declared.refusal.Refusal.TheVariants.{OutOfMemory, SeveralShards, NotSupported}
+use Rattle.vt_value.specs.Values.{Row}
+use Rattle.vschema.specs.declared.schema.Query.{Query}
+use Rattle.vschema.specs.declared.schema.Table.{Table}
+use Rattle.vschema.specs.declared.schema.Typed.{Typed}
+use Rattle.vschema.specs.declared.schema.Typed.TheVariants as typed
+use Rattle.vschema.specs.declared.changes.Write.{Write}
+use Rattle.vschema.specs.TypedWrites.{IsTypedWrite}
+use Rattle.vschema.specs.WellFormed.{is_vschema}
+use Rattle.sql_eval.specs.Queries.{IsAnswer}
+use Rattle.sql_eval.specs.Writes.{written_table}
+use Rattle.planner.specs.declared.routes.Route.{Route}
+use Rattle.planner.specs.Routes.{table_at, route_of, write_route}
+use Rattle.journal.specs.Runs.{IsLegal, NumbersBelow}
+use Rattle.journal.specs.Views.{PassView}
+use Rattle.serving.specs.Partitions.{Seat, IsPartition}
+use Rattle.shard_run.specs.declared.Shard.{Shard}
+use Rattle.shard_run.specs.declared.Entry.{Entry}
+use Rattle.shard_run.specs.Runs.{Opening}
+use Rattle.shard_run.specs.Openings.{IsOpening}
+use Rattle.shard.specs.declared.limits.Limits.{Limits}
+use Rattle.shard.specs.Shards.{MayFollow, commit_of}
+use Rattle.shard.specs.Transactions.{PendingView, IsPendingOf}
+use Rattle.shard.proofs.LooksIn.{Of, session_of}
+use Rattle.route_engine.specs.declared.reply.Answer.TheVariants.{Rows, Count}
+use Rattle.route_engine.specs.declared.reply.Reply.{Reply}
+use Rattle.route_engine.specs.declared.reply.ShardRead.{ShardRead}
+use Rattle.route_engine.specs.Answers.{needed}
+use Rattle.route_engine.specs.Transactions as t
+use Rattle.route_engine.specs.Transactions.{Transaction, Standing, GivesIn, IsRefusedIn}
+use Rattle.route_engine.specs.Pendings as stands
+use Rattle.route_engine.specs.Pendings.{BoundView, OpenView, Stands, IsOf, bound_of}
+use Rattle.route_engine.specs.Within.{GoesOnIn, IsRefusedStep, IsSeatOf, NeedsNoSeat, NeedsSeveral, NeedsOther, HasReadAt, IsNotReadAt, HasWrittenAt, IsNotWrittenAt, HasCommittedAt, IsNotCommittedAt}
+use Rattle.route_engine.proofs.Anywhere.{reads_nowhere, writes_nowhere, names_anywhere}
+use Rattle.route_engine.proofs.Gathers.{stays}
+use Rattle.route_engine.proofs.Stepping as s
+use Rattle.route_engine.proofs.Stepping.{Fits}
+
+pub always : {T E P : Type 0} (r : Result T E) → P → OnOk r P
+always (Ok t) h = h
+always (Err e) h = tt
+
+-- some transaction stands for what the program keeps
+pub open_one : (o : Opening) (p : PassView Entry) (v : OpenView) → IsOf o (Some v) p → (tr : Transaction) × Stands o p (Some v) (Some tr)
+open_one o p v (_, stands.unbound {t = tr} l all) = (tr, stands.unbound l all)
+open_one o p v (_, stands.bound {t = tr} is) = (tr, stands.bound is)
+
+module _ (o : Opening) (opens : IsOpening o) (formed : is_vschema o.schema ≡ true) (limits : Limits) (p : PassView Entry)
+    (legal : IsLegal (MayFollow o) p.seen) (some : IsSome p.session)
+    (above : (n : ℕ) → p.session ≡ Some n → NumbersBelow commit_of n p.statements p.seen) (v : OpenView) where
+  mine : Of p
+  mine = session_of p some
+
+  below : NumbersBelow commit_of mine.session p.statements p.seen
+  below = above mine.session mine.is
+
+  -- what the shard's calls ask
+  pub tied_to : IsOf o (Some v) p → (b : BoundView) → Fits v b → (u : Shard) → bound_of u ≡ b → IsPendingOf o u v.pending p
+  tied_to of b fits u same =
+      let tr = open_one o p v of in s.tied o opens formed limits p legal mine.session mine.is below v tr.0 tr.1 b fits u same
+
+  -- a growth is refused
+  pub without_memory : (typed : Typed) → IsRefusedStep o limits p v typed OutOfMemory p
+  without_memory typed = record { from = λ tr st. t.no_memory ([], stays o p legal) }
+
+  -- a query
+  module _ (q : Query) (there : q.table < length o.schema.tables) (table : Table) (table_is : table ≡ table_at o.schema q.table) (route : Route)
+      (route_is : route ≡ route_of table q.filter) where
+    abbrev shown : List Row → List ShardRead → Reply
+    shown rows reads = record { answer = Rows (record { table = q.table; items = q.items; rows = rows }); reads = reads }
+
+    route_at : route ≡ route_of (table_at o.schema q.table) q.filter
+    route_at = route_is ∙ ap (λ (x : Table). route_of x q.filter) table_is
+
+    needed_is : (seats : List Seat) → needed table route seats ≡ t.needed_for o q seats
+    needed_is seats = ap (λ (x : Table). needed x route seats) table_is ∙ ap (λ (x : Route). needed (table_at o.schema q.table) x seats) route_at
+
+    seat_is : (b : BoundView) → IsSeatOf table route b → IsSeatOf (table_at o.schema q.table) (route_of (table_at o.schema q.table) q.filter) b
+    seat_is b is = record {
+      keyspace = is.keyspace ∙ ap (λ (x : Table). x.keyspace) table_is;
+      seats = is.seats;
+      partition = is.partition;
+      only = sym (needed_is is.seats) ∙ is.only;
+    }
+
+    pub read_goes : (b : BoundView) → Fits v b → IsSeatOf table route b → (rows : List Row) (reads : List ShardRead) (now : PassView Entry) (pending : PendingView)
+        → HasReadAt o b p v.pending q rows reads now pending
+        → GoesOnIn o limits p v (typed.Select q) (shown rows reads) now (Some (record { bound = Some b; pending = pending }))
+    read_goes b fits seat rows reads now pending has = record {
+      from = λ tr st. s.goes_read o opens formed limits p legal mine.session mine.is below v tr st b fits q there (seat_is b seat) rows reads now pending has;
+    }
+
+    pub read_refused : (b : BoundView) → Fits v b → IsSeatOf table route b → (e : Refusal) (now : PassView Entry) → IsNotReadAt o b p v.pending e now
+        → IsRefusedStep o limits p v (typed.Select q) e now
+    read_refused b fits seat e now fault = record {
+      from = λ tr st. s.not_read o opens formed limits p legal mine.session mine.is below v tr st b fits q (seat_is b seat) e now fault;
+    }
+
+    pub read_nowhere : NeedsNoSeat table route → (rows : List Row) → IsAnswer q [] rows → (reads : List ShardRead) → reads ≡ []
+        → GoesOnIn o limits p v (typed.Select q) (shown rows reads) p (Some v)
+    read_nowhere none rows answer reads no_reads = record {
+      from = λ tr st.
+          subst (λ (l : List ShardRead). (u : Option Transaction) × GivesIn o limits p tr (typed.Select q) (shown rows l) (record { pass = p; tx = u }) × Stands o p (Some v) u)
+          (sym no_reads)
+          (s.goes_anywhere o opens formed limits p legal mine.session mine.is below v tr st (typed.Select q)
+          (Rows (record { table = q.table; items = q.items; rows = rows }))
+          (reads_nowhere o opens formed q (record { table = q.table; items = q.items; rows = rows }) p.seen there none.0 none.1 (sym (needed_is none.0) ∙ none.2) refl refl answer));
+    }
+
+    pub read_elsewhere : (b : BoundView) → v.bound ≡ Some b → NeedsOther table route b → IsRefusedStep o limits p v (typed.Select q) SeveralShards p
+    read_elsewhere b at fault = record {
+      from = λ tr st. s.other_shard o opens formed limits p legal mine.session mine.is below v tr st b at (typed.Select q) (table_at o.schema q.table).keyspace refl fault.seats
+          fault.partition (elsewhere fault.other);
+    }
+      where
+        elsewhere : ((2 ≤ length (needed table route fault.seats)) ⊎ ((seat : Seat) × (needed table route fault.seats ≡ seat ∷ []) × (b ≡ record { keyspace = table.keyspace; seat = seat } → ⊥)))
+            → (2 ≤ length (t.needed_for o q fault.seats)) ⊎ ((seat : Seat) × (t.needed_for o q fault.seats ≡ seat ∷ []) × (b ≡ record { keyspace = (table_at o.schema q.table).keyspace; seat = seat } → ⊥))
+        elsewhere (inl more) = inl (subst (λ (l : List Seat). 2 ≤ length l) (needed_is fault.seats) more)
+        elsewhere (inr (seat, only, differs)) =
+            inr (seat, sym (needed_is fault.seats) ∙ only, λ same. differs (same ∙ ap (λ (x : Table). s.view_of x.keyspace seat) (sym table_is)))
+
+    pub read_of_several : NeedsSeveral table route → IsRefusedStep o limits p v (typed.Select q) SeveralShards p
+    read_of_several (seats, partition, more) =
+        record { from = λ tr st. t.several seats partition (subst (λ (l : List Seat). 2 ≤ length l) (needed_is seats) more) }
+
+    pub read_not_bound : (e : Refusal) → ((e ≡ OutOfMemory) ⊎ ((e ≡ SeveralShards) × NeedsSeveral table route)) → IsRefusedStep o limits p v (typed.Select q) e p
+    read_not_bound e (inl is) = subst (λ (x : Refusal). IsRefusedStep o limits p v (typed.Select q) x p) (sym is) (without_memory (typed.Select q))
+    read_not_bound e (inr (is, several)) = subst (λ (x : Refusal). IsRefusedStep o limits p v (typed.Select q) x p) (sym is) (read_of_several several)
+
+    -- of what a call gave
+    pub all_read : (b : BoundView) → Fits v b → IsSeatOf table route b → (now : PassView Entry) (after : Option BoundView) (pending : PendingView)
+        (r : Result (List Row × List ShardRead) Refusal) → OnOk r (after ≡ Some b) → IfOk r (λ x. HasReadAt o b p v.pending q x.0 x.1 now pending)
+        → IfOk r (λ x. GoesOnIn o limits p v (typed.Select q) (shown x.0 x.1) now (Some (record { bound = after; pending = pending })))
+    all_read b fits seat now after pending (Ok x) is has =
+        subst (λ (y : Option BoundView). GoesOnIn o limits p v (typed.Select q) (shown x.0 x.1) now (Some (record { bound = y; pending = pending }))) (sym is)
+        (read_goes b fits seat x.0 x.1 now pending has)
+    all_read b fits seat now after pending (Err e) is has = tt
+
+    pub all_not_read : (b : BoundView) → Fits v b → IsSeatOf table route b → (now : PassView Entry) (r : Result (List Row × List ShardRead) Refusal)
+        → IfErr r (λ e. IsNotReadAt o b p v.pending e now) → IfErr r (λ e. IsRefusedStep o limits p v (typed.Select q) e now)
+    all_not_read b fits seat now (Ok x) fault = tt
+    all_not_read b fits seat now (Err e) fault = read_refused b fits seat e now fault
+
+    pub all_nowhere : (after : Option BoundView) → after ≡ v.bound → NeedsNoSeat table route → (r : Result (List Row × List ShardRead) Refusal)
+        → IfOk r (λ x. IsAnswer q [] x.0) → IfOk r (λ x. x.1 ≡ [])
+        → IfOk r (λ x. GoesOnIn o limits p v (typed.Select q) (shown x.0 x.1) p (Some (record { bound = after; pending = v.pending })))
+    all_nowhere after same none (Ok x) answer reads =
+        subst (λ (y : Option BoundView). GoesOnIn o limits p v (typed.Select q) (shown x.0 x.1) p (Some (record { bound = y; pending = v.pending }))) (sym same)
+        (read_nowhere none x.0 answer x.1 reads)
+    all_nowhere after same none (Err e) answer reads = tt
+
+    pub nowhere_refused : (r : Result (List Row × List ShardRead) Refusal) → IfErr r (λ e. e ≡ OutOfMemory)
+        → IfErr r (λ e. IsRefusedStep o limits p v (typed.Select q) e p)
+    nowhere_refused (Ok x) is = tt
+    nowhere_refused (Err e) is = subst (λ (y : Refusal). IsRefusedStep o limits p v (typed.Select q) y p) (sym is) (without_memory (typed.Select q))
+
+  -- a write
+  module _ (wr : Write) (is : IsTypedWrite o.schema wr) (table : Table) (table_is : table ≡ table_at o.schema (written_table wr)) (route : Route)
+      (route_is : route ≡ write_route o.schema wr) where
+    abbrev count_of : ℕ → Reply
+    count_of count = record { answer = Count count; reads = [] }
+
+    needed_by_is : (seats : List Seat) → needed table route seats ≡ Rattle.route_engine.specs.Answers.needed_by o wr seats
+    needed_by_is seats =
+        ap (λ (x : Table). needed x route seats) table_is ∙ ap (λ (x : Route). needed (table_at o.schema (written_table wr)) x seats) route_is
+
+    seat_by : (b : BoundView) → IsSeatOf table route b → IsSeatOf (table_at o.schema (written_table wr)) (write_route o.schema wr) b
+    seat_by b of = record {
+      keyspace = of.keyspace ∙ ap (λ (x : Table). x.keyspace) table_is;
+      seats = of.seats;
+      partition = of.partition;
+      only = sym (needed_by_is of.seats) ∙ of.only;
+    }
+
+    pub write_goes : (b : BoundView) → Fits v b → IsSeatOf table route b → (count : ℕ) (now : PassView Entry) (pending : PendingView)
+        → HasWrittenAt o b p v.pending wr count now pending
+        → GoesOnIn o limits p v (typed.Write wr) (count_of count) now (Some (record { bound = Some b; pending = pending }))
+    write_goes b fits seat count now pending has = record {
+      from = λ tr st. s.goes_written o opens formed limits p legal mine.session mine.is below v tr st b fits wr is (seat_by b seat) count now pending has;
+    }
+
+    pub write_refused : (b : BoundView) → Fits v b → IsSeatOf table route b → (e : Refusal) (now : PassView Entry) → IsNotWrittenAt o b p v.pending wr e now
+        → IsRefusedStep o limits p v (typed.Write wr) e now
+    write_refused b fits seat e now fault = record {
+      from = λ tr st. s.not_written o opens formed limits p legal mine.session mine.is below v tr st b fits wr is (seat_by b seat) e now fault;
+    }
+
+    pub write_nowhere : NeedsNoSeat table route → GoesOnIn o limits p v (typed.Write wr) (count_of 0) p (Some v)
+    write_nowhere none = record {
+      from = λ tr st.
+          s.goes_anywhere o opens formed limits p legal mine.session mine.is below v tr st (typed.Write wr) (Count 0)
+          (writes_nowhere o opens formed wr p.seen is none.0 none.1 (sym (needed_by_is none.0) ∙ none.2));
+    }
+
+    pub written_nowhere : (after : Option BoundView) → after ≡ v.bound → NeedsNoSeat table route
+        → GoesOnIn o limits p v (typed.Write wr) (count_of 0) p (Some (record { bound = after; pending = v.pending }))
+    written_nowhere after same none =
+        subst (λ (y : Option BoundView). GoesOnIn o limits p v (typed.Write wr) (count_of 0) p (Some (record { bound = y; pending = v.pending }))) (sym same)
+        (write_nowhere none)
+
+    pub write_elsewhere : (b : BoundView) → v.bound ≡ Some b → NeedsOther table route b → IsRefusedStep o limits p v (typed.Write wr) SeveralShards p
+    write_elsewhere b at fault = record {
+      from = λ tr st. s.other_shard o opens formed limits p legal mine.session mine.is below v tr st b at (typed.Write wr)
+          (table_at o.schema (written_table wr)).keyspace refl fault.seats fault.partition (elsewhere fault.other);
+    }
+      where
+        elsewhere : ((2 ≤ length (needed table route fault.seats)) ⊎ ((seat : Seat) × (needed table route fault.seats ≡ seat ∷ []) × (b ≡ record { keyspace = table.keyspace; seat = seat } → ⊥)))
+            → (2 ≤ length (Rattle.route_engine.specs.Answers.needed_by o wr fault.seats)) ⊎ ((seat : Seat) × (Rattle.route_engine.specs.Answers.needed_by o wr fault.seats ≡ seat ∷ []) × (b ≡ record { keyspace = (table_at o.schema (written_table wr)).keyspace; seat = seat } → ⊥))
+        elsewhere (inl more) = inl (subst (λ (l : List Seat). 2 ≤ length l) (needed_by_is fault.seats) more)
+        elsewhere (inr (seat, only, differs)) =
+            inr (seat, sym (needed_by_is fault.seats) ∙ only, λ same. differs (same ∙ ap (λ (x : Table). s.view_of x.keyspace seat) (sym table_is)))
+
+    pub write_of_several : NeedsSeveral table route → IsRefusedStep o limits p v (typed.Write wr) SeveralShards p
+    write_of_several (seats, partition, more) =
+        record { from = λ tr st. t.several seats partition (subst (λ (l : List Seat). 2 ≤ length l) (needed_by_is seats) more) }
+
+    pub write_not_bound : (e : Refusal) → ((e ≡ OutOfMemory) ⊎ ((e ≡ SeveralShards) × NeedsSeveral table route)) → IsRefusedStep o limits p v (typed.Write wr) e p
+    write_not_bound e (inl is_e) = subst (λ (x : Refusal). IsRefusedStep o limits p v (typed.Write wr) x p) (sym is_e) (without_memory (typed.Write wr))
+    write_not_bound e (inr (is_e, several)) = subst (λ (x : Refusal). IsRefusedStep o limits p v (typed.Write wr) x p) (sym is_e) (write_of_several several)
+
+    -- of what a call gave
+    pub all_written : (b : BoundView) → Fits v b → IsSeatOf table route b → (now : PassView Entry) (after : Option BoundView) (pending : PendingView)
+        (r : Result ℕ Refusal) → OnOk r (after ≡ Some b) → IfOk r (λ count. HasWrittenAt o b p v.pending wr count now pending)
+        → IfOk r (λ count. GoesOnIn o limits p v (typed.Write wr) (count_of count) now (Some (record { bound = after; pending = pending })))
+    all_written b fits seat now after pending (Ok count) same has =
+        subst (λ (y : Option BoundView). GoesOnIn o limits p v (typed.Write wr) (count_of count) now (Some (record { bound = y; pending = pending }))) (sym same)
+        (write_goes b fits seat count now pending has)
+    all_written b fits seat now after pending (Err e) same has = tt
+
+    pub all_not_written : (b : BoundView) → Fits v b → IsSeatOf table route b → (now : PassView Entry) (r : Result ℕ Refusal)
+        → IfErr r (λ e. IsNotWrittenAt o b p v.pending wr e now) → IfErr r (λ e. IsRefusedStep o limits p v (typed.Write wr) e now)
+    all_not_written b fits seat now (Ok count) fault = tt
+    all_not_written b fits seat now (Err e) fault = write_refused b fits seat e now fault
+
+  -- SET NAMES, BEGIN and ROLLBACK
+  pub names_go : GoesOnIn o limits p v typed.SetNames (record { answer = Count 0; reads = [] }) p (Some v)
+  names_go = record {
+    from = λ tr st. s.goes_anywhere o opens formed limits p legal mine.session mine.is below v tr st typed.SetNames (Count 0) (names_anywhere o opens formed p.seen);
+  }
+
+  pub begins_twice : IsRefusedStep o limits p v typed.Begin NotSupported p
+  begins_twice = record { from = λ tr st. t.open_twice }
+
+  pub rolls_back : GoesOnIn o limits p v typed.Rollback (record { answer = Count 0; reads = [] }) p None
+  rolls_back = record { from = λ tr st. (None, t.rolls_back, stands.closed) }
+
+  -- COMMIT
+  pub commits_none : v.bound ≡ None → GoesOnIn o limits p v typed.Commit (record { answer = Count 0; reads = [] }) p None
+  commits_none none = record { from = λ tr st. s.commits_unbound o opens formed limits p legal mine.session mine.is below v tr st none }
+
+  pub commits_on : (b : BoundView) → v.bound ≡ Some b → (now : PassView Entry) → HasCommittedAt o limits b p v.pending now
+      → GoesOnIn o limits p v typed.Commit (record { answer = Count 0; reads = [] }) now None
+  commits_on b at now done = record { from = λ tr st. s.commits_bound o opens formed limits p legal mine.session mine.is below v tr st b at now done }
+
+  pub commit_refused : (b : BoundView) → v.bound ≡ Some b → (e : Refusal) (now : PassView Entry) → IsNotCommittedAt o limits b p v.pending e now
+      → IsRefusedStep o limits p v typed.Commit e now
+  commit_refused b at e now fault = record { from = λ tr st. s.not_committed o opens formed limits p legal mine.session mine.is below v tr st b at e now fault }

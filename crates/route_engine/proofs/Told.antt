@@ -1,0 +1,147 @@
+-- What a transaction's statements gave over its shard's rows, they give over the one database.
+use Rattle.std.proofs.Common.{◌≡◌, ℕ, ◌<◌, true, cond, List, [], ◌∷◌, ◌++◌, length, filter, map, sym, ap, subst, ◌∙◌, IsPermutation, Some}
+use Rattle.vt_value.specs.Values.{Row}
+use Rattle.vschema.specs.declared.schema.Place.{Place}
+use Rattle.vschema.specs.declared.schema.Query.{Query}
+use Rattle.vschema.specs.declared.schema.Typed.TheVariants as typed
+use Rattle.vschema.specs.declared.schema.Table.{Table}
+use Rattle.vschema.specs.declared.changes.Write.{Write}
+use Rattle.vschema.specs.declared.changes.RowChange.{RowChange}
+use Rattle.vschema.specs.Checks.{is_aggregated}
+use Rattle.vschema.specs.Database.{Database, SameRows, rows_of, restrict, lies_in, all_applied}
+use Rattle.vschema.specs.TypedWrites.{IsTypedWrite}
+use Rattle.vschema.specs.WellFormed.{is_vschema}
+use Rattle.sql_eval.specs.Conditions.{is_kept}
+use Rattle.sql_eval.specs.Queries.{Keyed, kept_rows, keyed_row, keyed_groups, IsAnswer, Allowed}
+use Rattle.sql_eval.specs.Writes.{written_table}
+use Rattle.sql_eval.proofs.ChangeLemmas.{rows-same}
+use Rattle.sql_eval.proofs.SameAnswers.{same_answers}
+use Rattle.planner.specs.Routes.{table_at}
+use Rattle.journal.specs.Runs.{IsLegal, NumbersBelow}
+use Rattle.shard_run.specs.declared.Mode.TheVariants.{Serving}
+use Rattle.shard_run.specs.declared.Shard.{Shard}
+use Rattle.shard_run.specs.declared.Entry.{Entry}
+use Rattle.shard_run.specs.Runs.{Run, Opening, one, held, mode, is_serving}
+use Rattle.shard_run.specs.Legal.{IsOnItsSlot, IsChangeOf}
+use Rattle.shard_run.specs.Openings.{IsOpening}
+use Rattle.shard.specs.declared.touch.Touch.{Touch}
+use Rattle.shard.specs.Shards.{MayFollow, commit_of}
+use Rattle.shard.specs.Commits.{IsPlaced}
+use Rattle.shard.specs.Transactions.{entry_of}
+use Rattle.shard.proofs.Commits.{applied-append}
+use Rattle.shard.proofs.Inside.{change_same}
+use Rattle.shard.proofs.Legality.{legal_is, part_held}
+use Rattle.shard.proofs.Pendings.{may_nothing, may_next, legal_then, stands_then, held_then, one_then, serves_then}
+use Rattle.route_engine.specs.declared.reply.Answer.TheVariants.{Rows, Count}
+use Rattle.route_engine.specs.Seats.{seat_of}
+use Rattle.route_engine.specs.Answers.{NeedsAlone}
+use Rattle.route_engine.specs.Alone as over
+use Rattle.route_engine.specs.Alone.{GivesOver}
+use Rattle.route_engine.specs.Transactions.{Step, GiveOver, none, next, ReadsAlone}
+use Rattle.route_engine.specs.Pendings as p
+use Rattle.route_engine.specs.Pendings.{AreTold, IsAnywhere}
+use Rattle.route_engine.proofs.Everywhere.{rows_restricted}
+use Rattle.route_engine.proofs.Trying.{placed}
+use Rattle.route_engine.proofs.WholeWrites.{Keeps, kept_here, kept_over, whole_changes}
+
+-- an answer sees the rows that the query keeps alone
+pub answers_kept : (q : Query) (xs ys list : List Row) → filter (is_kept q.filter) xs ≡ filter (is_kept q.filter) ys → IsAnswer q xs list → IsAnswer q ys list
+answers_kept q xs ys list same (arranged, all, sorted, is) =
+    (arranged, subst (λ (l : List Keyed). IsPermutation l arranged) kept_same all, sorted, is)
+  where
+    kept_same : kept_rows q xs ≡ kept_rows q ys
+    kept_same = ap (λ (l : List Row). cond (is_aggregated q) (keyed_groups q l) (map (keyed_row q) l)) same
+
+-- the rows that a write adds lie in the place of the one shard that it needs
+pub placed_on : (o : Opening) (w : Write) → IsTypedWrite o.schema w → (s : Shard) → NeedsAlone o w s → IsPlaced o.schema s.place w
+placed_on o w is s alone =
+    subst (λ (k : ℕ). IsPlaced o.schema (record { keyspace = k; range = s.place.range }) w) (sym alone.keyspace)
+    (placed o w is alone.seats alone.partition (seat_of s) alone.only)
+
+module _ (o : Opening) (opens : IsOpening o) (formed : is_vschema o.schema ≡ true) (s : Shard) where
+  -- a query over the rows of the one shard that it needs
+  pub read_over : (run : Run) → IsOnItsSlot o run s → IsLegal (MayFollow o) run → mode o run s.slot ≡ Serving → (q : Query)
+      → q.table < length o.schema.tables → ReadsAlone o q s → (list : List Row) → Allowed q (held o run s) list → Allowed q (one o run) list
+  read_over run stands legal serves q there alone list allowed =
+      let n = q.table in
+      let t : Table = table_at o.schema n in
+      let here : Database = restrict o.schema s.place (one o run) in
+      let part : SameRows (held o run s) here = part_held o opens run s stands (ap is_serving serves) legal in
+      let same : IsPermutation (rows_of (held o run s) n) (rows_of here n) = rows-same (held o run s) here part n in
+      let over_here : IsAnswer q (rows_of here n) list = same_answers q (rows_of (held o run s) n) (rows_of here n) list same allowed in
+      let rows_here : rows_of here n ≡ filter (lies_in s.place t) (rows_of (one o run) n) = rows_restricted o.schema.tables s.place (one o run) n there in
+      let legal' = legal_is o run legal in
+      let keeps : Keeps o opens formed run legal' n there alone.seats alone.partition q.filter (lies_in s.place t) =
+      subst (λ (k : ℕ). Keeps o opens formed run legal' n there alone.seats alone.partition q.filter (lies_in (record { keyspace = k; range = s.place.range }) t))
+      (sym alone.keyspace) (kept_here o opens formed run legal' n there alone.seats alone.partition q.filter (seat_of s) alone.only) in
+      answers_kept q (rows_of here n) (rows_of (one o run) n) list
+      (ap (filter (is_kept q.filter)) rows_here
+      ∙ kept_over o opens formed run legal' n there alone.seats alone.partition q.filter (lies_in s.place t) keeps) over_here
+
+  -- a write over the rows of the one shard that it needs
+  pub wrote_over : (run : Run) → IsOnItsSlot o run s → IsLegal (MayFollow o) run → mode o run s.slot ≡ Serving → (w : Write)
+      → IsTypedWrite o.schema w → NeedsAlone o w s → (more : List RowChange) → IsChangeOf o.schema w (held o run s) more
+      → IsChangeOf o.schema w (one o run) more
+  wrote_over run stands legal serves w is alone more changed =
+      let here : Database = restrict o.schema s.place (one o run) in
+      let part : SameRows (held o run s) here = part_held o opens run s stands (ap is_serving serves) legal in
+      let of = change_same o.schema w (held o run s) here more part changed in
+      let whole = whole_changes o opens formed run (legal_is o run legal) w is s alone in
+      (of.0, sym whole ∙ of.1, of.2)
+
+  module _ (run : Run) (stands : IsOnItsSlot o run s) (legal : IsLegal (MayFollow o) run) (serves : mode o run s.slot ≡ Serving) (session number : ℕ)
+      (low : NumbersBelow commit_of session number run) (touched : List Touch) where
+    -- the statements over the one database, and the entry that their writes would make
+    pub record Lifted (steps : List Step) (writes : List Write) (changes : List RowChange) : Type 0 where
+      pub may : MayFollow o run (entry_of s session number writes changes)
+      pub over : GiveOver o.schema (one o run) steps (all_applied changes (one o run))
+
+    pub lifted : (steps : List Step) (writes : List Write) (changes : List RowChange) → AreTold o s run touched steps writes changes
+        → Lifted steps writes changes
+    lifted _ _ _ p.none = record { may = may_nothing o opens s run stands legal serves session number low; over = none }
+    lifted _ writes changes (p.anywhere {steps} step told is) =
+        let rest = lifted steps writes changes told in
+        let e : Entry = entry_of s session number writes changes in
+        let then = legal_then o opens s run stands legal serves session number low writes changes rest.may in
+        let one_is = one_then o opens s run stands legal serves session number low writes changes rest.may in
+        record {
+          may = rest.may;
+          over =
+              next step rest.over
+              (subst (λ (d : Database). GivesOver o.schema d step.typed step.answer d) one_is (is.same (run ++ e ∷ []) then));
+        }
+    lifted _ writes changes (p.read {steps} q selected seen told alone there on table items allowed) =
+        let rest = lifted steps writes changes told in
+        let e : Entry = entry_of s session number writes changes in
+        let then = legal_then o opens s run stands legal serves session number low writes changes rest.may in
+        let slot_then = stands_then o opens s run stands legal serves session number low writes changes rest.may in
+        let one_is = one_then o opens s run stands legal serves session number low writes changes rest.may in
+        let held_is = held_then o opens s run stands legal serves session number low writes changes rest.may in
+        let serving = serves_then o opens s run stands legal serves session number low writes changes rest.may in
+        let answer =
+        read_over (run ++ e ∷ []) slot_then then serving q there alone selected.rows
+        (subst (λ (d : Database). Allowed q d selected.rows) (sym held_is) allowed) in
+        record {
+          may = rest.may;
+          over =
+              next (record { typed = typed.Select q; answer = Rows selected; on = Some s; seen = seen }) rest.over
+              (over.selects table items (subst (λ (d : Database). Allowed q d selected.rows) one_is answer));
+        }
+    lifted _ _ _ (p.wrote {steps} {writes} {changes} w more seen told alone is on changed) =
+        let rest = lifted steps writes changes told in
+        let e : Entry = entry_of s session number writes changes in
+        let then = legal_then o opens s run stands legal serves session number low writes changes rest.may in
+        let slot_then = stands_then o opens s run stands legal serves session number low writes changes rest.may in
+        let one_is = one_then o opens s run stands legal serves session number low writes changes rest.may in
+        let held_is = held_then o opens s run stands legal serves session number low writes changes rest.may in
+        let serving = serves_then o opens s run stands legal serves session number low writes changes rest.may in
+        let of =
+        wrote_over (run ++ e ∷ []) slot_then then serving w is alone more (subst (λ (d : Database). IsChangeOf o.schema w d more) (sym held_is) changed) in
+        record {
+          may = may_next o opens s run stands legal serves session number low writes changes rest.may w more is (placed_on o w is s alone) changed;
+          over =
+              subst (GiveOver o.schema (one o run) (steps ++ record { typed = typed.Write w; answer = Count (length more); on = Some s; seen = seen } ∷ []))
+              (sym (applied-append changes more (one o run)))
+              (next (record { typed = typed.Write w; answer = Count (length more); on = Some s; seen = seen }) rest.over
+              (over.writes more (subst (λ (d : Database). IsChangeOf o.schema w d more) one_is of)));
+        }

@@ -1,0 +1,31 @@
+use Rattle.std.proofs.Common.{inl, inr, refl, sym, ap, subst, ◌∙◌}
+use Rattle.std.proofs.lemmas.Result.{err_from_is_err_and}
+use Rattle.route_engine.proofs.Doing as d
+use Rattle.shard_law.proofs.Typed.{table_there}
+use Rattle.route_engine.proofs.Sessions.{is_typed}
+use Rattle.route_engine.proofs.engine.Engine.step_in.Goals as goal
+
+pub write_in-requires-clause-typed : goal.write_in-requires-clause-typed
+write_in-requires-clause-typed g c κs within =
+    let means = rw c.in-Write.is at c.requires.means in
+    is_typed g.W.World.opening.schema means.0 c.in-Write.write means.1
+
+pub write_in-requires-clause-there : goal.write_in-requires-clause-there
+write_in-requires-clause-there g c κs within =
+    let means = rw c.in-Write.is at c.requires.means in
+    table_there g.W.World.opening.schema c.in-Write.write (is_typed g.W.World.opening.schema means.0 c.in-Write.write means.1)
+
+pub returns-in-SetNames-clause-ok : goal.returns-in-SetNames-clause-ok
+returns-in-SetNames-clause-ok g c =
+    rw (c.in-SetNames.is, c.counted.ensures) (d.names_go g.W.World.opening c.requires.opens c.requires.formed g.W.World.limits c.args.pass.now c.requires.legal c.requires.session c.requires.above
+    (record { bound = c.args.bound.now; pending = c.args.pending.now }))
+
+pub returns-in-Begin-clause-err : goal.returns-in-Begin-clause-err
+returns-in-Begin-clause-err g c =
+    rw c.in-Begin.is (d.begins_twice g.W.World.opening c.requires.opens c.requires.formed g.W.World.limits c.args.pass.now c.requires.legal c.requires.session c.requires.above
+    (record { bound = c.args.bound.now; pending = c.args.pending.now }))
+
+pub returns-in-Rollback-clause-ok : goal.returns-in-Rollback-clause-ok
+returns-in-Rollback-clause-ok g c =
+    rw (c.in-Rollback.is, c.counted-in-Rollback.ensures) (d.rolls_back g.W.World.opening c.requires.opens c.requires.formed g.W.World.limits c.args.pass.now c.requires.legal c.requires.session c.requires.above
+    (record { bound = c.args.bound.now; pending = c.args.pending.now }))

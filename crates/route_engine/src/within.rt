@@ -1,0 +1,535 @@
+//! The statements of an open transaction.
+ghost use Rattle.std.specs.Prelude.{◌≡◌, ◌⊎◌, ◌<◌, ◌≤◌, [], ℕ, Some, None, IsSome, IfOk, IfErr, IfSome, IfNone, OnErr, OnOk, Ok, true, false, length, List};
+ghost use Rattle.sql_tree.specs.declared.Statement.{Statement};
+ghost use Rattle.vschema.specs.TypedStatement.{typed_statement};
+ghost use Rattle.vschema.specs.TypedWrites.{IsTypedWrite};
+ghost use Rattle.sql_eval.specs.Queries.{IsAnswer};
+ghost use Rattle.sql_eval.specs.Writes.{written_table};
+ghost use Rattle.planner.specs.Routes.{table_at, route_of, write_route};
+ghost use Rattle.journal.specs.Runs.{IsLegal, NumbersBelow};
+ghost use Rattle.shard_run.specs.declared.Shard as which;
+ghost use Rattle.vschema.specs.WellFormed.{is_vschema};
+ghost use Rattle.shard_run.specs.Openings.{IsOpening};
+ghost use Rattle.shard.specs.Shards.{MayFollow, commit_of};
+ghost use Rattle.shard.specs.Transactions.{IsPendingOf};
+ghost use Rattle.route_engine.specs.Pendings.{IsOf, bound_of};
+ghost use Rattle.route_engine.specs.Within.{ends, closes, stays_open, kept_by, NeedsNoSeat, IsSeatOf, NeedsOther, NeedsSeveral, HasReadAt, IsNotReadAt, HasWrittenAt, IsNotWrittenAt, HasCommittedAt, IsNotCommittedAt, GoesOnIn, IsRefusedStep};
+
+use crate::engine::{Engine, counted};
+use crate::gate::Gate;
+use crate::parts::only_needed;
+use crate::reply::{Answer, Reply, Selected, ShardRead};
+use crate::tx::Bound;
+use journal::{Naming, Pass};
+use planner::{Route, copy_items, route_of, write_route};
+use shard::{Pending, Reading, ShardLaw, World, written_table};
+use sql_eval::select_local;
+use std::alloc::Global;
+use std::sync::Wait;
+use vschema::{Query, Table, Typed, VSchema, Write};
+use vt_value::{Items, Refusal, Row};
+
+/// Whether a refusal ends an open transaction.
+pub(crate) fn ends(refusal: Refusal) -> bool
+    ensures { result ≡ ends refusal }
+{
+    matches!(
+        refusal,
+        Refusal::Conflict | Refusal::ShardMoved | Refusal::ShardFull
+    )
+}
+
+/// Whether a statement closes an open transaction once it is answered.
+pub(crate) fn closes(statement: &Typed) -> bool
+    ensures { result ≡ closes statement.now }
+{
+    matches!(statement, Typed::Commit | Typed::Rollback)
+}
+
+/// Whether a transaction stays open behind what one of its statements gave, which closes it where it is answered, or doesn't.
+pub(crate) fn stays_open(closes: bool, given: &Result<Reply, Refusal>) -> bool
+    ensures { result ≡ stays_open closes given.now }
+{
+    match given {
+        Ok(_) => !closes,
+        Err(refusal) => !ends(*refusal),
+    }
+}
+
+// What a query gives on a transaction's shard, and what the reply tells of that.
+fn read_at<W: World, J: Naming>(
+    rt: &impl Wait,
+    alloc: Global,
+    pass: &mut Pass<ShardLaw<W>, J>,
+    here: &Bound<W, J>,
+    pending: &mut Pending,
+    query: &Query,
+) -> Result<(Items<Row>, Items<ShardRead>), Refusal>
+    requires there { query.now.table < length W.opening.schema.tables }
+    requires tied { (s : which.Shard) → bound_of s ≡ here.now → IsPendingOf W.opening s pending.old pass.old }
+    requires session { IsSome pass.old.session }
+    requires above { (n : ℕ) → pass.old.session ≡ Some n → NumbersBelow commit_of n pass.old.statements pass.old.seen }
+    ensures ok { IfOk result (λ r. HasReadAt W.opening here.now pass.old pending.old query.now r.0 r.1 pass.new pending.new) }
+    ensures err { IfErr result (λ e. IsNotReadAt W.opening here.now pass.old pending.old e pass.new) }
+    ensures unchanged { OnErr result (pending.new ≡ pending.old) }
+{
+    let slot = here.slot();
+    let mut reads = Items::from_slice(alloc, &[ShardRead { slot, entries: 0 }])?;
+    let place = here.place();
+    let shard = here.shard();
+    match shard.read_in(rt, alloc, pass, slot, &place, pending, query) {
+        Ok(reading) => {
+            let Reading { rows, entries } = reading;
+            reads.set(0, ShardRead { slot, entries });
+            Ok((rows, reads))
+        }
+        Err(refusal) => {
+            drop(reads);
+            Err(refusal)
+        }
+    }
+}
+
+// What a query gives on the shard of a transaction that is bound to it then.
+fn read_first<W: World, J: Naming>(
+    rt: &impl Wait,
+    alloc: Global,
+    pass: &mut Pass<ShardLaw<W>, J>,
+    bound: &mut Option<Bound<W, J>>,
+    new: Bound<W, J>,
+    pending: &mut Pending,
+    query: &Query,
+) -> Result<(Items<Row>, Items<ShardRead>), Refusal>
+    requires there { query.now.table < length W.opening.schema.tables }
+    requires tied { (s : which.Shard) → bound_of s ≡ new → IsPendingOf W.opening s pending.old pass.old }
+    requires session { IsSome pass.old.session }
+    requires above { (n : ℕ) → pass.old.session ≡ Some n → NumbersBelow commit_of n pass.old.statements pass.old.seen }
+    ensures ok { IfOk result (λ r. HasReadAt W.opening new pass.old pending.old query.now r.0 r.1 pass.new pending.new) }
+    ensures now_bound { OnOk result (bound.new ≡ Some new) }
+    ensures err { IfErr result (λ e. IsNotReadAt W.opening new pass.old pending.old e pass.new) }
+    ensures unchanged { OnErr result (pending.new ≡ pending.old) }
+    ensures unbound { OnErr result (bound.new ≡ bound.old) }
+{
+    match read_at(rt, alloc, pass, &new, pending, query) {
+        Ok(given) => {
+            *bound = Some(new);
+            Ok(given)
+        }
+        Err(refusal) => {
+            drop(new);
+            Err(refusal)
+        }
+    }
+}
+
+// What a query gives over no rows, by no shard.
+fn read_nothing(alloc: Global, query: &Query) -> Result<(Items<Row>, Items<ShardRead>), Refusal>
+    ensures rows { IfOk result (λ r. IsAnswer query.now [] r.0) }
+    ensures reads { IfOk result (λ r. r.1 ≡ []) }
+    ensures err { IfErr result (λ e. e ≡ Refusal.OutOfMemory) }
+{
+    let rows = select_local(alloc, query, &[])?;
+    Ok((rows, Items::new(alloc)))
+}
+
+// How many rows a write changes on a transaction's shard, which keeps it.
+fn write_at<W: World, J: Naming>(
+    rt: &impl Wait,
+    alloc: Global,
+    pass: &mut Pass<ShardLaw<W>, J>,
+    here: &Bound<W, J>,
+    pending: &mut Pending,
+    schema: &VSchema,
+    write: Write,
+) -> Result<u64, Refusal>
+    requires schema { schema.now ≡ W.opening.schema }
+    requires there { written_table write < length W.opening.schema.tables }
+    ensures ok { IfOk result (λ count. HasWrittenAt W.opening here.now pass.old pending.old write count pass.new pending.new) }
+    ensures err { IfErr result (λ e. IsNotWrittenAt W.opening here.now pass.old pending.old write e pass.new) }
+    ensures unchanged { OnErr result (pending.new ≡ pending.old) }
+{
+    let place = here.place();
+    let shard = here.shard();
+    shard.write_in(rt, alloc, pass, here.slot(), &place, pending, schema, write)
+}
+
+// The same of a transaction that is bound to the shard then.
+fn write_first<W: World, J: Naming>(
+    rt: &impl Wait,
+    alloc: Global,
+    pass: &mut Pass<ShardLaw<W>, J>,
+    bound: &mut Option<Bound<W, J>>,
+    new: Bound<W, J>,
+    pending: &mut Pending,
+    schema: &VSchema,
+    write: Write,
+) -> Result<u64, Refusal>
+    requires schema { schema.now ≡ W.opening.schema }
+    requires there { written_table write < length W.opening.schema.tables }
+    ensures ok { IfOk result (λ count. HasWrittenAt W.opening new pass.old pending.old write count pass.new pending.new) }
+    ensures now_bound { OnOk result (bound.new ≡ Some new) }
+    ensures err { IfErr result (λ e. IsNotWrittenAt W.opening new pass.old pending.old write e pass.new) }
+    ensures unchanged { OnErr result (pending.new ≡ pending.old) }
+    ensures unbound { OnErr result (bound.new ≡ bound.old) }
+{
+    match write_at(rt, alloc, pass, &new, pending, schema, write) {
+        Ok(count) => {
+            *bound = Some(new);
+            Ok(count)
+        }
+        Err(refusal) => {
+            drop(new);
+            Err(refusal)
+        }
+    }
+}
+
+// Commits a transaction on its shard: one entry, where it has written, and else a look alone.
+fn commit_at<W: World, J: Naming>(
+    rt: &impl Wait,
+    alloc: Global,
+    pass: &mut Pass<ShardLaw<W>, J>,
+    here: &Bound<W, J>,
+    pending: &mut Pending,
+) -> Result<(), Refusal>
+    requires tied { (s : which.Shard) → bound_of s ≡ here.now → IsPendingOf W.opening s pending.old pass.old }
+    requires session { IsSome pass.old.session }
+    requires above { (n : ℕ) → pass.old.session ≡ Some n → NumbersBelow commit_of n pass.old.statements pass.old.seen }
+    ensures ok { OnOk result (HasCommittedAt W.opening W.limits here.now pass.old pending.old pass.new) }
+    ensures err { IfErr result (λ e. IsNotCommittedAt W.opening W.limits here.now pass.old pending.old e pass.new) }
+    ensures unchanged { OnErr result (pending.new ≡ pending.old) }
+{
+    let slot = here.slot();
+    let place = here.place();
+    let shard = here.shard();
+    if pending.has_written() {
+        return shard.commit_in(rt, alloc, pass, slot, &place, pending);
+    }
+    match shard.check(rt, pass, slot, &place, pending) {
+        Ok(_) => Ok(()),
+        Err(refusal) => Err(refusal),
+    }
+}
+
+impl<W: World + Send + Sync, J: Naming + Send + Sync, G: Gate> Engine<W, J, G> {
+    // Whether a statement on the table with this route needs the shard that its transaction is bound to, or none. On a table of that
+    // shard's keyspace the partition tells by which it was bound. Refuses where it needs another shard, or several.
+    fn needs_bound(&self, here: &Bound<W, J>, table: &Table, route: &Route) -> Result<bool, Refusal>
+        requires keyspace { table.now.keyspace < length self.now.keyspaces }
+        ensures bound { IfOk result (λ b. b ≡ true → IsSeatOf table.now route.now here.now) }
+        ensures none { IfOk result (λ b. b ≡ false → NeedsNoSeat table.now route.now) }
+        ensures err { IfErr result (λ e. (e ≡ Refusal.SeveralShards) × NeedsOther table.now route.now here.now) }
+    {
+        let partition = if here.keyspace() == table.keyspace {
+            here.partition()
+        } else {
+            self.keyspaces[table.keyspace].current()
+        };
+        match only_needed(partition.parts(), table, route)? {
+            Some(part) => {
+                if here.is_at(table.keyspace, part) {
+                    Ok(true)
+                } else {
+                    Err(Refusal::SeveralShards)
+                }
+            }
+            None => Ok(false),
+        }
+    }
+
+    // What a transaction is bound to by its first statement that needs a shard: by the present partition, if this one needs one. Refuses
+    // where it needs several, and for want of memory.
+    fn first_bound(
+        &self,
+        alloc: Global,
+        table: &Table,
+        route: &Route,
+    ) -> Result<Option<Bound<W, J>>, Refusal>
+        requires keyspace { table.now.keyspace < length self.now.keyspaces }
+        ensures some { IfOk result (λ r. IfSome r (IsSeatOf table.now route.now)) }
+        ensures none { IfOk result (λ r. IfNone r (NeedsNoSeat table.now route.now)) }
+        ensures err { IfErr result (λ e. (e ≡ Refusal.OutOfMemory) ⊎ ((e ≡ Refusal.SeveralShards) × NeedsSeveral table.now route.now)) }
+    {
+        let partition = self.keyspaces[table.keyspace].current();
+        match only_needed(partition.parts(), table, route)? {
+            Some(part) => Ok(Some(Bound::to_part(alloc, table.keyspace, partition, part)?)),
+            None => Ok(None),
+        }
+    }
+
+    // The rows of a query on the table with this route.
+    fn rows_by(
+        &self,
+        rt: &impl Wait,
+        alloc: Global,
+        pass: &mut Pass<ShardLaw<W>, J>,
+        bound: &mut Option<Bound<W, J>>,
+        pending: &mut Pending,
+        query: &Query,
+        table: &Table,
+        route: &Route,
+    ) -> Result<(Items<Row>, Items<ShardRead>), Refusal>
+        requires there { query.now.table < length W.opening.schema.tables }
+        requires keyspace { table.now.keyspace < length self.now.keyspaces }
+        requires table { table.now ≡ table_at W.opening.schema query.now.table }
+        requires route { route.now ≡ route_of table.now query.now.filter }
+        requires session { IsSome pass.old.session }
+        requires opens { IsOpening W.opening }
+        requires formed { is_vschema W.opening.schema ≡ true }
+        requires legal { IsLegal (MayFollow W.opening) pass.old.seen }
+        requires above { (n : ℕ) → pass.old.session ≡ Some n → NumbersBelow commit_of n pass.old.statements pass.old.seen }
+        requires tx { IsOf W.opening (Some (record { bound = bound.old; pending = pending.old })) pass.old }
+        ensures ok { IfOk result (λ r. GoesOnIn W.opening W.limits pass.old (record { bound = bound.old; pending = pending.old }) (Typed.Select query.now)
+            (record { answer = Answer.Rows (record { table = query.now.table; items = query.now.items; rows = r.0 }); reads = r.1 })
+            pass.new (Some (record { bound = bound.new; pending = pending.new }))) }
+        ensures err { IfErr result (λ e. IsRefusedStep W.opening W.limits pass.old (record { bound = bound.old; pending = pending.old }) (Typed.Select query.now) e pass.new) }
+        ensures bound { OnErr result (bound.new ≡ bound.old) }
+        ensures pending { OnErr result (pending.new ≡ pending.old) }
+    {
+        match bound {
+            Some(here) => {
+                if self.needs_bound(here, table, route)? {
+                    read_at(rt, alloc, pass, here, pending, query)
+                } else {
+                    read_nothing(alloc, query)
+                }
+            }
+            None => match self.first_bound(alloc, table, route)? {
+                Some(new) => read_first(rt, alloc, pass, bound, new, pending, query),
+                None => read_nothing(alloc, query),
+            },
+        }
+    }
+
+    // The same, by its route.
+    fn rows_in(
+        &self,
+        rt: &impl Wait,
+        alloc: Global,
+        pass: &mut Pass<ShardLaw<W>, J>,
+        bound: &mut Option<Bound<W, J>>,
+        pending: &mut Pending,
+        query: &Query,
+    ) -> Result<(Items<Row>, Items<ShardRead>), Refusal>
+        requires there { query.now.table < length W.opening.schema.tables }
+        requires session { IsSome pass.old.session }
+        requires opens { IsOpening W.opening }
+        requires formed { is_vschema W.opening.schema ≡ true }
+        requires legal { IsLegal (MayFollow W.opening) pass.old.seen }
+        requires above { (n : ℕ) → pass.old.session ≡ Some n → NumbersBelow commit_of n pass.old.statements pass.old.seen }
+        requires tx { IsOf W.opening (Some (record { bound = bound.old; pending = pending.old })) pass.old }
+        ensures ok { IfOk result (λ r. GoesOnIn W.opening W.limits pass.old (record { bound = bound.old; pending = pending.old }) (Typed.Select query.now)
+            (record { answer = Answer.Rows (record { table = query.now.table; items = query.now.items; rows = r.0 }); reads = r.1 })
+            pass.new (Some (record { bound = bound.new; pending = pending.new }))) }
+        ensures err { IfErr result (λ e. IsRefusedStep W.opening W.limits pass.old (record { bound = bound.old; pending = pending.old }) (Typed.Select query.now) e pass.new) }
+        ensures bound { OnErr result (bound.new ≡ bound.old) }
+        ensures pending { OnErr result (pending.new ≡ pending.old) }
+    {
+        let table = &self.schema.tables.as_slice()[query.table];
+        let route = route_of(alloc, table, &query.filter)?;
+        let given = self.rows_by(rt, alloc, pass, bound, pending, query, table, &route);
+        drop(route);
+        given
+    }
+
+    /// What a query gives in an open transaction.
+    fn select_in(
+        &self,
+        rt: &impl Wait,
+        alloc: Global,
+        pass: &mut Pass<ShardLaw<W>, J>,
+        bound: &mut Option<Bound<W, J>>,
+        pending: &mut Pending,
+        query: &Query,
+    ) -> Result<Reply, Refusal>
+        requires there { query.now.table < length W.opening.schema.tables }
+        requires session { IsSome pass.old.session }
+        requires opens { IsOpening W.opening }
+        requires formed { is_vschema W.opening.schema ≡ true }
+        requires legal { IsLegal (MayFollow W.opening) pass.old.seen }
+        requires above { (n : ℕ) → pass.old.session ≡ Some n → NumbersBelow commit_of n pass.old.statements pass.old.seen }
+        requires tx { IsOf W.opening (Some (record { bound = bound.old; pending = pending.old })) pass.old }
+        ensures ok { IfOk result (λ reply. GoesOnIn W.opening W.limits pass.old (record { bound = bound.old; pending = pending.old }) (Typed.Select query.now)
+            reply pass.new (Some (record { bound = bound.new; pending = pending.new }))) }
+        ensures err { IfErr result (λ e. IsRefusedStep W.opening W.limits pass.old (record { bound = bound.old; pending = pending.old }) (Typed.Select query.now) e pass.new) }
+        ensures bound { OnErr result (bound.new ≡ bound.old) }
+        ensures pending { OnErr result (pending.new ≡ pending.old) }
+    {
+        let items = copy_items(alloc, query.items.as_slice())?;
+        match self.rows_in(rt, alloc, pass, bound, pending, query) {
+            Ok((rows, reads)) => Ok(Reply {
+                answer: Answer::Rows(Selected {
+                    table: query.table,
+                    items,
+                    rows,
+                }),
+                reads,
+            }),
+            Err(refusal) => {
+                drop(items);
+                Err(refusal)
+            }
+        }
+    }
+
+    // How many rows a write on the table with this route changes.
+    fn count_by(
+        &self,
+        rt: &impl Wait,
+        alloc: Global,
+        pass: &mut Pass<ShardLaw<W>, J>,
+        bound: &mut Option<Bound<W, J>>,
+        pending: &mut Pending,
+        write: Write,
+        table: &Table,
+        route: &Route,
+    ) -> Result<u64, Refusal>
+        requires typed { IsTypedWrite W.opening.schema write }
+        requires there { written_table write < length W.opening.schema.tables }
+        requires keyspace { table.now.keyspace < length self.now.keyspaces }
+        requires table { table.now ≡ table_at W.opening.schema (written_table write) }
+        requires route { route.now ≡ write_route W.opening.schema write }
+        requires session { IsSome pass.old.session }
+        requires opens { IsOpening W.opening }
+        requires formed { is_vschema W.opening.schema ≡ true }
+        requires legal { IsLegal (MayFollow W.opening) pass.old.seen }
+        requires above { (n : ℕ) → pass.old.session ≡ Some n → NumbersBelow commit_of n pass.old.statements pass.old.seen }
+        requires tx { IsOf W.opening (Some (record { bound = bound.old; pending = pending.old })) pass.old }
+        ensures ok { IfOk result (λ count. GoesOnIn W.opening W.limits pass.old (record { bound = bound.old; pending = pending.old }) (Typed.Write write)
+            (record { answer = Answer.Count count; reads = [] }) pass.new (Some (record { bound = bound.new; pending = pending.new }))) }
+        ensures err { IfErr result (λ e. IsRefusedStep W.opening W.limits pass.old (record { bound = bound.old; pending = pending.old }) (Typed.Write write) e pass.new) }
+        ensures bound { OnErr result (bound.new ≡ bound.old) }
+        ensures pending { OnErr result (pending.new ≡ pending.old) }
+    {
+        match bound {
+            Some(here) => match self.needs_bound(here, table, route) {
+                Ok(true) => write_at(rt, alloc, pass, here, pending, &self.schema, write),
+                Ok(false) => {
+                    drop(write);
+                    Ok(0)
+                }
+                Err(refusal) => {
+                    drop(write);
+                    Err(refusal)
+                }
+            },
+            None => match self.first_bound(alloc, table, route) {
+                Ok(Some(new)) => {
+                    let schema = &self.schema;
+                    write_first(rt, alloc, pass, bound, new, pending, schema, write)
+                }
+                Ok(None) => {
+                    drop(write);
+                    Ok(0)
+                }
+                Err(refusal) => {
+                    drop(write);
+                    Err(refusal)
+                }
+            },
+        }
+    }
+
+    /// Makes a write in an open transaction.
+    fn write_in(
+        &self,
+        rt: &impl Wait,
+        alloc: Global,
+        pass: &mut Pass<ShardLaw<W>, J>,
+        bound: &mut Option<Bound<W, J>>,
+        pending: &mut Pending,
+        write: Write,
+    ) -> Result<Reply, Refusal>
+        requires typed { IsTypedWrite W.opening.schema write }
+        requires there { written_table write < length W.opening.schema.tables }
+        requires session { IsSome pass.old.session }
+        requires opens { IsOpening W.opening }
+        requires formed { is_vschema W.opening.schema ≡ true }
+        requires legal { IsLegal (MayFollow W.opening) pass.old.seen }
+        requires above { (n : ℕ) → pass.old.session ≡ Some n → NumbersBelow commit_of n pass.old.statements pass.old.seen }
+        requires tx { IsOf W.opening (Some (record { bound = bound.old; pending = pending.old })) pass.old }
+        ensures ok { IfOk result (λ reply. GoesOnIn W.opening W.limits pass.old (record { bound = bound.old; pending = pending.old }) (Typed.Write write)
+            reply pass.new (Some (record { bound = bound.new; pending = pending.new }))) }
+        ensures err { IfErr result (λ e. IsRefusedStep W.opening W.limits pass.old (record { bound = bound.old; pending = pending.old }) (Typed.Write write) e pass.new) }
+        ensures bound { OnErr result (bound.new ≡ bound.old) }
+        ensures pending { OnErr result (pending.new ≡ pending.old) }
+    {
+        let table = &self.schema.tables.as_slice()[written_table(&write)];
+        match write_route(alloc, &self.schema, &write) {
+            Ok(route) => {
+                let count = self.count_by(rt, alloc, pass, bound, pending, write, table, &route);
+                drop(route);
+                Ok(counted(alloc, count?))
+            }
+            Err(refusal) => {
+                drop(write);
+                Err(refusal)
+            }
+        }
+    }
+
+    /// Commits an open transaction.
+    fn commit_in(
+        &self,
+        rt: &impl Wait,
+        alloc: Global,
+        pass: &mut Pass<ShardLaw<W>, J>,
+        bound: &Option<Bound<W, J>>,
+        pending: &mut Pending,
+    ) -> Result<Reply, Refusal>
+        requires session { IsSome pass.old.session }
+        requires opens { IsOpening W.opening }
+        requires formed { is_vschema W.opening.schema ≡ true }
+        requires legal { IsLegal (MayFollow W.opening) pass.old.seen }
+        requires above { (n : ℕ) → pass.old.session ≡ Some n → NumbersBelow commit_of n pass.old.statements pass.old.seen }
+        requires tx { IsOf W.opening (Some (record { bound = bound.now; pending = pending.old })) pass.old }
+        ensures ok { IfOk result (λ reply. GoesOnIn W.opening W.limits pass.old (record { bound = bound.now; pending = pending.old }) Typed.Commit reply pass.new None) }
+        ensures err { IfErr result (λ e. IsRefusedStep W.opening W.limits pass.old (record { bound = bound.now; pending = pending.old }) Typed.Commit e pass.new) }
+        ensures pending { OnErr result (pending.new ≡ pending.old) }
+    {
+        match bound {
+            Some(here) => {
+                commit_at(rt, alloc, pass, here, pending)?;
+                Ok(counted(alloc, 0))
+            }
+            None => Ok(counted(alloc, 0)),
+        }
+    }
+
+    /// A statement of an open transaction. One that is refused leaves what the transaction keeps.
+    pub(crate) fn step_in(
+        &self,
+        rt: &impl Wait,
+        alloc: Global,
+        pass: &mut Pass<ShardLaw<W>, J>,
+        bound: &mut Option<Bound<W, J>>,
+        pending: &mut Pending,
+        statement: Typed,
+    ) -> Result<Reply, Refusal>
+        requires means { (tree : Statement) × (typed_statement W.opening.schema tree ≡ Ok statement) }
+        requires session { IsSome pass.old.session }
+        requires opens { IsOpening W.opening }
+        requires formed { is_vschema W.opening.schema ≡ true }
+        requires legal { IsLegal (MayFollow W.opening) pass.old.seen }
+        requires above { (n : ℕ) → pass.old.session ≡ Some n → NumbersBelow commit_of n pass.old.statements pass.old.seen }
+        requires tx { IsOf W.opening (Some (record { bound = bound.old; pending = pending.old })) pass.old }
+        ensures ok { IfOk result (λ reply. GoesOnIn W.opening W.limits pass.old (record { bound = bound.old; pending = pending.old }) statement
+            reply pass.new (kept_by statement (record { bound = bound.new; pending = pending.new }))) }
+        ensures err { IfErr result (λ e. IsRefusedStep W.opening W.limits pass.old (record { bound = bound.old; pending = pending.old }) statement e pass.new) }
+        ensures bound { OnErr result (bound.new ≡ bound.old) }
+        ensures pending { OnErr result (pending.new ≡ pending.old) }
+    {
+        match statement {
+            Typed::Select(query) => {
+                let given = self.select_in(rt, alloc, pass, bound, pending, &query);
+                drop(query);
+                given
+            }
+            Typed::Write(write) => self.write_in(rt, alloc, pass, bound, pending, write),
+            Typed::SetNames => Ok(counted(alloc, 0)),
+            Typed::Begin => Err(Refusal::NotSupported),
+            Typed::Commit => self.commit_in(rt, alloc, pass, bound, pending),
+            Typed::Rollback => Ok(counted(alloc, 0)),
+        }
+    }
+}
