@@ -1,133 +1,251 @@
 -- Where no other session comes between, a conversation is one over one database.
-use Rattle.std.proofs.Common.{◌≡◌, true, ℕ, List, Option, Ok, Err, refl, sym, subst}
+use Rattle.std.proofs.Common.{◌≡◌, true, ℕ, List, Option, Some, None, refl, sym, ap, subst, ◌∙◌}
 use mathlib.Core.List.{IsPrefix}
 use Rattle.mysql_packet.specs.declared.framer.Fed.{Fed}
 use Rattle.mysql_packet.specs.declared.framer.Payload.{Payload}
+use Rattle.mysql_packet.specs.Frames.{frame}
+use Rattle.mysql_message.specs.Messages.{ok_payload}
 use Rattle.resultset.specs.declared.Outcome.{Outcome}
+use Rattle.resultset.specs.Encoding.{encoded}
 use Rattle.vschema.specs.WellFormed.{is_vschema}
+use Rattle.vschema.specs.Database.{Database}
 use Rattle.journal.specs.Runs.{IsLegal}
+use Rattle.journal.specs.Views.{PassView}
 use Rattle.journal.proofs.Fronts.{prefix_self, prefix_trans}
 use Rattle.shard_run.specs.Runs.{Run, Opening, one}
 use Rattle.shard_run.specs.Openings.{IsOpening}
+use Rattle.shard_run.specs.declared.Entry.{Entry}
 use Rattle.shard.specs.declared.limits.Limits.{Limits}
 use Rattle.shard.specs.Shards.{MayFollow}
-use Rattle.route_engine.specs.Answers.{counted}
 use Rattle.route_engine.specs.Alone.{NoOthers}
+use Rattle.route_engine.specs.Transactions.{Transaction}
+use Rattle.route_engine.specs.Pendings.{OpenView}
 use Rattle.route_engine.proofs.NoOthers.{up_to, behind}
-use Rattle.route_engine.proofs.Over.{GoesOn, reply_on, refusal_on, reply_over, refusal_over}
-use Rattle.route_engine.proofs.Sessions.{same_session}
-use Rattle.route_engine.specs.Answers as a
 use Rattle.session.specs.declared.end.End.{End}
-use Rattle.session.specs.Sessions.{SessionState, HasTalked, HasTalkedOn, AnswersFed, FedBy}
+use Rattle.session.specs.declared.hello.Hello.{Hello}
+use Rattle.session.specs.Sessions.{AnswersFed}
 use Rattle.session.specs.Sessions as sessions
 use Rattle.session.specs.declared.standing.Phase.{Phase}
+use Rattle.session.specs.declared.standing.Phase.TheVariants.{Commands}
 use Rattle.session.specs.declared.standing.Standing.{Standing}
 use Rattle.session.specs.declared.standing.Standing.TheVariants.{At, Ended}
-use Rattle.session.specs.Outcomes.{Seen, Means}
+use Rattle.session.specs.Packets.{reply_number}
+use Rattle.session.specs.Logins.{LogsIn}
+use Rattle.session.specs.Outcomes.{PassAndTransaction, IsKept, Means, status_with, terms_of}
 use Rattle.session.specs.Outcomes as means
-use Rattle.session.specs.Alone.{MeansOver, MeansAlone}
+use Rattle.session.specs.Alone.{Alone, OneState, Told, MeansOver, MeansAlone, IsOverAt, alone_terms}
 use Rattle.session.specs.Alone as over
-use Rattle.session.specs.Talk.{Terms, Answers, Replies, Conversation, Talk}
+use Rattle.session.specs.Talk.{Answers, Replies, Conversation, Talk, set_end_of}
 use Rattle.session.specs.Talk as t
 use Rattle.session.proofs.Servings.{SoFar}
+use Rattle.session.proofs.Steps.{Follows, stays, answer_on, refusal_at_on}
+use Rattle.session.proofs.OneDatabase.{Goes, answer_over, refused_over}
 
-module _ (o : Opening) (l : Limits) (terms : Terms Seen) where
-  means_on : (p : Seen) (text : List ℕ) (outcome : Outcome) (now : Seen) → Means o l p text outcome now → GoesOn o p now
-  means_on p text _ now (means.answered reply is shows) = reply_on o l p now text reply is
-  means_on p text _ now (means.refused {r} why) = refusal_on o l p text r now why
+-- ---- the same pass
 
-  means_session : (p : Seen) (text : List ℕ) (outcome : Outcome) (now : Seen) → Means o l p text outcome now → now.session ≡ p.session
-  means_session p text _ now (means.answered reply is shows) = same_session o l (counted p) now text (Ok reply) is tt
-  means_session p text _ _ (means.refused (a.used_up many)) = refl
-  means_session p text _ now (means.refused {r} (a.numbered why)) = same_session o l (counted p) now text (Err r) tt why
+pub same_legal : (o : Opening) (p q : PassView Entry) → p ≡ q → IsLegal (MayFollow o) q.seen → IsLegal (MayFollow o) p.seen
+same_legal o p q e legal = subst (λ (x : PassView Entry). IsLegal (MayFollow o) x.seen) (sym e) legal
 
-  -- what one payload leaves as it was
-  record Follows (s now : Seen) : Type 0 where
-    on : GoesOn o s now
-    session : now.session ≡ s.session
+pub same_others : (p q p' q' : PassView Entry) → p ≡ p' → q ≡ q' → NoOthers p' q' → NoOthers p q
+same_others p q p' q' e f others =
+    subst (λ (x : PassView Entry). NoOthers x q) (sym e) (subst (λ (x : PassView Entry). NoOthers p' x) (sym f) others)
 
-  same_seen : (s : Seen) → Follows s s
-  same_seen s = record { on = record { later = prefix_self s.seen; legal = λ h. h }; session = refl }
+pub kept_same : (o : Opening) (p : PassView Entry) (kept : Option OpenView) (s x : PassAndTransaction) → x ≡ s → IsKept o p kept s → IsKept o p kept x
+kept_same o p kept s x e is = subst (λ (y : PassAndTransaction). IsKept o p kept y) (sym e) is
 
-  answers_on : (at : Phase) (s now : Seen) (p : Payload) (out : List ℕ) (b : Standing) → Answers terms (Means o l) at s p out b now → Follows s now
-  answers_on _ s _ _ _ _ (t.out_of_order first) = same_seen s
-  answers_on _ s _ _ _ _ (t.logs_in is) = same_seen s
-  answers_on _ s _ _ _ _ (t.quits first command) = same_seen s
-  answers_on _ s _ _ _ _ (t.unknown first command) = same_seen s
-  answers_on _ s _ _ _ _ (t.pinged first command) = same_seen s
-  answers_on _ s _ _ _ _ (t.selected name first command is) = same_seen s
-  answers_on _ s _ _ _ _ (t.unknown_keyspace name first command is) = same_seen s
-  answers_on _ s _ _ _ _ (t.queried {now} text outcome first command may) =
-      record { on = means_on s text outcome now may; session = means_session s text outcome now may }
+module _ (o : Opening) (l : Limits) (hello : Hello) where
+  abbrev May : PassAndTransaction → List ℕ → Outcome → PassAndTransaction → Type 0
+  May = Means o l
 
-  replies_later : (at : Phase) (s now : Seen) (ps : List Payload) (out : List ℕ) (b : Standing) → Replies terms (Means o l) at s ps out b now → IsPrefix s.seen now.seen
-  replies_later _ s _ _ _ _ t.none = prefix_self s.seen
+  -- ---- what a payload leaves of the pass
+
+  means_on : (s : PassAndTransaction) (text : List ℕ) (outcome : Outcome) (now : PassAndTransaction) → May s text outcome now → Follows o s.pass now.pass
+  means_on s text _ now (means.answered reply is shows) = answer_on o l text s now reply is
+  means_on s text _ now (means.untold reply is rows) = answer_on o l text s now reply is
+  means_on s text _ now (means.refused {r} why) = refusal_at_on o l text s now r why
+
+  answers_on : (at : Phase) (s now : PassAndTransaction) (p : Payload) (out : List ℕ) (b : Standing) → Answers (terms_of o hello) May at s p out b now
+      → Follows o s.pass now.pass
+  answers_on _ s _ _ _ _ (t.out_of_order first) = stays o l s.pass
+  answers_on _ s _ _ _ _ (t.logs_in is) = stays o l s.pass
+  answers_on _ s _ _ _ _ (t.quits first command) = stays o l s.pass
+  answers_on _ s _ _ _ _ (t.unknown first command) = stays o l s.pass
+  answers_on _ s _ _ _ _ (t.pinged first command) = stays o l s.pass
+  answers_on _ s _ _ _ _ (t.selected name first command is) = stays o l s.pass
+  answers_on _ s _ _ _ _ (t.unknown_keyspace name first command is) = stays o l s.pass
+  answers_on _ s _ _ _ _ (t.queried {now} text outcome first command may) = means_on s text outcome now may
+
+  replies_later : (at : Phase) (s now : PassAndTransaction) (ps : List Payload) (out : List ℕ) (b : Standing) → Replies (terms_of o hello) May at s ps out b now
+      → IsPrefix s.pass.seen now.pass.seen
+  replies_later _ s _ _ _ _ t.none = prefix_self s.pass.seen
   replies_later _ s _ _ _ _ (t.goes {at} {next} {mid} {t = now} {p} {more = ps} {out} {rest} {standing = b} a r) =
-      prefix_trans s.seen mid.seen now.seen (answers_on at s mid p out (At next) a).on.later (replies_later next mid now ps rest b r)
-  replies_later _ s _ _ _ _ (t.ends {at} {t = now} {p} {out} {end} a) = (answers_on at s now p out (Ended end) a).on.later
+      prefix_trans s.pass.seen mid.pass.seen now.pass.seen (answers_on at s mid p out (At next) a).later (replies_later next mid now ps rest b r)
+  replies_later _ s _ _ _ _ (t.ends {at} {t = now} {p} {out} {end} a) = (answers_on at s now p out (Ended end) a).later
+
+  -- ---- over the one database
+
+  status_at : (run : Run) (tx : Option Transaction) (told : Option (List Told)) → IsOverAt o run tx told → status_with tx ≡ status_with told
+  status_at run None None h = refl
+  status_at run None (Some told) h = absurd h
+  status_at run (Some tx) None h = absurd h
+  status_at run (Some tx) (Some told) h = refl
+
+  same_status : (x : Alone o) (s : PassAndTransaction) → x.kept ≡ s → status_with s.tx ≡ status_with x.state.open_one
+  same_status x s e = ap (λ (y : PassAndTransaction). status_with y.tx) (sym e) ∙ status_at x.kept.pass.seen x.kept.tx x.state.open_one x.tx
+
+  -- it stands for that state
+  abbrev Over_it : PassAndTransaction → (Alone o → Type 0) → Type 0
+  Over_it now P = (y : Alone o) × (y.kept ≡ now) × P y
 
   module _ (opens : IsOpening o) (formed : is_vschema o.schema ≡ true) where
-    means_over : (p : Seen) (text : List ℕ) (outcome : Outcome) (now : Seen) → Means o l p text outcome now → IsLegal (MayFollow o) p.seen → NoOthers p now
-        → MeansOver o.schema (one o p.seen) text outcome (one o now.seen)
-    means_over p text _ now (means.answered reply is shows) legal alone =
-        over.answered reply.answer (reply_over o opens formed l text p now reply legal alone is) shows
-    means_over p text _ now (means.refused {r} why) legal alone =
-        let refuses = refusal_over o opens formed l text p r now why alone in
-        subst (λ (run : Run). MeansOver o.schema (one o p.seen) text (Rattle.resultset.specs.declared.Outcome.TheVariants.Refused r) (one o run)) (sym refuses.same) (over.refused refuses.why)
+    alone_at : (x : Alone o) (text : List ℕ) (outcome : Outcome) (now : PassAndTransaction) → May x.kept text outcome now
+        → Goes o x.kept.pass now (λ y. MeansOver o.schema x.state text outcome y) → Over_it now (λ y. MeansAlone o l x text outcome y)
+    alone_at x text outcome now may g =
+        (record { kept = now; state = g.state; rows = g.rows; tx = g.tx }, refl, record { means = may; over = g.holds })
 
-    answers_alone : (at : Phase) (s now : Seen) (p : Payload) (out : List ℕ) (b : Standing) → Answers terms (Means o l) at s p out b now
-        → IsLegal (MayFollow o) s.seen → NoOthers s now → Answers terms (MeansAlone o l) at s p out b now
-    answers_alone _ s _ _ _ _ (t.out_of_order first) legal alone = t.out_of_order first
-    answers_alone _ s _ _ _ _ (t.logs_in is) legal alone = t.logs_in is
-    answers_alone _ s _ _ _ _ (t.quits first command) legal alone = t.quits first command
-    answers_alone _ s _ _ _ _ (t.unknown first command) legal alone = t.unknown first command
-    answers_alone _ s _ _ _ _ (t.pinged first command) legal alone = t.pinged first command
-    answers_alone _ s _ _ _ _ (t.selected name first command is) legal alone = t.selected name first command is
-    answers_alone _ s _ _ _ _ (t.unknown_keyspace name first command is) legal alone = t.unknown_keyspace name first command is
-    answers_alone _ s _ _ _ _ (t.queried {now} text outcome first command may) legal alone =
-        t.queried text outcome first command (record { means = may; over = means_over s text outcome now may legal alone })
+    -- of the state that it knows
+    as_state : (x : Alone o) → record { db = one o x.kept.pass.seen; open_one = x.state.open_one } ≡ x.state
+    as_state x = ap (λ (db : Database). record x.state { db = db }) (sym x.rows)
 
-    replies_alone : (at : Phase) (s now : Seen) (ps : List Payload) (out : List ℕ) (b : Standing) → Replies terms (Means o l) at s ps out b now
-        → IsLegal (MayFollow o) s.seen → NoOthers s now → Replies terms (MeansAlone o l) at s ps out b now
-    replies_alone _ s _ _ _ _ t.none legal alone = t.none
-    replies_alone _ s _ _ _ _ (t.goes {at} {next} {mid} {t = now} {p} {more = ps} {out} {rest} {standing = b} a r) legal alone =
+    means_over : (x : Alone o) (text : List ℕ) (outcome : Outcome) (now : PassAndTransaction) → May x.kept text outcome now → IsLegal (MayFollow o) x.kept.pass.seen
+        → NoOthers x.kept.pass now.pass → Goes o x.kept.pass now (λ y. MeansOver o.schema x.state text outcome y)
+    means_over x text outcome now may legal others = by outcome may
+      where
+        by : (outcome : Outcome) → May x.kept text outcome now → Goes o x.kept.pass now (λ y. MeansOver o.schema x.state text outcome y)
+        by outcome (means.answered reply is shows) =
+            let g = answer_over o opens formed l text x.kept now x.state.open_one reply legal others x.tx is in record {
+              state = g.state;
+              holds = over.answered reply.answer (subst (λ (s : OneState). over.AnswersNext o.schema s text reply.answer g.state) (as_state x) g.holds) shows;
+              rows = g.rows;
+              tx = g.tx;
+            }
+        by _ (means.untold reply is rows) =
+            let g = answer_over o opens formed l text x.kept now x.state.open_one reply legal others x.tx is in record {
+              state = g.state;
+              holds = over.untold reply.answer (subst (λ (s : OneState). over.AnswersNext o.schema s text reply.answer g.state) (as_state x) g.holds) rows;
+              rows = g.rows;
+              tx = g.tx;
+            }
+        by _ (means.refused {r} why) =
+            let g = refused_over o opens formed l text x.kept now x.state.open_one r others x.tx why in record {
+              state = g.state;
+              holds =
+                  subst (λ (s : OneState). MeansOver o.schema s text (Rattle.resultset.specs.declared.Outcome.TheVariants.Refused r) g.state) (as_state x) g.holds;
+              rows = g.rows;
+              tx = g.tx;
+            }
+
+    means_alone : (x : Alone o) (s : PassAndTransaction) → x.kept ≡ s → (text : List ℕ) (outcome : Outcome) (now : PassAndTransaction) → May s text outcome now
+        → IsLegal (MayFollow o) s.pass.seen → NoOthers s.pass now.pass → Over_it now (λ y. MeansAlone o l x text outcome y)
+    means_alone x s e text outcome now may legal others =
+        let may_x = subst (λ (y : PassAndTransaction). May y text outcome now) (sym e) may in
+        alone_at x text outcome now may_x
+        (means_over x text outcome now may_x (subst (λ (y : PassAndTransaction). IsLegal (MayFollow o) y.pass.seen) (sym e) legal)
+        (subst (λ (y : PassAndTransaction). NoOthers y.pass now.pass) (sym e) others))
+
+    abbrev Answers_over : Phase → Alone o → Payload → List ℕ → Standing → Alone o → Type 0
+    Answers_over = Answers (alone_terms o hello) (MeansAlone o l)
+
+    pong : (x : Alone o) (s : PassAndTransaction) → x.kept ≡ s → (bits : ℕ) (p : Payload)
+        → Answers_over (Commands bits) x p (frame (reply_number p) (ok_payload 0 (status_with x.state.open_one))) (At (Commands bits)) x
+        → Over_it s (λ y. Answers_over (Commands bits) x p (frame (reply_number p) (ok_payload 0 (status_with s.tx))) (At (Commands bits)) y)
+    pong x s e bits p a = (
+      x,
+      e,
+      subst (λ (n : ℕ). Answers_over (Commands bits) x p (frame (reply_number p) (ok_payload 0 n)) (At (Commands bits)) x) (sym (same_status x s e)) a,
+    )
+
+    answers_alone : (x : Alone o) (at : Phase) (s now : PassAndTransaction) (p : Payload) (out : List ℕ) (b : Standing) → x.kept ≡ s
+        → Answers (terms_of o hello) May at s p out b now → IsLegal (MayFollow o) s.pass.seen → NoOthers s.pass now.pass
+        → Over_it now (λ y. Answers_over at x p out b y)
+    answers_alone x _ s _ _ _ _ e (t.out_of_order first) legal others = (x, e, t.out_of_order first)
+    answers_alone x at s _ p _ _ e (t.logs_in {out} {standing} is) legal others = (
+      x,
+      e,
+      t.logs_in (subst (λ (n : ℕ). LogsIn hello o.schema.keyspaces n at p out standing) (same_status x s e) is),
+    )
+    answers_alone x _ s _ _ _ _ e (t.quits first command) legal others = (x, e, t.quits first command)
+    answers_alone x _ s _ _ _ _ e (t.unknown first command) legal others = (x, e, t.unknown first command)
+    answers_alone x _ s _ p _ _ e (t.pinged {bits} first command) legal others = pong x s e bits p (t.pinged first command)
+    answers_alone x _ s _ p _ _ e (t.selected {bits} name first command is) legal others = pong x s e bits p (t.selected name first command is)
+    answers_alone x _ s _ _ _ _ e (t.unknown_keyspace name first command is) legal others = (x, e, t.unknown_keyspace name first command is)
+    answers_alone x _ s _ p _ _ e (t.queried {bits} {now} text outcome first command may) legal others =
+        let then = means_alone x s e text outcome now may legal others in
+        let y = then.0 in (
+          y,
+          then.1,
+          subst (λ (n : ℕ). Answers_over (Commands bits) x p (encoded (set_end_of bits) outcome (reply_number p) n) (At (Commands bits)) y) (sym (same_status y now then.1))
+              (t.queried text outcome first command then.2),
+        )
+
+    abbrev Replies_over : Phase → Alone o → List Payload → List ℕ → Standing → Alone o → Type 0
+    Replies_over = Replies (alone_terms o hello) (MeansAlone o l)
+
+    replies_alone : (x : Alone o) (at : Phase) (s now : PassAndTransaction) (ps : List Payload) (out : List ℕ) (b : Standing) → x.kept ≡ s
+        → Replies (terms_of o hello) May at s ps out b now → IsLegal (MayFollow o) s.pass.seen → NoOthers s.pass now.pass
+        → Over_it now (λ y. Replies_over at x ps out b y)
+    replies_alone x _ s _ _ _ _ e t.none legal others = (x, e, t.none)
+    replies_alone x _ s _ _ _ _ e (t.goes {at} {next} {mid} {t = now} {p} {more = ps} {out} {rest} {standing = b} a r) legal others =
         let follows = answers_on at s mid p out (At next) a in
         let later = replies_later next mid now ps rest b r in
-        t.goes (answers_alone at s mid p out (At next) a legal (up_to s now alone mid follows.on.later later))
-        (replies_alone next mid now ps rest b r (follows.on.legal legal) (behind s now alone mid follows.on.later later follows.session))
-    replies_alone _ s _ _ _ _ (t.ends {at} {t = now} {p} {out} {end} a) legal alone = t.ends (answers_alone at s now p out (Ended end) a legal alone)
+        let first = answers_alone x at s mid p out (At next) e a legal (up_to s.pass now.pass others mid.pass follows.later later) in
+        let rest_of = replies_alone first.0 next mid now ps rest b first.1 r (follows.legal legal) (behind s.pass now.pass others mid.pass follows.later later follows.session) in
+        (rest_of.0, rest_of.1, t.goes first.2 rest_of.2)
+    replies_alone x _ s _ _ _ _ e (t.ends {at} {t = now} {p} {out} {end} a) legal others =
+        let last = answers_alone x at s now p out (Ended end) e a legal others in
+        (last.0, last.1, t.ends last.2)
 
-    conversation_alone : (begin : Standing) (s now : Seen) (ps : List Payload) (out : List ℕ) (b : Standing) → Conversation terms (Means o l) begin s ps out b now
-        → IsLegal (MayFollow o) s.seen → NoOthers s now → Conversation terms (MeansAlone o l) begin s ps out b now
-    conversation_alone _ s _ _ _ _ t.new legal alone = t.new
-    conversation_alone _ s _ _ _ _ (t.begun {standing = b} {at} {t = now} {ps} {out} g r) legal alone = t.begun g (replies_alone at s now ps out b r legal alone)
+    abbrev Talks_over : Standing → Alone o → List Payload → List ℕ → Standing → Alone o → Type 0
+    Talks_over = Conversation (alone_terms o hello) (MeansAlone o l)
+
+    conversation_alone : (x : Alone o) (begin : Standing) (s now : PassAndTransaction) (ps : List Payload) (out : List ℕ) (b : Standing) → x.kept ≡ s
+        → Conversation (terms_of o hello) May begin s ps out b now → IsLegal (MayFollow o) s.pass.seen → NoOthers s.pass now.pass
+        → Over_it now (λ y. Talks_over begin x ps out b y)
+    conversation_alone x _ s _ _ _ _ e t.new legal others = (x, e, t.new)
+    conversation_alone x _ s _ _ _ _ e (t.begun {standing = b} {at} {t = now} {ps} {out} g r) legal others =
+        let then = replies_alone x at s now ps out b e r legal others in
+        (then.0, then.1, t.begun g then.2)
 
     -- a whole conversation
-    pub talk_alone : (limit : ℕ) (begin : Standing) (s now : Seen) (bytes out : List ℕ) (end : End) → IsLegal (MayFollow o) s.seen
-        → Talk limit terms (Means o l) begin s bytes out end now → NoOthers s now → Talk limit terms (MeansAlone o l) begin s bytes out end now
-    talk_alone limit begin s _ bytes _ _ legal (t.ended {out} {end} {t = now} payloads rest splits r) alone =
-        t.ended payloads rest splits (conversation_alone begin s now payloads out (Ended end) r legal alone)
-    talk_alone limit begin s _ bytes _ _ legal (t.ended_before {out} {end} {t = now} payloads fault refused r) alone =
-        t.ended_before payloads fault refused (conversation_alone begin s now payloads out (Ended end) r legal alone)
-    talk_alone limit begin s _ bytes _ _ legal (t.refused {out} {at} {t = now} payloads fault refused r) alone =
-        t.refused payloads fault refused (conversation_alone begin s now payloads out (At at) r legal alone)
-    talk_alone limit begin s _ bytes _ _ legal (t.closed {out} {at} {t = now} payloads splits r) alone =
-        t.closed payloads splits (conversation_alone begin s now payloads out (At at) r legal alone)
-    talk_alone limit begin s _ bytes _ _ legal (t.truncated {out} {at} {t = now} payloads b rest splits r) alone =
-        t.truncated payloads b rest splits (conversation_alone begin s now payloads out (At at) r legal alone)
+    talk_alone : (x : Alone o) (limit : ℕ) (begin : Standing) (s now : PassAndTransaction) (bytes out : List ℕ) (end : End) → x.kept ≡ s → IsLegal (MayFollow o) s.pass.seen
+        → Talk limit (terms_of o hello) May begin s bytes out end now → NoOthers s.pass now.pass
+        → Over_it now (λ y. Talk limit (alone_terms o hello) (MeansAlone o l) begin x bytes out end y)
+    talk_alone x limit begin s _ bytes _ _ e legal (t.ended {out} {end} {t = now} payloads rest splits r) others =
+        let then = conversation_alone x begin s now payloads out (Ended end) e r legal others in
+        (then.0, then.1, t.ended payloads rest splits then.2)
+    talk_alone x limit begin s _ bytes _ _ e legal (t.ended_before {out} {end} {t = now} payloads fault refused r) others =
+        let then = conversation_alone x begin s now payloads out (Ended end) e r legal others in
+        (then.0, then.1, t.ended_before payloads fault refused then.2)
+    talk_alone x limit begin s _ bytes _ _ e legal (t.refused {out} {at} {t = now} payloads fault refused r) others =
+        let then = conversation_alone x begin s now payloads out (At at) e r legal others in
+        (then.0, then.1, t.refused payloads fault refused then.2)
+    talk_alone x limit begin s _ bytes _ _ e legal (t.closed {out} {at} {t = now} payloads splits r) others =
+        let then = conversation_alone x begin s now payloads out (At at) e r legal others in
+        (then.0, then.1, t.closed payloads splits then.2)
+    talk_alone x limit begin s _ bytes _ _ e legal (t.truncated {out} {at} {t = now} payloads b rest splits r) others =
+        let then = conversation_alone x begin s now payloads out (At at) e r legal others in
+        (then.0, then.1, t.truncated payloads b rest splits then.2)
 
     -- of what was read and written
-    pub served_alone : (limit : ℕ) (begin : Standing) (s now : Seen) (end : End) (a b c d : Option (List ℕ)) → IsLegal (MayFollow o) s.seen
-        → SoFar a b c d (λ read written. Talk limit terms (Means o l) begin s read written end now) → NoOthers s now
-        → SoFar a b c d (λ read written. Talk limit terms (MeansAlone o l) begin s read written end now)
-    served_alone limit begin s now end a b c d legal talk alone =
-        (talk.0, talk.1, talk.2, talk.3, talk_alone limit begin s now talk.0 talk.1 end legal talk.4 alone)
+    pub served_alone : (x : Alone o) (limit : ℕ) (begin : Standing) (pass : PassView Entry) (end : End) (a b c d : Option (List ℕ)) → IsLegal (MayFollow o) x.kept.pass.seen
+        → SoFar a b c d (λ read written. (now : PassAndTransaction) × (now.pass ≡ pass) × Talk limit (terms_of o hello) May begin x.kept read written end now)
+        → NoOthers x.kept.pass pass
+        → SoFar a b c d (λ read written. (now : Alone o) × (now.kept.pass ≡ pass) × Talk limit (alone_terms o hello) (MeansAlone o l) begin x read written end now)
+    served_alone x limit begin pass end a b c d legal talk others =
+        let now = talk.4.0 in
+        let then = talk_alone x limit begin x.kept now talk.0 talk.1 end refl legal talk.4.2 (same_others x.kept.pass now.pass x.kept.pass pass refl talk.4.1 others) in
+        (talk.0, talk.1, talk.2, talk.3, (then.0, ap (λ (s : PassAndTransaction). s.pass) then.1 ∙ talk.4.1, then.2))
 
     -- the answer to a piece
-    pub fed_alone : (at : Standing) (s now : Seen) (fed : Fed) (out : List ℕ) (b : Standing) → IsLegal (MayFollow o) s.seen
-        → AnswersFed terms (Means o l) at s fed out b now → NoOthers s now → AnswersFed terms (MeansAlone o l) at s fed out b now
-    fed_alone at s _ fed _ _ legal (sessions.ended {out} {end} {now} r) alone = sessions.ended (conversation_alone at s now fed.payloads out (Ended end) r legal alone)
-    fed_alone at s _ fed _ _ legal (sessions.goes_on {out} {at = next} {now} no_fault r) alone =
-        sessions.goes_on no_fault (conversation_alone at s now fed.payloads out (At next) r legal alone)
-    fed_alone at s _ fed _ _ legal (sessions.refused {out} {at = next} {now} fault is r) alone =
-        sessions.refused fault is (conversation_alone at s now fed.payloads out (At next) r legal alone)
+    pub fed_over : (at : Standing) (fed : Fed) (out : List ℕ) (b : Standing) (x : Alone o) (now : PassAndTransaction) → IsLegal (MayFollow o) x.kept.pass.seen
+        → AnswersFed (terms_of o hello) May at x.kept fed out b now → NoOthers x.kept.pass now.pass
+        → Over_it now (λ y. AnswersFed (alone_terms o hello) (MeansAlone o l) at x fed out b y)
+    fed_over at fed _ _ x _ legal (sessions.ended {out} {end} {now} r) others =
+        let then = conversation_alone x at x.kept now fed.payloads out (Ended end) refl r legal others in
+        (then.0, then.1, sessions.ended then.2)
+    fed_over at fed _ _ x _ legal (sessions.goes_on {out} {at = next} {now} no_fault r) others =
+        let then = conversation_alone x at x.kept now fed.payloads out (At next) refl r legal others in
+        (then.0, then.1, sessions.goes_on no_fault then.2)
+    fed_over at fed _ _ x _ legal (sessions.refused {out} {at = next} {now} fault is r) others =
+        let then = conversation_alone x at x.kept now fed.payloads out (At next) refl r legal others in
+        (then.0, then.1, sessions.refused fault is then.2)

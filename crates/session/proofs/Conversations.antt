@@ -60,50 +60,82 @@ prefix_behind before xs ys p = (p.0, append_assoc before xs p.0 ∙ ap (λ w. be
 front_behind : (a b c : Known) (xs ys : List ℕ) → Appends a b xs → AppendsFront b c ys → AppendsFront a c (xs ++ ys)
 front_behind a b c xs ys p q = (xs ++ q.0, prefix_behind xs q.0 ys q.1, Appends-trans a b c xs q.0 p q.2)
 
-module _ {S : Type 0} (terms : Terms S) (May : S → List ℕ → Outcome → S → Type 0) (begin : Phase) (first : S) where
-  pub nothing_yet : (a : Known) → Written a a (λ out. Replies terms May begin first [] out (At begin) first)
-  nothing_yet a = ([], Appends-nil a, t.none)
+-- From each state of a kind, this leads to one of another.
+abbrev pub Lead : {S : Type 0} → (S → Type 0) → (S → Type 0) → (S → S → Type 0) → Type 0
+Lead {S} Old Now R = (s : S) → Old s → (now : S) × Now now × R s now
 
-  abbrev Front : Known → Known → List Payload → S → Type 0
-  Front a b ps now = (done : List Payload) × (out : List ℕ) × (standing : Standing) × IsPrefix done ps × AppendsFront a b out
-      × Replies terms May begin first done out standing now
+module _ {S : Type 0} where
+  pub lead_so : (Old Now : S → Type 0) (R Q : S → S → Type 0) → ((s now : S) → R s now → Q s now) → Lead Old Now R → Lead Old Now Q
+  lead_so Old Now R Q so leads = λ s is. let then = leads s is in (then.0, then.1, so s then.0 then.2)
 
-  module _ (mid now : S) (a b c : Known) (i : ℕ) (ps : List Payload) (p : Payload) (phase : Phase) (standing : Standing) (lt : i < length ps) (is : p ≡ get_or ps i p)
-      (before : Written a b (λ out. Replies terms May begin first (take i ps) out (At phase) mid)) where
+  pub lead_on : (Old Mid Now : S → Type 0) (P Q R : S → S → Type 0) → ((s mid now : S) → P s mid → Q mid now → R s now)
+      → Lead Old Mid P → Lead Mid Now Q → Lead Old Now R
+  lead_on Old Mid Now P Q R so first second = λ s is.
+      let mid = first s is in
+      let then = second mid.0 mid.1 in
+      (then.0, then.1, so s mid.0 then.0 mid.2 then.2)
+
+module _ {S : Type 0} (terms : Terms S) (May : S → List ℕ → Outcome → S → Type 0) (begin : Phase) where
+  pub nothing_yet : (Old : S → Type 0) (a : Known) → Written a a (λ out. Lead Old Old (λ s now. Replies terms May begin s [] out (At begin) now))
+  nothing_yet Old a = ([], Appends-nil a, λ s is. (s, is, t.none))
+
+  module _ (Old Mid Now : S → Type 0) (a b c : Known) (i : ℕ) (ps : List Payload) (p : Payload) (phase : Phase) (standing : Standing) (lt : i < length ps)
+      (is : p ≡ get_or ps i p) (before : Written a b (λ out. Lead Old Mid (λ s now. Replies terms May begin s (take i ps) out (At phase) now))) where
     front : take i ps ++ p ∷ [] ≡ take (i + 1) ps
     front = ap (λ (x : Payload). take i ps ++ x ∷ []) is ∙ sym (take_more ps i p lt)
 
-    both : (out : List ℕ) → Answers terms May phase mid p out standing now → Replies terms May begin first (take (i + 1) ps) (before.0 ++ out) standing now
-    both out answers =
-        subst (λ (qs : List Payload). Replies terms May begin first qs (before.0 ++ out) standing now) front
-        (go_on terms May begin phase first mid now (take i ps) (p ∷ []) before.0 out (At phase) standing refl before.2 (one_reply terms May phase mid now p out standing answers))
+    both : (out : List ℕ) (s mid now : S) → Replies terms May begin s (take i ps) before.0 (At phase) mid → Answers terms May phase mid p out standing now
+        → Replies terms May begin s (take (i + 1) ps) (before.0 ++ out) standing now
+    both out s mid now so answers =
+        subst (λ (qs : List Payload). Replies terms May begin s qs (before.0 ++ out) standing now) front
+        (go_on terms May begin phase s mid now (take i ps) (p ∷ []) before.0 out (At phase) standing refl so (one_reply terms May phase mid now p out standing answers))
 
-    pub next_reply : Written b c (λ out. Answers terms May phase mid p out standing now) → Written a c (λ out. Replies terms May begin first (take (i + 1) ps) out standing now)
-    next_reply q = (before.0 ++ q.0, Appends-trans a b c before.0 q.0 before.1 q.1, both q.0 q.2)
+    with_next : (out : List ℕ) → Lead Mid Now (λ s now. Answers terms May phase s p out standing now)
+        → Lead Old Now (λ s now. Replies terms May begin s (take (i + 1) ps) (before.0 ++ out) standing now)
+    with_next out leads =
+        lead_on Old Mid Now (λ s now. Replies terms May begin s (take i ps) before.0 (At phase) now) (λ s now. Answers terms May phase s p out standing now)
+        (λ s now. Replies terms May begin s (take (i + 1) ps) (before.0 ++ out) standing now) (both out) before.2 leads
+
+    pub next_reply : Written b c (λ out. Lead Mid Now (λ s now. Answers terms May phase s p out standing now))
+        → Written a c (λ out. Lead Old Now (λ s now. Replies terms May begin s (take (i + 1) ps) out standing now))
+    next_reply q = (before.0 ++ q.0, Appends-trans a b c before.0 q.0 before.1 q.1, with_next q.0 q.2)
+
+  abbrev Front : (Old Now : S → Type 0) → Known → Known → List Payload → Type 0
+  Front Old Now a b ps = (done : List Payload) × (out : List ℕ) × (standing : Standing) × IsPrefix done ps × AppendsFront a b out
+      × Lead Old Now (λ s now. Replies terms May begin s done out standing now)
 
   -- the sink failed at the reply to one payload
-  pub cut_reply : (mid now : S) (a b c : Known) (i : ℕ) (ps : List Payload) (p : Payload) (phase : Phase) → i < length ps → p ≡ get_or ps i p
-      → Written a b (λ out. Replies terms May begin first (take i ps) out (At phase) mid)
-      → (out : List ℕ) × (standing : Standing) × AppendsFront b c out × Answers terms May phase mid p out standing now → Front a c ps now
-  cut_reply mid now a b c i ps p phase lt is before cut = (
+  pub cut_reply : (Old Mid Now : S → Type 0) (a b c : Known) (i : ℕ) (ps : List Payload) (p : Payload) (phase : Phase) → i < length ps → p ≡ get_or ps i p
+      → Written a b (λ out. Lead Old Mid (λ s now. Replies terms May begin s (take i ps) out (At phase) now))
+      → (out : List ℕ) × (standing : Standing) × AppendsFront b c out × Lead Mid Now (λ s now. Answers terms May phase s p out standing now) → Front Old Now a c ps
+  cut_reply Old Mid Now a b c i ps p phase lt is before cut = (
     take (i + 1) ps,
     before.0 ++ cut.0,
     cut.1,
     (drop (i + 1) ps, take-append-drop (i + 1) ps),
     front_behind a b c before.0 cut.0 before.1 cut.2,
-    both mid now a b c i ps p phase cut.1 lt is before cut.0 cut.3,
+    with_next Old Mid Now a b c i ps p phase cut.1 lt is before cut.0 cut.3,
   )
 
-  pub all_ended : (now : S) (a b : Known) (n : ℕ) (ps : List Payload) (standing : Standing) (end : End) → standing ≡ Ended end
-      → Written a b (λ out. Replies terms May begin first (take n ps) out standing now) → Written a b (λ out. Replies terms May begin first ps out (Ended end) now)
-  all_ended now a b n ps standing end is r =
-      let P : List Payload → Type 0 = λ qs. Replies terms May begin first qs r.0 standing now in
-      let Q : Standing → Type 0 = λ b. Replies terms May begin first ps r.0 b now in
-      (r.0, r.1, subst Q is (subst P (take-append-drop n ps) (stay_ended terms May begin first now (take n ps) (drop n ps) r.0 standing end is r.2)))
+  pub all_ended : (Old Now : S → Type 0) (a b : Known) (n : ℕ) (ps : List Payload) (standing : Standing) (end : End) → standing ≡ Ended end
+      → Written a b (λ out. Lead Old Now (λ s now. Replies terms May begin s (take n ps) out standing now))
+      → Written a b (λ out. Lead Old Now (λ s now. Replies terms May begin s ps out (Ended end) now))
+  all_ended Old Now a b n ps standing end is r =
+      let so : (s now : S) → Replies terms May begin s (take n ps) r.0 standing now → Replies terms May begin s ps r.0 (Ended end) now =
+      λ s now h.
+      subst (λ (x : Standing). Replies terms May begin s ps r.0 x now) is
+      (subst (λ (qs : List Payload). Replies terms May begin s qs r.0 standing now) (take-append-drop n ps)
+      (stay_ended terms May begin s now (take n ps) (drop n ps) r.0 standing end is h)) in (
+        r.0,
+        r.1,
+        lead_so Old Now (λ s now. Replies terms May begin s (take n ps) r.0 standing now) (λ s now. Replies terms May begin s ps r.0 (Ended end) now) so r.2,
+      )
 
-  pub standing_is : (now : S) (a b : Known) (ps : List Payload) (standing then : Standing) → standing ≡ then
-      → Written a b (λ out. Replies terms May begin first ps out standing now) → Written a b (λ out. Replies terms May begin first ps out then now)
-  standing_is now a b ps standing then is r = (r.0, r.1, subst (λ (x : Standing). Replies terms May begin first ps r.0 x now) is r.2)
+  pub standing_is : (Old Now : S → Type 0) (a b : Known) (ps : List Payload) (standing after : Standing) → standing ≡ after
+      → Written a b (λ out. Lead Old Now (λ s now. Replies terms May begin s ps out standing now))
+      → Written a b (λ out. Lead Old Now (λ s now. Replies terms May begin s ps out after now))
+  standing_is Old Now a b ps standing after is r =
+      (r.0, r.1, subst (λ (x : Standing). Lead Old Now (λ s now. Replies terms May begin s ps r.0 x now)) is r.2)
 
 -- a new session's greeting
 module _ (hello : Hello) (begin : Standing) (a b : Known) (bytes : List ℕ) (new : begin ≡ New) (is : bytes ≡ frame 0 (greeting_payload hello.id hello.salt)) where
@@ -117,43 +149,115 @@ module _ (hello : Hello) (begin : Standing) (a b : Known) (bytes : List ℕ) (ne
   pub greeted_front : AppendsFront a b bytes → (front : List ℕ) × (phase : Phase) × AppendsFront a b front × Greets hello begin front phase
   greeted_front taken = (bytes, Response, taken, greets_so)
 
-module _ {S : Type 0} (terms : Terms S) (May : S → List ℕ → Outcome → S → Type 0) (begin : Standing) (first : S) where
+module _ {S : Type 0} (terms : Terms S) (May : S → List ℕ → Outcome → S → Type 0) (begin : Standing) (Old Now : S → Type 0) where
   -- the greeting, where there is one, and the replies behind it
-  pub begun : (now : S) (a b c : Known) (at : Phase) (ps : List Payload) (standing : Standing) → Written a b (λ front. Greets terms.hello begin front at)
-      → Written b c (λ out. Replies terms May at first ps out standing now) → Written a c (λ out. Conversation terms May begin first ps out standing now)
-  begun now a b c at ps standing g r = (g.0 ++ r.0, Appends-trans a b c g.0 r.0 g.1 r.1, t.begun g.2 r.2)
+  pub begun : (a b c : Known) (at : Phase) (ps : List Payload) (standing : Standing) → Written a b (λ front. Greets terms.hello begin front at)
+      → Written b c (λ out. Lead Old Now (λ s now. Replies terms May at s ps out standing now))
+      → Written a c (λ out. Lead Old Now (λ s now. Conversation terms May begin s ps out standing now))
+  begun a b c at ps standing g r = (
+    g.0 ++ r.0,
+    Appends-trans a b c g.0 r.0 g.1 r.1,
+    lead_so Old Now (λ s now. Replies terms May at s ps r.0 standing now) (λ s now. Conversation terms May begin s ps (g.0 ++ r.0) standing now)
+        (λ s now h. t.begun g.2 h) r.2,
+  )
 
-  standing_then : (now : S) (a b : Known) (ps : List Payload) (standing then : Standing) → standing ≡ then
-      → Written a b (λ out. Conversation terms May begin first ps out standing now) → Written a b (λ out. Conversation terms May begin first ps out then now)
-  standing_then now a b ps standing then is r = (r.0, r.1, subst (λ (x : Standing). Conversation terms May begin first ps r.0 x now) is r.2)
+  standing_then : (a b : Known) (ps : List Payload) (standing after : Standing) → standing ≡ after
+      → Written a b (λ out. Lead Old Now (λ s now. Conversation terms May begin s ps out standing now))
+      → Written a b (λ out. Lead Old Now (λ s now. Conversation terms May begin s ps out after now))
+  standing_then a b ps standing after is r =
+      (r.0, r.1, subst (λ (x : Standing). Lead Old Now (λ s now. Conversation terms May begin s ps r.0 x now)) is r.2)
 
-  pub fed_ended : (now : S) (a b : Known) (fed : Fed) (standing : Standing) (end : End) → standing ≡ Ended end
-      → Written a b (λ out. Conversation terms May begin first fed.payloads out standing now) → Written a b (λ out. AnswersFed terms May begin first fed out (Ended end) now)
-  fed_ended now a b fed standing end is r = let q = standing_then now a b fed.payloads standing (Ended end) is r in (q.0, q.1, s.ended q.2)
+  abbrev Talked : Known → Known → List Payload → Standing → Type 0
+  Talked a b ps standing = Written a b (λ out. Lead Old Now (λ s now. Conversation terms May begin s ps out standing now))
 
-  pub fed_goes_on : (now : S) (a b : Known) (fed : Fed) (standing : Standing) (next : Phase) → standing ≡ At next → fed.fault ≡ None
-      → Written a b (λ out. Conversation terms May begin first fed.payloads out standing now) → Written a b (λ out. AnswersFed terms May begin first fed out (At next) now)
-  fed_goes_on now a b fed standing next is no_fault r = let q = standing_then now a b fed.payloads standing (At next) is r in (q.0, q.1, s.goes_on no_fault q.2)
+  abbrev Fed_so : Known → Known → Fed → Standing → Type 0
+  Fed_so a b fed standing = Written a b (λ out. Lead Old Now (λ s now. AnswersFed terms May begin s fed out standing now))
 
-  pub fed_refused : (now : S) (a b c : Known) (fed : Fed) (fault : Fault) (standing : Standing) (next : Phase) → standing ≡ At next → fed.fault ≡ Some fault
-      → Written a b (λ out. Conversation terms May begin first fed.payloads out standing now) → Appends b c (refusal_bytes fault.number fault.refusal)
-      → Written a c (λ out. AnswersFed terms May begin first fed out (Ended Broken) now)
-  fed_refused now a b c fed fault standing next at is r told =
-      let q = standing_then now a b fed.payloads standing (At next) at r in
-      (q.0 ++ refusal_bytes fault.number fault.refusal, Appends-trans a b c q.0 (refusal_bytes fault.number fault.refusal) q.1 told, s.refused fault is q.2)
+  pub fed_ended : (a b : Known) (fed : Fed) (standing : Standing) (end : End) → standing ≡ Ended end → Talked a b fed.payloads standing → Fed_so a b fed (Ended end)
+  fed_ended a b fed standing end is r =
+      let q = standing_then a b fed.payloads standing (Ended end) is r in (
+        q.0,
+        q.1,
+        lead_so Old Now (λ s now. Conversation terms May begin s fed.payloads q.0 (Ended end) now) (λ s now. AnswersFed terms May begin s fed q.0 (Ended end) now)
+            (λ first now h. s.ended h) q.2,
+      )
 
-  answers_of : (at : Phase) (ps : List Payload) (greeting out : List ℕ) (standing : Standing) (now : S) → Greets terms.hello begin greeting at
+  pub fed_goes_on : (a b : Known) (fed : Fed) (standing : Standing) (next : Phase) → standing ≡ At next → fed.fault ≡ None → Talked a b fed.payloads standing
+      → Fed_so a b fed (At next)
+  fed_goes_on a b fed standing next is no_fault r =
+      let q = standing_then a b fed.payloads standing (At next) is r in (
+        q.0,
+        q.1,
+        lead_so Old Now (λ s now. Conversation terms May begin s fed.payloads q.0 (At next) now) (λ s now. AnswersFed terms May begin s fed q.0 (At next) now)
+            (λ first now h. s.goes_on no_fault h) q.2,
+      )
+
+  pub fed_refused : (a b c : Known) (fed : Fed) (fault : Fault) (standing : Standing) (next : Phase) → standing ≡ At next → fed.fault ≡ Some fault
+      → Talked a b fed.payloads standing → Appends b c (refusal_bytes fault.number fault.refusal) → Fed_so a c fed (Ended Broken)
+  fed_refused a b c fed fault standing next at is r told =
+      let q = standing_then a b fed.payloads standing (At next) at r in
+      let bytes : List ℕ = refusal_bytes fault.number fault.refusal in (
+        q.0 ++ bytes,
+        Appends-trans a b c q.0 bytes q.1 told,
+        lead_so Old Now (λ s now. Conversation terms May begin s fed.payloads q.0 (At next) now) (λ s now. AnswersFed terms May begin s fed (q.0 ++ bytes) (Ended Broken) now)
+            (λ first now h. s.refused fault is h) q.2,
+      )
+
+  answers_of : (at : Phase) (ps : List Payload) (greeting out : List ℕ) (standing : Standing) (first now : S) → Greets terms.hello begin greeting at
       → Replies terms May at first ps out standing now → AnswersFed terms May begin first (record { payloads = ps; fault = None }) (greeting ++ out) standing now
-  answers_of at ps greeting out New now g r = absurd (not_new terms May at first now ps out New refl r)
-  answers_of at ps greeting out (At next) now g r = s.goes_on refl (t.begun g r)
-  answers_of at ps greeting out (Ended end) now g r = s.ended (t.begun g r)
+  answers_of at ps greeting out New first now g r = absurd (not_new terms May at first now ps out New refl r)
+  answers_of at ps greeting out (At next) first now g r = s.goes_on refl (t.begun g r)
+  answers_of at ps greeting out (Ended end) first now g r = s.ended (t.begun g r)
 
-  -- the sink failed at the greeting
-  pub greeting_cut : (a b : Known) (fed : Fed) → (front : List ℕ) × (phase : Phase) × AppendsFront a b front × Greets terms.hello begin front phase
-      → Written a b (λ written. IsCutOff terms May begin first fed written first)
-  greeting_cut a b fed cut = (
-    cut.2.0,
-    cut.2.2,
+  -- the sink failed at the replies to the payloads, or at the refusal of the fault behind them
+  pub fed_cut : (a b c : Known) (at : Phase) (fed : Fed) → Written a b (λ front. Greets terms.hello begin front at)
+      → (done : List Payload) × (out : List ℕ) × (standing : Standing) × IsPrefix done fed.payloads × AppendsFront b c out
+      × Lead Old Now (λ s now. Replies terms May at s done out standing now)
+      → Written a c (λ written. Lead Old Now (λ s now. IsCutOff terms May begin s fed written now))
+  fed_cut a b c at fed g cut =
+      let so : (s now : S) → Replies terms May at s cut.0 cut.1 cut.2 now → IsCutOff terms May begin s fed (g.0 ++ cut.4.0) now =
+      λ first now h. record {
+        part = record { payloads = cut.0; fault = None };
+        told = g.0 ++ cut.1;
+        standing = cut.2;
+        front = f.some refl cut.3;
+        answers = answers_of at cut.0 g.0 cut.1 cut.2 first now g.2 h;
+        taken = prefix_behind g.0 cut.4.0 cut.1 cut.4.1;
+      } in (
+        g.0 ++ cut.4.0,
+        Appends-trans a b c g.0 cut.4.0 g.1 cut.4.2,
+        lead_so Old Now (λ s now. Replies terms May at s cut.0 cut.1 cut.2 now) (λ s now. IsCutOff terms May begin s fed (g.0 ++ cut.4.0) now) so cut.5,
+      )
+
+  pub refusal_cut : (a b c : Known) (fed : Fed) (fault : Fault) (standing : Standing) (next : Phase) → standing ≡ At next → fed.fault ≡ Some fault
+      → Talked a b fed.payloads standing → AppendsFront b c (refusal_bytes fault.number fault.refusal)
+      → Written a c (λ written. Lead Old Now (λ s now. IsCutOff terms May begin s fed written now))
+  refusal_cut a b c fed fault standing next at is r cut =
+      let q = standing_then a b fed.payloads standing (At next) at r in
+      let so : (s now : S) → Conversation terms May begin s fed.payloads q.0 (At next) now → IsCutOff terms May begin s fed (q.0 ++ cut.0) now =
+      λ first now h. record {
+        part = fed;
+        told = q.0 ++ refusal_bytes fault.number fault.refusal;
+        standing = Ended Broken;
+        front = f.all;
+        answers = s.refused fault is h;
+        taken = prefix_behind q.0 cut.0 (refusal_bytes fault.number fault.refusal) cut.1;
+      } in (
+        q.0 ++ cut.0,
+        Appends-trans a b c q.0 cut.0 q.1 cut.2,
+        lead_so Old Now (λ s now. Conversation terms May begin s fed.payloads q.0 (At next) now) (λ s now. IsCutOff terms May begin s fed (q.0 ++ cut.0) now) so q.2,
+      )
+
+-- the sink failed at the greeting
+pub greeting_cut : {S : Type 0} (terms : Terms S) (May : S → List ℕ → Outcome → S → Type 0) (begin : Standing) (Old : S → Type 0) (a b : Known) (fed : Fed)
+    → (front : List ℕ) × (phase : Phase) × AppendsFront a b front × Greets terms.hello begin front phase
+    → Written a b (λ written. Lead Old Old (λ s now. IsCutOff terms May begin s fed written now))
+greeting_cut terms May begin Old a b fed cut = (
+  cut.2.0,
+  cut.2.2,
+  λ first is. (
+    first,
+    is,
     record {
       part = record { payloads = []; fault = None };
       told = cut.0 ++ [];
@@ -162,41 +266,8 @@ module _ {S : Type 0} (terms : Terms S) (May : S → List ℕ → Outcome → S 
       answers = s.goes_on refl (t.begun cut.3 t.none);
       taken = prefix_more cut.2.0 cut.0 [] cut.2.1;
     },
-  )
-
-  -- the sink failed at the replies to the payloads, or at the refusal of the fault behind them
-  pub fed_cut : (now : S) (a b c : Known) (at : Phase) (fed : Fed) → Written a b (λ front. Greets terms.hello begin front at)
-      → (done : List Payload) × (out : List ℕ) × (standing : Standing) × IsPrefix done fed.payloads × AppendsFront b c out × Replies terms May at first done out standing now
-      → Written a c (λ written. IsCutOff terms May begin first fed written now)
-  fed_cut now a b c at fed g cut = (
-    g.0 ++ cut.4.0,
-    Appends-trans a b c g.0 cut.4.0 g.1 cut.4.2,
-    record {
-      part = record { payloads = cut.0; fault = None };
-      told = g.0 ++ cut.1;
-      standing = cut.2;
-      front = f.some refl cut.3;
-      answers = answers_of at cut.0 g.0 cut.1 cut.2 now g.2 cut.5;
-      taken = prefix_behind g.0 cut.4.0 cut.1 cut.4.1;
-    },
-  )
-
-  pub refusal_cut : (now : S) (a b c : Known) (fed : Fed) (fault : Fault) (standing : Standing) (next : Phase) → standing ≡ At next → fed.fault ≡ Some fault
-      → Written a b (λ out. Conversation terms May begin first fed.payloads out standing now) → AppendsFront b c (refusal_bytes fault.number fault.refusal)
-      → Written a c (λ written. IsCutOff terms May begin first fed written now)
-  refusal_cut now a b c fed fault standing next at is r cut =
-      let q = standing_then now a b fed.payloads standing (At next) at r in (
-        q.0 ++ cut.0,
-        Appends-trans a b c q.0 cut.0 q.1 cut.2,
-        record {
-          part = fed;
-          told = q.0 ++ refusal_bytes fault.number fault.refusal;
-          standing = Ended Broken;
-          front = f.all;
-          answers = s.refused fault is q.2;
-          taken = prefix_behind q.0 cut.0 (refusal_bytes fault.number fault.refusal) cut.1;
-        },
-      )
+  ),
+)
 
 module _ {S : Type 0} (terms : Terms S) (May : S → List ℕ → Outcome → S → Type 0) (old new : SessionState) (piece : List ℕ) (fed : Fed)
     (by : FedBy old.framing new.framing piece fed) (begin : Standing) (first mid now : S) (stream out : List ℕ)

@@ -1,12 +1,17 @@
 -- Conversations of documented examples: a ping and a quit, an order of packets that is wrong, a header that is too large, an empty
--- payload.
-use Rattle.std.proofs.Common.{ℕ, List, [], ◌∷◌, refl, lit<, lit≤, inl, None}
+-- payload; and the reply to BEGIN.
+use Rattle.std.proofs.Common.{◌≡◌, ℕ, List, [], ◌∷◌, refl, lit<, lit≤, inl, Some, None}
 use Rattle.std.specs.Prelude.{codes}
 use Rattle.mysql_packet.specs.declared.framer.Payload.{Payload}
 use Rattle.mysql_packet.specs.declared.framer.Fault.{Fault}
 use Rattle.mysql_packet.specs.Frames.{IsPartial}
 use Rattle.vt_value.specs.declared.refusal.Refusal.TheVariants.{PacketTooLarge}
 use Rattle.resultset.specs.declared.Outcome.{Outcome}
+use Rattle.resultset.specs.declared.Outcome.TheVariants.{Count}
+use Rattle.resultset.specs.declared.SetEnd.TheVariants.{EofPackets}
+use Rattle.resultset.specs.Encoding.{encoded}
+use Rattle.route_engine.specs.Transactions.{Transaction}
+use Rattle.session.specs.Outcomes.{status_with}
 use Rattle.session.specs.declared.end.End.TheVariants.{Quit, Closed, Broken}
 use Rattle.session.specs.declared.standing.Phase.TheVariants.{Commands}
 use Rattle.session.specs.declared.standing.Standing.TheVariants.{At}
@@ -63,3 +68,7 @@ unknown : Talk 1048576 plain Never (At (Commands 0)) tt (0 ∷ 0 ∷ 0 ∷ 0 ∷
 unknown =
     t.closed (payload 0 [] ∷ [])
     (record { whole = refl; each = (((lit< tt, refl), lit≤ tt), tt); partial = nothing_left }) (t.begun t.goes_on (t.goes (t.unknown refl refl) t.none))
+
+-- the status tells that a transaction is open then
+begins : (t : Transaction) → encoded EofPackets (Count 0) 1 (status_with (Some t)) ≡ 7 ∷ 0 ∷ 0 ∷ 1 ∷ 0 ∷ 0 ∷ 0 ∷ 3 ∷ 0 ∷ 0 ∷ 0 ∷ []
+begins t = refl

@@ -1,10 +1,10 @@
 -- Replies to one payload, and to the payloads behind it.
-use Rattle.std.proofs.Common.{◌≡◌, ℕ, Bool, refl, true, false, ◌==◌, List, [], ◌∷◌, ◌++◌, Option, Some, None, sym, subst, append_assoc, eq-eqb, ◌⊎◌, inl, inr}
+use Rattle.std.proofs.Common.{◌≡◌, ℕ, Bool, refl, true, false, ◌==◌, List, [], ◌∷◌, ◌++◌, Option, Some, None, sym, ap, subst, ◌∙◌, append_assoc, eq-eqb, ◌⊎◌, inl, inr}
 use Rattle.std.proofs.lemmas.List.{append-nil}
 use Rattle.vt_value.specs.declared.refusal.Refusal.TheVariants.{OutOfMemory, PacketsOutOfOrder, UnknownCommand, UnknownKeyspace}
 use Rattle.mysql_packet.specs.declared.framer.Payload.{Payload}
 use Rattle.mysql_packet.specs.Frames.{frame}
-use Rattle.mysql_message.specs.Messages.{quit, init_db, query, ping, command_of, ok_payload, err_payload, autocommit}
+use Rattle.mysql_message.specs.Messages.{quit, init_db, query, ping, command_of, ok_payload, err_payload}
 use Rattle.resultset.specs.declared.Outcome.{Outcome}
 use Rattle.resultset.specs.declared.Outcome.TheVariants.{Refused, Rows}
 use Rattle.resultset.specs.declared.ResultSet.{ResultSet}
@@ -17,10 +17,12 @@ use Rattle.route_engine.specs.declared.reply.Selected.{Selected}
 use Rattle.shard.specs.declared.limits.Limits.{Limits}
 use Rattle.route_engine.specs.declared.reply.Answer.{Answer}
 use Rattle.route_engine.specs.declared.reply.Answer.TheVariants as answer
-use Rattle.route_engine.specs.Answers.{IsReply, Gives, HasGone}
-use Rattle.route_engine.specs.Answers as a
+use Rattle.journal.specs.Views.{PassView}
+use Rattle.shard_run.specs.declared.Entry.{Entry}
+use Rattle.route_engine.specs.Transactions.{Transaction, IsAnswer}
+use Rattle.route_engine.specs.Pendings.{OpenView, Stands}
+use Rattle.route_engine.specs.Pendings as stands
 use Rattle.vschema.specs.declared.schema.VSchema.{VSchema}
-use Rattle.vschema.specs.declared.schema.Typed.{Typed}
 use Rattle.session.specs.declared.end.End.{End}
 use Rattle.session.specs.declared.end.End.TheVariants.{Quit, Broken}
 use Rattle.session.specs.declared.standing.Phase.{Phase}
@@ -28,7 +30,7 @@ use Rattle.session.specs.declared.standing.Phase.TheVariants.{Commands}
 use Rattle.session.specs.declared.standing.Standing.{Standing}
 use Rattle.session.specs.declared.standing.Standing.TheVariants.{New, At, Ended}
 use Rattle.session.specs.Standings.{first_number}
-use Rattle.session.specs.Outcomes.{Means, Seen, Shows, HasRows, IsRows, terms_of}
+use Rattle.session.specs.Outcomes.{PassAndTransaction, IsKept, Leads, Means, Shows, HasRows, IsRows, status_with, terms_of}
 use Rattle.session.specs.Outcomes as q
 use Rattle.session.specs.Packets.{refusal_bytes, reply_number}
 use Rattle.std.specs.Io.KnownBytes.{Appends}
@@ -38,6 +40,7 @@ use Rattle.session.specs.declared.standing.Login.{Login}
 use Rattle.session.specs.Logins.{Admits, LogsIn, has_keyspace, login_of}
 use Rattle.session.specs.Logins as l
 use Rattle.session.specs.declared.hello.Hello.{Hello}
+use Rattle.session.proofs.LoginLemmas.{one_login}
 use Rattle.session.specs.Talk.{Terms, Answers, Replies, Conversation, set_end_of}
 use Rattle.session.specs.Talk as t
 
@@ -150,34 +153,64 @@ module _ {S : Type 0} (terms : Terms S) (May : S → List ℕ → Outcome → S 
       t.goes a (stay_ended next mid now ps qs rest b end is r)
   stay_ended _ _ _ _ qs _ _ end is (t.ends a) = t.ends a
 
--- a reply with rows only looked
-rows_read : (o : Opening) (l : Limits) (p : Seen) (t : Typed) (reply : Reply) (now : Seen) → Gives o l p t reply now → HasRows reply.answer → HasGone o p now
-rows_read o l p _ _ _ (a.selects (a.read is)) rows = (is.added, is.gone)
-rows_read o l p _ _ _ (a.writes (a.nowhere seats partition none gone)) rows = absurd rows
-rows_read o l p _ _ _ (a.writes (a.wrote s needed gone committed)) rows = absurd rows
-rows_read o l p _ _ _ a.sets_names rows = absurd rows
-
 shows_rows : (schema : VSchema) (x : Answer) (outcome : Outcome) → Shows schema x outcome → IsRows outcome → HasRows x
 shows_rows schema _ _ (q.rows columns) rows = tt
 shows_rows schema _ _ q.count rows = absurd rows
 
-no_room : (o : Opening) (l : Limits) (p : Seen) (text : List ℕ) (reply : Reply) (now : Seen) → IsReply o l (a.counted p) text reply now → HasRows reply.answer
-    → Means o l p text (Refused OutOfMemory) now
-no_room o l p text reply now is rows = q.refused (a.numbered (a.no_memory (rows_read o l (a.counted p) is.typed reply now is.gives rows)))
-
 -- rows for which there is no memory
-unshown : (o : Opening) (l : Limits) (p : Seen) (text : List ℕ) (outcome : Outcome) (now : Seen) → Means o l p text outcome now → IsRows outcome
-    → Means o l p text (Refused OutOfMemory) now
-unshown o l p text outcome now (q.answered reply is shows) rows = no_room o l p text reply now is (shows_rows o.schema reply.answer outcome shows rows)
-unshown o l p text _ now (q.refused why) rows = absurd rows
+unshown : (o : Opening) (l : Limits) (s : PassAndTransaction) (text : List ℕ) (outcome : Outcome) (now : PassAndTransaction) → Means o l s text outcome now → IsRows outcome
+    → Means o l s text (Refused OutOfMemory) now
+unshown o l s text outcome now (q.answered reply is shows) rows = q.untold reply is (shows_rows o.schema reply.answer outcome shows rows)
+unshown o l s text _ now (q.untold reply is has) rows = absurd rows
+unshown o l s text _ now (q.refused why) rows = absurd rows
 
-pub one_query_or_refusal : (o : Opening) (l : Limits) (hello : Hello) (bits : ℕ) (s now : Seen) (p : Payload) (out text : List ℕ) (outcome : Outcome) → p.first ≡ 0
-    → command_of p.bytes ≡ Some (query text) → Means o l s text outcome now
-    → (out ≡ encoded (set_end_of bits) outcome (reply_number p) autocommit) ⊎ (IsRows outcome × (out ≡ encoded (set_end_of bits) (Refused OutOfMemory) (reply_number p) autocommit))
-    → Answers (terms_of o hello) (Means o l) (Commands bits) s p out (At (Commands bits)) now
-one_query_or_refusal o l hello bits s now p out text outcome first is may (inl e) = one_query (terms_of o hello) (Means o l) bits s now p out text outcome first is may e
-one_query_or_refusal o l hello bits s now p out text outcome first is may (inr (rows, e)) =
-    one_query (terms_of o hello) (Means o l) bits s now p out text (Refused OutOfMemory) first is (unshown o l s text outcome now may rows) e
+-- ---- what is kept
+
+-- the status tells whether a transaction is open
+status_is : (o : Opening) (p : PassView Entry) (kept : Option OpenView) (t : Option Transaction) → Stands o p kept t → status_with kept ≡ status_with t
+status_is o p _ _ stands.closed = refl
+status_is o p _ _ (stands.unbound legal all) = refl
+status_is o p _ _ (stands.bound is) = refl
+
+pub kept_status : (o : Opening) (p : PassView Entry) (kept : Option OpenView) (s : PassAndTransaction) → IsKept o p kept s → status_with kept ≡ status_with s.tx
+kept_status o p kept s is = status_is o p kept s.tx is.1
+
+-- what a statement gives, from whatever was kept
+pub gives : (o : Opening) (p q : PassView Entry) (kept then : Option OpenView) (R : PassAndTransaction → PassAndTransaction → Type 0)
+    → ((t : Option Transaction) → Stands o p kept t
+    → (u : Option Transaction) × R (record { pass = p; tx = t }) (record { pass = q; tx = u }) × Stands o q then u)
+    → Leads o p kept q then R
+gives o p q kept then R said = λ s is.
+    let next = said s.tx is.1 in
+    let whole : record { pass = p; tx = s.tx } ≡ s = ap (λ (x : PassView Entry). record s { pass = x }) (sym is.0) in (
+      record { pass = q; tx = next.0 },
+      (refl, next.2),
+      subst (λ (x : PassAndTransaction). R x (record { pass = q; tx = next.0 })) whole next.1,
+    )
+
+-- a query's outcome, told under the status that is kept then
+pub one_query_or_refusal : (o : Opening) (l : Limits) (hello : Hello) (bits : ℕ) (p q : PassView Entry) (kept then : Option OpenView) (payload : Payload)
+    (out text : List ℕ) (outcome : Outcome) → payload.first ≡ 0 → command_of payload.bytes ≡ Some (query text)
+    → Leads o p kept q then (λ s now. Means o l s text outcome now)
+    → (out ≡ encoded (set_end_of bits) outcome (reply_number payload) (status_with then))
+    ⊎ (IsRows outcome × (out ≡ encoded (set_end_of bits) (Refused OutOfMemory) (reply_number payload) (status_with then)))
+    → Leads o p kept q then (λ s now. Answers (terms_of o hello) (Means o l) (Commands bits) s payload out (At (Commands bits)) now)
+one_query_or_refusal o l hello bits p q kept then payload out text outcome first is may told = λ s held.
+    let next = may s held in
+    let now = next.0 in
+    let same : status_with then ≡ status_with now.tx = kept_status o q then now next.1 in
+    (now, next.1, by s now same next.2 told)
+  where
+    by : (s now : PassAndTransaction) → status_with then ≡ status_with now.tx → Means o l s text outcome now
+        → (out ≡ encoded (set_end_of bits) outcome (reply_number payload) (status_with then))
+        ⊎ (IsRows outcome × (out ≡ encoded (set_end_of bits) (Refused OutOfMemory) (reply_number payload) (status_with then)))
+        → Answers (terms_of o hello) (Means o l) (Commands bits) s payload out (At (Commands bits)) now
+    by s now same means (inl e) =
+        one_query (terms_of o hello) (Means o l) bits s now payload out text outcome first is means
+        (e ∙ ap (λ (n : ℕ). encoded (set_end_of bits) outcome (reply_number payload) n) same)
+    by s now same means (inr (rows, e)) =
+        one_query (terms_of o hello) (Means o l) bits s now payload out text (Refused OutOfMemory) first is (unshown o l s text outcome now means rows)
+        (e ∙ ap (λ (n : ℕ). encoded (set_end_of bits) (Refused OutOfMemory) (reply_number payload) n) same)
 
 -- a result set with the columns and rows of an answer
 pub shows : (schema : VSchema) (selected : Selected) (set : ResultSet) → AreColumns schema selected.table selected.items set.columns
@@ -187,10 +220,22 @@ shows schema selected set columns rows =
     subst E (sym rows) (q.rows columns)
 
 -- a reply as its client is told it
-pub replied : (o : Opening) (l : Limits) (p now : Seen) (text : List ℕ) (reply : Reply) (outcome : Outcome) (schema : VSchema) → schema ≡ o.schema
-    → IsReply o l (a.counted p) text reply now → Shows schema reply.answer outcome ⊎ (HasRows reply.answer × (outcome ≡ Refused OutOfMemory))
-    → Means o l p text outcome now
-replied o l p now text reply outcome schema served is (inl shows) =
-    q.answered reply is (subst (λ (s : VSchema). Shows s reply.answer outcome) served shows)
-replied o l p now text reply outcome schema served is (inr (rows, full)) =
-    subst (λ (x : Outcome). Means o l p text x now) (sym full) (no_room o l p text reply now is rows)
+pub replied : (o : Opening) (l : Limits) (s now : PassAndTransaction) (text : List ℕ) (reply : Reply) (outcome : Outcome) (schema : VSchema) → schema ≡ o.schema
+    → Shows schema reply.answer outcome ⊎ (HasRows reply.answer × (outcome ≡ Refused OutOfMemory)) → IsAnswer o l s text reply now → Means o l s text outcome now
+replied o l s now text reply outcome schema served (inl shows) is =
+    q.answered reply is (subst (λ (v : VSchema). Shows v reply.answer outcome) served shows)
+replied o l s now text reply outcome schema served (inr (rows, full)) is =
+    subst (λ (x : Outcome). Means o l s text x now) (sym full) (q.untold reply is rows)
+
+-- a payload of the connection phase
+pub login_kept : (o : Opening) (l : Limits) (hello : Hello) (keyspaces : List Keyspace) (p : PassView Entry) (kept : Option OpenView) (at then : Phase) (payload : Payload)
+    (status : ℕ) (out : List ℕ) (standing : Standing) → at ≡ then → keyspaces ≡ o.schema.keyspaces → status ≡ status_with kept
+    → LogsIn hello keyspaces status then payload out standing
+    → Leads o p kept p kept (λ s now. Answers (terms_of o hello) (Means o l) at s payload out standing now)
+login_kept o l hello keyspaces p kept at then payload status out standing is known told logs = λ s held.
+    let status_now : status ≡ status_with s.tx = told ∙ kept_status o p kept s held in (
+      s,
+      held,
+      one_login (terms_of o hello) (Means o l) at then keyspaces s payload out standing is known
+          (subst (λ (n : ℕ). LogsIn hello keyspaces n then payload out standing) status_now logs),
+    )

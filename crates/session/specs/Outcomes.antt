@@ -1,6 +1,7 @@
 -- What the text of a statement may give its client.
-use Rattle.std.specs.Prelude.{ℕ, List}
+use Rattle.std.specs.Prelude.{◌≡◌, ℕ, ◌+◌, List, Option, Some, None}
 use Rattle.vt_value.specs.declared.refusal.Refusal.{Refusal}
+use Rattle.vt_value.specs.declared.refusal.Refusal.TheVariants.{OutOfMemory}
 use Rattle.resultset.specs.declared.Column.{Column}
 use Rattle.resultset.specs.declared.Outcome.{Outcome}
 use Rattle.resultset.specs.declared.Outcome.TheVariants.{Rows, Count, Refused}
@@ -12,16 +13,31 @@ use Rattle.route_engine.specs.declared.reply.Selected.{Selected}
 use Rattle.route_engine.specs.declared.reply.Answer.{Answer}
 use Rattle.route_engine.specs.declared.reply.Answer.TheVariants as a
 use Rattle.route_engine.specs.declared.reply.Reply.{Reply}
+use Rattle.route_engine.specs.Transactions as transactions
+use Rattle.route_engine.specs.Transactions.{IsAnswer, IsRefusedAt}
+use Rattle.route_engine.specs.Pendings.{OpenView, Stands}
 use Rattle.shard.specs.declared.limits.Limits.{Limits}
-use Rattle.route_engine.specs.Answers.{counted, IsReply, IsRefusal}
 use Rattle.mysql_message.specs.Messages.{autocommit}
 use Rattle.session.specs.Columns.{AreColumns}
 use Rattle.session.specs.declared.hello.Hello.{Hello}
 use Rattle.session.specs.Talk.{Terms}
 
--- what the session's pass has seen
-abbrev pub Seen : Type 0
-Seen = PassView Entry
+-- what a session's pass has seen, and its open transaction
+abbrev pub PassAndTransaction : Type 0
+PassAndTransaction = transactions.Standing
+
+-- no transaction is open
+abbrev pub none_open : PassView Entry → PassAndTransaction
+none_open p = record { pass = p; tx = None }
+
+-- The pass is this one, and what a session keeps stands for the open transaction.
+abbrev pub IsKept : Opening → PassView Entry → Option OpenView → PassAndTransaction → Type 0
+IsKept o p kept s = (s.pass ≡ p) × Stands o p kept s.tx
+
+-- From whatever pass and transaction were kept, this leads to some that are kept then.
+abbrev pub Leads : Opening → PassView Entry → Option OpenView → PassView Entry → Option OpenView
+    → (PassAndTransaction → PassAndTransaction → Type 0) → Type 0
+Leads o p kept q kept_then R = (s : PassAndTransaction) → IsKept o p kept s → (now : PassAndTransaction) × IsKept o q kept_then now × R s now
 
 -- how an answer is told: rows under the definitions of the columns that they show, or a count
 pub data Shows (schema : VSchema) : Answer → Outcome → Type 0 where
@@ -38,13 +54,24 @@ IsRows (Rows set) = Unit {0}
 IsRows (Count n) = ⊥
 IsRows (Refused r) = ⊥
 
--- What the text of a statement may give its client: an answer that it may have, or a refusal for its cause; and what the pass then has
--- seen. Rows of a reply for which there is no memory are refused for that.
-pub data Means (o : Opening) (limits : Limits) (p : Seen) (text : List ℕ) : Outcome → Seen → Type 0 where
-  answered : {outcome : Outcome} {now : Seen} (reply : Reply) → IsReply o limits (counted p) text reply now → Shows o.schema reply.answer outcome
-      → Means o limits p text outcome now
-  refused : {r : Refusal} {now : Seen} → IsRefusal o limits p text r now → Means o limits p text (Refused r) now
+-- What the text of a statement may give its client: an answer that it may have, or a refusal for its cause; and how it leaves the pass and the
+-- transaction. Where there is no memory to tell the rows of an answer, that is told in their place: it leaves them as the answer does.
+pub data Means (o : Opening) (limits : Limits) (s : PassAndTransaction) (text : List ℕ) : Outcome → PassAndTransaction → Type 0 where
+  answered : {outcome : Outcome} {now : PassAndTransaction} (reply : Reply) → IsAnswer o limits s text reply now → Shows o.schema reply.answer outcome
+      → Means o limits s text outcome now
+  untold : {now : PassAndTransaction} (reply : Reply) → IsAnswer o limits s text reply now → HasRows reply.answer
+      → Means o limits s text (Refused OutOfMemory) now
+  refused : {r : Refusal} {now : PassAndTransaction} → IsRefusedAt o limits s text r now → Means o limits s text (Refused r) now
 
--- The terms of the router's conversations: no transaction is ever open.
-abbrev pub terms_of : Opening → Hello → Terms Seen
-terms_of o hello = record { hello = hello; keyspaces = o.schema.keyspaces; status = λ seen. autocommit }
+-- SERVER_STATUS_IN_TRANS
+abbrev pub in_transaction : ℕ
+in_transaction = 1
+
+-- the status flags of a reply, where no transaction is open then, and where one is
+abbrev pub status_with : {X : Type 0} → Option X → ℕ
+status_with None = autocommit
+status_with (Some x) = autocommit + in_transaction
+
+-- The terms of the router's conversations.
+abbrev pub terms_of : Opening → Hello → Terms PassAndTransaction
+terms_of o hello = record { hello = hello; keyspaces = o.schema.keyspaces; status = λ s. status_with s.tx }

@@ -6,6 +6,7 @@ use Rattle.mysql_packet.specs.declared.framer.Fed.{Fed}
 use Rattle.mysql_packet.specs.Frames.{IsRefusedAfter}
 use Rattle.mysql_packet.specs.Framing.{Framing, HasRead}
 use Rattle.resultset.specs.declared.Outcome.{Outcome}
+use Rattle.route_engine.specs.Pendings.{OpenView}
 use Rattle.session.specs.declared.end.End.{End}
 use Rattle.session.specs.declared.end.End.TheVariants.{Broken}
 use Rattle.session.specs.declared.standing.Phase.{Phase}
@@ -16,11 +17,12 @@ use Rattle.session.specs.Packets.{refusal_bytes}
 use Rattle.session.specs.Standings.{end_of}
 use Rattle.session.specs.declared.hello.Hello.{Hello}
 
--- what it greets with and whom it lets in, what its framer knows, and how it stands
+-- what it greets with and whom it lets in, what its framer knows, how it stands, and what it keeps of its open transaction
 pub record SessionState : Type 0 where
   pub hello : Hello
   pub framing : Framing
   pub standing : Standing
+  pub tx : Option OpenView
 
 -- The session goes on: of the bytes so far it has written the greeting and the replies to each whole payload, and nothing else. That led
 -- from how it stood and what it had seen at first to how it stands and what it has seen now.

@@ -8,7 +8,8 @@ ghost use Rattle.session.specs.declared.standing.Phase.{Phase};
 ghost use Rattle.session.specs.declared.standing.Standing.{Standing};
 ghost use Rattle.session.specs.Devices.{AppendsFront, failures_after};
 ghost use Rattle.session.specs.Faults.{IsCutOff};
-ghost use Rattle.session.specs.Outcomes.{Means, terms_of};
+ghost use Rattle.route_engine.specs.Pendings.{IsOf};
+ghost use Rattle.session.specs.Outcomes.{Leads, Means, terms_of};
 ghost use Rattle.session.specs.Packets.{refusal_bytes};
 ghost use Rattle.session.specs.Standings.{end_of};
 ghost use Rattle.session.specs.Talk.{Answers, Greets, Replies};
@@ -23,7 +24,7 @@ use bytes::BytesMut;
 use journal::{Naming, Pass};
 use mysql_handshake::put_greeting;
 use mysql_packet::{Fault, Fed, Payload};
-use route_engine::{Engine, Gate};
+use route_engine::{Engine, Gate, Tx};
 use shard::{ShardLaw, World};
 use std::alloc::Global;
 use std::sync::Wait;
@@ -35,6 +36,7 @@ fn answer<W: World + Send + Sync, J: Naming + Send + Sync, G: Gate, S: Sink>(
     alloc: Global,
     engine: &Engine<W, J, G>,
     pass: &mut Pass<ShardLaw<W>, J>,
+    tx: &mut Tx<W, J>,
     hello: &Hello,
     phase: Phase,
     payload: &Payload,
@@ -43,16 +45,20 @@ fn answer<W: World + Send + Sync, J: Naming + Send + Sync, G: Gate, S: Sink>(
 ) -> Result<Standing, DeviceFailed>
     requires room { REPLY_ROOM ≤ length reply.old.items + reply.old.spare }
     requires session { IsSome pass.old.session }
+    requires tx { IsOf W.opening tx.old pass.old }
     ensures answers { IfOk result (λ standing. (out : List ℕ) × Appends (S.taken sink.old) (S.taken sink.new) out
-        × Answers (terms_of W.opening hello.now) (Means W.opening W.limits) phase pass.old payload.now out standing pass.new) }
+        × Leads W.opening pass.old tx.old pass.new tx.new
+        (λ s now. Answers (terms_of W.opening hello.now) (Means W.opening W.limits) phase s payload.now out standing now)) }
     ensures cut { OnErr result ((out : List ℕ) × (standing : Standing) × AppendsFront (S.taken sink.old) (S.taken sink.new) out
-        × Answers (terms_of W.opening hello.now) (Means W.opening W.limits) phase pass.old payload.now out standing pass.new) }
+        × Leads W.opening pass.old tx.old pass.new tx.new
+        (λ s now. Answers (terms_of W.opening hello.now) (Means W.opening W.limits) phase s payload.now out standing now)) }
     ensures count { S.failures sink.new ≡ failures_after result (S.failures sink.old) }
     ensures room { REPLY_ROOM ≤ length reply.new.items + reply.new.spare }
+    ensures tx { IsOf W.opening tx.new pass.new }
     ensures session { pass.new.session ≡ pass.old.session }
 {
     reply.clear();
-    let standing = put_reply(rt, alloc, engine, pass, hello, phase, payload, reply);
+    let standing = put_reply(rt, alloc, engine, pass, tx, hello, phase, payload, reply);
     match sink.write(reply.as_slice()) {
         Ok(()) => Ok(standing),
         Err(failed) => Err(failed),
@@ -65,6 +71,7 @@ fn answer_all<W: World + Send + Sync, J: Naming + Send + Sync, G: Gate, S: Sink>
     alloc: Global,
     engine: &Engine<W, J, G>,
     pass: &mut Pass<ShardLaw<W>, J>,
+    tx: &mut Tx<W, J>,
     hello: &Hello,
     begin: Phase,
     payloads: &[Payload],
@@ -73,18 +80,24 @@ fn answer_all<W: World + Send + Sync, J: Naming + Send + Sync, G: Gate, S: Sink>
 ) -> Result<Standing, DeviceFailed>
     requires room { REPLY_ROOM ≤ length reply.old.items + reply.old.spare }
     requires session { IsSome pass.old.session }
+    requires tx { IsOf W.opening tx.old pass.old }
     ensures replies { IfOk result (λ standing. (out : List ℕ) × Appends (S.taken sink.old) (S.taken sink.new) out
-        × Replies (terms_of W.opening hello.now) (Means W.opening W.limits) begin pass.old payloads.now out standing pass.new) }
+        × Leads W.opening pass.old tx.old pass.new tx.new
+        (λ s now. Replies (terms_of W.opening hello.now) (Means W.opening W.limits) begin s payloads.now out standing now)) }
     ensures cut { OnErr result ((done : List Payload) × (out : List ℕ) × (standing : Standing) × IsPrefix done payloads.now
         × AppendsFront (S.taken sink.old) (S.taken sink.new) out
-        × Replies (terms_of W.opening hello.now) (Means W.opening W.limits) begin pass.old done out standing pass.new) }
+        × Leads W.opening pass.old tx.old pass.new tx.new
+        (λ s now. Replies (terms_of W.opening hello.now) (Means W.opening W.limits) begin s done out standing now)) }
     ensures count { S.failures sink.new ≡ failures_after result (S.failures sink.old) }
     ensures room { REPLY_ROOM ≤ length reply.new.items + reply.new.spare }
+    ensures tx { IsOf W.opening tx.new pass.new }
     ensures session { pass.new.session ≡ pass.old.session }
 {
     let mut phase = begin;
     for payload in payloads {
-        match answer(rt, alloc, engine, pass, hello, phase, payload, reply, sink)? {
+        match answer(
+            rt, alloc, engine, pass, tx, hello, phase, payload, reply, sink,
+        )? {
             Standing::New => unreachable!(),
             Standing::At(next) => phase = next,
             Standing::Ended(end) => return Ok(Standing::Ended(end)),
@@ -154,6 +167,7 @@ pub fn answer_fed<W: World + Send + Sync, J: Naming + Send + Sync, G: Gate, S: S
     alloc: Global,
     engine: &Engine<W, J, G>,
     pass: &mut Pass<ShardLaw<W>, J>,
+    tx: &mut Tx<W, J>,
     hello: &Hello,
     begin: Standing,
     fed: &Fed,
@@ -162,18 +176,24 @@ pub fn answer_fed<W: World + Send + Sync, J: Naming + Send + Sync, G: Gate, S: S
 ) -> Result<Standing, DeviceFailed>
     requires room { REPLY_ROOM ≤ length reply.old.items + reply.old.spare }
     requires session { IsSome pass.old.session }
+    requires tx { IsOf W.opening tx.old pass.old }
     requires open_session { end_of begin ≡ None }
     ensures answers { IfOk result (λ standing. (out : List ℕ) × Appends (S.taken sink.old) (S.taken sink.new) out
-        × AnswersFed (terms_of W.opening hello.now) (Means W.opening W.limits) begin pass.old fed.now out standing pass.new) }
+        × Leads W.opening pass.old tx.old pass.new tx.new
+        (λ s now. AnswersFed (terms_of W.opening hello.now) (Means W.opening W.limits) begin s fed.now out standing now)) }
     ensures cut { OnErr result ((written : List ℕ) × Appends (S.taken sink.old) (S.taken sink.new) written
-        × IsCutOff (terms_of W.opening hello.now) (Means W.opening W.limits) begin pass.old fed.now written pass.new) }
+        × Leads W.opening pass.old tx.old pass.new tx.new
+        (λ s now. IsCutOff (terms_of W.opening hello.now) (Means W.opening W.limits) begin s fed.now written now)) }
     ensures count { S.failures sink.new ≡ failures_after result (S.failures sink.old) }
     ensures room { REPLY_ROOM ≤ length reply.new.items + reply.new.spare }
+    ensures tx { IsOf W.opening tx.new pass.new }
     ensures session { pass.new.session ≡ pass.old.session }
 {
     let phase = greet(hello, begin, reply, sink)?;
     let payloads = fed.payloads.as_slice();
-    match answer_all(rt, alloc, engine, pass, hello, phase, payloads, reply, sink)? {
+    match answer_all(
+        rt, alloc, engine, pass, tx, hello, phase, payloads, reply, sink,
+    )? {
         Standing::New => unreachable!(),
         Standing::Ended(end) => Ok(Standing::Ended(end)),
         Standing::At(next) => match fed.fault {

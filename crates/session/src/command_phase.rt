@@ -4,10 +4,11 @@ ghost use Rattle.std.specs.Io.KnownBytes.{Appends, Consumes, IsAtEnd, Keeps, Rea
 ghost use Rattle.shard_run.specs.Runs.{Opening};
 ghost use Rattle.shard.specs.declared.limits.Limits.{Limits};
 ghost use Rattle.route_engine.specs.Alone.{NoOthers};
-ghost use Rattle.session.specs.Alone.{MeansAlone};
+ghost use Rattle.route_engine.specs.Pendings.{IsOf};
+ghost use Rattle.session.specs.Alone.{Alone, MeansAlone, alone_terms, alone_first};
 ghost use Rattle.session.specs.Devices.{read_failures_after, write_failures_after};
 ghost use Rattle.session.specs.Faults.{IsUnfinished, HasBrokenOff};
-ghost use Rattle.session.specs.Outcomes.{Means, Seen, terms_of};
+ghost use Rattle.session.specs.Outcomes.{IsKept, Means, PassAndTransaction, none_open, terms_of};
 ghost use Rattle.session.specs.Sessions.{HasTalked, HasTalkedOn, IsNext};
 ghost use Rattle.session.specs.Standings.{end_of};
 ghost use Rattle.session.specs.Talk.{Talk, IsByInput};
@@ -53,7 +54,7 @@ fn serve_piece<W: World + Send + Sync, J: Naming + Send + Sync, G: Gate, R: Sour
     alloc: Global,
     engine: &Engine<W, J, G>,
     pass: &mut Pass<ShardLaw<W>, J>,
-    core: &mut Core,
+    core: &mut Core<W, J>,
     buffer: &mut [u8],
     source: &mut R,
     sink: &mut S,
@@ -61,20 +62,25 @@ fn serve_piece<W: World + Send + Sync, J: Naming + Send + Sync, G: Gate, R: Sour
     requires room { 0 < length buffer.old }
     requires open_session { end_of core.old.standing ≡ None }
     requires session { IsSome pass.old.session }
-    ensures talk { IfOk result (λ end. (begin : Standing) (first : Seen) (bytes out : List ℕ)
-        → HasTalked (terms_of W.opening core.old.hello) (Means W.opening W.limits) begin core.old first bytes out pass.old →
+    requires tx { IsOf W.opening core.old.tx pass.old }
+    ensures talk { IfOk result (λ end. (begin : Standing) (first s : PassAndTransaction) (bytes out : List ℕ) → IsKept W.opening pass.old core.old.tx s
+        → HasTalked (terms_of W.opening core.old.hello) (Means W.opening W.limits) begin core.old first bytes out s →
         (read : List ℕ) × (written : List ℕ)
         × Consumes (R.unread source.old) (R.unread source.new) read × Appends (S.taken sink.old) (S.taken sink.new) written
-        × HasTalkedOn (terms_of W.opening core.old.hello) (Means W.opening W.limits) begin core.new first (bytes ++ read) (out ++ written) end pass.new) }
+        × ((now : PassAndTransaction) × IsKept W.opening pass.new core.new.tx now
+        × HasTalkedOn (terms_of W.opening core.old.hello) (Means W.opening W.limits) begin core.new first (bytes ++ read) (out ++ written) end now)) }
     ensures at_end { IfOk result (λ end. IfSome end (λ e. IsByInput e → IsAtEnd (R.unread source.new))) }
-    ensures read { result ≡ Err SessionFault.Read → Keeps (R.unread source.old) (R.unread source.new) × (sink.new ≡ sink.old) × (pass.new ≡ pass.old) }
+    ensures read { result ≡ Err SessionFault.Read → Keeps (R.unread source.old) (R.unread source.new) × (sink.new ≡ sink.old) × (pass.new ≡ pass.old)
+        × (core.new.tx ≡ core.old.tx) }
     ensures memory { result ≡ Err SessionFault.Memory → ((piece : List ℕ) × Consumes (R.unread source.old) (R.unread source.new) piece)
-        × (sink.new ≡ sink.old) × (pass.new ≡ pass.old) }
-    ensures write { result ≡ Err SessionFault.Write → (begin : Standing) (first : Seen) (bytes out : List ℕ)
-        → HasTalked (terms_of W.opening core.old.hello) (Means W.opening W.limits) begin core.old first bytes out pass.old →
+        × (sink.new ≡ sink.old) × (pass.new ≡ pass.old) × (core.new.tx ≡ core.old.tx) }
+    ensures write { result ≡ Err SessionFault.Write → (begin : Standing) (first s : PassAndTransaction) (bytes out : List ℕ) → IsKept W.opening pass.old core.old.tx s
+        → HasTalked (terms_of W.opening core.old.hello) (Means W.opening W.limits) begin core.old first bytes out s →
         (read : List ℕ) × (written : List ℕ)
         × Consumes (R.unread source.old) (R.unread source.new) read × Appends (S.taken sink.old) (S.taken sink.new) written
-        × HasBrokenOff core.old.framing.limit (terms_of W.opening core.old.hello) (Means W.opening W.limits) begin first (bytes ++ read) (out ++ written) pass.new }
+        × ((now : PassAndTransaction) × IsKept W.opening pass.new core.new.tx now
+        × HasBrokenOff core.old.framing.limit (terms_of W.opening core.old.hello) (Means W.opening W.limits) begin first (bytes ++ read) (out ++ written) now) }
+    ensures tx { IsOf W.opening core.new.tx pass.new }
     ensures source_count { R.failures source.new ≡ read_failures_after result (R.failures source.old) }
     ensures sink_count { S.failures sink.new ≡ write_failures_after result (S.failures sink.old) }
     ensures next { IsNext core.old core.new }
@@ -96,7 +102,7 @@ fn serve_on<W: World + Send + Sync, J: Naming + Send + Sync, G: Gate, R: Source,
     alloc: Global,
     engine: &Engine<W, J, G>,
     pass: &mut Pass<ShardLaw<W>, J>,
-    core: &mut Core,
+    core: &mut Core<W, J>,
     buffer: &mut [u8],
     source: &mut R,
     sink: &mut S,
@@ -105,23 +111,29 @@ fn serve_on<W: World + Send + Sync, J: Naming + Send + Sync, G: Gate, R: Source,
     requires room { 0 < length buffer.old }
     requires limit { core.old.framing.limit ≡ COMMAND_LIMIT }
     requires open_session { end_of core.old.standing ≡ None }
-    requires begins { (o : Opening) (l : Limits) (p : Seen) → HasTalked (terms_of o core.old.hello) (Means o l) Standing.New core.old p [] [] p }
+    requires none_open { core.old.tx ≡ None }
+    requires begins { (o : Opening) (l : Limits) (s : PassAndTransaction) → HasTalked (terms_of o core.old.hello) (Means o l) Standing.New core.old s [] [] s }
     ensures talk { IfOk result (λ end. (read : List ℕ) × (written : List ℕ)
         × Consumes (R.unread source.old) (R.unread source.new) read × Appends (S.taken sink.old) (S.taken sink.new) written
-        × Talk COMMAND_LIMIT (terms_of W.opening core.old.hello) (Means W.opening W.limits) Standing.New pass.old read written end pass.new) }
+        × ((now : PassAndTransaction) × (now.pass ≡ pass.new)
+        × Talk COMMAND_LIMIT (terms_of W.opening core.old.hello) (Means W.opening W.limits) Standing.New (none_open pass.old) read written end now)) }
     ensures alone { IfOk result (λ end. NoOthers pass.old pass.new → (read : List ℕ) × (written : List ℕ)
         × Consumes (R.unread source.old) (R.unread source.new) read × Appends (S.taken sink.old) (S.taken sink.new) written
-        × Talk COMMAND_LIMIT (terms_of W.opening core.old.hello) (MeansAlone W.opening W.limits) Standing.New pass.old read written end pass.new) }
+        × ((now : Alone W.opening) × (now.kept.pass ≡ pass.new)
+        × Talk COMMAND_LIMIT (alone_terms W.opening core.old.hello) (MeansAlone W.opening W.limits) Standing.New (alone_first W.opening pass.old) read written end now)) }
     ensures at_end { IfOk result (λ end. IsByInput end → IsAtEnd (R.unread source.new)) }
     ensures read { result ≡ Err SessionFault.Read → (read : List ℕ) × (written : List ℕ)
         × Consumes (R.unread source.old) (R.unread source.new) read × Appends (S.taken sink.old) (S.taken sink.new) written
-        × IsUnfinished COMMAND_LIMIT (terms_of W.opening core.old.hello) (Means W.opening W.limits) Standing.New pass.old read written pass.new }
+        × ((now : PassAndTransaction) × (now.pass ≡ pass.new)
+        × IsUnfinished COMMAND_LIMIT (terms_of W.opening core.old.hello) (Means W.opening W.limits) Standing.New (none_open pass.old) read written now) }
     ensures memory { result ≡ Err SessionFault.Memory → (read : List ℕ) × (piece : List ℕ) × (written : List ℕ)
         × Consumes (R.unread source.old) (R.unread source.new) (read ++ piece) × Appends (S.taken sink.old) (S.taken sink.new) written
-        × IsUnfinished COMMAND_LIMIT (terms_of W.opening core.old.hello) (Means W.opening W.limits) Standing.New pass.old read written pass.new }
+        × ((now : PassAndTransaction) × (now.pass ≡ pass.new)
+        × IsUnfinished COMMAND_LIMIT (terms_of W.opening core.old.hello) (Means W.opening W.limits) Standing.New (none_open pass.old) read written now) }
     ensures write { result ≡ Err SessionFault.Write → (read : List ℕ) × (written : List ℕ)
         × Consumes (R.unread source.old) (R.unread source.new) read × Appends (S.taken sink.old) (S.taken sink.new) written
-        × HasBrokenOff COMMAND_LIMIT (terms_of W.opening core.old.hello) (Means W.opening W.limits) Standing.New pass.old read written pass.new }
+        × ((now : PassAndTransaction) × (now.pass ≡ pass.new)
+        × HasBrokenOff COMMAND_LIMIT (terms_of W.opening core.old.hello) (Means W.opening W.limits) Standing.New (none_open pass.old) read written now) }
     ensures source_count { R.failures source.new ≡ read_failures_after result (R.failures source.old) }
     ensures sink_count { S.failures sink.new ≡ write_failures_after result (S.failures sink.old) }
     ensures session { pass.new.session ≡ pass.old.session }
@@ -155,36 +167,41 @@ pub fn serve<W: World + Send + Sync, J: Naming + Send + Sync, G: Gate, R: Source
     // over what the run leaves at a look of the pass, each behind the one before.
     ensures talk { IfOk result (λ end. (read : List ℕ) × (written : List ℕ)
         × Consumes (R.unread source.old) (R.unread source.new) read × Appends (S.taken sink.old) (S.taken sink.new) written
-        × Talk COMMAND_LIMIT (terms_of W.opening (record { access = access.now; salt = salt.now; id = id })) (Means W.opening W.limits) Standing.New pass.old read written end pass.new) }
+        × ((now : PassAndTransaction) × (now.pass ≡ pass.new)
+        × Talk COMMAND_LIMIT (terms_of W.opening (record { access = access.now; salt = salt.now; id = id })) (Means W.opening W.limits) Standing.New (none_open pass.old) read written end now)) }
     // Where no other session came between, it is one over one database, which knows no shards: each outcome is one that its text has
     // over the rows that the commands before it left.
     ensures alone { IfOk result (λ end. NoOthers pass.old pass.new → (read : List ℕ) × (written : List ℕ)
         × Consumes (R.unread source.old) (R.unread source.new) read × Appends (S.taken sink.old) (S.taken sink.new) written
-        × Talk COMMAND_LIMIT (terms_of W.opening (record { access = access.now; salt = salt.now; id = id })) (MeansAlone W.opening W.limits) Standing.New pass.old read written end pass.new) }
+        × ((now : Alone W.opening) × (now.kept.pass ≡ pass.new)
+        × Talk COMMAND_LIMIT (alone_terms W.opening (record { access = access.now; salt = salt.now; id = id })) (MeansAlone W.opening W.limits) Standing.New (alone_first W.opening pass.old) read written end now)) }
     // It ends before the end of the input only by a command or a fault.
     ensures at_end { IfOk result (λ end. IsByInput end → IsAtEnd (R.unread source.new)) }
     // Where the source failed, each payload that was read whole is answered, and nothing else was written.
     ensures read { result ≡ Err SessionFault.Read → (read : List ℕ) × (written : List ℕ)
         × Consumes (R.unread source.old) (R.unread source.new) read × Appends (S.taken sink.old) (S.taken sink.new) written
-        × IsUnfinished COMMAND_LIMIT (terms_of W.opening (record { access = access.now; salt = salt.now; id = id })) (Means W.opening W.limits) Standing.New pass.old read written pass.new }
+        × ((now : PassAndTransaction) × (now.pass ≡ pass.new)
+        × IsUnfinished COMMAND_LIMIT (terms_of W.opening (record { access = access.now; salt = salt.now; id = id })) (Means W.opening W.limits) Standing.New (none_open pass.old) read written now) }
     // A piece that was read and for which there is no memory counts as not read.
     ensures memory { result ≡ Err SessionFault.Memory → (read : List ℕ) × (piece : List ℕ) × (written : List ℕ)
         × Consumes (R.unread source.old) (R.unread source.new) (read ++ piece) × Appends (S.taken sink.old) (S.taken sink.new) written
-        × IsUnfinished COMMAND_LIMIT (terms_of W.opening (record { access = access.now; salt = salt.now; id = id })) (Means W.opening W.limits) Standing.New pass.old read written pass.new }
+        × ((now : PassAndTransaction) × (now.pass ≡ pass.new)
+        × IsUnfinished COMMAND_LIMIT (terms_of W.opening (record { access = access.now; salt = salt.now; id = id })) (Means W.opening W.limits) Standing.New (none_open pass.old) read written now) }
     // Where the sink failed, a front of the payloads is answered, each once, and the sink took a front of the replies.
     ensures write { result ≡ Err SessionFault.Write → (read : List ℕ) × (written : List ℕ)
         × Consumes (R.unread source.old) (R.unread source.new) read × Appends (S.taken sink.old) (S.taken sink.new) written
-        × HasBrokenOff COMMAND_LIMIT (terms_of W.opening (record { access = access.now; salt = salt.now; id = id })) (Means W.opening W.limits) Standing.New pass.old read written pass.new }
+        × ((now : PassAndTransaction) × (now.pass ≡ pass.new)
+        × HasBrokenOff COMMAND_LIMIT (terms_of W.opening (record { access = access.now; salt = salt.now; id = id })) (Means W.opening W.limits) Standing.New (none_open pass.old) read written now) }
     // That a device failed is told exactly where it did, in this call.
     ensures source_count { R.failures source.new ≡ read_failures_after result (R.failures source.old) }
     ensures sink_count { S.failures sink.new ≡ write_failures_after result (S.failures sink.old) }
     // Whatever happened, the pass is still its session's.
     ensures session { pass.new.session ≡ pass.old.session }
 {
-    let Ok(mut core) = Core::new(alloc, access, salt, id) else {
+    let Ok(mut buffer) = zeroed(alloc, PIECE) else {
         return Err(SessionFault::Memory);
     };
-    let Ok(mut buffer) = zeroed(alloc, PIECE) else {
+    let Ok(mut core) = Core::new(alloc, access, salt, id) else {
         return Err(SessionFault::Memory);
     };
     serve_on(

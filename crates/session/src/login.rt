@@ -1,7 +1,6 @@
 //! The connection phase: what is written for what a client tells of itself.
 ghost use Rattle.std.specs.Prelude.{◌≡◌, ◌+◌, ◌≤◌, List, [], length, bytes_eq, option_map};
 ghost use Rattle.mysql_packet.specs.Frames.{frame};
-ghost use Rattle.mysql_message.specs.Messages.{autocommit};
 ghost use Rattle.mysql_handshake.specs.Handshakes.{answered_of, auth_switch_payload};
 ghost use Rattle.vschema.specs.declared.schema.Keyspace.{Keyspace};
 ghost use Rattle.session.specs.Logins.{Admits, LogsIn, has_keyspace, is_known, is_other_plugin, login_of};
@@ -72,10 +71,10 @@ fn login_of(hello: &Hello, schema: &VSchema, response: &Response) -> Login
 
 #[tactic(auto, using(crate::proofs::LoginLemmas::is_denied, crate::proofs::LoginLemmas::is_unknown, crate::proofs::LoginLemmas::is_admitted))]
 /// Lets the client in whose answer to the salt is right or not, or denies it.
-fn admit(login: Login, is_right: bool, number: u8, reply: &mut BytesMut) -> Standing
+fn admit(login: Login, is_right: bool, number: u8, status: u16, reply: &mut BytesMut) -> Standing
     requires empty { reply.old.items ≡ [] }
     requires room { REPLY_ROOM ≤ reply.old.spare }
-    ensures admits { Admits autocommit number login is_right reply.new.items result }
+    ensures admits { Admits status number login is_right reply.new.items result }
     ensures room { REPLY_ROOM ≤ length reply.new.items + reply.new.spare }
 {
     let is_client = login.is_user && is_right;
@@ -87,7 +86,7 @@ fn admit(login: Login, is_right: bool, number: u8, reply: &mut BytesMut) -> Stan
         put_refusal(number, Refusal::UnknownKeyspace, reply);
         return Standing::Ended(End::Denied);
     }
-    put_pong(number, reply);
+    put_pong(number, status, reply);
     Standing::At(Phase::Commands(login.capabilities))
 }
 
@@ -106,12 +105,13 @@ pub fn put_response(
     hello: &Hello,
     schema: &VSchema,
     payload: &Payload,
+    status: u16,
     reply: &mut BytesMut,
 ) -> Standing
     requires empty { reply.old.items ≡ [] }
     requires room { REPLY_ROOM ≤ reply.old.spare }
     requires number { payload.now.first ≡ 1 }
-    ensures logs_in { LogsIn hello.now schema.now.keyspaces autocommit Phase.Response payload.now reply.new.items result }
+    ensures logs_in { LogsIn hello.now schema.now.keyspaces status Phase.Response payload.now reply.new.items result }
     ensures room { REPLY_ROOM ≤ length reply.new.items + reply.new.spare }
 {
     let number = payload.last.wrapping_add(1);
@@ -127,19 +127,25 @@ pub fn put_response(
                 return Standing::At(Phase::Switch(login));
             }
             let is_right = verify_native(hello.access.stage2, &hello.salt, response.answer);
-            admit(login, is_right, number, reply)
+            admit(login, is_right, number, status, reply)
         }
     }
 }
 
 /// What is written for the client's answer to the request to switch, and how the session then stands.
-pub fn put_answer(hello: &Hello, login: Login, payload: &Payload, reply: &mut BytesMut) -> Standing
+pub fn put_answer(
+    hello: &Hello,
+    login: Login,
+    payload: &Payload,
+    status: u16,
+    reply: &mut BytesMut,
+) -> Standing
     requires empty { reply.old.items ≡ [] }
     requires room { REPLY_ROOM ≤ reply.old.spare }
     requires number { payload.now.first ≡ 3 }
-    ensures logs_in { (keyspaces : List Keyspace) → LogsIn hello.now keyspaces autocommit (Phase.Switch login) payload.now reply.new.items result }
+    ensures logs_in { (keyspaces : List Keyspace) → LogsIn hello.now keyspaces status (Phase.Switch login) payload.now reply.new.items result }
     ensures room { REPLY_ROOM ≤ length reply.new.items + reply.new.spare }
 {
     let is_right = verify_native(hello.access.stage2, &hello.salt, payload.bytes.as_slice());
-    admit(login, is_right, payload.last.wrapping_add(1), reply)
+    admit(login, is_right, payload.last.wrapping_add(1), status, reply)
 }

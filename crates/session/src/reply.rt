@@ -1,11 +1,11 @@
 ghost use Rattle.std.specs.Prelude.{◌≡◌, ◌+◌, ◌≤◌, ◌⊎◌, true, false, [], length, IsSome, IfOk, IfErr, Option};
-ghost use Rattle.mysql_message.specs.Messages.{autocommit};
+ghost use Rattle.route_engine.specs.Pendings.{IsOf};
 ghost use Rattle.mysql_packet.specs.Frames.{frame};
 ghost use Rattle.mysql_message.specs.Messages.{ok_payload, err_payload};
 ghost use Rattle.resultset.specs.declared.Outcome.{Outcome};
 ghost use Rattle.resultset.specs.Encoding.{encoded};
 ghost use Rattle.session.specs.Columns.{AreColumns};
-ghost use Rattle.session.specs.Outcomes.{Means, Shows, HasRows, IsRows, terms_of};
+ghost use Rattle.session.specs.Outcomes.{Leads, Means, Shows, HasRows, IsRows, status_with, terms_of};
 ghost use Rattle.session.specs.declared.hello.Hello.{Hello};
 ghost use Rattle.session.specs.Logins.{has_keyspace};
 ghost use Rattle.session.specs.Talk.{Answers, set_end_of};
@@ -21,7 +21,7 @@ use mysql_handshake::{DEPRECATE_EOF, is_set};
 use mysql_message::{Command, put_err, put_ok, read_command};
 use mysql_packet::Payload;
 use resultset::{Outcome, ResultSet, SetEnd, encode};
-use route_engine::{Answer, Engine, Gate, Selected};
+use route_engine::{Answer, Engine, Gate, Selected, Tx};
 use shard::{ShardLaw, World};
 use std::alloc::Global;
 use std::sync::Wait;
@@ -31,6 +31,9 @@ use vt_value::Refusal;
 
 /// SERVER_STATUS_AUTOCOMMIT.
 const AUTOCOMMIT: u16 = 2;
+
+/// SERVER_STATUS_IN_TRANS.
+const IN_TRANSACTION: u16 = 1;
 
 /// The room that a reply's buffer has at least: a greeting, an OK or an ERR packet fits in it.
 pub const REPLY_ROOM: usize = 84;
@@ -44,14 +47,25 @@ pub fn put_refusal(number: u8, refusal: Refusal, reply: &mut BytesMut)
     let _ = put_err(number, refusal, reply).unwrap();
 }
 
+/// The status flags of a reply: whether a transaction is open then.
+fn status_of<W: World, J: Naming>(tx: &Tx<W, J>) -> u16
+    ensures { result ≡ status_with tx.now }
+{
+    if tx.is_open() {
+        AUTOCOMMIT | IN_TRANSACTION
+    } else {
+        AUTOCOMMIT
+    }
+}
+
 /// An OK that counts no rows.
-pub fn put_pong(number: u8, reply: &mut BytesMut)
+pub fn put_pong(number: u8, status: u16, reply: &mut BytesMut)
     requires empty { reply.old.items ≡ [] }
     requires room { REPLY_ROOM ≤ reply.old.spare }
-    ensures bytes { reply.new.items ≡ frame number (ok_payload 0 autocommit) }
+    ensures bytes { reply.new.items ≡ frame number (ok_payload 0 status) }
     ensures room { REPLY_ROOM ≤ length reply.new.items + reply.new.spare }
 {
-    let _ = put_ok(number, 0, AUTOCOMMIT, reply).unwrap();
+    let _ = put_ok(number, 0, status, reply).unwrap();
 }
 
 fn result_set(alloc: Global, schema: &VSchema, selected: Selected) -> Result<ResultSet, Refusal>
@@ -85,25 +99,28 @@ fn outcome_of<W: World + Send + Sync, J: Naming + Send + Sync, G: Gate>(
     alloc: Global,
     engine: &Engine<W, J, G>,
     pass: &mut Pass<ShardLaw<W>, J>,
+    tx: &mut Tx<W, J>,
     text: &[u8],
 ) -> Outcome
     requires session { IsSome pass.old.session }
-    ensures means { Means W.opening W.limits pass.old text.now result pass.new }
+    requires tx { IsOf W.opening tx.old pass.old }
+    ensures means { Leads W.opening pass.old tx.old pass.new tx.new (λ s now. Means W.opening W.limits s text.now result now) }
+    ensures tx { IsOf W.opening tx.new pass.new }
     ensures session { pass.new.session ≡ pass.old.session }
 {
-    match engine.execute(rt, alloc, pass, text) {
+    match engine.execute(rt, alloc, pass, tx, text) {
         Ok(reply) => shown(alloc, engine.schema(), reply.answer),
         Err(refusal) => Outcome::Refused(refusal),
     }
 }
 
-fn put_count(number: u8, count: u64, reply: &mut BytesMut)
+fn put_count(number: u8, count: u64, status: u16, reply: &mut BytesMut)
     requires empty { reply.old.items ≡ [] }
     requires room { REPLY_ROOM ≤ reply.old.spare }
-    ensures bytes { reply.new.items ≡ frame number (ok_payload count autocommit) }
+    ensures bytes { reply.new.items ≡ frame number (ok_payload count status) }
     ensures room { REPLY_ROOM ≤ length reply.new.items + reply.new.spare }
 {
-    let _ = put_ok(number, count, AUTOCOMMIT, reply).unwrap();
+    let _ = put_ok(number, count, status, reply).unwrap();
 }
 
 fn set_end_of(capabilities: u32) -> SetEnd
@@ -116,43 +133,57 @@ fn set_end_of(capabilities: u32) -> SetEnd
     }
 }
 
-fn put_rows(alloc: Global, outcome: &Outcome, end: SetEnd, number: u8, reply: &mut BytesMut)
+fn put_rows(
+    alloc: Global,
+    outcome: &Outcome,
+    end: SetEnd,
+    number: u8,
+    status: u16,
+    reply: &mut BytesMut,
+)
     requires empty { reply.old.items ≡ [] }
     requires room { REPLY_ROOM ≤ reply.old.spare }
-    ensures bytes { (reply.new.items ≡ encoded end outcome.now number autocommit)
-        ⊎ (reply.new.items ≡ encoded end (Outcome.Refused Refusal.OutOfMemory) number autocommit) }
+    ensures bytes { (reply.new.items ≡ encoded end outcome.now number status)
+        ⊎ (reply.new.items ≡ encoded end (Outcome.Refused Refusal.OutOfMemory) number status) }
     ensures room { REPLY_ROOM ≤ length reply.new.items + reply.new.spare }
 {
-    if encode(alloc, outcome, number, AUTOCOMMIT, end, reply).is_err() {
+    if encode(alloc, outcome, number, status, end, reply).is_err() {
         put_refusal(number, Refusal::OutOfMemory, reply);
     }
 }
 
 /// The reply to a statement. Where there is no memory for its rows, it is the refusal that says so; a count always has room.
-fn put_outcome(alloc: Global, outcome: &Outcome, end: SetEnd, number: u8, reply: &mut BytesMut)
+fn put_outcome(
+    alloc: Global,
+    outcome: &Outcome,
+    end: SetEnd,
+    number: u8,
+    status: u16,
+    reply: &mut BytesMut,
+)
     requires empty { reply.old.items ≡ [] }
     requires room { REPLY_ROOM ≤ reply.old.spare }
-    ensures bytes { (reply.new.items ≡ encoded end outcome.now number autocommit)
-        ⊎ (IsRows outcome.now × (reply.new.items ≡ encoded end (Outcome.Refused Refusal.OutOfMemory) number autocommit)) }
+    ensures bytes { (reply.new.items ≡ encoded end outcome.now number status)
+        ⊎ (IsRows outcome.now × (reply.new.items ≡ encoded end (Outcome.Refused Refusal.OutOfMemory) number status)) }
     ensures room { REPLY_ROOM ≤ length reply.new.items + reply.new.spare }
 {
     match outcome {
-        Outcome::Count(count) => put_count(number, *count, reply),
+        Outcome::Count(count) => put_count(number, *count, status, reply),
         Outcome::Refused(refusal) => put_refusal(number, *refusal, reply),
-        Outcome::Rows(_) => put_rows(alloc, outcome, end, number, reply),
+        Outcome::Rows(_) => put_rows(alloc, outcome, end, number, status, reply),
     }
 }
 
 /// The reply to the name of a keyspace: an OK, or that there is none of that name.
-fn put_selected(schema: &VSchema, name: &[u8], number: u8, reply: &mut BytesMut)
+fn put_selected(schema: &VSchema, name: &[u8], number: u8, status: u16, reply: &mut BytesMut)
     requires empty { reply.old.items ≡ [] }
     requires room { REPLY_ROOM ≤ reply.old.spare }
-    ensures known { has_keyspace schema.now.keyspaces name.now ≡ true → reply.new.items ≡ frame number (ok_payload 0 autocommit) }
+    ensures known { has_keyspace schema.now.keyspaces name.now ≡ true → reply.new.items ≡ frame number (ok_payload 0 status) }
     ensures unknown { has_keyspace schema.now.keyspaces name.now ≡ false → reply.new.items ≡ frame number (err_payload Refusal.UnknownKeyspace) }
     ensures room { REPLY_ROOM ≤ length reply.new.items + reply.new.spare }
 {
     if has_keyspace(schema, name) {
-        put_pong(number, reply);
+        put_pong(number, status, reply);
     } else {
         put_refusal(number, Refusal::UnknownKeyspace, reply);
     }
@@ -164,6 +195,7 @@ fn put_command<W: World + Send + Sync, J: Naming + Send + Sync, G: Gate>(
     alloc: Global,
     engine: &Engine<W, J, G>,
     pass: &mut Pass<ShardLaw<W>, J>,
+    tx: &mut Tx<W, J>,
     capabilities: u32,
     payload: &Payload,
     reply: &mut BytesMut,
@@ -171,8 +203,11 @@ fn put_command<W: World + Send + Sync, J: Naming + Send + Sync, G: Gate>(
     requires empty { reply.old.items ≡ [] }
     requires room { REPLY_ROOM ≤ reply.old.spare }
     requires session { IsSome pass.old.session }
+    requires tx { IsOf W.opening tx.old pass.old }
     requires number { payload.now.first ≡ 0 }
-    ensures answers { (hello : Hello) → Answers (terms_of W.opening hello) (Means W.opening W.limits) (Phase.Commands capabilities) pass.old payload.now reply.new.items result pass.new }
+    ensures answers { (hello : Hello) → Leads W.opening pass.old tx.old pass.new tx.new
+        (λ s now. Answers (terms_of W.opening hello) (Means W.opening W.limits) (Phase.Commands capabilities) s payload.now reply.new.items result now) }
+    ensures tx { IsOf W.opening tx.new pass.new }
     ensures room { REPLY_ROOM ≤ length reply.new.items + reply.new.spare }
     ensures session { pass.new.session ≡ pass.old.session }
 {
@@ -180,11 +215,14 @@ fn put_command<W: World + Send + Sync, J: Naming + Send + Sync, G: Gate>(
     match read_command(payload.bytes.as_slice()) {
         Err(refusal) => put_refusal(number, refusal, reply),
         Ok(Command::Quit) => return Standing::Ended(End::Quit),
-        Ok(Command::Ping) => put_pong(number, reply),
-        Ok(Command::InitDb(name)) => put_selected(engine.schema(), name, number, reply),
+        Ok(Command::Ping) => put_pong(number, status_of(tx), reply),
+        Ok(Command::InitDb(name)) => {
+            put_selected(engine.schema(), name, number, status_of(tx), reply);
+        }
         Ok(Command::Query(text)) => {
-            let outcome = outcome_of(rt, alloc, engine, pass, text);
-            put_outcome(alloc, &outcome, set_end_of(capabilities), number, reply);
+            let outcome = outcome_of(rt, alloc, engine, pass, tx, text);
+            let end = set_end_of(capabilities);
+            put_outcome(alloc, &outcome, end, number, status_of(tx), reply);
         }
     }
     Standing::At(Phase::Commands(capabilities))
@@ -196,6 +234,7 @@ pub fn put_reply<W: World + Send + Sync, J: Naming + Send + Sync, G: Gate>(
     alloc: Global,
     engine: &Engine<W, J, G>,
     pass: &mut Pass<ShardLaw<W>, J>,
+    tx: &mut Tx<W, J>,
     hello: &Hello,
     phase: Phase,
     payload: &Payload,
@@ -204,7 +243,10 @@ pub fn put_reply<W: World + Send + Sync, J: Naming + Send + Sync, G: Gate>(
     requires empty { reply.old.items ≡ [] }
     requires room { REPLY_ROOM ≤ reply.old.spare }
     requires session { IsSome pass.old.session }
-    ensures answers { Answers (terms_of W.opening hello.now) (Means W.opening W.limits) phase pass.old payload.now reply.new.items result pass.new }
+    requires tx { IsOf W.opening tx.old pass.old }
+    ensures answers { Leads W.opening pass.old tx.old pass.new tx.new
+        (λ s now. Answers (terms_of W.opening hello.now) (Means W.opening W.limits) phase s payload.now reply.new.items result now) }
+    ensures tx { IsOf W.opening tx.new pass.new }
     ensures room { REPLY_ROOM ≤ length reply.new.items + reply.new.spare }
     ensures session { pass.new.session ≡ pass.old.session }
 {
@@ -217,10 +259,10 @@ pub fn put_reply<W: World + Send + Sync, J: Naming + Send + Sync, G: Gate>(
         return Standing::Ended(End::Broken);
     }
     match phase {
-        Phase::Response => put_response(hello, engine.schema(), payload, reply),
-        Phase::Switch(login) => put_answer(hello, login, payload, reply),
+        Phase::Response => put_response(hello, engine.schema(), payload, status_of(tx), reply),
+        Phase::Switch(login) => put_answer(hello, login, payload, status_of(tx), reply),
         Phase::Commands(capabilities) => {
-            put_command(rt, alloc, engine, pass, capabilities, payload, reply)
+            put_command(rt, alloc, engine, pass, tx, capabilities, payload, reply)
         }
     }
 }

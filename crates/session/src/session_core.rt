@@ -7,7 +7,8 @@ ghost use Rattle.shard_run.specs.Openings.{IsOpening};
 ghost use Rattle.shard.specs.Shards.{MayFollow};
 ghost use Rattle.session.specs.Devices.{write_failures_after};
 ghost use Rattle.session.specs.Faults.{IsCutOff};
-ghost use Rattle.session.specs.Outcomes.{Means, terms_of};
+ghost use Rattle.route_engine.specs.Pendings.{IsOf};
+ghost use Rattle.session.specs.Outcomes.{Leads, Means, terms_of};
 ghost use Rattle.session.specs.Standings.{end_of};
 ghost use Rattle.session.specs.Sessions.{AnswersFed, FedBy};
 
@@ -20,7 +21,7 @@ use crate::standing::{Phase, Standing, end_of};
 use bytes::BytesMut;
 use journal::{Naming, Pass};
 use mysql_packet::Framer;
-use route_engine::{Engine, Gate};
+use route_engine::{Engine, Gate, Tx};
 use shard::{ShardLaw, World};
 use std::alloc::Global;
 use std::marker::Model;
@@ -50,6 +51,7 @@ fn feed_parts<W: World + Send + Sync, J: Naming + Send + Sync, G: Gate, S: Sink>
     alloc: Global,
     engine: &Engine<W, J, G>,
     pass: &mut Pass<ShardLaw<W>, J>,
+    tx: &mut Tx<W, J>,
     hello: &Hello,
     begin: Standing,
     piece: &[u8],
@@ -59,44 +61,54 @@ fn feed_parts<W: World + Send + Sync, J: Naming + Send + Sync, G: Gate, S: Sink>
 ) -> Result<Standing, SessionFault>
     requires room { REPLY_ROOM ≤ length reply.old.items + reply.old.spare }
     requires session { IsSome pass.old.session }
+    requires tx { IsOf W.opening tx.old pass.old }
     requires open_session { end_of begin ≡ None }
     ensures answers { IfOk result (λ standing. (fed : Fed) × FedBy framer.old framer.new piece.now fed × ((out : List ℕ)
-        × Appends (S.taken sink.old) (S.taken sink.new) out × AnswersFed (terms_of W.opening hello.now) (Means W.opening W.limits) begin pass.old fed out standing pass.new)) }
+        × Appends (S.taken sink.old) (S.taken sink.new) out × Leads W.opening pass.old tx.old pass.new tx.new
+        (λ s now. AnswersFed (terms_of W.opening hello.now) (Means W.opening W.limits) begin s fed out standing now))) }
     ensures write { result ≡ Err SessionFault.Write → (fed : Fed) × FedBy framer.old framer.new piece.now fed × ((written : List ℕ)
-        × Appends (S.taken sink.old) (S.taken sink.new) written × IsCutOff (terms_of W.opening hello.now) (Means W.opening W.limits) begin pass.old fed written pass.new) }
-    ensures memory { result ≡ Err SessionFault.Memory → (pass.new ≡ pass.old) × (sink.new ≡ sink.old) × (framer.new ≡ framer.old) }
+        × Appends (S.taken sink.old) (S.taken sink.new) written × Leads W.opening pass.old tx.old pass.new tx.new
+        (λ s now. IsCutOff (terms_of W.opening hello.now) (Means W.opening W.limits) begin s fed written now)) }
+    ensures memory { result ≡ Err SessionFault.Memory → (pass.new ≡ pass.old) × (tx.new ≡ tx.old) × (sink.new ≡ sink.old) × (framer.new ≡ framer.old) }
     ensures count { S.failures sink.new ≡ write_failures_after result (S.failures sink.old) }
     ensures limit { framer.new.limit ≡ framer.old.limit }
     ensures room { REPLY_ROOM ≤ length reply.new.items + reply.new.spare }
     ensures cause { IfErr result (λ e. (e ≡ SessionFault.Memory) ⊎ (e ≡ SessionFault.Write)) }
+    ensures tx { IsOf W.opening tx.new pass.new }
     ensures session { pass.new.session ≡ pass.old.session }
 {
     let Ok(fed) = framer.feed(piece) else {
         return Err(SessionFault::Memory);
     };
-    match answer_fed(rt, alloc, engine, pass, hello, begin, &fed, reply, sink) {
+    match answer_fed(rt, alloc, engine, pass, tx, hello, begin, &fed, reply, sink) {
         Ok(standing) => Ok(standing),
         Err(_) => Err(SessionFault::Write),
     }
 }
 
-/// A session, without the devices that its bytes come from and go to. Contracts see what it knows of its input, and how it stands.
+/// A session, without the devices that its bytes come from and go to. Its open transaction is dropped with it, and leaves no entry. Contracts
+/// see what it knows of its input, how it stands, and what it keeps of its transaction.
 #[derive(Drop)]
-pub struct Core {
+pub struct Core<W: World, J: Naming> {
     framer: Framer,
     reply: BytesMut,
     standing: Standing,
     hello: Hello,
+    tx: Tx<W, J>,
 }
 
-impl Model for Core {
+impl<W: World, J: Naming> Model for Core<W, J> {
     ghost use Rattle.std.specs.Prelude.{◌+◌, ◌≤◌, length};
     ghost use Rattle.session.specs.declared.reply.TheConstants.{REPLY_ROOM};
     ghost use Rattle.session.specs.Sessions.{SessionState};
+    ghost use Rattle.std.specs.Coded.{codes};
+    ghost use Rattle.vschema.specs.contracts.changes.Write as write;
 
     ghost Value = { SessionState };
 
-    ghost view = { λ c. record { hello = c.hello; framing = c.framer; standing = c.standing } };
+    ghost coded = { Prim.hlevel (codes, write.the_row.coded) };
+
+    ghost view = { λ c. record { hello = c.hello; framing = c.framer; standing = c.standing; tx = c.tx } };
 
     // The refusal of a payload always has room.
     ghost invariant = { λ c. REPLY_ROOM ≤ length c.reply.items + c.reply.spare };
@@ -113,29 +125,30 @@ fn end_between(is_between_payloads: bool) -> End
     }
 }
 
-impl Core {
-    ghost use Rattle.std.specs.Prelude.{◌≡◌, ℕ, List, [], ◌++◌, None, Some, Ok, Err, IsSome, IfOk, IfErr, IfSome, OnErr, ◌⊎◌};
-    ghost use Rattle.std.specs.Io.KnownBytes.{Appends};
+impl<W: World, J: Naming> Core<W, J> {
+    ghost use Rattle.std.specs.Prelude.{◌≡◌, ℕ, List, [], None, IfOk, IfErr, IfSome};
     ghost use Rattle.shard_run.specs.Runs.{Opening};
     ghost use Rattle.shard.specs.declared.limits.Limits.{Limits};
-    ghost use Rattle.route_engine.specs.Alone.{NoOthers};
-    ghost use Rattle.session.specs.Alone.{MeansAlone};
-    ghost use Rattle.session.specs.Devices.{write_failures_after};
-    ghost use Rattle.session.specs.Faults.{HasBrokenOff};
-    ghost use Rattle.session.specs.Outcomes.{Means, Seen, terms_of};
+    ghost use Rattle.session.specs.Outcomes.{Means, PassAndTransaction, terms_of};
     ghost use Rattle.session.specs.Standings.{HasBegun, end_of};
-    ghost use Rattle.session.specs.Talk.{Talk, IsByCommand};
-    ghost use Rattle.session.specs.Sessions.{HasTalked, HasTalkedOn, IsNext};
+    ghost use Rattle.session.specs.Talk.{Talk};
+    ghost use Rattle.session.specs.Sessions.{HasTalked};
 
     /// A session that is new: of the connection with this id. It greets its client by the salt, and lets in whom `access` tells.
     /// Makes room for the greeting and for a refusal, and refuses only where it can't.
-    pub fn new(alloc: Global, access: &Access, salt: &[u8; 20], id: u32) -> Result<Core, Refusal>
+    pub fn new(
+        alloc: Global,
+        access: &Access,
+        salt: &[u8; 20],
+        id: u32,
+    ) -> Result<Core<W, J>, Refusal>
         // Nothing has been read or written.
-        ensures begins { IfOk result (λ core. (o : Opening) (l : Limits) (p : Seen)
-            → HasTalked (terms_of o core.hello) (Means o l) Standing.New core p [] [] p) }
+        ensures begins { IfOk result (λ core. (o : Opening) (l : Limits) (s : PassAndTransaction)
+            → HasTalked (terms_of o core.hello) (Means o l) Standing.New core s [] [] s) }
         ensures hello { IfOk result (λ core. core.hello ≡ record { access = access.now; salt = salt.now; id = id }) }
         ensures standing { IfOk result (λ core. core.standing ≡ Standing.New) }
         ensures limit { IfOk result (λ core. core.framing.limit ≡ COMMAND_LIMIT) }
+        ensures none_open { IfOk result (λ core. core.tx ≡ None) }
         ensures err { IfErr result (λ e. e ≡ Refusal.OutOfMemory) }
     {
         let reply = BytesMut::with_capacity(alloc, REPLY_ROOM)?;
@@ -153,17 +166,19 @@ impl Core {
                 salt: *salt,
                 id,
             },
+            tx: Tx::new(),
         })
     }
 
     /// A session that begins in the command phase, without a handshake: of the connection with this id, and with the
     /// capabilities that both sides set. Makes room for the refusal of a command, and refuses only where it can't.
-    pub fn commands(alloc: Global, id: u32, capabilities: u32) -> Result<Core, Refusal>
+    pub fn commands(alloc: Global, id: u32, capabilities: u32) -> Result<Core<W, J>, Refusal>
         // Nothing has been read or written.
-        ensures begins { IfOk result (λ core. (o : Opening) (l : Limits) (p : Seen)
-            → HasTalked (terms_of o core.hello) (Means o l) (Standing.At (Phase.Commands capabilities)) core p [] [] p) }
+        ensures begins { IfOk result (λ core. (o : Opening) (l : Limits) (s : PassAndTransaction)
+            → HasTalked (terms_of o core.hello) (Means o l) (Standing.At (Phase.Commands capabilities)) core s [] [] s) }
         ensures standing { IfOk result (λ core. core.standing ≡ Standing.At (Phase.Commands capabilities)) }
         ensures limit { IfOk result (λ core. core.framing.limit ≡ COMMAND_LIMIT) }
+        ensures none_open { IfOk result (λ core. core.tx ≡ None) }
         ensures id { IfOk result (λ core. core.hello.id ≡ id) }
         ensures err { IfErr result (λ e. e ≡ Refusal.OutOfMemory) }
     {
@@ -180,6 +195,7 @@ impl Core {
                 salt: [0; 20],
                 id,
             },
+            tx: Tx::new(),
         })
     }
 
@@ -201,7 +217,7 @@ impl Core {
     pub fn end_of_input(&self) -> End
         ensures ended { IfSome (end_of self.now.standing) (λ end. result ≡ end) }
         // The conversation is then whole, where the client has been greeted.
-        ensures whole { HasBegun self.now.standing → (o : Opening) (l : Limits) (begin : Standing) (first now : Seen) (bytes out : List ℕ)
+        ensures whole { HasBegun self.now.standing → (o : Opening) (l : Limits) (begin : Standing) (first now : PassAndTransaction) (bytes out : List ℕ)
             → HasTalked (terms_of o self.now.hello) (Means o l) begin self.now first bytes out now
             → Talk self.now.framing.limit (terms_of o self.now.hello) (Means o l) begin first bytes out result now }
     {
@@ -210,11 +226,25 @@ impl Core {
             None => end_between(self.framer.is_between_payloads()),
         }
     }
+}
+
+impl<W: World + Send + Sync, J: Naming + Send + Sync> Core<W, J> {
+    ghost use Rattle.std.specs.Prelude.{◌≡◌, ℕ, List, ◌++◌, None, Some, Ok, Err, IsSome, IfOk, IfErr, IfSome, OnErr, ◌⊎◌};
+    ghost use Rattle.std.specs.Io.KnownBytes.{Appends};
+    ghost use Rattle.route_engine.specs.Alone.{NoOthers};
+    ghost use Rattle.route_engine.specs.Pendings.{IsOf};
+    ghost use Rattle.session.specs.Alone.{Alone, MeansAlone, alone_terms};
+    ghost use Rattle.session.specs.Devices.{write_failures_after};
+    ghost use Rattle.session.specs.Faults.{HasBrokenOff};
+    ghost use Rattle.session.specs.Outcomes.{IsKept, Means, PassAndTransaction, terms_of};
+    ghost use Rattle.session.specs.Standings.{HasBegun, end_of};
+    ghost use Rattle.session.specs.Talk.{IsByCommand};
+    ghost use Rattle.session.specs.Sessions.{HasTalked, HasTalkedOn, IsNext};
 
     /// Takes the next piece of the input, and writes the replies to the payloads that it completes, each once it is known
     /// whole; the first piece, also an empty one, writes the greeting of a session that is new. `None` says that the session goes on. A session that has ended takes nothing and writes nothing, and tells
     /// again how it ended: after a fault as `End::Broken`.
-    pub fn feed<W: World + Send + Sync, J: Naming + Send + Sync, G: Gate, S: Sink>(
+    pub fn feed<G: Gate, S: Sink>(
         &mut self,
         rt: &(impl Threads + Wait + Sync),
         alloc: Global,
@@ -224,17 +254,21 @@ impl Core {
         sink: &mut S,
     ) -> Result<Option<End>, SessionFault>
         requires session { IsSome pass.old.session }
+        requires tx { IsOf W.opening self.old.tx pass.old }
         // However the input was cut before: of the bytes so far exactly the conversation over them has been written, where each
-        // query has an outcome that its text may have over what the run leaves at a look of the pass, each behind the one before.
-        ensures talk { IfOk result (λ end. (begin : Standing) (first : Seen) (bytes out : List ℕ)
-            → HasTalked (terms_of W.opening self.old.hello) (Means W.opening W.limits) begin self.old first bytes out pass.old →
-            (written : List ℕ) × Appends (S.taken sink.old) (S.taken sink.new) written
-            × HasTalkedOn (terms_of W.opening self.old.hello) (Means W.opening W.limits) begin self.new first (bytes ++ piece.now) (out ++ written) end pass.new) }
+        // query has an outcome that its text may have over what the run leaves at a look of the pass, each behind the one before,
+        // and in the open transaction, if one is. That is kept from piece to piece.
+        ensures talk { IfOk result (λ end. (begin : Standing) (first s : PassAndTransaction) (bytes out : List ℕ) → IsKept W.opening pass.old self.old.tx s
+            → HasTalked (terms_of W.opening self.old.hello) (Means W.opening W.limits) begin self.old first bytes out s →
+            (written : List ℕ) × Appends (S.taken sink.old) (S.taken sink.new) written × ((now : PassAndTransaction) × IsKept W.opening pass.new self.new.tx now
+            × HasTalkedOn (terms_of W.opening self.old.hello) (Means W.opening W.limits) begin self.new first (bytes ++ piece.now) (out ++ written) end now)) }
         // Where no other session comes between, a conversation over one database goes on over it.
-        ensures alone { IfOk result (λ end. (begin : Standing) (first : Seen) (bytes out : List ℕ)
-            → HasTalked (terms_of W.opening self.old.hello) (MeansAlone W.opening W.limits) begin self.old first bytes out pass.old →
+        ensures alone { IfOk result (λ end. (begin : Standing) (first s : Alone W.opening) (bytes out : List ℕ) → IsKept W.opening pass.old self.old.tx s.kept
+            → HasTalked (alone_terms W.opening self.old.hello) (MeansAlone W.opening W.limits) begin self.old first bytes out s →
             NoOthers pass.old pass.new → (written : List ℕ) × Appends (S.taken sink.old) (S.taken sink.new) written
-            × HasTalkedOn (terms_of W.opening self.old.hello) (MeansAlone W.opening W.limits) begin self.new first (bytes ++ piece.now) (out ++ written) end pass.new) }
+            × ((now : Alone W.opening) × IsKept W.opening pass.new self.new.tx now.kept
+            × HasTalkedOn (alone_terms W.opening self.old.hello) (MeansAlone W.opening W.limits) begin self.new first (bytes ++ piece.now) (out ++ written) end now)) }
+        ensures tx { IsOf W.opening self.new.tx pass.new }
         ensures ended { IfOk result (λ end. end_of self.new.standing ≡ end) }
         // The client has been greeted, also by an empty piece.
         ensures begun { IfOk result (λ end. HasBegun self.new.standing) }
@@ -243,12 +277,12 @@ impl Core {
         ensures fault { OnErr result (self.new.standing ≡ Standing.Ended End.Broken) }
         ensures cause { IfErr result (λ e. (e ≡ SessionFault.Memory) ⊎ (e ≡ SessionFault.Write)) }
         // A piece for which there is no memory counts as not fed.
-        ensures memory { result ≡ Err SessionFault.Memory → (pass.new ≡ pass.old) × (sink.new ≡ sink.old) × (self.new.framing ≡ self.old.framing) }
+        ensures memory { result ≡ Err SessionFault.Memory → (pass.new ≡ pass.old) × (self.new.tx ≡ self.old.tx) × (sink.new ≡ sink.old) × (self.new.framing ≡ self.old.framing) }
         // Where the sink failed, a front of the payloads is answered, each once, and the sink took a front of the replies.
-        ensures write { result ≡ Err SessionFault.Write → (begin : Standing) (first : Seen) (bytes out : List ℕ)
-            → HasTalked (terms_of W.opening self.old.hello) (Means W.opening W.limits) begin self.old first bytes out pass.old →
-            (written : List ℕ) × Appends (S.taken sink.old) (S.taken sink.new) written
-            × HasBrokenOff self.old.framing.limit (terms_of W.opening self.old.hello) (Means W.opening W.limits) begin first (bytes ++ piece.now) (out ++ written) pass.new }
+        ensures write { result ≡ Err SessionFault.Write → (begin : Standing) (first s : PassAndTransaction) (bytes out : List ℕ) → IsKept W.opening pass.old self.old.tx s
+            → HasTalked (terms_of W.opening self.old.hello) (Means W.opening W.limits) begin self.old first bytes out s →
+            (written : List ℕ) × Appends (S.taken sink.old) (S.taken sink.new) written × ((now : PassAndTransaction) × IsKept W.opening pass.new self.new.tx now
+            × HasBrokenOff self.old.framing.limit (terms_of W.opening self.old.hello) (Means W.opening W.limits) begin first (bytes ++ piece.now) (out ++ written) now) }
         // That the sink failed is told exactly where it did, in this call.
         ensures count { S.failures sink.new ≡ write_failures_after result (S.failures sink.old) }
         ensures again { IfSome (end_of self.old.standing) (λ end. (result ≡ Ok (Some end)) × (self.new ≡ self.old) × (sink.new ≡ sink.old) × (pass.new ≡ pass.old)) }
@@ -265,6 +299,7 @@ impl Core {
             alloc,
             engine,
             pass,
+            &mut self.tx,
             &self.hello,
             begin,
             piece,

@@ -4,7 +4,7 @@ use Rattle.session.proofs.RepliesLemmas.{never_new}
 use Rattle.session.proofs.answers.answer_all.Goals as goal
 
 pub loop-payload-init : goal.loop-payload-init
-loop-payload-init g c = record { session = refl; room = c.requires.room; count = refl; replies = nothing_yet _ _ _ _ _ }
+loop-payload-init g c = record { session = refl; tx = c.requires.tx; room = c.requires.room; count = refl; replies = nothing_yet _ _ _ _ _ }
 
 pub returns-in_err-answer-clause-cut : goal.returns-in_err-answer-clause-cut
 returns-in_err-answer-clause-cut g c =
@@ -21,6 +21,7 @@ returns-in-Ended-clause-replies g c =
 pub loop-payload-preserved : goal.loop-payload-preserved
 loop-payload-preserved g c = record {
   session = c.in_ok-answer.ensures.session ∙ c.loop-payload.invariant.session;
+  tx = c.in_ok-answer.ensures.tx;
   room = c.in_ok-answer.ensures.room;
   count = c.in_ok-answer.ensures.count ∙ c.loop-payload.invariant.count;
   replies =
@@ -30,4 +31,7 @@ loop-payload-preserved g c = record {
 }
 
 pub unreachable-requires : goal.unreachable-requires
-unreachable-requires g c = never_new _ _ c.loop-payload.phase _ _ c.payload-item.result c.in_ok-answer.field-0 _ _ c.in-New.is c.in_ok-answer.ensures.answers
+unreachable-requires g c =
+    let answers = c.in_ok-answer.ensures.answers in
+    let then = answers.2 (record { pass = c.loop-payload.pass; tx = c.loop-payload.invariant.tx.0 }) (refl, c.loop-payload.invariant.tx.1) in
+    never_new _ _ c.loop-payload.phase _ then.0 c.payload-item.result c.in_ok-answer.field-0 _ _ c.in-New.is (answers.0, answers.1, then.2)

@@ -1,3 +1,4 @@
+use Rattle.std.proofs.Common.{refl}
 use Rattle.session.proofs.Conversations.{begun, fed_ended, fed_goes_on, fed_refused, fed_cut, greeting_cut, refusal_cut, on_err}
 use Rattle.session.proofs.RepliesLemmas.{not_new}
 use Rattle.session.proofs.answers.answer_fed.Goals as goal
@@ -40,4 +41,5 @@ returns-in_ok-answer_fault-in-Some-clause-answers g c =
 pub unreachable-requires : goal.unreachable-requires
 unreachable-requires g c =
     let replies = c.in_ok-answer_all.ensures.replies in
-    not_new _ _ c.in_ok-phase.phase _ _ _ replies.0 c.in_ok-answer_all.field-0 c.in-New.is replies.2
+    let then = replies.2 (record { pass = c.args.pass.now; tx = c.requires.tx.0 }) (refl, c.requires.tx.1) in
+    not_new _ _ c.in_ok-phase.phase _ _ _ replies.0 c.in_ok-answer_all.field-0 c.in-New.is then.2

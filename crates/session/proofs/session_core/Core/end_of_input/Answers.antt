@@ -2,7 +2,7 @@ use Rattle.session.proofs.Conversations.{whole_end, is_end}
 use Rattle.session.proofs.session_core.Core.end_of_input.Goals as goal
 
 pub returns-in-None-clause-whole : goal.returns-in-None-clause-whole
-returns-in-None-clause-whole c =
+returns-in-None-clause-whole g c =
     rw (← c.self.view_is)
     (λ has o l begin first now bytes out before.
     let ends = is_end c.is_between_payloads.result c.self.inside.framer.rest c.end_between.result c.is_between_payloads.ensures c.end_between.ensures.between c.end_between.ensures.within in

@@ -3,4 +3,4 @@ use Rattle.session.specs.Talk as t
 use Rattle.session.proofs.session_core.Core.new.Goals as goal
 
 pub returns-clause-begins : goal.returns-clause-begins
-returns-clause-begins c = λ o l p. record { payloads = []; goes_on = refl; read = c.new.ensures.start; replies = t.new }
+returns-clause-begins g c = λ o l s. record { payloads = []; goes_on = refl; read = c.new.ensures.start; replies = t.new }

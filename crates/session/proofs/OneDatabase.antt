@@ -1,0 +1,401 @@
+-- Where no other session comes between, a statement gives what it means over the one database, behind those of its transaction.
+use Rattle.std.proofs.Common.{◌≡◌, true, ℕ, List, [], ◌∷◌, ◌++◌, map, Contains, Option, Some, None, Result, Ok, Err, length, refl, sym, ap, subst, ◌∙◌, inl, inr}
+use Rattle.std.specs.List.{AllByRecursion}
+use Rattle.std.proofs.lemmas.Grind.{flat_map-append}
+use Rattle.std.proofs.lemmas.List.{append-nil, append_cancel_left}
+use Rattle.std.proofs.lemmas.List.Sorted.{length_permutation}
+use Rattle.vt_value.specs.declared.refusal.Refusal.{Refusal}
+use Rattle.vt_value.specs.declared.refusal.Refusal.TheVariants.{OutOfMemory, ShardFull}
+use Rattle.sql_tree.specs.declared.Statement.{Statement}
+use Rattle.sql_parser.specs.Grammar.{Reads}
+use Rattle.vschema.specs.declared.schema.VSchema.{VSchema}
+use Rattle.vschema.specs.declared.schema.Typed.{Typed}
+use Rattle.vschema.specs.declared.schema.Typed.TheVariants as typed
+use Rattle.vschema.specs.declared.changes.Write.{Write}
+use Rattle.vschema.specs.declared.changes.RowChange.{RowChange}
+use Rattle.vschema.specs.Database.{Database, all_applied}
+use Rattle.vschema.specs.TypedStatement.{typed_statement}
+use Rattle.vschema.specs.TypedWrites.{IsTypedWrite}
+use Rattle.vschema.specs.WellFormed.{is_vschema}
+use Rattle.journal.specs.Runs.{IsLegal}
+use Rattle.journal.specs.Views.{PassView}
+use Rattle.journal.proofs.Fronts.{prefix_trans}
+use Rattle.shard_run.specs.declared.Shard.{Shard}
+use Rattle.shard_run.specs.declared.Entry.{Entry}
+use Rattle.shard_run.specs.Runs.{Run, Opening, one}
+use Rattle.shard_run.specs.Legal.{IsChangeOf}
+use Rattle.shard_run.specs.Openings.{IsOpening}
+use Rattle.shard_law.proofs.Lists.{In, In-from_Contains, all-append}
+use Rattle.shard.specs.declared.limits.Limits.{Limits}
+use Rattle.shard.specs.Shards.{MayFollow}
+use Rattle.shard.proofs.Legality.{legal_is}
+use Rattle.route_engine.specs.declared.reply.Answer.{Answer}
+use Rattle.route_engine.specs.declared.reply.Reply.{Reply}
+use Rattle.route_engine.specs.Answers as a
+use Rattle.route_engine.specs.Answers.{counted, IsReply, IsRefused}
+use Rattle.route_engine.specs.Alone as over
+use Rattle.route_engine.specs.Alone.{NoOthers, GivesOver, IsRefusedOver}
+use Rattle.route_engine.specs.Transactions as x
+use Rattle.route_engine.specs.Transactions.{Step, Transaction, Standing, GiveOver, AreOver, NeedsNone, used, if_any, writes_in, write_on, with_step, IsCommitted, GivesIn, GivesAt, IsAnswer, IsConflict, IsRefusedIn, IsRefusedBy, IsRefusedNow, IsRefusedAt}
+use Rattle.route_engine.proofs.NoOthers.{unchanged, gone_same, looked_unchanged, all_front, all_back}
+use Rattle.route_engine.proofs.Over.{reply_over, refusal_over}
+use Rattle.route_engine.proofs.Sessions.{is_typed}
+use Rattle.route_engine.proofs.WholeWrites.{no_changes}
+use Rattle.session.specs.Alone as alone
+use Rattle.session.specs.Alone.{Told, OneState, InTurn, GivesNext, AnswersNext, Sees, IsEnding, MeansOver, told_of, LeavesAll, IsOpenOver, IsOverAt}
+use Rattle.session.proofs.Steps.{committed_later}
+
+-- ---- lists
+
+map-push : (steps : List Step) (step : Step) → map told_of (steps ++ step ∷ []) ≡ map told_of steps ++ told_of step ∷ []
+map-push [] step = refl
+map-push (s ∷ steps) step = ap (λ (l : List Told). told_of s ∷ l) (map-push steps step)
+
+module _ {X : Type 0} where
+  none_left : (xs ys : List X) → xs ++ ys ≡ [] → xs ≡ []
+  none_left [] ys e = refl
+  none_left (x ∷ xs) ys e = absurd (cc e)
+
+  none_right : (xs ys : List X) → xs ++ ys ≡ [] → ys ≡ []
+  none_right [] ys e = e
+  none_right (x ∷ xs) ys e = absurd (cc e)
+
+  all_in : (P : X → Type 0) (x : X) (xs : List X) → AllByRecursion P xs → In x xs → P x
+  all_in P x [] all h = absurd h
+  all_in P x (y ∷ xs) all (inl e) = subst P e all.0
+  all_in P x (y ∷ xs) all (inr h) = all_in P x xs all.1 h
+
+  nothing_in : (x : X) (xs : List X) → xs ≡ [] → Contains xs x → ⊥
+  nothing_in x xs none h = subst (λ (l : List X). In x l) none (In-from_Contains x xs h)
+
+-- no shard was used, so no write used one
+writes_none : (steps : List Step) → used steps ≡ [] → writes_in steps ≡ []
+writes_none [] e = refl
+writes_none (step ∷ steps) e =
+    let first = none_left (if_any step.on) (used steps) e in
+    let rest = writes_none steps (none_right (if_any step.on) (used steps) e) in
+    by step.on step.typed first ∙ rest
+  where
+    by : (on : Option Shard) (t : Typed) → if_any on ≡ [] → write_on on t ++ writes_in steps ≡ writes_in steps
+    by None t e = refl
+    by (Some s) t e = let f : s ∷ [] ≡ [] = e in absurd (cc f)
+
+-- ---- statements one after the other
+
+in_turn : (schema : VSchema) (db : Database) (steps : List Step) (after : Database) → GiveOver schema db steps after → InTurn schema db (map told_of steps) after
+in_turn schema db _ _ x.none = alone.none
+in_turn schema db _ _ (x.next {steps} {mid} {after} step give gives) =
+    subst (λ (l : List Told). InTurn schema db l after) (sym (map-push steps step)) (alone.next (told_of step) (in_turn schema db steps mid give) gives)
+
+-- without writes they leave the database
+all_stay : (schema : VSchema) (db : Database) (steps : List Step) (after : Database) → GiveOver schema db steps after → AllByRecursion (LeavesAll schema db) steps
+    → writes_in steps ≡ [] → after ≡ db
+all_stay schema db _ _ x.none all none = refl
+all_stay schema db _ _ (x.next {steps} {mid} {after} step give gives) all none =
+    let split : writes_in steps ++ writes_in (step ∷ []) ≡ [] = sym (flat_map-append (λ (s : Step). write_on s.on s.typed) steps (step ∷ [])) ∙ none in
+    let here : mid ≡ db =
+    all_stay schema db steps mid give (all_front (LeavesAll schema db) steps (step ∷ []) all) (none_left (writes_in steps) (writes_in (step ∷ [])) split) in
+    let last : write_on step.on step.typed ≡ [] =
+    sym (append-nil (write_on step.on step.typed)) ∙ none_right (writes_in steps) (writes_in (step ∷ [])) split in
+    (all_back (LeavesAll schema db) steps (step ∷ []) all).0 last after (subst (λ (d : Database). GivesOver schema d step.typed step.answer after) here gives)
+
+-- one more statement
+module _ (o : Opening) (run : Run) (t : Transaction) (told : List Told) (h : IsOpenOver o run t told) (step : Step) where
+  abbrev more : List Step
+  more = t.steps ++ step ∷ []
+
+  told_more : told ++ told_of step ∷ [] ≡ map told_of more
+  told_more = ap (λ (l : List Told). l ++ told_of step ∷ []) h.same ∙ sym (map-push t.steps step)
+
+  pub opened_more : (at : Run) → at ≡ run → step.seen ≡ run → AreOver o run more → LeavesAll o.schema (one o run) step
+      → IsOpenOver o run (record { at = at; steps = more }) (told ++ told_of step ∷ [])
+  opened_more at is seen over leaves = record {
+    at = is;
+    same = told_more;
+    seen = all-append (λ (s : Step). s.seen ≡ run) t.steps (step ∷ []) h.seen (seen, tt);
+    over = over;
+    idle = all-append (LeavesAll o.schema (one o run)) t.steps (step ∷ []) h.idle (leaves, tt);
+  }
+
+  pub given_more : (after : Database) → GiveOver o.schema (one o run) more after → InTurn o.schema (one o run) (told ++ told_of step ∷ []) after
+  given_more after give =
+      subst (λ (l : List Told). InTurn o.schema (one o run) l after) (sym told_more) (in_turn o.schema (one o run) more after give)
+
+module _ (o : Opening) (run : Run) (t : Transaction) (told : List Told) (h : IsOpenOver o run t told) where
+  all_given : (after : Database) → GiveOver o.schema (one o run) t.steps after → InTurn o.schema (one o run) told after
+  all_given after give = subst (λ (l : List Told). InTurn o.schema (one o run) l after) (sym h.same) (in_turn o.schema (one o run) t.steps after give)
+
+  -- without writes they lead back to the database
+  unwritten : writes_in t.steps ≡ [] → InTurn o.schema (one o run) told (one o run)
+  unwritten none =
+      let same = all_stay o.schema (one o run) t.steps h.over.0 h.over.1 h.idle none in
+      subst (λ (d : Database). InTurn o.schema (one o run) told d) same (all_given h.over.0 h.over.1)
+
+-- a statement that used a shard and didn't write leaves the database
+reads_leave : (schema : VSchema) (db : Database) (t : Typed) (answer : Answer) (seen : Run) (s : Shard)
+    → LeavesAll schema db (record { typed = t; answer = answer; seen = seen; on = Some s })
+reads_leave schema db t answer seen s none after gives = by t answer after none gives
+  where
+    by : (t : Typed) (answer : Answer) (after : Database) → write_on (Some s) t ≡ [] → GivesOver schema db t answer after → after ≡ db
+    by _ _ _ none (over.selects table items rows) = refl
+    by _ _ _ none (over.writes {w} changes is) = let e : w ∷ [] ≡ [] = none in absurd (cc e)
+    by _ _ _ none over.sets_names = refl
+
+empty_is : (xs : List RowChange) → length xs ≡ 0 → xs ≡ []
+empty_is [] e = refl
+empty_is (x ∷ xs) e = absurd (cc e)
+
+ok_of : (r : Result (List RowChange) Refusal) → List RowChange
+ok_of (Ok x) = x
+ok_of (Err e) = []
+
+-- nor does one that needs no shard
+module _ (o : Opening) (opens : IsOpening o) (formed : is_vschema o.schema ≡ true) (run : Run) (legal : IsLegal (MayFollow o) run) where
+  nothing_written : (w : Write) → IsTypedWrite o.schema w → NeedsNone o (typed.Write w) → (changes : List RowChange) → IsChangeOf o.schema w (one o run) changes
+      → all_applied changes (one o run) ≡ one o run
+  unfolding ok_of
+  nothing_written w is uses changes of =
+      let none = no_changes o opens formed run (legal_is o run legal) uses.0 uses.1 w is uses.2 in
+      let exact : of.0 ≡ [] = ap ok_of (sym of.1 ∙ none) in
+      let few : length changes ≡ 0 = length_permutation of.0 changes of.2 ∙ ap length exact in
+      ap (λ (l : List RowChange). all_applied l (one o run)) (empty_is changes few)
+
+  nowhere_leaves : (tree : Statement) (t : Typed) (answer : Answer) (seen : Run) → typed_statement o.schema tree ≡ Ok t → NeedsNone o t
+      → LeavesAll o.schema (one o run) (record { typed = t; answer = answer; seen = seen; on = None })
+  nowhere_leaves tree t answer seen is uses none after gives = by t answer after is uses gives
+    where
+      by : (t : Typed) (answer : Answer) (after : Database) → typed_statement o.schema tree ≡ Ok t → NeedsNone o t → GivesOver o.schema (one o run) t answer after
+          → after ≡ one o run
+      by _ _ _ is uses (over.selects table items rows) = refl
+      by _ _ _ is uses (over.writes {w} changes of) = nothing_written w (is_typed o.schema tree w is) uses changes of
+      by _ _ _ is uses over.sets_names = refl
+
+-- ---- a statement of a session that is alone
+
+-- what it leads to over the one database
+pub record Goes (o : Opening) (p : PassView Entry) (now : Standing) (P : OneState → Type 0) : Type 0 where
+  pub state : OneState
+  pub holds : P state
+  pub rows : state.db ≡ one o now.pass.seen
+  pub tx : IsOverAt o now.pass.seen now.tx state.open_one
+
+others_counted : (p now : PassView Entry) → NoOthers p now → NoOthers (counted p) now
+others_counted p now h = record { session = h.session; of_session = h.of_session; added = h.added; seen = h.seen; own = h.own }
+
+module _ (o : Opening) (opens : IsOpening o) (formed : is_vschema o.schema ≡ true) (l : Limits) (text : List ℕ) where
+  -- in its transaction
+  module _ (p now : PassView Entry) (t : Transaction) (told : List Told) (legal : IsLegal (MayFollow o) p.seen) (others : NoOthers p now)
+      (h : IsOpenOver o p.seen t told) where
+    abbrev Next : Typed → Answer → Option Transaction → Type 0
+    Next typed answer tx = Goes o p (record { pass = now; tx = tx }) (λ y. GivesNext o.schema (one o p.seen) (Some told) typed answer y)
+
+    -- it goes on, where nothing was added
+    goes_on : (same : now.seen ≡ p.seen) (typed : Typed) (answer : Answer) (on : Option Shard) (at seen : Run) → at ≡ p.seen → seen ≡ p.seen
+        → AreOver o p.seen (with_step t.steps typed answer on seen)
+        → LeavesAll o.schema (one o p.seen) (record { typed = typed; answer = answer; seen = seen; on = on })
+        → Next typed answer (Some (record { at = at; steps = with_step t.steps typed answer on seen }))
+    goes_on same typed answer on at seen is then over leaves =
+        let step : Step = record { typed = typed; answer = answer; seen = seen; on = on } in record {
+          state = record { db = one o p.seen; open_one = Some (told ++ told_of step ∷ []) };
+          holds = alone.within (told_of step) (given_more o p.seen t told h step over.0 over.1);
+          rows = ap (one o) (sym same);
+          tx =
+              subst (λ (run : Run). IsOpenOver o run (record { at = at; steps = with_step t.steps typed answer on seen }) (told ++ told_of step ∷ [])) (sym same)
+              (opened_more o p.seen t told h step at is then over leaves);
+        }
+
+    -- it has committed nothing
+    commits_nothing : now.seen ≡ p.seen → writes_in t.steps ≡ [] → Next typed.Commit (Rattle.route_engine.specs.declared.reply.Answer.TheVariants.Count 0) None
+    commits_nothing same none = record {
+      state = record { db = one o p.seen; open_one = None };
+      holds = alone.commits (unwritten o p.seen t told h none);
+      rows = ap (one o) (sym same);
+      tx = tt;
+    }
+
+    commits_writes : (s : Shard) → IsCommitted o l s p t.steps now → Next typed.Commit (Rattle.route_engine.specs.declared.reply.Answer.TheVariants.Count 0) None
+    commits_writes s c =
+        let before : c.before ≡ p.seen =
+        unchanged p now others c.before (prefix_trans p.seen c.looked.seen c.before c.look.later c.later) (committed_later o l s p t.steps now c)
+        (c.own others.session others.of_session) in record {
+          state = record { db = one o now.seen; open_one = None };
+          holds =
+              alone.commits (all_given o p.seen t told h (one o now.seen)
+              (subst (λ (run : Run). GiveOver o.schema (one o run) t.steps (one o now.seen)) before c.over));
+          rows = refl;
+          tx = tt;
+        }
+
+    rolls_back : now.seen ≡ p.seen → Next typed.Rollback (Rattle.route_engine.specs.declared.reply.Answer.TheVariants.Count 0) None
+    rolls_back same = record { state = record { db = one o p.seen; open_one = None }; holds = alone.rolls_back; rows = ap (one o) (sym same); tx = tt }
+
+  gives_in_over : (p : PassView Entry) (t : Transaction) (told : List Told) (typed : Typed) (reply : Reply) (now : Standing) (tree : Statement)
+      → typed_statement o.schema tree ≡ Ok typed → IsLegal (MayFollow o) p.seen → NoOthers p now.pass → IsOpenOver o p.seen t told → GivesIn o l p t typed reply now
+      → Goes o p now (λ y. GivesNext o.schema (one o p.seen) (Some told) typed reply.answer y)
+  gives_in_over p t told _ _ _ tree is legal others h (x.nowhere {typed} {answer} none over) =
+      goes_on p p t told legal others h refl typed answer None t.at p.seen h.at refl
+      (subst (λ (run : Run). AreOver o run (with_step t.steps typed answer None p.seen)) h.at over)
+      (nowhere_leaves o opens formed p.seen legal tree typed answer p.seen is none)
+  gives_in_over p t told _ _ _ tree is legal others h (x.on_shard {typed} {answer} {now} s needs all looked serves over) =
+      let same = looked_unchanged p now others o s.slot looked in
+      goes_on p now t told legal others h same typed answer (Some s) now.seen now.seen same same
+      (subst (λ (run : Run). AreOver o run (with_step t.steps typed answer (Some s) now.seen)) same over)
+      (reads_leave o.schema (one o p.seen) typed answer now.seen s)
+  gives_in_over p t told _ _ _ tree is legal others h (x.commits_nothing none) = commits_nothing p p t told legal others h refl (writes_none t.steps none)
+  gives_in_over p t told _ _ _ tree is legal others h (x.commits_reads {now} s uses none looked serves over) =
+      commits_nothing p now t told legal others h (looked_unchanged p now others o s.slot looked) none
+  gives_in_over p t told _ _ _ tree is legal others h (x.commits_writes {now} s uses some c) = commits_writes p now t told legal others h s c
+  gives_in_over p t told _ _ _ tree is legal others h x.rolls_back = rolls_back p p t told legal others h refl
+
+  -- that it is done
+  abbrev done : Reply
+  done = record { answer = Rattle.route_engine.specs.declared.reply.Answer.TheVariants.Count 0; reads = [] }
+
+  abbrev Told_next : PassView Entry → Option (List Told) → Reply → Standing → Type 0
+  Told_next p told reply now = Goes o p now (λ y. AnswersNext o.schema (record { db = one o p.seen; open_one = told }) text reply.answer y)
+
+  told_next : (p : PassView Entry) (told : Option (List Told)) (tree : Statement) (t : Typed) (reply : Reply) (now : Standing) → Reads text tree
+      → typed_statement o.schema tree ≡ Ok t → Goes o (counted p) now (λ y. GivesNext o.schema (one o p.seen) told t reply.answer y) → Told_next p told reply now
+  told_next p told tree t reply now reads is g = record {
+    state = g.state;
+    holds = record { statement = tree; typed = t; reads = reads; resolved = is; gives = g.holds };
+    rows = g.rows;
+    tx = g.tx;
+  }
+
+  gives_at_over : (p : PassView Entry) (tx : Option Transaction) (told : Option (List Told)) (t : Typed) (reply : Reply) (now : Standing) (tree : Statement)
+      → Reads text tree → typed_statement o.schema tree ≡ Ok t → IsLegal (MayFollow o) p.seen → NoOthers p now.pass → IsOverAt o p.seen tx told
+      → GivesAt o l (counted p) tx t reply now → Told_next p told reply now
+  gives_at_over p _ None t reply _ tree reads is legal others h (x.alone {now} gives) =
+      let said = reply_over o opens formed l text p now reply legal others (record { statement = tree; typed = t; reads = reads; resolved = is; gives = gives }) in record {
+        state = record { db = one o now.seen; open_one = None };
+        holds = record { statement = said.statement; typed = said.typed; reads = said.reads; resolved = said.resolved; gives = alone.by_itself said.gives };
+        rows = refl;
+        tx = tt;
+      }
+  gives_at_over p _ (Some told) t reply _ tree reads is legal others h (x.alone {now} gives) = absurd h
+  gives_at_over p _ None _ _ _ tree reads is legal others h x.begins =
+      told_next p None tree _ done _ reads is
+      (record {
+        state = record { db = one o p.seen; open_one = Some [] };
+        holds = alone.begins;
+        rows = refl;
+        tx = record { at = refl; same = refl; seen = tt; over = (one o p.seen, x.none); idle = tt };
+      })
+  gives_at_over p _ (Some told) _ _ _ tree reads is legal others h x.begins = absurd h
+  gives_at_over p _ None _ _ _ tree reads is legal others h x.commits =
+      told_next p None tree _ done _ reads is (record { state = record { db = one o p.seen; open_one = None }; holds = alone.none_to_commit; rows = refl; tx = tt })
+  gives_at_over p _ (Some told) _ _ _ tree reads is legal others h x.commits = absurd h
+  gives_at_over p _ None _ _ _ tree reads is legal others h x.rolls_back =
+      told_next p None tree _ done _ reads is (record { state = record { db = one o p.seen; open_one = None }; holds = alone.none_to_roll_back; rows = refl; tx = tt })
+  gives_at_over p _ (Some told) _ _ _ tree reads is legal others h x.rolls_back = absurd h
+  gives_at_over p _ None t reply now tree reads is legal others h (x.within {tx} gives) = absurd h
+  gives_at_over p _ (Some told) t reply now tree reads is legal others h (x.within {tx} gives) =
+      told_next p (Some told) tree t reply now reads is
+      (gives_in_over (counted p) tx told t reply now tree is legal (others_counted p now.pass others) h gives)
+
+  pub answer_over : (s now : Standing) (told : Option (List Told)) (reply : Reply) → IsLegal (MayFollow o) s.pass.seen → NoOthers s.pass now.pass
+      → IsOverAt o s.pass.seen s.tx told → IsAnswer o l s text reply now → Told_next s.pass told reply now
+  answer_over s now told reply legal others h is =
+      gives_at_over s.pass s.tx told is.typed reply now is.statement is.reads is.resolved legal others h is.gives
+
+  -- ---- refusals
+
+  abbrev Refused_next : PassView Entry → Option (List Told) → Refusal → Standing → Type 0
+  Refused_next p told e now =
+      Goes o p now (λ y. MeansOver o.schema (record { db = one o p.seen; open_one = told }) text (Rattle.resultset.specs.declared.Outcome.TheVariants.Refused e) y)
+
+  -- some rows that it sees
+  sees : (run : Run) (tx : Option Transaction) (told : Option (List Told)) → IsOverAt o run tx told → (rows : Database) × Sees o.schema (one o run) told rows
+  sees run None None h = (one o run, refl)
+  sees run None (Some told) h = absurd h
+  sees run (Some t) None h = absurd h
+  sees run (Some t) (Some told) h = (h.over.0, all_given o run t told h h.over.0 h.over.1)
+
+  -- it leaves all
+  left : (p now : PassView Entry) (tx : Option Transaction) (told : Option (List Told)) (e : Refusal) (rows : Database) → now.seen ≡ p.seen → IsOverAt o p.seen tx told
+      → Sees o.schema (one o p.seen) told rows → IsRefusedOver o.schema rows text e → Refused_next p told e (record { pass = now; tx = tx })
+  left p now tx told e rows same h seen why = record {
+    state = record { db = one o p.seen; open_one = told };
+    holds = alone.refused rows seen why;
+    rows = ap (one o) (sym same);
+    tx = subst (λ (run : Run). IsOverAt o run tx told) (sym same) h;
+  }
+
+  -- it ends the transaction
+  ended : (p now : PassView Entry) (told : List Told) (e : Refusal) → now.seen ≡ p.seen → IsEnding e → Refused_next p (Some told) e (record { pass = now; tx = None })
+  ended p now told e same ends =
+      record { state = record { db = one o p.seen; open_one = None }; holds = alone.ends refl ends; rows = ap (one o) (sym same); tx = tt }
+
+  -- no other session has changed a table
+  no_conflict : (p now : PassView Entry) (t : Transaction) (told : List Told) (s : Shard) → IsOpenOver o p.seen t told → now.seen ≡ p.seen
+      → IsConflict o s p.session now.seen t.steps → ⊥
+  no_conflict p now t told s h same c =
+      let seen : c.step.seen ≡ p.seen = all_in (λ (step : Step). step.seen ≡ p.seen) c.step t.steps h.seen (In-from_Contains c.step t.steps c.is) in
+      let whole : p.seen ++ c.behind ≡ p.seen ++ [] =
+      ap (λ (run : Run). run ++ c.behind) (sym seen) ∙ sym c.since ∙ same ∙ sym (append-nil p.seen) in
+      nothing_in _ c.behind (append_cancel_left p.seen c.behind [] whole) c.there
+
+  refused_in_over : (p : PassView Entry) (t : Transaction) (told : List Told) (typed : Typed) (e : Refusal) (now : Standing) (tree : Statement) → Reads text tree
+      → typed_statement o.schema tree ≡ Ok typed → NoOthers p now.pass → IsOpenOver o p.seen t told → IsRefusedIn o l p t typed e now
+      → Refused_next p (Some told) e now
+  refused_in_over p t told _ _ _ tree reads is others h (x.no_memory {now} gone) =
+      left p now (Some t) (Some told) OutOfMemory h.over.0 (gone_same p now others o gone) h (all_given o p.seen t told h h.over.0 h.over.1) over.no_memory
+  refused_in_over p t told _ _ _ tree reads is others h x.open_twice =
+      record { state = record { db = one o p.seen; open_one = Some told }; holds = alone.begun_twice tree refl reads is; rows = refl; tx = h }
+  refused_in_over p t told _ _ _ tree reads is others h (x.several seats partition two) =
+      left p p (Some t) (Some told) _ h.over.0 refl h (all_given o p.seen t told h h.over.0 h.over.1) over.several
+  refused_in_over p t told _ _ _ tree reads is others h (x.another seats seat u partition only used other) =
+      left p p (Some t) (Some told) _ h.over.0 refl h (all_given o p.seen t told h h.over.0 h.over.1) over.several
+  refused_in_over p t told _ _ _ tree reads is others h (x.duplicate {w} {now} s after needs looked give twice) =
+      let same = looked_unchanged p now others o s.slot looked in
+      left p now (Some t) (Some told) _ after same h
+      (all_given o p.seen t told h after (subst (λ (run : Run). GiveOver o.schema (one o run) t.steps after) same give)) (over.duplicate tree w reads is twice)
+  refused_in_over p t told _ _ _ tree reads is others h (x.moved {now} s of looked mode) =
+      ended p now told _ (looked_unchanged p now others o s.slot looked) tt
+  refused_in_over p t told _ _ _ tree reads is others h (x.conflict {now} s of looked conflict) =
+      absurd (no_conflict p now t told s h (looked_unchanged p now others o s.slot looked) conflict)
+  refused_in_over p t told _ _ _ tree reads is others h (x.full {now} s changes used looked give room) =
+      ended p now told _ (looked_unchanged p now others o s.slot looked) tt
+
+  -- without a transaction
+  refused_by_itself : (p now : PassView Entry) (e : Refusal) (told : Option (List Told)) → NoOthers p now → IsOverAt o p.seen None told → IsRefused o l (counted p) text e now
+      → Refused_next p told e (record { pass = now; tx = None })
+  refused_by_itself p now e None others h why =
+      let says = refusal_over o opens formed l text p e now (a.numbered why) others in
+      left p now None None e (one o p.seen) says.same tt refl says.why
+  refused_by_itself p now e (Some told) others h why = absurd h
+
+  refused_by_over : (p : PassView Entry) (tx : Option Transaction) (told : Option (List Told)) (t : Typed) (e : Refusal) (now : Standing) (tree : Statement) → Reads text tree
+      → typed_statement o.schema tree ≡ Ok t → NoOthers p now.pass → IsOverAt o p.seen tx told → IsRefusedBy o l (counted p) tx t e now → Refused_next p told e now
+  refused_by_over p _ told _ e _ tree reads is others h (x.not_read {q} {now} why) = refused_by_itself p now e told others h (a.not_read tree q reads is why)
+  refused_by_over p _ told _ e _ tree reads is others h (x.not_written {w} {now} why) = refused_by_itself p now e told others h (a.not_written tree w reads is why)
+  refused_by_over p _ None t e now tree reads is others h (x.within {tx} why) = absurd h
+  refused_by_over p _ (Some told) t e now tree reads is others h (x.within {tx} why) =
+      let g = refused_in_over (counted p) tx told t e now tree reads is (others_counted p now.pass others) h why in
+      record { state = g.state; holds = g.holds; rows = g.rows; tx = g.tx }
+
+  -- it leaves all, whatever the rows
+  left_so : (s : Standing) (told : Option (List Told)) (e : Refusal) → IsOverAt o s.pass.seen s.tx told → ((rows : Database) → IsRefusedOver o.schema rows text e)
+      → Refused_next s.pass told e (x.numbered s)
+  left_so s told e h why = let some = sees s.pass.seen s.tx told h in left s.pass (counted s.pass) s.tx told e some.0 refl h some.1 (why some.0)
+
+  refused_now_over : (s now : Standing) (told : Option (List Told)) (e : Refusal) → NoOthers s.pass now.pass → IsOverAt o s.pass.seen s.tx told
+      → IsRefusedNow o l (x.numbered s) text e now → Refused_next s.pass told e now
+  refused_now_over s _ told _ others h x.no_memory = left_so s told _ h (λ rows. over.no_memory)
+  refused_now_over s _ told _ others h (x.no_tree none) = left_so s told _ h (λ rows. over.no_tree none)
+  refused_now_over s _ told e others h (x.not_typed tree reads is) = left_so s told e h (λ rows. over.not_typed tree reads is)
+  refused_now_over s now told e others h (x.refused tree t reads is why) = refused_by_over s.pass s.tx told t e now tree reads is others h why
+
+  -- its session's numbers are used up
+  used_up_over : (p : PassView Entry) (tx : Option Transaction) (told : Option (List Told)) → IsOverAt o p.seen tx told
+      → Refused_next p told ShardFull (record { pass = p; tx = None })
+  used_up_over p None None h = left p p None None ShardFull (one o p.seen) refl tt refl over.full
+  used_up_over p None (Some told) h = absurd h
+  used_up_over p (Some tx) None h = absurd h
+  used_up_over p (Some tx) (Some told) h = ended p p told ShardFull refl tt
+
+  pub refused_over : (s now : Standing) (told : Option (List Told)) (e : Refusal) → NoOthers s.pass now.pass → IsOverAt o s.pass.seen s.tx told
+      → IsRefusedAt o l s text e now → Refused_next s.pass told e now
+  refused_over s _ told _ others h (x.used_up many) = used_up_over s.pass s.tx told h
+  refused_over s now told e others h (x.refused why) = refused_now_over s now told e others h why
