@@ -9,16 +9,26 @@ use Rattle.shard_run.specs.declared.Entry.{Entry}
 use Rattle.shard_run.specs.Runs.{Opening}
 use Rattle.shard.specs.declared.limits.Limits.{Limits}
 use Rattle.route_engine.specs.declared.reply.Reply.{Reply}
-use Rattle.route_engine.specs.Answers.{IsReply, IsRefusal, counted}
-use Rattle.route_engine.proofs.Over.{reply_on, refusal_on}
+use Rattle.route_engine.specs.Transactions.{Transaction, IsAnswer, IsRefusedAt}
+use Rattle.route_engine.specs.Pendings.{OpenView, Stands, IsOf}
+use Rattle.session.proofs.Steps.{answer_on, refusal_at_on}
 
 -- ---- statements
 
--- what is seen after a statement begins with what was seen before it
-pub goes_on : (o : Opening) (l : Limits) (p now : PassView Entry) (text : List ℕ) (result : Result Reply Refusal)
-    → IfOk result (λ r. IsReply o l (counted p) text r now) → IfErr result (λ e. IsRefusal o l p text e now) → IsPrefix p.seen now.seen
-goes_on o l p now text (Ok reply) is why = (reply_on o l p now text reply is).later
-goes_on o l p now text (Err e) is why = (refusal_on o l p text e now why).later
+-- what `execute` says of a reply, and of a refusal
+module _ (o : Opening) (l : Limits) (p now : PassView Entry) (v w : Option OpenView) (text : List ℕ) where
+  abbrev pub Answered : Reply → Type 0
+  Answered r = (t : Option Transaction) → Stands o p v t
+      → (u : Option Transaction) × IsAnswer o l (record { pass = p; tx = t }) text r (record { pass = now; tx = u }) × Stands o now w u
+
+  abbrev pub Refused : Refusal → Type 0
+  Refused e = (t : Option Transaction) → Stands o p v t
+      → (u : Option Transaction) × IsRefusedAt o l (record { pass = p; tx = t }) text e (record { pass = now; tx = u }) × Stands o now w u
+
+  -- what is seen after a statement begins with what was seen before it
+  pub goes_on : (result : Result Reply Refusal) → IfOk result Answered → IfErr result Refused → IsOf o v p → IsPrefix p.seen now.seen
+  goes_on (Ok reply) is why kept = let said = is kept.0 kept.1 in (answer_on o l text _ _ reply said.1).later
+  goes_on (Err e) is why kept = let said = why kept.0 kept.1 in (refusal_at_on o l text _ _ e said.1).later
 
 -- ---- meetings
 

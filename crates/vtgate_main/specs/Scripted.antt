@@ -3,18 +3,19 @@ use Rattle.std.specs.Prelude.{◌≡◌, ◌≢◌, ℕ, List, [], ◌∷◌, �
 use Rattle.std.specs.List.{AllByRecursion, list_any}
 use Rattle.std.specs.Io.KnownBytes.{Appends, Consumes, IsAtEnd}
 use Rattle.vt_value.specs.declared.refusal.Refusal.{Refusal}
+use Rattle.vt_value.specs.declared.refusal.Refusal.TheVariants.{OutOfMemory}
 use Rattle.keyrange.specs.declared.KeyRange.{KeyRange}
 use Rattle.vschema.specs.declared.schema.VSchema.{VSchema}
 use Rattle.vschema.specs.Faults.{schema_read}
-use Rattle.journal.specs.Views.{PassView, new_pass}
-use Rattle.shard_run.specs.declared.Entry.{Entry}
+use Rattle.journal.specs.Views.{new_pass}
 use Rattle.shard_run.specs.Runs.{Run, Opening}
 use Rattle.shard.specs.Shards.{most_limits}
 use Rattle.route_engine.specs.declared.reply.Answer.{Answer}
 use Rattle.route_engine.specs.declared.reply.Answer.TheVariants.{Rows, Count}
 use Rattle.route_engine.specs.declared.reply.Reply.{Reply}
-use Rattle.route_engine.specs.Answers.{counted, IsReply, IsRefusal}
+use Rattle.route_engine.specs.Transactions.{IsAnswer, IsRefusedAt}
 use Rattle.empty_opening.specs.Empty.{opening_of, FitRanges}
+use Rattle.session.specs.Outcomes.{PassAndTransaction, none_open, HasRows}
 use Rattle.vtgate_lines.specs.Lines.{IsStatementLine, IsAdminLine, IsNextLine}
 use Rattle.vtgate_lines.specs.Partitions.{IsPartition}
 use Rattle.serve_lines.specs.Admin.{admin_text, unknown_text}
@@ -26,16 +27,19 @@ abbrev pub answer_text : Answer → List ℕ
 answer_text (Rows selected) = rows_text selected.rows
 answer_text (Count n) = count_text n
 
--- What is printed for the text of a statement: an answer that it may have behind what its session's pass had seen, or a refusal for
--- its cause. And what the pass has seen then.
-pub data Prints (o : Opening) (p : PassView Entry) (sql : List ℕ) : List ℕ → PassView Entry → Type 0 where
-  answered : {now : PassView Entry} (reply : Reply) → IsReply o most_limits (counted p) sql reply now → Prints o p sql (answer_text reply.answer) now
-  refused : {r : Refusal} {now : PassView Entry} → IsRefusal o most_limits p sql r now → Prints o p sql (refusal_text r) now
+-- What is printed for the text of a statement: an answer that it may have behind what its session's pass had seen, in the session's open
+-- transaction if one is, or a refusal for its cause. Where there is no memory to print rows, that is printed in their place. And what the pass
+-- has seen then, and the transaction.
+pub data Prints (o : Opening) (s : PassAndTransaction) (sql : List ℕ) : List ℕ → PassAndTransaction → Type 0 where
+  answered : {now : PassAndTransaction} (reply : Reply) → IsAnswer o most_limits s sql reply now → Prints o s sql (answer_text reply.answer) now
+  untold : {now : PassAndTransaction} (reply : Reply) → IsAnswer o most_limits s sql reply now → HasRows reply.answer
+      → Prints o s sql (refusal_text OutOfMemory) now
+  refused : {r : Refusal} {now : PassAndTransaction} → IsRefusedAt o most_limits s sql r now → Prints o s sql (refusal_text r) now
 
--- a session of a script: its name and its pass
+-- a session of a script: its name, its pass and its open transaction
 pub record Session : Type 0 where
   pub name : List ℕ
-  pub pass : PassView Entry
+  pub state : PassAndTransaction
 
 -- what a script has come to: its sessions, in the order of their first lines, and the run that its lines so far have seen
 pub record Progress : Type 0 where
@@ -46,19 +50,20 @@ pub record Progress : Type 0 where
 abbrev pub at_first : Progress
 at_first = record { sessions = []; seen = [] }
 
--- a pass that has met those of all lines so far
-abbrev pub met : Run → PassView Entry → PassView Entry
-met seen p = record p { seen = seen }
+-- a pass that has met those of all lines so far; the transaction stays
+abbrev pub met : Run → PassAndTransaction → PassAndTransaction
+met seen s = record s { pass = record s.pass { seen = seen } }
 
--- A statement of the session of a name, which sees what all lines before it have seen. Its first line opens a session, with the next number.
+-- A statement of the session of a name, which sees what all lines before it have seen. Its first line opens a session, with the next number,
+-- in which no transaction is open.
 pub data Runs (o : Opening) (s : Progress) (name sql : List ℕ) : List ℕ → Progress → Type 0 where
-  first : {text : List ℕ} {now : PassView Entry} → AllByRecursion (λ x. x.name ≢ name) s.sessions
-      → Prints o (new_pass s.seen (Some (length s.sessions))) sql text now
-      → Runs o s name sql text (record { sessions = s.sessions ++ record { name = name; pass = now } ∷ []; seen = now.seen })
-  again : {text : List ℕ} {now : PassView Entry} (before after : List Session) (p : PassView Entry)
-      → s.sessions ≡ before ++ record { name = name; pass = p } ∷ after
-      → Prints o (met s.seen p) sql text now
-      → Runs o s name sql text (record { sessions = before ++ record { name = name; pass = now } ∷ after; seen = now.seen })
+  first : {text : List ℕ} {now : PassAndTransaction} → AllByRecursion (λ x. x.name ≢ name) s.sessions
+      → Prints o (none_open (new_pass s.seen (Some (length s.sessions)))) sql text now
+      → Runs o s name sql text (record { sessions = s.sessions ++ record { name = name; state = now } ∷ []; seen = now.pass.seen })
+  again : {text : List ℕ} {now : PassAndTransaction} (before after : List Session) (state : PassAndTransaction)
+      → s.sessions ≡ before ++ record { name = name; state = state } ∷ after
+      → Prints o (met s.seen state) sql text now
+      → Runs o s name sql text (record { sessions = before ++ record { name = name; state = now } ∷ after; seen = now.pass.seen })
 
 -- the ranges of the shards that serve the sharded keyspace: without one, none
 abbrev pub serving_ranges : VSchema → List KeyRange → List KeyRange

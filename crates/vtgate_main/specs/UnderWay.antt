@@ -1,26 +1,66 @@
 -- What a script keeps of its sessions between two lines. Private: no public clause cites it.
-use Rattle.std.specs.Prelude.{◌≡◌, ◌≢◌, ◌⊎◌, ℕ, ◌<◌, List, [], ◌∷◌, ◌++◌, length, slice_index_or, Some, IsSome, Result, Ok, Err}
+use Rattle.std.specs.Prelude.{◌≡◌, ◌≢◌, ◌⊎◌, ℕ, ◌<◌, List, [], ◌∷◌, ◌++◌, length, slice_index_or, Option, Some, None, IsSome, Result, Ok, Err}
 use Rattle.std.specs.List.{AllByRecursion}
 use mathlib.Core.List.{IsPrefix}
 use Rattle.vt_value.specs.declared.refusal.Refusal.{Refusal}
 use Rattle.vt_value.specs.declared.refusal.Refusal.TheVariants.{OutOfMemory}
-use Rattle.journal.specs.Views.{new_pass}
-use Rattle.shard_run.specs.Runs.{Run}
+use Rattle.journal.specs.Views.{PassView, new_pass}
+use Rattle.shard_run.specs.declared.Entry.{Entry}
+use Rattle.shard_run.specs.Runs.{Run, Opening}
 use Rattle.route_engine.specs.declared.reply.Answer.{Answer}
 use Rattle.route_engine.specs.declared.reply.Reply.{Reply}
-use Rattle.session.specs.Outcomes.{HasRows}
+use Rattle.route_engine.specs.Pendings.{OpenView, IsOf}
+use Rattle.session.specs.Outcomes.{PassAndTransaction, IsKept, HasRows}
 use Rattle.vtgate_lines.specs.Printed.{refusal_text}
-use Rattle.vtgate_main.specs.Scripted.{Session, Progress, answer_text}
+use Rattle.vtgate_main.specs.Scripted.{Session, Progress, Prints, met, answer_text}
 
--- the pass is a session's, and has seen no more than all lines
-abbrev pub IsBehind : Run → Session → Type 0
-IsBehind seen s = IsSome s.pass.session × IsPrefix s.pass.seen seen
+-- a session's pass, and what is kept of its open transaction
+pub record Kept : Type 0 where
+  pub pass : PassView Entry
+  pub tx : Option OpenView
+
+pub record KeptSession : Type 0 where
+  pub name : List ℕ
+  pub kept : Kept
+
+-- what is kept of what a script has come to
+pub record KeptProgress : Type 0 where
+  pub sessions : List KeptSession
+  pub seen : Run
+
+-- no line yet
+abbrev pub nothing_kept : KeptProgress
+nothing_kept = record { sessions = []; seen = [] }
+
+abbrev pub IsKeptOf : Opening → Kept → PassAndTransaction → Type 0
+IsKeptOf o k s = IsKept o k.pass k.tx s
+
+-- it is kept of these sessions, in their order
+abbrev pub AreKept : Opening → List KeptSession → List Session → Type 0
+AreKept o [] [] = Unit {0}
+AreKept o [] (s ∷ ss) = ⊥
+AreKept o (k ∷ ks) [] = ⊥
+AreKept o (k ∷ ks) (s ∷ ss) = (k.name ≡ s.name) × IsKeptOf o k.kept s.state × AreKept o ks ss
+
+pub record IsProgressOf (o : Opening) (k : KeptProgress) (s : Progress) : Type 0 where
+  pub sessions : AreKept o k.sessions s.sessions
+  pub seen : k.seen ≡ s.seen
+
+-- the pass is a session's, has seen no more than all lines, and what is kept stands for a transaction of it
+abbrev pub IsBehind : Opening → Run → KeptSession → Type 0
+IsBehind o seen s = IsSome s.kept.pass.session × IsPrefix s.kept.pass.seen seen × IsOf o s.kept.tx s.kept.pass
+
+-- what is printed for a statement behind all that was seen, from what is kept to what is kept then
+abbrev pub PrintsFrom : Opening → Run → Kept → List ℕ → List ℕ → Kept → Type 0
+PrintsFrom o seen k sql text then =
+    (s : PassAndTransaction) → IsKeptOf o k s → (now : PassAndTransaction) × IsKeptOf o then now × Prints o (met seen s) sql text now
 
 -- the session of the name is at the place; where there was none, it was opened there
-pub data HasOpened (s : Progress) (name : List ℕ) (place : ℕ) : Progress → Type 0 where
-  was : place < length s.sessions → ((d : Session) → (slice_index_or s.sessions place d).name ≡ name) → HasOpened s name place s
+pub data HasOpened (s : KeptProgress) (name : List ℕ) (place : ℕ) : KeptProgress → Type 0 where
+  was : place < length s.sessions → ((d : KeptSession) → (slice_index_or s.sessions place d).name ≡ name) → HasOpened s name place s
   opened : AllByRecursion (λ x. x.name ≢ name) s.sessions → place ≡ length s.sessions
-      → HasOpened s name place (record s { sessions = s.sessions ++ record { name = name; pass = new_pass s.seen (Some place) } ∷ [] })
+      → HasOpened s name place
+      (record s { sessions = s.sessions ++ record { name = name; kept = record { pass = new_pass s.seen (Some place); tx = None } } ∷ [] })
 
 -- what is printed of an answer; where there is no memory for its rows, that
 abbrev pub IsShown : Answer → List ℕ → Type 0

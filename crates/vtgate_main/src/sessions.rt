@@ -5,12 +5,13 @@ ghost use mathlib.Core.List.{IsPrefix};
 ghost use Rattle.shard.specs.Shards.{most_limits};
 ghost use Rattle.vtgate_lines.specs.Printed.{rows_text, refusal_text};
 ghost use Rattle.serve_lines.specs.Admin.{unknown_text};
-ghost use Rattle.vtgate_main.specs.Scripted.{Prints, HasGiven, at_first, met};
-ghost use Rattle.vtgate_main.specs.UnderWay.{IsShown, IsTold};
+ghost use Rattle.route_engine.specs.Pendings.{IsOf};
+ghost use Rattle.vtgate_main.specs.Scripted.{HasGiven};
+ghost use Rattle.vtgate_main.specs.UnderWay.{IsShown, IsTold, PrintsFrom, nothing_kept};
 
 use crate::fault::Fault;
 use journal::{Naming, Opener, Pass};
-use route_engine::{Answer, Engine, Open, Reply};
+use route_engine::{Answer, Engine, Open, Reply, Tx};
 use serve_lines::Administration;
 use session::{DeviceFailed, Sink};
 use shard::{ShardLaw, World};
@@ -62,41 +63,46 @@ fn run_behind<W: World + Send + Sync, J: Naming + Send + Sync, R: Threads + Wait
     engine: &Engine<W, J, Open>,
     all: &mut Pass<ShardLaw<W>, J>,
     pass: &mut Pass<ShardLaw<W>, J>,
+    tx: &mut Tx<W, J>,
     sql: &[u8],
     output: &mut O,
 ) -> Result<(), DeviceFailed>
     requires limits { W.limits ≡ most_limits }
     requires session { IsSome pass.old.session }
     requires behind { IsPrefix pass.old.seen all.old.seen }
+    requires tx { IsOf W.opening tx.old pass.old }
     ensures prints { OnOk result ((text : List ℕ) × Appends (O.taken output.old) (O.taken output.new) text
-        × Prints W.opening (met all.old.seen pass.old) sql.now text pass.new) }
+        × PrintsFrom W.opening all.old.seen (record { pass = pass.old; tx = tx.old }) sql.now text (record { pass = pass.new; tx = tx.new })) }
+    ensures tx { IsOf W.opening tx.new pass.new }
     ensures seen { all.new.seen ≡ pass.new.seen }
     ensures later { IsPrefix all.old.seen all.new.seen }
     ensures session { pass.new.session ≡ pass.old.session }
 {
     pass.meet(all);
-    let outcome = engine.execute(rt, alloc, pass, sql);
+    let outcome = engine.execute(rt, alloc, pass, tx, sql);
     all.meet(pass);
     write_outcome(alloc, outcome, output)
 }
 
-/// A session of a script: its name, and its pass.
+/// A session of a script: its name, its pass and its transaction.
 #[derive(Drop)]
 struct ScriptSession<W: World, J: Naming> {
     name: Items<u8>,
     pass: Pass<ShardLaw<W>, J>,
+    tx: Tx<W, J>,
 }
 
 impl<W: World, J: Naming> Model for ScriptSession<W, J> {
     ghost use Rattle.std.specs.Coded.{codes};
     ghost use Rattle.shard_run.specs.contracts.Entry as entry;
-    ghost use Rattle.vtgate_main.specs.Scripted.{Session};
+    ghost use Rattle.vschema.specs.contracts.changes.Write as write;
+    ghost use Rattle.vtgate_main.specs.UnderWay.{KeptSession};
 
-    ghost Value = { Session };
+    ghost Value = { KeptSession };
 
-    ghost coded = { Prim.hlevel (codes, entry.the_row.coded) };
+    ghost coded = { Prim.hlevel (codes, entry.the_row.coded, write.the_row.coded) };
 
-    ghost view = { λ s. record { name = s.name; pass = s.pass } };
+    ghost view = { λ s. record { name = s.name; kept = record { pass = s.pass; tx = s.tx } } };
 }
 
 impl<W: World, J: Naming> ScriptSession<W, J> {
@@ -110,7 +116,7 @@ impl<W: World, J: Naming> ScriptSession<W, J> {
 }
 
 /// The sessions of a script, in the order of their first lines, the opener of the next one, and a pass that has seen what all lines
-/// have. Contracts see what the script has come to.
+/// have. Contracts see what is kept of what the script has come to.
 #[derive(Drop)]
 pub struct Sessions<W: World, J: Naming> {
     sessions: Vec<ScriptSession<W, J>>,
@@ -121,28 +127,27 @@ pub struct Sessions<W: World, J: Naming> {
 impl<W: World, J: Naming> Model for Sessions<W, J> {
     ghost use Rattle.std.specs.Prelude.{◌≡◌, length};
     ghost use Rattle.std.specs.List.{AllByRecursion};
-    ghost use Rattle.vtgate_main.specs.Scripted.{Progress};
-    ghost use Rattle.vtgate_main.specs.UnderWay.{IsBehind};
+    ghost use Rattle.vschema.specs.contracts.changes.Write as write;
+    ghost use Rattle.vtgate_main.specs.UnderWay.{KeptProgress, IsBehind};
     ghost use Rattle.std.specs.Coded.{codes};
     ghost use Rattle.shard_run.specs.contracts.Entry as entry;
 
-    ghost Value = { Progress };
+    ghost Value = { KeptProgress };
 
-    ghost coded = { Prim.hlevel (codes, entry.the_row.coded) };
+    ghost coded = { Prim.hlevel (codes, entry.the_row.coded, write.the_row.coded) };
 
     ghost view = { λ s. record { sessions = s.sessions.items; seen = s.all.seen } };
 
-    ghost invariant = { λ s. (s.opener ≡ length s.sessions.items) × AllByRecursion (IsBehind s.all.seen) s.sessions.items };
+    ghost invariant = { λ s. (s.opener ≡ length s.sessions.items) × AllByRecursion (IsBehind W.opening s.all.seen) s.sessions.items };
 }
 
 impl<W: World + Send + Sync, J: Naming + Send + Sync> Sessions<W, J> {
-    ghost use Rattle.std.specs.Prelude.{◌≡◌, ◌<◌, ◌++◌, ◌∷◌, ℕ, List, [], Some, IfOk, OnOk, length, position, slice_index_or, slice_set, bytes_eq};
+    ghost use Rattle.std.specs.Prelude.{◌≡◌, ◌<◌, ◌++◌, ◌∷◌, ℕ, List, [], Some, None, IfOk, OnOk, length, position, slice_index_or, slice_set, bytes_eq};
     ghost use Rattle.std.specs.Io.KnownBytes.{Appends};
-    ghost use Rattle.shard_run.specs.declared.Entry.{Entry};
     ghost use Rattle.shard.specs.Shards.{most_limits};
-    ghost use Rattle.journal.specs.Views.{PassView, new_pass};
-    ghost use Rattle.vtgate_main.specs.Scripted.{Session, Prints, Runs, Gives, at_first, met};
-    ghost use Rattle.vtgate_main.specs.UnderWay.{HasOpened};
+    ghost use Rattle.journal.specs.Views.{new_pass};
+    ghost use Rattle.vtgate_main.specs.Scripted.{Progress, Runs, Gives};
+    ghost use Rattle.vtgate_main.specs.UnderWay.{Kept, KeptSession, IsProgressOf, PrintsFrom, HasOpened, nothing_kept};
 
     /// No session yet.
     pub fn new(
@@ -152,7 +157,7 @@ impl<W: World + Send + Sync, J: Naming + Send + Sync> Sessions<W, J> {
     ) -> Sessions<W, J>
         requires opener { opener ≡ 0 }
         requires pass { pass.seen ≡ [] }
-        ensures { result ≡ at_first }
+        ensures { result ≡ nothing_kept }
     {
         Sessions {
             sessions: Vec::new(alloc),
@@ -178,12 +183,16 @@ impl<W: World + Send + Sync, J: Naming + Send + Sync> Sessions<W, J> {
 
     // Opens a session of this name.
     fn open(&mut self, alloc: Global, name: &[u8]) -> Result<(), Refusal>
-        ensures { OnOk result (self.new ≡ record self.old { sessions = self.old.sessions ++ record { name = name.now; pass = new_pass self.old.seen (Some (length self.old.sessions)) } ∷ [] }) }
+        ensures { OnOk result (self.new ≡ record self.old { sessions = self.old.sessions ++ record { name = name.now; kept = record { pass = new_pass self.old.seen (Some (length self.old.sessions)); tx = None } } ∷ [] }) }
     {
         let name = Items::from_slice(alloc, name)?;
         self.sessions.reserve(1)?;
         let pass = self.opener.open(&mut self.all)?;
-        self.sessions.push_reserved(ScriptSession { name, pass });
+        self.sessions.push_reserved(ScriptSession {
+            name,
+            pass,
+            tx: Tx::new(),
+        });
         Ok(())
     }
 
@@ -211,9 +220,9 @@ impl<W: World + Send + Sync, J: Naming + Send + Sync> Sessions<W, J> {
     ) -> Result<(), DeviceFailed>
         requires limits { W.limits ≡ most_limits }
         requires place { place < length self.old.sessions }
-        ensures { OnOk result ((text : List ℕ) × (now : PassView Entry) × Appends (O.taken output.old) (O.taken output.new) text
-            × ((d : Session) → Prints W.opening (met self.old.seen (slice_index_or self.old.sessions place d).pass) sql.now text now)
-            × ((d : Session) → self.new ≡ record { sessions = slice_set self.old.sessions place (record { name = (slice_index_or self.old.sessions place d).name; pass = now }); seen = now.seen })) }
+        ensures { OnOk result ((text : List ℕ) × (now : Kept) × Appends (O.taken output.old) (O.taken output.new) text
+            × ((d : KeptSession) → PrintsFrom W.opening self.old.seen (slice_index_or self.old.sessions place d).kept sql.now text now)
+            × ((d : KeptSession) → self.new ≡ record { sessions = slice_set self.old.sessions place (record { name = (slice_index_or self.old.sessions place d).name; kept = now }); seen = now.pass.seen })) }
     {
         let session = &mut self.sessions[place];
         run_behind(
@@ -222,6 +231,7 @@ impl<W: World + Send + Sync, J: Naming + Send + Sync> Sessions<W, J> {
             engine,
             &mut self.all,
             &mut session.pass,
+            &mut session.tx,
             sql,
             output,
         )
@@ -238,7 +248,8 @@ impl<W: World + Send + Sync, J: Naming + Send + Sync> Sessions<W, J> {
         output: &mut O,
     ) -> Result<(), Fault>
         requires limits { W.limits ≡ most_limits }
-        ensures { OnOk result ((text : List ℕ) × Appends (O.taken output.old) (O.taken output.new) text × Runs W.opening self.old name.now sql.now text self.new) }
+        ensures { OnOk result ((text : List ℕ) × Appends (O.taken output.old) (O.taken output.new) text
+            × ((p : Progress) → IsProgressOf W.opening self.old p → (q : Progress) × IsProgressOf W.opening self.new q × Runs W.opening p name.now sql.now text q)) }
     {
         let Ok(place) = self.place_or_open(alloc, name) else {
             return Err(Fault::OutOfMemory);
@@ -260,7 +271,8 @@ impl<W: World + Send + Sync, J: Naming + Send + Sync> Sessions<W, J> {
         output: &mut O,
     ) -> Result<(), Fault>
         requires limits { W.limits ≡ most_limits }
-        ensures { OnOk result ((text : List ℕ) × Appends (O.taken output.old) (O.taken output.new) text × Gives W.opening administration.now self.old line.now text self.new) }
+        ensures { OnOk result ((text : List ℕ) × Appends (O.taken output.old) (O.taken output.new) text
+            × ((p : Progress) → IsProgressOf W.opening self.old p → (q : Progress) × IsProgressOf W.opening self.new q × Gives W.opening administration.now p line.now text q)) }
     {
         match read_line(line) {
             Line::Statement(name, sql) => self.run_statement(rt, alloc, engine, name, sql, output),
@@ -296,7 +308,7 @@ pub fn run_lines<
     output: &mut O,
 ) -> Result<(), Fault>
     requires limits { W.limits ≡ most_limits }
-    requires first { sessions.old ≡ at_first }
+    requires first { sessions.old ≡ nothing_kept }
     ensures { OnOk result (HasGiven W.opening administration.now lines.now (O.taken output.old) (O.taken output.new)) }
 {
     let mut rest = lines;

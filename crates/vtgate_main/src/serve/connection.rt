@@ -1,7 +1,7 @@
 //! One connection.
 ghost use Rattle.std.specs.Prelude.{◌≡◌, ℕ, List, IsSome, IfOk, Err};
 ghost use Rattle.std.specs.Io.KnownBytes.{Appends, Consumes, IsAtEnd};
-ghost use Rattle.session.specs.Outcomes.{Means, terms_of};
+ghost use Rattle.session.specs.Outcomes.{Means, PassAndTransaction, none_open, terms_of};
 ghost use Rattle.session.specs.Talk.{Talk, IsByInput};
 ghost use Rattle.serve_lines.specs.Salts.{salt_of};
 
@@ -57,7 +57,8 @@ pub fn serve_numbered<W: World + Send + Sync, J: Naming + Send + Sync, G: Gate, 
     requires session { IsSome pass.old.session }
     ensures talk { IfOk result (λ end. (read : List ℕ) × (written : List ℕ)
         × Consumes (I.unread source.old) (I.unread source.new) read × Appends (O.taken sink.old) (O.taken sink.new) written
-        × Talk COMMAND_LIMIT (terms_of W.opening (record { access = access.now; salt = salt_of nonce.now number; id = number })) (Means W.opening W.limits) Standing.New pass.old read written end pass.new) }
+        × ((now : PassAndTransaction) × (now.pass ≡ pass.new)
+        × Talk COMMAND_LIMIT (terms_of W.opening (record { access = access.now; salt = salt_of nonce.now number; id = number })) (Means W.opening W.limits) Standing.New (none_open pass.old) read written end now)) }
     ensures at_end { IfOk result (λ end. IsByInput end → IsAtEnd (I.unread source.new)) }
 {
     let salt = salt_of(nonce, u64::from(number));
