@@ -378,6 +378,19 @@ def sleeps_while_idle(program):
             check("idle, less than a twentieth of a processor", seconds_used(router, 2) < 0.1, True)
 
 
+def goes_on_after_a_stop(program):
+    """A process that is stopped and goes on (by a shell, a debugger, a paused container) keeps its sessions: their reads are interrupted."""
+    with Router(program) as router:
+        with packets.Client(router.address) as client:
+            client.login(USER.encode(), b"")
+            time.sleep(0.2)
+            for what in (signal.SIGSTOP, signal.SIGCONT):
+                os.kill(router.process.pid, what)
+                time.sleep(0.2)
+            client.command(packets.PING)
+            check("after a stop", client.read(), bytes.fromhex("00000002000000"))
+
+
 def keeps_no_descriptors(program):
     """Connections that end in each way leave nothing open, and where no more can be opened the router waits for that."""
     with Router(program, PASSWORD, descriptors=16) as router:
@@ -480,6 +493,7 @@ def main():
         gives_up_gone_clients,
         waits_for_a_worker,
         sleeps_while_idle,
+        goes_on_after_a_stop,
         keeps_no_descriptors,
         answers_admin_lines,
         ends_by_itself,

@@ -41,7 +41,7 @@ pub trait Sink {
         ensures count { failures self.new ≡ failures_after result (failures self.old) };
 }
 
-/// A `Source` that reads from a `Read`, and counts its failures.
+/// A `Source` that reads from a `Read`, again where it is interrupted, and counts its failures.
 #[derive(Drop)]
 pub struct Reader<R: io::Read> {
     pub reader: R,
@@ -77,13 +77,33 @@ impl<W: io::Write> Writer<W> {
     }
 }
 
+/// Reads some of the next bytes to the front of the buffer, and tells how many. A read that was interrupted has read none, and is made
+/// again.
+#[tactic(auto, using(crate::proofs::Readings::kept_read))]
+fn read_some<R: io::Read>(reader: &mut R, buffer: &mut [u8]) -> Result<usize, DeviceFailed>
+    ensures bound { ReadsAtMost result buffer.new }
+    ensures bytes { ReadConsumes (R.remaining reader.old) (R.remaining reader.new) result buffer.new }
+{
+    for _ in 0..u64::MAX {
+        match reader.read(buffer) {
+            Ok(n) => return Ok(n),
+            Err(error) => {
+                if error.kind() != ErrorKind::Interrupted {
+                    return Err(DeviceFailed);
+                }
+            }
+        }
+    }
+    Err(DeviceFailed)
+}
+
 impl<R: io::Read> Source for Reader<R> {
     ghost unread = { λ r. R.remaining r.reader };
 
     ghost failures = { λ r. r.failures };
 
     fn read(&mut self, buffer: &mut [u8]) -> Result<usize, DeviceFailed> {
-        match self.reader.read(buffer) {
+        match read_some(&mut self.reader, buffer) {
             Ok(n) => Ok(n),
             Err(_) => {
                 self.failures = self.failures.wrapping_add(1);
