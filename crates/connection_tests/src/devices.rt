@@ -1,7 +1,9 @@
-//! Devices that fail.
+//! Devices that fail, or are interrupted.
 ghost use Rattle.std.specs.Prelude.{None};
 
 use session::{DeviceFailed, Sink, Source};
+use std::io;
+use std::io::{ErrorKind, Read};
 
 /// A source that fails once its bytes are read.
 #[derive(Drop)]
@@ -49,5 +51,29 @@ impl Sink for FailingSink {
         }
         self.writes_left -= 1;
         Ok(())
+    }
+}
+
+/// A reader that is interrupted before each of its bytes, and before its end.
+#[derive(Drop)]
+pub(crate) struct InterruptedReader<'a> {
+    pub(crate) unread: &'a [u8],
+    pub(crate) is_interrupted: bool,
+}
+
+impl Read for InterruptedReader<'_> {
+    fn read(&mut self, buffer: &mut [u8]) -> io::Result<usize> {
+        self.is_interrupted = !self.is_interrupted;
+        if self.is_interrupted {
+            return Err(io::Error::from(ErrorKind::Interrupted));
+        }
+        match (self.unread, buffer) {
+            ([first, rest @ ..], [place, ..]) => {
+                *place = *first;
+                self.unread = rest;
+                Ok(1)
+            }
+            _ => Ok(0),
+        }
     }
 }

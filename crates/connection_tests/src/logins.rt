@@ -181,3 +181,15 @@ fn a_failing_source_ends_a_session(rt: HostRuntime) -> Result<(), Fail> {
     expects(&rt, &told, &replies, Err(SessionFault::Read));
     Ok(())
 }
+
+#[test]
+fn an_interrupted_read_is_made_again(rt: HostRuntime) -> Result<(), Fail> {
+    let alloc = rt.alloc();
+    let mut input = response(alloc, PLAIN, b"u", b"", b"")?;
+    input.extend_from_slice(PING)?;
+    let told = talk(&rt, alloc, Way::Interrupted(SALT), &input)?;
+    let mut replies = OK.to_vec(alloc)?;
+    replies.extend_from_slice(PONG)?;
+    expects(&rt, &told, &replies, Ok(End::Closed));
+    Ok(())
+}

@@ -11,6 +11,9 @@ pub(crate) const PING: &[u8] = b"\x01\x00\x00\x00\x0e";
 
 pub(crate) const PONG: &[u8] = b"\x07\x00\x00\x01\x00\x00\x00\x02\x00\x00\x00";
 
+/// An OK while a transaction is open.
+const BEGUN: &[u8] = b"\x07\x00\x00\x01\x00\x00\x00\x03\x00\x00\x00";
+
 pub(crate) const QUIT: &[u8] = b"\x01\x00\x00\x00\x01";
 
 /// The reply to `SELECT id FROM t WHERE id = 5`.
@@ -89,7 +92,7 @@ fn tells<R: Threads + Wait + Sync + Abort>(
 }
 
 /// Texts of queries, and their replies.
-const QUERIES: [(&[u8], &[u8]); 22] = [
+const QUERIES: [(&[u8], &[u8]); 25] = [
     (b"SELECT id FROM t WHERE id = 5", ONE_COLUMN),
     (b"SELECT * FROM t WHERE id = 5", TWO_COLUMNS),
     (b"select  id , c\tfrom`t`where`id`=5", TWO_COLUMNS),
@@ -120,7 +123,10 @@ const QUERIES: [(&[u8], &[u8]); 22] = [
         b"SELECT c, MAX(id) FROM t WHERE id = 5 GROUP BY c ORDER BY c",
         GREATEST,
     ),
-    (b"BEGIN", NOT_SUPPORTED),
+    (b"BEGIN", BEGUN),
+    (b"START TRANSACTION;", BEGUN),
+    (b"COMMIT", PONG),
+    (b"ROLLBACK", PONG),
 ];
 
 #[test]
@@ -177,6 +183,59 @@ fn writes_have_their_replies(rt: HostRuntime) -> Result<(), Fail> {
         input.extend_from_slice(&packet)?;
         wanted.extend_from_slice(reply)?;
     }
+    tells(&rt, alloc, &input, &wanted, End::Closed)
+}
+
+/// The OK of one changed row while a transaction is open.
+const ONE_CHANGED_IN: &[u8] = b"\x07\x00\x00\x01\x00\x01\x00\x03\x00\x00\x00";
+
+/// The reply to `SELECT id FROM t WHERE id = 5` while a transaction is open.
+const ONE_COLUMN_IN: &[u8] = b"\x01\x00\x00\x01\x01\
+    \x20\x00\x00\x02\x03def\x04shop\x01t\x01t\x02id\x02id\x0c\x3f\x00\x14\x00\x00\x00\x08\xa3\x00\x00\x00\x00\
+    \x05\x00\x00\x03\xfe\x00\x00\x03\x00\
+    \x02\x00\x00\x04\x015\
+    \x05\x00\x00\x05\xfe\x00\x00\x03\x00";
+
+/// The statements of two transactions of one session, of which the first is committed, and their replies.
+const TRANSACTIONS: [(&[u8], &[u8]); 14] = [
+    (b"BEGIN", BEGUN),
+    (b"INSERT INTO t (id, c) VALUES (7, 1)", ONE_CHANGED_IN),
+    (b"INSERT INTO t (id, c) VALUES (7, 1)", DUPLICATE_KEY),
+    (b"BEGIN", NOT_SUPPORTED),
+    (b"SELECT id FROM t WHERE id = 5", ONE_COLUMN_IN),
+    (b"SET NAMES utf8", BEGUN),
+    (b"COMMIT", PONG),
+    (b"INSERT INTO t (id, c) VALUES (7, 1)", DUPLICATE_KEY),
+    (b"BEGIN", BEGUN),
+    (b"DELETE FROM t WHERE id = 7", ONE_CHANGED_IN),
+    (b"DELETE FROM t WHERE id = 7", BEGUN),
+    (b"ROLLBACK", PONG),
+    (b"DELETE FROM t WHERE id = 7", ONE_CHANGED),
+    (b"COMMIT", PONG),
+];
+
+#[test]
+fn transactions_have_their_replies(rt: HostRuntime) -> Result<(), Fail> {
+    let alloc = rt.alloc();
+    let mut input = Vec::new(alloc);
+    let mut wanted = Vec::new(alloc);
+    for (text, reply) in &TRANSACTIONS {
+        let packet = query(alloc, text)?;
+        input.extend_from_slice(&packet)?;
+        wanted.extend_from_slice(reply)?;
+    }
+    tells(&rt, alloc, &input, &wanted, End::Closed)
+}
+
+#[test]
+fn commands_tell_an_open_transaction(rt: HostRuntime) -> Result<(), Fail> {
+    let alloc = rt.alloc();
+    let mut input = query(alloc, b"BEGIN")?;
+    input.extend_from_slice(PING)?;
+    input.extend_from_slice(b"\x05\x00\x00\x00\x02shop")?;
+    let mut wanted = BEGUN.to_vec(alloc)?;
+    wanted.extend_from_slice(BEGUN)?;
+    wanted.extend_from_slice(BEGUN)?;
     tells(&rt, alloc, &input, &wanted, End::Closed)
 }
 

@@ -4,14 +4,15 @@ ghost use Rattle.std.specs.List.{AllByRecursion};
 ghost use Rattle.keyrange.specs.Names.{IsNamed};
 ghost use Rattle.vschema.specs.WellFormed.{is_vschema};
 ghost use Rattle.shard.specs.Shards.{most_limits};
+ghost use Rattle.route_engine.specs.Pendings.{IsOf};
 ghost use Rattle.empty_opening.specs.Empty.{opening_of, FitRanges};
 
-use crate::devices::{FailingSink, FailingSource};
+use crate::devices::{FailingSink, FailingSource, InterruptedReader};
 use empty_opening::opening_shards;
 use empty_world::empty_router;
 use journal::{Naming, Opened, Pass};
 use keyrange::{KeyRange, covers_once};
-use route_engine::{Engine, Open};
+use route_engine::{Engine, Open, Tx};
 use session::{Access, Core, End, Reader, SessionFault, Sink, Writer, serve};
 use shard::{ShardLaw, World};
 use std::alloc::Global;
@@ -41,6 +42,8 @@ pub(crate) enum Way {
     Served(Option<[u8; 20]>, [u8; 20]),
     /// The same, from a source that fails once its bytes are read.
     FailingSource([u8; 20]),
+    /// The same, from a reader that is interrupted before each byte.
+    Interrupted([u8; 20]),
     /// Twice in one piece, to a sink that fails at its second write.
     FailingSink,
 }
@@ -61,12 +64,14 @@ fn feed<W: World + Send + Sync, J: Naming + Send + Sync, R: Threads + Wait + Syn
     alloc: Global,
     engine: &Engine<W, J, Open>,
     pass: &mut Pass<ShardLaw<W>, J>,
-    core: &mut Core,
+    core: &mut Core<W, J>,
     piece: &[u8],
     sink: &mut S,
 ) -> Ended
-    requires { IsSome pass.old.session }
-    ensures { IsSome pass.new.session }
+    requires session { IsSome pass.old.session }
+    requires tx { IsOf W.opening core.old.tx pass.old }
+    ensures session { IsSome pass.new.session }
+    ensures tx { IsOf W.opening core.new.tx pass.new }
 {
     match core.feed(rt, alloc, engine, pass, piece, sink) {
         Ok(None) => Ok(core.end_of_input()),
@@ -80,12 +85,14 @@ fn feed_bytes<W: World + Send + Sync, J: Naming + Send + Sync, R: Threads + Wait
     alloc: Global,
     engine: &Engine<W, J, Open>,
     pass: &mut Pass<ShardLaw<W>, J>,
-    core: &mut Core,
+    core: &mut Core<W, J>,
     input: &[u8],
     sink: &mut S,
 ) -> Ended
-    requires { IsSome pass.old.session }
-    ensures { IsSome pass.new.session }
+    requires session { IsSome pass.old.session }
+    requires tx { IsOf W.opening core.old.tx pass.old }
+    ensures session { IsSome pass.new.session }
+    ensures tx { IsOf W.opening core.new.tx pass.new }
 {
     let mut end = Ok(core.end_of_input());
     for byte in input {
@@ -99,10 +106,11 @@ fn fail_sink<W: World + Send + Sync, J: Naming + Send + Sync, R: Threads + Wait 
     alloc: Global,
     engine: &Engine<W, J, Open>,
     pass: &mut Pass<ShardLaw<W>, J>,
-    core: &mut Core,
+    core: &mut Core<W, J>,
     input: &[u8],
 ) -> Ended
-    requires { IsSome pass.old.session }
+    requires session { IsSome pass.old.session }
+    requires tx { IsOf W.opening core.old.tx pass.old }
 {
     let mut sink = FailingSink {
         writes_left: 1,
@@ -142,6 +150,7 @@ fn talk_by<W: World + Send + Sync, J: Naming + Send + Sync, R: Threads + Wait + 
             serve_from(rt, alloc, engine, pass, stage2, &salt, input, sink)
         }
         Way::FailingSource(salt) => fail_source(rt, alloc, engine, pass, &salt, input, sink),
+        Way::Interrupted(salt) => interrupt(rt, alloc, engine, pass, &salt, input, sink),
     }
 }
 
@@ -188,6 +197,25 @@ fn fail_source<W: World + Send + Sync, J: Naming + Send + Sync, R: Threads + Wai
     serve(rt, alloc, engine, pass, &access, salt, 1, &mut source, sink)
 }
 
+fn interrupt<W: World + Send + Sync, J: Naming + Send + Sync, R: Threads + Wait + Sync>(
+    rt: &R,
+    alloc: Global,
+    engine: &Engine<W, J, Open>,
+    pass: &mut Pass<ShardLaw<W>, J>,
+    salt: &[u8; 20],
+    input: &[u8],
+    sink: &mut Writer<Vec<u8>>,
+) -> Ended
+    requires { IsSome pass.old.session }
+{
+    let access = access(alloc, None)?;
+    let mut source = Reader::new(InterruptedReader {
+        unread: input,
+        is_interrupted: false,
+    });
+    serve(rt, alloc, engine, pass, &access, salt, 1, &mut source, sink)
+}
+
 // Puts the six rows into the table.
 fn put_rows<W: World + Send + Sync, J: Naming + Send + Sync, R: Threads + Wait + Sync>(
     rt: &R,
@@ -198,7 +226,7 @@ fn put_rows<W: World + Send + Sync, J: Naming + Send + Sync, R: Threads + Wait +
     requires { IsSome pass.old.session }
     ensures { IsSome pass.new.session }
 {
-    match engine.execute(rt, alloc, pass, ROWS) {
+    match engine.execute(rt, alloc, pass, &mut Tx::new(), ROWS) {
         Ok(_) => Ok(()),
         Err(refusal) => Err(refusal),
     }
