@@ -10,7 +10,7 @@ use crate::tables::SCHEMA;
 use empty_opening::opening_shards;
 use journal::{Naming, Pass};
 use keyrange::{KeyRange, covers_once};
-use route_engine::{Answer, Engine, Open, Reply};
+use route_engine::{Answer, Engine, Open, Reply, Tx};
 use shard::{ShardLaw, World};
 use std::alloc::Global;
 use std::io;
@@ -30,7 +30,8 @@ pub fn told<W: World + Send + Sync, J: Naming + Send + Sync>(
     requires { IsSome pass.old.session }
     ensures { pass.new.session ≡ pass.old.session }
 {
-    let Reply { answer, .. } = engine.execute(rt, alloc, pass, text)?;
+    let mut tx = Tx::new();
+    let Reply { answer, .. } = engine.execute(rt, alloc, pass, &mut tx, text)?;
     match answer {
         Answer::Rows(selected) => Ok(selected.rows.len() as u64),
         Answer::Count(count) => Ok(count),
