@@ -254,8 +254,8 @@ impl<W: World, J: Naming> ShardState<W, J> {
             && !self.has_copied(source, n)
     }
 
-    // The first table of its keyspace, by name, that it hasn't wholly copied from the source.
-    fn next_table(&self, schema: &VSchema, source: usize) -> Option<usize>
+    /// The first table of its keyspace, by name, that it hasn't wholly copied from a source, by its slot. Takes no memory.
+    pub fn next_table(&self, schema: &VSchema, source: usize) -> Option<usize>
         requires schema { schema.now ≡ W.opening.schema }
         requires lives { mode W.opening self.now.seen self.now.shard.slot ≡ Mode.Retired → ⊥ }
         ensures { MatchOption result (HasCopiedAll W.opening self.now.seen self.now.shard source) (IsNextTable W.opening self.now.seen self.now.shard source) }
@@ -286,8 +286,8 @@ impl<W: World, J: Naming> ShardState<W, J> {
         last
     }
 
-    // Behind how many of the source's stored entries it stands.
-    fn behind(&self, source: usize) -> Option<u128>
+    /// Behind how many of a source's stored entries it stands, by the source's slot; none before its first Copy from there. Takes no memory.
+    pub fn behind(&self, source: usize) -> Option<u128>
         requires lives { mode W.opening self.now.seen self.now.shard.slot ≡ Mode.Retired → ⊥ }
         ensures { result ≡ position self.now.seen self.now.shard.slot source }
     {

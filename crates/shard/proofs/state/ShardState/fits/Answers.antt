@@ -1,0 +1,23 @@
+use Rattle.std.proofs.Common.{◌≡◌, ℕ, sym, ap, subst, ◌∙◌}
+use Rattle.std.specs.Prelude.{nat_le}
+use Rattle.shard_run.specs.declared.Mode.TheVariants.{Retired}
+use Rattle.shard_run.specs.Runs.{mode, held}
+use Rattle.shard_run.specs.Openings.{row_count}
+use Rattle.shard.specs.declared.limits.Limits.{Limits}
+use Rattle.shard.specs.Shards.{ShardView}
+use Rattle.shard.proofs.Bags.{row_count-same}
+use Rattle.shard.proofs.States.{holds_of}
+use Rattle.shard.proofs.state.ShardState.fits.Goals as goal
+
+pub returns : goal.returns
+returns g c =
+    let o = g.W.World.opening in
+    let had = c.self.inside.contents in
+    let seen = c.self.inside.seat.seen in
+    let is = c.self.invariant.0 in
+    let has = holds_of o g.W.World.limits seen had is.keeps
+    (λ retired. c.requires.lives (ap (λ (v : ShardView). mode o v.seen v.shard.slot) (sym c.self.view_is) ∙ retired)) in
+    c.has_at_most.ensures
+    ∙ ap (λ (n : ℕ). nat_le n had.limits.rows)
+    (row_count-same had.store.rows (held o seen had.shard) has.rows ∙ ap (λ (v : ShardView). row_count (held o v.seen v.shard)) c.self.view_is)
+    ∙ ap (λ (l : Limits). nat_le (row_count (held o c.args.self.now.seen c.args.self.now.shard)) l.rows) is.limits
