@@ -1,0 +1,5 @@
+pub mod Onward
+pub mod Ranges
+pub mod Named
+pub mod Retiring
+pub mod Splits
