@@ -3,3 +3,5 @@ pub mod Ranges
 pub mod Named
 pub mod Retiring
 pub mod Splits
+pub mod Blank
+pub mod Making

@@ -1,2 +1,4 @@
+pub mod inner
 pub mod Choices
 pub mod Steps
+pub mod Workflows

@@ -1,8 +1,14 @@
-//! Splits and merges of shards while sessions go on: the steps of a cutover, each under one shard's lock.
+//! Splits and merges of shards while sessions go on: a workflow, and the steps of a cutover, each under one shard's lock.
 #![tactic(auto)]
 
+mod choosing;
+mod creating;
+mod fault;
 mod leaving;
 mod steps;
+mod workflow;
 
+pub use fault::ReshardFault;
 pub use leaving::hand_over;
 pub use steps::{Source, freeze, retire, serve, thaw};
+pub use workflow::{Stage, Target, Workflow};

@@ -1,0 +1,25 @@
+use Rattle.std.proofs.Common.{◌≡◌, List, [], map, arith}
+use Rattle.shard_run.specs.declared.Shard.{Shard}
+use Rattle.reshard.specs.inner.Created.{AreOverlapped}
+use Rattle.reshard.proofs.Retiring.{item_of}
+use Rattle.reshard.proofs.Making.{made_next}
+use Rattle.reshard.proofs.creating.make_targets.Goals as goal
+
+pub make_target-requires-clause-covered : goal.make_target-requires-clause-covered
+make_target-requires-clause-covered g c =
+    item_of (λ r. (own : List Shard) → AreOverlapped (map (λ s. s.member.which) c.args.sources.now) r own → own ≡ [] → ⊥) c.args.ranges.now c.loop-range.range-index
+    c.range-item.result c.loop-range-test.true c.range-item.is c.requires.covered
+
+pub loop-range-preserved : goal.loop-range-preserved
+loop-range-preserved g c =
+    let a = c.loop-range.invariant.enough in
+    let b = c.make_target.ensures.count in
+    let w = made_next (λ t. (t.member.which, map (λ s. s.which) t.sources.items)) (map (λ s. s.member.which) c.args.sources.now) c.args.ground.keyspace c.args.ranges.now
+    c.loop-range.range-index c.range-item.result c.loop-range.made.items c.push.new.self.items c.in_ok-target.target c.loop-range-test.true c.range-item.is
+    c.in_ok-push.ensures.items c.loop-range.invariant.ranges c.loop-range.invariant.made c.in_ok-target.ensures.target in
+    record {
+      free = c.make_target.ensures.free;
+      enough = omega (arith, a, b);
+      ranges = w.0;
+      made = w.1;
+    }

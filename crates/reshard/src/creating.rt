@@ -1,0 +1,323 @@
+//! A workflow begins: the shards that it replaces, and its targets.
+ghost use Rattle.shard_run.specs.declared.Shard as which;
+ghost use Rattle.shard_run.specs.declared.Entry.{Entry};
+ghost use Rattle.journal.specs.Views.{SeatView};
+ghost use Rattle.std.specs.Prelude.{◌≡◌, ◌-◌, ◌+◌, slice_index_or, Contains, ◌≤◌, ◌<◌, ◌^◌, ◌++◌, ◌∷◌, ◌⊎◌, [], ℕ, false, true, List, IfOk, IfErr, IfSome, OnOk, OnErr, MatchOption, IsTrue, map, length, replicate, vec_len, vec_capacity};
+ghost use Rattle.std.specs.List.{AllByRecursion};
+ghost use Rattle.keyrange.specs.Names.{IsNamed};
+ghost use Rattle.keyrange.specs.Ranges.{Cover};
+ghost use Rattle.serving.specs.Partitions.{Seat, IsPartition};
+ghost use Rattle.journal.specs.Runs.{IsLegal};
+ghost use Rattle.shard_run.specs.Runs.{mode};
+ghost use Rattle.shard_run.specs.Openings.{IsOpening};
+ghost use Rattle.shard.specs.Shards.{MayFollow};
+ghost use Rattle.follow.specs.Steps.{IsOnward};
+ghost use Rattle.reshard.specs.Choices.{AreNamed, AreApart, HoldTheSame};
+ghost use Rattle.reshard.specs.Steps.{TakesFrom};
+ghost use Rattle.reshard.specs.Workflows.{IsFree, IsSplit};
+ghost use Rattle.reshard.specs.inner.Created.{IsSight, IsAway, IsPicked, AreOverlapped, HasGrown, IsGround, IsMade, IsMadeOf, IsUnfit};
+
+use crate::choosing::{Chosen, any_overlap, choose, next_ranges};
+use crate::fault::ReshardFault;
+use crate::steps::Source;
+use crate::workflow::{Stage, Target, Workflow};
+use follow::Member;
+use journal::{Naming, Pass, ShardSeat};
+use keyrange::{KeyRange, covers_once};
+use serving::{Part, Serving};
+use shard::{Limits, Shard, ShardLaw, ShardState, Store, World};
+use shard_run::Mode;
+use std::alloc::Global;
+use std::sync::{Arc, Wait};
+use vschema::{Place, VSchema};
+use vt_value::{Items, Refusal};
+
+// What a look at the shard of a slot and place shows.
+#[derive(Drop)]
+enum Sight {
+    Serves(shard_run::Shard),
+    DoesNot,
+    Another,
+}
+
+fn copy_shard(alloc: Global, shard: &shard_run::Shard) -> Result<shard_run::Shard, Refusal>
+    ensures ok { IfOk result (λ copy. copy ≡ shard.now) }
+    ensures err { IfErr result (λ e. e ≡ Refusal.OutOfMemory) }
+{
+    let sources = Items::from_slice(alloc, shard.sources.as_slice())?;
+    Ok(shard_run::Shard {
+        slot: shard.slot,
+        place: Place {
+            keyspace: shard.place.keyspace,
+            range: shard.place.range,
+        },
+        sources,
+    })
+}
+
+fn copy_member<W: World, J: Naming>(
+    alloc: Global,
+    member: &Member<W, J>,
+) -> Result<Member<W, J>, Refusal>
+    ensures ok { IfOk result (λ copy. copy.which ≡ member.now.which) }
+    ensures err { IfErr result (λ e. e ≡ Refusal.OutOfMemory) }
+{
+    let shard = Arc::try_clone(&member.shard)?;
+    let which = copy_shard(alloc, &member.which)?;
+    Ok(Member { which, shard })
+}
+
+fn serves<W: World, J: Naming>(state: &ShardState<W, J>) -> bool
+    ensures yes { result ≡ true → mode W.opening state.now.seen state.now.shard.slot ≡ Mode.Serving }
+    ensures no { result ≡ false → mode W.opening state.now.seen state.now.shard.slot ≡ Mode.Serving → ⊥ }
+{
+    match state.mode() {
+        Mode::Serving => true,
+        _ => false,
+    }
+}
+
+// One look at the shard of a part.
+fn try_source<W: World, J: Naming>(
+    state: &mut ShardState<W, J>,
+    alloc: Global,
+    pass: &mut Pass<ShardLaw<W>, J>,
+    slot: usize,
+    place: &Place,
+) -> Result<Sight, Refusal>
+    requires legal { IsLegal (MayFollow W.opening) pass.old.seen }
+    ensures sight { IfOk result (IsSight W.opening pass.new.seen slot place.now) }
+    ensures onward { IsOnward W.opening pass.old pass.new }
+    ensures err { IfErr result (λ e. e ≡ Refusal.OutOfMemory) }
+{
+    let _ = state.look(pass);
+    if !state.stands_at(slot, place) {
+        return Ok(Sight::Another);
+    }
+    if !serves(state) {
+        return Ok(Sight::DoesNot);
+    }
+    let which = copy_shard(alloc, state.shard())?;
+    Ok(Sight::Serves(which))
+}
+
+// The shard of a part, where it serves and isn't frozen.
+fn source_of<W: World, J: Naming>(
+    rt: &impl Wait,
+    alloc: Global,
+    pass: &mut Pass<ShardLaw<W>, J>,
+    keyspace: usize,
+    part: &Part<Shard<W, J>>,
+) -> Result<Option<Member<W, J>>, Refusal>
+    requires legal { IsLegal (MayFollow W.opening) pass.old.seen }
+    ensures found { IfOk result (λ r. MatchOption r (IsAway W.opening pass.old pass.new keyspace part.now)
+        (λ m. IsPicked W.opening pass.old pass.new keyspace part.now m.which)) }
+    ensures onward { IsOnward W.opening pass.old pass.new }
+    ensures err { IfErr result (λ e. e ≡ Refusal.OutOfMemory) }
+{
+    let place = Place {
+        keyspace,
+        range: part.range(),
+    };
+    let slot = part.slot();
+    for _ in rt.forever() {
+        match try_source(&mut part.shard().lock(rt), alloc, pass, slot, &place)? {
+            Sight::Serves(which) => {
+                let shard = Arc::try_clone(part.shard())?;
+                return Ok(Some(Member { which, shard }));
+            }
+            Sight::DoesNot => return Ok(None),
+            Sight::Another => {}
+        }
+    }
+    unreachable!()
+}
+
+// Sources that a target takes from, and their slots.
+#[derive(Drop)]
+struct Own<W: World, J: Naming> {
+    slots: Items<usize>,
+    members: Vec<Member<W, J>>,
+}
+
+impl<W: World, J: Naming> Own<W, J> {
+    fn add(&mut self, alloc: Global, member: &Member<W, J>) -> Result<(), Refusal>
+        ensures slots { OnOk result (self.new.slots ≡ self.old.slots ++ member.now.which.slot ∷ []) }
+        ensures members { OnOk result (map (λ m. m.which) self.new.members.items ≡ map (λ m. m.which) self.old.members.items ++ member.now.which ∷ []) }
+        ensures err { IfErr result (λ e. e ≡ Refusal.OutOfMemory) }
+    {
+        self.slots.push(member.which.slot)?;
+        self.members.push(copy_member(alloc, member)?)?;
+        Ok(())
+    }
+}
+
+impl<W: World, J: Naming> Own<W, J> {
+    // Adds the source where it overlaps the range.
+    fn consider(
+        &mut self,
+        alloc: Global,
+        range: &KeyRange,
+        member: &Member<W, J>,
+    ) -> Result<(), Refusal>
+        requires { self.old.slots ≡ map (λ s. s.slot) (map (λ m. m.which) self.old.members.items) }
+        ensures slots { OnOk result (self.new.slots ≡ map (λ s. s.slot) (map (λ m. m.which) self.new.members.items)) }
+        ensures grown { OnOk result (HasGrown range.now member.now.which (map (λ m. m.which) self.old.members.items) (map (λ m. m.which) self.new.members.items)) }
+        ensures err { IfErr result (λ e. e ≡ Refusal.OutOfMemory) }
+    {
+        if !member.which.place.range.overlaps(range) {
+            return Ok(());
+        }
+        self.add(alloc, member)?;
+        Ok(())
+    }
+}
+
+// Those of the sources that overlap the range.
+fn own_of<W: World, J: Naming>(
+    alloc: Global,
+    range: &KeyRange,
+    sources: &[Source<W, J>],
+) -> Result<Own<W, J>, Refusal>
+    ensures slots { IfOk result (λ own. own.slots ≡ map (λ s. s.slot) (map (λ m. m.which) own.members.items)) }
+    ensures own { IfOk result (λ own. AreOverlapped (map (λ s. s.member.which) sources.now) range.now (map (λ m. m.which) own.members.items)) }
+    ensures err { IfErr result (λ e. e ≡ Refusal.OutOfMemory) }
+{
+    let mut own = Own {
+        slots: Items::new(alloc),
+        members: Vec::new(alloc),
+    };
+    for source in sources {
+        own.consider(alloc, range, &source.member)?;
+    }
+    Ok(own)
+}
+
+// A store of so many empty tables.
+fn empty_store(alloc: Global, tables: usize) -> Result<Store, Refusal>
+    ensures ok { IfOk result (λ store. store.rows ≡ replicate tables []) }
+    ensures err { IfErr result (λ e. e ≡ Refusal.OutOfMemory) }
+{
+    let mut store = Store::new(alloc);
+    for made in 0..tables {
+        store.push_table(Vec::new(alloc))?;
+    }
+    Ok(store)
+}
+
+// The shard of a target on a free slot, without rows, behind its lock. The slot is taken last, and told.
+fn open_shard<W: World, J: Naming>(
+    alloc: Global,
+    free: &mut Vec<ShardSeat<ShardLaw<W>, J>>,
+    which: &mut shard_run::Shard,
+    tables: usize,
+    limits: Limits,
+) -> Result<Arc<Shard<W, J>, Global>, Refusal>
+    requires opens { IsOpening W.opening }
+    requires keyspace { which.old.place.keyspace < length W.opening.schema.keyspaces }
+    requires free { AllByRecursion (IsFree W.opening) free.old.items }
+    requires some { 0 < vec_len free.old }
+    requires range { IsNamed which.old.place.range }
+    requires sources { which.old.sources ≡ [] → ⊥ }
+    requires tables { tables ≡ length W.opening.schema.tables }
+    requires limits { limits ≡ W.limits }
+    requires most_rows { limits.rows ≤ 2 ^ 20 }
+    requires most_stored { limits.stored ≤ 2 ^ 20 }
+    ensures place { which.new.place ≡ which.old.place }
+    ensures sources { which.new.sources ≡ which.old.sources }
+    ensures free { AllByRecursion (IsFree W.opening) free.new.items }
+    ensures count { vec_len free.old ≤ vec_len free.new + 1 }
+    ensures err { IfErr result (λ e. e ≡ Refusal.OutOfMemory) }
+{
+    let store = empty_store(alloc, tables)?;
+    let mut copy = copy_shard(alloc, which)?;
+    let seat = free.pop().unwrap();
+    let slot = seat.slot();
+    copy.slot = slot;
+    which.slot = slot;
+    let state = ShardState::new(alloc, seat, copy, store, Mode::Following, limits);
+    Ok(Arc::new(alloc, Shard::new(state))?)
+}
+
+// What the controller fixes for all workflows.
+#[derive(Clone, Copy)]
+pub(crate) struct Ground {
+    pub(crate) keyspace: usize,
+    pub(crate) tables: usize,
+    pub(crate) limits: Limits,
+}
+
+// A target of this range on a free slot, with those of the sources that overlap it.
+fn make_target<W: World, J: Naming>(
+    alloc: Global,
+    free: &mut Vec<ShardSeat<ShardLaw<W>, J>>,
+    ground: Ground,
+    sources: &[Source<W, J>],
+    range: KeyRange,
+) -> Result<Target<W, J>, Refusal>
+    requires opens { IsOpening W.opening }
+    requires ground { IsGround W.opening W.limits ground }
+    requires free { AllByRecursion (IsFree W.opening) free.old.items }
+    requires some { 0 < vec_len free.old }
+    requires range { IsNamed range }
+    requires covered { (own : List which.Shard) → AreOverlapped (map (λ s. s.member.which) sources.now) range own → own ≡ [] → ⊥ }
+    ensures target { IfOk result (λ t. IsMade (map (λ s. s.member.which) sources.now) ground.keyspace range (t.member.which, map (λ s. s.which) t.sources.items)) }
+    ensures free { AllByRecursion (IsFree W.opening) free.new.items }
+    ensures count { vec_len free.old ≤ vec_len free.new + 1 }
+    ensures err { IfErr result (λ e. e ≡ Refusal.OutOfMemory) }
+{
+    let own = own_of(alloc, &range, sources)?;
+    let mut target = Blank {
+        which: shard_run::Shard {
+            slot: 0,
+            place: Place {
+                keyspace: ground.keyspace,
+                range,
+            },
+            sources: own.slots,
+        },
+        members: own.members,
+    };
+    let shard = open_shard(alloc, free, &mut target.which, ground.tables, ground.limits)?;
+    Ok(Target {
+        member: Member {
+            which: target.which,
+            shard,
+        },
+        sources: target.members,
+    })
+}
+
+// A target that has no shard yet.
+#[derive(Drop)]
+struct Blank<W: World, J: Naming> {
+    which: shard_run::Shard,
+    members: Vec<Member<W, J>>,
+}
+
+// A target of each range.
+fn make_targets<W: World, J: Naming>(
+    alloc: Global,
+    free: &mut Vec<ShardSeat<ShardLaw<W>, J>>,
+    ground: Ground,
+    sources: &[Source<W, J>],
+    ranges: &[KeyRange],
+) -> Result<Vec<Target<W, J>>, Refusal>
+    requires opens { IsOpening W.opening }
+    requires ground { IsGround W.opening W.limits ground }
+    requires free { AllByRecursion (IsFree W.opening) free.old.items }
+    requires enough { length ranges.now ≤ vec_len free.old }
+    requires ranges { AllByRecursion IsNamed ranges.now }
+    requires covered { AllByRecursion (λ r. (own : List which.Shard) → AreOverlapped (map (λ s. s.member.which) sources.now) r own → own ≡ [] → ⊥) ranges.now }
+    ensures targets { IfOk result (λ ts. (map (λ t. t.member.which.place.range) ts.items ≡ ranges.now)
+        × AllByRecursion (IsMadeOf (map (λ s. s.member.which) sources.now) ground.keyspace) (map (λ t. (t.member.which, map (λ s. s.which) t.sources.items)) ts.items)) }
+    ensures free { AllByRecursion (IsFree W.opening) free.new.items }
+    ensures err { IfErr result (λ e. e ≡ Refusal.OutOfMemory) }
+{
+    let mut made = Vec::new(alloc);
+    for range in ranges {
+        let target = make_target(alloc, free, ground, sources, *range)?;
+        made.push(target)?;
+    }
+    Ok(made)
+}

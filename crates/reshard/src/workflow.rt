@@ -1,0 +1,52 @@
+//! A workflow that replaces some shards of a keyspace by others, which hold the same ids.
+use crate::steps::Source;
+use follow::Member;
+use journal::{Naming, ShardSeat};
+use shard::{ShardLaw, World};
+use std::marker::Model;
+
+/// How far a workflow is.
+#[derive(Clone, Copy, Debug, PartialEq, Eq)]
+pub enum Stage {
+    /// No shards are being replaced.
+    None,
+    /// The targets copy and follow.
+    Following,
+    /// A source is frozen, or more was done of the cutover.
+    Switching,
+    /// The targets serve.
+    Switched,
+}
+
+/// A target, and those of the workflow's sources that overlap it.
+#[derive(Drop)]
+pub struct Target<W: World, J: Naming> {
+    pub member: Member<W, J>,
+    pub sources: Vec<Member<W, J>>,
+}
+
+/// A controller of splits and merges in one keyspace, one at a time. It has the seats of the slots that no shard ever stood on. Contracts see
+/// a `WorkflowView`.
+#[derive(Drop)]
+pub struct Workflow<W: World, J: Naming> {
+    pub(crate) stage: Stage,
+    pub(crate) free: Vec<ShardSeat<ShardLaw<W>, J>>,
+    pub(crate) sources: Vec<Source<W, J>>,
+    pub(crate) targets: Vec<Target<W, J>>,
+}
+
+impl<W: World, J: Naming> Model for Workflow<W, J> {
+    ghost use Rattle.std.specs.Prelude.{map};
+    ghost use Rattle.reshard.specs.Workflows.{WorkflowView, IsWorkflow};
+
+    ghost Value = { WorkflowView };
+
+    ghost view = { λ w. record {
+      stage = w.stage;
+      free = map (λ s. s.slot) w.free.items;
+      sources = map (λ s. s.member.which) w.sources.items;
+      targets = map (λ t. t.member.which) w.targets.items;
+    } };
+
+    ghost invariant = { λ w. IsWorkflow W.opening w.free.items (map (λ s. s.member.which) w.sources.items) (map (λ t. (t.member.which, map (λ s. s.which) t.sources.items)) w.targets.items) };
+}
