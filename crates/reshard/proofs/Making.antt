@@ -6,6 +6,7 @@ use Rattle.std.proofs.lemmas.List.{take_more, map-append}
 use Rattle.keyrange.specs.declared.KeyRange.{KeyRange}
 use Rattle.keyrange.specs.Ranges.{Overlap}
 use Rattle.shard_run.specs.declared.Shard.{Shard}
+use Rattle.shard_run.specs.declared.Entry.{Entry}
 use Rattle.shard_law.proofs.Lists.{In, In-from_Contains, Contains-from_In, In-left, In-last, In-push, all-weaker, AllByRecursion-push}
 use Rattle.vschema.specs.declared.schema.Place.{Place}
 use Rattle.shard_run.specs.declared.Mode.{Mode}
@@ -14,7 +15,11 @@ use Rattle.shard_run.specs.Runs.{Opening, Run, mode}
 use Rattle.shard_run.specs.Legal.{IsOnItsSlot}
 use Rattle.reshard.specs.declared.creating.Sight.{Sight}
 use Rattle.reshard.specs.declared.creating.Sight.TheVariants.{Serves, DoesNot, Another}
-use Rattle.reshard.specs.inner.Created.{AreOverlapped, HasGrown, added, left, IsSight, serves, does_not, another, IsMade, IsMadeOf}
+use Rattle.reshard.specs.inner.Created.{AreOverlapped, HasGrown, added, left, IsSight, serves, does_not, another, IsMade, IsMadeOf, IsPicked, IsAway}
+use mathlib.Core.List.{IsPrefix}
+use Rattle.journal.specs.Views.{PassView}
+use Rattle.journal.proofs.Fronts.{prefix_trans}
+use Rattle.serving.specs.Partitions.{Seat}
 use Rattle.reshard.specs.Workflows.{Taking}
 
 -- of the first sources the ones that overlap the range
@@ -138,3 +143,30 @@ module _ {T : Type 0} (f : T → Taking) (sources : List Shard) (k : ℕ) (range
             (subst (AllByRecursion (IsMadeOf sources k)) (sym (map-append f made (t ∷ [])))
             (AllByRecursion-push (IsMadeOf sources k) (map f made) (f t) all one.is)),
       )
+
+-- ---- sources, one after the other
+
+module _ {S : Type 0} (which : S → Shard) (o : Opening) (p q now : PassView Entry) (k : ℕ) (parts : List Seat) (i : ℕ) (part : Seat) (sources new : List S) (s : S) where
+  pub picked_next : i < length parts → part ≡ get_or parts i part → new ≡ sources ++ s ∷ [] → IsPicked o q now k part (which s)
+      → map {B = Seat} (λ s. ((which s).slot, (which s).place.range)) sources ≡ take i parts → AllByRecursion (λ s. (which s).place.keyspace ≡ k) sources
+      → (map {B = Seat} (λ s. ((which s).slot, (which s).place.range)) new ≡ take (i + 1) parts) × AllByRecursion (λ s. (which s).place.keyspace ≡ k) new
+  picked_next there is grown picked so_far home =
+      let r : S → Seat = λ s. ((which s).slot, (which s).place.range) in
+      let one : r s ≡ part = ap (λ (n : ℕ). (n, (which s).place.range)) picked.slot ∙ ap (λ (x : Place). (part.0, x.range)) picked.place in (
+        ap (map r) grown ∙ map-append r sources (s ∷ []) ∙ ap (λ (l : List Seat). l ++ r s ∷ []) so_far
+            ∙ ap (λ (y : Seat). take i parts ++ y ∷ []) (one ∙ is) ∙ sym (take_more parts i part there),
+        subst (AllByRecursion (λ s. (which s).place.keyspace ≡ k)) (sym grown)
+            (AllByRecursion-push (λ s. (which s).place.keyspace ≡ k) sources s home (ap (λ (x : Place). x.keyspace) picked.place)),
+      )
+
+pub away_since : (o : Opening) (p q now : PassView Entry) (k : ℕ) (part : Seat) → IsPrefix p.seen q.seen → IsAway o q now k part → IsAway o p now k part
+away_since o p q now k part later is = record {
+  run = is.run;
+  since = prefix_trans p.seen q.seen is.run later is.since;
+  until = is.until;
+  shard = is.shard;
+  slot = is.slot;
+  place = is.place;
+  stands = is.stands;
+  away = is.away;
+}

@@ -102,7 +102,7 @@ fn try_source<W: World, J: Naming>(
 }
 
 // The shard of a part, where it serves and isn't frozen.
-fn source_of<W: World, J: Naming>(
+pub(crate) fn source_of<W: World, J: Naming>(
     rt: &impl Wait,
     alloc: Global,
     pass: &mut Pass<ShardLaw<W>, J>,
@@ -296,7 +296,7 @@ struct Blank<W: World, J: Naming> {
 }
 
 // A target of each range.
-fn make_targets<W: World, J: Naming>(
+pub(crate) fn make_targets<W: World, J: Naming>(
     alloc: Global,
     free: &mut Vec<ShardSeat<ShardLaw<W>, J>>,
     ground: Ground,

@@ -4,6 +4,7 @@
 mod choosing;
 mod creating;
 mod fault;
+mod finding;
 mod leaving;
 mod steps;
 mod workflow;
