@@ -101,6 +101,34 @@ fn try_source<W: World, J: Naming>(
     Ok(Sight::Serves(which))
 }
 
+// The same under its lock.
+fn look_once<W: World, J: Naming>(
+    rt: &impl Wait,
+    alloc: Global,
+    pass: &mut Pass<ShardLaw<W>, J>,
+    part: &Part<Shard<W, J>>,
+    slot: usize,
+    place: &Place,
+) -> Result<Sight, Refusal>
+    requires legal { IsLegal (MayFollow W.opening) pass.old.seen }
+    ensures sight { IfOk result (IsSight W.opening pass.new.seen slot place.now) }
+    ensures onward { IsOnward W.opening pass.old pass.new }
+    ensures err { IfErr result (λ e. e ≡ Refusal.OutOfMemory) }
+{
+    try_source(&mut part.shard().lock(rt), alloc, pass, slot, place)
+}
+
+fn member_of<W: World, J: Naming>(
+    part: &Part<Shard<W, J>>,
+    which: shard_run::Shard,
+) -> Result<Member<W, J>, Refusal>
+    ensures ok { IfOk result (λ m. m.which ≡ which) }
+    ensures err { IfErr result (λ e. e ≡ Refusal.OutOfMemory) }
+{
+    let shard = Arc::try_clone(part.shard())?;
+    Ok(Member { which, shard })
+}
+
 // The shard of a part, where it serves and isn't frozen.
 pub(crate) fn source_of<W: World, J: Naming>(
     rt: &impl Wait,
@@ -121,10 +149,10 @@ pub(crate) fn source_of<W: World, J: Naming>(
     };
     let slot = part.slot();
     for _ in rt.forever() {
-        match try_source(&mut part.shard().lock(rt), alloc, pass, slot, &place)? {
+        match look_once(rt, alloc, pass, part, slot, &place)? {
             Sight::Serves(which) => {
-                let shard = Arc::try_clone(part.shard())?;
-                return Ok(Some(Member { which, shard }));
+                let member = member_of(part, which)?;
+                return Ok(Some(member));
             }
             Sight::DoesNot => return Ok(None),
             Sight::Another => {}
@@ -205,6 +233,15 @@ fn empty_store(alloc: Global, tables: usize) -> Result<Store, Refusal>
     Ok(store)
 }
 
+fn shared<W: World, J: Naming>(
+    alloc: Global,
+    state: ShardState<W, J>,
+) -> Result<Arc<Shard<W, J>, Global>, Refusal>
+    ensures err { IfErr result (λ e. e ≡ Refusal.OutOfMemory) }
+{
+    Ok(Arc::new(alloc, Shard::new(state))?)
+}
+
 // The shard of a target on a free slot, without rows, behind its lock. The slot is taken last, and told.
 fn open_shard<W: World, J: Naming>(
     alloc: Global,
@@ -236,7 +273,7 @@ fn open_shard<W: World, J: Naming>(
     copy.slot = slot;
     which.slot = slot;
     let state = ShardState::new(alloc, seat, copy, store, Mode::Following, limits);
-    Ok(Arc::new(alloc, Shard::new(state))?)
+    shared(alloc, state)
 }
 
 // What the controller fixes for all workflows.
