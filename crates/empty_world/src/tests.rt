@@ -8,7 +8,6 @@ ghost use Rattle.empty_opening.specs.Empty.{opening_of, FitRanges};
 mod gates;
 mod locks;
 mod modes;
-mod transactions;
 mod waiting;
 
 use crate::empty_router;
@@ -16,7 +15,7 @@ use empty_opening::opening_shards;
 use gates::told;
 use journal::{Naming, Opened, Pass};
 use keyrange::{KeyRange, covers_once};
-use route_engine::{Answer, Engine, Open, Reply, Tx};
+use route_engine::{Engine, Open};
 use shard::{ShardLaw, World};
 use std::alloc::Global;
 use std::marker::Brand;
@@ -24,7 +23,7 @@ use std::sync::Wait;
 use std::test::Fail;
 use std::thread::Threads;
 use vschema::VSchema;
-use vt_value::{Refusal, Value};
+use vt_value::Refusal;
 
 // The sharded keyspace `shop` with the table t.
 const SHOP: &str =
@@ -47,17 +46,6 @@ fn fits(alloc: Global, schema: &VSchema, ranges: &[KeyRange]) -> Result<bool, Re
     Ok(shards.len() <= 64 && covers_once(ranges))
 }
 
-// Whether a query gave one row, of the one number 7.
-fn is_seven(answer: &Answer) -> bool {
-    let Answer::Rows(selected) = answer else {
-        return false;
-    };
-    let [row] = selected.rows.as_slice() else {
-        return false;
-    };
-    matches!(row.as_slice(), [Value::Int(7)])
-}
-
 // How many rows an INSERT adds, and whether a query gives its row then.
 fn insert_then_select<W: World + Send + Sync, J: Naming + Send + Sync>(
     rt: &(impl Threads + Wait + Sync),
@@ -74,11 +62,14 @@ fn insert_then_select<W: World + Send + Sync, J: Naming + Send + Sync>(
         pass,
         b"INSERT INTO t (id, c) VALUES (2, 7)",
     )?;
-    let mut tx = Tx::new();
-    let reply = engine.execute(rt, alloc, pass, &mut tx, b"SELECT c FROM t WHERE id = 2");
-    drop(tx);
-    let Reply { answer, .. } = reply?;
-    Ok((count, is_seven(&answer)))
+    let rows = told(
+        rt,
+        alloc,
+        engine,
+        pass,
+        b"SELECT c FROM t WHERE id = 2 AND c = 7",
+    )?;
+    Ok((count, rows == 1))
 }
 
 fn insert_and_select<W: World + Send + Sync, J: Naming + Send + Sync>(
