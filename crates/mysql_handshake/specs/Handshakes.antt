@@ -1,15 +1,43 @@
 -- The payloads of the connection phase of the MySQL client/server protocol: the server's greeting (HandshakeV10), the client's
 -- HandshakeResponse41, and AuthSwitchRequest.
-use Rattle.std.specs.Prelude.{◌≡◌, ℕ, Bool, true, false, ◌==◌, ◌/◌, ◌%◌, ◌^◌, ◌<◌, List, [], ◌∷◌, ◌++◌, length, take, drop, replicate, codes, Option, Some, None, Contains, option_map}
+use Rattle.std.specs.Prelude.{◌≡◌, ℕ, Bool, true, false, ◌==◌, ◌+◌, ◌/◌, ◌%◌, ◌^◌, ◌<◌, List, [], ◌∷◌, ◌++◌, length, take, drop, replicate, codes, Option, Some, None, Contains, option_map}
 use Rattle.mysql_handshake.specs.declared.response.Response.{Response}
 use Rattle.mysql_packet.specs.Numbers.{little_endian}
 
 abbrev pub plugin_name : List ℕ
 plugin_name = codes "mysql_native_password"
 
--- CLIENT_LONG_PASSWORD, LONG_FLAG, CONNECT_WITH_DB, PROTOCOL_41, TRANSACTIONS, SECURE_CONNECTION, PLUGIN_AUTH and DEPRECATE_EOF
+-- whether a capability is set
+abbrev pub is_set : ℕ → ℕ → Bool
+is_set flag capabilities = capabilities / flag % 2 == 1
+
+abbrev pub long_password : ℕ
+long_password = 0x1
+
+abbrev pub long_flag : ℕ
+long_flag = 0x4
+
+abbrev pub connect_with_db : ℕ
+connect_with_db = 0x8
+
+abbrev pub protocol_41 : ℕ
+protocol_41 = 0x200
+
+abbrev pub transactions : ℕ
+transactions = 0x2000
+
+abbrev pub secure_connection : ℕ
+secure_connection = 0x8000
+
+abbrev pub plugin_auth : ℕ
+plugin_auth = 0x80000
+
+abbrev pub deprecate_eof : ℕ
+deprecate_eof = 0x1000000
+
+-- what the server is capable of
 abbrev pub announced : ℕ
-announced = 0x0108A20D
+announced = long_password + long_flag + connect_with_db + protocol_41 + transactions + secure_connection + plugin_auth + deprecate_eof
 
 -- the greeting of the connection with this id: protocol 10, the server's version; the salt in two parts, and between them the
 -- capabilities in two parts, character set 63 (binary), the status of autocommit, and how long the salt is with its zero
@@ -28,25 +56,6 @@ greeting_payload id salt = (((greeting_start id ++ take 8 salt) ++ greeting_flag
 -- the request to answer the same salt by `mysql_native_password`
 abbrev pub auth_switch_payload : List ℕ → List ℕ
 auth_switch_payload salt = 0xFE ∷ plugin_name ++ 0x00 ∷ salt ++ 0x00 ∷ []
-
--- whether a capability is set
-abbrev pub is_set : ℕ → ℕ → Bool
-is_set flag capabilities = capabilities / flag % 2 == 1
-
-abbrev pub connect_with_db : ℕ
-connect_with_db = 0x8
-
-abbrev pub protocol_41 : ℕ
-protocol_41 = 0x200
-
-abbrev pub secure_connection : ℕ
-secure_connection = 0x8000
-
-abbrev pub plugin_auth : ℕ
-plugin_auth = 0x80000
-
-abbrev pub deprecate_eof : ℕ
-deprecate_eof = 0x1000000
 
 -- a text without a zero
 abbrev pub HasNoZero : List ℕ → Type 0

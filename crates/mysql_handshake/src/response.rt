@@ -5,11 +5,20 @@ ghost use Rattle.mysql_handshake.specs.Handshakes.{is_set, answered_of, field_be
 
 use vt_value::Refusal;
 
+/// The client sends passwords in the newer form.
+pub const LONG_PASSWORD: u32 = 0x1;
+
+/// The client wants all flags of columns.
+pub const LONG_FLAG: u32 = 0x4;
+
 /// The client names a database.
 pub const CONNECT_WITH_DB: u32 = 0x8;
 
 /// The client speaks the protocol since version 4.1.
 pub const PROTOCOL_41: u32 = 0x200;
+
+/// The client knows the status flags of transactions.
+pub const TRANSACTIONS: u32 = 0x2000;
 
 /// The client answers by native passwords of 20 bytes.
 pub const SECURE_CONNECTION: u32 = 0x8000;

@@ -3,6 +3,10 @@ ghost use Rattle.std.specs.Prelude.{◌≡◌, ◌+◌, ◌≤◌, ◌++◌, ◌
 ghost use Rattle.mysql_packet.specs.Frames.{frame, number_after};
 ghost use Rattle.mysql_handshake.specs.Handshakes.{plugin_name, greeting_start, greeting_flags, greeting_payload, auth_switch_payload};
 
+use crate::response::{
+    CONNECT_WITH_DB, DEPRECATE_EOF, LONG_FLAG, LONG_PASSWORD, PLUGIN_AUTH, PROTOCOL_41,
+    SECURE_CONNECTION, TRANSACTIONS,
+};
 use arrayvec::ArrayVec;
 use bytes::BytesMut;
 use mysql_message::numbers::little_endian;
@@ -17,9 +21,52 @@ pub const HANDSHAKE_ROOM: usize = 84;
 
 const VERSION: &[u8] = b"8.0.0-router";
 
-/// The lower capabilities, the character set, the status, the upper capabilities, the length of the salt with its zero.
+/// What the server is capable of.
+const ANNOUNCED: u32 = LONG_PASSWORD
+    | LONG_FLAG
+    | CONNECT_WITH_DB
+    | PROTOCOL_41
+    | TRANSACTIONS
+    | SECURE_CONNECTION
+    | PLUGIN_AUTH
+    | DEPRECATE_EOF;
+
+/// The protocol version of the greeting.
+const PROTOCOL_VERSION: u8 = 10;
+
+/// The first byte of an AuthSwitchRequest.
+const SWITCH: u8 = 0xFE;
+
+/// The character set `binary`.
+const BINARY: u8 = 63;
+
+/// SERVER_STATUS_AUTOCOMMIT, the lower byte.
+const AUTOCOMMIT: u8 = 2;
+
+/// The length of the salt with the zero behind it.
+const SALT_LENGTH: u8 = 21;
+
+/// The lower capabilities, the character set, the status, the upper capabilities, the length of the salt.
 const GREETING_FLAGS: [u8; 19] = [
-    0x00, 0x0D, 0xA2, 0x3F, 0x02, 0x00, 0x08, 0x01, 0x15, 0, 0, 0, 0, 0, 0, 0, 0, 0, 0,
+    0x00,
+    (ANNOUNCED % 0x100) as u8,
+    (ANNOUNCED / 0x100 % 0x100) as u8,
+    BINARY,
+    AUTOCOMMIT,
+    0x00,
+    (ANNOUNCED / 0x1_0000 % 0x100) as u8,
+    (ANNOUNCED / 0x100_0000) as u8,
+    SALT_LENGTH,
+    0,
+    0,
+    0,
+    0,
+    0,
+    0,
+    0,
+    0,
+    0,
+    0,
 ];
 
 /// The name between a zero, which ends the salt, and its own.
@@ -40,7 +87,7 @@ fn greeting_start(id: u32) -> ArrayVec<u8, MAX_PAYLOAD>
 {
     let [first, second, third, fourth, ..] = little_endian(u64::from(id));
     let mut payload = ArrayVec::new();
-    payload.push(0x0A);
+    payload.push(PROTOCOL_VERSION);
     extend(&mut payload, VERSION);
     extend(&mut payload, &[0x00, first, second, third, fourth]);
     payload
@@ -64,7 +111,7 @@ fn auth_switch_payload(salt: &[u8; 20]) -> ArrayVec<u8, MAX_PAYLOAD>
     ensures { result.items ≡ auth_switch_payload salt.now }
 {
     let mut payload = ArrayVec::new();
-    payload.push(0xFE);
+    payload.push(SWITCH);
     extend(&mut payload, PLUGIN_NAME);
     payload.push(0x00);
     extend(&mut payload, salt);

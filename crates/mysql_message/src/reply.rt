@@ -8,6 +8,18 @@ use bytes::BytesMut;
 use mysql_packet::put_payload;
 use vt_value::Refusal;
 
+/// The first byte of an OK packet.
+const OK: u8 = 0x00;
+
+/// The first byte of an EOF packet, and of the packet that ends a result set in its place.
+const EOF: u8 = 0xFE;
+
+/// The first byte of an ERR packet.
+const ERR: u8 = 0xFF;
+
+/// What stands before the SQL state.
+const STATE_MARKER: u8 = b'#';
+
 /// More than the payload of an OK, an EOF or an ERR packet takes.
 const MAX_PAYLOAD: usize = 60;
 
@@ -40,7 +52,7 @@ pub fn put_eof(number: u8, status: u16, out: &mut BytesMut) -> Result<u8, Refusa
     ensures capacity { length out.old.items + out.old.spare ≤ length out.new.items + out.new.spare }
 {
     let [low, high, ..] = little_endian(u64::from(status));
-    put_short(number, &[0xFE, 0x00, 0x00, low, high], out)
+    put_short(number, &[EOF, 0x00, 0x00, low, high], out)
 }
 
 /// Appends the packet that ends a result set where client and server set CLIENT_DEPRECATE_EOF: no affected rows, 0 as
@@ -57,7 +69,7 @@ pub fn put_set_end(number: u8, status: u16, out: &mut BytesMut) -> Result<u8, Re
     ensures capacity { length out.old.items + out.old.spare ≤ length out.new.items + out.new.spare }
 {
     let [low, high, ..] = little_endian(u64::from(status));
-    put_short(number, &[0xFE, 0x00, 0x00, low, high, 0x00, 0x00], out)
+    put_short(number, &[EOF, 0x00, 0x00, low, high, 0x00, 0x00], out)
 }
 
 /// Appends an ERR packet: the error code, `#` and the SQL state, and the message of the refusal. It gives the sequence
@@ -81,7 +93,7 @@ fn ok_payload(affected: u64, status: u16) -> ArrayVec<u8, MAX_PAYLOAD>
 {
     let [low, high, ..] = little_endian(u64::from(status));
     let mut payload = ArrayVec::new();
-    payload.push(0x00);
+    payload.push(OK);
     extend(&mut payload, length_encoded(affected).as_slice());
     extend(&mut payload, &[0x00, low, high, 0x00, 0x00]);
     payload
@@ -93,8 +105,8 @@ fn err_payload(refusal: Refusal) -> ArrayVec<u8, MAX_PAYLOAD>
 {
     let [low, high, ..] = little_endian(u64::from(refusal.code()));
     let mut payload = ArrayVec::new();
-    payload.push(0xFF);
-    extend(&mut payload, &[low, high, b'#']);
+    payload.push(ERR);
+    extend(&mut payload, &[low, high, STATE_MARKER]);
     extend(&mut payload, refusal.state().as_bytes());
     extend(&mut payload, refusal.message().as_bytes());
     payload
