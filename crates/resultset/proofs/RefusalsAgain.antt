@@ -4,7 +4,7 @@ use Rattle.std.specs.Prelude.{nat_eq}
 use Rattle.std.specs.Cmp.Lexicographic.{pointwise}
 use Rattle.vt_value.specs.declared.refusal.Refusal.{Refusal}
 use Rattle.vt_value.specs.declared.refusal.Refusal.TheVariants.{OutOfMemory, SyntaxError, NotSupported, UnknownTable, UnknownColumn, UnknownKeyspace, AccessDenied, UnknownCommand, PacketTooLarge, PacketsOutOfOrder, BadHandshake, DuplicateKey, NullNotAllowed, NoDefaultValue, OutOfRange, TooLong, WrongValueCount, ColumnNamedTwice, NotGrouped, SeveralShards, Conflict, BufferFull, ShardMoved, ShardFull}
-use Rattle.vt_value.specs.Refusals.{number_of, message_of}
+use Rattle.vt_value.specs.Refusals.{refusal_number, message_of}
 
 abbrev pub all_refusals : List Refusal
 all_refusals = OutOfMemory ∷ SyntaxError ∷ NotSupported ∷ UnknownTable ∷ UnknownColumn ∷ UnknownKeyspace ∷ AccessDenied ∷ UnknownCommand ∷ PacketTooLarge ∷ PacketsOutOfOrder ∷ BadHandshake ∷ DuplicateKey ∷ NullNotAllowed ∷ NoDefaultValue ∷ OutOfRange ∷ TooLong ∷ WrongValueCount ∷ ColumnNamedTwice ∷ NotGrouped ∷ SeveralShards ∷ Conflict ∷ BufferFull ∷ ShardMoved ∷ ShardFull ∷ []
@@ -44,7 +44,7 @@ one_message message r s e f = sym (is_found r) ∙ ap (with_message all_refusals
 
 -- each has its place
 abbrev pub place : Refusal → ℕ
-place r = number_of r - 1
+place r = refusal_number r - 1
 
 place_within : (r : Refusal) → place r < 24
 place_within OutOfMemory = lit< tt
