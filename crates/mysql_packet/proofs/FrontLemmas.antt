@@ -6,7 +6,7 @@ use Rattle.std.proofs.lemmas.List.{append-nil, length-append, length-drop, lengt
 use Rattle.vt_value.specs.declared.refusal.Refusal.{Refusal}
 use Rattle.vt_value.specs.declared.refusal.Refusal.TheVariants.{PacketTooLarge, PacketsOutOfOrder}
 use Rattle.mysql_packet.specs.Frames.{full, parts_of, packet, packets, frame, header, header_fault, AreBegun, IsPartial}
-use Rattle.mysql_packet.specs.Reading.{size_of, joined, HasPayload, HasFault, IsNext}
+use Rattle.mysql_packet.specs.inner.Reading.{size_of, payload_at, HasPayload, HasFault, IsNextHeader}
 use Rattle.mysql_packet.proofs.PartsLemmas.{whole}
 use Rattle.mysql_packet.proofs.FrameLemmas.{parts_of-short, parts_of-long}
 
@@ -52,22 +52,22 @@ pub frame-whole : (first : ℕ) (parts : List (List ℕ)) (last : List ℕ) → 
     → frame first (whole parts ++ last) ≡ packets first parts ++ packet ((first + length parts) % 256) last
 frame-whole first parts last small all short = ap (packets first) (parts_of-whole parts last all short) ∙ packets-snoc first parts last small
 
-joined-packet : (first k len : ℕ) (p tail : List ℕ) → length p ≡ full → joined (suc k) len (packet first p ++ tail) ≡ p ++ joined k len tail
-unfolding joined
+joined-packet : (first k len : ℕ) (p tail : List ℕ) → length p ≡ full → payload_at (suc k) len (packet first p ++ tail) ≡ p ++ payload_at k len tail
+unfolding payload_at
 joined-packet first k len p tail e =
-    ap (λ (l : List ℕ). l ++ joined k len (drop full (p ++ tail))) (take_seam full p tail e)
-    ∙ ap (λ (l : List ℕ). p ++ joined k len l) (drop_seam full p tail e)
+    ap (λ (l : List ℕ). l ++ payload_at k len (drop full (p ++ tail))) (take_seam full p tail e)
+    ∙ ap (λ (l : List ℕ). p ++ payload_at k len l) (drop_seam full p tail e)
 
-joined-last : (number len : ℕ) (last more : List ℕ) → length last ≡ len → joined 0 len (packet number last ++ more) ≡ last
-unfolding joined
+joined-last : (number len : ℕ) (last more : List ℕ) → length last ≡ len → payload_at 0 len (packet number last ++ more) ≡ last
+unfolding payload_at
 joined-last number len last more e = take_seam len last more e
 
 pub joined-packets : (first number len : ℕ) (parts : List (List ℕ)) (last more : List ℕ) → AreFull parts → length last ≡ len
-    → joined (length parts) len (packets first parts ++ (packet number last ++ more)) ≡ whole parts ++ last
+    → payload_at (length parts) len (packets first parts ++ (packet number last ++ more)) ≡ whole parts ++ last
 joined-packets first number len [] last more all e = joined-last number len last more e
 joined-packets first number len (p ∷ parts) last more all e =
     let tail : List ℕ = packets ((first + 1) % 256) parts ++ (packet number last ++ more) in
-    ap (joined (suc (length parts)) len) (append_assoc (packet first p) (packets ((first + 1) % 256) parts) (packet number last ++ more))
+    ap (payload_at (suc (length parts)) len) (append_assoc (packet first p) (packets ((first + 1) % 256) parts) (packet number last ++ more))
     ∙ joined-packet first (length parts) len p tail all.0 ∙ ap (λ (l : List ℕ). p ++ l) (joined-packets ((first + 1) % 256) number len parts last more all.1 e)
     ∙ sym (append_assoc p (whole parts) last)
 
@@ -121,7 +121,7 @@ AreFull-snoc : (parts : List (List ℕ)) (part : List ℕ) → AreFull parts →
 AreFull-snoc [] part all e = (e, tt)
 AreFull-snoc (p ∷ parts) part all e = (all.0, AreFull-snoc parts part all.1 e)
 
-module _ {limit : ℕ} {bytes rest body : List ℕ} {first come len number : ℕ} (n : IsNext len number body rest) (s : StillReads limit bytes first come rest) where
+module _ {limit : ℕ} {bytes rest body : List ℕ} {first come len number : ℕ} (n : IsNextHeader len number body rest) (s : StillReads limit bytes first come rest) where
   at_parts : header_fault limit first (length s.parts) len number ≡ header_fault limit first come len number
   at_parts = ap (λ k. header_fault limit first k len number) s.come_is
 
@@ -177,16 +177,16 @@ module _ {limit : ℕ} {bytes rest body : List ℕ} {first come len number : ℕ
         let last : List ℕ = take len body in
         let more : List ℕ = drop len body in
         let next : ℕ = (first + length parts) % 256 in
-        let payload : joined come len bytes ≡ whole parts ++ last =
-        ap (λ k. joined k len bytes) (sym s.come_is) ∙ ap (joined (length parts) len) split ∙ joined-packets first next len parts last more s.all part_is in
+        let payload : payload_at come len bytes ≡ whole parts ++ last =
+        ap (λ k. payload_at k len bytes) (sym s.come_is) ∙ ap (payload_at (length parts) len) split ∙ joined-packets first next len parts last more s.all part_is in
         let front : bytes ≡ (packets first parts ++ packet next last) ++ more = split ∙ sym (append_assoc (packets first parts) (packet next last) more) in
         let size : length (packets first parts ++ packet next last) ≡ size_of come len =
         omega (arith, length-append (packets first parts) (packet next last), length-packets first parts s.all, part_is, s.come_is) in
         let behind : drop (size_of come len) bytes ≡ more = ap (drop (size_of come len)) front ∙ drop_seam (size_of come len) (packets first parts ++ packet next last) more size in
-        let framed : frame first (joined come len bytes) ≡ packets first parts ++ packet next last =
+        let framed : frame first (payload_at come len bytes) ≡ packets first parts ++ packet next last =
         ap (frame first) payload ∙ frame-whole first parts last s.small s.all (omega (arith, part_is, short)) in
         record {
-          whole = front ∙ ap (λ (l : List ℕ). l ++ more) (sym framed) ∙ ap (λ (l : List ℕ). frame first (joined come len bytes) ++ l) (sym behind);
+          whole = front ∙ ap (λ (l : List ℕ). l ++ more) (sym framed) ∙ ap (λ (l : List ℕ). frame first (payload_at come len bytes) ++ l) (sym behind);
           length_is = omega (arith, ap length payload, length-append (whole parts) last, length-whole parts s.all, part_is, s.come_is);
           fits = omega (arith, ap length front, length-append (packets first parts ++ packet next last) more, size);
           within = omega (arith, ok.1);
@@ -197,32 +197,32 @@ module _ {limit : ℕ} {bytes rest body : List ℕ} {first come len number : ℕ
 pub record StillJoins (total : List ℕ) (come len counter : ℕ) (payload rest : List ℕ) : Type 0 where
   pub left : ℕ
   pub left_is : left + counter ≡ come
-  pub all : payload ++ joined left len rest ≡ total
+  pub all : payload ++ payload_at left len rest ≡ total
   pub fits : size_of left len ≤ length rest
 
-pub starts_join : (come len : ℕ) (bytes payload : List ℕ) → payload ≡ [] → size_of come len ≤ length bytes → StillJoins (joined come len bytes) come len 0 payload bytes
-starts_join come len bytes payload none fits = record { left = come; left_is = omega arith; all = ap (λ (l : List ℕ). l ++ joined come len bytes) none; fits = fits }
+pub starts_join : (come len : ℕ) (bytes payload : List ℕ) → payload ≡ [] → size_of come len ≤ length bytes → StillJoins (payload_at come len bytes) come len 0 payload bytes
+starts_join come len bytes payload none fits = record { left = come; left_is = omega arith; all = ap (λ (l : List ℕ). l ++ payload_at come len bytes) none; fits = fits }
 
 module _ (total : List ℕ) (come len counter : ℕ) (payload rest : List ℕ) (s : StillJoins total come len counter payload rest) where
   pub joins_part : (part after payload' : List ℕ) → counter < come → part ≡ take full (drop 4 rest) → after ≡ drop full (drop 4 rest) → payload' ≡ payload ++ part → StillJoins total come len (counter + 1) payload' after
-  unfolding joined
+  unfolding payload_at
   joins_part part after payload' some is_part is_after is_new = go s.left s.left_is s.all s.fits
     where
-      go : (left : ℕ) → left + counter ≡ come → payload ++ joined left len rest ≡ total → size_of left len ≤ length rest → StillJoins total come len (counter + 1) payload' after
+      go : (left : ℕ) → left + counter ≡ come → payload ++ payload_at left len rest ≡ total → size_of left len ≤ length rest → StillJoins total come len (counter + 1) payload' after
       go zero e all fits = absurd (omega (arith, e, some))
       go (suc left) e all fits =
           record {
             left = left;
             left_is = omega (arith, e);
-            all = ap (λ (l : List ℕ). l ++ joined left len after) is_new ∙ append_assoc payload part (joined left len after)
-                ∙ ap (λ (l : List ℕ). payload ++ (l ++ joined left len after)) is_part ∙ ap (λ (l : List ℕ). payload ++ (take full (drop 4 rest) ++ joined left len l)) is_after ∙ all;
+            all = ap (λ (l : List ℕ). l ++ payload_at left len after) is_new ∙ append_assoc payload part (payload_at left len after)
+                ∙ ap (λ (l : List ℕ). payload ++ (l ++ payload_at left len after)) is_part ∙ ap (λ (l : List ℕ). payload ++ (take full (drop 4 rest) ++ payload_at left len l)) is_after ∙ all;
             fits = omega (arith, fits, ap length is_after, length-drop full (drop 4 rest), length-drop 4 rest);
           }
 
   pub joins_last : (part payload' : List ℕ) → come ≤ counter → part ≡ take len (drop 4 rest) → payload' ≡ payload ++ part → payload' ≡ total
-  unfolding joined
+  unfolding payload_at
   joins_last part payload' done is_part is_new = go s.left s.left_is s.all
     where
-      go : (left : ℕ) → left + counter ≡ come → payload ++ joined left len rest ≡ total → payload' ≡ total
+      go : (left : ℕ) → left + counter ≡ come → payload ++ payload_at left len rest ≡ total → payload' ≡ total
       go zero e all = is_new ∙ ap (λ (l : List ℕ). payload ++ l) is_part ∙ all
       go (suc left) e all = absurd (omega (arith, e, done))

@@ -6,7 +6,7 @@ use Rattle.std.proofs.lemmas.Grind.{flat_map-append}
 use Rattle.mysql_packet.specs.declared.framer.Payload.{Payload}
 use Rattle.mysql_packet.specs.declared.framer.Fault.{Fault}
 use Rattle.mysql_packet.specs.Frames.{full, packets, frame, header, header_fault, stream_of, IsPartial, IsTaken, Splits, IsRefusedAfter}
-use Rattle.mysql_packet.specs.Framing.{Framing, HasRead}
+use Rattle.mysql_packet.specs.Framing.{Framing, HasFramed}
 use Rattle.mysql_packet.proofs.FrontLemmas.{length-packets, not_refused}
 use Rattle.std.proofs.lemmas.List.{append-nil, length-append}
 
@@ -35,8 +35,8 @@ module _ (limit : ℕ) (stream : List ℕ) (before : List Payload) (rest piece :
 -- what a framer has read, once the payloads were taken off the bytes it held and the piece
 pub reads_on : (old : Framing) (piece bytes rest : List ℕ) (used : ℕ) (payloads : List Payload) (fault : Option Fault) → bytes ≡ old.rest ++ piece → rest ≡ drop used bytes
     → MatchOption fault (Splits old.limit bytes payloads (drop used bytes)) (IsRefusedAfter old.limit bytes payloads) → IsNone fault
-    → (stream : List ℕ) (before : List Payload) → HasRead old stream before
-    → HasRead (record { limit = old.limit; rest = rest; fault = fault }) (stream ++ piece) (before ++ payloads)
+    → (stream : List ℕ) (before : List Payload) → HasFramed old stream before
+    → HasFramed (record { limit = old.limit; rest = rest; fault = fault }) (stream ++ piece) (before ++ payloads)
 reads_on old piece bytes rest used payloads None is is_rest taken none stream before read = record {
   no_fault = refl;
   splits = splits_on old.limit stream before old.rest piece read.splits payloads rest

@@ -11,6 +11,6 @@ pub record Framing : Type 0 where
   pub fault : Option Fault
 
 -- The stream so far is these payloads and then less than one more.
-pub record HasRead (f : Framing) (stream : List ℕ) (payloads : List Payload) : Type 0 where
+pub record HasFramed (f : Framing) (stream : List ℕ) (payloads : List Payload) : Type 0 where
   pub no_fault : f.fault ≡ None
   pub splits : Splits f.limit stream payloads f.rest

@@ -1,4 +1,4 @@
 pub mod Numbers
 pub mod Frames
 pub mod Framing
-pub mod Reading
+pub mod inner

@@ -1,6 +1,6 @@
 ghost use Rattle.std.specs.Prelude.{◌≡◌, ◌↔◌, IsTrue, ℕ, [], ◌≤◌, ◌++◌, List, None, Some, drop, IfErr, IfOk, IfSome, IsNone, OnErr, vec_len};
 ghost use Rattle.mysql_packet.specs.Frames.{IsRefusedAfter};
-ghost use Rattle.mysql_packet.specs.Framing.{HasRead};
+ghost use Rattle.mysql_packet.specs.Framing.{HasFramed};
 ghost use Rattle.mysql_packet.specs.declared.framer.Payload.{Payload};
 ghost use Rattle.vt_value.specs.declared.refusal.Refusal.{Refusal};
 
@@ -64,7 +64,7 @@ impl Framer {
     pub fn new(alloc: Global, limit: usize) -> Framer
         ensures value { result ≡ record { limit = limit; rest = []; fault = None } }
         // Nothing has been read.
-        ensures start { HasRead result [] [] }
+        ensures start { HasFramed result [] [] }
     {
         Framer {
             limit,
@@ -88,11 +88,11 @@ impl Framer {
     pub fn feed(&mut self, piece: &[u8]) -> Result<Fed, Refusal>
         // However the stream was cut before, it is the payloads before and these so far, and less than one more.
         ensures payloads { IfOk result (λ fed. IsNone fed.fault → (stream : List ℕ) (before : List Payload) →
-            HasRead self.old stream before →
-            HasRead self.new (stream ++ piece.now) (before ++ fed.payloads)) }
+            HasFramed self.old stream before →
+            HasFramed self.new (stream ++ piece.now) (before ++ fed.payloads)) }
         // A fault comes only where a refused header stands in a part's place behind them.
         ensures fault { IfOk result (λ fed. IfSome fed.fault (λ f. (stream : List ℕ) (before : List Payload) →
-            HasRead self.old stream before →
+            HasFramed self.old stream before →
             IsRefusedAfter self.old.limit (stream ++ piece.now) (before ++ fed.payloads) f)) }
         ensures stopped { IfOk result (λ fed. self.new.fault ≡ fed.fault) }
         // After a fault every later piece gives that fault alone.

@@ -2,7 +2,7 @@
 ghost use Rattle.std.specs.Prelude.{◌≡◌, [], ◌∷◌, ◌+◌, ◌*◌, ◌%◌, ◌^◌, ◌<◌, ◌≤◌, length, take, drop, IfOk};
 ghost use Rattle.mysql_packet.specs.Frames.{full, header_fault};
 ghost use Rattle.mysql_packet.specs.Numbers.{little_endian};
-ghost use Rattle.mysql_packet.specs.Reading.{size_of, joined, IsNext, IsFront, Takes};
+ghost use Rattle.mysql_packet.specs.inner.Reading.{size_of, payload_at, IsNextHeader, IsFront, TakesPayloads};
 
 use crate::framer::{Fault, Payload};
 use crate::payload::{FULL_PART, HEADER_LEN};
@@ -51,7 +51,7 @@ fn header_fault(limit: usize, first: u8, come: usize, len: usize, number: u8) ->
 /// The length of the first packet's part, and its sequence number.
 fn read_header(bytes: &[u8]) -> (usize, u8)
     requires { 4 ≤ length bytes.now }
-    ensures { IsNext result.0 result.1 (drop 4 bytes.now) bytes.now }
+    ensures { IsNextHeader result.0 result.1 (drop 4 bytes.now) bytes.now }
 {
     (part_len(bytes[0], bytes[1], bytes[2]), bytes[3])
 }
@@ -103,7 +103,7 @@ fn read_front(limit: usize, bytes: &[u8]) -> Front
 /// The bytes of the payload at the front.
 fn join(alloc: Global, bytes: &[u8], come: usize, len: usize) -> Result<Vec<u8>, AllocError>
     requires { size_of come len ≤ length bytes.now }
-    ensures { IfOk result (λ payload. payload.items ≡ joined come len bytes.now) }
+    ensures { IfOk result (λ payload. payload.items ≡ payload_at come len bytes.now) }
 {
     let mut payload = Vec::with_capacity(alloc, come * FULL_PART + len)?;
     let mut rest = bytes;
@@ -127,7 +127,7 @@ fn copy_payload(
 ) -> Result<Payload, AllocError>
     requires { size_of come len ≤ length bytes.now }
     ensures { IfOk result (λ payload. payload
-        ≡ record { first = first; last = (first + come) % 256; bytes = joined come len bytes.now }) }
+        ≡ record { first = first; last = (first + come) % 256; bytes = payload_at come len bytes.now }) }
 {
     let last = ((first as usize + come) % 256) as u8;
     let bytes = Items::from_vec(join(alloc, bytes, come, len)?);
@@ -136,7 +136,7 @@ fn copy_payload(
 
 /// Takes each whole payload off the front.
 pub(crate) fn take_payloads(alloc: Global, limit: usize, bytes: &[u8]) -> Result<Taken, AllocError>
-    ensures { IfOk result (Takes limit bytes.now) }
+    ensures { IfOk result (TakesPayloads limit bytes.now) }
 {
     let mut payloads = Items::new(alloc);
     let mut rest = bytes;

@@ -5,7 +5,7 @@ use Rattle.std.proofs.Math.Bool.{Bool-set}
 use Rattle.mysql_packet.specs.Numbers.{length_encoded_string}
 use Rattle.resultset.specs.declared.Column.{Column}
 use Rattle.resultset.specs.declared.Kind.{Kind}
-use Rattle.resultset.specs.Flags.{flags_fit}
+use Rattle.resultset.specs.inner.Flags.{flags_fit}
 use Rattle.resultset.specs.Encoding.{name_fields}
 
 -- what follows each of the names

@@ -10,7 +10,7 @@ use Rattle.std.proofs.lemmas.Fmt.{decimal_is_IsNumeral_wide, IsAscii-decimal_wid
 use Rattle.std.proofs.lemmas.Str.{IsUtf8-from_ascii}
 use Rattle.std.proofs.lemmas.Str.Parse.{numerals_by_value, tells_digits, parse_signed_minus, parse_signed_digits}
 use Rattle.std.proofs.lemmas.Result.{Ok-from_Ok_iff}
-use Rattle.resultset.specs.Reading.{IsWide}
+use Rattle.resultset.specs.inner.Reading.{IsWide}
 
 ascii : (n : ℤ) → IsWide n → IsAscii (signed_decimal n)
 ascii (pos n) wide i = IsAscii-decimal_wide n (omega (arith, ints, wide)) i

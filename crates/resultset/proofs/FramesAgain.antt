@@ -6,7 +6,7 @@ use Rattle.std.proofs.lemmas.List.{append-nil, take-append-drop, length-take, le
 use Rattle.mysql_packet.specs.Frames.{full, packet, frame, frames_from, number_after}
 use Rattle.mysql_packet.proofs.FrameLemmas.{frame-short, frame-long, length-frame}
 use Rattle.resultset.specs.declared.unread.Unread.{Unread}
-use Rattle.resultset.specs.Reading.{IsMemory}
+use Rattle.resultset.specs.inner.Reading.{IsMemory}
 
 -- Of a payload this much is read already, and these bytes begin with the frame of the rest.
 pub record Remains (payload more so_far rest : List ℕ) : Type 0 where

@@ -4,7 +4,7 @@ use Rattle.std.specs.List.{AllByRecursion}
 use Rattle.std.proofs.lemmas.List.{take_more, length-map, length-append, get_or-map}
 use Rattle.std.proofs.lemmas.List.Elements.{All-from_recursion}
 use Rattle.resultset.specs.declared.unread.Unread.{Unread}
-use Rattle.resultset.specs.Reading.{IsMemory}
+use Rattle.resultset.specs.inner.Reading.{IsMemory}
 
 -- Where the payloads are those of values, the first of these values are read.
 pub record ReadSoFar {X : Type 0} (P : X → Type 0) (write : X → List ℕ) (payloads : List (List ℕ)) (i : ℕ) (read : List X) : Type 0 where

@@ -7,7 +7,7 @@ use Rattle.vt_value.specs.Values.{Row}
 use Rattle.resultset.specs.declared.unread.Unread.{Unread}
 use Rattle.resultset.specs.declared.Column.{Column}
 use Rattle.resultset.specs.Encoding.{FitsKind, RowFits, row_payload, value_bytes}
-use Rattle.resultset.specs.Reading.{IsMemory}
+use Rattle.resultset.specs.inner.Reading.{IsMemory}
 
 -- Of a row these values are read already, and these bytes are the rest of them.
 pub record Later (columns : List Column) (i : ℕ) (rest : List ℕ) (read whole : Row) : Type 0 where

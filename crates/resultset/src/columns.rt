@@ -4,9 +4,10 @@ ghost use Rattle.std.specs.List.{AllByRecursion};
 ghost use Rattle.mysql_packet.specs.Numbers.{length_encoded_string};
 ghost use Rattle.resultset.specs.declared.Column.{Column};
 ghost use Rattle.resultset.specs.declared.Kind.{Kind};
-ghost use Rattle.resultset.specs.Flags.{type_of, length_of, flags_fit};
+ghost use Rattle.resultset.specs.Flags.{type_of, length_of};
+ghost use Rattle.resultset.specs.inner.Flags.{flags_fit};
 ghost use Rattle.resultset.specs.Encoding.{definition_payload, name_fields, fixed_fields, IsByteLong};
-ghost use Rattle.resultset.specs.Reading.{Gives};
+ghost use Rattle.resultset.specs.inner.Reading.{OnceRead};
 
 use crate::unread::Unread;
 use crate::{Column, Kind};
@@ -17,7 +18,7 @@ use vt_value::Items;
 pub(crate) fn columns(alloc: Global, payloads: &[Items<u8>]) -> Result<Items<Column>, Unread>
     ensures len { IfOk result (λ x. length x ≡ length payloads.now) }
     ensures again { (cs : List Column) → AllByRecursion (λ c. IsByteLong c.kind) cs
-        → payloads.now ≡ map definition_payload cs → Gives result (λ x. x ≡ cs) }
+        → payloads.now ≡ map definition_payload cs → OnceRead result (λ x. x ≡ cs) }
 {
     let mut columns = Items::new(alloc);
     for payload in payloads {
@@ -27,7 +28,7 @@ pub(crate) fn columns(alloc: Global, payloads: &[Items<u8>]) -> Result<Items<Col
 }
 
 fn column(alloc: Global, payload: &[u8]) -> Result<Column, Unread>
-    ensures { (c : Column) → IsByteLong c.kind → payload.now ≡ definition_payload c → Gives result (λ x. x ≡ c) }
+    ensures { (c : Column) → IsByteLong c.kind → payload.now ≡ definition_payload c → OnceRead result (λ x. x ≡ c) }
 {
     let (names, rest) = names_at(payload)?;
     let (kind, flags) = kind_at(rest)?;
@@ -52,7 +53,7 @@ struct Names<'a> {
 
 fn names_at(bytes: &[u8]) -> Result<(Names<'_>, &[u8]), Unread>
     ensures { (c : Column) (rest : List ℕ) → bytes.now ≡ name_fields c ++ rest
-        → Gives result (λ x. (x.0.schema.now ≡ c.schema) × (x.0.table.now ≡ c.table) × (x.0.name.now ≡ c.name)
+        → OnceRead result (λ x. (x.0.schema.now ≡ c.schema) × (x.0.table.now ≡ c.table) × (x.0.name.now ≡ c.name)
         × (x.0.org_name.now ≡ c.org_name) × (x.1.now ≡ rest)) }
 {
     let (_, after_catalog) = string_at(bytes)?;
@@ -74,7 +75,7 @@ fn names_at(bytes: &[u8]) -> Result<(Names<'_>, &[u8]), Unread>
 fn kind_at(fields: &[u8]) -> Result<(Kind, u16), Unread>
     ensures allowed { IfOk result (λ x. IsTrue (flags_fit x.0 x.1)) }
     ensures again { (kind : Kind) (flags : ℕ) → IsByteLong kind → IsTrue (flags_fit kind flags)
-        → fields.now ≡ fixed_fields kind flags → Gives result (λ x. (x.0 ≡ kind) × (x.1 ≡ flags)) }
+        → fields.now ≡ fixed_fields kind flags → OnceRead result (λ x. (x.0 ≡ kind) × (x.1 ≡ flags)) }
 {
     let [_, _, _, length, _, _, _, code, low, high, ..] = fields else {
         return Err(Unread::Malformed);
@@ -88,7 +89,7 @@ fn kind_at(fields: &[u8]) -> Result<(Kind, u16), Unread>
 
 fn string_at(bytes: &[u8]) -> Result<(&[u8], &[u8]), Unread>
     ensures { (text rest : List ℕ) → bytes.now ≡ length_encoded_string text ++ rest
-        → Gives result (λ x. (x.0.now ≡ text) × (x.1.now ≡ rest)) }
+        → OnceRead result (λ x. (x.0.now ≡ text) × (x.1.now ≡ rest)) }
 {
     read_length_encoded_string(bytes).ok_or(Unread::Malformed)
 }

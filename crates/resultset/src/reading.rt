@@ -8,7 +8,7 @@ ghost use Rattle.resultset.specs.declared.Column.{Column};
 ghost use Rattle.resultset.specs.declared.Outcome.{Outcome};
 ghost use Rattle.resultset.specs.declared.ResultSet.{ResultSet};
 ghost use Rattle.resultset.specs.Encoding.{RowFits, IsResult, Encodes, IsTyped, row_payload, behind_definitions, set_payloads};
-ghost use Rattle.resultset.specs.Reading.{Gives};
+ghost use Rattle.resultset.specs.inner.Reading.{OnceRead};
 
 use crate::columns::columns;
 use crate::refusals::refusal_of;
@@ -53,7 +53,7 @@ pub fn decode(
 fn read(alloc: Global, end: SetEnd, bytes: &[u8]) -> Result<Outcome, Unread>
     ensures fits { IfOk result IsResult }
     ensures again { (x : Outcome) (number status : ℕ) → IsResult x → IsTyped x → Encodes end x number status bytes.now
-        → Gives result (λ y. y ≡ x) }
+        → OnceRead result (λ y. y ≡ x) }
 {
     let payloads = payloads(alloc, bytes)?;
     let payloads = payloads.as_slice();
@@ -70,7 +70,7 @@ fn read(alloc: Global, end: SetEnd, bytes: &[u8]) -> Result<Outcome, Unread>
 fn read_count(bytes: &[u8]) -> Result<Outcome, Unread>
     ensures fits { IfOk result IsResult }
     ensures again { (n : ℕ) (rest : List ℕ) → n < 2 ^ 64 → bytes.now ≡ length_encoded n ++ rest
-        → Gives result (λ y. y ≡ Outcome.Count n) }
+        → OnceRead result (λ y. y ≡ Outcome.Count n) }
 {
     match read_length_encoded(bytes) {
         Some((affected, _)) => Ok(Outcome::Count(affected)),
@@ -80,7 +80,7 @@ fn read_count(bytes: &[u8]) -> Result<Outcome, Unread>
 
 fn read_refusal(message: &[u8]) -> Result<Outcome, Unread>
     ensures fits { IfOk result IsResult }
-    ensures again { (r : Refusal) → message.now ≡ message_of r → Gives result (λ y. y ≡ Outcome.Refused r) }
+    ensures again { (r : Refusal) → message.now ≡ message_of r → OnceRead result (λ y. y ≡ Outcome.Refused r) }
 {
     match refusal_of(message) {
         Some(refusal) => Ok(Outcome::Refused(refusal)),
@@ -98,7 +98,7 @@ fn read_set(
     ensures fits { IfOk result (λ set. IsResult (Outcome.Rows set)) }
     ensures again { (set : ResultSet) (status : ℕ) → IsResult (Outcome.Rows set) → IsTyped (Outcome.Rows set)
         → head.now ≡ length_encoded (length set.columns) → payloads.now ≡ set_payloads end set status
-        → Gives result (λ y. y ≡ set) }
+        → OnceRead result (λ y. y ≡ set) }
 {
     let len = payloads.len();
     let Some((count, _)) = read_length_encoded(head) else {
@@ -131,7 +131,7 @@ fn packets_behind_definitions(end: SetEnd) -> usize
 fn rows(alloc: Global, columns: &[Column], payloads: &[Items<u8>]) -> Result<Items<Row>, Unread>
     ensures fits { IfOk result (λ rows. AllByRecursion (RowFits columns.now) rows) }
     ensures again { (rows : List Row) → AllByRecursion (RowFits columns.now) rows → payloads.now ≡ map row_payload rows
-        → Gives result (λ x. x ≡ rows) }
+        → OnceRead result (λ x. x ≡ rows) }
 {
     let mut rows = Items::new(alloc);
     for payload in payloads {
@@ -143,7 +143,7 @@ fn rows(alloc: Global, columns: &[Column], payloads: &[Items<u8>]) -> Result<Ite
 fn row(alloc: Global, columns: &[Column], payload: &[u8]) -> Result<Row, Unread>
     ensures fits { IfOk result (λ row. RowFits columns.now row) }
     ensures again { (row : Row) → RowFits columns.now row → payload.now ≡ row_payload row
-        → Gives result (λ x. x ≡ row) }
+        → OnceRead result (λ x. x ≡ row) }
 {
     let mut row = Items::new(alloc);
     let mut rest = payload;

@@ -1,7 +1,7 @@
 //! The payloads of a stream of packets. Their numbers aren't looked at.
 ghost use Rattle.std.specs.Prelude.{◌≡◌, ℕ, ◌<◌, ◌≤◌, List, ◌++◌, length, IfOk};
 ghost use Rattle.mysql_packet.specs.Frames.{packet, frame, frames_from, full};
-ghost use Rattle.resultset.specs.Reading.{Gives};
+ghost use Rattle.resultset.specs.inner.Reading.{OnceRead};
 
 use crate::unread::Unread;
 use std::alloc::Global;
@@ -12,7 +12,7 @@ const FULL_PART: usize = 0xFF_FFFF;
 
 /// The payloads of all of the bytes.
 pub(crate) fn payloads(alloc: Global, bytes: &[u8]) -> Result<Items<Items<u8>>, Unread>
-    ensures { (number : ℕ) (ps : List (List ℕ)) → bytes.now ≡ frames_from number ps → Gives result (λ x. x ≡ ps) }
+    ensures { (number : ℕ) (ps : List (List ℕ)) → bytes.now ≡ frames_from number ps → OnceRead result (λ x. x ≡ ps) }
 {
     let mut payloads = Items::new(alloc);
     let mut rest = bytes;
@@ -27,7 +27,7 @@ pub(crate) fn payloads(alloc: Global, bytes: &[u8]) -> Result<Items<Items<u8>>, 
 /// The payload at the front, its parts joined, and what follows it.
 fn payload_at(alloc: Global, bytes: &[u8]) -> Result<(Items<u8>, &[u8]), Unread>
     ensures again { (number : ℕ) (payload rest : List ℕ) → bytes.now ≡ frame number payload ++ rest
-        → Gives result (λ x. (x.0 ≡ payload) × (x.1.now ≡ rest)) }
+        → OnceRead result (λ x. (x.0 ≡ payload) × (x.1.now ≡ rest)) }
     ensures shorter { IfOk result (λ x. length x.1.now < length bytes.now) }
 {
     let mut payload = Vec::new(alloc);
@@ -45,7 +45,7 @@ fn payload_at(alloc: Global, bytes: &[u8]) -> Result<(Items<u8>, &[u8]), Unread>
 /// The part of the packet at the front, and what follows it.
 fn part_at(bytes: &[u8]) -> Result<(&[u8], &[u8]), Unread>
     ensures again { (number : ℕ) (part rest : List ℕ) → length part ≤ full → bytes.now ≡ packet number part ++ rest
-        → Gives result (λ x. (x.0.now ≡ part) × (x.1.now ≡ rest)) }
+        → OnceRead result (λ x. (x.0.now ≡ part) × (x.1.now ≡ rest)) }
     ensures shorter { IfOk result (λ x. length x.1.now < length bytes.now) }
 {
     let [low, middle, high, _, rest @ ..] = bytes else {

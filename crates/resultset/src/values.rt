@@ -2,7 +2,7 @@
 ghost use Rattle.std.specs.Prelude.{◌≡◌, ℤ, ◌↔◌, IsTrue, List, ℕ, ◌++◌, IfOk, Some};
 ghost use Rattle.std.specs.Fmt.{signed_decimal};
 ghost use Rattle.resultset.specs.Encoding.{FitsKind, value_bytes};
-ghost use Rattle.resultset.specs.Reading.{Gives, IsWide};
+ghost use Rattle.resultset.specs.inner.Reading.{OnceRead, IsWide};
 
 use crate::Kind;
 use crate::unread::Unread;
@@ -18,7 +18,7 @@ const SUM_BOUND: i128 = 1 << 124;
 pub(crate) fn value_at(alloc: Global, kind: Kind, bytes: &[u8]) -> Result<(Value, &[u8]), Unread>
     ensures fits { IfOk result (λ x. FitsKind kind x.0) }
     ensures again { (v : Value) (rest : List ℕ) → FitsKind kind v → bytes.now ≡ value_bytes v ++ rest
-        → Gives result (λ x. (x.0 ≡ v) × (x.1.now ≡ rest)) }
+        → OnceRead result (λ x. (x.0 ≡ v) × (x.1.now ≡ rest)) }
 {
     if let [0xFB, rest @ ..] = bytes {
         return Ok((Value::Null, rest));
@@ -32,9 +32,9 @@ pub(crate) fn value_at(alloc: Global, kind: Kind, bytes: &[u8]) -> Result<(Value
 fn value_of(alloc: Global, kind: Kind, text: &[u8]) -> Result<Value, Unread>
     ensures fits { IfOk result (λ v. FitsKind kind v) }
     ensures number { (n : ℤ) → FitsKind kind (Value.Int n) → text.now ≡ signed_decimal n
-        → Gives result (λ v. v ≡ Value.Int n) }
+        → OnceRead result (λ v. v ≡ Value.Int n) }
     ensures text { (t : List ℕ) → FitsKind kind (Value.Bytes t) → text.now ≡ t
-        → Gives result (λ v. v ≡ Value.Bytes t) }
+        → OnceRead result (λ v. v ≡ Value.Bytes t) }
 {
     if let Kind::VarBinary(most) = kind {
         if text.len() > usize::from(most) {

@@ -9,7 +9,7 @@ use Rattle.journal.proofs.Fronts.{prefix_nil, prefix_more}
 use Rattle.mysql_packet.specs.declared.framer.Payload.{Payload}
 use Rattle.mysql_packet.specs.declared.framer.Fault.{Fault}
 use Rattle.mysql_packet.specs.declared.framer.Fed.{Fed}
-use Rattle.mysql_packet.specs.Framing.{Framing, HasRead}
+use Rattle.mysql_packet.specs.Framing.{Framing, HasFramed}
 use Rattle.mysql_packet.specs.Frames.{Splits, IsRefusedAfter}
 use Rattle.resultset.specs.declared.Outcome.{Outcome}
 use Rattle.session.specs.declared.end.End.{End}
@@ -366,12 +366,12 @@ whole_end {S} terms May begin (At at) s now limit bytes out payloads (b ∷ rest
 
 -- what the clauses of the framer say, as equations
 pub fed_by : (old new : Framing) (piece : List ℕ) (fed : Fed)
-    → (IsNone fed.fault → (stream : List ℕ) (before : List Payload) → HasRead old stream before → HasRead new (stream ++ piece) (before ++ fed.payloads))
-    → IfSome fed.fault (λ f. (stream : List ℕ) (before : List Payload) → HasRead old stream before → IsRefusedAfter old.limit (stream ++ piece) (before ++ fed.payloads) f)
+    → (IsNone fed.fault → (stream : List ℕ) (before : List Payload) → HasFramed old stream before → HasFramed new (stream ++ piece) (before ++ fed.payloads))
+    → IfSome fed.fault (λ f. (stream : List ℕ) (before : List Payload) → HasFramed old stream before → IsRefusedAfter old.limit (stream ++ piece) (before ++ fed.payloads) f)
     → new.limit ≡ old.limit → FedBy old new piece fed
 fed_by old new piece fed ok refused limit = record {
   payloads = λ is. ok (subst IsNone (sym is) refl);
-  fault = λ f is. subst (λ (o : Option Fault). IfSome o (λ f. (stream : List ℕ) (before : List Payload) → HasRead old stream before → IsRefusedAfter old.limit (stream ++ piece) (before ++ fed.payloads) f)) is refused;
+  fault = λ f is. subst (λ (o : Option Fault). IfSome o (λ f. (stream : List ℕ) (before : List Payload) → HasFramed old stream before → IsRefusedAfter old.limit (stream ++ piece) (before ++ fed.payloads) f)) is refused;
   limit = limit;
 }
 

@@ -4,7 +4,7 @@ use Rattle.mysql_packet.specs.declared.framer.Payload.{Payload}
 use Rattle.mysql_packet.specs.declared.framer.Fault.{Fault}
 use Rattle.mysql_packet.specs.declared.framer.Fed.{Fed}
 use Rattle.mysql_packet.specs.Frames.{IsRefusedAfter}
-use Rattle.mysql_packet.specs.Framing.{Framing, HasRead}
+use Rattle.mysql_packet.specs.Framing.{Framing, HasFramed}
 use Rattle.resultset.specs.declared.Outcome.{Outcome}
 use Rattle.route_engine.specs.Pendings.{OpenView}
 use Rattle.session.specs.declared.end.End.{End}
@@ -29,7 +29,7 @@ pub record SessionState : Type 0 where
 pub record HasTalked {S : Type 0} (terms : Terms S) (May : S → List ℕ → Outcome → S → Type 0) (begin : Standing) (s : SessionState) (first : S) (bytes out : List ℕ) (now : S) : Type 0 where
   pub payloads : List Payload
   pub goes_on : end_of s.standing ≡ None
-  pub read : HasRead s.framing bytes payloads
+  pub read : HasFramed s.framing bytes payloads
   pub replies : Conversation terms May begin first payloads out s.standing now
 
 -- What is written for the payloads and the fault that a piece gave, and how the session then stands.
@@ -53,7 +53,7 @@ pub record IsNext (old new : SessionState) : Type 0 where
 
 -- What its framer says of a piece: these payloads and the fault behind them, however the stream was cut before.
 pub record FedBy (old new : Framing) (piece : List ℕ) (fed : Fed) : Type 0 where
-  pub payloads : fed.fault ≡ None → (stream : List ℕ) (before : List Payload) → HasRead old stream before → HasRead new (stream ++ piece) (before ++ fed.payloads)
-  pub fault : (f : Fault) → fed.fault ≡ Some f → (stream : List ℕ) (before : List Payload) → HasRead old stream before
+  pub payloads : fed.fault ≡ None → (stream : List ℕ) (before : List Payload) → HasFramed old stream before → HasFramed new (stream ++ piece) (before ++ fed.payloads)
+  pub fault : (f : Fault) → fed.fault ≡ Some f → (stream : List ℕ) (before : List Payload) → HasFramed old stream before
       → IsRefusedAfter old.limit (stream ++ piece) (before ++ fed.payloads) f
   pub limit : new.limit ≡ old.limit

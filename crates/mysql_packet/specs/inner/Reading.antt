@@ -11,20 +11,20 @@ abbrev pub size_of : ℕ → ℕ → ℕ
 size_of come len = come * (full + 4) + 4 + len
 
 -- the parts behind their headers, joined
-unfoldable pub joined : ℕ → ℕ → List ℕ → List ℕ
-joined zero len bytes = take len (drop 4 bytes)
-joined (suc come) len bytes = take full (drop 4 bytes) ++ joined come len (drop full (drop 4 bytes))
+unfoldable pub payload_at : ℕ → ℕ → List ℕ → List ℕ
+payload_at zero len bytes = take len (drop 4 bytes)
+payload_at (suc come) len bytes = take full (drop 4 bytes) ++ payload_at come len (drop full (drop 4 bytes))
 
 -- the next header, and the bytes behind it
-pub record IsNext (len number : ℕ) (body rest : List ℕ) : Type 0 where
+pub record IsNextHeader (len number : ℕ) (body rest : List ℕ) : Type 0 where
   pub spelled : rest ≡ header len number ++ body
   pub len_small : len < 2 ^ 24
   pub number_small : number < 256
 
 -- a payload of the limit stands at the front
 pub record HasPayload (limit first come len : ℕ) (bytes : List ℕ) : Type 0 where
-  pub whole : bytes ≡ frame first (joined come len bytes) ++ drop (size_of come len) bytes
-  pub length_is : length (joined come len bytes) ≡ come * full + len
+  pub whole : bytes ≡ frame first (payload_at come len bytes) ++ drop (size_of come len) bytes
+  pub length_is : length (payload_at come len bytes) ≡ come * full + len
   pub fits : size_of come len ≤ length bytes
   pub within : come * full + len ≤ limit
   pub in_range : (first < 256) × (len < full)
@@ -47,7 +47,7 @@ IsFront limit bytes (Refused fault) = HasFault limit fault bytes
 IsFront limit bytes (Whole first come len) = HasPayload limit first come len bytes
 
 -- the payloads at the front, and behind them less than one more, or a fault
-abbrev pub Takes : ℕ → List ℕ → Taken → Type 0
-Takes limit bytes taken =
+abbrev pub TakesPayloads : ℕ → List ℕ → Taken → Type 0
+TakesPayloads limit bytes taken =
     (taken.used ≤ length bytes)
     × MatchOption taken.fault (Splits limit bytes taken.payloads (drop taken.used bytes)) (IsRefusedAfter limit bytes taken.payloads)

@@ -9,9 +9,9 @@ IsMemory OutOfMemory = Unit {0}
 IsMemory Malformed = ⊥
 
 -- What was read has this property, unless memory ran out.
-abbrev pub Gives : {X : Type 0} → Result X Unread → (X → Type 0) → Type 0
-Gives (Ok x) P = P x
-Gives (Err e) P = IsMemory e
+abbrev pub OnceRead : {X : Type 0} → Result X Unread → (X → Type 0) → Type 0
+OnceRead (Ok x) P = P x
+OnceRead (Err e) P = IsMemory e
 
 -- a number that some column may hold
 abbrev pub IsWide : ℤ → Type 0
