@@ -4,7 +4,7 @@ use Rattle.std.specs.List.{fold, AllByRecursion, AllWithin, HoldsAt}
 use Rattle.std.proofs.lemmas.Bool.{eqb-true, false≢true, true≢false, and_parts, and_from}
 use Rattle.keyrange.specs.declared.KeyRange.{KeyRange}
 use Rattle.keyrange.specs.Ranges.{is_before, is_before_end, has_id, IsByteString, Cover}
-use Rattle.keyrange.specs.Covers.{is_in_one, is_end_in_one, has_edges_in_one, HasByteEdges}
+use Rattle.keyrange.specs.inner.Covers.{is_in_one, is_end_in_one, has_edges_in_one, HasByteEdges}
 use Rattle.keyrange.proofs.Order.{one_way, up, itself, below, never_before}
 
 all_join : {X : Type 0} (P : X → Type 0) (xs ys : List X) → AllByRecursion P xs → AllByRecursion P ys → AllByRecursion P (xs ++ ys)

@@ -10,7 +10,7 @@ use Rattle.std.proofs.lemmas.Cmp.{nat_list_cmp_total}
 use Rattle.std.proofs.lemmas.List.Sorted.{ranks_by}
 use Rattle.keyrange.specs.declared.KeyRange.{KeyRange}
 use Rattle.keyrange.specs.Ranges.{is_less, is_before, is_before_end, has_id, IsByteString, Overlap}
-use Rattle.keyrange.specs.Covers.{later}
+use Rattle.keyrange.specs.inner.Covers.{later}
 
 less_is : (o : Ordering) → is_less o ≡ is_lt o
 less_is Less = refl

@@ -1,6 +1,6 @@
 ghost use Rattle.std.specs.Prelude.{◌≡◌, ◌↔◌, IsTrue};
 ghost use Rattle.keyrange.specs.Ranges.{is_before, has_id, Overlap, Cover};
-ghost use Rattle.keyrange.specs.Covers.{later, is_in_one, has_edges_in_one, HasByteEdges};
+ghost use Rattle.keyrange.specs.inner.Covers.{later, is_in_one, has_edges_in_one, HasByteEdges};
 
 use crate::{Edge, KeyRange};
 

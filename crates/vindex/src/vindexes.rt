@@ -1,9 +1,9 @@
 ghost use Rattle.std.specs.Prelude.{◌≡◌, ℕ, ◌<◌, ◌^◌, ⊤, List, Option, Some, IfSome};
 ghost use Rattle.md5.specs.Md5.{md5};
-ghost use Rattle.vindex.specs.Keys.{number_of, reversed_number_of};
+ghost use Rattle.vindex.specs.Keys.{key_number, reversed_number_of};
 ghost use Rattle.vindex.specs.KeyspaceIds.{numeric, reversed};
 ghost use Rattle.vindex.specs.Ksids.{ksid_bytes};
-ghost use Rattle.vindex.specs.Reversal.{numeric_back, reversed_back};
+ghost use Rattle.vindex.specs.inner.Reversal.{numeric_back, reversed_back};
 
 use crate::ksid::Ksid;
 use md5::{Digest, Md5};
@@ -89,7 +89,7 @@ impl Vindex for Numeric {
 }
 
 impl Reversible for Numeric {
-    ghost key_of = { number_of };
+    ghost key_of = { key_number };
 
     ghost back = { numeric_back };
 
@@ -159,7 +159,7 @@ impl Vindex for BinaryMd5 {
 
 // The number of 8 bytes, the highest first.
 fn number_of(bytes: &[u8]) -> Option<u64>
-    ensures number { result ≡ number_of bytes.now }
+    ensures number { result ≡ key_number bytes.now }
     ensures only { IfSome result (λ number. numeric number ≡ bytes.now) }
 {
     match bytes {

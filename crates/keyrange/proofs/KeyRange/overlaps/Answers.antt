@@ -1,6 +1,6 @@
 -- Ranges that share an id share the later one of their begins.
 use Rattle.std.proofs.Common.{◌≡◌}
-use Rattle.keyrange.specs.Covers.{later}
+use Rattle.keyrange.specs.inner.Covers.{later}
 use Rattle.keyrange.proofs.Order.{overlap_then, overlap_else}
 use Rattle.keyrange.proofs.KeyRange.overlaps.Goals as goal
 

@@ -1,7 +1,7 @@
 -- A number whose bits are reversed twice is the number, whose bytes are the id's.
 use Rattle.std.proofs.Common.{◌∙◌, ap, arith}
 use Rattle.vindex.specs.KeyspaceIds.{reversed}
-use Rattle.vindex.specs.Reversal.{reversed_again}
+use Rattle.vindex.specs.inner.Reversal.{reversed_again}
 use Rattle.vindex.proofs.vindexes.ReverseBitsReversible.reverse.Goals as goal
 
 pub returns-clause-only : goal.returns-clause-only

@@ -5,7 +5,7 @@ use Rattle.std.specs.Int.{w64, reverse_bits, reverse_bits_onto}
 use Rattle.std.proofs.Math.Nat.{pow-suc}
 use Rattle.std.proofs.lemmas.Nat.{from_be_bytes-to_be_bytes_8}
 use Rattle.vindex.specs.KeyspaceIds.{numeric, reversed}
-use Rattle.vindex.specs.Keys.{number_of, reversed_number_of}
+use Rattle.vindex.specs.Keys.{key_number, reversed_number_of}
 
 -- the lowest k bits in reverse
 abbrev pub r : ℕ → ℕ → ℕ
@@ -65,7 +65,7 @@ twice (suc k) n h =
     ∙ high k (n % 2) (r k (n / 2)) (omega arith) (bound k (n / 2))
     ∙ rw (twice k (n / 2) (half_below k n h)) (omega arith)
 
-pub numeric_back : (n : ℕ) → n < 2 ^ 64 → number_of (numeric n) ≡ Some n
+pub numeric_back : (n : ℕ) → n < 2 ^ 64 → key_number (numeric n) ≡ Some n
 numeric_back n h = ap Some (from_be_bytes-to_be_bytes_8 n h)
 
 pub reversed_back : (n : ℕ) → n < 2 ^ 64 → reversed_number_of (reversed n) ≡ Some n
