@@ -14,7 +14,7 @@ use Rattle.atomic_table.specs.Table.{State, Me, step, keeps, Allows, Splits, Joi
 use Rattle.atomic_table.proofs.Lists.{at_set}
 use Rattle.journal.specs.declared.rule.View.{View}
 use Rattle.journal.specs.Runs.{IsLegal}
-use Rattle.journal.specs.Rules.{Key, slot, session, Owns, NoOverlap, knower, under, many, Fits, IsKept, Kept, Goes, Looks, Settles, Appends}
+use Rattle.journal.specs.Rules.{Key, slot, session, Owns, NoneLentIsOwn, knower, under, many, IsViewOf, IsRunOf, HasRun, Goes, Looks, Settles, Appends}
 use Rattle.journal.proofs.Fronts.{prefix_self, prefix_nil, prefix_more, prefix_either, legal_prefix, legal_snoc}
 use Rattle.journal.proofs.Counts.{bool_cases, count_between, count_yes, count_no}
 
@@ -29,7 +29,7 @@ module _ {E : Type 0} where
   knower_owns run looks (slot i) h = omega (arith, h.1)
   knower_owns run looks (session n) h = ⊎_elim (λ (x : (0 ≤ n) × (n < 0)). absurd (omega (arith, x.1))) (λ (x : (0 ≤ n) × (n < 0)). absurd (omega (arith, x.1))) h
 
-  pub knower_apart : (run : List E) (looks : List (ℕ × ℕ)) → NoOverlap (knower run looks)
+  pub knower_apart : (run : List E) (looks : List (ℕ × ℕ)) → NoneLentIsOwn (knower run looks)
   knower_apart run looks n a b = omega (arith, b.1)
 
   abbrev All : (ℕ → View E → Type 0) → List (View E) → Type 0
@@ -79,13 +79,13 @@ module _ {E : Type 0} (slot_of : E → ℕ) (commit_of : E → Option (ℕ × �
   U = under slot_of commit_of may
 
   abbrev F : List E → View E → Type 0
-  F = Fits slot_of commit_of may
+  F = IsViewOf slot_of commit_of may
 
   abbrev K : List ℕ → List (View E) → List E → Type 0
-  K = IsKept slot_of commit_of may
+  K = IsRunOf slot_of commit_of may
 
   abbrev Holds : State E (View E) → Type 0
-  Holds = Kept slot_of commit_of may
+  Holds = HasRun slot_of commit_of may
 
   kept_set : (words : List ℕ) (views : List (View E)) (run : List E) (id : ℕ) (v w : View E) → K words views run → get_elem? views id ≡ some v
       → ((k : Key) → Owns w k → Owns v k) → F run w → K words (set views id w) run
@@ -173,7 +173,7 @@ module _ {E : Type 0} (slot_of : E → ℕ) (commit_of : E → Option (ℕ × �
     apart = f.apart;
   }
 
-  fits_whole : (run : List E) (v : View E) → NoOverlap v → F run (up_to v run)
+  fits_whole : (run : List E) (v : View E) → NoneLentIsOwn v → F run (up_to v run)
   fits_whole run v apart = record { seen = prefix_self run; told = prefix_nil run; covers = λ k o. refl; apart = apart }
 
   counts_more : (words : List ℕ) (run : List E) (i n : ℕ) (e : E) → length words ≡ 64 → i < 64 → slot_of e ≡ i → n ≡ M (slot i) run
@@ -230,7 +230,7 @@ module _ {E : Type 0} (slot_of : E → ℕ) (commit_of : E → Option (ℕ × �
   -- a view is cut in two that share no right
   pub splits : (id : ℕ) (v l r : View E) → l.seen ≡ v.seen → l.told ≡ v.told → r.seen ≡ v.seen → r.told ≡ [] → ((k : Key) → Owns l k → Owns v k)
       → ((k : Key) → Owns r k → Owns v k)
-      → ((k : Key) → Owns l k → Owns r k → ⊥) → (NoOverlap v → NoOverlap l) → NoOverlap r → Splits Holds id v l r
+      → ((k : Key) → Owns l k → Owns r k → ⊥) → (NoneLentIsOwn v → NoneLentIsOwn l) → NoneLentIsOwn r → Splits Holds id v l r
   splits id v l r l_seen l_told r_seen r_told l_less r_less two l_apart r_apart s h at =
       let run = h.0 in
       let k = h.1 in
@@ -267,7 +267,7 @@ module _ {E : Type 0} (slot_of : E → ℕ) (commit_of : E → Option (ℕ × �
   -- a view takes in another's rights, or what it has seen
   pub joins : (id : ℕ) (v : View E) (other : ℕ) (w b : View E) → ((b.seen ≡ v.seen) ⊎ (b.seen ≡ w.seen)) → IsPrefix v.seen b.seen → ((b.told ≡ []) ⊎ (b.told ≡ w.seen))
       → ((k : Key) → Owns b k → (Owns v k) ⊎ (Owns w k × IsPrefix w.seen b.seen))
-      → (NoOverlap v → ((k : Key) → Owns v k → Owns w k → ⊥) → NoOverlap b) → Joins Holds id v other w b (knower [] [])
+      → (NoneLentIsOwn v → ((k : Key) → Owns v k → Owns w k → ⊥) → NoneLentIsOwn b) → Joins Holds id v other w b (knower [] [])
   joins id v other w b b_seen longer b_told rights b_apart s h at two there =
       let run = h.0 in
       let k = h.1 in

@@ -3,9 +3,9 @@ use Rattle.std.proofs.Common.{◌≡◌, ◌≤◌, ◌⊎◌, ℕ, ◌<◌, Lis
 use mathlib.Core.List.{IsPrefix}
 use Rattle.atomic_table.specs.Table.{State, Splits, Joins}
 use Rattle.journal.specs.declared.rule.View.{View}
-use Rattle.journal.specs.Rules.{Key, slot, session, Owns, NoOverlap, holding, without_held, held_of, knower, noted, look_noted}
+use Rattle.journal.specs.Rules.{Key, slot, session, Owns, NoneLentIsOwn, holding, without_held, held_of, knower, noted, look_noted}
 use Rattle.journal.specs.Rules.{hears, hears_looks, without_sessions, sessions_of, borrows, returns}
-use Rattle.journal.specs.Rules.{later_sessions, first_session, later_slots, first_slot, Kept}
+use Rattle.journal.specs.Rules.{later_sessions, first_session, later_slots, first_slot, HasRun}
 use Rattle.journal.proofs.Fronts.{prefix_self}
 use Rattle.journal.proofs.Keeps.{knower_owns, knower_apart, splits, joins}
 
@@ -22,7 +22,7 @@ module _ {E : Type 0} where
   hears_looks_owns v w (slot i) o = o
   hears_looks_owns v w (session n) o = o
 
-  no_held : (v : View E) → v.held_end ≡ 0 → NoOverlap v
+  no_held : (v : View E) → v.held_end ≡ 0 → NoneLentIsOwn v
   no_held v e n a b = omega (arith, b.1, e)
 
   borrows_owns : (v w : View E) → IsPrefix w.seen v.seen → (k : Key) → Owns (borrows v w) k → (Owns v k) ⊎ (Owns w k × IsPrefix w.seen v.seen)
@@ -33,7 +33,7 @@ module _ {E : Type 0} where
   holding_owns v w p (slot i) o = inl o
   holding_owns v w p (session n) o = ⊎_elim (λ x. inl (inl x)) (λ x. inr (inl x, p)) o
 
-  holding_apart : (v w : View E) → ((k : Key) → Owns v k → Owns w k → ⊥) → NoOverlap (holding v w)
+  holding_apart : (v w : View E) → ((k : Key) → Owns v k → Owns w k → ⊥) → NoneLentIsOwn (holding v w)
   holding_apart v w two n a b = two (session n) (inl a) (inl b)
 
   returns_owns : (v w : View E) (k : Key) → Owns (returns v w) k → (Owns v k) ⊎ (Owns w k × IsPrefix w.seen w.seen)
@@ -60,7 +60,7 @@ module _ {E : Type 0} where
   held_less v (slot i) o = absurd (omega (arith, o.1))
   held_less v (session n) o = ⊎_elim (λ x. inr x) (λ x. absurd (none_in n x)) o
 
-  held_apart : (v : View E) → NoOverlap v → (k : Key) → Owns (without_held v) k → Owns (held_of v) k → ⊥
+  held_apart : (v : View E) → NoneLentIsOwn v → (k : Key) → Owns (without_held v) k → Owns (held_of v) k → ⊥
   held_apart v apart (slot i) o p = omega (arith, p.1)
   held_apart v apart (session n) o p = ⊎_elim (λ x. ⊎_elim (λ y. apart n x y) (λ y. none_in n y) p) (λ x. none_in n x) o
 
@@ -90,7 +90,7 @@ module _ {E : Type 0} where
 
 module _ {E : Type 0} (slot_of : E → ℕ) (commit_of : E → Option (ℕ × ℕ)) (may : List E → E → Type 0) where
   abbrev Holds : State E (View E) → Type 0
-  Holds = Kept slot_of commit_of may
+  Holds = HasRun slot_of commit_of may
 
   pub notes : (id : ℕ) (v : View E) → Splits Holds id v v (noted v)
   notes id v =
@@ -123,7 +123,7 @@ module _ {E : Type 0} (slot_of : E → ℕ) (commit_of : E → Option (ℕ × �
   held id v other w p =
       joins slot_of commit_of may id v other w (holding v w) (inl refl) (prefix_self v.seen) (inl refl) (holding_owns v w p) (λ _ two. holding_apart v w two)
 
-  pub lets_go : (id : ℕ) (v : View E) → NoOverlap v → Splits Holds id v (without_held v) (held_of v)
+  pub lets_go : (id : ℕ) (v : View E) → NoneLentIsOwn v → Splits Holds id v (without_held v) (held_of v)
   lets_go id v apart =
       splits slot_of commit_of may id v (without_held v) (held_of v) refl refl refl refl (without_held_less v) (held_less v) (held_apart v apart)
       (λ _. no_held (without_held v) refl) (no_held (held_of v) refl)

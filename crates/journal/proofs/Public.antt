@@ -11,8 +11,10 @@ use mathlib.Core.List.{IsPrefix}
 use Rattle.atomic_table.specs.Table.{Me}
 use Rattle.journal.specs.declared.rule.View.{View}
 use Rattle.journal.specs.Runs.{IsLegal, on_slot, of_session, number_of, by_session, NumbersBelow}
-use Rattle.journal.specs.Rules.{slot, session, Owns, Grows, first_session, seeing, looking}
-use Rattle.journal.specs.Held.{OfNumber, IsPass, IsSeat, IsEntitled, pass_view, seat_view}
+use Rattle.journal.specs.Rules.{slot, session, Owns, first_session, seeing}
+use Rattle.journal.specs.inner.Steps.{Grows, looking}
+use Rattle.journal.specs.Held.{OfNumber, IsPass, IsSeat, pass_view, seat_view}
+use Rattle.journal.specs.inner.Steps.{IsEntitled}
 use Rattle.journal.specs.Views.{PassView, SeatView, IsLater, IsLonger, fresh_seats}
 use Rattle.journal.proofs.Counts.{count-append}
 use Rattle.journal.proofs.Fronts.{prefix_trans}

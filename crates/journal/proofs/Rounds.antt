@@ -6,8 +6,9 @@ use mathlib.Core.Option.{some, some-injective}
 use Rattle.atomic_table.specs.Table.{Me, step}
 use Rattle.journal.specs.declared.rule.View.{View}
 use Rattle.journal.specs.Rules.{Key, slot, session, Owns, noted, look_noted, hears, hears_looks, seeing, without_sessions, sessions_of, holding}
-use Rattle.journal.specs.Rules.{without_held, held_of, NoOverlap, first_session, borrows, returns, under, many, Goes, Grows, Appends}
-use Rattle.journal.specs.Held.{settled, looked, Agrees, LooksBoth, AppendsBoth, IsEntitled, MayPut, Puts, IsPlain, NoneHeld, NoCommon}
+use Rattle.journal.specs.Rules.{without_held, held_of, NoneLentIsOwn, first_session, borrows, returns, under, many, Goes, Appends}
+use Rattle.journal.specs.inner.Steps.{Grows}
+use Rattle.journal.specs.inner.Steps.{settled, looked, Agrees, LooksBoth, AppendsBoth, IsEntitled, MayPut, PutsEntry, IsPlain, NoneHeld, NoCommon}
 use Rattle.journal.proofs.Fronts.{prefix_self, prefix_trans, prefix_both, prefix_more}
 
 module _ {E : Type 0} where
@@ -120,13 +121,13 @@ module _ {E : Type 0} (slot_of : E → ℕ) (commit_of : E → Option (ℕ × �
 
   pub appends_both : (i : ℕ) (e : E) (a b a1 b1 a2 b2 a3 a4 b4 : Me E (View E)) → IsEntitled slot_of commit_of may i e a.0 b.0
       → Agrees slot_of commit_of may a b a1 b1 → b2 ≡ (without_sessions b1.0, b1.1) → a2 ≡ (borrows a1.0 (sessions_of b1.0), a1.1)
-      → Puts slot_of commit_of may e a2 a3 → a4 ≡ (without_sessions a3.0, a3.1) → b4 ≡ (returns b2.0 (sessions_of a3.0), b2.1)
+      → PutsEntry slot_of commit_of may e a2 a3 → a4 ≡ (without_sessions a3.0, a3.1) → b4 ≡ (returns b2.0 (sessions_of a3.0), b2.1)
       → AppendsBoth slot_of commit_of may e a b a4 b4
   appends_both i e a b a1 b1 a2 b2 a3 a4 b4 t g b2_eq a2_eq put a4_eq b4_eq =
       let s = g.0 in
       let a2_is : a2 ≡ (joint a.0 b.0 s, a.1) = a2_eq ∙ ap₂ (λ (x y : Me E (View E)). let r : Me E (View E) = (borrows x.0 (sessions_of y.0), x.1) in r) g.1 g.2 in
       let b2_is : b2 ≡ (without_sessions (seeing b.0 s), b.1) = b2_eq ∙ ap (λ (x : Me E (View E)). let r : Me E (View E) = (without_sessions x.0, x.1) in r) g.2 in
-      let p = subst (λ (z : Me E (View E)). Puts slot_of commit_of may e z a3) a2_is put in
+      let p = subst (λ (z : Me E (View E)). PutsEntry slot_of commit_of may e z a3) a2_is put in
       let run = p.0 in
       let all : List E = run ++ e ∷ [] in
       let a4_is : a4 ≡ (without_sessions (seeing (joint a.0 b.0 s) all), a.1) =
@@ -168,7 +169,7 @@ module _ {E : Type 0} (slot_of : E → ℕ) (commit_of : E → Option (ℕ × �
       (here ∙ ap (λ (z : Me E (View E)). many slot_of commit_of may (slot i) z.0.seen) (sym is), subst (λ (n : ℕ). n < 2 ^ 63) (sym same) low)
 
   pub returns_seen : (e : E) (a b a1 b1 a2 b2 a3 : Me E (View E)) → Agrees slot_of commit_of may a b a1 b1 → b2 ≡ (without_sessions b1.0, b1.1)
-      → a2 ≡ (borrows a1.0 (sessions_of b1.0), a1.1) → Puts slot_of commit_of may e a2 a3 → IsPrefix b2.0.seen a3.0.seen
+      → a2 ≡ (borrows a1.0 (sessions_of b1.0), a1.1) → PutsEntry slot_of commit_of may e a2 a3 → IsPrefix b2.0.seen a3.0.seen
   returns_seen e a b a1 b1 a2 b2 a3 g b2_eq a2_eq put =
       let seen : Me E (View E) → List E = λ z. z.0.seen in
       let same : a2.0.seen ≡ b2.0.seen = ap seen a2_eq ∙ ap seen g.1 ∙ sym (ap seen b2_eq ∙ ap seen g.2) in
@@ -177,10 +178,10 @@ module _ {E : Type 0} (slot_of : E → ℕ) (commit_of : E → Option (ℕ × �
 
   -- the exchange is told of the entry that it was called with
   pub puts : (slots i old new found : ℕ) (e : E) (m n : Me E (View E)) → Appends slot_of commit_of may (step slots i old new (some e)) m found n
-      → Puts slot_of commit_of may e m n
+      → PutsEntry slot_of commit_of may e m n
   puts slots i old new found e m n h =
       let same : e ≡ h.1 = some-injective e h.1 h.2 in
-      subst (λ (x : E). Puts slot_of commit_of may x m n) (sym same) (h.0, h.3, h.4, h.5)
+      subst (λ (x : E). PutsEntry slot_of commit_of may x m n) (sym same) (h.0, h.3, h.4, h.5)
 
   -- a seat that was opened has seen what its parent has
   pub opened : (i found : ℕ) (v p : View E) (m n : Me E (View E)) → v.seen ≡ [] → m ≡ (hears (first_session v) (noted p), []) → S i m found n
@@ -195,7 +196,7 @@ module _ {E : Type 0} (slot_of : E → ℕ) (commit_of : E → Option (ℕ × �
 
   -- a seat that was lent another's sessions was told that they aren't its own
   pub beside : (i found : ℕ) (a b a1 a2 : Me E (View E)) → a1 ≡ (holding a.0 (sessions_of b.0), a.1) → S i a1 found a2
-      → (a2 ≡ (holding a.0 (sessions_of b.0), a.1)) × NoOverlap (holding a.0 (sessions_of b.0))
+      → (a2 ≡ (holding a.0 (sessions_of b.0), a.1)) × NoneLentIsOwn (holding a.0 (sessions_of b.0))
   beside i found a b a1 a2 is x =
       let h = subst (λ (z : Me E (View E)). S i z found a2) is x in
       let run = h.0 in
@@ -204,8 +205,8 @@ module _ {E : Type 0} (slot_of : E → ℕ) (commit_of : E → Option (ℕ × �
       (λ (e : run ≡ []). sym (prefix_both a.0.seen run h.2.seen (subst (λ (r : List E). IsPrefix r a.0.seen) (sym e) (a.0.seen, refl)))) h.3 in
       (subst (λ (r : List E). a2 ≡ (seeing (holding a.0 (sessions_of b.0)) r, a.1)) same h.1, h.5)
 
-  pub lets_go_after : (i found : ℕ) (a b a1 a2 : Me E (View E)) → a1 ≡ (holding a.0 (sessions_of b.0), a.1) → S i a1 found a2 → NoOverlap a2.0
-  lets_go_after i found a b a1 a2 is x = let h = beside i found a b a1 a2 is x in subst (λ (z : Me E (View E)). NoOverlap z.0) (sym h.0) h.1
+  pub lets_go_after : (i found : ℕ) (a b a1 a2 : Me E (View E)) → a1 ≡ (holding a.0 (sessions_of b.0), a.1) → S i a1 found a2 → NoneLentIsOwn a2.0
+  lets_go_after i found a b a1 a2 is x = let h = beside i found a b a1 a2 is x in subst (λ (z : Me E (View E)). NoneLentIsOwn z.0) (sym h.0) h.1
 
   pub let_go_seen : (i found : ℕ) (a b a1 a2 b1 r : Me E (View E)) → b.0.seen ≡ a.0.seen → b1 ≡ (without_sessions b.0, b.1)
       → a1 ≡ (holding a.0 (sessions_of b.0), a.1) → S i a1 found a2 → r ≡ (held_of a2.0, []) → IsPrefix b1.0.seen r.0.seen

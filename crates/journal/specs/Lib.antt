@@ -4,3 +4,4 @@ pub mod Rules
 pub mod Views
 pub mod Laws
 pub mod Held
+pub mod inner

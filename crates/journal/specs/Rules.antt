@@ -20,8 +20,8 @@ module _ {E : Type 0} where
   Owns v (session n) = ((v.session_from ≤ n) × (n < v.session_end)) ⊎ ((v.held_from ≤ n) × (n < v.held_end))
 
   -- no session is both the seat's own and lent to it
-  abbrev pub NoOverlap : View E → Type 0
-  NoOverlap v = (n : ℕ) → (v.session_from ≤ n) × (n < v.session_end) → (v.held_from ≤ n) × (n < v.held_end) → ⊥
+  abbrev pub NoneLentIsOwn : View E → Type 0
+  NoneLentIsOwn v = (n : ℕ) → (v.session_from ≤ n) × (n < v.session_end) → (v.held_from ≤ n) × (n < v.held_end) → ⊥
 
   -- a view that has no right
   abbrev pub knower : List E → List (ℕ × ℕ) → View E
@@ -41,17 +41,9 @@ module _ {E : Type 0} where
   abbrev pub opening_view : View E
   opening_view = record (knower [] []) { slot_end = 64; session_end = 4611686018427387904 }
 
-  -- the slots before i were dealt
-  abbrev pub dealing_view : ℕ → View E
-  dealing_view i = record opening_view { slot_from = i }
-
   -- the view, which has seen the run
   abbrev pub seeing : View E → List E → View E
   seeing v run = record v { seen = run; told = [] }
-
-  -- the same, with one look more
-  abbrev pub looking : View E → ℕ → List E → View E
-  looking v i run = record v { seen = run; told = []; looks = v.looks ++ (i, length run) ∷ [] }
 
   abbrev pub noted : View E → View E
   noted v = knower v.seen []
@@ -125,23 +117,23 @@ module _ {E : Type 0} (slot_of : E → ℕ) (commit_of : E → Option (ℕ × �
   many k run = count_by (under k) run
 
   -- what was seen begins the run, and all entries that the seat has the right to were seen
-  pub record Fits (run : List E) (v : View E) : Type 0 where
+  pub record IsViewOf (run : List E) (v : View E) : Type 0 where
     pub seen : IsPrefix v.seen run
     pub told : IsPrefix v.told run
     pub covers : (k : Key) → Owns v k → many k v.seen ≡ many k run
-    pub apart : NoOverlap v
+    pub apart : NoneLentIsOwn v
 
   -- one legal run, which each word counts on its slot and each view begins. No two seats have one right
-  pub record IsKept (words : List ℕ) (views : List (View E)) (run : List E) : Type 0 where
+  pub record IsRunOf (words : List ℕ) (views : List (View E)) (run : List E) : Type 0 where
     pub legal : IsLegal may run
     pub long : length words ≡ 64
     pub counts : (i : ℕ) → i < 64 → slice_index words i ≡ many (slot i) run
-    pub fits : (j : ℕ) (v : View E) → get_elem? views j ≡ some v → Fits run v
+    pub fits : (j : ℕ) (v : View E) → get_elem? views j ≡ some v → IsViewOf run v
     pub apart : (j k : ℕ) (v w : View E) (key : Key) → get_elem? views j ≡ some v → get_elem? views k ≡ some w
         → Owns v key → Owns w key → j ≡ k
 
-  abbrev pub Kept : State E (View E) → Type 0
-  Kept s = (run : List E) × IsKept s.words s.views run
+  abbrev pub HasRun : State E (View E) → Type 0
+  HasRun s = (run : List E) × IsRunOf s.words s.views run
 
   -- what is then seen is legal, begins with all that was seen and told, and has no more entries that the seat has the
   -- right to
@@ -149,12 +141,6 @@ module _ {E : Type 0} (slot_of : E → ℕ) (commit_of : E → Option (ℕ × �
     pub legal : IsLegal may run
     pub seen : IsPrefix v.seen run
     pub told : IsPrefix v.told run
-    pub covers : (k : Key) → Owns v k → many k run ≡ many k v.seen
-
-  -- a legal run that begins with what was seen, and has no more entries that the seat has the right to
-  pub record Grows (v : View E) (run : List E) : Type 0 where
-    pub legal : IsLegal may run
-    pub seen : IsPrefix v.seen run
     pub covers : (k : Key) → Owns v k → many k run ≡ many k v.seen
 
   -- the run was seen as it is
@@ -166,7 +152,7 @@ module _ {E : Type 0} (slot_of : E → ℕ) (commit_of : E → Option (ℕ × �
   abbrev pub Settles : Step E → Me E (View E) → ℕ → Me E (View E) → Type 0
   Settles s m found n =
       (run : List E) × (n ≡ (seeing m.0 run, m.1)) × Goes m.0 run × ((run ≡ m.0.seen) ⊎ (run ≡ m.0.told))
-      × (Owns m.0 (slot s.word) → found ≡ many (slot s.word) run) × NoOverlap m.0
+      × (Owns m.0 (slot s.word) → found ≡ many (slot s.word) run) × NoneLentIsOwn m.0
 
   -- the entry came next after a run that begins with what was seen
   abbrev pub Appends : Step E → Me E (View E) → ℕ → Me E (View E) → Type 0

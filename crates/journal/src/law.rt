@@ -25,7 +25,7 @@ pub trait Naming {
 }
 
 impl Naming for Brand {
-    ghost use Rattle.journal.specs.Names.{no_table};
+    ghost use Rattle.journal.specs.Names.{no_table_id};
 
-    ghost table = { no_table };
+    ghost table = { no_table_id };
 }

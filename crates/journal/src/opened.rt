@@ -39,7 +39,7 @@ impl<L: Law> Model for Opened<L> {
 }
 
 impl<L: Law> Opened<L> {
-    ghost use Rattle.journal.specs.Rules.{dealing_view};
+    ghost use Rattle.journal.specs.inner.Steps.{dealing_view};
     ghost use Rattle.journal.specs.Views.{new_pass, fresh_seats};
 
     /// Opens a table, each word 0. It refuses `OutOfMemory` where no block is given.

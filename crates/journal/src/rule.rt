@@ -25,9 +25,9 @@ pub struct Rule<L> {
 }
 
 impl<L: Law> TableRule<L::Entry, View<L::Entry>, ()> for Rule<L> {
-    ghost use Rattle.journal.specs.Rules.{Kept, opening_view};
+    ghost use Rattle.journal.specs.Rules.{HasRun, opening_view};
 
-    ghost holds = { λ _. Kept L.slot_of L.commit_of L.may_follow };
+    ghost holds = { λ _. HasRun L.slot_of L.commit_of L.may_follow };
 
     ghost first = { λ _. opening_view };
 }

@@ -24,11 +24,12 @@ pub(crate) struct Words<L: Law, J: Naming> {
 
 impl<L: Law, J: Naming> Words<L, J> {
     ghost use Rattle.journal.specs.Runs.{on_slot};
-    ghost use Rattle.journal.specs.Rules.{noted, look_noted, seeing, Grows, hears, hears_looks, borrows, returns};
+    ghost use Rattle.journal.specs.Rules.{noted, look_noted, seeing, hears, hears_looks, borrows, returns};
+    ghost use Rattle.journal.specs.inner.Steps.{Grows};
     ghost use Rattle.journal.specs.Rules.{later_sessions, first_session, later_slots, first_slot};
     ghost use Rattle.journal.specs.Rules.{without_sessions, sessions_of};
-    ghost use Rattle.journal.specs.Held.{settled, looked, Agrees, LooksBoth, AppendsBoth};
-    ghost use Rattle.journal.specs.Held.{IsEntitled, MayPut, Puts, IsPlain, NoneHeld, NoCommon};
+    ghost use Rattle.journal.specs.inner.Steps.{settled, looked, Agrees, LooksBoth, AppendsBoth};
+    ghost use Rattle.journal.specs.inner.Steps.{IsEntitled, MayPut, PutsEntry, IsPlain, NoneHeld, NoCommon};
 
     // Tells `to` what `from` has seen.
     pub(crate) fn tell(&self, from: &mut Knower<L>, to: &mut Knower<L>)
@@ -205,7 +206,7 @@ impl<L: Law, J: Naming> Words<L, J> {
         requires count { (count ≡ count_by (on_slot L.slot_of slot) seat.old.me.0.seen) × (count < 2 ^ 63) }
         requires may { MayPut L.slot_of L.commit_of L.may_follow slot entry.now seat.old.me.0 }
         ensures table { seat.new.table_id ≡ J.table }
-        ensures seen { Puts L.slot_of L.commit_of L.may_follow entry.now seat.old.me seat.new.me }
+        ensures seen { PutsEntry L.slot_of L.commit_of L.may_follow entry.now seat.old.me seat.new.me }
     {
         self.table
             .shared

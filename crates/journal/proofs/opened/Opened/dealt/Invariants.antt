@@ -1,5 +1,5 @@
 use Rattle.std.proofs.Common.{◌≡◌, []}
-use Rattle.journal.specs.Rules.{dealing_view}
+use Rattle.journal.specs.inner.Steps.{dealing_view}
 use Rattle.journal.specs.Views.{fresh_seats}
 use Rattle.journal.proofs.opened.Opened.dealt.Given as goal
 

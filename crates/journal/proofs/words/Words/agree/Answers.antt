@@ -2,7 +2,7 @@ use Rattle.std.proofs.Common.{sym, subst, ap, ◌∙◌}
 use Rattle.atomic_table.specs.Table.{Me}
 use Rattle.journal.specs.declared.rule.View.{View}
 use Rattle.journal.specs.Rules.{hears, noted}
-use Rattle.journal.specs.Held.{Agrees}
+use Rattle.journal.specs.inner.Steps.{Agrees}
 use Rattle.journal.proofs.Rounds.{agrees}
 use Rattle.journal.proofs.words.Words.agree.Goals as goal
 

@@ -2,7 +2,7 @@ use Rattle.std.proofs.Common.{sym, subst, ap, ◌∙◌}
 use Rattle.atomic_table.specs.Table.{Me}
 use Rattle.journal.specs.declared.rule.View.{View}
 use Rattle.journal.specs.Rules.{hears_looks, look_noted}
-use Rattle.journal.specs.Held.{LooksBoth}
+use Rattle.journal.specs.inner.Steps.{LooksBoth}
 use Rattle.journal.proofs.Rounds.{looks_both}
 use Rattle.journal.proofs.words.Words.look.Goals as goal
 
