@@ -12,9 +12,9 @@ use Rattle.sql_lexer.specs.declared.token.Sign as S
 use Rattle.sql_lexer.specs.declared.token.Sign.TheVariants.{LeftParenthesis, RightParenthesis, Comma, Semicolon, Star, Minus}
 use Rattle.sql_lexer.specs.declared.token.TokenKind.{TokenKind}
 use Rattle.sql_lexer.specs.declared.token.TokenKind.TheVariants.{Keyword, Word, Quoted, Number, Text, Sign, Operator}
-use Rattle.sql_lexer.specs.Lexemes.{is_blank, is_letter, is_digit, is_word_byte, is_spelling_of, is_keyword, is_word, max_word, IsBody, Spells, ends, goes_on}
+use Rattle.sql_lexer.specs.Lexemes.{is_blank, is_letter, is_digit, is_word_byte, is_spelling_of, is_keyword, is_word, max_word, IsBody, Spells, ends_token, goes_on}
 use Rattle.sql_lexer.specs.Lexemes as s
-use Rattle.sql_lexer.specs.Scanning.{Front, run, begins, word_kind, keyword_at, word_at, number_at, quoted_at, text_len, text_at, sign_at, less_at, greater_at, bang_at, operator_at, mark_of, mark_at, token_at}
+use Rattle.sql_lexer.specs.inner.Scanning.{Front, run, first_passes, word_kind, keyword_at, word_at, digits_at, quoted_at, text_len, string_at, sign_at, less_at, greater_at, bang_at, operator_at, mark_of, mark_at, token_at}
 use Rattle.sql_lexer.proofs.Options.{some_is, bind_some, guard_some, unless_some}
 use Rattle.sql_lexer.proofs.Keywords.{keyword_is_word, keyword_again, keyword_sound, no_keyword_sound, no_keyword_again}
 use Rattle.sql_lexer.proofs.Runs.{run_within, run_passes, run_stops, run_exact}
@@ -43,11 +43,11 @@ letter_no_quote b c other h = ne_eqb b c (λ e. let is : is_letter c ≡ true = 
 digit_no_quote : (b c : ℕ) → is_digit c ≡ false → is_digit b ≡ true → eqb b c ≡ false
 digit_no_quote b c other h = ne_eqb b c (λ e. let is : is_digit c ≡ true = subst (λ (x : ℕ). is_digit x ≡ true) e h in cc)
 
-ends_before : (kind : TokenKind) (p : ℕ → Bool) → ((b : ℕ) → goes_on kind b ≡ p b) → (rest : List ℕ) → begins p rest ≡ false → ends kind rest ≡ true
+ends_before : (kind : TokenKind) (p : ℕ → Bool) → ((b : ℕ) → goes_on kind b ≡ p b) → (rest : List ℕ) → first_passes p rest ≡ false → ends_token kind rest ≡ true
 ends_before kind p same [] h = refl
 ends_before kind p same (b ∷ rest) h = rw (same b, h) refl
 
-begins_none : (kind : TokenKind) (p : ℕ → Bool) → ((b : ℕ) → goes_on kind b ≡ p b) → (rest : List ℕ) → ends kind rest ≡ true → begins p rest ≡ false
+begins_none : (kind : TokenKind) (p : ℕ → Bool) → ((b : ℕ) → goes_on kind b ≡ p b) → (rest : List ℕ) → ends_token kind rest ≡ true → first_passes p rest ≡ false
 begins_none kind p same [] h = refl
 begins_none kind p same (b ∷ rest) h = go (p b) (subst (λ (x : Bool). not x ≡ true) (same b) h)
   where
@@ -67,9 +67,9 @@ pub record Found (bs : List ℕ) (x : Front) : Type 0 where
   pub parts : bs ≡ front ++ rest
   pub size : x.1 ≡ length front
   pub spells : Spells front x.0
-  pub ended : ends x.0 rest ≡ true
+  pub ended : ends_token x.0 rest ≡ true
 
-pub ends_quoted : (rest : List ℕ) → ends Quoted rest ≡ true
+pub ends_quoted : (rest : List ℕ) → ends_token Quoted rest ≡ true
 ends_quoted [] = refl
 ends_quoted (b ∷ rest) = refl
 
@@ -90,7 +90,7 @@ kind_spells : (word : List ℕ) (o : Option K.Keyword) → keyword_at word ≡ o
 kind_spells word (Some k) e h = s.keyword_word k (keyword_sound word k e)
 kind_spells word None e h = s.word h (no_keyword_sound word e)
 
-kind_ends : (o : Option K.Keyword) (rest : List ℕ) → begins is_word_byte rest ≡ false → ends (word_kind o) rest ≡ true
+kind_ends : (o : Option K.Keyword) (rest : List ℕ) → first_passes is_word_byte rest ≡ false → ends_token (word_kind o) rest ≡ true
 kind_ends (Some k) rest h = ends_before (Keyword k) is_word_byte (λ b. refl) rest h
 kind_ends None rest h = ends_before Word is_word_byte (λ b. refl) rest h
 
@@ -113,14 +113,14 @@ word_sound b bs x letter e =
       ended = kind_ends (keyword_at word) rest (run_stops is_word_byte bs);
     })
 
-number_sound : (b : ℕ) (bs : List ℕ) (x : Front) → is_digit b ≡ true → number_at (b ∷ bs) ≡ Some x → Found (b ∷ bs) x
-unfolding number_at
+number_sound : (b : ℕ) (bs : List ℕ) (x : Front) → is_digit b ≡ true → digits_at (b ∷ bs) ≡ Some x → Found (b ∷ bs) x
+unfolding digits_at
 number_sound b bs x digit e =
     let more = run_more is_digit b bs digit in
     let n = suc (run is_digit bs) in
-    let e2 : cond (begins is_word_byte (drop n (b ∷ bs))) None (Some (Number, n)) ≡ Some x =
-    subst (λ (m : ℕ). cond (begins is_word_byte (drop m (b ∷ bs))) None (Some (Number, m)) ≡ Some x) more e in
-    let g = unless_some (begins is_word_byte (drop n (b ∷ bs))) (Number, n) x e2 in
+    let e2 : cond (first_passes is_word_byte (drop n (b ∷ bs))) None (Some (Number, n)) ≡ Some x =
+    subst (λ (m : ℕ). cond (first_passes is_word_byte (drop m (b ∷ bs))) None (Some (Number, m)) ≡ Some x) more e in
+    let g = unless_some (first_passes is_word_byte (drop n (b ∷ bs))) (Number, n) x e2 in
     subst (Found (b ∷ bs)) g.1 (record {
       front = b ∷ take (run is_digit bs) bs;
       rest = drop (run is_digit bs) bs;
@@ -130,7 +130,7 @@ number_sound b bs x digit e =
       ended = ends_before Number is_word_byte (λ c. refl) (drop (run is_digit bs) bs) g.0;
     })
 
-begins_with : (byte : ℕ) (bs : List ℕ) → begins (λ b. eqb b byte) bs ≡ true → (rest : List ℕ) × (bs ≡ byte ∷ rest)
+begins_with : (byte : ℕ) (bs : List ℕ) → first_passes (λ b. eqb b byte) bs ≡ true → (rest : List ℕ) × (bs ≡ byte ∷ rest)
 begins_with byte [] h = absurd cc
 begins_with byte (b ∷ bs) h = (bs, ap (λ (c : ℕ). c ∷ bs) (eqb-true b byte h))
 
@@ -139,13 +139,13 @@ unfolding quoted_at
 quoted_sound [] x e = absurd cc
 quoted_sound (b ∷ bs) x e =
     let n = run is_word_byte (b ∷ bs) in
-    let g = guard_some (is_letter b && leb n max_word && begins (λ c. eqb c 0x60) (drop n (b ∷ bs))) (Quoted, n + 2) x e in
-    let p = and_parts (is_letter b && leb n max_word) (begins (λ c. eqb c 0x60) (drop n (b ∷ bs))) g.0 in
+    let g = guard_some (is_letter b && leb n max_word && first_passes (λ c. eqb c 0x60) (drop n (b ∷ bs))) (Quoted, n + 2) x e in
+    let p = and_parts (is_letter b && leb n max_word) (first_passes (λ c. eqb c 0x60) (drop n (b ∷ bs))) g.0 in
     let q = and_parts (is_letter b) (leb n max_word) p.0 in
     let more : n ≡ suc (run is_word_byte bs) = run_more is_word_byte b bs (letter_in_word b q.0) in
     let short : leb (suc (run is_word_byte bs)) max_word ≡ true = subst (λ (m : ℕ). leb m max_word ≡ true) more q.1 in
-    let quote : begins (λ c. eqb c 0x60) (drop (run is_word_byte bs) bs) ≡ true =
-    subst (λ (m : ℕ). begins (λ c. eqb c 0x60) (drop m (b ∷ bs)) ≡ true) more p.1 in
+    let quote : first_passes (λ c. eqb c 0x60) (drop (run is_word_byte bs) bs) ≡ true =
+    subst (λ (m : ℕ). first_passes (λ c. eqb c 0x60) (drop m (b ∷ bs)) ≡ true) more p.1 in
     let behind = begins_with 0x60 (drop (run is_word_byte bs) bs) quote in
     let word = take (run is_word_byte bs) bs in
     let parts : bs ≡ (word ++ 0x60 ∷ []) ++ behind.0 =
@@ -159,8 +159,8 @@ quoted_sound (b ∷ bs) x e =
       ended = ends_quoted behind.0;
     })
 
-text_sound : (bs : List ℕ) (x : Front) → text_at bs ≡ Some x → Found (0x27 ∷ bs) x
-unfolding text_at
+text_sound : (bs : List ℕ) (x : Front) → string_at bs ≡ Some x → Found (0x27 ∷ bs) x
+unfolding string_at
 text_sound bs x e =
     let a = bind_some (text_len 0 Inside bs) (λ n. Some (Text, n + 1)) x e in
     let c = text_closed bs a.0 a.1 in
@@ -197,16 +197,16 @@ sign_is b sign e = go (eqb b 0x28) refl (eqb b 0x29) refl (eqb b 0x2C) refl (eqb
 FoundOperator : List ℕ → Comparison × ℕ → Type 0
 FoundOperator bs op = Found bs (Operator op.0, op.1)
 
-pub ends_sign : (sign : S.Sign) (rest : List ℕ) → ends (Sign sign) rest ≡ true
+pub ends_sign : (sign : S.Sign) (rest : List ℕ) → ends_token (Sign sign) rest ≡ true
 ends_sign sign [] = refl
 ends_sign sign (b ∷ rest) = refl
 
-pub ends_closed : (op : Comparison) → ((b : ℕ) → goes_on (Operator op) b ≡ false) → (rest : List ℕ) → ends (Operator op) rest ≡ true
+pub ends_closed : (op : Comparison) → ((b : ℕ) → goes_on (Operator op) b ≡ false) → (rest : List ℕ) → ends_token (Operator op) rest ≡ true
 ends_closed op none [] = refl
 ends_closed op none (b ∷ rest) = rw (none b) refl
 
 module _ (b : ℕ) (bs : List ℕ) (op : Comparison × ℕ) where
-  one_byte : (is : Comparison) → Spells (b ∷ []) (Operator is) → ends (Operator is) bs ≡ true
+  one_byte : (is : Comparison) → Spells (b ∷ []) (Operator is) → ends_token (Operator is) bs ≡ true
       → ◌≡◌ {A = Option (Comparison × ℕ)} (Some (is, 1)) (Some op) → FoundOperator (b ∷ bs) op
   unfolding FoundOperator
   one_byte is spells end e = subst (FoundOperator (b ∷ bs)) (some_is (is, 1) op e) (record {
@@ -218,7 +218,7 @@ module _ (b : ℕ) (bs : List ℕ) (op : Comparison × ℕ) where
     ended = end;
   })
 
-two_bytes : (b c : ℕ) (bs : List ℕ) (op : Comparison × ℕ) (is : Comparison) → Spells (b ∷ c ∷ []) (Operator is) → ends (Operator is) bs ≡ true
+two_bytes : (b c : ℕ) (bs : List ℕ) (op : Comparison × ℕ) (is : Comparison) → Spells (b ∷ c ∷ []) (Operator is) → ends_token (Operator is) bs ≡ true
     → ◌≡◌ {A = Option (Comparison × ℕ)} (Some (is, 2)) (Some op) → FoundOperator (b ∷ c ∷ bs) op
 unfolding FoundOperator
 two_bytes b c bs op is spells end e = subst (FoundOperator (b ∷ c ∷ bs)) (some_is (is, 2) op e) (record {
@@ -296,7 +296,7 @@ token_sound [] x e = absurd cc
 token_sound (b ∷ bs) x e = go (eqb b 0x60) refl (eqb b 0x27) refl (is_letter b) refl (is_digit b) refl e
   where
     go : (p : Bool) → eqb b 0x60 ≡ p → (q : Bool) → eqb b 0x27 ≡ q → (l : Bool) → is_letter b ≡ l → (d : Bool) → is_digit b ≡ d
-        → cond p (quoted_at bs) (cond q (text_at bs) (cond l (word_at (b ∷ bs)) (cond d (number_at (b ∷ bs)) (mark_at b bs)))) ≡ Some x → Found (b ∷ bs) x
+        → cond p (quoted_at bs) (cond q (string_at bs) (cond l (word_at (b ∷ bs)) (cond d (digits_at (b ∷ bs)) (mark_at b bs)))) ≡ Some x → Found (b ∷ bs) x
     go true is q _ l _ d _ e = subst (λ (c : ℕ). Found (c ∷ bs) x) (sym (eqb-true b 0x60 is)) (quoted_sound bs x e)
     go false _ true is l _ d _ e = subst (λ (c : ℕ). Found (c ∷ bs) x) (sym (eqb-true b 0x27 is)) (text_sound bs x e)
     go false _ false _ true is d _ e = word_sound b bs x is e
@@ -309,17 +309,17 @@ word_read : (bs : List ℕ) (n : ℕ) → run is_word_byte bs ≡ n → leb n ma
 unfolding word_at
 word_read bs n e short = rw (e, short) refl
 
-number_read : (bs : List ℕ) (n : ℕ) → run is_digit bs ≡ n → begins is_word_byte (drop n bs) ≡ false → number_at bs ≡ Some (Number, n)
-unfolding number_at
+number_read : (bs : List ℕ) (n : ℕ) → run is_digit bs ≡ n → first_passes is_word_byte (drop n bs) ≡ false → digits_at bs ≡ Some (Number, n)
+unfolding digits_at
 number_read bs n e stop = rw (e, stop) refl
 
-quoted_read : (bs : List ℕ) (n : ℕ) → run is_word_byte bs ≡ n → begins is_letter bs ≡ true → leb n max_word ≡ true
-    → begins (λ b. eqb b 0x60) (drop n bs) ≡ true → quoted_at bs ≡ Some (Quoted, n + 2)
+quoted_read : (bs : List ℕ) (n : ℕ) → run is_word_byte bs ≡ n → first_passes is_letter bs ≡ true → leb n max_word ≡ true
+    → first_passes (λ b. eqb b 0x60) (drop n bs) ≡ true → quoted_at bs ≡ Some (Quoted, n + 2)
 unfolding quoted_at
 quoted_read bs n e letter short quote = rw (e, letter, short, quote) refl
 
-text_read : (bs : List ℕ) (n : ℕ) → text_len 0 Inside bs ≡ Some n → text_at bs ≡ Some (Text, n + 1)
-unfolding text_at
+text_read : (bs : List ℕ) (n : ℕ) → text_len 0 Inside bs ≡ Some n → string_at bs ≡ Some (Text, n + 1)
+unfolding string_at
 text_read bs n e = rw e refl
 
 -- the parts of what makes a word
@@ -377,7 +377,7 @@ pub front_word : (b : ℕ) (bs : List ℕ) → is_letter b ≡ true → token_at
 unfolding token_at
 front_word b bs h = rw (letter_no_quote b 0x60 refl h, letter_no_quote b 0x27 refl h, h) refl
 
-pub front_number : (b : ℕ) (bs : List ℕ) → is_digit b ≡ true → token_at (b ∷ bs) ≡ number_at (b ∷ bs)
+pub front_number : (b : ℕ) (bs : List ℕ) → is_digit b ≡ true → token_at (b ∷ bs) ≡ digits_at (b ∷ bs)
 unfolding token_at
 front_number b bs h = rw (digit_no_quote b 0x60 refl h, digit_no_quote b 0x27 refl h, digit_no_letter b h, h) refl
 
@@ -385,11 +385,11 @@ front_quoted : (bs : List ℕ) → token_at (0x60 ∷ bs) ≡ quoted_at bs
 unfolding token_at
 front_quoted bs = refl
 
-pub front_text : (bs : List ℕ) → token_at (0x27 ∷ bs) ≡ text_at bs
+pub front_text : (bs : List ℕ) → token_at (0x27 ∷ bs) ≡ string_at bs
 unfolding token_at
 front_text bs = refl
 
-word_again : (bytes rest : List ℕ) → is_word bytes ≡ true → begins is_word_byte rest ≡ false
+word_again : (bytes rest : List ℕ) → is_word bytes ≡ true → first_passes is_word_byte rest ≡ false
     → token_at (bytes ++ rest) ≡ Some (word_kind (keyword_at bytes), length bytes)
 word_again bytes rest h stop =
     let w = word_parts bytes h in
@@ -399,22 +399,22 @@ word_again bytes rest h stop =
 quoted_again : (bytes rest : List ℕ) → is_word bytes ≡ true → quoted_at (bytes ++ 0x60 ∷ rest) ≡ Some (Quoted, length bytes + 2)
 quoted_again bytes rest h =
     let w = word_parts bytes h in
-    let letter : begins is_letter (bytes ++ 0x60 ∷ rest) ≡ true = subst (λ (cs : List ℕ). begins is_letter (cs ++ 0x60 ∷ rest) ≡ true) (sym w.is) w.letter in
-    let quote : begins (λ b. eqb b 0x60) (drop (length bytes) (bytes ++ 0x60 ∷ rest)) ≡ true = rw (drop-append_seam bytes (0x60 ∷ rest)) refl in
+    let letter : first_passes is_letter (bytes ++ 0x60 ∷ rest) ≡ true = subst (λ (cs : List ℕ). first_passes is_letter (cs ++ 0x60 ∷ rest) ≡ true) (sym w.is) w.letter in
+    let quote : first_passes (λ b. eqb b 0x60) (drop (length bytes) (bytes ++ 0x60 ∷ rest)) ≡ true = rw (drop-append_seam bytes (0x60 ∷ rest)) refl in
     quoted_read (bytes ++ 0x60 ∷ rest) (length bytes) (run_exact is_word_byte bytes w.passes (0x60 ∷ rest) refl) letter w.short quote
 
-no_digit : (rest : List ℕ) → begins is_word_byte rest ≡ false → begins is_digit rest ≡ false
+no_digit : (rest : List ℕ) → first_passes is_word_byte rest ≡ false → first_passes is_digit rest ≡ false
 no_digit [] h = refl
 no_digit (b ∷ rest) h = (or_parts (is_letter b) (is_digit b) h).1
 
-digits_again : (b : ℕ) (bs rest : List ℕ) → is_digit b ≡ true → list_all is_digit bs ≡ true → begins is_word_byte rest ≡ false
+digits_again : (b : ℕ) (bs rest : List ℕ) → is_digit b ≡ true → list_all is_digit bs ≡ true → first_passes is_word_byte rest ≡ false
     → token_at ((b ∷ bs) ++ rest) ≡ Some (Number, length (b ∷ bs))
 digits_again b bs rest h hs stop =
     let passes : list_all is_digit (b ∷ bs) ≡ true = rw (h, hs) refl in
-    let behind : begins is_word_byte (drop (length (b ∷ bs)) ((b ∷ bs) ++ rest)) ≡ false = rw (drop-append_seam (b ∷ bs) rest) stop in
+    let behind : first_passes is_word_byte (drop (length (b ∷ bs)) ((b ∷ bs) ++ rest)) ≡ false = rw (drop-append_seam (b ∷ bs) rest) stop in
     front_number b (bs ++ rest) h ∙ number_read ((b ∷ bs) ++ rest) (length (b ∷ bs)) (run_exact is_digit (b ∷ bs) passes rest (no_digit rest stop)) behind
 
-less_again : (rest : List ℕ) → ends (Operator Lt) rest ≡ true → less_at rest ≡ Some (Lt, 1)
+less_again : (rest : List ℕ) → ends_token (Operator Lt) rest ≡ true → less_at rest ≡ Some (Lt, 1)
 less_again [] h = refl
 less_again (c ∷ rest) h = go (eqb c 0x3D) (eqb c 0x3E) h
   where
@@ -423,7 +423,7 @@ less_again (c ∷ rest) h = go (eqb c 0x3D) (eqb c 0x3E) h
     go false true h = absurd cc
     go false false h = refl
 
-greater_again : (rest : List ℕ) → ends (Operator Gt) rest ≡ true → greater_at rest ≡ Some (Gt, 1)
+greater_again : (rest : List ℕ) → ends_token (Operator Gt) rest ≡ true → greater_at rest ≡ Some (Gt, 1)
 greater_again [] h = refl
 greater_again (c ∷ rest) h = go (eqb c 0x3D) h
   where
@@ -431,7 +431,7 @@ greater_again (c ∷ rest) h = go (eqb c 0x3D) h
     go true h = absurd cc
     go false h = refl
 
-pub token_again : (bytes : List ℕ) (kind : TokenKind) → Spells bytes kind → (rest : List ℕ) → ends kind rest ≡ true
+pub token_again : (bytes : List ℕ) (kind : TokenKind) → Spells bytes kind → (rest : List ℕ) → ends_token kind rest ≡ true
     → token_at (bytes ++ rest) ≡ Some (kind, length bytes)
 unfolding token_at mark_at
 token_again _ _ (s.keyword_word {bytes} k h) rest end =
@@ -446,7 +446,7 @@ token_again _ _ (s.digits {b} {bytes} h hs) rest end = digits_again b bytes rest
 token_again _ _ (s.string {bytes} r) rest end =
     let parts : (bytes ++ 0x27 ∷ []) ++ rest ≡ bytes ++ 0x27 ∷ rest = append_assoc bytes (0x27 ∷ []) rest in
     let size : length bytes + 1 + 1 ≡ length (0x27 ∷ bytes ++ 0x27 ∷ []) = omega (arith, length-append bytes (0x27 ∷ [])) in
-    front_text ((bytes ++ 0x27 ∷ []) ++ rest) ∙ ap text_at parts ∙ text_read (bytes ++ 0x27 ∷ rest) (length bytes + 1) (closes r rest end)
+    front_text ((bytes ++ 0x27 ∷ []) ++ rest) ∙ ap string_at parts ∙ text_read (bytes ++ 0x27 ∷ rest) (length bytes + 1) (closes r rest end)
     ∙ ap (λ (n : ℕ). Some (Text, n)) size
 token_again _ _ (s.mark LeftParenthesis) rest end = refl
 token_again _ _ (s.mark RightParenthesis) rest end = refl

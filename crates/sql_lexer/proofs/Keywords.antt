@@ -11,7 +11,7 @@ use Rattle.sql_lexer.specs.declared.token.Keyword.{Keyword}
 use Rattle.sql_lexer.specs.declared.token.Keyword.TheVariants.{And}
 use Rattle.sql_lexer.specs.Keywords.{keywords, keyword_text}
 use Rattle.sql_lexer.specs.Lexemes.{is_letter, is_word_byte, upper_case, max_word, is_word, is_spelling_of, is_keyword}
-use Rattle.sql_lexer.specs.Scanning.{keyword_at}
+use Rattle.sql_lexer.specs.inner.Scanning.{keyword_at}
 
 abbrev is_upper : ℕ → Bool
 is_upper b = leb 65 b && leb b 90

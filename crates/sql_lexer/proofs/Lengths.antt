@@ -6,9 +6,9 @@ use Rattle.vt_value.specs.declared.value.Comparison.TheVariants.{Eq, Ne, Lt, Le,
 use Rattle.sql_lexer.specs.declared.body.Place.TheVariants.{Inside}
 use Rattle.sql_lexer.specs.declared.token.TokenKind.{TokenKind}
 use Rattle.sql_lexer.specs.declared.token.TokenKind.TheVariants.{Quoted, Number, Text, Sign, Operator}
-use Rattle.sql_lexer.specs.Lexemes.{is_letter, is_digit, is_word_byte, is_word, max_word, IsBody, Spells, ends}
+use Rattle.sql_lexer.specs.Lexemes.{is_letter, is_digit, is_word_byte, is_word, max_word, IsBody, Spells, ends_token}
 use Rattle.sql_lexer.specs.Lexemes as s
-use Rattle.sql_lexer.specs.Scanning.{Front, run, word_kind, keyword_at, word_at, number_at, text_len, text_at, token_at}
+use Rattle.sql_lexer.specs.inner.Scanning.{Front, run, word_kind, keyword_at, word_at, digits_at, text_len, string_at, token_at}
 use Rattle.sql_lexer.proofs.Keywords.{keyword_is_word}
 use Rattle.sql_lexer.proofs.Runs.{run_at_least}
 use Rattle.sql_lexer.proofs.Texts.{text_at_least}
@@ -25,7 +25,7 @@ word_long front back x h e =
 
 number_long : (b : ℕ) (bs back : List ℕ) (x : Front) → is_digit b ≡ true → list_all is_digit bs ≡ true → token_at ((b ∷ bs) ++ back) ≡ Some x
     → length (b ∷ bs) ≤ x.1
-unfolding number_at
+unfolding digits_at
 number_long b bs back x h hs e =
     let passes : list_all is_digit (b ∷ bs) ≡ true = rw (h, hs) refl in
     let g = unless_some _ (Number, run is_digit ((b ∷ bs) ++ back)) x (sym (front_number b (bs ++ back) h) ∙ e) in
@@ -33,10 +33,10 @@ number_long b bs back x h hs e =
 
 text_long : {raw : List ℕ} → IsBody raw → (back : List ℕ) (x : Front) → token_at ((0x27 ∷ raw ++ 0x27 ∷ []) ++ back) ≡ Some x
     → length (0x27 ∷ raw ++ 0x27 ∷ []) ≤ x.1
-unfolding text_at
+unfolding string_at
 text_long {raw} r back x e =
     let parts : (raw ++ 0x27 ∷ []) ++ back ≡ raw ++ 0x27 ∷ back = append_assoc raw (0x27 ∷ []) back in
-    let read : text_at (raw ++ 0x27 ∷ back) ≡ Some x = ap text_at (sym parts) ∙ sym (front_text ((raw ++ 0x27 ∷ []) ++ back)) ∙ e in
+    let read : string_at (raw ++ 0x27 ∷ back) ≡ Some x = ap string_at (sym parts) ∙ sym (front_text ((raw ++ 0x27 ∷ []) ++ back)) ∙ e in
     let a = bind_some (text_len 0 Inside (raw ++ 0x27 ∷ back)) (λ n. Some (Text, n + 1)) x read in
     let n = text_at_least r back a.0 a.1 in
     omega (arith, n, length-append raw (0x27 ∷ []), ap (λ (y : Front). y.1) (some_is (Text, a.0 + 1) x a.2))
@@ -46,7 +46,7 @@ some_bytes bytes kind r = let st = starts bytes kind r in omega (arith, ap lengt
 
 module _ (n : ℕ) (some : 1 ≤ n) (kind : TokenKind) where
   -- a token whose end nothing changes is what is read
-  exact : (front back : List ℕ) (other : TokenKind) → Spells front other → ends other back ≡ true → token_at (front ++ back) ≡ Some (kind, n) → length front ≤ n
+  exact : (front back : List ℕ) (other : TokenKind) → Spells front other → ends_token other back ≡ true → token_at (front ++ back) ≡ Some (kind, n) → length front ≤ n
   exact front back other r end e = omega (arith, ap (λ (y : Front). y.1) (some_is (other, length front) (kind, n) (sym (token_again front other r back end) ∙ e)))
 
   at_least : (front back : List ℕ) (other : TokenKind) → Spells front other → token_at (front ++ back) ≡ Some (kind, n) → length front ≤ n
@@ -64,7 +64,7 @@ module _ (n : ℕ) (some : 1 ≤ n) (kind : TokenKind) where
   at_least _ back _ (s.comparison Ge) e = exact _ back (Operator Ge) (s.comparison Ge) (ends_closed Ge (λ b. refl) back) e
   at_least _ back _ s.bang e = exact _ back (Operator Ne) s.bang (ends_closed Ne (λ b. refl) back) e
 
-pub longest : (bytes rest front back : List ℕ) (kind other : TokenKind) → Spells bytes kind → ends kind rest ≡ true → bytes ++ rest ≡ front ++ back
+pub longest : (bytes rest front back : List ℕ) (kind other : TokenKind) → Spells bytes kind → ends_token kind rest ≡ true → bytes ++ rest ≡ front ++ back
     → Spells front other → length front ≤ length bytes
 longest bytes rest front back kind other p end same q =
     at_least (length bytes) (some_bytes bytes kind p) kind front back other q (ap token_at (sym same) ∙ token_again bytes kind p rest end)

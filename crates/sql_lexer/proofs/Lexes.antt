@@ -6,8 +6,8 @@ use Rattle.sql_lexer.specs.declared.token.Token.{Token}
 use Rattle.sql_lexer.specs.Lexemes.{is_blank}
 use Rattle.sql_lexer.specs.Tokens.{LexesFrom}
 use Rattle.sql_lexer.specs.Tokens as t
-use Rattle.sql_lexer.specs.Results.{◌>>=◌}
-use Rattle.sql_lexer.specs.Scanning.{Front, token_at, lex_at}
+use Rattle.sql_lexer.specs.inner.Results.{◌>>=◌}
+use Rattle.sql_lexer.specs.inner.Scanning.{Front, token_at, lex_at}
 use Rattle.sql_lexer.proofs.Options.{some_is, bind_some}
 use Rattle.sql_lexer.proofs.Fronts.{Found, token_sound, token_again, starts}
 

@@ -3,8 +3,8 @@ use Rattle.std.proofs.Common.{◌≡◌, ℕ, zero, suc, ◌+◌, ◌≤◌, ◌
 use Rattle.std.proofs.lemmas.List.{append-nil, length-drop}
 use Rattle.sql_lexer.specs.declared.token.Token.{Token}
 use Rattle.sql_lexer.specs.Lexemes.{is_blank}
-use Rattle.sql_lexer.specs.Results.{◌>>=◌}
-use Rattle.sql_lexer.specs.Scanning.{Front, begins, token_at, lex_at}
+use Rattle.sql_lexer.specs.inner.Results.{◌>>=◌}
+use Rattle.sql_lexer.specs.inner.Scanning.{Front, first_passes, token_at, lex_at}
 use Rattle.sql_lexer.proofs.Lexes.{token_of, token_within, at_blank, at_token}
 
 abbrev pub with_front : List Token → Option (List Token) → Option (List Token)
@@ -28,20 +28,20 @@ regroup front x (Some ts) = ap (λ (us : List Token). Some us) (simp append_asso
 regroup front x None = refl
 
 module _ (front : List Token) (total : Option (List Token)) where
-  pub skips : (at : ℕ) (rest : List ℕ) → begins is_blank rest ≡ true → StillReads front at rest total → StillReads front (at + 1) (drop 1 rest) total
+  pub skips : (at : ℕ) (rest : List ℕ) → first_passes is_blank rest ≡ true → StillReads front at rest total → StillReads front (at + 1) (drop 1 rest) total
   skips at rest is s = go rest is s.fuel s.enough s.so_far
     where
-      go : (bs : List ℕ) → begins is_blank bs ≡ true → (n : ℕ) → length bs ≤ n → with_front front (lex_at n at bs) ≡ total
+      go : (bs : List ℕ) → first_passes is_blank bs ≡ true → (n : ℕ) → length bs ≤ n → with_front front (lex_at n at bs) ≡ total
           → StillReads front (at + 1) (drop 1 bs) total
       go [] is n le e = absurd cc
       go (b ∷ bs) is zero le e = absurd (omega arith)
       go (b ∷ bs) is (suc n) le e = record { fuel = n; enough = omega arith; so_far = ap (with_front front) (sym (at_blank n at b bs is)) ∙ e }
 
-  pub goes_on : (at : ℕ) (rest : List ℕ) (x : Front) → begins is_blank rest ≡ false → token_at rest ≡ Some x → StillReads front at rest total
+  pub goes_on : (at : ℕ) (rest : List ℕ) (x : Front) → first_passes is_blank rest ≡ false → token_at rest ≡ Some x → StillReads front at rest total
       → StillReads (front ++ token_of at x ∷ []) (at + x.1) (drop x.1 rest) total
   goes_on at rest x plain read s = go rest plain read s.fuel s.enough s.so_far
     where
-      go : (bs : List ℕ) → begins is_blank bs ≡ false → token_at bs ≡ Some x → (n : ℕ) → length bs ≤ n → with_front front (lex_at n at bs) ≡ total
+      go : (bs : List ℕ) → first_passes is_blank bs ≡ false → token_at bs ≡ Some x → (n : ℕ) → length bs ≤ n → with_front front (lex_at n at bs) ≡ total
           → StillReads (front ++ token_of at x ∷ []) (at + x.1) (drop x.1 bs) total
       go [] plain read n le e = let within = token_within [] x read in absurd (omega (arith, within.0, within.1))
       go (b ∷ bs) plain read zero le e = absurd (omega arith)
@@ -55,11 +55,11 @@ module _ (front : List Token) (total : Option (List Token)) where
             so_far = sym (regroup front (token_of at x) (lex_at n (at + x.1) (drop x.1 (b ∷ bs)))) ∙ ap (with_front front) (sym one) ∙ e;
           }
 
-  pub no_token : (at : ℕ) (rest : List ℕ) → 0 < length rest → begins is_blank rest ≡ false → token_at rest ≡ None → StillReads front at rest total
+  pub no_token : (at : ℕ) (rest : List ℕ) → 0 < length rest → first_passes is_blank rest ≡ false → token_at rest ≡ None → StillReads front at rest total
       → total ≡ None
   no_token at rest some plain read s = go rest some plain read s.fuel s.enough s.so_far
     where
-      go : (bs : List ℕ) → 0 < length bs → begins is_blank bs ≡ false → token_at bs ≡ None → (n : ℕ) → length bs ≤ n
+      go : (bs : List ℕ) → 0 < length bs → first_passes is_blank bs ≡ false → token_at bs ≡ None → (n : ℕ) → length bs ≤ n
           → with_front front (lex_at n at bs) ≡ total → total ≡ None
       go [] some plain read n le e = absurd (omega arith)
       go (b ∷ bs) some plain read zero le e = absurd (omega arith)

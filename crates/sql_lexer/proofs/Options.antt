@@ -3,7 +3,7 @@ use Rattle.std.proofs.Common.{◌≡◌, Bool, true, false, cond, Option, Some, 
 use Rattle.std.specs.Prelude.{MatchResult}
 use Rattle.vt_value.specs.declared.refusal.Refusal.{Refusal}
 use Rattle.vt_value.specs.declared.refusal.Refusal.TheVariants as r
-use Rattle.sql_lexer.specs.Results.{◌>>=◌, Gives}
+use Rattle.sql_lexer.specs.inner.Results.{◌>>=◌, AgreesWith}
 
 pub some_is : {A : Type 0} (x y : A) → ◌≡◌ {A = Option A} (Some x) (Some y) → x ≡ y
 some_is x y e = cc
@@ -30,7 +30,7 @@ unless_some false x y e = (refl, cc)
 unless_some true x y e = absurd cc
 
 -- what is read is given, unless memory ran out
-pub given : {X Y : Type 0} (view : X → Y) (read : Y) (result : Result X Refusal) → Gives view result (Some read)
+pub given : {X Y : Type 0} (view : X → Y) (read : Y) (result : Result X Refusal) → AgreesWith view result (Some read)
     → MatchResult result (λ v. view v ≡ read) (λ e. e ≡ r.OutOfMemory)
 given view read (Ok v) e = sym (some_is read (view v) e)
 given view read (Err r.OutOfMemory) h = refl

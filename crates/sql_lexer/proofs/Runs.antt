@@ -2,7 +2,7 @@
 use Rattle.std.proofs.Common.{◌≡◌, ℕ, suc, ◌≤◌, Bool, true, false, cond, List, [], ◌∷◌, ◌++◌, length, take, drop, refl, arith}
 use Rattle.std.specs.List.{list_all}
 use Rattle.std.proofs.lemmas.Bool.{and_parts}
-use Rattle.sql_lexer.specs.Scanning.{run, begins}
+use Rattle.sql_lexer.specs.inner.Scanning.{run, first_passes}
 
 pub run_within : (p : ℕ → Bool) (bs : List ℕ) → run p bs ≤ length bs
 run_within p [] = omega arith
@@ -20,16 +20,16 @@ run_passes p (b ∷ bs) = go (p b) refl (run_passes p bs)
     go true is e = rw (is, e) refl
     go false is e = refl
 
-pub run_stops : (p : ℕ → Bool) (bs : List ℕ) → begins p (drop (run p bs) bs) ≡ false
+pub run_stops : (p : ℕ → Bool) (bs : List ℕ) → first_passes p (drop (run p bs) bs) ≡ false
 run_stops p [] = refl
 run_stops p (b ∷ bs) = go (p b) refl (run_stops p bs)
   where
-    go : (t : Bool) → p b ≡ t → begins p (drop (run p bs) bs) ≡ false → begins p (drop (cond t (suc (run p bs)) 0) (b ∷ bs)) ≡ false
+    go : (t : Bool) → p b ≡ t → first_passes p (drop (run p bs) bs) ≡ false → first_passes p (drop (cond t (suc (run p bs)) 0) (b ∷ bs)) ≡ false
     go true is e = e
     go false is e = is
 
 -- bytes that pass, before one that doesn't, are counted
-pub run_exact : (p : ℕ → Bool) (bs : List ℕ) → list_all p bs ≡ true → (rest : List ℕ) → begins p rest ≡ false → run p (bs ++ rest) ≡ length bs
+pub run_exact : (p : ℕ → Bool) (bs : List ℕ) → list_all p bs ≡ true → (rest : List ℕ) → first_passes p rest ≡ false → run p (bs ++ rest) ≡ length bs
 run_exact p [] h [] stop = refl
 run_exact p [] h (c ∷ rest) stop = rw stop refl
 run_exact p (b ∷ bs) h rest stop =

@@ -4,9 +4,9 @@ use Rattle.std.proofs.lemmas.Bool.{eqb-true}
 use Rattle.sql_lexer.specs.declared.body.Place.{Place}
 use Rattle.sql_lexer.specs.declared.body.Place.TheVariants.{Inside, BehindQuote, BehindBackslash}
 use Rattle.sql_lexer.specs.declared.token.TokenKind.TheVariants.{Text}
-use Rattle.sql_lexer.specs.Lexemes.{IsBody, ends}
+use Rattle.sql_lexer.specs.Lexemes.{IsBody, ends_token}
 use Rattle.sql_lexer.specs.Lexemes as s
-use Rattle.sql_lexer.specs.Scanning.{text_len}
+use Rattle.sql_lexer.specs.inner.Scanning.{text_len}
 
 -- the step of a text by each place
 inside_quote : (n : ℕ) (bs : List ℕ) → text_len n Inside (0x27 ∷ bs) ≡ text_len (n + 1) BehindQuote bs
@@ -32,7 +32,7 @@ behind_pair : (n : ℕ) (bs : List ℕ) → text_len n BehindQuote (0x27 ∷ bs)
 unfolding text_len
 behind_pair n bs = refl
 
-behind_end : (n : ℕ) (rest : List ℕ) → ends Text rest ≡ true → text_len n BehindQuote rest ≡ Some n
+behind_end : (n : ℕ) (rest : List ℕ) → ends_token Text rest ≡ true → text_len n BehindQuote rest ≡ Some n
 unfolding text_len
 behind_end n [] h = refl
 behind_end n (b ∷ rest) h = go (eqb b 0x27) h
@@ -51,7 +51,7 @@ through (s.quotes {bytes} r) n bs =
 through (s.escape {b} {bytes} r) n bs =
     inside_backslash n b (bytes ++ bs) ∙ through r (n + 1 + 1) bs ∙ ap (λ m. text_len m Inside bs) (omega arith)
 
-pub closes : {raw : List ℕ} → IsBody raw → (rest : List ℕ) → ends Text rest ≡ true → text_len 0 Inside (raw ++ 0x27 ∷ rest) ≡ Some (length raw + 1)
+pub closes : {raw : List ℕ} → IsBody raw → (rest : List ℕ) → ends_token Text rest ≡ true → text_len 0 Inside (raw ++ 0x27 ∷ rest) ≡ Some (length raw + 1)
 closes {raw} r rest h =
     through r 0 (0x27 ∷ rest) ∙ inside_quote (0 + length raw) rest ∙ behind_end (0 + length raw + 1) rest h ∙ ap (λ (m : ℕ). Some m) (omega arith)
 
@@ -68,7 +68,7 @@ pub record Closed (bs : List ℕ) (n : ℕ) : Type 0 where
   pub parts : bs ≡ raw ++ 0x27 ∷ rest
   pub size : n ≡ length raw + 1
   pub body : IsBody raw
-  pub ended : ends Text rest ≡ true
+  pub ended : ends_token Text rest ≡ true
 
 -- n bytes were read before what a place has behind it
 abbrev Reached : Place → List ℕ → ℕ → ℕ → Type 0

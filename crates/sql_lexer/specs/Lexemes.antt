@@ -147,6 +147,6 @@ goes_on (Operator Gt) b = b == 0x3D
 goes_on (Operator Ge) b = false
 
 -- a token of the kind may end before these bytes
-abbrev pub ends : TokenKind → List ℕ → Bool
-ends kind [] = true
-ends kind (b ∷ bytes) = not (goes_on kind b)
+abbrev pub ends_token : TokenKind → List ℕ → Bool
+ends_token kind [] = true
+ends_token kind (b ∷ bytes) = not (goes_on kind b)

@@ -1,7 +1,7 @@
 //! Where a text in single quotes ends.
 ghost use Rattle.std.specs.Prelude.{◌≡◌, ◌≤◌, length, IfSome};
 ghost use Rattle.sql_lexer.specs.declared.body.Place.TheVariants.{Inside};
-ghost use Rattle.sql_lexer.specs.Scanning.{after_byte, text_len};
+ghost use Rattle.sql_lexer.specs.inner.Scanning.{after_byte, text_len};
 
 /// A place in a text in single quotes.
 #[derive(Clone, Copy, Debug, PartialEq, Eq)]
@@ -26,7 +26,7 @@ fn after_byte(place: Place, byte: u8) -> Option<Place>
 }
 
 /// How many bytes a text has behind its first quote, where it is closed.
-#[tactic(auto, unfolding(crate::specs::Scanning::text_len))]
+#[tactic(auto, unfolding(crate::specs::inner::Scanning::text_len))]
 pub fn text_len(bytes: &[u8]) -> Option<usize>
     ensures value { result ≡ text_len 0 Inside bytes.now }
     ensures within { IfSome result (λ n. n ≤ length bytes.now) }

@@ -1,7 +1,7 @@
 //! The classes of bytes, and how far they reach.
 ghost use Rattle.std.specs.Prelude.{◌≡◌, ◌≤◌, length};
 ghost use Rattle.sql_lexer.specs.Lexemes.{is_blank, is_letter, is_digit, is_word_byte};
-ghost use Rattle.sql_lexer.specs.Scanning.{run, begins};
+ghost use Rattle.sql_lexer.specs.inner.Scanning.{run, first_passes};
 
 /// A blank, tab, line feed, vertical tab, form feed or carriage return.
 fn is_blank(byte: u8) -> bool
@@ -33,7 +33,7 @@ pub fn is_word_byte(byte: u8) -> bool
 
 /// Whether a blank stands at the front.
 pub fn begins_blank(bytes: &[u8]) -> bool
-    ensures { result ≡ begins is_blank bytes.now }
+    ensures { result ≡ first_passes is_blank bytes.now }
 {
     match bytes {
         [] => false,
@@ -43,7 +43,7 @@ pub fn begins_blank(bytes: &[u8]) -> bool
 
 /// Whether a letter or `_` stands at the front.
 pub fn begins_letter(bytes: &[u8]) -> bool
-    ensures { result ≡ begins is_letter bytes.now }
+    ensures { result ≡ first_passes is_letter bytes.now }
 {
     match bytes {
         [] => false,
@@ -53,7 +53,7 @@ pub fn begins_letter(bytes: &[u8]) -> bool
 
 /// Whether a byte of a word stands at the front.
 pub fn begins_word_byte(bytes: &[u8]) -> bool
-    ensures { result ≡ begins is_word_byte bytes.now }
+    ensures { result ≡ first_passes is_word_byte bytes.now }
 {
     match bytes {
         [] => false,

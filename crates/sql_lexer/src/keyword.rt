@@ -2,7 +2,7 @@
 ghost use Rattle.std.specs.Prelude.{◌≡◌};
 ghost use Rattle.sql_lexer.specs.Keywords.{keyword_text};
 ghost use Rattle.sql_lexer.specs.Lexemes.{is_spelling_of, is_keyword};
-ghost use Rattle.sql_lexer.specs.Scanning.{keyword_at};
+ghost use Rattle.sql_lexer.specs.inner.Scanning.{keyword_at};
 
 use crate::token::Keyword;
 
@@ -88,7 +88,7 @@ fn is_spelling_of(word: &[u8], keyword: Keyword) -> bool
 }
 
 /// The keyword that the word is in some case.
-#[tactic(auto, unfolding(crate::specs::Scanning::keyword_at))]
+#[tactic(auto, unfolding(crate::specs::inner::Scanning::keyword_at))]
 pub fn keyword_of(word: &[u8]) -> Option<Keyword>
     ensures { result ≡ keyword_at word.now }
 {

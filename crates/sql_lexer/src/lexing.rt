@@ -1,11 +1,11 @@
 ghost use Rattle.std.specs.Prelude.{◌≡◌, ◌≤◌, ◌++◌, ◌⊎◌, ℕ, List, IfOk, IfErr, MatchResult, true, length, drop};
 ghost use Rattle.sql_lexer.specs.declared.token.Token.{Token};
 ghost use Rattle.sql_lexer.specs.declared.token.TokenKind.{TokenKind};
-ghost use Rattle.sql_lexer.specs.Lexemes.{Spells, ends};
+ghost use Rattle.sql_lexer.specs.Lexemes.{Spells, ends_token};
 ghost use Rattle.sql_lexer.specs.Tokens.{Lexes};
-ghost use Rattle.sql_lexer.specs.Results.{Gives};
-ghost use Rattle.sql_lexer.specs.Scanning.{word_at, number_at, quoted_at, text_at, sign_at, operator_at, mark_at};
-ghost use Rattle.sql_lexer.specs.Scanning.{token_at, lex_at};
+ghost use Rattle.sql_lexer.specs.inner.Results.{AgreesWith};
+ghost use Rattle.sql_lexer.specs.inner.Scanning.{word_at, digits_at, quoted_at, string_at, sign_at, operator_at, mark_at};
+ghost use Rattle.sql_lexer.specs.inner.Scanning.{token_at, lex_at};
 
 use crate::body::text_len;
 use crate::byte::{
@@ -22,7 +22,7 @@ const MAX_WORD: usize = 64;
 /// The kind of the token at a text's front, and how many bytes it has.
 type Front = (TokenKind, usize);
 
-#[tactic(auto, unfolding(crate::specs::Scanning::word_at))]
+#[tactic(auto, unfolding(crate::specs::inner::Scanning::word_at))]
 fn word(rest: &[u8]) -> Option<Front>
     ensures { result ≡ word_at rest.now }
 {
@@ -36,9 +36,9 @@ fn word(rest: &[u8]) -> Option<Front>
     }
 }
 
-#[tactic(auto, unfolding(crate::specs::Scanning::number_at))]
+#[tactic(auto, unfolding(crate::specs::inner::Scanning::digits_at))]
 fn number(rest: &[u8]) -> Option<Front>
-    ensures { result ≡ number_at rest.now }
+    ensures { result ≡ digits_at rest.now }
 {
     let length = number_len(rest);
     if begins_word_byte(rest_from(rest, length)) {
@@ -48,7 +48,7 @@ fn number(rest: &[u8]) -> Option<Front>
 }
 
 /// A word between backquotes, behind the first.
-#[tactic(auto, unfolding(crate::specs::Scanning::quoted_at))]
+#[tactic(auto, unfolding(crate::specs::inner::Scanning::quoted_at))]
 fn quoted(rest: &[u8]) -> Option<Front>
     ensures { result ≡ quoted_at rest.now }
 {
@@ -63,9 +63,9 @@ fn quoted(rest: &[u8]) -> Option<Front>
 }
 
 /// A text in single quotes, behind the first.
-#[tactic(auto, unfolding(crate::specs::Scanning::text_at))]
+#[tactic(auto, unfolding(crate::specs::inner::Scanning::string_at))]
 fn text(rest: &[u8]) -> Option<Front>
-    ensures { result ≡ text_at rest.now }
+    ensures { result ≡ string_at rest.now }
 {
     let length = text_len(rest)?;
     Some((TokenKind::Text, length + 1))
@@ -103,7 +103,7 @@ fn operator(first: u8, after: &[u8]) -> Option<(Comparison, usize)>
 }
 
 /// A sign or an operator that begins with this byte.
-#[tactic(auto, unfolding(crate::specs::Scanning::mark_at))]
+#[tactic(auto, unfolding(crate::specs::inner::Scanning::mark_at))]
 fn mark(first: u8, after: &[u8]) -> Option<Front>
     ensures { result ≡ mark_at first after.now }
 {
@@ -115,7 +115,7 @@ fn mark(first: u8, after: &[u8]) -> Option<Front>
 }
 
 /// The token at the front.
-#[tactic(auto, unfolding(crate::specs::Scanning::token_at))]
+#[tactic(auto, unfolding(crate::specs::inner::Scanning::token_at))]
 fn token(rest: &[u8]) -> Option<Front>
     ensures { result ≡ token_at rest.now }
 {
@@ -143,7 +143,7 @@ fn rest_from(text: &[u8], at: usize) -> &[u8]
 }
 
 fn tokens(alloc: Global, text: &[u8]) -> Result<Vec<Token>, Refusal>
-    ensures { Gives (λ v. v.items) result (lex_at (length text.now) 0 text.now) }
+    ensures { AgreesWith (λ v. v.items) result (lex_at (length text.now) 0 text.now) }
 {
     let mut tokens = Vec::new(alloc);
     let mut at = 0;
@@ -190,6 +190,6 @@ pub fn one_lexing()
 /// No token that stands at a text's front is longer than one that may end before what follows it.
 pub fn longest()
     ensures { (bytes rest front back : List ℕ) (kind other : TokenKind)
-        → Spells bytes kind → ends kind rest ≡ true → bytes ++ rest ≡ front ++ back → Spells front other
+        → Spells bytes kind → ends_token kind rest ≡ true → bytes ++ rest ≡ front ++ back → Spells front other
         → length front ≤ length bytes }
 {}

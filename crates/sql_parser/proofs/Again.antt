@@ -6,7 +6,7 @@ use Rattle.sql_lexer.specs.declared.token.Sign.TheVariants.{Comma}
 use Rattle.sql_lexer.proofs.Options.{guard_none}
 use Rattle.sql_parser.specs.Grammar.{Lexemes, Follows, Listed}
 use Rattle.sql_parser.specs.Grammar as g
-use Rattle.sql_parser.specs.Reading.{Read, is_comma, after_at, follows_at, all_follow, listed_at}
+use Rattle.sql_parser.specs.inner.Reading.{Read, is_comma, after_at, follows_at, all_follow, listed_at}
 
 -- Ends rest: what follows an item doesn't go on with it
 module _ {A : Type 0} (sep : Lexeme → Bool) (word : Lexeme) (is : sep word ≡ true) (item : Lexemes → Read A) (Item : Lexemes → A → Type 0)

@@ -9,7 +9,7 @@ use Rattle.sql_tree.specs.declared.Limit.{Limit}
 use Rattle.sql_tree.specs.Literals.{Name}
 use Rattle.sql_parser.specs.Grammar.{Lexemes, Optional, ReadsWhere, ReadsGroup, ReadsOrder, ReadsLimit}
 use Rattle.sql_parser.specs.Grammar as g
-use Rattle.sql_parser.specs.Reading.{is_comma, is_and, is_or, after_at, where_at, group_at, direction_at, order_at, offset_at, limit_at}
+use Rattle.sql_parser.specs.inner.Reading.{is_comma, is_and, is_or, after_at, where_at, group_at, direction_at, order_at, offset_at, limit_at}
 
 -- Tokens that stand behind the clause of the number: 1 is WHERE, 2 GROUP BY, 3 ORDER BY and 4 LIMIT; 0 is what stands before them.
 pub data Behind (n : ℕ) : Lexemes → Type 0 where

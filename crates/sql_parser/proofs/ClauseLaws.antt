@@ -4,7 +4,7 @@ use Rattle.sql_lexer.specs.declared.token.Keyword.{Keyword}
 use Rattle.sql_lexer.specs.declared.token.Keyword.TheVariants as k
 use Rattle.sql_lexer.specs.declared.token.Sign.TheVariants.{LeftParenthesis, RightParenthesis, Star, Comma}
 use Rattle.sql_lexer.specs.Lexemes.{keyword, identifier, number, sign}
-use Rattle.sql_lexer.specs.Results.{◌>>=◌}
+use Rattle.sql_lexer.specs.inner.Results.{◌>>=◌}
 use Rattle.sql_lexer.proofs.Options.{some_is, bound}
 use Rattle.sql_tree.specs.declared.Condition.{Condition}
 use Rattle.sql_tree.specs.declared.Item.{Item}
@@ -16,7 +16,7 @@ use Rattle.sql_tree.specs.declared.Limit.{Limit}
 use Rattle.sql_tree.specs.Literals.{Name}
 use Rattle.sql_parser.specs.Grammar.{Lexemes, Listed, Optional, call, max_depth, ReadsItem, ReadsList, ReadsWhere, ReadsGroup, ReadsKey, ReadsOrder, ReadsLimit}
 use Rattle.sql_parser.specs.Grammar as g
-use Rattle.sql_parser.specs.Reading.{is_comma, after_at, listed_at, name_at, open_at, close_at, argument_at, count_at, item_at, list_at, from_at, where_at, group_at, direction_at, key_at, order_at, offset_at, limit_at}
+use Rattle.sql_parser.specs.inner.Reading.{is_comma, after_at, listed_at, name_at, open_at, close_at, argument_at, count_at, item_at, list_at, from_at, where_at, group_at, direction_at, sort_key_at, order_at, offset_at, limit_at}
 use Rattle.sql_parser.proofs.Sound.{Front, listed_sound}
 use Rattle.sql_parser.proofs.Again.{listed_again}
 use Rattle.sql_parser.proofs.LiteralLaws.{name_is, name_sound, names_again, number_is, number_again, open_is, close_is}
@@ -125,8 +125,8 @@ direction_sound bytes (keyword k.Asc ∷ ts) = record { front = keyword k.Asc �
 direction_sound bytes (keyword k.Desc ∷ ts) = record { front = keyword k.Desc ∷ []; parts = refl; reads = g.descending_key bytes }
 direction_sound bytes ts = record { front = []; parts = refl; reads = g.plain_key bytes }
 
-pub key_sound : (ts : Lexemes) (x : Key Name × Lexemes) → key_at ts ≡ Some x → Front ReadsKey ts x
-unfolding key_at
+pub key_sound : (ts : Lexemes) (x : Key Name × Lexemes) → sort_key_at ts ≡ Some x → Front ReadsKey ts x
+unfolding sort_key_at
 key_sound ts x e =
     bound _ _ _ e (λ column p e1.
     let d = direction_sound column.0 column.1 in
@@ -138,7 +138,7 @@ key_sound ts x e =
 
 pub order_sound : (ts : Lexemes) (x : List (Key Name) × Lexemes) → order_at ts ≡ Some x → Front ReadsOrder ts x
 unfolding order_at
-order_sound (keyword k.Order ∷ keyword k.By ∷ ts) x e = clause_sound k.Order k.By ReadsKey ts x (listed_sound key_at ReadsKey key_sound ts x e)
+order_sound (keyword k.Order ∷ keyword k.By ∷ ts) x e = clause_sound k.Order k.By ReadsKey ts x (listed_sound sort_key_at ReadsKey key_sound ts x e)
 order_sound ts x e = no_clause (keyword k.Order ∷ keyword k.By ∷ []) ReadsKey ts x e
 
 -- what is read of an OFFSET behind a count
@@ -222,8 +222,8 @@ group_again _ _ (g.clause {ts} {xs} r) rest b = names_again ts xs r rest (no_com
 abbrev EndsKey : Lexemes → Type 0
 EndsKey rest = direction_at rest ≡ (false, rest)
 
-key_again : (ts : Lexemes) (x : Key Name) → ReadsKey ts x → (rest : Lexemes) → EndsKey rest → key_at (ts ++ rest) ≡ Some (x, rest)
-unfolding key_at name_at direction_at
+key_again : (ts : Lexemes) (x : Key Name) → ReadsKey ts x → (rest : Lexemes) → EndsKey rest → sort_key_at (ts ++ rest) ≡ Some (x, rest)
+unfolding sort_key_at name_at direction_at
 key_again _ _ (g.plain_key bytes) rest ends = rw ends refl
 key_again _ _ (g.ascending_key bytes) rest ends = refl
 key_again _ _ (g.descending_key bytes) rest ends = refl
@@ -235,7 +235,7 @@ comma_ends ts = refl
 pub order_again : (us : Lexemes) (x : List (Key Name)) → ReadsOrder us x → (rest : Lexemes) → Behind 3 rest → order_at (us ++ rest) ≡ Some (x, rest)
 unfolding order_at
 order_again _ _ g.without rest b = no_order rest b
-order_again _ _ (g.clause {ts} {xs} r) rest b = listed_again key_at ReadsKey EndsKey comma_ends key_again ts xs r rest (no_direction rest b) (no_comma rest b)
+order_again _ _ (g.clause {ts} {xs} r) rest b = listed_again sort_key_at ReadsKey EndsKey comma_ends key_again ts xs r rest (no_direction rest b) (no_comma rest b)
 
 pub limit_again : (us : Lexemes) (x : Option Limit) → Optional ReadsLimit us x → (rest : Lexemes) → Behind 4 rest → limit_at (us ++ rest) ≡ Some (x, rest)
 unfolding limit_at offset_at

@@ -9,7 +9,7 @@ use Rattle.sql_tree.specs.declared.Condition as c
 use Rattle.sql_tree.specs.Literals.{Name}
 use Rattle.sql_parser.specs.Grammar.{Lexemes, ReadsOperand, ReadsTest, Joined, OrOf, NotOf, ReadsNot, ReadsOr}
 use Rattle.sql_parser.specs.Grammar as g
-use Rattle.sql_parser.specs.Reading.{Read, is_and, is_or, after_at, all_follow, close_at, in_at, null_at, is_at, test_at, predicate_at, joined_at, or_of, negation_at, not_at, or_at}
+use Rattle.sql_parser.specs.inner.Reading.{Read, is_and, is_or, after_at, all_follow, close_at, in_at, null_at, is_at, test_at, predicate_at, joined_at, or_of, negation_at, not_at, or_at}
 use Rattle.sql_parser.proofs.Again.{all_again}
 use Rattle.sql_parser.proofs.LiteralLaws.{operand_again, members_again}
 

@@ -3,15 +3,16 @@ use Rattle.std.proofs.Common.{◌≡◌, ℕ, zero, suc, Bool, true, false, cond
 use Rattle.sql_lexer.specs.declared.token.Keyword.TheVariants as k
 use Rattle.sql_lexer.specs.declared.token.Sign.TheVariants.{LeftParenthesis, RightParenthesis}
 use Rattle.sql_lexer.specs.Lexemes.{Lexeme, keyword, sign, operator}
-use Rattle.sql_lexer.specs.Results.{◌>>=◌}
+use Rattle.sql_lexer.specs.inner.Results.{◌>>=◌}
 use Rattle.sql_lexer.proofs.Options.{some_is, bound}
 use Rattle.sql_tree.specs.declared.Operand.{Operand}
 use Rattle.sql_tree.specs.declared.Condition.{Condition}
 use Rattle.sql_tree.specs.declared.Condition as c
 use Rattle.sql_tree.specs.Literals.{Name}
-use Rattle.sql_parser.specs.Grammar.{Lexemes, Follows, ReadsOperand, ReadsTest, Joined, OrOf, NotOf, ReadsNot, ReadsAnd, ReadsOr}
+use Rattle.sql_parser.specs.Grammar.{Lexemes, Follows, ReadsOperand, ReadsTest, Joined, OrOf, NotOf, ReadsNot, ReadsOr}
+use Rattle.sql_parser.specs.inner.Reading.{ReadsAnd}
 use Rattle.sql_parser.specs.Grammar as g
-use Rattle.sql_parser.specs.Reading.{Read, is_and, is_or, after_at, all_follow, operand_at, in_at, null_at, is_at, test_at, predicate_at, joined_at, or_of, negation_at, not_at, and_at, or_at}
+use Rattle.sql_parser.specs.inner.Reading.{Read, is_and, is_or, after_at, all_follow, operand_at, in_at, null_at, is_at, test_at, predicate_at, joined_at, or_of, negation_at, not_at, and_at, or_at}
 use Rattle.sql_parser.proofs.Sound.{Front, glue, all_sound}
 use Rattle.sql_parser.proofs.LiteralLaws.{close_is, operand_sound, members_sound}
 

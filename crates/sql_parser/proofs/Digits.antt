@@ -3,7 +3,7 @@ use Rattle.std.proofs.Common.{◌≡◌, ℕ, ◌+◌, ◌-◌, ◌*◌, ◌^◌
 use Rattle.std.proofs.lemmas.Bool.{le-ltb, lt-ltb, ltb-true, ltb-false}
 use Rattle.sql_lexer.specs.Lexemes.{digits_onto}
 use Rattle.sql_lexer.proofs.Options.{guard_some}
-use Rattle.sql_parser.specs.Reading.{fitting}
+use Rattle.sql_parser.specs.inner.Reading.{fitting}
 
 -- the value only grows with each digit
 digits_grow : (high : ℕ) (digits : List ℕ) → high ≤ digits_onto high digits

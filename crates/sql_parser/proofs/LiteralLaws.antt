@@ -7,14 +7,14 @@ use Rattle.vt_value.specs.declared.value.Value.TheVariants.{Null, Int, Bytes}
 use Rattle.sql_lexer.specs.declared.token.Keyword.TheVariants as k
 use Rattle.sql_lexer.specs.declared.token.Sign.TheVariants.{LeftParenthesis, RightParenthesis, Minus}
 use Rattle.sql_lexer.specs.Lexemes.{keyword, identifier, number, text, sign}
-use Rattle.sql_lexer.specs.Results.{◌>>=◌}
+use Rattle.sql_lexer.specs.inner.Results.{◌>>=◌}
 use Rattle.sql_lexer.proofs.Options.{some_is, bound, guard_some}
 use Rattle.sql_tree.specs.declared.Operand.{Operand}
 use Rattle.sql_tree.specs.declared.Operand.TheVariants.{Column, Literal}
 use Rattle.sql_tree.specs.Literals.{Name}
 use Rattle.sql_parser.specs.Grammar.{Lexemes, Listed, Bracketed, ReadsName, ReadsLiteral, ReadsOperand}
 use Rattle.sql_parser.specs.Grammar as g
-use Rattle.sql_parser.specs.Reading.{Read, is_comma, after_at, listed_at, name_at, number_at, close_at, open_at, natural_at, negative_at, literal_at, operand_at, bracketed_at, members_at}
+use Rattle.sql_parser.specs.inner.Reading.{Read, is_comma, after_at, listed_at, name_at, number_at, close_at, open_at, natural_at, negative_at, literal_at, operand_at, bracketed_at, members_at}
 use Rattle.sql_parser.proofs.Digits.{fits, fitting_is}
 use Rattle.sql_parser.proofs.Sound.{Front, glue, listed_sound}
 use Rattle.sql_parser.proofs.Again.{listed_again}

@@ -4,10 +4,10 @@ use Rattle.std.proofs.lemmas.List.{append-nil}
 use Rattle.vt_value.specs.declared.refusal.Refusal.{Refusal}
 use Rattle.vt_value.specs.declared.refusal.Refusal.TheVariants as R
 use Rattle.sql_lexer.specs.Lexemes.{Lexeme}
-use Rattle.sql_lexer.specs.Results.{◌>>=◌, Fails}
+use Rattle.sql_lexer.specs.inner.Results.{◌>>=◌, Fails}
 use Rattle.sql_lexer.proofs.Options.{guard_some, guard_none}
 use Rattle.sql_parser.specs.Grammar.{Lexemes}
-use Rattle.sql_parser.specs.Reading.{Read, after_at, follows_at, with_front, all_follow, listed_at, is_comma}
+use Rattle.sql_parser.specs.inner.Reading.{Read, after_at, follows_at, with_front, all_follow, listed_at, is_comma}
 
 -- what was read, with what is read from here on, is all
 pub record StillReads {A : Type 0} (sep : Lexeme → Bool) (item : Lexemes → Read A) (front : List A) (rest : Lexemes) (total : Read (List A)) : Type 0 where

@@ -13,7 +13,8 @@ use Rattle.sql_tree.specs.declared.Condition.TheVariants.{rolls-And, rolls-Or, r
 use Rattle.sql_tree.specs.Literals.{Name}
 use Rattle.sql_tree.specs.Printing as p
 use Rattle.sql_tree.specs.Printing.{Text, operand_text, value_text, bracketed, commas, following, joined, Printed, text_of, inside_and, inside_or, node_printed, condition_printed, condition_text}
-use Rattle.sql_parser.specs.Grammar.{Lexemes, ReadsLiteral, ReadsOperand, Follows, Joined, ReadsTest, OrOf, NotOf, ReadsNot, ReadsAnd, ReadsOr}
+use Rattle.sql_parser.specs.Grammar.{Lexemes, ReadsLiteral, ReadsOperand, Follows, Joined, ReadsTest, OrOf, NotOf, ReadsNot, ReadsOr}
+use Rattle.sql_parser.specs.inner.Reading.{ReadsAnd}
 use Rattle.sql_parser.specs.Grammar as g
 use Rattle.sql_parser.proofs.Says.{Part, Joint, at_blank, blank, word, join, between_blanks, operator_says}
 use Rattle.sql_parser.proofs.PrintedLists.{Words, words_parts, words_join, As, operand_prints, members_print, bracketed_part, follows_prints, first_part}

@@ -7,7 +7,7 @@ use Rattle.sql_lexer.specs.declared.token.Keyword.TheVariants as k
 use Rattle.sql_lexer.specs.declared.token.Sign as S
 use Rattle.sql_lexer.specs.declared.token.Sign.TheVariants.{LeftParenthesis, RightParenthesis, Comma, Minus}
 use Rattle.sql_lexer.specs.declared.token.TokenKind.TheVariants as kind
-use Rattle.sql_lexer.specs.Lexemes.{Lexeme, keyword, identifier, number, text, sign, is_word, sign_text, ends}
+use Rattle.sql_lexer.specs.Lexemes.{Lexeme, keyword, identifier, number, text, sign, is_word, sign_text, ends_token}
 use Rattle.sql_lexer.specs.Lexemes as s
 use Rattle.sql_tree.specs.declared.Operand.{Operand}
 use Rattle.sql_tree.specs.Literals.{Name}
@@ -47,7 +47,7 @@ pub record As {A : Type 0} (Reads : Lexemes → A → Type 0) (bytes : List ℕ)
   pub reads : Reads says x
   pub part : Part bytes says
 
-sign_ends : (x : S.Sign) (rest : List ℕ) → ends (kind.Sign x) rest ≡ true
+sign_ends : (x : S.Sign) (rest : List ℕ) → ends_token (kind.Sign x) rest ≡ true
 sign_ends x [] = refl
 sign_ends x (b ∷ rest) = refl
 

@@ -11,7 +11,7 @@ use Rattle.sql_lexer.specs.declared.token.Keyword.TheVariants as k
 use Rattle.sql_lexer.specs.declared.token.TokenKind.{TokenKind}
 use Rattle.sql_lexer.specs.declared.token.TokenKind.TheVariants as kind
 use Rattle.sql_lexer.specs.Keywords.{keyword_text}
-use Rattle.sql_lexer.specs.Lexemes.{Lexeme, keyword, sign, operator, said_by, lexemes_of, is_blank, is_spelling_of, Spells, ends, operator_text, sign_text}
+use Rattle.sql_lexer.specs.Lexemes.{Lexeme, keyword, sign, operator, said_by, lexemes_of, is_blank, is_spelling_of, Spells, ends_token, operator_text, sign_text}
 use Rattle.sql_lexer.specs.Lexemes as s
 use Rattle.sql_lexer.specs.Tokens.{LexesFrom}
 use Rattle.sql_lexer.specs.Tokens as t
@@ -22,7 +22,7 @@ use Rattle.sql_parser.specs.Grammar.{Lexemes, Reads, ReadsText, max_literals}
 pub data Says : List ℕ → Lexemes → Type 0 where
   nothing : Says [] []
   blank : {b : ℕ} {rest : List ℕ} {ls : Lexemes} → is_blank b ≡ true → Says rest ls → Says (b ∷ rest) ls
-  token : {bytes rest : List ℕ} {which : TokenKind} {ls : Lexemes} → Spells bytes which → ends which rest ≡ true → Says rest ls
+  token : {bytes rest : List ℕ} {which : TokenKind} {ls : Lexemes} → Spells bytes which → ends_token which rest ≡ true → Says rest ls
       → Says (bytes ++ rest) (said_by which bytes ∷ ls)
 
 -- the tokens of these bytes behind others
@@ -69,7 +69,7 @@ pub data Breaks : List ℕ → Type 0 where
   at_close : {bs : List ℕ} → Breaks (0x29 ∷ bs)
   at_comma : {bs : List ℕ} → Breaks (0x2C ∷ bs)
 
-ends_operator : (op : Comparison) (rest : List ℕ) → Breaks rest → ends (kind.Operator op) rest ≡ true
+ends_operator : (op : Comparison) (rest : List ℕ) → Breaks rest → ends_token (kind.Operator op) rest ≡ true
 ends_operator op _ at_end = refl
 ends_operator Eq _ _ = refl
 ends_operator Ne _ _ = refl
@@ -84,7 +84,7 @@ ends_operator Gt _ at_open = refl
 ends_operator Gt _ at_close = refl
 ends_operator Gt _ at_comma = refl
 
-pub breaks_end : (which : TokenKind) (rest : List ℕ) → Breaks rest → ends which rest ≡ true
+pub breaks_end : (which : TokenKind) (rest : List ℕ) → Breaks rest → ends_token which rest ≡ true
 breaks_end which _ at_end = refl
 breaks_end (kind.Operator op) rest b = ends_operator op rest b
 breaks_end (kind.Sign x) _ at_blank = refl

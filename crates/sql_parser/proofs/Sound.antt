@@ -2,12 +2,12 @@
 use Rattle.std.proofs.Common.{◌≡◌, ℕ, zero, suc, ◌≤◌, Bool, true, false, cond, List, [], ◌∷◌, ◌++◌, length, Some, None, is_some, refl, sym, ap, subst, ◌∙◌, append_assoc, arith}
 use Rattle.std.proofs.lemmas.List.{length-append}
 use Rattle.sql_lexer.specs.Lexemes.{Lexeme, sign}
-use Rattle.sql_lexer.specs.Results.{◌>>=◌}
+use Rattle.sql_lexer.specs.inner.Results.{◌>>=◌}
 use Rattle.sql_lexer.specs.declared.token.Sign.TheVariants.{Comma}
 use Rattle.sql_lexer.proofs.Options.{some_is, bound}
 use Rattle.sql_parser.specs.Grammar.{Lexemes, Follows, Listed}
 use Rattle.sql_parser.specs.Grammar as g
-use Rattle.sql_parser.specs.Reading.{Read, is_comma, after_at, follows_at, all_follow, listed_at}
+use Rattle.sql_parser.specs.inner.Reading.{Read, is_comma, after_at, follows_at, all_follow, listed_at}
 
 -- the front of the tokens spells what was read
 pub record Front {A : Type 0} (Reads : Lexemes → A → Type 0) (ts : Lexemes) (x : A × Lexemes) : Type 0 where

@@ -6,7 +6,7 @@ use Rattle.vt_value.specs.declared.value.Comparison.TheVariants.{Eq}
 use Rattle.sql_lexer.specs.declared.token.Keyword.TheVariants as k
 use Rattle.sql_lexer.specs.declared.token.Sign.TheVariants.{Semicolon}
 use Rattle.sql_lexer.specs.Lexemes.{keyword, identifier, text, sign, operator}
-use Rattle.sql_lexer.specs.Results.{◌>>=◌}
+use Rattle.sql_lexer.specs.inner.Results.{◌>>=◌}
 use Rattle.sql_lexer.proofs.Options.{some_is, bound, guard_some}
 use Rattle.sql_tree.specs.declared.CharacterSet.{CharacterSet}
 use Rattle.sql_tree.specs.declared.CharacterSet.TheVariants as charset
@@ -16,7 +16,7 @@ use Rattle.sql_tree.specs.declared.Statement.TheVariants.{Select, Insert, Update
 use Rattle.sql_tree.specs.Literals.{Name, literals_of}
 use Rattle.sql_parser.specs.Grammar.{Lexemes, max_literals, is_setting, ReadsSelect, ReadsCharacterSet, ReadsStatement, ReadsText}
 use Rattle.sql_parser.specs.Grammar as g
-use Rattle.sql_parser.specs.Reading.{select_at, insert_at, update_at, delete_at, from_at, name_at, charset_at, equals_at, setting_at, control_at, statement_at, is_end, is_text, text_at}
+use Rattle.sql_parser.specs.inner.Reading.{select_at, insert_at, update_at, delete_at, from_at, name_at, charset_at, equals_at, setting_at, control_at, statement_at, is_end, is_text, text_at}
 use Rattle.sql_parser.proofs.Sound.{Front, glue}
 use Rattle.sql_parser.proofs.ClauseLaws.{list_sound, from_is, where_sound, group_sound, order_sound, limit_sound, list_again, where_again, group_again, order_again, limit_again}
 use Rattle.sql_parser.proofs.LiteralLaws.{name_is}

@@ -12,7 +12,7 @@ use Rattle.sql_tree.specs.declared.Delete.{Delete}
 use Rattle.sql_tree.specs.Literals.{Name}
 use Rattle.sql_parser.specs.Grammar.{Lexemes, Listed, Bracketed, Optional, ReadsName, ReadsLiteral, ReadsAssignment, ReadsInsert, ReadsUpdate, ReadsDelete}
 use Rattle.sql_parser.specs.Grammar as g
-use Rattle.sql_parser.specs.Reading.{is_comma, after_at, listed_at, members_at, name_at, from_at, columns_at, values_at, set_at, equals_at, assignment_at, insert_at, update_at, delete_at}
+use Rattle.sql_parser.specs.inner.Reading.{is_comma, after_at, listed_at, members_at, name_at, from_at, columns_at, values_at, set_at, equals_at, assignment_at, insert_at, update_at, delete_at}
 use Rattle.sql_parser.proofs.Sound.{Front, glue, listed_sound}
 use Rattle.sql_parser.proofs.Again.{listed_again}
 use Rattle.sql_parser.proofs.LiteralLaws.{name_is, name_sound, name_again, literal_sound, literal_again, bracketed_sound, bracketed_again, members_sound, members_again}

@@ -116,9 +116,6 @@ abbrev pub ReadsNot : ℕ → Lexemes → Condition Name → Type 0
 ReadsNot zero = ReadsTest
 ReadsNot (suc depth) = NotOf (ReadsNot depth)
 
-abbrev pub ReadsAnd : ℕ → Lexemes → Condition Name → Type 0
-ReadsAnd depth = Joined (keyword K.And) And (ReadsNot depth)
-
 abbrev pub ReadsOr : ℕ → Lexemes → Condition Name → Type 0
 ReadsOr depth = OrOf (ReadsNot depth)
 

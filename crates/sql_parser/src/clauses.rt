@@ -1,9 +1,9 @@
 //! The clauses behind a table's name.
 ghost use Rattle.std.specs.Prelude.{◌≡◌, ℕ, List};
 ghost use Rattle.sql_lexer.specs.Lexemes.{lexemes_of};
-ghost use Rattle.sql_lexer.specs.Results.{Gives};
-ghost use Rattle.sql_parser.specs.Reading.{listed_at, from_at, where_at, group_at, direction_at, key_at, order_at};
-ghost use Rattle.sql_parser.specs.Reading.{offset_at, limit_at};
+ghost use Rattle.sql_lexer.specs.inner.Results.{AgreesWith};
+ghost use Rattle.sql_parser.specs.inner.Reading.{listed_at, from_at, where_at, group_at, direction_at, sort_key_at, order_at};
+ghost use Rattle.sql_parser.specs.inner.Reading.{offset_at, limit_at};
 
 use crate::conditions::or;
 use crate::kinds::{ASC, BY, DESC, FROM, GROUP, LIMIT, OFFSET, ORDER, WHERE};
@@ -17,13 +17,13 @@ use vt_value::{Items, Refusal};
 const MAX_DEPTH: usize = 64;
 
 /// FROM name
-#[tactic(auto, unfolding(crate::specs::Reading::from_at))]
+#[tactic(auto, unfolding(crate::specs::inner::Reading::from_at))]
 pub fn from<'s>(
     alloc: Global,
     text: &[u8],
     tokens: &'s [Token],
 ) -> Result<(Name, &'s [Token]), Refusal>
-    ensures { Gives (λ x. (x.0, lexemes_of text.now x.1.now)) result (from_at (lexemes_of text.now tokens.now)) }
+    ensures { AgreesWith (λ x. (x.0, lexemes_of text.now x.1.now)) result (from_at (lexemes_of text.now tokens.now)) }
 {
     match tokens {
         [Token { kind: FROM, .. }, rest @ ..] => name(alloc, text, rest),
@@ -32,13 +32,13 @@ pub fn from<'s>(
 }
 
 /// [WHERE or]
-#[tactic(auto, unfolding(crate::specs::Reading::where_at))]
+#[tactic(auto, unfolding(crate::specs::inner::Reading::where_at))]
 pub fn filter<'s>(
     alloc: Global,
     text: &[u8],
     tokens: &'s [Token],
 ) -> Result<(Option<Condition<Name>>, &'s [Token]), Refusal>
-    ensures { Gives (λ x. (x.0, lexemes_of text.now x.1.now)) result (where_at (lexemes_of text.now tokens.now)) }
+    ensures { AgreesWith (λ x. (x.0, lexemes_of text.now x.1.now)) result (where_at (lexemes_of text.now tokens.now)) }
 {
     match tokens {
         [Token { kind: WHERE, .. }, rest @ ..] => {
@@ -50,13 +50,13 @@ pub fn filter<'s>(
 }
 
 /// [GROUP BY column,..]
-#[tactic(auto, unfolding(crate::specs::Reading::group_at))]
+#[tactic(auto, unfolding(crate::specs::inner::Reading::group_at))]
 pub fn group<'s>(
     alloc: Global,
     text: &[u8],
     tokens: &'s [Token],
 ) -> Result<(Items<Name>, &'s [Token]), Refusal>
-    ensures { Gives (λ x. (x.0, lexemes_of text.now x.1.now)) result (group_at (lexemes_of text.now tokens.now)) }
+    ensures { AgreesWith (λ x. (x.0, lexemes_of text.now x.1.now)) result (group_at (lexemes_of text.now tokens.now)) }
 {
     match tokens {
         [Token { kind: GROUP, .. }, Token { kind: BY, .. }, rest @ ..] => names(alloc, text, rest),
@@ -65,7 +65,7 @@ pub fn group<'s>(
 }
 
 /// [ASC | DESC], and whether it is DESC.
-#[tactic(auto, unfolding(crate::specs::Reading::direction_at))]
+#[tactic(auto, unfolding(crate::specs::inner::Reading::direction_at))]
 fn direction(tokens: &[Token]) -> (bool, &[Token])
     ensures { (text : List ℕ)
         → direction_at (lexemes_of text tokens.now) ≡ (result.0, lexemes_of text result.1.now) }
@@ -78,13 +78,13 @@ fn direction(tokens: &[Token]) -> (bool, &[Token])
 }
 
 /// key = column [ASC | DESC]
-#[tactic(auto, unfolding(crate::specs::Reading::key_at))]
+#[tactic(auto, unfolding(crate::specs::inner::Reading::sort_key_at))]
 fn key<'s>(
     alloc: Global,
     text: &[u8],
     tokens: &'s [Token],
 ) -> Result<(Key<Name>, &'s [Token]), Refusal>
-    ensures { Gives (λ x. (x.0, lexemes_of text.now x.1.now)) result (key_at (lexemes_of text.now tokens.now)) }
+    ensures { AgreesWith (λ x. (x.0, lexemes_of text.now x.1.now)) result (sort_key_at (lexemes_of text.now tokens.now)) }
 {
     let (column, rest) = name(alloc, text, tokens)?;
     let (descending, rest) = direction(rest);
@@ -97,8 +97,8 @@ fn keys<'s>(
     text: &[u8],
     tokens: &'s [Token],
 ) -> Result<(Items<Key<Name>>, &'s [Token]), Refusal>
-    ensures { Gives (λ x. (x.0, lexemes_of text.now x.1.now)) result
-        (listed_at key_at (lexemes_of text.now tokens.now)) }
+    ensures { AgreesWith (λ x. (x.0, lexemes_of text.now x.1.now)) result
+        (listed_at sort_key_at (lexemes_of text.now tokens.now)) }
 {
     let (first, mut rest) = key(alloc, text, tokens)?;
     let mut keys = Items::new(alloc);
@@ -112,13 +112,13 @@ fn keys<'s>(
 }
 
 /// [ORDER BY key,..]
-#[tactic(auto, unfolding(crate::specs::Reading::order_at))]
+#[tactic(auto, unfolding(crate::specs::inner::Reading::order_at))]
 pub fn order<'s>(
     alloc: Global,
     text: &[u8],
     tokens: &'s [Token],
 ) -> Result<(Items<Key<Name>>, &'s [Token]), Refusal>
-    ensures { Gives (λ x. (x.0, lexemes_of text.now x.1.now)) result (order_at (lexemes_of text.now tokens.now)) }
+    ensures { AgreesWith (λ x. (x.0, lexemes_of text.now x.1.now)) result (order_at (lexemes_of text.now tokens.now)) }
 {
     match tokens {
         [Token { kind: ORDER, .. }, Token { kind: BY, .. }, rest @ ..] => keys(alloc, text, rest),
@@ -127,9 +127,9 @@ pub fn order<'s>(
 }
 
 /// [OFFSET count], which is 0 where it isn't there.
-#[tactic(auto, unfolding(crate::specs::Reading::offset_at))]
+#[tactic(auto, unfolding(crate::specs::inner::Reading::offset_at))]
 fn offset<'s>(text: &[u8], tokens: &'s [Token]) -> Result<(u64, &'s [Token]), Refusal>
-    ensures { Gives (λ x. (x.0, lexemes_of text.now x.1.now)) result (offset_at (lexemes_of text.now tokens.now)) }
+    ensures { AgreesWith (λ x. (x.0, lexemes_of text.now x.1.now)) result (offset_at (lexemes_of text.now tokens.now)) }
 {
     match tokens {
         [Token { kind: OFFSET, .. }, rest @ ..] => number(text, rest),
@@ -138,9 +138,9 @@ fn offset<'s>(text: &[u8], tokens: &'s [Token]) -> Result<(u64, &'s [Token]), Re
 }
 
 /// [LIMIT count [OFFSET count]]
-#[tactic(auto, unfolding(crate::specs::Reading::limit_at))]
+#[tactic(auto, unfolding(crate::specs::inner::Reading::limit_at))]
 pub fn limit<'s>(text: &[u8], tokens: &'s [Token]) -> Result<(Option<Limit>, &'s [Token]), Refusal>
-    ensures { Gives (λ x. (x.0, lexemes_of text.now x.1.now)) result (limit_at (lexemes_of text.now tokens.now)) }
+    ensures { AgreesWith (λ x. (x.0, lexemes_of text.now x.1.now)) result (limit_at (lexemes_of text.now tokens.now)) }
 {
     match tokens {
         [Token { kind: LIMIT, .. }, rest @ ..] => {

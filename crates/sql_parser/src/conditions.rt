@@ -2,9 +2,9 @@
 ghost use Rattle.std.specs.Prelude.{◌≡◌, ℕ, List, [], ◌∷◌, option_map};
 ghost use Rattle.std.specs.Option.{option_copied};
 ghost use Rattle.sql_lexer.specs.Lexemes.{lexemes_of};
-ghost use Rattle.sql_lexer.specs.Results.{Gives};
-ghost use Rattle.sql_parser.specs.Reading.{is_and, is_or, after_at, all_follow, in_at, null_at, is_at, test_at};
-ghost use Rattle.sql_parser.specs.Reading.{predicate_at, negation_at, not_at, and_at, or_at};
+ghost use Rattle.sql_lexer.specs.inner.Results.{AgreesWith};
+ghost use Rattle.sql_parser.specs.inner.Reading.{is_and, is_or, after_at, all_follow, in_at, null_at, is_at, test_at};
+ghost use Rattle.sql_parser.specs.inner.Reading.{predicate_at, negation_at, not_at, and_at, or_at};
 
 use crate::kinds::{AND, IN, IS, NOT, NULL, OPEN, OR};
 use crate::literals::{closed, members, operand};
@@ -34,14 +34,14 @@ fn after_or(tokens: &[Token]) -> Option<&[Token]>
 }
 
 /// IN (literal,..), behind an operand.
-#[tactic(auto, unfolding(crate::specs::Reading::in_at))]
+#[tactic(auto, unfolding(crate::specs::inner::Reading::in_at))]
 fn in_list<'s>(
     alloc: Global,
     text: &[u8],
     left: Operand<Name>,
     tokens: &'s [Token],
 ) -> Result<(Condition<Name>, &'s [Token]), Refusal>
-    ensures { Gives (λ x. (x.0, lexemes_of text.now x.1.now)) result (in_at left (lexemes_of text.now tokens.now)) }
+    ensures { AgreesWith (λ x. (x.0, lexemes_of text.now x.1.now)) result (in_at left (lexemes_of text.now tokens.now)) }
 {
     match tokens {
         [Token { kind: IN, .. }, rest @ ..] => {
@@ -53,10 +53,10 @@ fn in_list<'s>(
 }
 
 /// NULL, behind an operand and IS.
-#[tactic(auto, unfolding(crate::specs::Reading::null_at))]
+#[tactic(auto, unfolding(crate::specs::inner::Reading::null_at))]
 fn null(left: Operand<Name>, tokens: &[Token]) -> Result<(Condition<Name>, &[Token]), Refusal>
     ensures { (text : List ℕ)
-        → Gives (λ x. (x.0, lexemes_of text x.1.now)) result (null_at left (lexemes_of text tokens.now)) }
+        → AgreesWith (λ x. (x.0, lexemes_of text x.1.now)) result (null_at left (lexemes_of text tokens.now)) }
 {
     match tokens {
         [Token { kind: NULL, .. }, rest @ ..] => Ok((Condition::IsNull(left), rest)),
@@ -65,7 +65,7 @@ fn null(left: Operand<Name>, tokens: &[Token]) -> Result<(Condition<Name>, &[Tok
 }
 
 /// [NOT] NULL, behind an operand and IS.
-#[tactic(auto, unfolding(crate::specs::Reading::is_at))]
+#[tactic(auto, unfolding(crate::specs::inner::Reading::is_at))]
 fn is<'s>(
     alloc: Global,
     may_negate: bool,
@@ -73,7 +73,7 @@ fn is<'s>(
     tokens: &'s [Token],
 ) -> Result<(Condition<Name>, &'s [Token]), Refusal>
     ensures { (text : List ℕ)
-        → Gives (λ x. (x.0, lexemes_of text x.1.now)) result (is_at may_negate left (lexemes_of text tokens.now)) }
+        → AgreesWith (λ x. (x.0, lexemes_of text x.1.now)) result (is_at may_negate left (lexemes_of text tokens.now)) }
 {
     match tokens {
         [Token { kind: NOT, .. }, rest @ ..] if may_negate => {
@@ -85,7 +85,7 @@ fn is<'s>(
 }
 
 /// What stands behind an operand; a NOT only where one may stand.
-#[tactic(auto, unfolding(crate::specs::Reading::test_at))]
+#[tactic(auto, unfolding(crate::specs::inner::Reading::test_at))]
 fn test<'s>(
     alloc: Global,
     text: &[u8],
@@ -93,7 +93,7 @@ fn test<'s>(
     left: Operand<Name>,
     tokens: &'s [Token],
 ) -> Result<(Condition<Name>, &'s [Token]), Refusal>
-    ensures { Gives (λ x. (x.0, lexemes_of text.now x.1.now)) result
+    ensures { AgreesWith (λ x. (x.0, lexemes_of text.now x.1.now)) result
         (test_at may_negate left (lexemes_of text.now tokens.now)) }
 {
     match tokens {
@@ -117,14 +117,14 @@ fn test<'s>(
 }
 
 /// An operand and what stands behind it.
-#[tactic(auto, unfolding(crate::specs::Reading::predicate_at))]
+#[tactic(auto, unfolding(crate::specs::inner::Reading::predicate_at))]
 fn predicate<'s>(
     alloc: Global,
     text: &[u8],
     may_negate: bool,
     tokens: &'s [Token],
 ) -> Result<(Condition<Name>, &'s [Token]), Refusal>
-    ensures { Gives (λ x. (x.0, lexemes_of text.now x.1.now)) result
+    ensures { AgreesWith (λ x. (x.0, lexemes_of text.now x.1.now)) result
         (predicate_at may_negate (lexemes_of text.now tokens.now)) }
 {
     let (left, rest) = operand(alloc, text, tokens)?;
@@ -133,14 +133,14 @@ fn predicate<'s>(
 
 /// not = NOT not | atom, with at most `depth` open parentheses and NOTs on one path.
 #[cycle(condition)]
-#[tactic(auto, unfolding(crate::specs::Reading::not_at))]
+#[tactic(auto, unfolding(crate::specs::inner::Reading::not_at))]
 fn not<'s>(
     alloc: Global,
     text: &[u8],
     depth: usize,
     tokens: &'s [Token],
 ) -> Result<(Condition<Name>, &'s [Token]), Refusal>
-    ensures { Gives (λ x. (x.0, lexemes_of text.now x.1.now)) result (not_at depth (lexemes_of text.now tokens.now)) }
+    ensures { AgreesWith (λ x. (x.0, lexemes_of text.now x.1.now)) result (not_at depth (lexemes_of text.now tokens.now)) }
 {
     if depth == 0 {
         predicate(alloc, text, false, tokens)
@@ -151,14 +151,14 @@ fn not<'s>(
 
 /// The same, where a parenthesis or a NOT may stand, and `deeper` more behind it.
 #[cycle(condition)]
-#[tactic(auto, unfolding(crate::specs::Reading::negation_at))]
+#[tactic(auto, unfolding(crate::specs::inner::Reading::negation_at))]
 fn negation<'s>(
     alloc: Global,
     text: &[u8],
     deeper: usize,
     tokens: &'s [Token],
 ) -> Result<(Condition<Name>, &'s [Token]), Refusal>
-    ensures { Gives (λ x. (x.0, lexemes_of text.now x.1.now)) result
+    ensures { AgreesWith (λ x. (x.0, lexemes_of text.now x.1.now)) result
         (negation_at (not_at deeper) (lexemes_of text.now tokens.now)) }
 {
     match tokens {
@@ -183,7 +183,7 @@ fn ands<'s>(
     first: Condition<Name>,
     tokens: &'s [Token],
 ) -> Result<(Items<Condition<Name>>, &'s [Token]), Refusal>
-    ensures { Gives (λ x. (x.0, lexemes_of text.now x.1.now)) result
+    ensures { AgreesWith (λ x. (x.0, lexemes_of text.now x.1.now)) result
         (all_follow is_and (not_at depth) (first ∷ []) (lexemes_of text.now tokens.now)) }
 {
     let mut members = Items::new(alloc);
@@ -199,14 +199,14 @@ fn ands<'s>(
 
 /// and = not | not AND not AND ..
 #[cycle(condition)]
-#[tactic(auto, unfolding(crate::specs::Reading::joined_at))]
+#[tactic(auto, unfolding(crate::specs::inner::Reading::joined_at))]
 fn and<'s>(
     alloc: Global,
     text: &[u8],
     depth: usize,
     tokens: &'s [Token],
 ) -> Result<(Condition<Name>, &'s [Token]), Refusal>
-    ensures { Gives (λ x. (x.0, lexemes_of text.now x.1.now)) result (and_at depth (lexemes_of text.now tokens.now)) }
+    ensures { AgreesWith (λ x. (x.0, lexemes_of text.now x.1.now)) result (and_at depth (lexemes_of text.now tokens.now)) }
 {
     let (first, rest) = not(alloc, text, depth, tokens)?;
     if after_and(rest).is_none() {
@@ -225,7 +225,7 @@ fn ors<'s>(
     first: Condition<Name>,
     tokens: &'s [Token],
 ) -> Result<(Items<Condition<Name>>, &'s [Token]), Refusal>
-    ensures { Gives (λ x. (x.0, lexemes_of text.now x.1.now)) result
+    ensures { AgreesWith (λ x. (x.0, lexemes_of text.now x.1.now)) result
         (all_follow is_or (and_at depth) (first ∷ []) (lexemes_of text.now tokens.now)) }
 {
     let mut members = Items::new(alloc);
@@ -241,14 +241,14 @@ fn ors<'s>(
 
 /// or = and | and OR and OR .., with at most `depth` open parentheses and NOTs on one path.
 #[cycle(condition)]
-#[tactic(auto, unfolding(crate::specs::Reading::joined_at))]
+#[tactic(auto, unfolding(crate::specs::inner::Reading::joined_at))]
 pub fn or<'s>(
     alloc: Global,
     text: &[u8],
     depth: usize,
     tokens: &'s [Token],
 ) -> Result<(Condition<Name>, &'s [Token]), Refusal>
-    ensures { Gives (λ x. (x.0, lexemes_of text.now x.1.now)) result (or_at depth (lexemes_of text.now tokens.now)) }
+    ensures { AgreesWith (λ x. (x.0, lexemes_of text.now x.1.now)) result (or_at depth (lexemes_of text.now tokens.now)) }
 {
     let (first, rest) = and(alloc, text, depth, tokens)?;
     if after_or(rest).is_none() {

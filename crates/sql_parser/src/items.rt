@@ -1,8 +1,8 @@
 //! What a SELECT shows.
 ghost use Rattle.std.specs.Prelude.{◌≡◌, ℕ, List};
 ghost use Rattle.sql_lexer.specs.Lexemes.{lexemes_of};
-ghost use Rattle.sql_lexer.specs.Results.{Gives};
-ghost use Rattle.sql_parser.specs.Reading.{listed_at, argument_at, count_at, item_at, list_at};
+ghost use Rattle.sql_lexer.specs.inner.Results.{AgreesWith};
+ghost use Rattle.sql_parser.specs.inner.Reading.{listed_at, argument_at, count_at, item_at, list_at};
 
 use crate::kinds::{CLOSE, COUNT, MAX, MIN, OPEN, STAR, SUM};
 use crate::literals::{closed, open};
@@ -13,13 +13,13 @@ use std::alloc::Global;
 use vt_value::{Items, Refusal};
 
 /// (column), behind the name of an aggregate.
-#[tactic(auto, unfolding(crate::specs::Reading::argument_at))]
+#[tactic(auto, unfolding(crate::specs::inner::Reading::argument_at))]
 fn argument<'s>(
     alloc: Global,
     text: &[u8],
     tokens: &'s [Token],
 ) -> Result<(Name, &'s [Token]), Refusal>
-    ensures { Gives (λ x. (x.0, lexemes_of text.now x.1.now)) result (argument_at (lexemes_of text.now tokens.now)) }
+    ensures { AgreesWith (λ x. (x.0, lexemes_of text.now x.1.now)) result (argument_at (lexemes_of text.now tokens.now)) }
 {
     let rest = open(tokens)?;
     let (column, rest) = name(alloc, text, rest)?;
@@ -27,13 +27,13 @@ fn argument<'s>(
 }
 
 /// (*) | (column), behind COUNT.
-#[tactic(auto, unfolding(crate::specs::Reading::count_at))]
+#[tactic(auto, unfolding(crate::specs::inner::Reading::count_at))]
 fn count<'s>(
     alloc: Global,
     text: &[u8],
     tokens: &'s [Token],
 ) -> Result<(Item<Name>, &'s [Token]), Refusal>
-    ensures { Gives (λ x. (x.0, lexemes_of text.now x.1.now)) result (count_at (lexemes_of text.now tokens.now)) }
+    ensures { AgreesWith (λ x. (x.0, lexemes_of text.now x.1.now)) result (count_at (lexemes_of text.now tokens.now)) }
 {
     match tokens {
         [
@@ -50,13 +50,13 @@ fn count<'s>(
 }
 
 /// item = column | COUNT(*) | COUNT(column) | SUM(column) | MIN(column) | MAX(column)
-#[tactic(auto, unfolding(crate::specs::Reading::item_at))]
+#[tactic(auto, unfolding(crate::specs::inner::Reading::item_at))]
 fn item<'s>(
     alloc: Global,
     text: &[u8],
     tokens: &'s [Token],
 ) -> Result<(Item<Name>, &'s [Token]), Refusal>
-    ensures { Gives (λ x. (x.0, lexemes_of text.now x.1.now)) result (item_at (lexemes_of text.now tokens.now)) }
+    ensures { AgreesWith (λ x. (x.0, lexemes_of text.now x.1.now)) result (item_at (lexemes_of text.now tokens.now)) }
 {
     match tokens {
         [Token { kind: COUNT, .. }, rest @ ..] => count(alloc, text, rest),
@@ -85,7 +85,7 @@ fn items<'s>(
     text: &[u8],
     tokens: &'s [Token],
 ) -> Result<(Items<Item<Name>>, &'s [Token]), Refusal>
-    ensures { Gives (λ x. (x.0, lexemes_of text.now x.1.now)) result
+    ensures { AgreesWith (λ x. (x.0, lexemes_of text.now x.1.now)) result
         (listed_at item_at (lexemes_of text.now tokens.now)) }
 {
     let (first, mut rest) = item(alloc, text, tokens)?;
@@ -100,13 +100,13 @@ fn items<'s>(
 }
 
 /// * | item,..
-#[tactic(auto, unfolding(crate::specs::Reading::list_at))]
+#[tactic(auto, unfolding(crate::specs::inner::Reading::list_at))]
 pub fn list<'s>(
     alloc: Global,
     text: &[u8],
     tokens: &'s [Token],
 ) -> Result<(SelectList, &'s [Token]), Refusal>
-    ensures { Gives (λ x. (x.0, lexemes_of text.now x.1.now)) result (list_at (lexemes_of text.now tokens.now)) }
+    ensures { AgreesWith (λ x. (x.0, lexemes_of text.now x.1.now)) result (list_at (lexemes_of text.now tokens.now)) }
 {
     match tokens {
         [Token { kind: STAR, .. }, rest @ ..] => Ok((SelectList::All, rest)),

@@ -1,9 +1,9 @@
 //! Literals and operands.
 ghost use Rattle.std.specs.Prelude.{◌≡◌, ℕ, List, IfOk};
 ghost use Rattle.sql_lexer.specs.Lexemes.{lexemes_of};
-ghost use Rattle.sql_lexer.specs.Results.{Gives};
-ghost use Rattle.sql_parser.specs.Reading.{listed_at, close_at, open_at, natural_at, negative_at, literal_at};
-ghost use Rattle.sql_parser.specs.Reading.{operand_at, members_at};
+ghost use Rattle.sql_lexer.specs.inner.Results.{AgreesWith};
+ghost use Rattle.sql_parser.specs.inner.Reading.{listed_at, close_at, open_at, natural_at, negative_at, literal_at};
+ghost use Rattle.sql_parser.specs.inner.Reading.{operand_at, members_at};
 
 use crate::kinds::{CLOSE, MINUS, NULL, OPEN};
 use crate::names::{after_comma, number};
@@ -17,10 +17,10 @@ use vt_value::{Items, Refusal, Value};
 const MAX_NEGATIVE: u64 = 0x8000_0000_0000_0000;
 
 /// What stands behind a closing parenthesis.
-#[tactic(auto, unfolding(crate::specs::Reading::close_at))]
+#[tactic(auto, unfolding(crate::specs::inner::Reading::close_at))]
 fn close(tokens: &[Token]) -> Result<&[Token], Refusal>
     ensures { (text : List ℕ)
-        → Gives (λ rest. lexemes_of text rest.now) result (close_at (lexemes_of text tokens.now)) }
+        → AgreesWith (λ rest. lexemes_of text rest.now) result (close_at (lexemes_of text tokens.now)) }
 {
     match tokens {
         [Token { kind: CLOSE, .. }, rest @ ..] => Ok(rest),
@@ -32,17 +32,17 @@ fn close(tokens: &[Token]) -> Result<&[Token], Refusal>
 pub fn closed<'s, T: Drop>(inner: T, tokens: &'s [Token]) -> Result<(T, &'s [Token]), Refusal>
     ensures same { IfOk result (λ x. x.0 ≡ inner) }
     ensures behind { (text : List ℕ)
-        → Gives (λ x. lexemes_of text x.1.now) result (close_at (lexemes_of text tokens.now)) }
+        → AgreesWith (λ x. lexemes_of text x.1.now) result (close_at (lexemes_of text tokens.now)) }
 {
     let rest = close(tokens)?;
     Ok((inner, rest))
 }
 
 /// What stands behind an opening parenthesis.
-#[tactic(auto, unfolding(crate::specs::Reading::open_at))]
+#[tactic(auto, unfolding(crate::specs::inner::Reading::open_at))]
 pub fn open(tokens: &[Token]) -> Result<&[Token], Refusal>
     ensures { (text : List ℕ)
-        → Gives (λ rest. lexemes_of text rest.now) result (open_at (lexemes_of text tokens.now)) }
+        → AgreesWith (λ rest. lexemes_of text rest.now) result (open_at (lexemes_of text tokens.now)) }
 {
     match tokens {
         [Token { kind: OPEN, .. }, rest @ ..] => Ok(rest),
@@ -50,18 +50,18 @@ pub fn open(tokens: &[Token]) -> Result<&[Token], Refusal>
     }
 }
 
-#[tactic(auto, unfolding(crate::specs::Reading::natural_at))]
+#[tactic(auto, unfolding(crate::specs::inner::Reading::natural_at))]
 fn natural<'s>(text: &[u8], tokens: &'s [Token]) -> Result<(Value, &'s [Token]), Refusal>
-    ensures { Gives (λ x. (x.0, lexemes_of text.now x.1.now)) result (natural_at (lexemes_of text.now tokens.now)) }
+    ensures { AgreesWith (λ x. (x.0, lexemes_of text.now x.1.now)) result (natural_at (lexemes_of text.now tokens.now)) }
 {
     let (value, rest) = number(text, tokens)?;
     Ok((Value::Int(i128::from(value)), rest))
 }
 
 /// A number behind its minus.
-#[tactic(auto, unfolding(crate::specs::Reading::negative_at))]
+#[tactic(auto, unfolding(crate::specs::inner::Reading::negative_at))]
 fn negative<'s>(text: &[u8], tokens: &'s [Token]) -> Result<(Value, &'s [Token]), Refusal>
-    ensures { Gives (λ x. (x.0, lexemes_of text.now x.1.now)) result (negative_at (lexemes_of text.now tokens.now)) }
+    ensures { AgreesWith (λ x. (x.0, lexemes_of text.now x.1.now)) result (negative_at (lexemes_of text.now tokens.now)) }
 {
     let (value, rest) = number(text, tokens)?;
     if value > MAX_NEGATIVE {
@@ -71,13 +71,13 @@ fn negative<'s>(text: &[u8], tokens: &'s [Token]) -> Result<(Value, &'s [Token])
 }
 
 /// literal = number | - number | string | NULL
-#[tactic(auto, unfolding(crate::specs::Reading::literal_at))]
+#[tactic(auto, unfolding(crate::specs::inner::Reading::literal_at))]
 pub fn literal<'s>(
     alloc: Global,
     text: &[u8],
     tokens: &'s [Token],
 ) -> Result<(Value, &'s [Token]), Refusal>
-    ensures { Gives (λ x. (x.0, lexemes_of text.now x.1.now)) result (literal_at (lexemes_of text.now tokens.now)) }
+    ensures { AgreesWith (λ x. (x.0, lexemes_of text.now x.1.now)) result (literal_at (lexemes_of text.now tokens.now)) }
 {
     match tokens {
         [Token { kind: NULL, .. }, rest @ ..] => Ok((Value::Null, rest)),
@@ -99,7 +99,7 @@ fn literals<'s>(
     text: &[u8],
     tokens: &'s [Token],
 ) -> Result<(Items<Value>, &'s [Token]), Refusal>
-    ensures { Gives (λ x. (x.0, lexemes_of text.now x.1.now)) result
+    ensures { AgreesWith (λ x. (x.0, lexemes_of text.now x.1.now)) result
         (listed_at literal_at (lexemes_of text.now tokens.now)) }
 {
     let (first, mut rest) = literal(alloc, text, tokens)?;
@@ -114,13 +114,13 @@ fn literals<'s>(
 }
 
 /// (literal,..)
-#[tactic(auto, unfolding(crate::specs::Reading::bracketed_at))]
+#[tactic(auto, unfolding(crate::specs::inner::Reading::bracketed_at))]
 pub fn members<'s>(
     alloc: Global,
     text: &[u8],
     tokens: &'s [Token],
 ) -> Result<(Items<Value>, &'s [Token]), Refusal>
-    ensures { Gives (λ x. (x.0, lexemes_of text.now x.1.now)) result (members_at (lexemes_of text.now tokens.now)) }
+    ensures { AgreesWith (λ x. (x.0, lexemes_of text.now x.1.now)) result (members_at (lexemes_of text.now tokens.now)) }
 {
     let rest = open(tokens)?;
     let (members, rest) = literals(alloc, text, rest)?;
@@ -128,13 +128,13 @@ pub fn members<'s>(
 }
 
 /// operand = column | literal
-#[tactic(auto, unfolding(crate::specs::Reading::operand_at))]
+#[tactic(auto, unfolding(crate::specs::inner::Reading::operand_at))]
 pub fn operand<'s>(
     alloc: Global,
     text: &[u8],
     tokens: &'s [Token],
 ) -> Result<(Operand<Name>, &'s [Token]), Refusal>
-    ensures { Gives (λ x. (x.0, lexemes_of text.now x.1.now)) result (operand_at (lexemes_of text.now tokens.now)) }
+    ensures { AgreesWith (λ x. (x.0, lexemes_of text.now x.1.now)) result (operand_at (lexemes_of text.now tokens.now)) }
 {
     let [first, rest @ ..] = tokens else {
         return Err(Refusal::SyntaxError);

@@ -2,8 +2,8 @@
 ghost use Rattle.std.specs.Prelude.{◌≡◌, ℕ, List, option_map};
 ghost use Rattle.std.specs.Option.{option_copied};
 ghost use Rattle.sql_lexer.specs.Lexemes.{lexemes_of};
-ghost use Rattle.sql_lexer.specs.Results.{Gives};
-ghost use Rattle.sql_parser.specs.Reading.{is_comma, after_at, listed_at, name_at, number_at};
+ghost use Rattle.sql_lexer.specs.inner.Results.{AgreesWith};
+ghost use Rattle.sql_parser.specs.inner.Reading.{is_comma, after_at, listed_at, name_at, number_at};
 
 use crate::kinds::COMMA;
 use crate::said;
@@ -24,13 +24,13 @@ pub fn after_comma(tokens: &[Token]) -> Option<&[Token]>
 }
 
 /// name = identifier
-#[tactic(auto, unfolding(crate::specs::Reading::name_at))]
+#[tactic(auto, unfolding(crate::specs::inner::Reading::name_at))]
 pub fn name<'s>(
     alloc: Global,
     text: &[u8],
     tokens: &'s [Token],
 ) -> Result<(Name, &'s [Token]), Refusal>
-    ensures { Gives (λ x. (x.0, lexemes_of text.now x.1.now)) result (name_at (lexemes_of text.now tokens.now)) }
+    ensures { AgreesWith (λ x. (x.0, lexemes_of text.now x.1.now)) result (name_at (lexemes_of text.now tokens.now)) }
 {
     let [first, rest @ ..] = tokens else {
         return Err(Refusal::SyntaxError);
@@ -42,9 +42,9 @@ pub fn name<'s>(
 }
 
 /// A number that 64 bits hold.
-#[tactic(auto, unfolding(crate::specs::Reading::number_at))]
+#[tactic(auto, unfolding(crate::specs::inner::Reading::number_at))]
 pub fn number<'s>(text: &[u8], tokens: &'s [Token]) -> Result<(u64, &'s [Token]), Refusal>
-    ensures { Gives (λ x. (x.0, lexemes_of text.now x.1.now)) result (number_at (lexemes_of text.now tokens.now)) }
+    ensures { AgreesWith (λ x. (x.0, lexemes_of text.now x.1.now)) result (number_at (lexemes_of text.now tokens.now)) }
 {
     let [first, rest @ ..] = tokens else {
         return Err(Refusal::SyntaxError);
@@ -61,7 +61,7 @@ pub fn names<'s>(
     text: &[u8],
     tokens: &'s [Token],
 ) -> Result<(Items<Name>, &'s [Token]), Refusal>
-    ensures { Gives (λ x. (x.0, lexemes_of text.now x.1.now)) result
+    ensures { AgreesWith (λ x. (x.0, lexemes_of text.now x.1.now)) result
         (listed_at name_at (lexemes_of text.now tokens.now)) }
 {
     let (first, mut rest) = name(alloc, text, tokens)?;

@@ -1,11 +1,11 @@
 ghost use Rattle.std.specs.Prelude.{◌≡◌, ◌⊎◌, ℕ, IfOk, IfErr, MatchResult, List, map, bytes_eq};
 ghost use Rattle.std.specs.Char.{to_ascii_lowercase};
 ghost use Rattle.sql_lexer.specs.Lexemes.{lexemes_of};
-ghost use Rattle.sql_lexer.specs.Results.{Gives};
+ghost use Rattle.sql_lexer.specs.inner.Results.{AgreesWith};
 ghost use Rattle.sql_tree.specs.declared.Statement.{Statement};
 ghost use Rattle.sql_tree.specs.Printing.{printed};
 ghost use Rattle.sql_parser.specs.Grammar.{Reads, is_setting};
-ghost use Rattle.sql_parser.specs.Reading.{select_at, charset_at, setting_at, control_at, statement_at, is_end, is_text, text_at};
+ghost use Rattle.sql_parser.specs.inner.Reading.{select_at, charset_at, setting_at, control_at, statement_at, is_end, is_text, text_at};
 
 use crate::clauses::{filter, from, group, limit, order};
 use crate::counting::has_few_literals;
@@ -35,13 +35,13 @@ fn both<'s, A: Drop, B>(
 }
 
 /// list FROM name and the clauses behind it, behind SELECT.
-#[tactic(auto, unfolding(crate::specs::Reading::select_at))]
+#[tactic(auto, unfolding(crate::specs::inner::Reading::select_at))]
 fn select<'s>(
     alloc: Global,
     text: &[u8],
     tokens: &'s [Token],
 ) -> Result<(Select, &'s [Token]), Refusal>
-    ensures { Gives (λ x. (x.0, lexemes_of text.now x.1.now)) result (select_at (lexemes_of text.now tokens.now)) }
+    ensures { AgreesWith (λ x. (x.0, lexemes_of text.now x.1.now)) result (select_at (lexemes_of text.now tokens.now)) }
 {
     let (list, rest) = list(alloc, text, tokens)?;
     let (parts, rest) = both(list, from(alloc, text, rest))?;
@@ -62,13 +62,13 @@ fn select<'s>(
 }
 
 /// identifier | string
-#[tactic(auto, unfolding(crate::specs::Reading::charset_at))]
+#[tactic(auto, unfolding(crate::specs::inner::Reading::charset_at))]
 fn character_set<'s>(
     alloc: Global,
     text: &[u8],
     tokens: &'s [Token],
 ) -> Result<(CharacterSet, &'s [Token]), Refusal>
-    ensures { Gives (λ x. (x.0, lexemes_of text.now x.1.now)) result (charset_at (lexemes_of text.now tokens.now)) }
+    ensures { AgreesWith (λ x. (x.0, lexemes_of text.now x.1.now)) result (charset_at (lexemes_of text.now tokens.now)) }
 {
     match tokens {
         [
@@ -105,13 +105,13 @@ fn is_setting(name: &[u8]) -> bool
 }
 
 /// setting = (identifier | string), behind SET.
-#[tactic(auto, unfolding(crate::specs::Reading::setting_at))]
+#[tactic(auto, unfolding(crate::specs::inner::Reading::setting_at))]
 fn setting<'s>(
     alloc: Global,
     text: &[u8],
     tokens: &'s [Token],
 ) -> Result<(Statement, &'s [Token]), Refusal>
-    ensures { Gives (λ x. (x.0, lexemes_of text.now x.1.now)) result (setting_at (lexemes_of text.now tokens.now)) }
+    ensures { AgreesWith (λ x. (x.0, lexemes_of text.now x.1.now)) result (setting_at (lexemes_of text.now tokens.now)) }
 {
     let (name, rest) = name(alloc, text, tokens)?;
     let is_known = is_setting(name.as_slice());
@@ -125,13 +125,13 @@ fn setting<'s>(
 }
 
 /// BEGIN | START TRANSACTION | COMMIT | ROLLBACK | SET NAMES (identifier | string) | SET setting = (identifier | string)
-#[tactic(auto, unfolding(crate::specs::Reading::control_at))]
+#[tactic(auto, unfolding(crate::specs::inner::Reading::control_at))]
 fn control<'s>(
     alloc: Global,
     text: &[u8],
     tokens: &'s [Token],
 ) -> Result<(Statement, &'s [Token]), Refusal>
-    ensures { Gives (λ x. (x.0, lexemes_of text.now x.1.now)) result (control_at (lexemes_of text.now tokens.now)) }
+    ensures { AgreesWith (λ x. (x.0, lexemes_of text.now x.1.now)) result (control_at (lexemes_of text.now tokens.now)) }
 {
     match tokens {
         [Token { kind: BEGIN, .. }, rest @ ..] => Ok((Statement::Begin, rest)),
@@ -159,13 +159,13 @@ fn control<'s>(
 }
 
 /// statement = select | insert | update | delete | one of sessions and transactions
-#[tactic(auto, unfolding(crate::specs::Reading::statement_at))]
+#[tactic(auto, unfolding(crate::specs::inner::Reading::statement_at))]
 fn statement<'s>(
     alloc: Global,
     text: &[u8],
     tokens: &'s [Token],
 ) -> Result<(Statement, &'s [Token]), Refusal>
-    ensures { Gives (λ x. (x.0, lexemes_of text.now x.1.now)) result (statement_at (lexemes_of text.now tokens.now)) }
+    ensures { AgreesWith (λ x. (x.0, lexemes_of text.now x.1.now)) result (statement_at (lexemes_of text.now tokens.now)) }
 {
     match tokens {
         [Token { kind: SELECT, .. }, rest @ ..] => {
@@ -216,9 +216,9 @@ fn is_text(statement: &Statement, rest: &[Token]) -> bool
 }
 
 /// The statement that all of the tokens are.
-#[tactic(auto, unfolding(crate::specs::Reading::text_at))]
+#[tactic(auto, unfolding(crate::specs::inner::Reading::text_at))]
 fn whole(alloc: Global, text: &[u8], tokens: &[Token]) -> Result<Statement, Refusal>
-    ensures { Gives (λ x. x) result (text_at (lexemes_of text.now tokens.now)) }
+    ensures { AgreesWith (λ x. x) result (text_at (lexemes_of text.now tokens.now)) }
 {
     let (statement, rest) = statement(alloc, text, tokens)?;
     is_text(&statement, rest)

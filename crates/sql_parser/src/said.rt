@@ -2,7 +2,7 @@
 ghost use Rattle.std.specs.Prelude.{◌≡◌, ◌+◌, ◌-◌, ◌*◌, slice_range, IfOk, IfErr};
 ghost use Rattle.std.specs.Option.{option_copied};
 ghost use Rattle.sql_lexer.specs.Lexemes.{digits_onto, inner, unescaped};
-ghost use Rattle.sql_parser.specs.Reading.{said, identifier_of, number_of, fitting};
+ghost use Rattle.sql_parser.specs.inner.Reading.{said, identifier_of, natural_of, fitting};
 
 use crate::unescaping::unescaped;
 use sql_lexer::{Token, TokenKind};
@@ -60,7 +60,7 @@ fn value_of(digits: &[u8]) -> Option<u64>
 
 /// The number that a token says, if 64 bits hold it.
 pub fn number(text: &[u8], token: &Token) -> Option<u64>
-    ensures { result ≡ number_of (said text.now token.now) }
+    ensures { result ≡ natural_of (said text.now token.now) }
 {
     match token.kind {
         TokenKind::Number => value_of(bytes_of(text, token)),

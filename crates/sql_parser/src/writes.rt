@@ -1,9 +1,9 @@
 //! INSERT, UPDATE and DELETE, behind their first words.
 ghost use Rattle.std.specs.Prelude.{◌≡◌, ℕ, List};
 ghost use Rattle.sql_lexer.specs.Lexemes.{lexemes_of};
-ghost use Rattle.sql_lexer.specs.Results.{Gives};
-ghost use Rattle.sql_parser.specs.Reading.{listed_at, bracketed_at, name_at, members_at, columns_at, values_at};
-ghost use Rattle.sql_parser.specs.Reading.{set_at, equals_at, assignment_at, insert_at, update_at, delete_at};
+ghost use Rattle.sql_lexer.specs.inner.Results.{AgreesWith};
+ghost use Rattle.sql_parser.specs.inner.Reading.{listed_at, bracketed_at, name_at, members_at, columns_at, values_at};
+ghost use Rattle.sql_parser.specs.inner.Reading.{set_at, equals_at, assignment_at, insert_at, update_at, delete_at};
 
 use crate::clauses::{filter, from};
 use crate::kinds::{EQUAL, OPEN, SET, VALUES};
@@ -15,10 +15,10 @@ use std::alloc::Global;
 use vt_value::{Items, Refusal, Value};
 
 /// What stands behind VALUES.
-#[tactic(auto, unfolding(crate::specs::Reading::values_at))]
+#[tactic(auto, unfolding(crate::specs::inner::Reading::values_at))]
 fn values(tokens: &[Token]) -> Result<&[Token], Refusal>
     ensures { (text : List ℕ)
-        → Gives (λ rest. lexemes_of text rest.now) result (values_at (lexemes_of text tokens.now)) }
+        → AgreesWith (λ rest. lexemes_of text rest.now) result (values_at (lexemes_of text tokens.now)) }
 {
     match tokens {
         [Token { kind: VALUES, .. }, rest @ ..] => Ok(rest),
@@ -27,10 +27,10 @@ fn values(tokens: &[Token]) -> Result<&[Token], Refusal>
 }
 
 /// What stands behind SET.
-#[tactic(auto, unfolding(crate::specs::Reading::set_at))]
+#[tactic(auto, unfolding(crate::specs::inner::Reading::set_at))]
 fn set(tokens: &[Token]) -> Result<&[Token], Refusal>
     ensures { (text : List ℕ)
-        → Gives (λ rest. lexemes_of text rest.now) result (set_at (lexemes_of text tokens.now)) }
+        → AgreesWith (λ rest. lexemes_of text rest.now) result (set_at (lexemes_of text tokens.now)) }
 {
     match tokens {
         [Token { kind: SET, .. }, rest @ ..] => Ok(rest),
@@ -39,10 +39,10 @@ fn set(tokens: &[Token]) -> Result<&[Token], Refusal>
 }
 
 /// What stands behind `=`.
-#[tactic(auto, unfolding(crate::specs::Reading::equals_at))]
+#[tactic(auto, unfolding(crate::specs::inner::Reading::equals_at))]
 pub fn equals(tokens: &[Token]) -> Result<&[Token], Refusal>
     ensures { (text : List ℕ)
-        → Gives (λ rest. lexemes_of text rest.now) result (equals_at (lexemes_of text tokens.now)) }
+        → AgreesWith (λ rest. lexemes_of text rest.now) result (equals_at (lexemes_of text tokens.now)) }
 {
     match tokens {
         [Token { kind: EQUAL, .. }, rest @ ..] => Ok(rest),
@@ -51,13 +51,13 @@ pub fn equals(tokens: &[Token]) -> Result<&[Token], Refusal>
 }
 
 /// (column,..)
-#[tactic(auto, unfolding(crate::specs::Reading::bracketed_at))]
+#[tactic(auto, unfolding(crate::specs::inner::Reading::bracketed_at))]
 fn bracketed_names<'s>(
     alloc: Global,
     text: &[u8],
     tokens: &'s [Token],
 ) -> Result<(Items<Name>, &'s [Token]), Refusal>
-    ensures { Gives (λ x. (x.0, lexemes_of text.now x.1.now)) result
+    ensures { AgreesWith (λ x. (x.0, lexemes_of text.now x.1.now)) result
         (bracketed_at name_at (lexemes_of text.now tokens.now)) }
 {
     let rest = open(tokens)?;
@@ -66,13 +66,13 @@ fn bracketed_names<'s>(
 }
 
 /// [(column,..)]
-#[tactic(auto, unfolding(crate::specs::Reading::columns_at))]
+#[tactic(auto, unfolding(crate::specs::inner::Reading::columns_at))]
 fn columns<'s>(
     alloc: Global,
     text: &[u8],
     tokens: &'s [Token],
 ) -> Result<(Option<Items<Name>>, &'s [Token]), Refusal>
-    ensures { Gives (λ x. (x.0, lexemes_of text.now x.1.now)) result (columns_at (lexemes_of text.now tokens.now)) }
+    ensures { AgreesWith (λ x. (x.0, lexemes_of text.now x.1.now)) result (columns_at (lexemes_of text.now tokens.now)) }
 {
     match tokens {
         [Token { kind: OPEN, .. }, ..] => {
@@ -89,7 +89,7 @@ fn rows<'s>(
     text: &[u8],
     tokens: &'s [Token],
 ) -> Result<(Items<Items<Value>>, &'s [Token]), Refusal>
-    ensures { Gives (λ x. (x.0, lexemes_of text.now x.1.now)) result
+    ensures { AgreesWith (λ x. (x.0, lexemes_of text.now x.1.now)) result
         (listed_at members_at (lexemes_of text.now tokens.now)) }
 {
     let (first, mut rest) = members(alloc, text, tokens)?;
@@ -104,13 +104,13 @@ fn rows<'s>(
 }
 
 /// name [(column,..)] VALUES (literal,..),.., behind INSERT INTO.
-#[tactic(auto, unfolding(crate::specs::Reading::insert_at))]
+#[tactic(auto, unfolding(crate::specs::inner::Reading::insert_at))]
 pub fn insert<'s>(
     alloc: Global,
     text: &[u8],
     tokens: &'s [Token],
 ) -> Result<(Insert, &'s [Token]), Refusal>
-    ensures { Gives (λ x. (x.0, lexemes_of text.now x.1.now)) result (insert_at (lexemes_of text.now tokens.now)) }
+    ensures { AgreesWith (λ x. (x.0, lexemes_of text.now x.1.now)) result (insert_at (lexemes_of text.now tokens.now)) }
 {
     let (table, rest) = name(alloc, text, tokens)?;
     let (columns, rest) = columns(alloc, text, rest)?;
@@ -125,13 +125,13 @@ pub fn insert<'s>(
 }
 
 /// column = literal
-#[tactic(auto, unfolding(crate::specs::Reading::assignment_at))]
+#[tactic(auto, unfolding(crate::specs::inner::Reading::assignment_at))]
 fn assignment<'s>(
     alloc: Global,
     text: &[u8],
     tokens: &'s [Token],
 ) -> Result<(Assignment<Name>, &'s [Token]), Refusal>
-    ensures { Gives (λ x. (x.0, lexemes_of text.now x.1.now)) result (assignment_at (lexemes_of text.now tokens.now)) }
+    ensures { AgreesWith (λ x. (x.0, lexemes_of text.now x.1.now)) result (assignment_at (lexemes_of text.now tokens.now)) }
 {
     let (column, rest) = name(alloc, text, tokens)?;
     let rest = equals(rest)?;
@@ -145,7 +145,7 @@ fn assignments<'s>(
     text: &[u8],
     tokens: &'s [Token],
 ) -> Result<(Items<Assignment<Name>>, &'s [Token]), Refusal>
-    ensures { Gives (λ x. (x.0, lexemes_of text.now x.1.now)) result
+    ensures { AgreesWith (λ x. (x.0, lexemes_of text.now x.1.now)) result
         (listed_at assignment_at (lexemes_of text.now tokens.now)) }
 {
     let (first, mut rest) = assignment(alloc, text, tokens)?;
@@ -160,13 +160,13 @@ fn assignments<'s>(
 }
 
 /// name SET column = literal,.. [WHERE or], behind UPDATE.
-#[tactic(auto, unfolding(crate::specs::Reading::update_at))]
+#[tactic(auto, unfolding(crate::specs::inner::Reading::update_at))]
 pub fn update<'s>(
     alloc: Global,
     text: &[u8],
     tokens: &'s [Token],
 ) -> Result<(Update, &'s [Token]), Refusal>
-    ensures { Gives (λ x. (x.0, lexemes_of text.now x.1.now)) result (update_at (lexemes_of text.now tokens.now)) }
+    ensures { AgreesWith (λ x. (x.0, lexemes_of text.now x.1.now)) result (update_at (lexemes_of text.now tokens.now)) }
 {
     let (table, rest) = name(alloc, text, tokens)?;
     let rest = set(rest)?;
@@ -181,13 +181,13 @@ pub fn update<'s>(
 }
 
 /// FROM name [WHERE or], behind DELETE.
-#[tactic(auto, unfolding(crate::specs::Reading::delete_at))]
+#[tactic(auto, unfolding(crate::specs::inner::Reading::delete_at))]
 pub fn delete<'s>(
     alloc: Global,
     text: &[u8],
     tokens: &'s [Token],
 ) -> Result<(Delete, &'s [Token]), Refusal>
-    ensures { Gives (λ x. (x.0, lexemes_of text.now x.1.now)) result (delete_at (lexemes_of text.now tokens.now)) }
+    ensures { AgreesWith (λ x. (x.0, lexemes_of text.now x.1.now)) result (delete_at (lexemes_of text.now tokens.now)) }
 {
     let (table, rest) = from(alloc, text, tokens)?;
     let (filter, rest) = filter(alloc, text, rest)?;

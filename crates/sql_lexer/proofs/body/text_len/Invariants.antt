@@ -1,6 +1,6 @@
 use Rattle.std.proofs.Common.{◌≡◌, drop}
 use Rattle.sql_lexer.specs.declared.body.Place.TheVariants.{Inside}
-use Rattle.sql_lexer.specs.Scanning.{text_len}
+use Rattle.sql_lexer.specs.inner.Scanning.{text_len}
 use Rattle.sql_lexer.proofs.body.text_len.Given as goal
 
 abbrev pub invariant-loop-count : goal.invariant-loop-count

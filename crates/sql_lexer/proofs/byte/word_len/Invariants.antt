@@ -1,6 +1,6 @@
 use Rattle.std.proofs.Common.{◌≡◌, ◌+◌, drop}
 use Rattle.sql_lexer.specs.Lexemes.{is_word_byte}
-use Rattle.sql_lexer.specs.Scanning.{run}
+use Rattle.sql_lexer.specs.inner.Scanning.{run}
 use Rattle.sql_lexer.proofs.byte.word_len.Given as goal
 
 abbrev pub invariant-loop-byte : goal.invariant-loop-byte

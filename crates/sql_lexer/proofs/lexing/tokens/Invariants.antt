@@ -1,5 +1,5 @@
 use Rattle.std.proofs.Common.{◌≤◌, ◌-◌, length, drop}
-use Rattle.sql_lexer.specs.Scanning.{lex_at}
+use Rattle.sql_lexer.specs.inner.Scanning.{lex_at}
 use Rattle.sql_lexer.proofs.Loop.{StillReads}
 use Rattle.sql_lexer.proofs.lexing.tokens.Given as goal
 

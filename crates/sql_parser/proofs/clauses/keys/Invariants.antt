@@ -1,14 +1,14 @@
 use Rattle.std.proofs.Common.{length}
 use Rattle.sql_lexer.specs.Lexemes.{lexemes_of}
-use Rattle.sql_parser.specs.Reading.{key_at, all_follow, is_comma}
+use Rattle.sql_parser.specs.inner.Reading.{sort_key_at, all_follow, is_comma}
 use Rattle.sql_parser.proofs.Loops.{StillReads}
 use Rattle.sql_parser.proofs.clauses.keys.Given as goal
 
 abbrev pub invariant-loop-after : goal.invariant-loop-after
 invariant-loop-after l =
-    StillReads is_comma key_at l.keys
+    StillReads is_comma sort_key_at l.keys
     (lexemes_of l.text l.rest)
-    (all_follow is_comma key_at l.initial.keys (lexemes_of l.text l.initial.rest))
+    (all_follow is_comma sort_key_at l.initial.keys (lexemes_of l.text l.initial.rest))
 
 abbrev pub decreases-loop-after : goal.decreases-loop-after
 decreases-loop-after l = length l.rest

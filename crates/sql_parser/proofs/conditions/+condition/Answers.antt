@@ -2,8 +2,9 @@ use Rattle.std.proofs.Common.{arith, sym}
 use Rattle.std.proofs.lemmas.List.{length-map}
 use Rattle.std.proofs.lemmas.Result.{err_from_is_err_and}
 use Rattle.sql_lexer.specs.Lexemes.{lexemes_of}
-use Rattle.sql_parser.specs.Grammar.{ReadsNot, ReadsAnd}
-use Rattle.sql_parser.specs.Reading.{is_and, is_or, not_at, and_at}
+use Rattle.sql_parser.specs.Grammar.{ReadsNot}
+use Rattle.sql_parser.specs.inner.Reading.{ReadsAnd}
+use Rattle.sql_parser.specs.inner.Reading.{is_and, is_or, not_at, and_at}
 use Rattle.sql_parser.proofs.Loops.{goes_on, fails, is_done, after_shorter}
 use Rattle.sql_parser.proofs.Sound.{shrinks}
 use Rattle.sql_parser.proofs.ConditionsSound.{not_sound, and_sound}

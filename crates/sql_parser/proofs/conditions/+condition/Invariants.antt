@@ -1,6 +1,6 @@
 use Rattle.std.proofs.Common.{◌∷◌, [], length, ◌+◌, ◌*◌}
 use Rattle.sql_lexer.specs.Lexemes.{lexemes_of}
-use Rattle.sql_parser.specs.Reading.{all_follow, is_and, is_or, not_at, and_at}
+use Rattle.sql_parser.specs.inner.Reading.{all_follow, is_and, is_or, not_at, and_at}
 use Rattle.sql_parser.proofs.Loops.{StillReads}
 use Rattle.sql_parser.proofs.conditions.+condition.Given as goal
 

@@ -1,6 +1,6 @@
 use Rattle.std.proofs.Common.{length}
 use Rattle.sql_lexer.specs.Lexemes.{lexemes_of}
-use Rattle.sql_parser.specs.Reading.{item_at, all_follow, is_comma}
+use Rattle.sql_parser.specs.inner.Reading.{item_at, all_follow, is_comma}
 use Rattle.sql_parser.proofs.Loops.{StillReads}
 use Rattle.sql_parser.proofs.items.items.Given as goal
 

@@ -2,9 +2,9 @@ use Rattle.std.proofs.Common.{◌∙◌, arith, sym, subst}
 use Rattle.std.proofs.lemmas.List.{length-map}
 use Rattle.std.proofs.lemmas.Result.{err_from_is_err_and}
 use Rattle.sql_lexer.specs.Lexemes.{lexemes_of}
-use Rattle.sql_lexer.specs.Results.{Fails}
+use Rattle.sql_lexer.specs.inner.Results.{Fails}
 use Rattle.sql_parser.specs.Grammar.{ReadsName}
-use Rattle.sql_parser.specs.Reading.{name_at, is_comma}
+use Rattle.sql_parser.specs.inner.Reading.{name_at, is_comma}
 use Rattle.sql_parser.proofs.Loops.{goes_on, fails, is_done, after_shorter, listed_from}
 use Rattle.sql_parser.proofs.Sound.{shrinks}
 use Rattle.sql_parser.proofs.LiteralLaws.{name_sound}

@@ -4,7 +4,7 @@ use Rattle.sql_lexer.specs.Lexemes.{lexemes_of}
 use Rattle.sql_lexer.specs.Tokens.{Lexes}
 use Rattle.sql_lexer.proofs.Lexes.{lex_again}
 use Rattle.sql_lexer.proofs.Options.{some_is}
-use Rattle.sql_parser.specs.Reading.{text_at}
+use Rattle.sql_parser.specs.inner.Reading.{text_at}
 use Rattle.sql_parser.proofs.Statements.{text_again}
 use Rattle.sql_parser.proofs.reading.one_tree.Goals as goal
 

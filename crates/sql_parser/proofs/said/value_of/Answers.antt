@@ -1,7 +1,7 @@
 use Rattle.std.proofs.Common.{◌≡◌, ◌+◌, ◌-◌, ◌*◌, ◌∷◌, ◌∙◌, suc, drop, get_or, length, arith, sym, ap, add-one, drop-cons}
 use Rattle.std.proofs.lemmas.List.{length-drop}
 use Rattle.sql_lexer.specs.Lexemes.{digits_onto}
-use Rattle.sql_parser.specs.Reading.{fitting}
+use Rattle.sql_parser.specs.inner.Reading.{fitting}
 use Rattle.sql_parser.proofs.Digits.{fits, fitting_is, stays_too_large, all_read}
 use Rattle.sql_parser.proofs.said.value_of.Goals as goal
 

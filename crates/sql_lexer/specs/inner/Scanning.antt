@@ -12,7 +12,7 @@ use Rattle.sql_lexer.specs.declared.token.Token.{Token}
 use Rattle.sql_lexer.specs.declared.token.TokenKind.{TokenKind}
 use Rattle.sql_lexer.specs.declared.token.TokenKind.TheVariants.{Keyword, Word, Quoted, Number, Text, Sign, Operator}
 use Rattle.sql_lexer.specs.Keywords.{keywords}
-use Rattle.sql_lexer.specs.Results.{◌>>=◌}
+use Rattle.sql_lexer.specs.inner.Results.{◌>>=◌}
 use Rattle.sql_lexer.specs.Lexemes.{is_blank, is_letter, is_digit, is_word_byte, is_spelling_of, max_word}
 
 -- the kind of the token at the front, and how many bytes it has
@@ -25,9 +25,9 @@ run p [] = 0
 run p (b ∷ bytes) = if p b then suc (run p bytes) else 0
 
 -- whether the first byte passes
-abbrev pub begins : (ℕ → Bool) → List ℕ → Bool
-begins p [] = false
-begins p (b ∷ bytes) = p b
+abbrev pub first_passes : (ℕ → Bool) → List ℕ → Bool
+first_passes p [] = false
+first_passes p (b ∷ bytes) = p b
 
 abbrev pub word_kind : Option K.Keyword → TokenKind
 word_kind (Some k) = Keyword k
@@ -41,13 +41,13 @@ unfoldable pub word_at : List ℕ → Option Front
 word_at bytes =
     if nat_le (run is_word_byte bytes) max_word then Some (word_kind (keyword_at (take (run is_word_byte bytes) bytes)), run is_word_byte bytes) else None
 
-unfoldable pub number_at : List ℕ → Option Front
-number_at bytes = if begins is_word_byte (drop (run is_digit bytes) bytes) then None else Some (Number, run is_digit bytes)
+unfoldable pub digits_at : List ℕ → Option Front
+digits_at bytes = if first_passes is_word_byte (drop (run is_digit bytes) bytes) then None else Some (Number, run is_digit bytes)
 
 -- behind the first backquote
 unfoldable pub quoted_at : List ℕ → Option Front
 quoted_at bytes =
-    if begins is_letter bytes && nat_le (run is_word_byte bytes) max_word && begins (λ b. b == 0x60) (drop (run is_word_byte bytes) bytes)
+    if first_passes is_letter bytes && nat_le (run is_word_byte bytes) max_word && first_passes (λ b. b == 0x60) (drop (run is_word_byte bytes) bytes)
     then Some (Quoted, run is_word_byte bytes + 2) else None
 
 -- the place in a text behind a byte, unless the text ended before it
@@ -67,8 +67,8 @@ text_len n place [] = closed n place
 text_len n place (b ∷ bytes) = elim (after_byte place b) [ Some next ↦ text_len (n + 1) next bytes | None ↦ Some n ]
 
 -- behind the first quote
-unfoldable pub text_at : List ℕ → Option Front
-text_at bytes = text_len 0 Inside bytes >>= λ n. Some (Text, n + 1)
+unfoldable pub string_at : List ℕ → Option Front
+string_at bytes = text_len 0 Inside bytes >>= λ n. Some (Text, n + 1)
 
 abbrev pub sign_at : ℕ → Option S.Sign
 sign_at b =
@@ -113,9 +113,9 @@ unfoldable pub token_at : List ℕ → Option Front
 token_at [] = None
 token_at (b ∷ bytes) =
     if b == 0x60 then quoted_at bytes
-    else if b == 0x27 then text_at bytes
+    else if b == 0x27 then string_at bytes
     else if is_letter b then word_at (b ∷ bytes)
-    else if is_digit b then number_at (b ∷ bytes)
+    else if is_digit b then digits_at (b ∷ bytes)
     else mark_at b bytes
 
 -- n is at least the count of bytes, which stand at this place of a text

@@ -7,7 +7,7 @@ use Rattle.sql_lexer.specs.declared.token.Token.{Token}
 use Rattle.sql_lexer.specs.declared.token.Keyword.TheVariants as k
 use Rattle.sql_lexer.specs.declared.token.Sign.TheVariants.{LeftParenthesis, RightParenthesis, Star, Comma, Semicolon, Minus}
 use Rattle.sql_lexer.specs.Lexemes.{Lexeme, keyword, identifier, number, text, sign, operator, said_by}
-use Rattle.sql_lexer.specs.Results.{◌>>=◌}
+use Rattle.sql_lexer.specs.inner.Results.{◌>>=◌}
 use Rattle.sql_tree.specs.declared.Operand.{Operand}
 use Rattle.sql_tree.specs.declared.Operand.TheVariants.{Column, Literal}
 use Rattle.sql_tree.specs.declared.Condition.{Condition, Compare, In, IsNull, Not, And, Or}
@@ -27,7 +27,7 @@ use Rattle.sql_tree.specs.declared.Delete as D
 use Rattle.sql_tree.specs.declared.Statement.{Statement}
 use Rattle.sql_tree.specs.declared.Statement.TheVariants.{Select, Insert, Update, Delete, Begin, Commit, Rollback, SetNames}
 use Rattle.sql_tree.specs.Literals.{Name, literals_of}
-use Rattle.sql_parser.specs.Grammar.{Lexemes, max_depth, max_literals, is_setting}
+use Rattle.sql_parser.specs.Grammar.{Lexemes, Joined, ReadsNot, max_depth, max_literals, is_setting}
 
 -- what is read at the front, and what stands behind it
 abbrev pub Read : Type 0 → Type 0
@@ -79,9 +79,9 @@ identifier_of _ = None
 abbrev pub fitting : ℕ → Option ℕ
 fitting n = if nat_lt n (2 ^ 64) then Some n else None
 
-abbrev pub number_of : Lexeme → Option ℕ
-number_of (number n) = fitting n
-number_of _ = None
+abbrev pub natural_of : Lexeme → Option ℕ
+natural_of (number n) = fitting n
+natural_of _ = None
 
 unfoldable pub name_at : Lexemes → Read Name
 name_at [] = None
@@ -89,7 +89,7 @@ name_at (t ∷ rest) = identifier_of t >>= λ bytes. Some (bytes, rest)
 
 unfoldable pub number_at : Lexemes → Read ℕ
 number_at [] = None
-number_at (t ∷ rest) = number_of t >>= λ n. Some (n, rest)
+number_at (t ∷ rest) = natural_of t >>= λ n. Some (n, rest)
 
 -- ---- literals
 
@@ -223,11 +223,11 @@ direction_at (keyword k.Asc ∷ rest) = (false, rest)
 direction_at (keyword k.Desc ∷ rest) = (true, rest)
 direction_at ts = (false, ts)
 
-unfoldable pub key_at : Lexemes → Read (Key Name)
-key_at ts = name_at ts >>= λ column. Some (record { column = column.0; descending = (direction_at column.1).0 }, (direction_at column.1).1)
+unfoldable pub sort_key_at : Lexemes → Read (Key Name)
+sort_key_at ts = name_at ts >>= λ column. Some (record { column = column.0; descending = (direction_at column.1).0 }, (direction_at column.1).1)
 
 unfoldable pub order_at : Lexemes → Read (List (Key Name))
-order_at (keyword k.Order ∷ keyword k.By ∷ rest) = listed_at key_at rest
+order_at (keyword k.Order ∷ keyword k.By ∷ rest) = listed_at sort_key_at rest
 order_at ts = Some ([], ts)
 
 unfoldable pub offset_at : Lexemes → Read ℕ
@@ -339,3 +339,7 @@ is_text x = is_end x.1 && nat_le (literals_of x.0) max_literals
 
 unfoldable pub text_at : Lexemes → Option Statement
 text_at ts = statement_at ts >>= λ x. if is_text x then Some x.0 else None
+
+-- not | not AND not AND .., as the grammar has it
+abbrev pub ReadsAnd : ℕ → Lexemes → Condition Name → Type 0
+ReadsAnd depth = Joined (keyword k.And) And (ReadsNot depth)

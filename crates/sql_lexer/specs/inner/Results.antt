@@ -14,6 +14,6 @@ Fails R.OutOfMemory read = Unit {0}
 Fails R.SyntaxError read = read ≡ None
 Fails _ read = ⊥
 
-abbrev pub Gives : {X Y : Type 0} → (X → Y) → Result X Refusal → Option Y → Type 0
-Gives view (Ok x) read = read ≡ Some (view x)
-Gives view (Err e) read = Fails e read
+abbrev pub AgreesWith : {X Y : Type 0} → (X → Y) → Result X Refusal → Option Y → Type 0
+AgreesWith view (Ok x) read = read ≡ Some (view x)
+AgreesWith view (Err e) read = Fails e read
