@@ -10,7 +10,8 @@ use Rattle.vschema.specs.declared.first_places.FirstPlaces.{FirstPlaces}
 use Rattle.vschema.specs.Schema.{place_from}
 use Rattle.vschema.specs.declared.schema.Query.{Query}
 use Rattle.vschema.specs.Checks.{has_number, is_aggregated, is_ungrouped, shows_ungrouped}
-use Rattle.vschema.specs.FirstPlaces.{first_place, shows_other}
+use Rattle.vschema.specs.FirstPlaces.{first_place}
+use Rattle.vschema.specs.inner.FirstPlaces.{shows_other}
 
 same_number : (x n : ℕ) → is_eq (nat_cmp x n) ≡ (x == n)
 same_number x n = grind (arith, common_steps)

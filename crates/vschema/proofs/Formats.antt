@@ -13,8 +13,8 @@ use Rattle.vschema.specs.declared.document.DeclaredKey.{DeclaredKey}
 use Rattle.vschema.specs.declared.document.DeclaredTable.{DeclaredTable}
 use Rattle.vschema.specs.declared.document.DeclaredKeyspace.{DeclaredKeyspace}
 use Rattle.vschema.specs.Resolved.{Name}
-use Rattle.vschema.specs.Json.{all_some, array_of, object_of, elements, named_values, members_in, has_only, needed, optional}
-use Rattle.vschema.specs.Documents.{if_word, word, begins_above_zero, size, varbinary, behind, before, column_type, column_from, column, key, table_from, table, vindex, keyspace_from, keyspace, document}
+use Rattle.vschema.specs.Json.{all_some, array_of, object_of, elements, named_values, members_in, has_only, needed_member, optional}
+use Rattle.vschema.specs.Documents.{if_word, word, begins_above_zero, column_length, varbinary, rest_behind, before, column_type, column_from, column, key, table_from, table, vindex, keyspace_from, keyspace, document}
 use Rattle.vschema.specs.WellFormed.{is_type}
 use Rattle.vschema.specs.WriteChecks.{has_twice}
 use Rattle.vschema.proofs.Options.{some_same, never, bound, mapped, tested, both, join, all_pass, all_same}
@@ -43,7 +43,7 @@ above_zero (d ∷ digits) b all =
     let large : 49 ≤ d = grind (arith, nat_tests) in
     omega (arith, digits_grow (0 * 10 + (d - 48)) digits, large)
 
-size_good : (digits : List ℕ) (n : ℕ) → size digits ≡ Some n → nat_le 1 n && nat_le n 255 ≡ true
+size_good : (digits : List ℕ) (n : ℕ) → column_length digits ≡ Some n → nat_le 1 n && nat_le n 255 ≡ true
 size_good digits n e =
     let t = tested (begins_above_zero digits && list_all is_digit digits && nat_le (digits_onto 0 digits) 255) (Some (digits_onto 0 digits)) n e in
     let most = both (begins_above_zero digits && list_all is_digit digits) (nat_le (digits_onto 0 digits) 255) t.0 in
@@ -54,9 +54,9 @@ size_good digits n e =
 
 varbinary_good : (text : List ℕ) (kind : ColumnType) → varbinary text ≡ Some kind → is_type kind ≡ true
 varbinary_good text kind e =
-    let inside = option_and_then (before (codes ")")) (behind (codes "VARBINARY(") text) in
-    let m = mapped (option_and_then size inside) VarBinary kind e in
-    let s = bound inside size m.0 m.1 in
+    let inside = option_and_then (before (codes ")")) (rest_behind (codes "VARBINARY(") text) in
+    let m = mapped (option_and_then column_length inside) VarBinary kind e in
+    let s = bound inside column_length m.0 m.1 in
     ap is_type (sym m.2) ∙ size_good s.0 m.0 s.2
 
 type_of : (a b : Bool) (o : Option ColumnType) (kind : ColumnType) → ((k : ColumnType) → o ≡ Some k → is_type k ≡ true)
@@ -77,13 +77,13 @@ column_parts (Some name) (Some kind) None c named typed e = never c e
 column_parts (Some name) (Some kind) (Some null) c named typed e =
     ap good_column (sym (some_same (record { name = name; kind = kind; nullable = unwrap_or null false }) c e)) ∙ join (named name refl) (typed kind refl)
 
-needed_word : (member : List ℕ) (d : Data) (name : Name) → needed word member d ≡ Some name → is_word name ≡ true
+needed_word : (member : List ℕ) (d : Data) (name : Name) → needed_member word member d ≡ Some name → is_word name ≡ true
 needed_word member d name e = let v = bound (get member d) word name e in word_good v.0 name v.2
 
 abbrev typed : Data → Option ColumnType
 typed d = option_and_then column_type (as_str d)
 
-needed_type : (member : List ℕ) (d : Data) (kind : ColumnType) → needed typed member d ≡ Some kind → is_type kind ≡ true
+needed_type : (member : List ℕ) (d : Data) (kind : ColumnType) → needed_member typed member d ≡ Some kind → is_type kind ≡ true
 needed_type member d kind e =
     let v = bound (get member d) typed kind e in
     let s = bound (as_str v.0) column_type kind v.2 in
@@ -92,10 +92,10 @@ needed_type member d kind e =
 column_good : (d : Data) (c : Column) → column d ≡ Some c → good_column c ≡ true
 column_good d c e =
     let t = tested (has_only (codes "name" ∷ codes "type" ∷ codes "null" ∷ []) d) _ c e in
-    column_parts (needed word (codes "name") d) (needed typed (codes "type") d) (optional as_bool (codes "null") d) c (needed_word (codes "name") d) (needed_type (codes "type") d) t.1
+    column_parts (needed_member word (codes "name") d) (needed_member typed (codes "type") d) (optional as_bool (codes "null") d) c (needed_word (codes "name") d) (needed_type (codes "type") d) t.1
 
 array_good : {A : Type 0} (read : Data → Option A) (p : A → Bool) → ((d : Data) (x : A) → read d ≡ Some x → p x ≡ true) → (member : List ℕ) (d : Data) (xs : List A)
-    → needed (array_of read) member d ≡ Some xs → list_all p xs ≡ true
+    → needed_member (array_of read) member d ≡ Some xs → list_all p xs ≡ true
 array_good read p each member d xs e =
     let v = bound (get member d) (array_of read) xs e in
     let ds = bound (as_array v.0) (λ is. all_some (map read (elements is))) xs v.2 in
@@ -113,11 +113,11 @@ table_good : (name : Name) (d : Data) (t : DeclaredTable) → table name d ≡ S
 table_good name d t e =
     let only = has_only (codes "columns" ∷ codes "primary_key" ∷ codes "column_vindexes" ∷ []) d in
     let h = tested (is_word name && only) _ t e in
-    table_parts name (needed (array_of column) (codes "columns") d) (needed (array_of word) (codes "primary_key") d) (optional (array_of key) (codes "column_vindexes") d) t
+    table_parts name (needed_member (array_of column) (codes "columns") d) (needed_member (array_of word) (codes "primary_key") d) (optional (array_of key) (codes "column_vindexes") d) t
     (both (is_word name) only h.0).0 (array_good column good_column column_good (codes "columns") d) h.1
 
 object_good : {A : Type 0} (read : Name → Data → Option A) (p : A → Bool) → ((name : Name) (d : Data) (x : A) → read name d ≡ Some x → p x ≡ true) → (member : List ℕ) (d : Data) (xs : List A)
-    → needed (object_of read) member d ≡ Some xs → list_all p xs ≡ true
+    → needed_member (object_of read) member d ≡ Some xs → list_all p xs ≡ true
 object_good read p each member d xs e =
     let v = bound (get member d) (object_of read) xs e in
     let ms = bound (as_object v.0) (λ ms. all_some (map (λ m. read m.0 m.1) (named_values ms))) xs v.2 in
@@ -136,12 +136,12 @@ keyspace_good : (name : Name) (d : Data) (k : DeclaredKeyspace) → keyspace nam
 keyspace_good name d k e =
     let only = has_only (codes "sharded" ∷ codes "vindexes" ∷ codes "tables" ∷ []) d in
     let h = tested (is_word name && only) _ k e in
-    keyspace_parts name (needed as_bool (codes "sharded") d) (optional (object_of vindex) (codes "vindexes") d) (needed (object_of table) (codes "tables") d) k
+    keyspace_parts name (needed_member as_bool (codes "sharded") d) (optional (object_of vindex) (codes "vindexes") d) (needed_member (object_of table) (codes "tables") d) k
     (both (is_word name) only h.0).0 (object_good table good_table table_good (codes "tables") d) h.1
 
 pub document_good : (d : Data) (ks : List DeclaredKeyspace) → document d ≡ Some ks → list_all good_keyspace ks ≡ true
 document_good d ks e =
-    let h = tested (has_only (codes "keyspaces" ∷ []) d) (needed (object_of keyspace) (codes "keyspaces") d) ks e in
+    let h = tested (has_only (codes "keyspaces" ∷ []) d) (needed_member (object_of keyspace) (codes "keyspaces") d) ks e in
     object_good keyspace good_keyspace (λ name d k e. (keyspace_good name d k e).0) (codes "keyspaces") d ks h.1
 
 -- keyspaces have the names of an object's members, each once

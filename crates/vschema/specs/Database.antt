@@ -1,9 +1,8 @@
 -- A database: for each table of the VSchema, in its order, a bag of rows. A bag is a list of which the order says
 -- nothing.
 use Rattle.std.specs.Prelude.{ℕ, Bool, ◌&&◌, ◌==◌, List, [], ◌∷◌, ◌++◌, filter, slice_index_or, slice_set, IsPermutation, if◌then◌else◌}
-use Rattle.std.specs.Ordering.{is_eq}
-use Rattle.std.specs.Cmp.Lexicographic.{slice_cmp}
-use Rattle.vt_value.specs.Values.{Row, value_cmp}
+use Rattle.vt_value.specs.Values.{Row}
+pub use Rattle.vt_value.specs.Values.{same_row}
 use Rattle.keyrange.specs.Ranges.{has_id}
 use Rattle.vschema.specs.declared.schema.Table.{Table}
 use Rattle.vschema.specs.declared.schema.VSchema.{VSchema}
@@ -43,9 +42,6 @@ abbrev pub union : Database → Database → Database
 union [] b = b
 union (xs ∷ a) [] = xs ∷ a
 union (xs ∷ a) (ys ∷ b) = (xs ++ ys) ∷ union a b
-
-abbrev pub same_row : Row → Row → Bool
-same_row a b = is_eq (slice_cmp value_cmp a b)
 
 -- the rows without the first that is this one
 abbrev pub without : Row → List Row → List Row

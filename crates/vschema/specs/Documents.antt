@@ -15,7 +15,7 @@ use Rattle.vschema.specs.declared.document.DeclaredKey.{DeclaredKey}
 use Rattle.vschema.specs.declared.document.DeclaredTable.{DeclaredTable}
 use Rattle.vschema.specs.declared.document.DeclaredKeyspace.{DeclaredKeyspace}
 use Rattle.vschema.specs.Resolved.{Name}
-use Rattle.vschema.specs.Json.{array_of, object_of, has_only, needed, optional}
+use Rattle.vschema.specs.Json.{array_of, object_of, has_only, needed_member, optional}
 
 abbrev pub if_word : Name → Option Name
 if_word name = if is_word name then Some name else None
@@ -25,8 +25,8 @@ abbrev pub word : Data → Option Name
 word d = option_and_then if_word (as_str d)
 
 -- what stands behind a front, and before an end
-abbrev pub behind : List ℕ → List ℕ → Option (List ℕ)
-behind front text = if bytes_eq (take (length front) text) front then Some (drop (length front) text) else None
+abbrev pub rest_behind : List ℕ → List ℕ → Option (List ℕ)
+rest_behind front text = if bytes_eq (take (length front) text) front then Some (drop (length front) text) else None
 
 abbrev pub before : List ℕ → List ℕ → Option (List ℕ)
 before end text =
@@ -37,12 +37,12 @@ begins_above_zero [] = false
 begins_above_zero (digit ∷ digits) = not (digit == 0x30)
 
 -- a number from 1 to 255 in decimal digits without leading zeros
-abbrev pub size : List ℕ → Option ℕ
-size digits =
+abbrev pub column_length : List ℕ → Option ℕ
+column_length digits =
     if begins_above_zero digits && list_all is_digit digits && nat_le (digits_onto 0 digits) 255 then Some (digits_onto 0 digits) else None
 
 abbrev pub varbinary : List ℕ → Option ColumnType
-varbinary text = option_map VarBinary (option_and_then size (option_and_then (before (codes ")")) (behind (codes "VARBINARY(") text)))
+varbinary text = option_map VarBinary (option_and_then column_length (option_and_then (before (codes ")")) (rest_behind (codes "VARBINARY(") text)))
 
 -- BIGINT, BIGINT UNSIGNED or VARBINARY(n)
 abbrev pub column_type : List ℕ → Option ColumnType
@@ -59,7 +59,7 @@ column_from _ _ _ = None
 abbrev pub column : Data → Option Column
 column d =
     if has_only (codes "name" ∷ codes "type" ∷ codes "null" ∷ []) d
-    then column_from (needed word (codes "name") d) (needed (λ e. option_and_then column_type (as_str e)) (codes "type") d) (optional as_bool (codes "null") d)
+    then column_from (needed_member word (codes "name") d) (needed_member (λ e. option_and_then column_type (as_str e)) (codes "type") d) (optional as_bool (codes "null") d)
     else None
 
 abbrev pub key_from : Option Name → Option Name → Option DeclaredKey
@@ -70,7 +70,7 @@ key_from _ _ = None
 abbrev pub key : Data → Option DeclaredKey
 key d =
     if has_only (codes "column" ∷ codes "name" ∷ []) d
-    then key_from (needed word (codes "column") d) (needed word (codes "name") d)
+    then key_from (needed_member word (codes "column") d) (needed_member word (codes "name") d)
     else None
 
 abbrev pub table_from : Name → Option (List Column) → Option (List Name) → Option (Option (List DeclaredKey)) → Option DeclaredTable
@@ -81,7 +81,7 @@ table_from _ _ _ _ = None
 abbrev pub table : Name → Data → Option DeclaredTable
 table name d =
     if is_word name && has_only (codes "columns" ∷ codes "primary_key" ∷ codes "column_vindexes" ∷ []) d
-    then table_from name (needed (array_of column) (codes "columns") d) (needed (array_of word) (codes "primary_key") d) (optional (array_of key) (codes "column_vindexes") d)
+    then table_from name (needed_member (array_of column) (codes "columns") d) (needed_member (array_of word) (codes "primary_key") d) (optional (array_of key) (codes "column_vindexes") d)
     else None
 
 -- the vindexes by their names in Vitess
@@ -98,7 +98,7 @@ vindex_from name (Some kind) = Some (record { name = name; kind = vindex_named k
 vindex_from _ _ = None
 
 abbrev pub vindex : Name → Data → Option DeclaredVindex
-vindex name d = if is_word name && has_only (codes "type" ∷ []) d then vindex_from name (needed as_str (codes "type") d) else None
+vindex name d = if is_word name && has_only (codes "type" ∷ []) d then vindex_from name (needed_member as_str (codes "type") d) else None
 
 abbrev pub keyspace_from : Name → Option Bool → Option (Option (List DeclaredVindex)) → Option (List DeclaredTable) → Option DeclaredKeyspace
 keyspace_from name (Some sharded) (Some vindexes) (Some tables) =
@@ -108,9 +108,9 @@ keyspace_from _ _ _ _ = None
 abbrev pub keyspace : Name → Data → Option DeclaredKeyspace
 keyspace name d =
     if is_word name && has_only (codes "sharded" ∷ codes "vindexes" ∷ codes "tables" ∷ []) d
-    then keyspace_from name (needed as_bool (codes "sharded") d) (optional (object_of vindex) (codes "vindexes") d) (needed (object_of table) (codes "tables") d)
+    then keyspace_from name (needed_member as_bool (codes "sharded") d) (optional (object_of vindex) (codes "vindexes") d) (needed_member (object_of table) (codes "tables") d)
     else None
 
 -- the keyspaces of a whole text, in the order of their names
 abbrev pub document : Data → Option (List DeclaredKeyspace)
-document d = if has_only (codes "keyspaces" ∷ []) d then needed (object_of keyspace) (codes "keyspaces") d else None
+document d = if has_only (codes "keyspaces" ∷ []) d then needed_member (object_of keyspace) (codes "keyspaces") d else None

@@ -21,17 +21,17 @@ use Rattle.vschema.specs.WriteChecks.{has_twice}
 use Rattle.vschema.specs.WellFormed.{takes_type}
 use Rattle.vschema.specs.Documents.{document}
 
-abbrev pub number_of : SchemaFault → Option ℕ
-number_of OutOfMemory = None
-number_of NotJson = Some 1
-number_of IllFormed = Some 2
-number_of UnknownVindex = Some 3
-number_of MissingColumn = Some 4
-number_of WrongKeyType = Some 5
-number_of NullableKey = Some 6
-number_of KeyWithoutVindex = Some 7
-number_of NamedTwice = Some 8
-number_of AboveLimit = Some 9
+abbrev pub fault_number : SchemaFault → Option ℕ
+fault_number OutOfMemory = None
+fault_number NotJson = Some 1
+fault_number IllFormed = Some 2
+fault_number UnknownVindex = Some 3
+fault_number MissingColumn = Some 4
+fault_number WrongKeyType = Some 5
+fault_number NullableKey = Some 6
+fault_number KeyWithoutVindex = Some 7
+fault_number NamedTwice = Some 8
+fault_number AboveLimit = Some 9
 
 -- a table's column vindexes; there may be more than the one that is allowed
 abbrev pub keys : DeclaredTable → List DeclaredKey

@@ -34,8 +34,8 @@ abbrev pub has_only : List (List ℕ) → Data → Bool
 has_only names d = list_all (λ m. list_any (bytes_eq m.0) names) (members_in d)
 
 -- a member that an object has to have
-abbrev pub needed : {A : Type 0} → (Data → Option A) → List ℕ → Data → Option A
-needed read name d = option_and_then read (get name d)
+abbrev pub needed_member : {A : Type 0} → (Data → Option A) → List ℕ → Data → Option A
+needed_member read name d = option_and_then read (get name d)
 
 abbrev pub if_there : {A : Type 0} → (Data → Option A) → Option Data → Option (Option A)
 if_there read None = Some None

@@ -2,7 +2,6 @@ pub mod Schema
 pub mod Resolved
 pub mod Checks
 pub mod WriteChecks
-pub mod StoredChecks
 pub mod TypedWrites
 pub mod TypedStatement
 pub mod Database
@@ -13,3 +12,4 @@ pub mod Documents
 pub mod Faults
 pub mod Refused
 pub mod FirstPlaces
+pub mod inner

@@ -3,5 +3,5 @@ use Rattle.std.specs.Prelude.{◌≡◌, ◌⊎◌, Option, None}
 use Rattle.vschema.specs.declared.fault.SchemaFault.{SchemaFault}
 use Rattle.vschema.specs.declared.fault.SchemaFault.TheVariants.{OutOfMemory, IllFormed}
 
-abbrev pub IsRefused : {A : Type 0} → SchemaFault → Option A → Type 0
-IsRefused fault meaning = (fault ≡ OutOfMemory) ⊎ ((fault ≡ IllFormed) × (meaning ≡ None))
+abbrev pub IsFaultOf : {A : Type 0} → SchemaFault → Option A → Type 0
+IsFaultOf fault meaning = (fault ≡ OutOfMemory) ⊎ ((fault ≡ IllFormed) × (meaning ≡ None))

@@ -10,11 +10,9 @@ use Rattle.sql_tree.specs.declared.SelectList.TheVariants.{All, Items}
 use Rattle.sql_tree.specs.declared.Item.{Item}
 use Rattle.sql_tree.specs.declared.Item.TheVariants as item
 use Rattle.sql_tree.specs.declared.Key.{Key}
+pub use Rattle.sql_tree.specs.Literals.{Name}
 use Rattle.vschema.specs.declared.schema.Table.{Table}
 use Rattle.vschema.specs.Schema.{column_place}
-
-abbrev pub Name : Type 0
-Name = List ℕ
 
 -- the place of a column; that it is there is a check of its own
 abbrev pub place : Table → Name → ℕ

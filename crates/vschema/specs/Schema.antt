@@ -1,5 +1,5 @@
 -- Tables and columns by name, and the keyspace id of a row.
-use Rattle.std.specs.Prelude.{ℕ, ◌+◌, Bool, List, [], ◌∷◌, bytes_eq, map, Option, Some, None, if◌then◌else◌}
+use Rattle.std.specs.Prelude.{ℕ, ◌+◌, Bool, List, [], ◌∷◌, bytes_eq, map, slice_index_or, Option, Some, None, if◌then◌else◌}
 use Rattle.vt_value.specs.declared.value.Value.{Value}
 use Rattle.vt_value.specs.Values.{Row, value_at}
 use Rattle.vindex.specs.KeyspaceIds.{keyspace_id}
@@ -34,3 +34,6 @@ row_id t row = id_by t.vindex row
 -- the table at a place that the VSchema doesn't have
 abbrev pub no_table : Table
 no_table = record { name = []; keyspace = 0; columns = []; primary_key = []; vindex = None }
+
+abbrev pub table_at : VSchema → ℕ → Table
+table_at schema n = slice_index_or schema.tables n no_table

@@ -36,12 +36,12 @@ checked n s (Some t) =
     else if shows_ungrouped (over n t s) then Err NotGrouped
     else Ok (over n t s)
 
-abbrev pub placed : VSchema → S.Select → Option ℕ → Result Query Refusal
-placed schema s None = Err UnknownTable
-placed schema s (Some n) = checked n s (slice_get schema.tables n)
+abbrev pub checked_at : VSchema → S.Select → Option ℕ → Result Query Refusal
+checked_at schema s None = Err UnknownTable
+checked_at schema s (Some n) = checked n s (slice_get schema.tables n)
 
 abbrev pub typed_select : VSchema → S.Select → Result Query Refusal
-typed_select schema s = placed schema s (table_place schema s.table)
+typed_select schema s = checked_at schema s (table_place schema s.table)
 
 abbrev pub as_query : Result Query Refusal → Result Typed Refusal
 as_query (Ok q) = Ok (typed.Select q)

@@ -25,13 +25,13 @@ abbrev pub sets_twice : List (Assignment Name) → Bool
 sets_twice [] = false
 sets_twice (a ∷ assignments) = list_any (λ b. bytes_eq a.column b.column) assignments || sets_twice assignments
 
-abbrev pub named : Option (List Name) → List Name
-named None = []
-named (Some names) = names
+abbrev pub listed_names : Option (List Name) → List Name
+listed_names None = []
+listed_names (Some names) = names
 
 -- the columns that INSERT names
 abbrev pub insert_names : Insert → List Name
-insert_names s = named s.columns
+insert_names s = listed_names s.columns
 
 -- the places of INSERT's columns: all of them, in their order, where none is named
 abbrev pub insert_places : Table → Option (List Name) → List ℕ

@@ -4,7 +4,8 @@ ghost use Rattle.vschema.specs.Resolved.{place};
 ghost use Rattle.vschema.specs.Checks.{is_unknown, operand_is_unknown, condition_names_unknown, filter_has, item_names_unknown, list_names_unknown, names_unknown_column};
 ghost use Rattle.vschema.specs.Checks.{is_text_type, value_is_text, column_is_text, operand_is_text, differ, condition_mixes, is_text_sum, sums_text, select_is_not_supported};
 ghost use Rattle.vschema.specs.Checks.{has_number, is_aggregate, shows_ungrouped};
-ghost use Rattle.vschema.specs.FirstPlaces.{first_place, shows_other};
+ghost use Rattle.vschema.specs.FirstPlaces.{first_place};
+ghost use Rattle.vschema.specs.inner.FirstPlaces.{shows_other};
 
 use crate::first_places::FirstPlaces;
 use crate::names::{column_place, is_unknown};

@@ -1,5 +1,5 @@
 ghost use Rattle.std.specs.Prelude.{◌≡◌};
-ghost use Rattle.vschema.specs.Faults.{number_of};
+ghost use Rattle.vschema.specs.Faults.{fault_number};
 
 use std::alloc::{AllocError, AllocFailed};
 use thiserror::Error;
@@ -42,7 +42,7 @@ pub enum SchemaFault {
 impl SchemaFault {
     /// The number by which the documents name the fault, 1 to 9. Want of memory has none.
     pub fn number(self) -> Option<u8>
-        ensures { result ≡ number_of self }
+        ensures { result ≡ fault_number self }
     {
         match self {
             SchemaFault::OutOfMemory => None,

@@ -3,9 +3,9 @@ ghost use Rattle.std.specs.List.{list_all, list_any};
 ghost use Rattle.serde_json.specs.Data.{Data};
 ghost use Rattle.serde_json.specs.Find.{get, as_bool};
 ghost use Rattle.serde_json.specs.View.{view, members_view};
-ghost use Rattle.vschema.specs.Json.{all_some, array_of, object_of, named_values, members_in, has_only, needed, optional};
+ghost use Rattle.vschema.specs.Json.{all_some, array_of, object_of, named_values, members_in, has_only, needed_member, optional};
 ghost use Rattle.vschema.specs.WriteChecks.{has_twice};
-ghost use Rattle.vschema.specs.Refused.{IsRefused};
+ghost use Rattle.vschema.specs.Refused.{IsFaultOf};
 
 use crate::fault::SchemaFault;
 use serde_json::{Map, Value};
@@ -18,7 +18,7 @@ pub trait Element: Sized + Drop {
 
     fn read(alloc: Global, value: &Value) -> Result<Self, SchemaFault>
         ensures ok { IfOk result (λ x. reads (view value.now) ≡ Some x) }
-        ensures err { IfErr result (λ e. IsRefused e (reads (view value.now))) };
+        ensures err { IfErr result (λ e. IsFaultOf e (reads (view value.now))) };
 }
 
 /// What is read from a member of an object.
@@ -27,12 +27,12 @@ pub trait Member: Sized + Drop {
 
     fn read(alloc: Global, name: &str, value: &Value) -> Result<Self, SchemaFault>
         ensures ok { IfOk result (λ x. reads name.now (view value.now) ≡ Some x) }
-        ensures err { IfErr result (λ e. IsRefused e (reads name.now (view value.now))) };
+        ensures err { IfErr result (λ e. IsFaultOf e (reads name.now (view value.now))) };
 }
 
 fn read_elements<T: Element>(alloc: Global, elements: &[Value]) -> Result<Items<T>, SchemaFault>
     ensures ok { IfOk result (λ xs. all_some (map (λ v. T.reads (view v)) elements.now) ≡ Some xs) }
-    ensures err { IfErr result (λ e. IsRefused e (all_some (map (λ v. T.reads (view v)) elements.now))) }
+    ensures err { IfErr result (λ e. IsFaultOf e (all_some (map (λ v. T.reads (view v)) elements.now))) }
 {
     let mut found = Items::new(alloc);
     for element in elements {
@@ -44,7 +44,7 @@ fn read_elements<T: Element>(alloc: Global, elements: &[Value]) -> Result<Items<
 /// An array, element by element.
 pub fn read_array<T: Element>(alloc: Global, value: &Value) -> Result<Items<T>, SchemaFault>
     ensures ok { IfOk result (λ xs. array_of T.reads (view value.now) ≡ Some xs) }
-    ensures err { IfErr result (λ e. IsRefused e (array_of T.reads (view value.now))) }
+    ensures err { IfErr result (λ e. IsFaultOf e (array_of T.reads (view value.now))) }
 {
     match value.as_array() {
         Some(elements) => read_elements(alloc, elements.as_slice()),
@@ -57,7 +57,7 @@ fn read_members<T: Member>(
     members: &Map<String, Value>,
 ) -> Result<Items<T>, SchemaFault>
     ensures ok { IfOk result (λ xs. all_some (map (λ m. T.reads m.0 m.1) (named_values (members_view members.now.entries))) ≡ Some xs) }
-    ensures err { IfErr result (λ e. IsRefused e (all_some (map (λ m. T.reads m.0 m.1) (named_values (members_view members.now.entries))))) }
+    ensures err { IfErr result (λ e. IsFaultOf e (all_some (map (λ m. T.reads m.0 m.1) (named_values (members_view members.now.entries))))) }
     ensures distinct { has_twice (map (λ m. m.0) (named_values (members_view members.now.entries))) ≡ false }
 {
     let mut found = Items::new(alloc);
@@ -70,7 +70,7 @@ fn read_members<T: Member>(
 /// An object, member by member.
 pub fn read_object<T: Member>(alloc: Global, value: &Value) -> Result<Items<T>, SchemaFault>
     ensures ok { IfOk result (λ xs. object_of T.reads (view value.now) ≡ Some xs) }
-    ensures err { IfErr result (λ e. IsRefused e (object_of T.reads (view value.now))) }
+    ensures err { IfErr result (λ e. IsFaultOf e (object_of T.reads (view value.now))) }
     ensures distinct { has_twice (map (λ m. m.0) (members_in (view value.now))) ≡ false }
 {
     match value.as_object() {
@@ -133,7 +133,7 @@ pub fn read_flag(value: &Value) -> Result<bool, SchemaFault>
 /// True or false, where there is such a member.
 pub fn optional_flag(value: &Value, name: &str) -> Result<Option<bool>, SchemaFault>
     ensures ok { IfOk result (λ b. optional as_bool name.now (view value.now) ≡ Some b) }
-    ensures err { IfErr result (λ e. IsRefused e (optional as_bool name.now (view value.now))) }
+    ensures err { IfErr result (λ e. IsFaultOf e (optional as_bool name.now (view value.now))) }
 {
     match value.get(name) {
         Some(flag) => Ok(Some(read_flag(flag)?)),
@@ -147,8 +147,8 @@ pub fn needed_array<T: Element>(
     value: &Value,
     name: &str,
 ) -> Result<Items<T>, SchemaFault>
-    ensures ok { IfOk result (λ xs. needed (array_of T.reads) name.now (view value.now) ≡ Some xs) }
-    ensures err { IfErr result (λ e. IsRefused e (needed (array_of T.reads) name.now (view value.now))) }
+    ensures ok { IfOk result (λ xs. needed_member (array_of T.reads) name.now (view value.now) ≡ Some xs) }
+    ensures err { IfErr result (λ e. IsFaultOf e (needed_member (array_of T.reads) name.now (view value.now))) }
 {
     read_array(alloc, needed(value, name)?)
 }
@@ -160,7 +160,7 @@ pub fn optional_array<T: Element>(
     name: &str,
 ) -> Result<Option<Items<T>>, SchemaFault>
     ensures ok { IfOk result (λ xs. optional (array_of T.reads) name.now (view value.now) ≡ Some xs) }
-    ensures err { IfErr result (λ e. IsRefused e (optional (array_of T.reads) name.now (view value.now))) }
+    ensures err { IfErr result (λ e. IsFaultOf e (optional (array_of T.reads) name.now (view value.now))) }
 {
     match value.get(name) {
         Some(found) => Ok(Some(read_array(alloc, found)?)),
@@ -174,8 +174,8 @@ pub fn needed_object<T: Member>(
     value: &Value,
     name: &str,
 ) -> Result<Items<T>, SchemaFault>
-    ensures ok { IfOk result (λ xs. needed (object_of T.reads) name.now (view value.now) ≡ Some xs) }
-    ensures err { IfErr result (λ e. IsRefused e (needed (object_of T.reads) name.now (view value.now))) }
+    ensures ok { IfOk result (λ xs. needed_member (object_of T.reads) name.now (view value.now) ≡ Some xs) }
+    ensures err { IfErr result (λ e. IsFaultOf e (needed_member (object_of T.reads) name.now (view value.now))) }
 {
     read_object(alloc, needed(value, name)?)
 }
@@ -187,7 +187,7 @@ pub fn optional_object<T: Member>(
     name: &str,
 ) -> Result<Option<Items<T>>, SchemaFault>
     ensures ok { IfOk result (λ xs. optional (object_of T.reads) name.now (view value.now) ≡ Some xs) }
-    ensures err { IfErr result (λ e. IsRefused e (optional (object_of T.reads) name.now (view value.now))) }
+    ensures err { IfErr result (λ e. IsFaultOf e (optional (object_of T.reads) name.now (view value.now))) }
 {
     match value.get(name) {
         Some(found) => Ok(Some(read_object(alloc, found)?)),

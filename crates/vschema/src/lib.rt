@@ -27,3 +27,4 @@ pub use columns::Columns;
 pub use fault::SchemaFault;
 pub use first_places::FirstPlaces;
 pub use schema::{Column, ColumnType, ColumnVindex, Keyspace, Place, Query, Table, Typed, VSchema};
+pub use write_checks::{is_out_of_range, is_too_long};

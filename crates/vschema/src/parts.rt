@@ -3,8 +3,8 @@ ghost use Rattle.std.specs.List.{list_all};
 ghost use Rattle.serde_json.specs.Find.{as_str};
 ghost use Rattle.serde_json.specs.View.{view};
 ghost use Rattle.sql_lexer.specs.Lexemes.{is_digit, digits_onto};
-ghost use Rattle.vschema.specs.Documents.{begins_above_zero, size, varbinary, column_type, vindex_named, if_word, word};
-ghost use Rattle.vschema.specs.Refused.{IsRefused};
+ghost use Rattle.vschema.specs.Documents.{begins_above_zero, column_length, varbinary, column_type, vindex_named, if_word, word};
+ghost use Rattle.vschema.specs.Refused.{IsFaultOf};
 
 use crate::document::{DeclaredKey, DeclaredKeyspace, DeclaredTable, DeclaredVindex};
 use crate::fault::SchemaFault;
@@ -22,7 +22,7 @@ use vt_value::Items;
 
 fn read_name(alloc: Global, bytes: &[u8]) -> Result<Name, SchemaFault>
     ensures ok { IfOk result (λ name. if_word bytes.now ≡ Some name) }
-    ensures err { IfErr result (λ e. IsRefused e (if_word bytes.now)) }
+    ensures err { IfErr result (λ e. IsFaultOf e (if_word bytes.now)) }
 {
     if !is_word(bytes) {
         return Err(SchemaFault::IllFormed);
@@ -73,7 +73,7 @@ fn with_digit(size: u8, digit: u8) -> Option<u8>
 
 // The size that digits say, from 1 to 255.
 fn size(digits: &[u8]) -> Option<u8>
-    ensures { result ≡ size digits.now }
+    ensures { result ≡ column_length digits.now }
 {
     if !begins_above_zero(digits) {
         return None;
@@ -105,7 +105,7 @@ fn column_type(text: &str) -> Option<ColumnType>
 
 fn read_column_type(value: &Value) -> Result<ColumnType, SchemaFault>
     ensures ok { IfOk result (λ k. option_and_then column_type (as_str (view value.now)) ≡ Some k) }
-    ensures err { IfErr result (λ e. IsRefused e (option_and_then column_type (as_str (view value.now)))) }
+    ensures err { IfErr result (λ e. IsFaultOf e (option_and_then column_type (as_str (view value.now)))) }
 {
     match column_type(text(value)?) {
         Some(kind) => Ok(kind),

@@ -3,7 +3,7 @@ ghost use Rattle.serde_json.specs.Read.{read as read_json};
 ghost use Rattle.serde_json.specs.View.{view};
 ghost use Rattle.vschema.specs.Documents.{document};
 ghost use Rattle.vschema.specs.WriteChecks.{has_twice};
-ghost use Rattle.vschema.specs.Refused.{IsRefused};
+ghost use Rattle.vschema.specs.Refused.{IsFaultOf};
 
 use crate::document::DeclaredKeyspace;
 use crate::fault::SchemaFault;
@@ -29,7 +29,7 @@ fn parse(alloc: Global, text: &str) -> Result<Value, SchemaFault>
 // The keyspaces that a JSON value declares. An object has each name once.
 fn read_document(alloc: Global, value: &Value) -> Result<Items<DeclaredKeyspace>, SchemaFault>
     ensures ok { IfOk result (λ ks. document (view value.now) ≡ Some ks) }
-    ensures err { IfErr result (λ e. IsRefused e (document (view value.now))) }
+    ensures err { IfErr result (λ e. IsFaultOf e (document (view value.now))) }
     ensures distinct { IfOk result (λ ks. has_twice (map (λ k. k.name) ks) ≡ false) }
 {
     if !has_only(value, &["keyspaces"]) {

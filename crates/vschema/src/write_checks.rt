@@ -3,7 +3,7 @@ ghost use Rattle.std.specs.List.{list_any};
 ghost use Rattle.vschema.specs.Resolved.{place, places_from};
 ghost use Rattle.vschema.specs.Checks.{is_unknown, has_number};
 ghost use Rattle.vschema.specs.WriteChecks.{beside, is_out_of_range, is_too_long, is_key_column};
-ghost use Rattle.vschema.specs.StoredChecks.{fails};
+ghost use Rattle.vschema.specs.inner.StoredChecks.{fails};
 
 use crate::checks::{differ, has_number, is_text_type, value_is_text};
 use crate::names::{is_name, is_unknown};
@@ -42,7 +42,8 @@ pub fn sets_unknown(table: &Table, assignments: &[Assignment<Name>]) -> bool
     assignments.iter().any(|a| is_unknown(table, &a.column))
 }
 
-fn is_out_of_range(kind: ColumnType, value: &Value) -> bool
+/// Whether a number lies outside its column's type.
+pub fn is_out_of_range(kind: ColumnType, value: &Value) -> bool
     ensures { result ≡ is_out_of_range kind value.now }
 {
     match (kind, value) {
@@ -54,7 +55,8 @@ fn is_out_of_range(kind: ColumnType, value: &Value) -> bool
     }
 }
 
-fn is_too_long(kind: ColumnType, value: &Value) -> bool
+/// Whether a text is longer than its column holds.
+pub fn is_too_long(kind: ColumnType, value: &Value) -> bool
     ensures { result ≡ is_too_long kind value.now }
 {
     match (kind, value) {

@@ -1,9 +1,9 @@
 ghost use Rattle.std.specs.Prelude.{◌≡◌, ◌⊎◌, ◌==◌, IfOk, IfErr, map, option_map, false, Ok, Err};
 ghost use Rattle.vschema.specs.Schema.{place_from};
 ghost use Rattle.vschema.specs.Resolved.{places_from};
-ghost use Rattle.vschema.specs.WriteChecks.{has_twice, sets_twice, named, insert_places, has_wrong_count, insert_names_unknown, inserted_values, has_other_kind, leaves_out_column, assigned_values, update_names_unknown, update_is_not_supported};
+ghost use Rattle.vschema.specs.WriteChecks.{has_twice, sets_twice, listed_names, insert_places, has_wrong_count, insert_names_unknown, inserted_values, has_other_kind, leaves_out_column, assigned_values, update_names_unknown, update_is_not_supported};
 ghost use Rattle.vschema.specs.TypedWrites.{value_for, whole_row, resolved_assignment, insert_over, update_over, delete_over, unless_refused, stored_checks, insert_checks, update_checks, delete_checks, typed_insert, typed_update, typed_delete};
-ghost use Rattle.vschema.specs.StoredChecks.{fails, unless};
+ghost use Rattle.vschema.specs.inner.StoredChecks.{fails, unless};
 ghost use Rattle.std.specs.List.{list_any};
 
 use crate::changes::Write;
@@ -46,7 +46,7 @@ fn insert_places(
 }
 
 fn names_of(columns: &Option<Items<Name>>) -> &[Name]
-    ensures { result.now ≡ named columns.now }
+    ensures { result.now ≡ listed_names columns.now }
 {
     match columns {
         None => &[],
@@ -99,7 +99,7 @@ fn inserted_refusal(table: &Table, insert: &Insert, places: &[usize]) -> Option<
 // The refusal of an INSERT that names no column twice.
 fn insert_refusal(table: &Table, insert: &Insert, places: &[usize]) -> Option<Refusal>
     requires places { places.now ≡ insert_places table.now insert.now.columns }
-    requires once { has_twice (named insert.now.columns) ≡ false }
+    requires once { has_twice (listed_names insert.now.columns) ≡ false }
     ensures { (w : Write) → unless_refused (insert_checks table.now insert.now) w ≡ unless result w }
 {
     if has_other_count(table, insert, places) {

@@ -3,7 +3,7 @@ use Rattle.std.specs.Prelude.{flat_map}
 use Rattle.std.specs.List.{list_any}
 use Rattle.vschema.specs.Resolved.{place}
 use Rattle.vschema.specs.WriteChecks.{beside}
-use Rattle.vschema.specs.StoredChecks.{fails}
+use Rattle.vschema.specs.inner.StoredChecks.{fails}
 use Rattle.vschema.proofs.write_checks.assignments_fail.Given as goal
 
 abbrev pub invariant-loop-a : goal.invariant-loop-a

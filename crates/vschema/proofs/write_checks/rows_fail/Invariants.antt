@@ -2,7 +2,7 @@ use Rattle.std.proofs.Common.{◌≡◌, drop}
 use Rattle.std.specs.Prelude.{flat_map, zip}
 use Rattle.std.specs.List.{list_any}
 use Rattle.vschema.specs.WriteChecks.{beside}
-use Rattle.vschema.specs.StoredChecks.{fails}
+use Rattle.vschema.specs.inner.StoredChecks.{fails}
 use Rattle.vschema.proofs.write_checks.rows_fail.Given as goal
 
 abbrev pub invariant-loop-row : goal.invariant-loop-row

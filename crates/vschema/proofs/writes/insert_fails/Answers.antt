@@ -3,7 +3,7 @@ use Rattle.std.specs.Prelude.{flat_map, zip}
 use Rattle.std.specs.List.{list_any}
 use Rattle.vt_value.specs.declared.value.Value.{Value}
 use Rattle.vschema.specs.WriteChecks.{beside}
-use Rattle.vschema.specs.StoredChecks.{fails}
+use Rattle.vschema.specs.inner.StoredChecks.{fails}
 use Rattle.vschema.proofs.writes.insert_fails.Goals as goal
 
 pub returns : goal.returns
