@@ -4,7 +4,7 @@ use Rattle.std.proofs.Math.Seq.{drop-nil}
 use Rattle.vt_value.specs.declared.value.Value.{Value}
 use Rattle.vt_value.specs.Values.{value_at}
 use Rattle.aggregate.specs.declared.columns.ColumnPart.{ColumnPart}
-use Rattle.aggregate.specs.Columns.{with_value, with_values, CanHold, CanHoldAll}
+use Rattle.aggregate.specs.inner.Columns.{with_value, with_values, CanHold, CanHoldAll}
 
 -- the parts below i as they are, and the others with their values
 abbrev pub mixed : ℕ → List ColumnPart → List Value → List ColumnPart

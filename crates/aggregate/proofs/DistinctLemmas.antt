@@ -5,8 +5,9 @@ use Rattle.std.proofs.Math.Dec.{eqb-suc-zero}
 use Rattle.std.proofs.lemmas.List.{map-append, append-nil}
 use Rattle.indexmap.specs.IndexSet.{insert_key}
 use Rattle.vt_value.specs.Values.{Row, same_row}
-use Rattle.aggregate.specs.Groups.{has_row, distinct, of_group, group_keys}
-use Rattle.aggregate.specs.Proofs.KeyLemmas.{same_row-equiv, same_row-same}
+use Rattle.aggregate.specs.inner.Grouping.{has_row}
+use Rattle.aggregate.specs.Groups.{distinct, of_group, group_keys}
+use Rattle.aggregate.specs.inner.KeyLemmas.{same_row-equiv, same_row-same}
 
 -- the others than x
 abbrev others : Row → List Row → List Row

@@ -6,7 +6,7 @@ use Rattle.indexmap.proofs.ReorderLemmas.{zip_push}
 use Rattle.vt_value.specs.Values.{Row}
 use Rattle.aggregate.specs.declared.columns.ColumnPart.{ColumnPart}
 use Rattle.aggregate.specs.declared.keys.GroupKey.{GroupKey}
-use Rattle.aggregate.specs.Columns.{group_row}
+use Rattle.aggregate.specs.inner.Columns.{group_row}
 use Rattle.aggregate.proofs.KeyListLemmas.{values_of_keys}
 
 abbrev pub made : List GroupKey → List (List ColumnPart) → List Row

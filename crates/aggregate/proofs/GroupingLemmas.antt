@@ -9,9 +9,10 @@ use Rattle.indexmap.specs.IndexSet.{insert_key}
 use Rattle.vt_value.specs.Values.{Row, value_at, same_row}
 use Rattle.sql_tree.specs.declared.Item.{Item}
 use Rattle.aggregate.specs.declared.columns.ColumnPart.{ColumnPart}
-use Rattle.aggregate.specs.Columns.{column_part, with_values, group_parts, group_row, CanHoldAll, AreGroups}
+use Rattle.aggregate.specs.inner.Columns.{column_part, with_values, group_parts, group_row, CanHoldAll, AreGroups}
 use Rattle.aggregate.specs.Aggregates.{size}
-use Rattle.aggregate.specs.Groups.{has_row, of_group, group_keys, joined_parts, joined_rows, column_size, AreSummable}
+use Rattle.aggregate.specs.inner.Grouping.{has_row}
+use Rattle.aggregate.specs.Groups.{of_group, group_keys, joined_parts, joined_rows, column_size, AreSummable}
 use Rattle.aggregate.proofs.DistinctLemmas.{group_keys_more, no_group, of_group_more, of_group_stays, one_changes}
 use Rattle.aggregate.proofs.PartsOfRows.{parts_more, no_parts, parts_give, parts_hold, group_size}
 

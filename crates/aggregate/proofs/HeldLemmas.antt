@@ -6,17 +6,17 @@ use Rattle.std.proofs.lemmas.List.Elements.{All-head, All-tail}
 use Rattle.std.proofs.lemmas.List.Sums.{sum_by-cons}
 use Rattle.vt_value.specs.declared.value.Value.{Value}
 use Rattle.vt_value.specs.declared.value.Value.TheVariants.{Null, Int, Bytes}
-use Rattle.aggregate.specs.Aggregates.{size, sizes, IsHeld, IsStored}
+use Rattle.aggregate.specs.Aggregates.{size, sizes, IsHeld, IsColumnValue}
 
-pub stored_within : (v : Value) → IsStored v → size v ≤ 2 ^ 64
+pub stored_within : (v : Value) → IsColumnValue v → size v ≤ 2 ^ 64
 stored_within Null s = omega arith
 stored_within (Int (pos n)) s = let below = s.1 in omega (arith, ints)
 stored_within (Int (negsuc n)) s = let above = s.0 in omega (arith, ints)
 stored_within (Bytes t) s = omega arith
 
-all_within : (vs : List Value) → All IsStored vs → sizes vs ≤ length vs * 2 ^ 64
+all_within : (vs : List Value) → All IsColumnValue vs → sizes vs ≤ length vs * 2 ^ 64
 all_within [] h = omega arith
-all_within (v ∷ vs) h = omega (arith, stored_within v (All-head IsStored v vs h), all_within vs (All-tail IsStored v vs h), sum_by-cons size v vs)
+all_within (v ∷ vs) h = omega (arith, stored_within v (All-head IsColumnValue v vs h), all_within vs (All-tail IsColumnValue v vs h), sum_by-cons size v vs)
 
-pub stored_held : (vs : List Value) → length vs ≤ 2 ^ 60 → All IsStored vs → IsHeld vs
+pub stored_held : (vs : List Value) → length vs ≤ 2 ^ 60 → All IsColumnValue vs → IsHeld vs
 stored_held vs few stored = (omega arith, omega (arith, all_within vs stored))

@@ -7,8 +7,8 @@ use Rattle.std.proofs.lemmas.Option.{slice_get-map}
 use Rattle.indexmap.specs.IndexSet.{insert_key}
 use Rattle.vt_value.specs.Values.{Row, same_row}
 use Rattle.aggregate.specs.declared.keys.GroupKey.{GroupKey}
-use Rattle.aggregate.specs.Groups.{has_row}
-use Rattle.aggregate.specs.Proofs.KeyLemmas.{same_row-same}
+use Rattle.aggregate.specs.inner.Grouping.{has_row}
+use Rattle.aggregate.specs.inner.KeyLemmas.{same_row-same}
 
 abbrev pub same_key : GroupKey → GroupKey → Bool
 same_key a b = same_row a.values b.values

@@ -10,10 +10,10 @@ use Rattle.sql_tree.specs.declared.Item.{Item}
 use Rattle.sql_tree.specs.declared.Item.TheVariants.{Column, CountRows, Count, Sum, Min, Max}
 use Rattle.aggregate.specs.declared.columns.ColumnPart.TheVariants.{Number, Total, Least, Greatest}
 use Rattle.aggregate.specs.Aggregates.{present, size, total}
-use Rattle.aggregate.specs.Columns.{column_part, with_value, with_values, finished, group_parts, CanHold, CanHoldAll}
+use Rattle.aggregate.specs.inner.Columns.{column_part, with_value, with_values, finished, group_parts, CanHold, CanHoldAll}
 use Rattle.aggregate.specs.Groups.{joined_part, joined_parts, of_group, column_size}
-use Rattle.aggregate.specs.Proofs.ExtremeLemmas.{min_laws, max_laws, min_is, max_is}
-use Rattle.aggregate.specs.Proofs.SumLemmas.{sum_laws, sum_is, sum_fits, total_is, total_kept}
+use Rattle.aggregate.specs.inner.ExtremeLemmas.{min_laws, max_laws, min_is, max_is}
+use Rattle.aggregate.specs.inner.SumLemmas.{sum_laws, sum_is, sum_fits, total_is, total_kept}
 
 column_more : (a : Item ℕ) (vs : List Value) (v : Value) → with_value (column_part a vs) v ≡ column_part a (vs ++ v ∷ [])
 column_more (Column c) vs v = refl
@@ -57,7 +57,7 @@ number_kept : (vs : List Value) → unwrap_or (total_kept vs) (pos 0) ≡ total 
 number_kept [] = refl
 number_kept (v ∷ vs) = refl
 
-counted : (vs : List Value) → Int (unwrap_or (Rattle.aggregate.specs.Columns.total_part vs) (pos 0)) ≡ Int (total (present vs))
+counted : (vs : List Value) → Int (unwrap_or (Rattle.aggregate.specs.inner.Columns.total_part vs) (pos 0)) ≡ Int (total (present vs))
 counted vs = ap (λ p. Int (unwrap_or p (pos 0))) (total_is vs) ∙ ap Int (number_kept (present vs))
 
 pub column_gives : (a : Item ℕ) (vs : List Value) → finished (column_part a vs) ≡ joined_part a vs

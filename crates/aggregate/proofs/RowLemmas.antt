@@ -1,7 +1,7 @@
 -- Rows that are the same are as long.
 use Rattle.std.proofs.Common.{◌≡◌, ◌≢◌, false, length, refl, ap, Bool, true}
 use Rattle.vt_value.specs.Values.{Row, same_row}
-use Rattle.aggregate.specs.Proofs.KeyLemmas.{same_row-same}
+use Rattle.aggregate.specs.inner.KeyLemmas.{same_row-same}
 
 lengths_by : (a b : Row) (t : Bool) → same_row a b ≡ t → length a ≢ length b → t ≡ false
 lengths_by a b true e n = absurd (n (ap length (same_row-same a b e)))

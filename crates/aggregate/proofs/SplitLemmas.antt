@@ -8,13 +8,13 @@ use Rattle.vt_value.specs.Values.{value_cmp}
 use Rattle.sql_tree.specs.declared.Item.{Item}
 use Rattle.sql_tree.specs.declared.Item.TheVariants.{Column, CountRows, Count, Sum, Min, Max}
 use Rattle.aggregate.specs.Aggregates.{present, total, sum_of, least_of, greatest_of, count_of, lesser, greater}
-use Rattle.aggregate.specs.Columns.{total_part, least_part, greatest_part}
+use Rattle.aggregate.specs.inner.Columns.{total_part, least_part, greatest_part}
 use Rattle.aggregate.specs.Groups.{joined_part}
 use Rattle.aggregate.specs.Laws.{PartLaws}
 use Rattle.aggregate.specs.Parts.{gathered, join_options, present_value, present_number, part_value}
-use Rattle.aggregate.specs.Proofs.CountLemmas.{count_laws, count_is}
-use Rattle.aggregate.specs.Proofs.ExtremeLemmas.{min_laws, max_laws, min_is, max_is}
-use Rattle.aggregate.specs.Proofs.SumLemmas.{sum_laws, sum_is}
+use Rattle.aggregate.specs.inner.CountLemmas.{count_laws, count_is}
+use Rattle.aggregate.specs.inner.ExtremeLemmas.{min_laws, max_laws, min_is, max_is}
+use Rattle.aggregate.specs.inner.SumLemmas.{sum_laws, sum_is}
 
 -- what an aggregate gives over a bag of a column's values; COUNT(*) over as many rows
 abbrev pub whole : Item ℕ → List Value → Value

@@ -59,7 +59,7 @@ abbrev pub IsHeld : List Value → Type 0
 IsHeld vs = (length vs < 2 ^ 64) × (sizes vs < 2 ^ 127)
 
 -- a value that a column may hold: its numbers are those of BIGINT and BIGINT UNSIGNED
-abbrev pub IsStored : Value → Type 0
-IsStored Null = ⊤
-IsStored (Int n) = (neg_ℤ (pos (2 ^ 63)) ≤ℤ n) × (n <ℤ pos (2 ^ 64))
-IsStored (Bytes t) = ⊤
+abbrev pub IsColumnValue : Value → Type 0
+IsColumnValue Null = ⊤
+IsColumnValue (Int n) = (neg_ℤ (pos (2 ^ 63)) ≤ℤ n) × (n <ℤ pos (2 ^ 64))
+IsColumnValue (Bytes t) = ⊤

@@ -1,15 +1,11 @@
 -- What groups of rows are, and what the parts of several shards give together.
-use Rattle.std.specs.Prelude.{ℕ, ◌+◌, ◌^◌, ◌<◌, ◌≤◌, ◌==◌, ◌++◌, Bool, not, List, [], ◌∷◌, map, filter, take, sum_by, if◌then◌else◌}
-use Rattle.std.specs.List.{list_any}
+use Rattle.std.specs.Prelude.{ℕ, ◌+◌, ◌^◌, ◌<◌, ◌≤◌, ◌==◌, ◌++◌, not, List, [], ◌∷◌, map, filter, take, sum_by, if◌then◌else◌}
 use Rattle.vt_value.specs.declared.value.Value.{Value}
 use Rattle.vt_value.specs.declared.value.Value.TheVariants.{Null, Int}
 use Rattle.vt_value.specs.Values.{Row, value_at, same_row}
 use Rattle.sql_tree.specs.declared.Item.{Item}
 use Rattle.sql_tree.specs.declared.Item.TheVariants.{Column, CountRows, Count, Sum, Min, Max}
 use Rattle.aggregate.specs.Aggregates.{present, size, total, sum_of, least_of, greatest_of}
-
-abbrev pub has_row : Row → List Row → Bool
-has_row key keys = list_any (same_row key) keys
 
 -- each once, at its first place
 abbrev pub distinct : List Row → List Row

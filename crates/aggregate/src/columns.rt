@@ -3,7 +3,7 @@ ghost use Rattle.std.specs.Int.{w128};
 ghost use Rattle.vt_value.specs.Values.{value_at};
 ghost use Rattle.aggregate.specs.Aggregates.{lesser, greater};
 ghost use Rattle.aggregate.specs.Parts.{join_options, present_value};
-ghost use Rattle.aggregate.specs.Columns.{total_part, least_part, greatest_part, column_part, with_value, with_values, finished, CanHold, CanHoldAll};
+ghost use Rattle.aggregate.specs.inner.Columns.{total_part, least_part, greatest_part, column_part, with_value, with_values, finished, CanHold, CanHoldAll};
 
 use crate::extremes::{Max, Min};
 use crate::joining::Aggregate;

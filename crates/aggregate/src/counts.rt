@@ -13,7 +13,7 @@ impl Aggregate for Count {
     ghost use Rattle.std.specs.Prelude.{pos, ◌+◌, ◌<◌, ◌^◌};
     ghost use Rattle.aggregate.specs.Aggregates.{present, count_of};
     ghost use Rattle.aggregate.specs.Parts.{gathered, present_count};
-    ghost use Rattle.aggregate.specs.Proofs.CountLemmas.{count_laws, count_holds};
+    ghost use Rattle.aggregate.specs.inner.CountLemmas.{count_laws, count_holds};
 
     type Part = u64;
 
@@ -61,7 +61,7 @@ impl Aggregate for CountStar {
     ghost use Rattle.std.specs.Prelude.{pos, ◌+◌, ◌<◌, ◌^◌, length};
     ghost use Rattle.aggregate.specs.Aggregates.{count_of};
     ghost use Rattle.aggregate.specs.Parts.{gathered};
-    ghost use Rattle.aggregate.specs.Proofs.CountLemmas.{rows_laws, rows_hold};
+    ghost use Rattle.aggregate.specs.inner.CountLemmas.{rows_laws, rows_hold};
 
     type Part = u64;
 

@@ -50,7 +50,7 @@ impl Aggregate for Min {
     ghost use Rattle.vt_value.specs.declared.value.Value.TheVariants.{Null};
     ghost use Rattle.aggregate.specs.Aggregates.{present, lesser, least_of};
     ghost use Rattle.aggregate.specs.Parts.{gathered, join_options, present_value};
-    ghost use Rattle.aggregate.specs.Proofs.ExtremeLemmas.{min_laws};
+    ghost use Rattle.aggregate.specs.inner.ExtremeLemmas.{min_laws};
 
     type Part = Option<Value>;
 
@@ -96,7 +96,7 @@ impl Aggregate for Max {
     ghost use Rattle.vt_value.specs.declared.value.Value.TheVariants.{Null};
     ghost use Rattle.aggregate.specs.Aggregates.{present, greater, greatest_of};
     ghost use Rattle.aggregate.specs.Parts.{gathered, join_options, present_value};
-    ghost use Rattle.aggregate.specs.Proofs.ExtremeLemmas.{max_laws};
+    ghost use Rattle.aggregate.specs.inner.ExtremeLemmas.{max_laws};
 
     type Part = Option<Value>;
 

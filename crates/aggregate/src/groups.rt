@@ -2,9 +2,10 @@ ghost use Rattle.std.specs.Prelude.{◌≡◌, ◌++◌, List, [], ◌∷◌, So
 ghost use Rattle.std.specs.List.{IsDistinct, zip};
 ghost use Rattle.indexmap.specs.IndexSet.{insert_key};
 ghost use Rattle.vt_value.specs.Values.{Row as Line, same_row};
-ghost use Rattle.aggregate.specs.Columns.{column_part, with_values, finished, group_row, CanHoldAll};
-ghost use Rattle.aggregate.specs.Groups.{has_row, joined_rows, AreSummable};
-ghost use Rattle.aggregate.specs.Grouping.{key_values, part_lists, IsGrouped};
+ghost use Rattle.aggregate.specs.inner.Columns.{column_part, with_values, finished, group_row, CanHoldAll};
+ghost use Rattle.aggregate.specs.inner.Grouping.{has_row};
+ghost use Rattle.aggregate.specs.Groups.{joined_rows, AreSummable};
+ghost use Rattle.aggregate.specs.inner.Grouping.{key_values, part_lists, IsGrouped};
 
 use crate::columns::{ColumnPart, add_values, empty_parts};
 use crate::keys::GroupKey;

@@ -46,7 +46,7 @@ impl PartialEq for GroupKey {
     ghost use Rattle.std.specs.Cmp.{partial_equiv_from_equiv};
     ghost use Rattle.std.proofs.lemmas.Cmp.{on_equiv};
     ghost use Rattle.vt_value.specs.Values.{same_row};
-    ghost use Rattle.aggregate.specs.Proofs.KeyLemmas.{same_row-equiv};
+    ghost use Rattle.aggregate.specs.inner.KeyLemmas.{same_row-equiv};
 
     ghost eq = { λ a b. same_row a.values b.values };
 
@@ -59,14 +59,14 @@ impl PartialEq for GroupKey {
 
 impl Eq for GroupKey {
     ghost use Rattle.std.proofs.lemmas.Cmp.{on_equiv};
-    ghost use Rattle.aggregate.specs.Proofs.KeyLemmas.{same_row-equiv};
+    ghost use Rattle.aggregate.specs.inner.KeyLemmas.{same_row-equiv};
 
     ghost laws = { on_equiv (λ k. k.values) same_row-equiv };
 }
 
 impl Hash for GroupKey {
     ghost use Rattle.aggregate.specs.Keys.{row_writes};
-    ghost use Rattle.aggregate.specs.Proofs.KeyLemmas.{hashed_alike};
+    ghost use Rattle.aggregate.specs.inner.KeyLemmas.{hashed_alike};
 
     ghost hash_input = { λ k. row_writes k.values };
 

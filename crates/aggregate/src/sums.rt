@@ -38,7 +38,7 @@ impl Aggregate for Sum {
     ghost use Rattle.std.specs.Int.{w128};
     ghost use Rattle.aggregate.specs.Aggregates.{present, sum_of};
     ghost use Rattle.aggregate.specs.Parts.{gathered, join_options, present_number, part_value};
-    ghost use Rattle.aggregate.specs.Proofs.SumLemmas.{sum_laws, sum_holds};
+    ghost use Rattle.aggregate.specs.inner.SumLemmas.{sum_laws, sum_holds};
 
     type Part = Option<i128>;
 

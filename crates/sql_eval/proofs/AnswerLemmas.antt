@@ -16,7 +16,8 @@ use Rattle.operators.specs.Slices.{sliced, columns_of}
 use Rattle.vschema.specs.declared.schema.Query.{Query}
 use Rattle.vschema.specs.Checks.{is_aggregate, is_aggregated}
 use Rattle.sql_eval.specs.Conditions.{is_kept}
-use Rattle.sql_eval.specs.Grouping.{shown_place, group_columns, group_order, grouped_rows, IsShown}
+use Rattle.sql_eval.specs.Grouping.{shown_place, group_columns, group_order, IsSortedSlice}
+use Rattle.sql_eval.specs.inner.Parts.{grouped_rows}
 use Rattle.sql_eval.specs.Queries.{Keyed, shown_value, shown, keyed_row, keyed_groups, kept_rows, IsAnswer}
 use Rattle.sql_eval.proofs.GroupLemmas.{map_both, keyed_wide, keyed_is, same_cmp}
 
@@ -68,7 +69,7 @@ pub kept_grouped : (q : Query) (rows : List Row) → is_aggregated q ≡ true �
 kept_grouped q rows grouped = rw grouped refl
 
 plain_answer : (q : Query) (rows kept list : List Row) → is_aggregated q ≡ false → kept ≡ filter (is_kept q.filter) rows
-    → IsShown q.order_by q.limit (map shown_place q.items) kept list → IsAnswer q rows list
+    → IsSortedSlice q.order_by q.limit (map shown_place q.items) kept list → IsAnswer q rows list
 plain_answer q rows kept list plain is (sorted, permuted, ascending, shown) =
     let items = or_left _ _ plain in (
       map (keyed_row q) sorted,
@@ -79,7 +80,7 @@ plain_answer q rows kept list plain is (sorted, permuted, ascending, shown) =
     )
 
 pub group_answer : (q : Query) (rows kept list : List Row) → is_aggregated q ≡ true → kept ≡ filter (is_kept q.filter) rows
-    → IsShown (group_order q) q.limit (group_columns q) (grouped_rows q kept) list → IsAnswer q rows list
+    → IsSortedSlice (group_order q) q.limit (group_columns q) (grouped_rows q kept) list → IsAnswer q rows list
 group_answer q rows kept list grouped is (sorted, permuted, ascending, shown) = (
   map (keyed_wide q) sorted,
   subst (λ ks. IsPermutation ks (map (keyed_wide q) sorted)) (keyed_is q kept ∙ ap (keyed_groups q) is ∙ sym (kept_grouped q rows grouped))
@@ -91,11 +92,11 @@ group_answer q rows kept list grouped is (sorted, permuted, ascending, shown) = 
 )
 
 pub answered : (q : Query) (rows kept : List Row) (result : Result (List Row) Refusal) → is_aggregated q ≡ false → kept ≡ filter (is_kept q.filter) rows
-    → IfOk result (IsShown q.order_by q.limit (map shown_place q.items) kept) → IfOk result (IsAnswer q rows)
+    → IfOk result (IsSortedSlice q.order_by q.limit (map shown_place q.items) kept) → IfOk result (IsAnswer q rows)
 answered q rows kept (Ok list) plain is shown = plain_answer q rows kept list plain is shown
 answered q rows kept (Err e) plain is shown = cc
 
 pub groups_answered : (q : Query) (rows kept : List Row) (result : Result (List Row) Refusal) → is_aggregated q ≡ true → kept ≡ filter (is_kept q.filter) rows
-    → IfOk result (IsShown (group_order q) q.limit (group_columns q) (grouped_rows q kept)) → IfOk result (IsAnswer q rows)
+    → IfOk result (IsSortedSlice (group_order q) q.limit (group_columns q) (grouped_rows q kept)) → IfOk result (IsAnswer q rows)
 groups_answered q rows kept (Ok list) grouped is shown = group_answer q rows kept list grouped is shown
 groups_answered q rows kept (Err e) grouped is shown = cc

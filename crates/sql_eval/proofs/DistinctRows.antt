@@ -5,8 +5,9 @@ use Rattle.std.specs.List.{AllByRecursion, IsDistinct}
 use Rattle.std.proofs.lemmas.List.Elements.{filter-append}
 use Rattle.std.proofs.lemmas.List.Sorted.{IsPermutation-refl, IsPermutation-sym, IsPermutation-trans, IsPermutation-cons, IsPermutation-filter_both, list_any-IsPermutation}
 use Rattle.vt_value.specs.Values.{Row, same_row}
-use Rattle.aggregate.specs.Groups.{has_row, distinct}
-use Rattle.aggregate.specs.Proofs.KeyLemmas.{same_row-equiv, same_row-same}
+use Rattle.aggregate.specs.inner.Grouping.{has_row}
+use Rattle.aggregate.specs.Groups.{distinct}
+use Rattle.aggregate.specs.inner.KeyLemmas.{same_row-equiv, same_row-same}
 use Rattle.aggregate.proofs.DistinctLemmas.{has_distinct, kept_any}
 use Rattle.sql_eval.proofs.GroupLemmas.{filter_all}
 

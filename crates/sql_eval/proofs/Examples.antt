@@ -8,9 +8,8 @@ use Rattle.sql_tree.specs.declared.Operand.TheVariants.{Column, Literal}
 use Rattle.sql_tree.specs.declared.Condition.{Condition, Compare, In, Not}
 use Rattle.sql_tree.specs.declared.Key.{Key}
 use Rattle.vschema.specs.declared.schema.Query.{Query}
-use Rattle.vschema.specs.Database.{Database}
 use Rattle.sql_eval.specs.Conditions.{is_kept}
-use Rattle.sql_eval.specs.Queries.{Keyed, kept, kept_rows, keyed_row, IsAnswer}
+use Rattle.sql_eval.specs.Queries.{Keyed, kept_rows, keyed_row, IsAnswer}
 use Rattle.sql_tree.specs.declared.Item.{Item}
 use Rattle.sql_tree.specs.declared.Item.TheVariants as item
 use Rattle.sql_eval.proofs.ConditionLemmas.{truth_at-Compare, truth_at-In, truth_at-Not}
@@ -20,9 +19,6 @@ n k = Int (pos k)
 
 abbrev t_rows : List Row
 t_rows = (n 1 ∷ Null ∷ []) ∷ (n 2 ∷ Null ∷ []) ∷ (n 3 ∷ n 7 ∷ []) ∷ (n 4 ∷ n 7 ∷ []) ∷ (n 5 ∷ n 9 ∷ []) ∷ (n 6 ∷ n 1 ∷ []) ∷ []
-
-abbrev db : Database
-db = t_rows ∷ []
 
 abbrev query : List ℕ → Option (Condition ℕ) → Query
 query places filter' = record { table = 0; items = map item.Column places; filter = filter'; group_by = []; order_by = []; limit = None }
@@ -35,13 +31,13 @@ kept_by c p same = ap (λ test. filter test t_rows) (λ i row. same row i)
 abbrev alone : Row → Keyed
 alone row = (row, [])
 
-all_ids : kept (query (0 ∷ []) None) db ≡ map alone ((n 1 ∷ []) ∷ (n 2 ∷ []) ∷ (n 3 ∷ []) ∷ (n 4 ∷ []) ∷ (n 5 ∷ []) ∷ (n 6 ∷ []) ∷ [])
+all_ids : kept_rows (query (0 ∷ []) None) t_rows ≡ map alone ((n 1 ∷ []) ∷ (n 2 ∷ []) ∷ (n 3 ∷ []) ∷ (n 4 ∷ []) ∷ (n 5 ∷ []) ∷ (n 6 ∷ []) ∷ [])
 all_ids = refl
 
 abbrev id_is_5 : Condition ℕ
 id_is_5 = Compare Eq (Column 0) (Literal (n 5))
 
-one_row : kept (query (0 ∷ 1 ∷ []) (Some id_is_5)) db ≡ alone (n 5 ∷ n 9 ∷ []) ∷ []
+one_row : kept_rows (query (0 ∷ 1 ∷ []) (Some id_is_5)) t_rows ≡ alone (n 5 ∷ n 9 ∷ []) ∷ []
 one_row =
     ap (map (keyed_row (query (0 ∷ 1 ∷ []) (Some id_is_5))))
     (kept_by id_is_5 (λ row. is_true (compare Eq (value_at row 0) (n 5))) (λ row. ap is_true (truth_at-Compare row Eq (Column 0) (Literal (n 5)))))
@@ -91,12 +87,12 @@ wide : kept_rows (grouped (item.Min 1 ∷ item.Sum 1 ∷ []) [] []) ((n 1 ∷ la
 wide = refl
 
 -- c and COUNT(*) by c, beside the sort key c: NULLs are one group
-counts : kept (grouped (item.Column 1 ∷ item.CountRows ∷ []) (1 ∷ []) (record { column = 1; descending = false } ∷ [])) db
+counts : kept_rows (grouped (item.Column 1 ∷ item.CountRows ∷ []) (1 ∷ []) (record { column = 1; descending = false } ∷ [])) t_rows
     ≡ ((Null ∷ n 2 ∷ []), (Null ∷ [])) ∷ ((n 7 ∷ n 2 ∷ []), (n 7 ∷ [])) ∷ ((n 9 ∷ n 1 ∷ []), (n 9 ∷ [])) ∷ ((n 1 ∷ n 1 ∷ []), (n 1 ∷ [])) ∷ []
 counts = refl
 
 -- COUNT(c), SUM(c), MAX(c)
-all_of_c : kept (grouped (item.Count 1 ∷ item.Sum 1 ∷ item.Max 1 ∷ []) [] []) db ≡ alone (n 4 ∷ n 24 ∷ n 9 ∷ []) ∷ []
+all_of_c : kept_rows (grouped (item.Count 1 ∷ item.Sum 1 ∷ item.Max 1 ∷ []) [] []) t_rows ≡ alone (n 4 ∷ n 24 ∷ n 9 ∷ []) ∷ []
 all_of_c = refl
 
 -- with LIMIT 0 no row is left of COUNT(*)

@@ -21,7 +21,8 @@ use Rattle.aggregate.proofs.PartsOfRows.{first_behind}
 use Rattle.vschema.specs.declared.schema.Query.{Query}
 use Rattle.vschema.specs.Checks.{is_aggregate, has_number}
 use Rattle.sql_eval.specs.Groups.{group_values, group_rows, group_value, item_value}
-use Rattle.sql_eval.specs.Grouping.{shown_place, aggregates_of, one_of, part_value, part_row, place_from, item_places, placed_key, behind, group_columns, group_order, grouped_rows}
+use Rattle.sql_eval.specs.Grouping.{shown_place, aggregates_of, group_place_from, item_places, placed_key, behind_groups, group_columns, group_order}
+use Rattle.sql_eval.specs.inner.Parts.{one_of, row_part, part_row, grouped_rows}
 use Rattle.sql_eval.specs.Queries.{Keyed, keyed_group, keyed_groups}
 
 pub map_both : {X Y Z : Type 0} (f : Y → Z) (g : X → Y) (h : X → Z) → ((x : X) → f (g x) ≡ h x) → (xs : List X) → map f (map g xs) ≡ map h xs
@@ -64,7 +65,7 @@ counted c (row ∷ rows) = by (value_at row c) (is_null (value_at row c)) refl (
 
 -- the rows' parts, joined, are what the aggregate gives over the rows
 own_joined : (columns : List ℕ) (values : Row) (rows : List Row) (a : Item ℕ) → is_aggregate a ≡ true
-    → joined_part a (map (λ row. part_value row a) rows) ≡ item_value columns values rows a
+    → joined_part a (map (λ row. row_part row a) rows) ≡ item_value columns values rows a
 own_joined columns values rows (Column c) e = cc
 own_joined columns values rows CountRows e = ap Int (ones rows)
 own_joined columns values rows (Count c) e = ap Int (counted c rows)
@@ -73,13 +74,13 @@ own_joined columns values rows (Min c) e = refl
 own_joined columns values rows (Max c) e = refl
 
 all_own : (columns : List ℕ) (values : Row) (rows : List Row) (items : List (Item ℕ))
-    → map (λ a. joined_part a (map (λ row. part_value row a) rows)) (aggregates_of items) ≡ map (item_value columns values rows) (aggregates_of items)
+    → map (λ a. joined_part a (map (λ row. row_part row a) rows)) (aggregates_of items) ≡ map (item_value columns values rows) (aggregates_of items)
 all_own columns values rows [] = refl
 all_own columns values rows (i ∷ items) = by (is_aggregate i) refl (all_own columns values rows items)
   where
     by : (b : Bool) → is_aggregate i ≡ b
-        → map (λ a. joined_part a (map (λ row. part_value row a) rows)) (aggregates_of items) ≡ map (item_value columns values rows) (aggregates_of items)
-        → map (λ a. joined_part a (map (λ row. part_value row a) rows)) (cond b (i ∷ aggregates_of items) (aggregates_of items))
+        → map (λ a. joined_part a (map (λ row. row_part row a) rows)) (aggregates_of items) ≡ map (item_value columns values rows) (aggregates_of items)
+        → map (λ a. joined_part a (map (λ row. row_part row a) rows)) (cond b (i ∷ aggregates_of items) (aggregates_of items))
         ≡ map (item_value columns values rows) (cond b (i ∷ aggregates_of items) (aggregates_of items))
     by true e rest = λ j. own_joined columns values rows i e j ∷ rest j
     by false e rest = rest
@@ -142,7 +143,7 @@ module _ (columns : List ℕ) (items : List (Item ℕ)) where
   own_group : (values : Row) (rows : List Row) → of_group (length columns) values (map part rows) ≡ map part (group_rows columns values rows)
   own_group values [] = refl
   own_group values (row ∷ rows) =
-      (λ i. cond (same_row values (front (value_at row) columns (map (part_value row) (aggregates_of items)) i)) (part row ∷ own_group values rows i) (own_group values rows i))
+      (λ i. cond (same_row values (front (value_at row) columns (map (row_part row) (aggregates_of items)) i)) (part row ∷ own_group values rows i) (own_group values rows i))
       ∙ by (same_row values (columns_of columns row))
     where
       by : (b : Bool) → cond b (part row ∷ map part (group_rows columns values rows)) (map part (group_rows columns values rows))
@@ -154,15 +155,15 @@ module _ (columns : List ℕ) (items : List (Item ℕ)) where
       ≡ map (item_value columns values (group_rows columns values rows)) (aggregates_of items)
   parts_of_group values rows =
       ap (joined_parts (aggregates_of items) (length columns)) (own_group values rows)
-      ∙ joined_each (aggregates_of items) (length columns) part part_value (group_rows columns values rows)
-      (λ row. back (value_at row) columns (map (part_value row) (aggregates_of items)))
+      ∙ joined_each (aggregates_of items) (length columns) part row_part (group_rows columns values rows)
+      (λ row. back (value_at row) columns (map (row_part row) (aggregates_of items)))
       ∙ all_own columns values (group_rows columns values rows) items
 
 same_keys : (columns : List ℕ) (items : List (Item ℕ)) (rows : List Row) → group_keys (length columns) (map (part_row columns (aggregates_of items)) rows) ≡ group_values columns rows
 same_keys [] items rows = refl
 same_keys (c ∷ columns) items rows =
     let here = map_both (take (length (c ∷ columns))) (part_row (c ∷ columns) (aggregates_of items)) (columns_of (c ∷ columns))
-    (λ row. front (value_at row) (c ∷ columns) (map (part_value row) (aggregates_of items))) rows in
+    (λ row. front (value_at row) (c ∷ columns) (map (row_part row) (aggregates_of items))) rows in
     rw eqb-suc-zero (ap distinct here)
 
 -- the groups that are made of the rows' parts
@@ -179,13 +180,13 @@ grouped_is columns items rows =
 
 -- a column of GROUP BY in a row that has its values from a place on
 place_value : (wide : Row) (columns : List ℕ) (values rest : Row) (n other c : ℕ) → length values ≡ length columns → drop n wide ≡ values ++ rest → length wide ≤ other
-    → value_at wide (place_from n other columns c) ≡ group_value columns values c
+    → value_at wide (group_place_from n other columns c) ≡ group_value columns values c
 place_value wide [] values rest n other c same at far = at_end wide other far
 place_value wide (g ∷ columns) [] rest n other c same at far = cc
 place_value wide (g ∷ columns) (v ∷ values) rest n other c same at far = by (g == c) (place_value wide columns values rest (n + 1) other c (omega (arith, same)) (drop_next wide (values ++ rest) v n at) far)
   where
-    by : (b : Bool) → value_at wide (place_from (n + 1) other columns c) ≡ group_value columns values c
-        → value_at wide (cond b n (place_from (n + 1) other columns c)) ≡ cond b v (group_value columns values c)
+    by : (b : Bool) → value_at wide (group_place_from (n + 1) other columns c) ≡ group_value columns values c
+        → value_at wide (cond b n (group_place_from (n + 1) other columns c)) ≡ cond b v (group_value columns values c)
     by true later = at_drop wide n v (values ++ rest) at
     by false later = later
 
@@ -198,7 +199,7 @@ plain_item columns values rows (Min c) e = cc
 plain_item columns values rows (Max c) e = cc
 
 module _ (columns : List ℕ) (values : Row) (rows : List Row) (wide : Row) (other : ℕ)
-    (plain : (c : ℕ) → value_at wide (place_from 0 other columns c) ≡ group_value columns values c) where
+    (plain : (c : ℕ) → value_at wide (group_place_from 0 other columns c) ≡ group_value columns values c) where
   items_at : (items : List (Item ℕ)) (n : ℕ) → drop n wide ≡ map (item_value columns values rows) (aggregates_of items)
       → map (value_at wide) (item_places other columns n items) ≡ map (item_value columns values rows) items
   items_at [] n at = refl
@@ -208,7 +209,7 @@ module _ (columns : List ℕ) (values : Row) (rows : List Row) (wide : Row) (oth
           → ((m : ℕ) → drop m wide ≡ map (item_value columns values rows) (aggregates_of items)
           → map (value_at wide) (item_places other columns m items) ≡ map (item_value columns values rows) items)
           → drop n wide ≡ map (item_value columns values rows) (cond b (i ∷ aggregates_of items) (aggregates_of items))
-          → map (value_at wide) (cond b (n ∷ item_places other columns (n + 1) items) (place_from 0 other columns (shown_place i) ∷ item_places other columns n items))
+          → map (value_at wide) (cond b (n ∷ item_places other columns (n + 1) items) (group_place_from 0 other columns (shown_place i) ∷ item_places other columns n items))
           ≡ item_value columns values rows i ∷ map (item_value columns values rows) items
       by true e rest at =
           let first = at_drop wide n (item_value columns values rows i) (map (item_value columns values rows) (aggregates_of items)) at in
@@ -254,11 +255,11 @@ module _ (q : Query) where
       let group = group_rows q.group_by values rows in
       let parts = map (item_value q.group_by values group) (aggregates_of q.items) in
       let wide = values ++ parts in
-      let far : length wide ≤ behind q = omega (arith, length-append values parts, length-map (aggregates_of q.items) (item_value q.group_by values group), filter_short is_aggregate q.items, long) in
-      let plain : (c : ℕ) → value_at wide (place_from 0 (behind q) q.group_by c) ≡ group_value q.group_by values c =
-      λ c. place_value wide q.group_by values parts 0 (behind q) c long refl far in
-      let shown = items_at q.group_by values group wide (behind q) plain q.items (length q.group_by) (drop_join (length q.group_by) values parts long) in
-      let keys = keys_at q.group_by values group wide (behind q) plain q.order_by in
+      let far : length wide ≤ behind_groups q = omega (arith, length-append values parts, length-map (aggregates_of q.items) (item_value q.group_by values group), filter_short is_aggregate q.items, long) in
+      let plain : (c : ℕ) → value_at wide (group_place_from 0 (behind_groups q) q.group_by c) ≡ group_value q.group_by values c =
+      λ c. place_value wide q.group_by values parts 0 (behind_groups q) c long refl far in
+      let shown = items_at q.group_by values group wide (behind_groups q) plain q.items (length q.group_by) (drop_join (length q.group_by) values parts long) in
+      let keys = keys_at q.group_by values group wide (behind_groups q) plain q.order_by in
       λ i. (shown i, keys i)
 
   keyed_each : (rows keys : List Row) → AllByRecursion (IsKey q.group_by) keys → map keyed_wide (map (group_row q.group_by q.items rows) keys) ≡ map (keyed_group q rows) keys
@@ -270,7 +271,7 @@ module _ (q : Query) where
   keyed_is rows = ap (map keyed_wide) (grouped_is q.group_by q.items rows) ∙ keyed_each rows (group_values q.group_by rows) (all_keys q.group_by rows)
 
   -- they are sorted in the same way
-  same_order : (keys : List (Key ℕ)) (as' bs : List Value) → keys_cmp (map (placed_key (behind q) q.group_by) keys) as' bs ≡ keys_cmp keys as' bs
+  same_order : (keys : List (Key ℕ)) (as' bs : List Value) → keys_cmp (map (placed_key (behind_groups q) q.group_by) keys) as' bs ≡ keys_cmp keys as' bs
   same_order [] as' bs = refl
   same_order (k ∷ keys) as' bs = ap (ordering_then (value_order k (value_at as' 0) (value_at bs 0))) (same_order keys (drop 1 as') (drop 1 bs))
 

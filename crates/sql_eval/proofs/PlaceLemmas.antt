@@ -5,24 +5,24 @@ use Rattle.sql_tree.specs.declared.Key.{Key}
 use Rattle.vschema.specs.declared.first_places.FirstPlaces.{FirstPlaces}
 use Rattle.vschema.specs.FirstPlaces.{first_place}
 use Rattle.vschema.specs.Schema as schema
-use Rattle.sql_eval.specs.Grouping.{place_from, placed_key}
+use Rattle.sql_eval.specs.Grouping.{group_place_from, placed_key}
 
 at_first : (b : Bool) (n other here : ℕ) (rest : Option ℕ) → unwrap_or rest other ≡ here → unwrap_or (if b then Some n else rest) other ≡ (if b then n else here)
 at_first true n other here rest e = refl
 at_first false n other here rest e = e
 
-found : (n other c : ℕ) (columns : List ℕ) → unwrap_or (schema.place_from (λ m. m == c) n columns) other ≡ place_from n other columns c
+found : (n other c : ℕ) (columns : List ℕ) → unwrap_or (schema.place_from (λ m. m == c) n columns) other ≡ group_place_from n other columns c
 found n other c [] = refl
 found n other c (g ∷ columns) =
-    at_first (g == c) n other (place_from (n + 1) other columns c) (schema.place_from (λ m. m == c) (n + 1) columns) (found (n + 1) other c columns)
+    at_first (g == c) n other (group_place_from (n + 1) other columns c) (schema.place_from (λ m. m == c) (n + 1) columns) (found (n + 1) other c columns)
 
 pub placed : (first : FirstPlaces) (columns : List ℕ) → ((n : ℕ) → first_place first n ≡ schema.place_from (λ m. m == n) 0 columns) → (c other : ℕ)
-    → unwrap_or (first_place first c) other ≡ place_from 0 other columns c
+    → unwrap_or (first_place first c) other ≡ group_place_from 0 other columns c
 placed first columns are c other = ap (λ o. unwrap_or o other) (are c) ∙ found 0 other c columns
 
 -- with one key more
 pub placed_more : (columns : List ℕ) (other : ℕ) (keys before new : List (Key ℕ)) (i : ℕ) (d : Key ℕ) (place : ℕ) → i < length keys
-    → place ≡ place_from 0 other columns (get_or keys i d).column → new ≡ before ++ record { column = place; descending = (get_or keys i d).descending } ∷ []
+    → place ≡ group_place_from 0 other columns (get_or keys i d).column → new ≡ before ++ record { column = place; descending = (get_or keys i d).descending } ∷ []
     → before ≡ map (placed_key other columns) (take i keys) → new ≡ map (placed_key other columns) (take (i + 1) keys)
 placed_more columns other keys before new i d place within is pushed known =
     pushed ∙ (λ j. known j ++ record { column = is j; descending = (get_or keys i d).descending } ∷ [])

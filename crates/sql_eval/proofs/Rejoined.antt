@@ -12,10 +12,11 @@ use Rattle.sql_tree.specs.declared.Item.{Item}
 use Rattle.sql_tree.specs.declared.Item.TheVariants.{Column, CountRows, Count, Sum, Min, Max}
 use Rattle.operators.proofs.SliceLemmas.{drop_next}
 use Rattle.aggregate.specs.declared.columns.ColumnPart.TheVariants.{Number, Total, Least, Greatest}
-use Rattle.aggregate.specs.Columns.{column_part, finished}
-use Rattle.aggregate.specs.Groups.{has_row, distinct, joined_part, joined_parts, of_group, group_keys, joined_rows}
-use Rattle.aggregate.specs.Proofs.ExtremeLemmas.{min_laws, max_laws}
-use Rattle.aggregate.specs.Proofs.SumLemmas.{sum_laws}
+use Rattle.aggregate.specs.inner.Columns.{column_part, finished}
+use Rattle.aggregate.specs.inner.Grouping.{has_row}
+use Rattle.aggregate.specs.Groups.{distinct, joined_part, joined_parts, of_group, group_keys, joined_rows}
+use Rattle.aggregate.specs.inner.ExtremeLemmas.{min_laws, max_laws}
+use Rattle.aggregate.specs.inner.SumLemmas.{sum_laws}
 use Rattle.aggregate.proofs.DistinctLemmas.{none_of, has_distinct}
 use Rattle.aggregate.proofs.PartsOfRows.{column_gives}
 use Rattle.aggregate.proofs.SplitLemmas.{together, joined_again}

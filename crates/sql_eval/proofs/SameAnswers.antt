@@ -5,7 +5,8 @@ use Rattle.vt_value.specs.Values.{Row}
 use Rattle.vschema.specs.declared.schema.Query.{Query}
 use Rattle.vschema.specs.Checks.{is_aggregated}
 use Rattle.sql_eval.specs.Conditions.{is_kept}
-use Rattle.sql_eval.specs.Grouping.{aggregates_of, part_row, grouped_rows}
+use Rattle.sql_eval.specs.Grouping.{aggregates_of}
+use Rattle.sql_eval.specs.inner.Parts.{part_row, grouped_rows}
 use Rattle.sql_eval.specs.Queries.{keyed_row, keyed_groups, kept_rows, IsAnswer}
 use Rattle.sql_eval.proofs.GroupLemmas.{keyed_wide, keyed_is}
 use Rattle.sql_eval.proofs.Permutations.{IsPermutation-filter}

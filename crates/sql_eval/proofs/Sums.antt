@@ -10,7 +10,7 @@ use Rattle.vt_value.specs.declared.value.Value.TheVariants.{Null, Int, Bytes}
 use Rattle.vt_value.specs.Values.{Row, value_at, is_null}
 use Rattle.sql_tree.specs.declared.Item.{Item}
 use Rattle.sql_tree.specs.declared.Item.TheVariants.{Column, CountRows, Count, Sum, Min, Max}
-use Rattle.aggregate.specs.Aggregates.{size, IsStored}
+use Rattle.aggregate.specs.Aggregates.{size, IsColumnValue}
 use Rattle.aggregate.specs.Groups.{column_size, AreSummable}
 use Rattle.aggregate.proofs.HeldLemmas.{stored_within}
 use Rattle.vschema.specs.declared.schema.Column as schema
@@ -21,7 +21,7 @@ use Rattle.vschema.specs.Checks.{is_text_type, value_is_text, differ}
 use Rattle.vschema.specs.WriteChecks.{is_out_of_range}
 use Rattle.vschema.specs.Storable.{is_storable_value, are_storable_values, is_storable}
 use Rattle.sql_eval.specs.Groups.{CanBeSummed}
-use Rattle.sql_eval.specs.Grouping.{one_of, part_value, part_row}
+use Rattle.sql_eval.specs.inner.Parts.{one_of, row_part, part_row}
 use Rattle.sql_eval.proofs.GroupLemmas.{filter_all, filter_short}
 
 and_left : (a b : Bool) → (a && b) ≡ true → a ≡ true
@@ -44,7 +44,7 @@ not_true : (b : Bool) → not b ≡ true → b ≡ false
 not_true true e = cc
 not_true false e = refl
 
-number_stored : (kind : ColumnType) (v : Value) → not (differ (Some (is_text_type kind)) (value_is_text v)) ≡ true → is_out_of_range kind v ≡ false → IsStored v
+number_stored : (kind : ColumnType) (v : Value) → not (differ (Some (is_text_type kind)) (value_is_text v)) ≡ true → is_out_of_range kind v ≡ false → IsColumnValue v
 number_stored kind Null d e = tt
 number_stored kind (Bytes t) d e = tt
 number_stored BigInt (Int (pos n)) d e =
@@ -59,16 +59,16 @@ number_stored BigIntUnsigned (Int (pos n)) d e =
 number_stored BigIntUnsigned (Int (negsuc n)) d e = cc
 number_stored (VarBinary k) (Int n) d e = cc
 
-value_stored : (c : schema.Column) (v : Value) → is_storable_value c v ≡ true → IsStored v
+value_stored : (c : schema.Column) (v : Value) → is_storable_value c v ≡ true → IsColumnValue v
 value_stored c v e = number_stored c.kind v (and_right _ _ (and_left _ _ (and_left _ _ e))) (not_true (is_out_of_range c.kind v) (and_right _ _ (and_left _ _ e)))
 
-values_stored : (columns : List schema.Column) (row : Row) → are_storable_values columns row ≡ true → AllByRecursion IsStored row
+values_stored : (columns : List schema.Column) (row : Row) → are_storable_values columns row ≡ true → AllByRecursion IsColumnValue row
 values_stored [] [] e = tt
 values_stored [] (v ∷ row) e = cc
 values_stored (c ∷ columns) [] e = tt
 values_stored (c ∷ columns) (v ∷ row) e = (value_stored c v (and_left _ _ e), values_stored columns row (and_right _ _ e))
 
-rows_stored : (t : Table) (rows : List Row) → AllByRecursion (λ row. is_storable t row ≡ true) rows → AllByRecursion (AllByRecursion IsStored) rows
+rows_stored : (t : Table) (rows : List Row) → AllByRecursion (λ row. is_storable t row ≡ true) rows → AllByRecursion (AllByRecursion IsColumnValue) rows
 rows_stored t [] all = tt
 rows_stored t (row ∷ rows) all = (values_stored t.columns row all.0, rows_stored t rows all.1)
 
@@ -78,7 +78,7 @@ storable_summed t rows all few = (few, rows_stored t rows all)
 
 -- some of them
 pub filter_summed : (p : Row → Bool) (rows : List Row) → CanBeSummed rows → CanBeSummed (filter p rows)
-filter_summed p rows h = let few = h.0 in (omega (arith, few, filter_short p rows), filter_all (AllByRecursion IsStored) p rows h.1)
+filter_summed p rows h = let few = h.0 in (omega (arith, few, filter_short p rows), filter_all (AllByRecursion IsColumnValue) p rows h.1)
 
 abbrev pub IsSmall : Value → Type 0
 IsSmall v = size v ≤ 2 ^ 64
@@ -89,7 +89,7 @@ small_at [] (suc n) all = omega arith
 small_at (v ∷ row) zero all = all.0
 small_at (v ∷ row) (suc n) all = small_at row n all.1
 
-pub all_small : (row : Row) → AllByRecursion IsStored row → AllByRecursion IsSmall row
+pub all_small : (row : Row) → AllByRecursion IsColumnValue row → AllByRecursion IsSmall row
 all_small [] all = tt
 all_small (v ∷ row) all = (stored_within v all.0, all_small row all.1)
 
@@ -100,7 +100,7 @@ one_small v = by (is_null v)
     by true = omega arith
     by false = omega arith
 
-part_small : (row : Row) → AllByRecursion IsSmall row → (a : Item ℕ) → IsSmall (part_value row a)
+part_small : (row : Row) → AllByRecursion IsSmall row → (a : Item ℕ) → IsSmall (row_part row a)
 part_small row all (Column c) = omega arith
 part_small row all CountRows = omega arith
 part_small row all (Count c) = one_small (value_at row c)
@@ -113,7 +113,7 @@ parts_small [] [] row all = tt
 parts_small [] (a ∷ aggregates) row all = (part_small row all a, parts_small [] aggregates row all)
 parts_small (c ∷ columns) aggregates row all = (small_at row c all, parts_small columns aggregates row all)
 
-pub sizes_small : (columns : List ℕ) (aggregates : List (Item ℕ)) (rows : List Row) (n : ℕ) → AllByRecursion (AllByRecursion IsStored) rows
+pub sizes_small : (columns : List ℕ) (aggregates : List (Item ℕ)) (rows : List Row) (n : ℕ) → AllByRecursion (AllByRecursion IsColumnValue) rows
     → column_size n (map (part_row columns aggregates) rows) ≤ length rows * 2 ^ 64
 sizes_small columns aggregates [] n all = omega arith
 sizes_small columns aggregates (row ∷ rows) n all =

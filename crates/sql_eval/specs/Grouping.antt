@@ -1,10 +1,8 @@
 -- How the groups of a query are computed: each row is a part of its group, and parts are joined.
-use Rattle.std.specs.Prelude.{◌≡◌, ℕ, ◌+◌, pos, ◌==◌, ◌++◌, List, [], ◌∷◌, length, map, filter, IsPermutation, IsSorted, Option, if◌then◌else◌}
-use Rattle.vt_value.specs.declared.value.Value.{Value}
-use Rattle.vt_value.specs.declared.value.Value.TheVariants.{Null, Int}
-use Rattle.vt_value.specs.Values.{Row, value_at, is_null}
+use Rattle.std.specs.Prelude.{◌≡◌, ℕ, ◌+◌, ◌==◌, List, [], ◌∷◌, length, map, filter, IsPermutation, IsSorted, Option, if◌then◌else◌}
+use Rattle.vt_value.specs.Values.{Row}
 use Rattle.sql_tree.specs.declared.Item.{Item}
-use Rattle.sql_tree.specs.declared.Item.TheVariants.{Column, CountRows, Count, Sum, Min, Max}
+use Rattle.sql_tree.specs.declared.Item.TheVariants.{Column}
 use Rattle.sql_tree.specs.declared.Key.{Key}
 use Rattle.sql_tree.specs.declared.Limit.{Limit}
 use Rattle.operators.specs.Orders.{row_cmp}
@@ -22,63 +20,42 @@ shown_place _ = 0
 abbrev pub aggregates_of : List (Item ℕ) → List (Item ℕ)
 aggregates_of items = filter is_aggregate items
 
--- 1 for a value, 0 for NULL
-abbrev pub one_of : Value → Value
-one_of v = if is_null v then Int (pos 0) else Int (pos 1)
-
--- the part of an aggregate that a row is
-abbrev pub part_value : Row → Item ℕ → Value
-part_value row (Column c) = Null
-part_value row CountRows = Int (pos 1)
-part_value row (Count c) = one_of (value_at row c)
-part_value row (Sum c) = value_at row c
-part_value row (Min c) = value_at row c
-part_value row (Max c) = value_at row c
-
--- the values of its group, and behind them the parts
-abbrev pub part_row : List ℕ → List (Item ℕ) → Row → Row
-part_row columns aggregates row = columns_of columns row ++ map (part_value row) aggregates
-
 -- the place of a column among those of GROUP BY, counted from a number on, and another place where it isn't there
-abbrev pub place_from : ℕ → ℕ → List ℕ → ℕ → ℕ
-place_from n other [] c = other
-place_from n other (g ∷ columns) c = if g == c then n else place_from (n + 1) other columns c
+abbrev pub group_place_from : ℕ → ℕ → List ℕ → ℕ → ℕ
+group_place_from n other [] c = other
+group_place_from n other (g ∷ columns) c = if g == c then n else group_place_from (n + 1) other columns c
 
 -- the places of a query's items in the rows of groups, where the aggregates stand from a place on
 abbrev pub item_places : ℕ → List ℕ → ℕ → List (Item ℕ) → List ℕ
 item_places other columns n [] = []
 item_places other columns n (i ∷ items) =
     if is_aggregate i then n ∷ item_places other columns (n + 1) items
-    else place_from 0 other columns (shown_place i) ∷ item_places other columns n items
+    else group_place_from 0 other columns (shown_place i) ∷ item_places other columns n items
 
 abbrev pub placed_key : ℕ → List ℕ → Key ℕ → Key ℕ
-placed_key other columns k = record { column = place_from 0 other columns k.column; descending = k.descending }
+placed_key other columns k = record { column = group_place_from 0 other columns k.column; descending = k.descending }
 
 -- a place behind the last value of a group's row
-abbrev pub behind : Query → ℕ
-behind q = length q.group_by + length q.items
+abbrev pub behind_groups : Query → ℕ
+behind_groups q = length q.group_by + length q.items
 
 abbrev pub grouping_of : Query → Grouping
 grouping_of q = record { width = length q.group_by; aggregates = aggregates_of q.items }
 
 -- the places of the query's items in a group's row
 abbrev pub group_columns : Query → List ℕ
-group_columns q = item_places (behind q) q.group_by (length q.group_by) q.items
+group_columns q = item_places (behind_groups q) q.group_by (length q.group_by) q.items
 
 -- the sort keys, by the places of their columns in a group's row
 abbrev pub group_order : Query → List (Key ℕ)
-group_order q = map (placed_key (behind q) q.group_by) q.order_by
+group_order q = map (placed_key (behind_groups q) q.group_by) q.order_by
 
 -- the rows of the groups that these parts make up
 abbrev pub grouped : Grouping → List Row → List Row
 grouped g parts = joined_rows g.aggregates g.width parts
 
--- the rows of the groups of these rows
-abbrev pub grouped_rows : Query → List Row → List Row
-grouped_rows q rows = grouped (grouping_of q) (map (part_row q.group_by (aggregates_of q.items)) rows)
-
 -- what is shown of rows: their slice in an order that the keys allow, by the columns in these places
-abbrev pub IsShown : List (Key ℕ) → Option Limit → List ℕ → List Row → List Row → Type 0
-IsShown keys limit places rows list =
+abbrev pub IsSortedSlice : List (Key ℕ) → Option Limit → List ℕ → List Row → List Row → Type 0
+IsSortedSlice keys limit places rows list =
     (arranged : List Row) × IsPermutation rows arranged × IsSorted (row_cmp keys) arranged
     × (list ≡ map (columns_of places) (sliced limit arranged))

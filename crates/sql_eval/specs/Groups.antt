@@ -7,7 +7,7 @@ use Rattle.vt_value.specs.Values.{Row, value_at, same_row}
 use Rattle.sql_tree.specs.declared.Item.{Item}
 use Rattle.sql_tree.specs.declared.Item.TheVariants.{Column, CountRows, Count, Sum, Min, Max}
 use Rattle.operators.specs.Slices.{columns_of}
-use Rattle.aggregate.specs.Aggregates.{values_of, sum_of, least_of, greatest_of, count_of, IsStored}
+use Rattle.aggregate.specs.Aggregates.{values_of, sum_of, least_of, greatest_of, count_of, IsColumnValue}
 use Rattle.aggregate.specs.Groups.{distinct}
 
 -- The values that stand for the groups: each that rows have in the columns of GROUP BY, once. Without GROUP BY there is one group, also of
@@ -36,4 +36,4 @@ item_value columns values rows (Max c) = greatest_of (values_of c rows)
 
 -- At most 2^60 rows, of values that columns may hold: each count and each sum of theirs fits.
 abbrev pub CanBeSummed : List Row → Type 0
-CanBeSummed rows = (length rows ≤ 2 ^ 60) × AllByRecursion (AllByRecursion IsStored) rows
+CanBeSummed rows = (length rows ≤ 2 ^ 60) × AllByRecursion (AllByRecursion IsColumnValue) rows

@@ -3,3 +3,4 @@ pub mod Groups
 pub mod Grouping
 pub mod Queries
 pub mod Writes
+pub mod inner

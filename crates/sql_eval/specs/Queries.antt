@@ -46,9 +46,6 @@ abbrev pub kept_rows : Query → List Row → List Keyed
 kept_rows q rows =
     if is_aggregated q then keyed_groups q (filter (is_kept q.filter) rows) else map (keyed_row q) (filter (is_kept q.filter) rows)
 
-abbrev pub kept : Query → Database → List Keyed
-kept q db = kept_rows q (rows_of db q.table)
-
 -- The list is an answer of the query over the rows of its table: some arrangement of the whole answer is sorted by its keys, and the
 -- list is its slice.
 abbrev pub IsAnswer : Query → List Row → List Row → Type 0

@@ -3,7 +3,8 @@ ghost use Rattle.std.specs.Prelude.{◌≡◌, IfOk, IfErr, map, length, unwrap_
 ghost use Rattle.aggregate.specs.Groups.{AreSummable};
 ghost use Rattle.vschema.specs.Checks.{is_aggregate};
 ghost use Rattle.vschema.specs.FirstPlaces.{first_place};
-ghost use Rattle.sql_eval.specs.Grouping.{shown_place, aggregates_of, one_of, part_value, part_row, item_places, placed_key, grouping_of, group_columns, group_order, grouped};
+ghost use Rattle.sql_eval.specs.Grouping.{shown_place, aggregates_of, item_places, placed_key, grouping_of, group_columns, group_order, grouped};
+ghost use Rattle.sql_eval.specs.inner.Parts.{one_of, row_part, part_row};
 
 use crate::rows::value_at;
 use aggregate::GroupMerge;
@@ -101,7 +102,7 @@ fn one_of(value: &Value) -> Value
 
 /// The part of an aggregate that a row is.
 fn part_value(alloc: Global, row: &Row, aggregate: &Item<usize>) -> Result<Value, Refusal>
-    ensures ok { IfOk result (λ value. value ≡ part_value row.now aggregate.now) }
+    ensures ok { IfOk result (λ value. value ≡ row_part row.now aggregate.now) }
     ensures err { IfErr result (λ e. e ≡ Refusal.OutOfMemory) }
 {
     let null = Value::Null;

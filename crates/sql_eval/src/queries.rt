@@ -2,7 +2,8 @@ ghost use Rattle.std.specs.Prelude.{◌≡◌, IfOk, IfErr, map, filter, true};
 ghost use Rattle.vschema.specs.Checks.{is_aggregated};
 ghost use Rattle.sql_eval.specs.Conditions.{is_kept};
 ghost use Rattle.sql_eval.specs.Groups.{CanBeSummed};
-ghost use Rattle.sql_eval.specs.Grouping.{shown_place, group_columns, group_order, grouped_rows, IsShown};
+ghost use Rattle.sql_eval.specs.Grouping.{shown_place, group_columns, group_order, IsSortedSlice};
+ghost use Rattle.sql_eval.specs.inner.Parts.{grouped_rows};
 ghost use Rattle.sql_eval.specs.Queries.{IsAnswer};
 
 use crate::conditions::keeps;
@@ -52,7 +53,7 @@ pub fn show(
     limit: Option<sql_tree::Limit>,
     places: Items<usize>,
 ) -> Result<Items<Row>, Refusal>
-    ensures ok { IfOk result (IsShown keys.now limit places rows) }
+    ensures ok { IfOk result (IsSortedSlice keys.now limit places rows) }
     ensures err { IfErr result (λ e. e ≡ Refusal.OutOfMemory) }
 {
     let sorted = sort_rows(alloc, rows, keys)?;
@@ -62,7 +63,7 @@ pub fn show(
 }
 
 fn select_rows(alloc: Global, query: &Query, rows: Items<Row>) -> Result<Items<Row>, Refusal>
-    ensures ok { IfOk result (IsShown query.now.order_by query.now.limit (map shown_place query.now.items) rows) }
+    ensures ok { IfOk result (IsSortedSlice query.now.order_by query.now.limit (map shown_place query.now.items) rows) }
     ensures err { IfErr result (λ e. e ≡ Refusal.OutOfMemory) }
 {
     let places = shown_places(alloc, query.items.as_slice())?;
@@ -84,7 +85,7 @@ fn grouped(alloc: Global, query: &Query, rows: &[Row]) -> Result<Items<Row>, Ref
 
 fn select_groups(alloc: Global, query: &Query, rows: Items<Row>) -> Result<Items<Row>, Refusal>
     requires { CanBeSummed rows }
-    ensures ok { IfOk result (IsShown (group_order query.now) query.now.limit (group_columns query.now) (grouped_rows query.now rows)) }
+    ensures ok { IfOk result (IsSortedSlice (group_order query.now) query.now.limit (group_columns query.now) (grouped_rows query.now rows)) }
     ensures err { IfErr result (λ e. e ≡ Refusal.OutOfMemory) }
 {
     let groups = grouped(alloc, query, rows.as_slice())?;

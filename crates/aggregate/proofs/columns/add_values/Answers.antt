@@ -1,7 +1,7 @@
 use Rattle.std.proofs.Common.{◌<◌, length, sym, ◌∙◌, arith, subst, ap}
 use Rattle.vt_value.specs.Values.{value_at}
 use Rattle.aggregate.specs.declared.columns.ColumnPart.{ColumnPart}
-use Rattle.aggregate.specs.Columns.{CanHold, CanHoldAll, with_value}
+use Rattle.aggregate.specs.inner.Columns.{CanHold, CanHoldAll, with_value}
 use Rattle.aggregate.proofs.ColumnLemmas.{mixed_more, mixed_holds}
 use Rattle.aggregate.proofs.columns.add_values.Goals as goal
 

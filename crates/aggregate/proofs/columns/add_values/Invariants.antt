@@ -1,5 +1,5 @@
 use Rattle.std.proofs.Common.{◌≡◌, vec_len}
-use Rattle.aggregate.specs.Columns.{with_values}
+use Rattle.aggregate.specs.inner.Columns.{with_values}
 use Rattle.aggregate.proofs.ColumnLemmas.{mixed}
 use Rattle.aggregate.proofs.columns.add_values.Given as goal
 

@@ -1,5 +1,5 @@
 use Rattle.std.proofs.Common.{◌≡◌, [], map, take}
-use Rattle.aggregate.specs.Columns.{column_part}
+use Rattle.aggregate.specs.inner.Columns.{column_part}
 use Rattle.aggregate.proofs.columns.empty_parts.Given as goal
 
 abbrev pub invariant-loop-aggregate : goal.invariant-loop-aggregate

@@ -1,5 +1,5 @@
 use Rattle.std.proofs.Common.{◌≡◌, ◌++◌, map}
-use Rattle.aggregate.specs.Columns.{finished}
+use Rattle.aggregate.specs.inner.Columns.{finished}
 use Rattle.aggregate.proofs.groups.finish.Given as goal
 
 abbrev pub invariant-loop-part : goal.invariant-loop-part

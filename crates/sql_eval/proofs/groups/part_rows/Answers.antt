@@ -1,6 +1,6 @@
 use Rattle.std.proofs.Common.{◌++◌, ◌∷◌, [], take, map, sym, ap, ◌∙◌}
 use Rattle.std.proofs.lemmas.List.{take_more, map-append}
-use Rattle.sql_eval.specs.Grouping.{part_row}
+use Rattle.sql_eval.specs.inner.Parts.{part_row}
 use Rattle.sql_eval.proofs.groups.part_rows.Goals as goal
 
 pub loop-row-preserved : goal.loop-row-preserved

@@ -1,5 +1,5 @@
 use Rattle.std.proofs.Common.{◌≡◌, take, map}
-use Rattle.sql_eval.specs.Grouping.{part_row}
+use Rattle.sql_eval.specs.inner.Parts.{part_row}
 use Rattle.sql_eval.proofs.groups.part_rows.Given as goal
 
 abbrev pub invariant-loop-row : goal.invariant-loop-row

@@ -1,7 +1,8 @@
 use Rattle.std.proofs.Common.{◌≡◌, map, length, sym, ap, subst, ◌∙◌, ◌<◌, ◌^◌, arith}
 use Rattle.aggregate.specs.Groups.{column_size}
 use Rattle.sql_eval.specs.declared.groups.Grouping.{Grouping}
-use Rattle.sql_eval.specs.Grouping.{aggregates_of, part_row}
+use Rattle.sql_eval.specs.Grouping.{aggregates_of}
+use Rattle.sql_eval.specs.inner.Parts.{part_row}
 use Rattle.sql_eval.proofs.Sums.{parts_summed}
 use Rattle.sql_eval.proofs.queries.grouped.Goals as goal
 

@@ -1,6 +1,6 @@
 use Rattle.std.proofs.Common.{ap, ◌∙◌, unwrap_or}
 use Rattle.vt_value.specs.declared.value.Value.TheVariants.{Null}
-use Rattle.aggregate.specs.Proofs.ExtremeLemmas.{min_is}
+use Rattle.aggregate.specs.inner.ExtremeLemmas.{min_is}
 use Rattle.aggregate.proofs.extremes.MinAggregate.finish.Goals as goal
 
 pub returns-clause-means : goal.returns-clause-means

@@ -1,6 +1,6 @@
 use Rattle.std.proofs.Common.{[], ◌∷◌, ◌++◌, ap, sym, ◌∙◌, append_assoc, append-nil}
 use Rattle.aggregate.specs.Groups.{joined_rows}
-use Rattle.aggregate.specs.Grouping.{key_values, part_lists}
+use Rattle.aggregate.specs.inner.Grouping.{key_values, part_lists}
 use Rattle.aggregate.proofs.GroupingLemmas.{rows_given, begin_fits}
 use Rattle.aggregate.proofs.groups.GroupMerge.new.Goals as goal
 

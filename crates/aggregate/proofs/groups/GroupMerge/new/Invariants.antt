@@ -1,6 +1,6 @@
 use Rattle.std.proofs.Common.{◌≡◌, ◌++◌, List, length}
 use Rattle.vt_value.specs.Values.{Row}
-use Rattle.aggregate.specs.Grouping.{IsGrouped}
+use Rattle.aggregate.specs.inner.Grouping.{IsGrouped}
 use Rattle.aggregate.proofs.groups.GroupMerge.new.Given as goal
 
 -- the groups are those of the rows that came, and the others are still to come

@@ -1,5 +1,5 @@
 use Rattle.std.proofs.Common.{◌∙◌, ap, take, drop}
-use Rattle.aggregate.specs.Grouping.{key_values, part_lists}
+use Rattle.aggregate.specs.inner.Grouping.{key_values, part_lists}
 use Rattle.aggregate.proofs.GroupingLemmas.{all_opened, within_lists, can_add_at, grown_at}
 use Rattle.aggregate.proofs.groups.Groups.add.Goals as goal
 

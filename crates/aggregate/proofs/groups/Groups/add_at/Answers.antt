@@ -1,8 +1,8 @@
 use Rattle.std.proofs.Common.{◌<◌, List, [], length, set, ap, ◌∙◌, arith}
 use Rattle.std.proofs.lemmas.List.{map-set, length-map}
 use Rattle.aggregate.specs.declared.columns.ColumnPart.{ColumnPart}
-use Rattle.aggregate.specs.Columns.{with_values}
-use Rattle.aggregate.specs.Grouping.{part_lists}
+use Rattle.aggregate.specs.inner.Columns.{with_values}
+use Rattle.aggregate.specs.inner.Grouping.{part_lists}
 use Rattle.aggregate.proofs.GroupingLemmas.{read_through}
 use Rattle.aggregate.proofs.groups.Groups.add_at.Goals as goal
 

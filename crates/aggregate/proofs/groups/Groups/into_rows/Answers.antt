@@ -1,7 +1,7 @@
 use Rattle.std.proofs.Common.{◌≡◌, List, [], ◌∷◌, ◌++◌, length, map, reverse, ap, sym, ◌∙◌, arith, append-nil, length-append}
 use Rattle.std.proofs.lemmas.List.{length-map, map-append}
 use Rattle.vt_value.specs.Values.{Row}
-use Rattle.aggregate.specs.Grouping.{part_lists}
+use Rattle.aggregate.specs.inner.Grouping.{part_lists}
 use Rattle.aggregate.proofs.GroupLemmas.{made, made_more, all_made}
 use Rattle.aggregate.proofs.groups.Groups.into_rows.Goals as goal
 

@@ -1,5 +1,5 @@
 use Rattle.std.proofs.Common.{◌≡◌, ◌++◌, map, length, reverse}
-use Rattle.aggregate.specs.Grouping.{part_lists}
+use Rattle.aggregate.specs.inner.Grouping.{part_lists}
 use Rattle.aggregate.proofs.GroupLemmas.{made}
 use Rattle.aggregate.proofs.groups.Groups.into_rows.Given as goal
 

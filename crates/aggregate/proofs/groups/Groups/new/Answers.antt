@@ -1,6 +1,6 @@
 use Rattle.std.proofs.Common.{ap, sym, map, subst, []}
 use Rattle.aggregate.specs.declared.groups.Groups.{Groups}
-use Rattle.aggregate.specs.Grouping.{key_values, part_lists, IsGrouped}
+use Rattle.aggregate.specs.inner.Grouping.{key_values, part_lists, IsGrouped}
 use Rattle.aggregate.proofs.KeyListLemmas.{values_of_keys}
 use Rattle.aggregate.proofs.GroupingLemmas.{starts_one, starts_none}
 use Rattle.aggregate.proofs.groups.Groups.new.Goals as goal

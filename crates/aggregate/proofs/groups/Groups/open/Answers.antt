@@ -1,7 +1,7 @@
 use Rattle.std.proofs.Common.{List, [], ◌∷◌, ◌++◌, sym, ap, ◌∙◌, map}
 use Rattle.std.proofs.lemmas.List.{map-append}
 use Rattle.aggregate.specs.declared.columns.ColumnPart.{ColumnPart}
-use Rattle.aggregate.specs.Grouping.{part_lists}
+use Rattle.aggregate.specs.inner.Grouping.{part_lists}
 use Rattle.aggregate.proofs.KeyListLemmas.{has_mapped, inserted_mapped, placed_mapped, distinct_mapped, with_new, with_old, not_true, not_false}
 use Rattle.aggregate.proofs.groups.Groups.open.Goals as goal
 

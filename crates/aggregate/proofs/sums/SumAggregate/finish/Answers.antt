@@ -3,7 +3,7 @@ use Rattle.std.specs.Int.{w128}
 use Rattle.std.proofs.lemmas.Int.{to_z-of_z}
 use Rattle.vt_value.specs.declared.value.Value.TheVariants.{Int}
 use Rattle.aggregate.specs.Parts.{part_value}
-use Rattle.aggregate.specs.Proofs.SumLemmas.{sum_is}
+use Rattle.aggregate.specs.inner.SumLemmas.{sum_is}
 use Rattle.aggregate.proofs.sums.SumAggregate.finish.Goals as goal
 
 pub returns-in-Some-clause-means : goal.returns-in-Some-clause-means

@@ -5,7 +5,7 @@ use Rattle.vt_value.specs.declared.value.Value.TheVariants.{Null, Int, Bytes}
 use Rattle.aggregate.specs.Aggregates.{present, IsHeld}
 use Rattle.aggregate.specs.Laws.{PartLaws}
 use Rattle.aggregate.specs.Parts.{gathered, present_count}
-use Rattle.aggregate.specs.Proofs.PartLemmas.{IsCommutativeMonoid, gathered-laws}
+use Rattle.aggregate.specs.inner.PartLemmas.{IsCommutativeMonoid, gathered-laws}
 
 sums : IsCommutativeMonoid ◌+◌ 0
 sums = record { associative = add_assoc; commutative = add_comm; unit = λ n. omega arith }

@@ -10,7 +10,7 @@ use Rattle.vt_value.specs.declared.value.Value.TheVariants.{Null, Int, Bytes}
 use Rattle.aggregate.specs.Aggregates.{present, number_in, size, total, sizes, sum_of, IsHeld}
 use Rattle.aggregate.specs.Laws.{PartLaws}
 use Rattle.aggregate.specs.Parts.{gathered, join_options, present_number, part_value}
-use Rattle.aggregate.specs.Proofs.PartLemmas.{gathered-laws, options_monoid}
+use Rattle.aggregate.specs.inner.PartLemmas.{gathered-laws, options_monoid}
 
 pub sum_laws : PartLaws (gathered (join_options ◌+ℤ◌) None present_number) (join_options ◌+ℤ◌)
 sum_laws = gathered-laws (options_monoid ◌+ℤ◌ +ℤ_assoc +ℤ_comm) present_number

@@ -12,7 +12,7 @@ use Rattle.operators.proofs.OrderLemmas.{value_cmp-total, value_cmp-same}
 use Rattle.aggregate.specs.Aggregates.{present, lesser, greater, least_of, greatest_of}
 use Rattle.aggregate.specs.Laws.{PartLaws}
 use Rattle.aggregate.specs.Parts.{gathered, join_options, present_value}
-use Rattle.aggregate.specs.Proofs.PartLemmas.{gathered-laws, options_monoid}
+use Rattle.aggregate.specs.inner.PartLemmas.{gathered-laws, options_monoid}
 
 module _ {K : Type 0} {R : K → K → Ordering} (order : IsTotalOrder R) (same : (a b : K) → R a b ≡ Equal → a ≡ b) where
   abbrev least : K → K → K
