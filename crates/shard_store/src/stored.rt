@@ -1,142 +1,277 @@
-ghost use Rattle.std.specs.Prelude.{◌≡◌, ◌<◌, ◌++◌, ◌∷◌, [], OnOk, OnErr, IfErr, length};
-ghost use Rattle.vschema.specs.declared.changes.RowChange.TheVariants.{Added, Replaced, Removed};
+ghost use Rattle.std.specs.Prelude.{◌≡◌, ◌==◌, ◌+◌, ◌<◌, ◌≤◌, ◌^◌, if◌then◌else◌, ◌++◌, ◌∷◌, [], ℕ, IsTrue, OnOk, OnErr, IfOk, IfErr, length, slice_set, count_by, IsPermutation, sum_by};
+ghost use Rattle.std.specs.List.{AllByRecursion};
+ghost use Rattle.vschema.specs.declared.changes.RowChange.TheVariants.{Added, Removed};
 ghost use Rattle.vschema.specs.Database.{SameRows, rows_of, without, changed_table, applied, all_applied};
-ghost use Rattle.shard_store.specs.Tables.{key_at, CanTake};
-ghost use Rattle.shard_store.specs.Stored.{database, table_at, KeepsSlots, CanDo, AreLawful, HasSlotFor, HasSlotsFor, AreOfTables, changes_in};
+ghost use Rattle.shard_store.specs.Tables.{key_at};
+ghost use Rattle.shard_store.specs.Stores.{places_of, room_of, change_in, changes_in, split, all_split, HasItsKey, puts_into, HasRoomFor, IsReadyFor};
 
-use crate::key::{KeyedChange, RowKey};
-use crate::table::StoredTable;
+use crate::beside::TableRows;
+use crate::key::{KeyedChange, KeyedRow, RowKey};
+use crate::places::key_places;
 use std::alloc::Global;
 use std::marker::Model;
-use vschema::RowChange;
-use vt_value::{Refusal, Row};
+use vschema::{RowChange, Table};
+use vt_value::{Items, Refusal, Row, copy_row};
 
-/// The tables of a shard, in the order of the VSchema. Contracts see the list of the tables.
+/// The rows of a shard's tables, in the order of the VSchema. Contracts see a `StoreView`.
 #[derive(Drop)]
 pub struct StoredTables {
-    tables: Vec<StoredTable>,
+    pub(crate) tables: Vec<TableRows>,
 }
 
 impl Model for StoredTables {
-    ghost use Rattle.std.specs.Prelude.{List};
-    ghost use Rattle.shard_store.specs.Tables.{TableView};
+    ghost use Rattle.std.specs.Prelude.{map};
+    ghost use Rattle.shard_store.specs.Stores.{StoreView};
 
-    ghost Value = { List TableView };
+    ghost Value = { StoreView };
 
-    ghost view = { λ s. s.tables.items };
+    ghost view = { λ s. record { rows = map (λ t. t.rows) s.tables.items; places = map (λ t. t.places) s.tables.items; room = map (λ t. t.room) s.tables.items } };
 }
 
-fn changed_table(change: &RowChange) -> usize
-    ensures { result ≡ changed_table change.now }
+fn place_in(change: &KeyedChange) -> usize
+    ensures { result ≡ changed_table (change_in change.now) }
 {
     match change {
-        RowChange::Added(place, _) => *place,
-        RowChange::Replaced(place, _, _) => *place,
-        RowChange::Removed(place, _) => *place,
+        KeyedChange::Put(place, _) => *place,
+        KeyedChange::Take(place, _) => *place,
+    }
+}
+
+fn key_in(change: &KeyedChange) -> &RowKey {
+    match change {
+        KeyedChange::Put(_, keyed) => &keyed.key,
+        KeyedChange::Take(_, keyed) => &keyed.key,
     }
 }
 
 impl StoredTables {
     /// No tables.
     pub fn new(alloc: Global) -> StoredTables
-        ensures { result ≡ [] }
+        ensures { result.rows ≡ [] }
     {
         StoredTables {
             tables: Vec::new(alloc),
         }
     }
 
-    /// Adds a table behind those that are there. Refuses for want of memory; then nothing has changed.
-    pub fn push_table(&mut self, table: StoredTable) -> Result<(), Refusal>
-        ensures ok { OnOk result (self.new ≡ self.old ++ table ∷ []) }
+    /// Adds a table without rows behind those that are there. Refuses for want of memory; then nothing has changed.
+    pub fn push_table(&mut self, alloc: Global, table: &Table) -> Result<(), Refusal>
+        ensures ok { OnOk result (self.new.rows ≡ self.old.rows ++ [] ∷ []) }
         ensures err { IfErr result (λ e. e ≡ Refusal.OutOfMemory) }
         ensures unchanged { OnErr result (self.new ≡ self.old) }
     {
-        self.tables.push(table)?;
+        let places = key_places(alloc, table)?;
+        self.tables.push(TableRows::new(alloc, places))?;
         Ok(())
     }
 
-    /// The table at a place.
-    pub fn table(&self, place: usize) -> &StoredTable
-        requires { place < length self.now }
-        ensures { result.now ≡ table_at self.now place }
+    /// How many rows all tables have.
+    pub fn row_count(&self) -> usize
+        requires { sum_by length self.now.rows < 2 ^ 64 }
+        ensures { result ≡ sum_by length self.now.rows }
     {
-        &self.tables[place]
+        let mut count = 0;
+        for table in &self.tables {
+            count += table.row_count();
+        }
+        count
     }
 
-    // Makes a slot for a change, where its key has none.
-    fn reserve_one(&mut self, alloc: Global, keyed: &KeyedChange) -> Result<(), Refusal>
-        requires { changed_table keyed.now.change < length self.old }
-        ensures rows { database self.new ≡ database self.old }
-        ensures ok { OnOk result (HasSlotFor self.new keyed.now) }
-        ensures kept { KeepsSlots self.old self.new }
+    // The key of a row of the table at a place.
+    fn key_of(&self, alloc: Global, place: usize, row: &Row) -> Result<RowKey, Refusal>
+        ensures ok { IfOk result (λ key. key.values ≡ key_at (places_of self.now place) row.now) }
         ensures err { IfErr result (λ e. e ≡ Refusal.OutOfMemory) }
     {
-        let place = changed_table(&keyed.change);
-        self.tables[place].reserve(alloc, &keyed.key)
+        match self.tables.get(place) {
+            Some(table) => table.key_of(alloc, row),
+            None => Ok(RowKey {
+                values: Items::new(alloc),
+            }),
+        }
     }
 
-    /// Makes a slot for each change, where its key has none. Refuses for want of memory; the rows stay as they are.
-    pub fn reserve(&mut self, alloc: Global, changes: &[KeyedChange]) -> Result<(), Refusal>
-        requires { AreOfTables self.old changes.now }
-        ensures rows { database self.new ≡ database self.old }
-        ensures ok { OnOk result (HasSlotsFor self.new changes.now) }
-        ensures kept { KeepsSlots self.old self.new }
+    // An equal row, with its key.
+    fn keyed_row(&self, alloc: Global, place: usize, row: &Row) -> Result<KeyedRow, Refusal>
+        ensures row { IfOk result (λ k. k.row ≡ row.now) }
+        ensures key { IfOk result (λ k. k.key.values ≡ key_at (places_of self.now place) row.now) }
         ensures err { IfErr result (λ e. e ≡ Refusal.OutOfMemory) }
     {
+        let row = copy_row(alloc, row)?;
+        match self.key_of(alloc, place, &row) {
+            Ok(key) => Ok(KeyedRow { key, row }),
+            Err(e) => Err(e),
+        }
+    }
+
+    // Puts the addition of a row behind the changes.
+    fn push_put(
+        &self,
+        alloc: Global,
+        place: usize,
+        row: &Row,
+        keyed: &mut Vec<KeyedChange>,
+    ) -> Result<(), Refusal>
+        requires { AllByRecursion (HasItsKey self.now) keyed.old.items }
+        ensures keys { OnOk result (AllByRecursion (HasItsKey self.now) keyed.new.items) }
+        ensures changes { OnOk result (changes_in keyed.new.items ≡ changes_in keyed.old.items ++ Added place row.now ∷ []) }
+        ensures err { IfErr result (λ e. e ≡ Refusal.OutOfMemory) }
+    {
+        let row = self.keyed_row(alloc, place, row)?;
+        keyed.push(KeyedChange::Put(place, row))?;
+        Ok(())
+    }
+
+    // Puts the removal of a row behind the changes.
+    fn push_take(
+        &self,
+        alloc: Global,
+        place: usize,
+        row: &Row,
+        keyed: &mut Vec<KeyedChange>,
+    ) -> Result<(), Refusal>
+        requires { AllByRecursion (HasItsKey self.now) keyed.old.items }
+        ensures keys { OnOk result (AllByRecursion (HasItsKey self.now) keyed.new.items) }
+        ensures changes { OnOk result (changes_in keyed.new.items ≡ changes_in keyed.old.items ++ Removed place row.now ∷ []) }
+        ensures err { IfErr result (λ e. e ≡ Refusal.OutOfMemory) }
+    {
+        let row = self.keyed_row(alloc, place, row)?;
+        keyed.push(KeyedChange::Take(place, row))?;
+        Ok(())
+    }
+
+    fn push_change(
+        &self,
+        alloc: Global,
+        change: &RowChange,
+        keyed: &mut Vec<KeyedChange>,
+    ) -> Result<(), Refusal>
+        requires { AllByRecursion (HasItsKey self.now) keyed.old.items }
+        ensures keys { OnOk result (AllByRecursion (HasItsKey self.now) keyed.new.items) }
+        ensures changes { OnOk result (changes_in keyed.new.items ≡ changes_in keyed.old.items ++ split change.now) }
+        ensures err { IfErr result (λ e. e ≡ Refusal.OutOfMemory) }
+    {
+        match change {
+            RowChange::Added(place, row) => self.push_put(alloc, *place, row, keyed),
+            RowChange::Replaced(place, old, new) => {
+                self.push_take(alloc, *place, old, keyed)?;
+                self.push_put(alloc, *place, new, keyed)
+            }
+            RowChange::Removed(place, row) => self.push_take(alloc, *place, row, keyed),
+        }
+    }
+
+    // The changes by keys.
+    fn keyed_changes(
+        &self,
+        alloc: Global,
+        changes: &[RowChange],
+    ) -> Result<Vec<KeyedChange>, Refusal>
+        ensures keys { IfOk result (λ keyed. AllByRecursion (HasItsKey self.now) keyed.items) }
+        ensures changes { IfOk result (λ keyed. changes_in keyed.items ≡ all_split changes.now) }
+        ensures err { IfErr result (λ e. e ≡ Refusal.OutOfMemory) }
+    {
+        let mut keyed = Vec::new(alloc);
         for change in changes {
-            self.reserve_one(alloc, change)?;
+            self.push_change(alloc, change, &mut keyed)?;
+        }
+        Ok(keyed)
+    }
+
+    // Makes memory for so many more rows of the table at a place, and a slot for a key.
+    fn reserve(
+        &mut self,
+        alloc: Global,
+        place: usize,
+        key: &RowKey,
+        additional: usize,
+    ) -> Result<(), Refusal>
+        requires { place < length self.old.rows }
+        ensures rows { self.new.rows ≡ self.old.rows }
+        ensures places { self.new.places ≡ self.old.places }
+        ensures ok { OnOk result (additional ≤ room_of self.new place) }
+        ensures room { (n : ℕ) → room_of self.old n ≤ room_of self.new n }
+        ensures err { IfErr result (λ e. e ≡ Refusal.OutOfMemory) }
+    {
+        self.tables[place].make_room(alloc, key, additional)
+    }
+
+    // Makes memory for the changes.
+    fn reserve_all(&mut self, alloc: Global, keyed: &[KeyedChange]) -> Result<(), Refusal>
+        requires { AllByRecursion (λ c. changed_table (change_in c) < length self.old.rows) keyed.now }
+        ensures rows { self.new.rows ≡ self.old.rows }
+        ensures places { self.new.places ≡ self.old.places }
+        ensures ok { OnOk result (HasRoomFor self.new keyed.now) }
+        ensures err { IfErr result (λ e. e ≡ Refusal.OutOfMemory) }
+    {
+        for change in keyed {
+            self.reserve(alloc, place_in(change), key_in(change), keyed.len())?;
         }
         Ok(())
     }
 
-    fn add(&mut self, place: usize, key: &RowKey, row: Row)
-        requires there { place < length self.old }
-        requires fits { CanTake (table_at self.old place) key.now row (rows_of (database self.old) place) }
-        ensures rows { SameRows (database self.new) (applied (Added place row) (database self.old)) }
-        ensures kept { KeepsSlots self.old self.new }
+    /// The changes by keys, with all memory that they need; the rows stay as they are. A row in another's place is its removal, and then
+    /// the other's addition. Refuses for want of memory.
+    pub fn prepare(
+        &mut self,
+        alloc: Global,
+        changes: &[RowChange],
+    ) -> Result<Vec<KeyedChange>, Refusal>
+        requires { AllByRecursion (λ c. changed_table c < length self.old.rows) changes.now }
+        ensures ready { IfOk result (λ keyed. IsReadyFor self.new changes.now keyed.items) }
+        ensures rows { self.new.rows ≡ self.old.rows }
+        ensures places { self.new.places ≡ self.old.places }
+        ensures err { IfErr result (λ e. e ≡ Refusal.OutOfMemory) }
+    {
+        let keyed = self.keyed_changes(alloc, changes)?;
+        match self.reserve_all(alloc, keyed.as_slice()) {
+            Ok(()) => Ok(keyed),
+            Err(e) => Err(e),
+        }
+    }
+
+    fn put(&mut self, place: usize, key: &RowKey, row: Row)
+        requires key { key.now.values ≡ key_at (places_of self.old place) row }
+        requires room { 0 < room_of self.old place }
+        ensures rows { SameRows self.new.rows (applied (Added place row) self.old.rows) }
+        ensures places { self.new.places ≡ self.old.places }
+        ensures room { (n : ℕ) → room_of self.old n ≤ room_of self.new n + (if place == n then 1 else 0) }
     {
         self.tables[place].add(key, row);
     }
 
-    fn replace(&mut self, place: usize, key: &RowKey, old: &Row, new: Row)
-        requires there { place < length self.old }
-        requires key { key.now.values ≡ key_at (table_at self.old place).places old.now }
-        requires fits { CanTake (table_at self.old place) key.now new (without old.now (rows_of (database self.old) place)) }
-        ensures rows { SameRows (database self.new) (applied (Replaced place old.now new) (database self.old)) }
-        ensures kept { KeepsSlots self.old self.new }
+    fn take(&mut self, place: usize, key: &RowKey, row: &Row)
+        requires { key.now.values ≡ key_at (places_of self.old place) row.now }
+        ensures rows { SameRows self.new.rows (applied (Removed place row.now) self.old.rows) }
+        ensures places { self.new.places ≡ self.old.places }
+        ensures room { (n : ℕ) → room_of self.old n ≤ room_of self.new n }
     {
-        self.tables[place].replace(key, old, new);
+        if place < self.tables.len() {
+            self.tables[place].remove(key, row);
+        }
     }
 
-    fn remove(&mut self, place: usize, key: &RowKey, row: &Row)
-        requires there { place < length self.old }
-        requires key { key.now.values ≡ key_at (table_at self.old place).places row.now }
-        ensures rows { SameRows (database self.new) (applied (Removed place row.now) (database self.old)) }
-        ensures kept { KeepsSlots self.old self.new }
+    fn apply_one(&mut self, change: KeyedChange)
+        requires key { HasItsKey self.old change }
+        requires room { (n : ℕ) → IsTrue (puts_into n change) → 0 < room_of self.old n }
+        ensures rows { SameRows self.new.rows (applied (change_in change) self.old.rows) }
+        ensures places { self.new.places ≡ self.old.places }
+        ensures room { (n : ℕ) → room_of self.old n ≤ room_of self.new n + count_by (puts_into n) (change ∷ []) }
     {
-        self.tables[place].remove(key, row);
-    }
-
-    fn apply_one(&mut self, keyed: KeyedChange)
-        requires { CanDo self.old (database self.old) keyed.key keyed.change }
-        ensures rows { SameRows (database self.new) (applied keyed.change (database self.old)) }
-        ensures kept { KeepsSlots self.old self.new }
-    {
-        let KeyedChange { change, key } = keyed;
         match change {
-            RowChange::Added(place, row) => self.add(place, &key, row),
-            RowChange::Replaced(place, old, new) => self.replace(place, &key, &old, new),
-            RowChange::Removed(place, row) => self.remove(place, &key, &row),
+            KeyedChange::Put(place, keyed) => {
+                let KeyedRow { key, row } = keyed;
+                self.put(place, &key, row);
+            }
+            KeyedChange::Take(place, keyed) => self.take(place, &keyed.key, &keyed.row),
         }
     }
 
     /// Does the changes, in order. Takes no memory.
     pub fn apply(&mut self, changes: Vec<KeyedChange>)
-        requires slots { HasSlotsFor self.old changes.items }
-        requires lawful { AreLawful self.old (database self.old) changes.items }
-        ensures rows { SameRows (database self.new) (all_applied (changes_in changes.items) (database self.old)) }
-        ensures kept { KeepsSlots self.old self.new }
+        requires keys { AllByRecursion (HasItsKey self.old) changes.items }
+        requires room { HasRoomFor self.old changes.items }
+        ensures rows { SameRows self.new.rows (all_applied (changes_in changes.items) self.old.rows) }
+        ensures places { self.new.places ≡ self.old.places }
     {
         for change in changes {
             self.apply_one(change);

@@ -1,7 +1,7 @@
-ghost use Rattle.std.specs.Prelude.{◌≡◌, ◌<◌, ◌++◌, ◌∷◌, [], IsSome, IfOk, IfErr, OnOk, OnErr, IsPermutation, option_to_list, option_copied, filter, length, is_some, if◌then◌else◌};
+ghost use Rattle.std.specs.Prelude.{◌≡◌, ◌<◌, ◌^◌, ◌&&◌, not, ◌++◌, ◌∷◌, [], IsSome, IfOk, IfErr, OnOk, OnErr, IsPermutation, option_to_list, option_copied, filter, length, is_some, if◌then◌else◌};
 ghost use Rattle.std.specs.List.{list_any};
 ghost use Rattle.vt_value.specs.Values.{value_at};
-ghost use Rattle.vschema.specs.Database.{without};
+ghost use Rattle.vschema.specs.Database.{same_row, without};
 ghost use Rattle.shard_store.specs.Slots.{rows_in, slot_at, row_at, slots_from, with_slot, without_slot};
 ghost use Rattle.shard_store.specs.Tables.{key_at, has_key, begins_with, CanTake};
 
@@ -65,6 +65,13 @@ impl StoredTable {
         }
     }
 
+    /// The places of the key columns.
+    pub fn key_columns(&self) -> &[usize]
+        ensures { result.now ≡ self.now.places }
+    {
+        self.places.as_slice()
+    }
+
     /// The key of a row of this table. Refuses for want of memory.
     pub fn key_of(&self, alloc: Global, row: &Row) -> Result<RowKey, Refusal>
         ensures ok { IfOk result (λ key. key.values ≡ key_at self.now.places row.now) }
@@ -76,8 +83,10 @@ impl StoredTable {
 
     /// How many rows the table has.
     pub fn row_count(&self) -> usize
-        ensures { result ≡ length (rows_in self.now.slots) }
+        ensures count { result ≡ length (rows_in self.now.slots) }
+        ensures small { result < 2 ^ 63 }
     {
+        let _slots = self.slots.len();
         self.count
     }
 
@@ -118,6 +127,22 @@ impl StoredTable {
         ensures { result ≡ list_any (has_key self.now.places key.now.values) (rows_in self.now.slots) }
     {
         self.get(key).is_some()
+    }
+
+    /// Whether a key has a slot, and no row.
+    pub fn is_free(&self, key: &RowKey) -> bool
+        ensures { result ≡ (is_some (slot_at self.now.slots key.now) && not (list_any (has_key self.now.places key.now.values) (rows_in self.now.slots))) }
+    {
+        self.slots.has(key) && !self.contains(key)
+    }
+
+    /// Whether this row, whose key is given, is there.
+    pub fn holds(&self, key: &RowKey, row: &Row) -> bool
+        requires { key.now.values ≡ key_at self.now.places row.now }
+        ensures { result ≡ list_any (same_row row.now) (rows_in self.now.slots) }
+    {
+        let _slots = self.slots.len();
+        self.slots.holds(key, row)
     }
 
     /// Makes a slot for a key, where it has none. Refuses for want of memory; the rows stay as they are.

@@ -1,22 +1,28 @@
-use Rattle.std.proofs.Common.{◌≡◌, ◌∙◌, ◌+◌, ◌++◌, ◌∷◌, [], take, sym, ap, subst}
-use Rattle.std.proofs.lemmas.List.{take_more}
-use Rattle.shard_store.specs.declared.key.KeyedChange.{KeyedChange}
-use Rattle.shard_store.specs.Stored.{HasSlotsFor}
-use Rattle.shard_store.proofs.Done.{slots_kept, slots_more, KeepsSlots-trans}
+use Rattle.std.proofs.Common.{◌≤◌, sym, ap, subst, ◌∙◌, arith}
+use Rattle.std.proofs.lemmas.Result.{IfOk-weaker}
+use Rattle.shard_store.specs.Stores.{RowsView, StoreView}
+use Rattle.shard_store.proofs.Tabled.{rows-within, same_set, room-after, room-set_at}
 use Rattle.shard_store.proofs.stored.StoredTables.reserve.Goals as goal
 
-pub loop-change-preserved : goal.loop-change-preserved
-loop-change-preserved c =
-    let i = c.loop-change.change-index in
-    let item = c.change-item.result in
-    let before = take i c.args.changes.now in
-    let more : take (i + 1) c.args.changes.now ≡ before ++ item ∷ [] =
-    take_more c.args.changes.now i item c.loop-change-test.true ∙ ap (λ (x : KeyedChange). before ++ x ∷ []) (sym c.change-item.is) in
-    let kept = c.in_ok-reserve_one.ensures.kept in
-    record {
-      rows = c.in_ok-reserve_one.ensures.rows ∙ c.loop-change.invariant.rows;
-      slots = subst (HasSlotsFor c.reserve_one.new.self) (sym more)
-          (slots_more c.reserve_one.new.self before item (slots_kept c.loop-change.self c.reserve_one.new.self kept before c.loop-change.invariant.slots)
-          c.in_ok-reserve_one.ensures.ok);
-      kept = KeepsSlots-trans c.args.self.now c.loop-change.self c.reserve_one.new.self c.loop-change.invariant.kept kept;
-    }
+pub returns-clause-rows : goal.returns-clause-rows
+returns-clause-rows c =
+    same_set (λ (t : RowsView). t.rows) c.self.inside.tables.items c.args.place c.index_mut.result.now c.make_room.new.self c.index_mut.ensures.value c.make_room.ensures.rows
+    ∙ ap (λ (s : StoreView). s.rows) c.self.view_is
+
+pub returns-clause-places : goal.returns-clause-places
+returns-clause-places c =
+    same_set (λ (t : RowsView). t.places) c.self.inside.tables.items c.args.place c.index_mut.result.now c.make_room.new.self c.index_mut.ensures.value c.make_room.ensures.places
+    ∙ ap (λ (s : StoreView). s.places) c.self.view_is
+
+pub returns-clause-ok : goal.returns-clause-ok
+returns-clause-ok c =
+    let within = rows-within c.self.inside.tables.items c.args.self.now.rows c.args.place (ap (λ (s : StoreView). s.rows) c.self.view_is) c.requires in
+    let room = room-set_at c.self.inside.tables.items c.args.place c.make_room.new.self within in
+    IfOk-weaker c.make_room.result _ _ (λ _ enough. subst (λ n. c.args.additional ≤ n) (sym room) enough) c.make_room.ensures.ok
+
+pub returns-clause-room : goal.returns-clause-room
+returns-clause-room c = λ n.
+    let within = rows-within c.self.inside.tables.items c.args.self.now.rows c.args.place (ap (λ (s : StoreView). s.rows) c.self.view_is) c.requires in
+    let h = room-after c.self.inside.tables.items c.args.self.now c.args.place c.index_mut.result.now c.make_room.new.self (λ _. 0)
+    (ap (λ (s : StoreView). s.room) c.self.view_is) within c.index_mut.ensures.value (omega (arith, c.make_room.ensures.room)) n in
+    omega (arith, h)

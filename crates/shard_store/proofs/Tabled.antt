@@ -1,0 +1,154 @@
+-- What a change of one table of a store does to the store: to its rows, the places of its key columns and its room.
+use Rattle.std.proofs.Common.{IsTrue, count_by, ◌≡◌, ℕ, zero, suc, ◌+◌, ◌<◌, ◌≤◌, Bool, true, false, cond, ◌==◌, List, [], ◌∷◌, ◌++◌, length, get_or, set, map, IsPermutation, refl, sym, ap, ◌∙◌, subst, arith}
+use Rattle.std.specs.List.{AllByRecursion}
+use Rattle.std.proofs.Math.Seq.{map-set_same}
+use Rattle.std.proofs.lemmas.List.{map-set, get_or-map, length-map}
+use Rattle.std.proofs.lemmas.List.Sorted.{IsPermutation-refl}
+use Rattle.std.proofs.lemmas.List.Sums.{sum_by-cons}
+use Rattle.vt_value.specs.Values.{Row}
+use Rattle.vschema.specs.declared.changes.RowChange.{RowChange}
+use Rattle.vschema.specs.Database.{Database, SameRows, applied, all_applied}
+use Rattle.shard_store.specs.declared.key.KeyedChange.{KeyedChange}
+use Rattle.shard_store.specs.declared.key.KeyedChange.TheVariants.{Put, Take}
+use Rattle.shard_store.specs.Tables.{key_at}
+use Rattle.shard_store.specs.Stores.{RowsView, StoreView, places_of, room_of, change_in, changes_in, HasItsKey, puts_into, HasRoomFor}
+use Rattle.shard_store.proofs.Bags.{applied-same}
+use Rattle.shard_store.proofs.Done.{SameRows-refl, SameRows-trans}
+
+abbrev pub rows_of_all : List RowsView → Database
+rows_of_all ts = map (λ t. t.rows) ts
+
+abbrev pub places_in : List RowsView → List (List ℕ)
+places_in ts = map (λ t. t.places) ts
+
+abbrev pub room_in : List RowsView → List ℕ
+room_in ts = map (λ t. t.room) ts
+
+-- what is the same of the table at a place is the same of all
+pub same_set : {X : Type 0} (f : RowsView → X) (ts : List RowsView) (i : ℕ) (old new : RowsView) → old ≡ get_or ts i old → f new ≡ f old
+    → map f (set ts i new) ≡ map f ts
+same_set f ts i old new e h = map-set_same f ts i new old (h ∙ ap f e)
+
+pub places-at : (ts : List RowsView) (i : ℕ) (t : RowsView) → i < length ts → t ≡ get_or ts i t → get_or (places_in ts) i [] ≡ t.places
+places-at ts i t l e = get_or-map (λ t. t.places) ts i t [] l ∙ ap (λ (x : RowsView). x.places) (sym e)
+
+-- the rows of one table have changed, as bags
+pub changed : (ts : List RowsView) (i : ℕ) (old new : RowsView) (f : List Row → List Row) → i < length ts → old ≡ get_or ts i old
+    → IsPermutation new.rows (f old.rows) → SameRows (rows_of_all (set ts i new)) (set (rows_of_all ts) i (f (get_or (rows_of_all ts) i [])))
+changed [] i old new f l e h = absurd (omega (arith, l))
+changed (u ∷ ts) zero old new f l e h =
+    (subst (λ (t : RowsView). IsPermutation new.rows (f t.rows)) e h, SameRows-refl (rows_of_all ts))
+changed (u ∷ ts) (suc i) old new f l e h = (IsPermutation-refl u.rows, changed ts i old new f (omega (arith, l)) e h)
+
+-- a table that is not there has not changed
+pub unchanged : (db : Database) (i : ℕ) (f : List Row → List Row) → length db ≤ i → set db i (f (get_or db i [])) ≡ db
+unchanged [] i f l = refl
+unchanged (rows ∷ db) zero f l = absurd (omega (arith, l))
+unchanged (rows ∷ db) (suc i) f l = ap (λ (z : Database). rows ∷ z) (unchanged db i f (omega (arith, l)))
+
+pub rows-within : (ts : List RowsView) (db : Database) (i : ℕ) → rows_of_all ts ≡ db → i < length db → i < length ts
+rows-within ts db i is l = omega (arith, l, ap length is, length-map ts (λ (t : RowsView). t.rows))
+
+-- ---- room
+
+pub room-at : (ts : List RowsView) (i : ℕ) (t : RowsView) → i < length ts → t ≡ get_or ts i t → get_or (room_in ts) i 0 ≡ t.room
+room-at ts i t l e = get_or-map (λ t. t.room) ts i t 0 l ∙ ap (λ (x : RowsView). x.room) (sym e)
+
+pub room-set_at : (ts : List RowsView) (i : ℕ) (t : RowsView) → i < length ts → get_or (room_in (set ts i t)) i 0 ≡ t.room
+room-set_at [] i t l = absurd (omega (arith, l))
+room-set_at (u ∷ ts) zero t l = refl
+room-set_at (u ∷ ts) (suc i) t l = room-set_at ts i t (omega (arith, l))
+
+pub room-within : (ts : List RowsView) (i : ℕ) → 0 < get_or (room_in ts) i 0 → i < length ts
+room-within [] i h = absurd (omega (arith, h))
+room-within (u ∷ ts) zero h = omega arith
+room-within (u ∷ ts) (suc i) h = let l = room-within ts i h in omega (arith, l)
+
+-- a table whose room falls by at most k
+room-set : (ts : List RowsView) (i : ℕ) (old new : RowsView) → i < length ts → old ≡ get_or ts i old → (n k : ℕ)
+    → (i ≡ n → old.room ≤ new.room + k) → get_or (room_in ts) n 0 ≤ get_or (room_in (set ts i new)) n 0 + k
+room-set [] i old new l e n k h = absurd (omega (arith, l))
+room-set (u ∷ ts) zero old new l e zero k h = let g = h refl in let f : old.room ≡ u.room = ap (λ (x : RowsView). x.room) e in omega (arith, f, g)
+room-set (u ∷ ts) zero old new l e (suc n) k h = omega arith
+room-set (u ∷ ts) (suc i) old new l e zero k h = omega arith
+room-set (u ∷ ts) (suc i) old new l e (suc n) k h = room-set ts i old new (omega (arith, l)) e n k (λ is. h (ap suc is))
+
+-- the room of one table falls by k at most
+pub room-after : (ts : List RowsView) (s : StoreView) (i : ℕ) (old new : RowsView) (k : ℕ → ℕ) → room_in ts ≡ s.room → i < length ts
+    → old ≡ get_or ts i old → old.room ≤ new.room + k i → (n : ℕ) → room_of s n ≤ get_or (room_in (set ts i new)) n 0 + k n
+room-after ts s i old new k room l e h n =
+    let f = room-set ts i old new l e n (k n) (λ is. subst (λ m. old.room ≤ new.room + k m) is h) in
+    let g = ap (λ r. get_or r n 0) room in
+    omega (arith, f, g)
+
+-- a table with room is there
+pub put-within : (ts : List RowsView) (s : StoreView) (i : ℕ) → room_in ts ≡ s.room → 0 < room_of s i → i < length ts
+put-within ts s i room h = room-within ts i (let g = ap (λ r. get_or r i 0) room in omega (arith, g, h))
+
+pub put-room : (ts : List RowsView) (s : StoreView) (i : ℕ) (t : RowsView) → room_in ts ≡ s.room → 0 < room_of s i → t ≡ get_or ts i t → 0 < t.room
+put-room ts s i t room h e =
+    let g = ap (λ r. get_or r i 0) room in
+    let f = room-at ts i t (put-within ts s i room h) e in
+    omega (arith, g, f, h)
+
+count-cons : (n : ℕ) (c : KeyedChange) (changes : List KeyedChange) → count_by (puts_into n) (c ∷ changes) ≡ count_by (puts_into n) (c ∷ []) + count_by (puts_into n) changes
+count-cons n c changes = let h = sum_by-cons (λ c. cond (puts_into n c) 1 0) c changes in omega (arith, h)
+
+-- where there is room for all changes, there is room for the first, and after it for the others
+pub room-first : (s : StoreView) (all changes : List KeyedChange) (c : KeyedChange) → all ≡ c ∷ changes → HasRoomFor s all
+    → (n : ℕ) → IsTrue (puts_into n c) → 0 < room_of s n
+room-first s all changes c is room n puts =
+    let h = subst (λ l. count_by (puts_into n) l ≤ room_of s n) is (room n) in
+    let e = count-cons n c changes in
+    let one = ap (λ b. cond {A = ℕ} b 1 0) puts in
+    omega (arith, h, e, one)
+
+pub room-others : (s t : StoreView) (all changes : List KeyedChange) (c : KeyedChange) → all ≡ c ∷ changes → HasRoomFor s all
+    → ((n : ℕ) → room_of s n ≤ room_of t n + count_by (puts_into n) (c ∷ [])) → HasRoomFor t changes
+room-others s t all changes c is room falls n =
+    let h = subst (λ l. count_by (puts_into n) l ≤ room_of s n) is (room n) in
+    let e = count-cons n c changes in
+    let f = falls n in
+    omega (arith, h, e, f)
+
+-- ---- changes one after the other
+
+-- the rows stand so far that the changes that are left lead to these rows
+pub record Reached (rows : Database) (left : List KeyedChange) (end : Database) : Type 0 where
+  pub so_far : Database
+  pub same : SameRows rows so_far
+  pub ends : all_applied (changes_in left) so_far ≡ end
+
+pub reached_first : (rows : Database) (left : List KeyedChange) → Reached rows left (all_applied (changes_in left) rows)
+reached_first rows left = record { so_far = rows; same = SameRows-refl rows; ends = refl }
+
+pub reached_next : (rows after : Database) (c : KeyedChange) (all left : List KeyedChange) (end : Database) → all ≡ c ∷ left → Reached rows all end
+    → SameRows after (applied (change_in c) rows) → Reached after left end
+reached_next rows after c all left end is r step =
+    let ends = subst (λ (l : List KeyedChange). all_applied (changes_in l) r.so_far ≡ end) is r.ends in
+    record {
+      so_far = applied (change_in c) r.so_far;
+      same = SameRows-trans after (applied (change_in c) rows) (applied (change_in c) r.so_far) step (applied-same (change_in c) rows r.so_far r.same);
+      ends = ends;
+    }
+
+pub reached_last : (rows : Database) (left : List KeyedChange) (end : Database) → left ≡ [] → Reached rows left end → SameRows rows end
+reached_last rows left end none r =
+    let ends = subst (λ (l : List KeyedChange). all_applied (changes_in l) r.so_far ≡ end) none r.ends in
+    subst (SameRows rows) ends r.same
+
+-- keys are by the places alone
+key_stays : (s t : StoreView) → t.places ≡ s.places → (c : KeyedChange) → HasItsKey s c → HasItsKey t c
+key_stays s t e (Put n k) h = h ∙ ap (λ (ps : List (List ℕ)). key_at (get_or ps n []) k.row) (sym e)
+key_stays s t e (Take n k) h = h ∙ ap (λ (ps : List (List ℕ)). key_at (get_or ps n []) k.row) (sym e)
+
+pub keys_stay : (s t : StoreView) → t.places ≡ s.places → (cs : List KeyedChange) → AllByRecursion (HasItsKey s) cs → AllByRecursion (HasItsKey t) cs
+keys_stay s t e [] h = tt
+keys_stay s t e (c ∷ cs) h = (key_stays s t e c h.0, keys_stay s t e cs h.1)
+
+pub key_first : (s : StoreView) (all left : List KeyedChange) (c : KeyedChange) → all ≡ c ∷ left → AllByRecursion (HasItsKey s) all → HasItsKey s c
+key_first s all left c is h = (subst (AllByRecursion (HasItsKey s)) is h).0
+
+pub keys_others : (s t : StoreView) (all left : List KeyedChange) (c : KeyedChange) → all ≡ c ∷ left → t.places ≡ s.places → AllByRecursion (HasItsKey s) all
+    → AllByRecursion (HasItsKey t) left
+keys_others s t all left c is e h = keys_stay s t e left (subst (AllByRecursion (HasItsKey s)) is h).1

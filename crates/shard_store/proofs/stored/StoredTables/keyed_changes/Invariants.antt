@@ -1,0 +1,11 @@
+use Rattle.std.proofs.Common.{◌≡◌, take}
+use Rattle.std.specs.List.{AllByRecursion}
+use Rattle.shard_store.specs.Stores.{changes_in, all_split, HasItsKey}
+use Rattle.shard_store.proofs.stored.StoredTables.keyed_changes.Given as goal
+
+abbrev pub invariant-loop-change : goal.invariant-loop-change
+invariant-loop-change l =
+    record {
+      keys : AllByRecursion (HasItsKey l.fn.self) l.keyed.items;
+      changes : changes_in l.keyed.items ≡ all_split (take l.change-index l.changes);
+    }

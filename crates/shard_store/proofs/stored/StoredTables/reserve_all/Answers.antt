@@ -1,0 +1,25 @@
+use Rattle.std.proofs.Common.{◌≡◌, ◌≤◌, length, subst, ap, arith, ◌∙◌, take}
+use Rattle.std.specs.List.{AllByRecursion}
+use Rattle.vschema.specs.Database.{changed_table}
+use Rattle.shard_store.specs.declared.key.KeyedChange.{KeyedChange}
+use Rattle.shard_store.specs.Stores.{room_of, change_in}
+use Rattle.shard_store.proofs.Splits.{room_next, room_for_all, take_all}
+use Rattle.shard_store.proofs.stored.StoredTables.reserve_all.Goals as goal
+
+pub loop-change-preserved : goal.loop-change-preserved
+loop-change-preserved c =
+    let enough = subst (λ n. length c.args.keyed.now ≤ room_of c.reserve.new.self n) c.place_in.ensures c.in_ok-reserve.ensures.ok in
+    record {
+      rows = c.reserve.ensures.rows ∙ c.loop-change.invariant.rows;
+      places = c.reserve.ensures.places ∙ c.loop-change.invariant.places;
+      room =
+          room_next c.loop-change.self c.reserve.new.self c.args.keyed.now c.loop-change.change-index c.change-item.result
+          (omega (arith, c.loop-change-test.true)) c.change-item.is c.reserve.ensures.room enough c.loop-change.invariant.room;
+    }
+
+pub returns-clause-ok : goal.returns-clause-ok
+returns-clause-ok c =
+    let past : c.loop-change.change-index ≡ length c.args.keyed.now = omega (arith, c.loop-change-test.false, c.loop-change.auto.change-index-end) in
+    let whole = ap (λ n. take n c.args.keyed.now) past ∙ take_all c.args.keyed.now in
+    room_for_all c.loop-change.self c.args.keyed.now
+    (subst (AllByRecursion (λ (x : KeyedChange). length c.args.keyed.now ≤ room_of c.loop-change.self (changed_table (change_in x)))) whole c.loop-change.invariant.room)

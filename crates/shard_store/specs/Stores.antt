@@ -1,0 +1,72 @@
+-- What contracts see of a store of rows, and of the changes that it does.
+use Rattle.std.specs.Prelude.{◌≡◌, ℕ, Bool, false, ◌==◌, ◌≤◌, List, [], ◌∷◌, map, flat_map, slice_index, slice_index_or, count_by}
+use Rattle.std.specs.List.{AllByRecursion}
+use Rattle.vt_value.specs.Values.{Row}
+use Rattle.vschema.specs.declared.changes.RowChange.{RowChange}
+use Rattle.vschema.specs.declared.changes.RowChange.TheVariants.{Added, Replaced, Removed}
+use Rattle.vschema.specs.declared.changes.Write.{Write}
+use Rattle.vschema.specs.declared.changes.Write.TheVariants.{Insert}
+use Rattle.vschema.specs.Database.{Database, all_applied}
+use Rattle.shard_store.specs.declared.key.KeyedChange.{KeyedChange}
+use Rattle.shard_store.specs.declared.key.KeyedChange.TheVariants.{Put, Take}
+use Rattle.shard_store.specs.Tables.{key_at}
+
+-- a table: its rows, the places of its key columns, and for how many more rows without slots there is memory
+pub record RowsView : Type 0 where
+  pub rows : List Row
+  pub places : List ℕ
+  pub room : ℕ
+
+-- the same of all tables
+pub record StoreView : Type 0 where
+  pub rows : Database
+  pub places : List (List ℕ)
+  pub room : List ℕ
+
+-- a table that the store doesn't have has no key columns
+abbrev pub places_of : StoreView → ℕ → List ℕ
+places_of s n = slice_index_or s.places n []
+
+-- and no room
+abbrev pub room_of : StoreView → ℕ → ℕ
+room_of s n = slice_index s.room n
+
+abbrev pub change_in : KeyedChange → RowChange
+change_in (Put n k) = Added n k.row
+change_in (Take n k) = Removed n k.row
+
+abbrev pub changes_in : List KeyedChange → List RowChange
+changes_in changes = map change_in changes
+
+-- a row in another's place is its removal, and then the other's addition
+abbrev pub split : RowChange → List RowChange
+split (Added n row) = Added n row ∷ []
+split (Replaced n old new) = Removed n old ∷ Added n new ∷ []
+split (Removed n row) = Removed n row ∷ []
+
+abbrev pub all_split : List RowChange → List RowChange
+all_split changes = flat_map split changes
+
+-- the key is that of the row
+abbrev pub HasItsKey : StoreView → KeyedChange → Type 0
+HasItsKey s (Put n k) = k.key.values ≡ key_at (places_of s n) k.row
+HasItsKey s (Take n k) = k.key.values ≡ key_at (places_of s n) k.row
+
+-- the change puts a row into the table at the place
+abbrev pub puts_into : ℕ → KeyedChange → Bool
+puts_into n (Put m k) = m == n
+puts_into n (Take m k) = false
+
+-- each table has room for all rows that the changes put into it
+abbrev pub HasRoomFor : StoreView → List KeyedChange → Type 0
+HasRoomFor s changes = (n : ℕ) → count_by (puts_into n) changes ≤ room_of s n
+
+-- the store can do the changes, by their keys, without memory
+pub record IsReadyFor (s : StoreView) (changes : List RowChange) (keyed : List KeyedChange) : Type 0 where
+  pub same : (db : Database) → all_applied (changes_in keyed) db ≡ all_applied changes db
+  pub keys : AllByRecursion (HasItsKey s) keyed
+  pub room : HasRoomFor s keyed
+
+-- a write that adds these rows
+abbrev pub IsInsertOf : ℕ → List Row → Write → Type 0
+IsInsertOf n new w = w ≡ Insert n new

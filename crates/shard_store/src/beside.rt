@@ -1,0 +1,144 @@
+ghost use Rattle.std.specs.Prelude.{◌≡◌, ◌+◌, ◌<◌, ◌≤◌, ◌++◌, ◌∷◌, [], IfOk, IfErr, OnOk, IsPermutation, length, position};
+ghost use Rattle.vschema.specs.Database.{same_row, without};
+ghost use Rattle.shard_store.specs.Tables.{key_at};
+
+use crate::key::RowKey;
+use crate::table::StoredTable;
+use crate::walk::{AllRows, RowsBeside};
+use sql_eval::same_row;
+use std::alloc::Global;
+use std::marker::Model;
+use vt_value::{Items, Refusal, Row};
+
+// The place of the first row that is this one.
+fn place_of(rows: &[Row], row: &Row) -> Option<usize>
+    ensures { result ≡ position (λ r. same_row row.now r) rows.now }
+{
+    rows.iter().position(|r| same_row(row, r))
+}
+
+/// The rows of a table in any number, also of one key: each in the slot of its key, or beside the slots where another row has its key
+/// or the key has no slot. Contracts see a `RowsView`.
+#[derive(Drop)]
+pub struct TableRows {
+    pub(crate) stored: StoredTable,
+    pub(crate) beside: Vec<Row>,
+}
+
+impl Model for TableRows {
+    ghost use Rattle.std.specs.Prelude.{◌++◌, ◌-◌, vec_len, vec_capacity};
+    ghost use Rattle.shard_store.specs.Slots.{rows_in};
+    ghost use Rattle.shard_store.specs.Stores.{RowsView};
+
+    ghost Value = { RowsView };
+
+    ghost view = { λ t. record { rows = rows_in t.stored.slots ++ t.beside.items; places = t.stored.places; room = vec_capacity t.beside - vec_len t.beside } };
+}
+
+impl TableRows {
+    /// No rows, of a table whose key columns are at these places.
+    pub fn new(alloc: Global, places: Items<usize>) -> TableRows
+        ensures rows { result.rows ≡ [] }
+        ensures places { result.places ≡ places }
+    {
+        TableRows {
+            stored: StoredTable::new(alloc, places),
+            beside: Vec::new(alloc),
+        }
+    }
+
+    /// The key of a row of this table. Refuses for want of memory.
+    pub fn key_of(&self, alloc: Global, row: &Row) -> Result<RowKey, Refusal>
+        ensures ok { IfOk result (λ key. key.values ≡ key_at self.now.places row.now) }
+        ensures err { IfErr result (λ e. e ≡ Refusal.OutOfMemory) }
+    {
+        self.stored.key_of(alloc, row)
+    }
+
+    /// How many rows the table has.
+    pub fn row_count(&self) -> usize
+        ensures { result ≡ length self.now.rows }
+    {
+        self.stored.row_count() + self.beside.len()
+    }
+
+    /// All rows: those in slots, in the order of their keys, and then the others.
+    pub fn all(&self) -> AllRows<'_>
+        ensures { result ≡ self.now.rows }
+    {
+        AllRows {
+            slots: self.stored.rows(),
+            beside: RowsBeside {
+                rows: self.beside.as_slice(),
+            },
+        }
+    }
+
+    // Makes memory for so many more rows without slots.
+    fn reserve(&mut self, additional: usize) -> Result<(), Refusal>
+        ensures rows { self.new.rows ≡ self.old.rows }
+        ensures places { self.new.places ≡ self.old.places }
+        ensures room { self.old.room ≤ self.new.room }
+        ensures ok { OnOk result (additional ≤ self.new.room) }
+        ensures err { IfErr result (λ e. e ≡ Refusal.OutOfMemory) }
+    {
+        self.beside.reserve(additional)?;
+        Ok(())
+    }
+
+    // Makes a slot for a key, where it has none.
+    fn reserve_slot(&mut self, alloc: Global, key: &RowKey) -> Result<(), Refusal>
+        ensures rows { self.new.rows ≡ self.old.rows }
+        ensures places { self.new.places ≡ self.old.places }
+        ensures room { self.new.room ≡ self.old.room }
+        ensures err { IfErr result (λ e. e ≡ Refusal.OutOfMemory) }
+    {
+        self.stored.reserve(alloc, key)
+    }
+
+    /// Makes memory for so many more rows without slots, and a slot for a key. Refuses for want of memory; the rows stay as they are.
+    pub fn make_room(
+        &mut self,
+        alloc: Global,
+        key: &RowKey,
+        additional: usize,
+    ) -> Result<(), Refusal>
+        ensures rows { self.new.rows ≡ self.old.rows }
+        ensures places { self.new.places ≡ self.old.places }
+        ensures room { self.old.room ≤ self.new.room }
+        ensures ok { OnOk result (additional ≤ self.new.room) }
+        ensures err { IfErr result (λ e. e ≡ Refusal.OutOfMemory) }
+    {
+        self.reserve(additional)?;
+        self.reserve_slot(alloc, key)
+    }
+
+    /// Adds a row. Takes no memory.
+    pub fn add(&mut self, key: &RowKey, row: Row)
+        requires key { key.now.values ≡ key_at self.old.places row }
+        requires room { 0 < self.old.room }
+        ensures rows { IsPermutation self.new.rows (self.old.rows ++ row ∷ []) }
+        ensures places { self.new.places ≡ self.old.places }
+        ensures room { self.old.room ≤ self.new.room + 1 }
+    {
+        if self.stored.is_free(key) {
+            self.stored.add(key, row);
+        } else {
+            self.beside.push_reserved(row);
+        }
+    }
+
+    /// Removes a row, if it is there; the slot of its key stays. Takes no memory.
+    pub fn remove(&mut self, key: &RowKey, row: &Row)
+        requires { key.now.values ≡ key_at self.old.places row.now }
+        ensures rows { IsPermutation self.new.rows (without row.now self.old.rows) }
+        ensures places { self.new.places ≡ self.old.places }
+        ensures room { self.old.room ≤ self.new.room }
+    {
+        if self.stored.holds(key, row) {
+            self.stored.remove(key, row);
+        } else if let Some(place) = place_of(self.beside.as_slice(), row) {
+            self.beside.remove(place);
+        }
+    }
+}

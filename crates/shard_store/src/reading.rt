@@ -1,0 +1,240 @@
+//! What queries give and what writes change, over the stored rows. Where a condition fixes the first key column to a value, the rows of that
+//! value alone are looked at, and an INSERT looks each of its keys up.
+ghost use Rattle.std.specs.Prelude.{◌≡◌, ◌⊎◌, ◌<◌, true, IsTrue, IfOk, IfErr, IfSome, MatchOption, Ok, Err, List, [], filter, length};
+ghost use Rattle.std.specs.List.{list_any};
+ghost use Rattle.vt_value.specs.declared.value.Value.{Value as V};
+ghost use Rattle.vschema.specs.Checks.{is_aggregated};
+ghost use Rattle.vschema.specs.Schema.{key_of};
+ghost use Rattle.vschema.specs.Database.{rows_of, same_row};
+ghost use Rattle.sql_eval.specs.Conditions.{is_kept};
+ghost use Rattle.sql_eval.specs.Groups.{CanBeSummed};
+ghost use Rattle.sql_eval.specs.Queries.{IsAnswer};
+ghost use Rattle.sql_eval.specs.Writes.{written_table, changes_over};
+ghost use Rattle.shard_store.specs.Slots.{rows_in};
+ghost use Rattle.shard_store.specs.Tables.{key_at, begins_with};
+ghost use Rattle.shard_store.specs.Stores.{IsInsertOf};
+
+use crate::beside::TableRows;
+use crate::fixed::fixed_value;
+use crate::primary::are_key_places;
+use crate::source::{all_kept, any_has_key};
+use crate::stored::StoredTables;
+use crate::table::StoredTable;
+use crate::walk::{AllRows, RowsBeside};
+use sql_eval::{change_local, select_local};
+use sql_tree::Condition;
+use std::alloc::Global;
+use vschema::{Query, RowChange, Table, Write};
+use vt_value::{Items, Refusal, Row, Value};
+
+impl StoredTable {
+    // The value that the first key column has in each row whose condition is true.
+    fn first_value<'a>(&self, condition: &'a Option<Condition<usize>>) -> Option<&'a Value>
+        ensures some { IfSome result (λ v. 0 < length self.now.places) }
+        ensures value { IfSome result (λ v. (row : List V) → is_kept condition.now row ≡ true → begins_with self.now.places v.now row ≡ true) }
+    {
+        match (condition, self.key_columns().first()) {
+            (Some(condition), Some(column)) => fixed_value(condition, *column),
+            _ => None,
+        }
+    }
+
+    // Copies of the rows whose condition is true, which all have this value in the first key column.
+    fn kept_with(
+        &self,
+        alloc: Global,
+        condition: &Option<Condition<usize>>,
+        value: &Value,
+    ) -> Result<Items<Row>, Refusal>
+        requires some { 0 < length self.now.places }
+        requires value { (row : List V) → is_kept condition.now row ≡ true → begins_with self.now.places value.now row ≡ true }
+        ensures ok { IfOk result (λ list. list ≡ filter (is_kept condition.now) (rows_in self.now.slots)) }
+        ensures err { IfErr result (λ e. e ≡ Refusal.OutOfMemory) }
+    {
+        let rows = self.rows_with(alloc, value)?;
+        all_kept(alloc, condition, rows)
+    }
+
+    /// Copies of the rows whose condition is true. Refuses for want of memory.
+    pub fn kept(
+        &self,
+        alloc: Global,
+        condition: &Option<Condition<usize>>,
+    ) -> Result<Items<Row>, Refusal>
+        ensures ok { IfOk result (λ list. list ≡ filter (is_kept condition.now) (rows_in self.now.slots)) }
+        ensures err { IfErr result (λ e. e ≡ Refusal.OutOfMemory) }
+    {
+        match self.first_value(condition) {
+            Some(value) => self.kept_with(alloc, condition, value),
+            None => all_kept(alloc, condition, self.rows()),
+        }
+    }
+}
+
+impl TableRows {
+    // Copies of the rows whose condition is true.
+    fn kept(
+        &self,
+        alloc: Global,
+        condition: &Option<Condition<usize>>,
+    ) -> Result<Items<Row>, Refusal>
+        ensures ok { IfOk result (λ list. list ≡ filter (is_kept condition.now) self.now.rows) }
+        ensures err { IfErr result (λ e. e ≡ Refusal.OutOfMemory) }
+    {
+        let mut list = self.stored.kept(alloc, condition)?;
+        let rows = RowsBeside {
+            rows: self.beside.as_slice(),
+        };
+        let beside = all_kept(alloc, condition, rows)?;
+        list.append(beside)?;
+        Ok(list)
+    }
+
+    // Whether a row has this row's primary key; `keyed` tells whether it can be looked up.
+    fn has_key(&self, alloc: Global, table: &Table, keyed: bool, row: &Row) -> Result<bool, Refusal>
+        requires { IsTrue keyed → (a b : List V) → same_row (key_at self.now.places a) (key_at self.now.places b) ≡ same_row (key_of table.now a) (key_of table.now b) }
+        ensures ok { IfOk result (λ has. has ≡ list_any (λ r. same_row (key_of table.now row.now) (key_of table.now r)) self.now.rows) }
+        ensures err { IfErr result (λ e. e ≡ Refusal.OutOfMemory) }
+    {
+        if !keyed {
+            return Ok(any_has_key(table, row, self.all()));
+        }
+        let key = self.stored.key_of(alloc, row)?;
+        let beside = RowsBeside {
+            rows: self.beside.as_slice(),
+        };
+        Ok(self.stored.contains(&key) || any_has_key(table, row, beside))
+    }
+
+    // Whether a row has the primary key of one of these.
+    fn has_any_key(&self, alloc: Global, table: &Table, new: &[Row]) -> Result<bool, Refusal>
+        ensures ok { IfOk result (λ has. has ≡ list_any (λ n. list_any (λ r. same_row (key_of table.now n) (key_of table.now r)) self.now.rows) new.now) }
+        ensures err { IfErr result (λ e. e ≡ Refusal.OutOfMemory) }
+    {
+        let keyed = are_key_places(alloc, table, self.stored.key_columns())?;
+        for row in new {
+            if self.has_key(alloc, table, keyed, row)? {
+                return Ok(true);
+            }
+        }
+        Ok(false)
+    }
+}
+
+impl StoredTables {
+    /// All rows of the table at a place.
+    pub fn all(&self, place: usize) -> AllRows<'_>
+        requires { place < length self.now.rows }
+        ensures { result ≡ rows_of self.now.rows place }
+    {
+        self.tables[place].all()
+    }
+
+    fn table(&self, place: usize) -> Option<&TableRows>
+        ensures { MatchOption result (rows_of self.now.rows place ≡ []) (λ table. rows_of self.now.rows place ≡ table.now.rows) }
+    {
+        self.tables.get(place)
+    }
+
+    /// Copies of the rows of the table at a place whose condition is true: none behind the last table. Refuses for want of memory.
+    pub fn kept(
+        &self,
+        alloc: Global,
+        place: usize,
+        condition: &Option<Condition<usize>>,
+    ) -> Result<Items<Row>, Refusal>
+        ensures ok { IfOk result (λ list. list ≡ filter (is_kept condition.now) (rows_of self.now.rows place)) }
+        ensures err { IfErr result (λ e. e ≡ Refusal.OutOfMemory) }
+    {
+        match self.table(place) {
+            Some(table) => table.kept(alloc, condition),
+            None => Ok(Items::new(alloc)),
+        }
+    }
+
+    /// What a query gives over the rows of its table. Refuses for want of memory.
+    pub fn select(&self, alloc: Global, query: &Query) -> Result<Items<Row>, Refusal>
+        requires summed { is_aggregated query.now ≡ true → CanBeSummed (rows_of self.now.rows query.now.table) }
+        ensures ok { IfOk result (IsAnswer query.now (rows_of self.now.rows query.now.table)) }
+        ensures err { IfErr result (λ e. e ≡ Refusal.OutOfMemory) }
+    {
+        let kept = self.kept(alloc, query.table, &query.filter)?;
+        select_local(alloc, query, kept.as_slice())
+    }
+
+    fn has_any_key(
+        &self,
+        alloc: Global,
+        table: &Table,
+        place: usize,
+        new: &[Row],
+    ) -> Result<bool, Refusal>
+        ensures ok { IfOk result (λ has. has ≡ list_any (λ n. list_any (λ r. same_row (key_of table.now n) (key_of table.now r)) (rows_of self.now.rows place)) new.now) }
+        ensures err { IfErr result (λ e. e ≡ Refusal.OutOfMemory) }
+    {
+        match self.table(place) {
+            Some(rows) => rows.has_any_key(alloc, table, new),
+            None => Ok(false),
+        }
+    }
+
+    // What a write without new rows does.
+    fn changed(
+        &self,
+        alloc: Global,
+        table: &Table,
+        write: &Write,
+        place: usize,
+        condition: &Option<Condition<usize>>,
+    ) -> Result<Items<RowChange>, Refusal>
+        requires { (rows : List (List V)) → changes_over table.now write.now (filter (is_kept condition.now) rows) ≡ changes_over table.now write.now rows }
+        ensures ok { IfOk result (λ changes. changes_over table.now write.now (rows_of self.now.rows place) ≡ Ok changes) }
+        ensures err { IfErr result (λ e. (e ≡ Refusal.OutOfMemory) ⊎ (changes_over table.now write.now (rows_of self.now.rows place) ≡ Err e)) }
+    {
+        let kept = self.kept(alloc, place, condition);
+        match kept {
+            Ok(kept) => change_local(alloc, table, write, kept.as_slice()),
+            Err(e) => Err(e),
+        }
+    }
+
+    // What a write with new rows does.
+    fn inserted(
+        &self,
+        alloc: Global,
+        table: &Table,
+        write: &Write,
+        place: usize,
+        new: &[Row],
+    ) -> Result<Items<RowChange>, Refusal>
+        requires { IsInsertOf place new.now write.now }
+        ensures ok { IfOk result (λ changes. changes_over table.now write.now (rows_of self.now.rows place) ≡ Ok changes) }
+        ensures err { IfErr result (λ e. (e ≡ Refusal.OutOfMemory) ⊎ (changes_over table.now write.now (rows_of self.now.rows place) ≡ Err e)) }
+    {
+        match self.has_any_key(alloc, table, place, new) {
+            Ok(true) => Err(Refusal::DuplicateKey),
+            Ok(false) => change_local(alloc, table, write, &[]),
+            Err(e) => Err(e),
+        }
+    }
+
+    /// What a write does to the rows of its table. Refuses `DuplicateKey` where an INSERT has the primary key of a row that is there, or
+    /// one twice, and else only for want of memory.
+    pub fn changes(
+        &self,
+        alloc: Global,
+        table: &Table,
+        write: &Write,
+    ) -> Result<Items<RowChange>, Refusal>
+        ensures ok { IfOk result (λ changes. changes_over table.now write.now (rows_of self.now.rows (written_table write.now)) ≡ Ok changes) }
+        ensures err { IfErr result (λ e. (e ≡ Refusal.OutOfMemory) ⊎ (changes_over table.now write.now (rows_of self.now.rows (written_table write.now)) ≡ Err e)) }
+    {
+        match write {
+            Write::Insert(place, new) => self.inserted(alloc, table, write, *place, new.as_slice()),
+            Write::Update(place, _, condition) => {
+                self.changed(alloc, table, write, *place, condition)
+            }
+            Write::Delete(place, condition) => self.changed(alloc, table, write, *place, condition),
+        }
+    }
+}
