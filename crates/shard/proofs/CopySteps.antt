@@ -1,6 +1,6 @@
 -- Copying: what a state tells of how far a target has come, what a source has for it, and what a Copy leaves.
-use Rattle.std.proofs.Common.{flat_map, ◌≡◌, ◌≢◌, ◌⊎◌, inl, inr, ℕ, zero, suc, ◌+◌, ◌-◌, ◌<◌, ◌≤◌, ◌^◌, Bool, true, false, not, cond, ◌&&◌, ◌||◌, ◌==◌, List, [], ◌∷◌, ◌++◌, length, map, take, filter, get_or, Option, Some, None, IsTrue, refl, sym, ap, ◌∙◌, subst, arith, length-append}
-use Rattle.std.specs.Prelude.{Contains, IsPermutation, AllPairs, if◌then◌else◌, slice_get}
+use Rattle.std.proofs.Common.{flat_map, ◌≡◌, ◌⊎◌, inl, inr, ℕ, zero, suc, ◌+◌, ◌-◌, ◌<◌, ◌≤◌, ◌^◌, Bool, true, false, not, ◌&&◌, ◌||◌, ◌==◌, List, [], ◌∷◌, ◌++◌, length, map, take, filter, get_or, Option, Some, None, IsTrue, refl, sym, ap, ◌∙◌, subst, arith, length-append}
+use Rattle.std.specs.Prelude.{IsPermutation, AllPairs, if◌then◌else◌, slice_get}
 use Rattle.std.specs.List.{AllByRecursion}
 use Rattle.std.proofs.Math.Bool.{or-false}
 use Rattle.std.proofs.lemmas.Bool.{false≢true, eq-eqb}
@@ -28,8 +28,8 @@ use Rattle.shard_run.specs.declared.Event.{Event}
 use Rattle.shard_run.specs.declared.Event.TheVariants.{Commit, Follow, Copy, Freeze, Thaw, Retire, Serve}
 use Rattle.shard_run.specs.declared.Entry.{Entry}
 use Rattle.shard_run.specs.Runs.{Run, Opening, held, first_rows, mode, is_serving, is_on, is_stored, stored_on, stored_changes, entries_on}
-use Rattle.shard_run.specs.Copies.{position, is_key_before, table_at, is_last, step, has_copied_all, is_copied, is_copy_that, reaches}
-use Rattle.shard_run.specs.Legal.{Legal, MayCopy, Had, IsTableOf, IsOnItsSlot, is_left}
+use Rattle.shard_run.specs.Copies.{position, is_key_before, table_at, is_last, has_copied_all, is_copied, is_copy_that, reaches}
+use Rattle.shard_run.specs.Legal.{Legal, MayCopy, Had, IsOnItsSlot, is_left}
 use Rattle.shard_run.specs.Openings.{IsOpening}
 use Rattle.shard_law.specs.Law.{copied_by, rows_copied}
 use Rattle.shard_law.proofs.Databases.{length-all_applied}
@@ -37,28 +37,27 @@ use Rattle.shard_law.proofs.Keys.{filter-permuted}
 use Rattle.shard_law.proofs.Unique.{filter-fewer, unique-from_few, few_held}
 use Rattle.shard_law.proofs.Rising.{last_key_tells, none_tells}
 use Rattle.shard_law.proofs.Runs.{log, log-on, mode-on, stored_on-push}
-use Rattle.shard.specs.Stores.{StoreView}
 use Rattle.shard.specs.declared.limits.Limits.{Limits}
 use Rattle.shard.specs.declared.contents.Contents.{Contents}
 use Rattle.shard.specs.declared.forward.Step.{Step}
-use Rattle.shard.specs.declared.forward.Step.TheVariants.{Followed, Copied}
+use Rattle.shard.specs.declared.forward.Step.TheVariants.{Copied}
 use Rattle.shard.specs.Progress.{last_row, steps_of, steps_on}
 use Rattle.shard.specs.Shards as sh
 use Rattle.shard.specs.Shards.{Holds, holds, Keeps, IsAfter, Names, ShardView, slot_of, commit_of, beyond}
-use Rattle.shard.specs.Copying.{is_reached, is_wanted, IsCopyFor, IsNextCopy, IsNextTable}
+use Rattle.shard.specs.Copying.{is_reached, is_wanted, IsCopyFor, IsNextCopy}
 use Rattle.shard.specs.inner.Placed.{AreFirst}
 use Rattle.shard.specs.inner.Rowed.{row_of}
-use Rattle.shard.proofs.Bags.{all_applied-same}
+use Rattle.shard.proofs.Bags.{same_through, length-same, all_applied-same}
 use Rattle.shard.proofs.FirstRows.{strictly}
 use Rattle.shard.proofs.Commits.{applied-append}
 use Rattle.shard.proofs.Follows as f
-use Rattle.shard.proofs.Legality.{stands-next, legal_is, lives, of_run}
+use Rattle.shard.proofs.Legality.{stands-next, lives, of_run}
 use Rattle.shard.proofs.Looks.{following_lives}
 use Rattle.shard.proofs.Modes.{here, stands_there, mode_there}
 use Rattle.shard.proofs.Positions.{position-same, copied_all-same, any_both}
 use Rattle.shard.proofs.Progress.{steps-push}
 use Rattle.shard.proofs.States.{held-same, stored-same, holds_of, entries-on, alone_here, lives_if}
-use Rattle.shard.proofs.Tables.{AreThere, stored_there, there_from}
+use Rattle.shard.proofs.Tables.{stored_there, there_from}
 
 -- ---- the last row that was copied
 
@@ -375,12 +374,12 @@ module _ (o : Opening) (most : Limits) (seat : SeatView Entry) (c : Contents) (i
   came = Copied taken.source taken.table taken.place (is_last taken) (last_row taken.rows)
 
   pub after_copy : (seat' : SeatView Entry) (c' : Contents) → seat'.seen ≡ run ++ e ∷ [] → seat'.slot ≡ seat.slot → c'.shard ≡ s
-      → c'.store.rows ≡ all_applied changes c.store.rows → c'.mode ≡ c.mode → c'.stored.items ≡ c.stored.items → c'.steps.items ≡ c.steps.items ++ came ∷ []
+      → SameRows c'.store.rows (all_applied changes c.store.rows) → c'.mode ≡ c.mode → c'.stored.items ≡ c.stored.items → c'.steps.items ≡ c.steps.items ++ came ∷ []
       → c'.limits ≡ c.limits → length (entries_on s.slot seat.seen) < 2 ^ 40 → IsAfter o most seat' c'
   after_copy seat' c' seen at shard_is rows modes stores steps_are limits_are room =
       let now : SameRows c'.store.rows (held o (run ++ e ∷ []) s) =
       subst (SameRows c'.store.rows) (sym held_now)
-      (subst (λ (db : Database). SameRows db (all_applied changes (held o seat.seen s))) (sym rows)
+      (same_through c'.store.rows (all_applied changes c.store.rows) (all_applied changes (held o seat.seen s)) rows
       (all_applied-same changes c.store.rows (held o seat.seen s) held_before.rows)) in
       record {
         opens = is.opens;
@@ -390,7 +389,7 @@ module _ (o : Opening) (most : Limits) (seat : SeatView Entry) (c : Contents) (i
             (subst (IsOnItsSlot o (run ++ e ∷ [])) (sym shard_is) (stands-next o run s e.event (stands_there o most seat c is run alone)));
         keeps = holds (record {
           rows = subst (SameRows c'.store.rows) (ap (held o (run ++ e ∷ [])) (sym shard_is) ∙ ap (λ r. held o r c'.shard) (sym seen)) now;
-          tables = ap length rows ∙ length-all_applied changes c.store.rows ∙ held_before.tables;
+          tables = length-same c'.store.rows (all_applied changes c.store.rows) rows ∙ length-all_applied changes c.store.rows ∙ held_before.tables;
           mode =
               modes ∙ held_before.mode ∙ following ∙ sym mode_copies ∙ ap (λ (t : Shard). mode o (run ++ e ∷ []) t.slot) (sym shard_is)
               ∙ ap (λ r. mode o r c'.shard.slot) (sym seen);

@@ -1,13 +1,12 @@
 -- A following step: when it is lawful, also where the source goes on meanwhile, and when nothing is left to follow.
-use Rattle.std.proofs.Common.{flat_map, ◌≡◌, ◌⊎◌, inl, inr, take, get_or, ℕ, zero, suc, ◌+◌, ◌<◌, ◌≤◌, ◌^◌, Bool, true, false, ◌&&◌, cond, List, [], ◌∷◌, ◌++◌, length, filter, count_by, slice_get, Some, refl, sym, ap, ◌∙◌, subst, arith, length-append}
+use Rattle.std.proofs.Common.{flat_map, ◌≡◌, ℕ, zero, suc, ◌+◌, ◌<◌, ◌≤◌, ◌^◌, Bool, true, ◌&&◌, List, [], ◌∷◌, ◌++◌, length, filter, slice_get, Some, refl, sym, ap, ◌∙◌, subst, arith, length-append}
 use Rattle.std.specs.Prelude.{Contains}
 use Rattle.std.proofs.lemmas.List.Elements.{filter-append}
 use Rattle.std.specs.List.{AllByRecursion}
 use Rattle.std.proofs.lemmas.Bool.{eq-eqb, false≢true}
-use Rattle.std.proofs.lemmas.List.Sums.{sum_by-cons, count_by-le-length}
 use mathlib.Core.List.{IsPrefix}
 use Rattle.vschema.specs.declared.changes.RowChange.{RowChange}
-use Rattle.vschema.specs.Database.{Database, SameRows, restricted_changes, all_applied, changed_table}
+use Rattle.vschema.specs.Database.{SameRows, restricted_changes, all_applied, changed_table}
 use Rattle.journal.specs.Runs.{on_slot}
 use Rattle.journal.specs.Views.{SeatView, PassView, IsLater}
 use Rattle.journal.proofs.Fronts.{prefix_trans}
@@ -23,14 +22,11 @@ use Rattle.shard.proofs.Positions.{position-same, copied-same}
 use Rattle.shard_run.specs.Openings.{IsOpening}
 use Rattle.shard_law.proofs.Law.{slots}
 use Rattle.shard_law.proofs.Databases.{length-all_applied}
-use Rattle.shard_law.proofs.Lists.{all-weaker}
 use Rattle.shard_law.proofs.Runs.{log, log-on, mode-on, stored_on-push}
-use Rattle.shard.specs.Stores.{StoreView, room_of, puts_into, HasRoomFor}
 use Rattle.shard.specs.declared.limits.Limits.{Limits}
 use Rattle.shard.specs.declared.contents.Contents.{Contents}
 use Rattle.shard.specs.Shards as sh
 use Rattle.shard.specs.Shards.{Holds, holds, IsAfter, IsNext, Names, ShardView, slot_of, commit_of, beyond}
-use Rattle.shard.proofs.Changes.{puts-own}
 use Rattle.shard.proofs.Commits.{applied-append}
 use Rattle.shard.proofs.Legality.{stands-next, legal_is}
 use Rattle.shard.proofs.Tables.{taken_there}
@@ -39,7 +35,7 @@ use Rattle.shard.specs.declared.forward.Step.{Step}
 use Rattle.shard.specs.declared.forward.Step.TheVariants.{Followed}
 use Rattle.shard.specs.Progress.{steps_of, steps_on}
 use Rattle.shard.proofs.Progress.{steps-push}
-use Rattle.shard.proofs.Bags.{all_applied-same}
+use Rattle.shard.proofs.Bags.{same_through, length-same, all_applied-same}
 use Rattle.shard.proofs.States.{held-same, stored-same, holds_of, entries-on, after_look, mode_after_look, alone_here}
 use Rattle.shard.proofs.Modes.{here, stands_there, mode_there}
 
@@ -88,44 +84,6 @@ none_left o opens first second slot source stored n later legal is at level =
 
 -- ---- room for all changes
 
-all_take_next : {X : Type 0} (P : X → Type 0) (xs : List X) (n : ℕ) (d : X) → n < length xs → AllByRecursion P (take n xs) → P (get_or xs n d)
-    → AllByRecursion P (take (suc n) xs)
-all_take_next P [] n d within all one = absurd (omega (arith, within))
-all_take_next P (x ∷ xs) zero d within all one = (one, tt)
-all_take_next P (x ∷ xs) (suc n) d within all one = (all.0, all_take_next P xs n d (omega (arith, within)) all.1 one)
-
-pub room_next : (old new : StoreView) (changes : List RowChange) (n : ℕ) (c : RowChange) → n < length changes → c ≡ get_or changes n c
-    → ((k : ℕ) → room_of old k ≤ room_of new k) → length changes ≤ room_of new (changed_table c)
-    → AllByRecursion (λ c. length changes ≤ room_of old (changed_table c)) (take n changes)
-    → AllByRecursion (λ c. length changes ≤ room_of new (changed_table c)) (take (n + 1) changes)
-room_next old new changes n c within is more enough all =
-    let P : RowChange → Type 0 = λ c. length changes ≤ room_of new (changed_table c) in
-    let kept = all-weaker (λ c. length changes ≤ room_of old (changed_table c)) P (λ c h. let m = more (changed_table c) in omega (arith, h, m)) (take n changes) all in
-    let next : AllByRecursion P (take (suc n) changes) = all_take_next P changes n c within kept (subst P is enough) in
-    let same : suc n ≡ n + 1 = omega arith in
-    subst (λ k. AllByRecursion P (take k changes)) same next
-
-some_room : (s : StoreView) (least n : ℕ) (changes : List RowChange) → AllByRecursion (λ c. least ≤ room_of s (changed_table c)) changes
-    → (count_by (puts_into n) changes ≡ 0) ⊎ (least ≤ room_of s n)
-some_room s least n [] all = inl refl
-some_room s least n (c ∷ changes) all = by (puts_into n c) refl (some_room s least n changes all.1)
-  where
-    by : (b : Bool) → puts_into n c ≡ b → (count_by (puts_into n) changes ≡ 0) ⊎ (least ≤ room_of s n)
-        → (count_by (puts_into n) (c ∷ changes) ≡ 0) ⊎ (least ≤ room_of s n)
-    by true i rest = inr (subst (λ k. least ≤ room_of s k) (puts-own (changed_table c) n c refl i) all.0)
-    by false i (inl none) =
-        let h = sum_by-cons (λ x. cond (puts_into n x) 1 0) c changes in
-        let k : cond {A = ℕ} (puts_into n c) 1 0 ≡ 0 = simp i in
-        inl (omega (arith, h, k, none))
-    by false i (inr enough) = inr enough
-
-pub room_for_all : (s : StoreView) (changes : List RowChange) → AllByRecursion (λ c. length changes ≤ room_of s (changed_table c)) changes → HasRoomFor s changes
-room_for_all s changes all n = by (some_room s (length changes) n changes all)
-  where
-    by : (count_by (puts_into n) changes ≡ 0) ⊎ (length changes ≤ room_of s n) → count_by (puts_into n) changes ≤ room_of s n
-    by (inl none) = omega (arith, none)
-    by (inr enough) = let h = count_by-le-length (puts_into n) changes in omega (arith, h, enough)
-
 -- ---- what a following step leaves
 
 module _ (o : Opening) (most : Limits) (seat : SeatView Entry) (c : Contents) (is : IsAfter o most seat c) (following : mode o seat.seen c.shard.slot ≡ Following)
@@ -160,12 +118,12 @@ module _ (o : Opening) (most : Limits) (seat : SeatView Entry) (c : Contents) (i
       stored_on-push run e s.slot ∙ ap (λ (l : Run). stored_on s.slot run ++ l) one ∙ ap (λ (l : Run). l ++ e ∷ []) (stored-same o seat.seen run s same)
 
   pub after_follow : (seat' : SeatView Entry) (c' : Contents) → seat'.seen ≡ run ++ e ∷ [] → seat'.slot ≡ seat.slot → c'.shard ≡ s
-      → c'.store.rows ≡ all_applied f.changes c.store.rows → c'.mode ≡ c.mode → c'.stored.items ≡ c.stored.items ++ e ∷ [] → c'.steps.items ≡ c.steps.items ++ Followed f.source f.place ∷ [] → c'.limits ≡ c.limits
+      → SameRows c'.store.rows (all_applied f.changes c.store.rows) → c'.mode ≡ c.mode → c'.stored.items ≡ c.stored.items ++ e ∷ [] → c'.steps.items ≡ c.steps.items ++ Followed f.source f.place ∷ [] → c'.limits ≡ c.limits
       → length (entries_on s.slot seat.seen) < 2 ^ 40 → IsAfter o most seat' c'
   after_follow seat' c' seen at shard_is rows modes stores came limits_are room =
       let now : SameRows c'.store.rows (held o (run ++ e ∷ []) s) =
       subst (SameRows c'.store.rows) (sym held_now)
-      (subst (λ (db : Database). SameRows db (all_applied f.changes (held o seat.seen s))) (sym rows)
+      (same_through c'.store.rows (all_applied f.changes c.store.rows) (all_applied f.changes (held o seat.seen s)) rows
       (all_applied-same f.changes c.store.rows (held o seat.seen s) has.rows)) in
       record {
         opens = is.opens;
@@ -175,7 +133,7 @@ module _ (o : Opening) (most : Limits) (seat : SeatView Entry) (c : Contents) (i
             (subst (IsOnItsSlot o (run ++ e ∷ [])) (sym shard_is) (stands-next o run s e.event (stands_there o most seat c is run alone)));
         keeps = holds (record {
           rows = subst (SameRows c'.store.rows) (ap (held o (run ++ e ∷ [])) (sym shard_is) ∙ ap (λ r. held o r c'.shard) (sym seen)) now;
-          tables = ap length rows ∙ length-all_applied f.changes c.store.rows ∙ has.tables;
+          tables = length-same c'.store.rows (all_applied f.changes c.store.rows) rows ∙ length-all_applied f.changes c.store.rows ∙ has.tables;
           mode =
               modes ∙ has.mode ∙ following ∙ sym mode_follows ∙ ap (λ (t : Shard). mode o (run ++ e ∷ []) t.slot) (sym shard_is)
               ∙ ap (λ r. mode o r c'.shard.slot) (sym seen);

@@ -1,5 +1,5 @@
 -- What a transaction sees on its shard at a look.
-use Rattle.std.proofs.Common.{◌≡◌, ◌⊎◌, inl, inr, ℕ, ◌≤◌, ◌^◌, true, List, [], ◌∷◌, ◌++◌, length, get_or, Option, Some, None, Result, Ok, Err, refl, sym, ap, ◌∙◌, subst}
+use Rattle.std.proofs.Common.{◌≡◌, ◌⊎◌, inl, inr, ℕ, ◌≤◌, ◌^◌, true, List, [], ◌∷◌, ◌++◌, length, get_or, Option, Some, None, Result, Ok, Err, refl, sym, ap, ◌∙◌, subst, arith}
 use Rattle.std.specs.Prelude.{IsSome, IfOk, IfErr, OnOk}
 use Rattle.std.specs.List.{AllByRecursion}
 use Rattle.std.proofs.lemmas.Bool.{false≢true}
@@ -27,7 +27,8 @@ use Rattle.journal.proofs.Fronts.{prefix_self}
 use Rattle.journal.proofs.Public.{numbers_later}
 use Rattle.shard_run.specs.declared.Entry.{Entry}
 use Rattle.shard_run.specs.declared.Shard.{Shard}
-use Rattle.shard_run.specs.Runs.{Run, Opening, held, stored_on}
+use Rattle.shard_run.specs.Runs.{Run, Opening, held, is_serving, stored_on}
+use Rattle.shard_run.specs.Openings.{row_count}
 use Rattle.shard_run.specs.Legal.{IsChangeOf}
 use Rattle.shard_law.proofs.Storable.{held_storable}
 use Rattle.shard.specs.declared.limits.Limits.{Limits}
@@ -102,6 +103,12 @@ module _ (o : Opening) (most : Limits) (seat : SeatView Entry) (c : Contents) (i
 
   pub tables : length c.store.rows ≡ length o.schema.tables
   tables = (commits.has o most seat c is clear.serving).tables
+
+  pub few : row_count c.store.rows ≤ 2 ^ 20
+  few =
+      let within = (commits.has o most seat c is clear.serving).within (ap is_serving clear.serving) in
+      let most_rows = is.most_rows in
+      omega (arith, within, most_rows)
 
   pub stored_is : length c.stored.items ≡ length (stored_on s.slot v.seen)
   stored_is =

@@ -3,7 +3,7 @@ use Rattle.std.proofs.Common.{◌≡◌, ℕ, ◌<◌, ◌≤◌, true, List, []
 use Rattle.std.specs.List.{AllByRecursion}
 use mathlib.Core.List.{IsPrefix}
 use Rattle.vt_value.specs.declared.refusal.Refusal.{Refusal}
-use Rattle.vschema.specs.Database.{all_applied, changed_table}
+use Rattle.vschema.specs.Database.{SameRows, all_applied, changed_table}
 use Rattle.journal.specs.Runs.{IsLegal, NumbersBelow}
 use Rattle.journal.specs.Views.{SeatView, PassView, IsLater}
 use Rattle.journal.proofs.Fronts.{prefix_self, prefix_trans}
@@ -99,7 +99,7 @@ module _ (o : Opening) (most : Limits) (seat : SeatView Entry) (c : Contents) (i
         → (seat' : SeatView Entry) (now : PassView Entry) (c' : Contents) → seat'.seen ≡ run ++ e ∷ [] → seat' ≡ record seat { seen = seat'.seen }
         → now ≡ record looked { seen = seat'.seen } → IsLegal (MayFollow o) seat'.seen → (entries : ℕ) → entries ≡ length (entries_on s.slot v.seen)
         → has_room_for c.limits entries (vec_len c.stored) (row_count c.store.rows) tx.changes ≡ true → c'.shard ≡ c.shard
-        → c'.store.rows ≡ all_applied tx.changes c.store.rows → c'.stored.items ≡ c.stored.items ++ e ∷ [] → c'.steps.items ≡ c.steps.items
+        → SameRows c'.store.rows (all_applied tx.changes c.store.rows) → c'.stored.items ≡ c.stored.items ++ e ∷ [] → c'.steps.items ≡ c.steps.items
         → c'.mode ≡ c.mode → c'.limits ≡ c.limits → Left o most s seat' c' p tx now first
     left first before e e_is numbered seat' now c' seen seat_now now_is legal entries es fits shard_same rows stored came mode limits =
         let ends : seat'.seen ≡ run ++ entry_of c.shard session number tx.writes tx.changes ∷ [] = seen ∙ ap (λ (x : Entry). run ++ x ∷ []) e_is in

@@ -1,5 +1,5 @@
 -- What a target takes over of a source: how far it has come with it, and what the source has for it then.
-use Rattle.std.specs.Prelude.{◌≡◌, ◌⊎◌, ℕ, Bool, false, not, ◌&&◌, ◌<◌, ◌≤◌, IsTrue, List, length, filter, take, AllPairs, Contains, IsPermutation, MatchOption, Option, Some, None, slice_get}
+use Rattle.std.specs.Prelude.{◌≡◌, ◌⊎◌, ℕ, Bool, false, not, ◌&&◌, IsTrue, List, length, filter, take, AllPairs, Contains, IsPermutation, MatchOption, Option, Some, None, slice_get}
 use Rattle.vt_value.specs.Values.{Row}
 use Rattle.vschema.specs.declared.schema.Table.{Table}
 use Rattle.vschema.specs.declared.schema.Place.{Place}

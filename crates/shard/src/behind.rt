@@ -9,7 +9,8 @@ ghost use Rattle.sql_eval.specs.Writes.{written_table, changes_of};
 ghost use Rattle.shard.specs.Stores.{row_after};
 
 use crate::contents::{Contents, written_table};
-use crate::store::{Store, TableRows, changed_table};
+use crate::store::{TableRows, changed_table};
+use shard_store::{AllRows, RowSource, StoredTables};
 use sql_eval::{change_local, select_local};
 use std::alloc::Global;
 use vschema::{Query, RowChange, VSchema, Write};
@@ -22,12 +23,14 @@ pub(crate) fn changes_any(place: usize, changes: &[RowChange]) -> bool
     changes.iter().any(|change| changed_table(change) == place)
 }
 
-fn copy_rows(alloc: Global, rows: &[Row]) -> Result<Vec<Row>, Refusal>
-    ensures ok { IfOk result (λ v. v.items ≡ rows.now) }
+// Copies of the rows.
+fn copy_rows(alloc: Global, rows: AllRows<'_>) -> Result<Vec<Row>, Refusal>
+    ensures ok { IfOk result (λ v. v.items ≡ rows.entry) }
     ensures err { IfErr result (λ e. e ≡ Refusal.OutOfMemory) }
 {
+    let mut rows = rows;
     let mut copied = Vec::new(alloc);
-    for row in rows {
+    while let Some(row) = rows.next_row() {
         copied.push(copy_row(alloc, row)?)?;
     }
     Ok(copied)
@@ -63,26 +66,24 @@ impl TableRows {
     }
 }
 
-impl Store {
-    // A copy of what the changes leave of the rows of the table at a place.
-    fn rows_behind(
-        &self,
-        alloc: Global,
-        place: usize,
-        changes: &[RowChange],
-    ) -> Result<TableRows, Refusal>
-        requires { place < length self.now.rows }
-        ensures ok { IfOk result (λ behind. behind.rows ≡ rows_of (all_applied changes.now self.now.rows) place) }
-        ensures err { IfErr result (λ e. e ≡ Refusal.OutOfMemory) }
-    {
-        let mut behind = TableRows::new(copy_rows(alloc, self.rows(place))?);
-        for change in changes {
-            if changed_table(change) == place {
-                behind.change(alloc, change)?;
-            }
+// A copy of what the changes leave of the rows of the table at a place.
+fn rows_behind(
+    alloc: Global,
+    store: &StoredTables,
+    place: usize,
+    changes: &[RowChange],
+) -> Result<TableRows, Refusal>
+    requires { place < length store.now.rows }
+    ensures ok { IfOk result (λ behind. behind.rows ≡ rows_of (all_applied changes.now store.now.rows) place) }
+    ensures err { IfErr result (λ e. e ≡ Refusal.OutOfMemory) }
+{
+    let mut behind = TableRows::new(copy_rows(alloc, store.all(place))?);
+    for change in changes {
+        if changed_table(change) == place {
+            behind.change(alloc, change)?;
         }
-        Ok(behind)
     }
+    Ok(behind)
 }
 
 impl Contents {
@@ -94,6 +95,7 @@ impl Contents {
         changes: &[RowChange],
     ) -> Result<Items<Row>, Refusal>
         requires there { query.now.table < length self.now.store.rows }
+        requires few { length (rows_of self.now.store.rows query.now.table) ≤ 2 ^ 60 }
         requires summed { is_aggregated query.now ≡ true → length (rows_of (all_applied changes.now self.now.store.rows) query.now.table) ≤ 2 ^ 60
             → CanBeSummed (rows_of (all_applied changes.now self.now.store.rows) query.now.table) }
         ensures ok { IfOk result (IsAnswer query.now (rows_of (all_applied changes.now self.now.store.rows) query.now.table)) }
@@ -101,9 +103,9 @@ impl Contents {
     {
         let place = query.table;
         if !changes_any(place, changes) {
-            return select_local(alloc, query, self.store.rows(place));
+            return self.store.select(alloc, query);
         }
-        let behind = self.store.rows_behind(alloc, place, changes)?;
+        let behind = rows_behind(alloc, &self.store, place, changes)?;
         select_local(alloc, query, behind.rows())
     }
 
@@ -125,9 +127,9 @@ impl Contents {
         let place = written_table(write);
         let table = &schema.tables.as_slice()[place];
         if !changes_any(place, changes) {
-            return change_local(alloc, table, write, self.store.rows(place));
+            return self.store.changes(alloc, table, write);
         }
-        let behind = self.store.rows_behind(alloc, place, changes)?;
+        let behind = rows_behind(alloc, &self.store, place, changes)?;
         change_local(alloc, table, write, behind.rows())
     }
 }

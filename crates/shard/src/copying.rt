@@ -5,14 +5,14 @@ ghost use Rattle.keyrange.specs.Ranges.{is_before};
 ghost use Rattle.vt_value.specs.Values as values;
 ghost use Rattle.vschema.specs.WellFormed.{is_vschema};
 ghost use Rattle.vschema.specs.declared.changes.RowChange as row;
-ghost use Rattle.vschema.specs.Database.{all_applied, changed_table, changed_row, change_lies_in, restricted_changes};
+ghost use Rattle.vschema.specs.Database.{SameRows, all_applied, changed_table, changed_row, change_lies_in, restricted_changes};
 ghost use Rattle.journal.specs.Runs.{IsLegal};
 ghost use Rattle.journal.specs.Views.{IsLater, PassView};
 ghost use Rattle.shard_run.specs.declared.Entry.{Entry};
 ghost use Rattle.shard_run.specs.declared.Event.{Event};
-ghost use Rattle.shard_run.specs.Runs.{mode, is_serving, entries_on, stored_on, stored_changes};
+ghost use Rattle.shard_run.specs.Runs.{mode, is_serving, entries_on, stored_on, stored_changes, held_changes};
 ghost use Rattle.shard_run.specs.Copies.{position, table_at, is_last, has_copied_all, is_copied, change_is_copied};
-ghost use Rattle.shard.specs.Stores.{HasRoomFor};
+ghost use Rattle.shard_store.specs.Stores.{IsReadyFor};
 ghost use Rattle.shard.specs.Progress.{behind, last_row};
 ghost use Rattle.shard.specs.Shards.{slot_of, commit_of, MayFollow, HasLooked, HasAppended, seat_of};
 ghost use Rattle.shard.specs.Copying.{HasCopiedAll, IsNextTable, IsProgress, IsEntryFor, IsCopyFor, IsNextCopy, is_reached};
@@ -28,6 +28,7 @@ use crate::store::changed_table;
 use crate::world::{ShardLaw, World};
 use journal::{Naming, Pass};
 use shard_run::{Copied, Entry, Event, Follow, Mode};
+use shard_store::{KeyedChange, StoredTables};
 use std::alloc::Global;
 use vschema::{Place, RowChange, VSchema};
 use vt_value::{Items, Refusal, Row, copy_row};
@@ -178,22 +179,37 @@ fn added(alloc: Global, table: usize, rows: &[Row]) -> Result<Vec<RowChange>, Re
     Ok(changes)
 }
 
-// A Copy for which all memory is made: its entry, its rows once more as changes, and the step that it is.
+// A Copy for which all memory is made: its entry, its rows once more by keys, and the step that it is.
 #[derive(Drop)]
 struct PreparedCopy {
     entry: Entry,
-    changes: Vec<RowChange>,
+    changes: Vec<KeyedChange>,
     step: Step,
+}
+
+// The rows as additions by keys, with room for them in the store.
+fn prepare_rows(
+    alloc: Global,
+    store: &mut StoredTables,
+    table: usize,
+    rows: &[Row],
+) -> Result<Vec<KeyedChange>, Refusal>
+    requires { table < length store.old.rows }
+    ensures ready { IfOk result (λ keyed. IsReadyFor store.new (map (row.RowChange.Added table) rows.now) keyed.items) }
+    ensures rows { store.new.rows ≡ store.old.rows }
+    ensures err { IfErr result (λ e. e ≡ Refusal.OutOfMemory) }
+{
+    let changes = added(alloc, table, rows)?;
+    store.prepare(alloc, changes.as_slice())
 }
 
 impl Contents {
     // Makes all memory of a Copy; what the shard holds stays as it is.
     fn prepare_copy(&mut self, alloc: Global, taken: Copied) -> Result<PreparedCopy, Refusal>
         requires { taken.table < length self.old.store.rows }
-        ensures changes { IfOk result (λ p. p.changes.items ≡ map (row.RowChange.Added taken.table) taken.rows) }
         ensures entry { IfOk result (λ p. p.entry ≡ record { shard = self.old.shard; event = Event.Copy taken }) }
         ensures step { IfOk result (λ p. p.step ≡ Step.Copied taken.source taken.table taken.place (is_last taken) (last_row taken.rows)) }
-        ensures room { IfOk result (λ p. HasRoomFor self.new.store p.changes.items) }
+        ensures ready { IfOk result (λ p. IsReadyFor self.new.store (held_changes p.entry.event) p.changes.items) }
         ensures one_step { OnOk result (vec_len self.new.steps < vec_capacity self.new.steps) }
         ensures err { IfErr result (λ e. e ≡ Refusal.OutOfMemory) }
         ensures shard { self.new.shard ≡ self.old.shard }
@@ -203,8 +219,7 @@ impl Contents {
         ensures steps { self.new.steps.items ≡ self.old.steps.items }
         ensures same_limits { self.new.limits ≡ self.old.limits }
     {
-        let changes = added(alloc, taken.table, taken.rows.as_slice())?;
-        self.store.reserve_all(changes.as_slice())?;
+        let changes = prepare_rows(alloc, &mut self.store, taken.table, taken.rows.as_slice())?;
         self.steps.reserve(1)?;
         let step = Step::Copied {
             source: taken.source,
@@ -224,9 +239,9 @@ impl Contents {
 
     // Takes over a Copy for which memory was made. Takes no memory.
     fn take_copy(&mut self, prepared: PreparedCopy)
-        requires room { HasRoomFor self.old.store prepared.changes.items }
+        requires ready { IsReadyFor self.old.store (held_changes prepared.entry.event) prepared.changes.items }
         requires one_step { vec_len self.old.steps < vec_capacity self.old.steps }
-        ensures rows { self.new.store.rows ≡ all_applied prepared.changes.items self.old.store.rows }
+        ensures rows { SameRows self.new.store.rows (all_applied (held_changes prepared.entry.event) self.old.store.rows) }
         ensures stored { self.new.stored ≡ self.old.stored }
         ensures steps { self.new.steps.items ≡ self.old.steps.items ++ prepared.step ∷ [] }
         ensures shard { self.new.shard ≡ self.old.shard }
@@ -434,7 +449,7 @@ impl<W: World, J: Naming> ShardState<W, J> {
         ensures err { IfErr result (λ e. e ≡ Refusal.OutOfMemory) }
     {
         let table = &schema.tables.as_slice()[next.table];
-        let rows = self.contents.store.rows(next.table);
+        let rows = self.contents.store.all(next.table);
         let first = first_wanted(alloc, place, table, next.after.as_ref(), rows)?;
         Ok(Copied {
             source: self.slot(),

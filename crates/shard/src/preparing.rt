@@ -3,14 +3,16 @@ ghost use Rattle.std.specs.Prelude.{◌≡◌, ◌<◌, ◌≤◌, ◌^◌, ◌+
 ghost use Rattle.std.specs.List.{AllByRecursion};
 ghost use Rattle.vschema.specs.Database.{changed_table};
 ghost use Rattle.shard_run.specs.Openings.{row_count};
-ghost use Rattle.shard.specs.Stores.{HasRoomFor};
+ghost use Rattle.shard_run.specs.Runs.{held_changes};
+ghost use Rattle.shard_store.specs.Stores.{IsReadyFor};
 ghost use Rattle.shard.specs.Transactions.{is_added, is_removed, has_room_for, entry_of, IsAllUnprepared};
 
 use crate::contents::{Author, Contents, Prepared};
-use crate::copies::{copy_changes, copy_shard};
+use crate::copies::copy_shard;
 use crate::limits::MOST_ENTRIES;
 use crate::pending::Pending;
 use shard_run::{Commit, Entry, Event};
+use shard_store::KeyedChange;
 use std::alloc::Global;
 use std::mem;
 use vschema::RowChange;
@@ -76,11 +78,14 @@ impl Contents {
         entries < MOST_ENTRIES && (self.stored.len() as u64) < self.limits.stored && rows <= most
     }
 
-    // The changes once more, with room for them in the store and for an entry.
-    fn make_room(&mut self, alloc: Global, changes: &[RowChange]) -> Result<Vec<RowChange>, Refusal>
+    // The changes once more by keys, with room for them in the store and for an entry.
+    fn make_room(
+        &mut self,
+        alloc: Global,
+        changes: &[RowChange],
+    ) -> Result<Vec<KeyedChange>, Refusal>
         requires { AllByRecursion (λ c. changed_table c < length self.old.store.rows) changes.now }
-        ensures copied { IfOk result (λ copied. copied.items ≡ changes.now) }
-        ensures room { OnOk result (HasRoomFor self.new.store changes.now) }
+        ensures ready { IfOk result (λ keyed. IsReadyFor self.new.store changes.now keyed.items) }
         ensures one_more { OnOk result (vec_len self.new.stored < vec_capacity self.new.stored) }
         ensures err { IfErr result (λ e. e ≡ Refusal.OutOfMemory) }
         ensures shard { self.new.shard ≡ self.old.shard }
@@ -90,9 +95,8 @@ impl Contents {
         ensures steps { self.new.steps.items ≡ self.old.steps.items }
         ensures same_limits { self.new.limits ≡ self.old.limits }
     {
-        self.store.reserve_all(changes)?;
         self.stored.reserve(1)?;
-        copy_changes(alloc, changes)
+        self.store.prepare(alloc, changes)
     }
 
     /// Makes all memory of a transaction's commit, once the shard has so many entries, and takes over its writes and changes. It refuses
@@ -107,9 +111,9 @@ impl Contents {
         requires there { AllByRecursion (λ c. changed_table c < length self.old.store.rows) tx.old.changes }
         requires within { row_count self.old.store.rows ≤ self.old.limits.rows }
         requires most { self.old.limits.rows ≤ 2 ^ 20 }
-        ensures changes { IfOk result (λ p. p.changes.items ≡ tx.old.changes) }
+        ensures changes { IfOk result (λ p. held_changes p.entry.event ≡ tx.old.changes) }
         ensures entry { IfOk result (λ p. p.entry ≡ entry_of self.old.shard author.session author.number tx.old.writes tx.old.changes) }
-        ensures room { IfOk result (λ p. HasRoomFor self.new.store p.changes.items) }
+        ensures ready { IfOk result (λ p. IsReadyFor self.new.store (held_changes p.entry.event) p.changes.items) }
         ensures one_more { OnOk result (vec_len self.new.stored < vec_capacity self.new.stored) }
         ensures limits { OnOk result (has_room_for self.old.limits entries (vec_len self.old.stored) (row_count self.old.store.rows) tx.old.changes ≡ true) }
         ensures err { IfErr result (IsAllUnprepared self.old.limits entries (vec_len self.old.stored) (row_count self.old.store.rows) tx.old.changes) }
@@ -124,7 +128,8 @@ impl Contents {
         if !self.has_room_for(entries, tx.changes.as_slice()) {
             return Err(Refusal::ShardFull);
         }
-        let copied = self.make_room(alloc, tx.changes.as_slice())?;
+        let count = tx.changes.len() as u64;
+        let keyed = self.make_room(alloc, tx.changes.as_slice())?;
         let shard = match copy_shard(alloc, &self.shard) {
             Ok(shard) => shard,
             Err(e) => return Err(e),
@@ -135,7 +140,8 @@ impl Contents {
         };
         Ok(Prepared {
             entry,
-            changes: copied,
+            changes: keyed,
+            count,
         })
     }
 }

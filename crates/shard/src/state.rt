@@ -13,11 +13,10 @@ ghost use Rattle.shard.specs.Shards.{beyond, is_plain, IsAfter, MayFollow, slot_
 use crate::contents::{Author, Contents};
 use crate::forward::Step;
 use crate::limits::{Limits, MOST_ENTRIES};
-use crate::store::Store;
 use crate::world::{ShardLaw, World};
 use journal::{Naming, Pass, ShardSeat};
 use shard_run::{Entry, Event, Follow, Mode, Shard};
-use sql_eval::select_local;
+use shard_store::StoredTables;
 use std::alloc::Global;
 use std::marker::Model;
 use std::mem::replace;
@@ -137,7 +136,7 @@ impl<W: World, J: Naming> ShardState<W, J> {
         alloc: Global,
         seat: ShardSeat<ShardLaw<W>, J>,
         shard: Shard,
-        store: Store,
+        store: StoredTables,
         first_mode: Mode,
         limits: Limits,
     ) -> ShardState<W, J>
@@ -278,7 +277,7 @@ impl<W: World, J: Naming> ShardState<W, J> {
         ensures pass { pass.new ≡ record pass.old { seen = self.new.seen; looks = pass.old.looks ++ (self.old.shard.slot, length self.new.seen) ∷ [] } }
     {
         let entries = self.seat.look(pass);
-        let rows = select_local(alloc, query, self.contents.store.rows(query.table))?;
+        let rows = self.contents.store.select(alloc, query)?;
         Ok(Reading { rows, entries })
     }
 

@@ -137,7 +137,8 @@ pub(crate) fn state<J: Naming>(
     requires { seat ≡ record { seen = []; slot = 0 } }
 {
     let mut store = Store::new(alloc);
-    store.push_table(Vec::new(alloc))?;
+    let schema = schema(alloc)?;
+    store.push_table(alloc, &schema.tables.as_slice()[0])?;
     let limits = Limits { rows: 2, stored: 4 };
     Ok(ShardState::new(alloc, seat, shard(alloc), store, Mode::Serving, limits))
 }

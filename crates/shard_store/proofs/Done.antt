@@ -1,5 +1,5 @@
 -- Databases with the same rows in another order.
-use Rattle.std.proofs.Common.{◌≡◌, List, [], ◌∷◌, IsPermutation, subst}
+use Rattle.std.proofs.Common.{[], ◌∷◌}
 use Rattle.std.proofs.lemmas.List.Sorted.{IsPermutation-refl, IsPermutation-trans}
 use Rattle.vschema.specs.Database.{Database, SameRows}
 

@@ -1,8 +1,8 @@
 -- What is read of the rows that a condition keeps, or of those that have a key, is what is read of all rows.
 use Rattle.std.proofs.Common.{◌≡◌, ℕ, zero, suc, ◌+◌, ◌<◌, ◌≤◌, Bool, true, false, cond, ◌||◌, List, [], ◌∷◌, ◌++◌, length, get_or, map, filter, flat_map, take, Result, Ok, Err, Option, Some, None, refl, sym, ap, ◌∙◌, subst, arith}
 use Rattle.std.specs.Prelude.{sum_by}
-use Rattle.std.specs.List.{AllByRecursion, list_any}
-use Rattle.std.proofs.lemmas.Bool.{false≢true, true≢false}
+use Rattle.std.specs.List.{list_any}
+use Rattle.std.proofs.lemmas.Bool.{false≢true}
 use Rattle.std.proofs.lemmas.List.Sums.{sum_by-cons}
 use Rattle.std.specs.Ordering.{is_eq, int_cmp, nat_cmp}
 use Rattle.std.specs.Cmp.Lexicographic.{slice_cmp}
@@ -18,7 +18,6 @@ use Rattle.sql_tree.specs.declared.Operand.TheVariants.{Column, Literal}
 use Rattle.vt_value.specs.Values.{Row, value_at, value_cmp, is_true, all_true, truth_and, truth_of, fits_order, compare}
 use Rattle.vt_value.specs.declared.value.Truth.{Truth}
 use Rattle.vt_value.specs.declared.value.Truth.TheVariants.{True, False, Unknown}
-use Rattle.vt_value.specs.declared.refusal.Refusal.{Refusal}
 use Rattle.vt_value.specs.declared.refusal.Refusal.TheVariants.{DuplicateKey}
 use Rattle.sql_tree.specs.declared.Assignment.{Assignment}
 use Rattle.sql_tree.specs.declared.Condition.{Condition}

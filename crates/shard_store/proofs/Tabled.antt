@@ -1,17 +1,16 @@
 -- What a change of one table of a store does to the store: to its rows, the places of its key columns and its room.
-use Rattle.std.proofs.Common.{IsTrue, count_by, ◌≡◌, ℕ, zero, suc, ◌+◌, ◌<◌, ◌≤◌, Bool, true, false, cond, ◌==◌, List, [], ◌∷◌, ◌++◌, length, get_or, set, map, IsPermutation, refl, sym, ap, ◌∙◌, subst, arith}
+use Rattle.std.proofs.Common.{IsTrue, count_by, ◌≡◌, ℕ, zero, suc, ◌+◌, ◌<◌, ◌≤◌, cond, List, [], ◌∷◌, length, get_or, set, map, IsPermutation, refl, sym, ap, ◌∙◌, subst, arith}
 use Rattle.std.specs.List.{AllByRecursion}
 use Rattle.std.proofs.Math.Seq.{map-set_same}
-use Rattle.std.proofs.lemmas.List.{map-set, get_or-map, length-map}
+use Rattle.std.proofs.lemmas.List.{get_or-map, length-map}
 use Rattle.std.proofs.lemmas.List.Sorted.{IsPermutation-refl}
 use Rattle.std.proofs.lemmas.List.Sums.{sum_by-cons}
 use Rattle.vt_value.specs.Values.{Row}
-use Rattle.vschema.specs.declared.changes.RowChange.{RowChange}
 use Rattle.vschema.specs.Database.{Database, SameRows, applied, all_applied}
 use Rattle.shard_store.specs.declared.key.KeyedChange.{KeyedChange}
 use Rattle.shard_store.specs.declared.key.KeyedChange.TheVariants.{Put, Take}
 use Rattle.shard_store.specs.Tables.{key_at}
-use Rattle.shard_store.specs.Stores.{RowsView, StoreView, places_of, room_of, change_in, changes_in, HasItsKey, puts_into, HasRoomFor}
+use Rattle.shard_store.specs.Stores.{RowsView, StoreView, room_of, change_in, changes_in, HasItsKey, puts_into, HasRoomFor}
 use Rattle.shard_store.proofs.Bags.{applied-same}
 use Rattle.shard_store.proofs.Done.{SameRows-refl, SameRows-trans}
 

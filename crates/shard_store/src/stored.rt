@@ -1,4 +1,4 @@
-ghost use Rattle.std.specs.Prelude.{◌≡◌, ◌==◌, ◌+◌, ◌<◌, ◌≤◌, ◌^◌, if◌then◌else◌, ◌++◌, ◌∷◌, [], ℕ, IsTrue, OnOk, OnErr, IfOk, IfErr, length, slice_set, count_by, IsPermutation, sum_by};
+ghost use Rattle.std.specs.Prelude.{◌≡◌, ◌==◌, ◌+◌, ◌<◌, ◌≤◌, ◌^◌, if◌then◌else◌, ◌++◌, ◌∷◌, [], ℕ, IsTrue, OnOk, OnErr, IfOk, IfErr, length, slice_set, count_by, IsPermutation, sum_by, nat_le};
 ghost use Rattle.std.specs.List.{AllByRecursion};
 ghost use Rattle.vschema.specs.declared.changes.RowChange.TheVariants.{Added, Removed};
 ghost use Rattle.vschema.specs.Database.{SameRows, rows_of, without, changed_table, applied, all_applied};
@@ -75,6 +75,21 @@ impl StoredTables {
             count += table.row_count();
         }
         count
+    }
+
+    /// Whether all tables together have at most so many rows.
+    pub fn has_at_most(&self, most: u64) -> bool
+        ensures { result ≡ nat_le (sum_by length self.now.rows) most }
+    {
+        let mut left = most;
+        for table in self.tables.as_slice() {
+            let rows = table.row_count() as u64;
+            if rows > left {
+                return false;
+            }
+            left -= rows;
+        }
+        true
     }
 
     // The key of a row of the table at a place.

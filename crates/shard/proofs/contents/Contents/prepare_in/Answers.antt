@@ -5,10 +5,10 @@ use Rattle.shard_run.specs.Openings.{row_count}
 use Rattle.shard.specs.Transactions.{PendingView, has_room_for, no_memory, full}
 use Rattle.shard.proofs.contents.Contents.prepare_in.Goals as goal
 
-pub returns-in_err-copied-clause-err : goal.returns-in_err-copied-clause-err
-returns-in_err-copied-clause-err c =
+pub returns-in_err-keyed-clause-err : goal.returns-in_err-keyed-clause-err
+returns-in_err-keyed-clause-err c =
     let p = err_from_is_err_and c.from_residual.result c.from_residual.ensures.1 in
-    rw (p.1, p.2, c.in_err-copied.ensures.err) no_memory
+    rw (p.1, p.2, c.in_err-keyed.ensures.err) no_memory
 
 pub returns-in-Err-clause-err : goal.returns-in-Err-clause-err
 returns-in-Err-clause-err c = rw c.in-Err.ensures.err no_memory

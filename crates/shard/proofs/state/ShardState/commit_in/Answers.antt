@@ -1,8 +1,9 @@
+use denote.Param.Send.{sendable}
 use Rattle.std.proofs.Common.{Some, ◌≡◌, ℕ, List, [], ◌∷◌, ◌++◌, sym, ap, subst, ◌∙◌, arith}
 use Rattle.std.proofs.lemmas.Result.{err_from_is_err_and}
 use Rattle.journal.specs.Runs.{NumbersBelow}
 use Rattle.vschema.specs.declared.changes.RowChange.{RowChange}
-use Rattle.vschema.specs.Database.{all_applied}
+use Rattle.vschema.specs.Database.{Database, SameRows, all_applied}
 use Rattle.shard_run.specs.declared.Entry.{Entry}
 use Rattle.shard_run.specs.Runs.{mode, is_serving}
 use Rattle.shard.specs.declared.limits.Limits.{Limits}
@@ -10,7 +11,11 @@ use Rattle.shard.specs.Shards.{commit_of, seat_of}
 use Rattle.shard.specs.Transactions as t
 use Rattle.shard.proofs.States.{same_contents, names_none, lives_if}
 use Rattle.shard.proofs.StepsIn as steps
+use Rattle.shard_run.proofs.Sent.{entry_send}
 use Rattle.shard.proofs.state.ShardState.commit_in.Goals as goal
+
+pub append-requires-send-L-Entry : goal.append-requires-send-L-Entry
+append-requires-send-L-Entry g c κs within = search (entry_send, sendable)
 
 pub returns-in_err-entries-clause-refused : goal.returns-in_err-entries-clause-refused
 returns-in_err-entries-clause-refused g c =
@@ -63,7 +68,8 @@ left g c =
     (seat_of c.args.self.now) c.args.pass.now c.check.new.pass c.args.tx.now l.seen l.pass c.requires.tied l.clear c.unwrap.result c.statements.result mine low
     a.seen.0 a.seen.1 c.args.self.now.seen l.seen.seat c.in_ok-prepared.prepared.entry ok.entry c.statements.ensures c.append.new.self c.append.new.pass c.take.new.self
     a.seen.2 a.seat a.pass a.legal c.in_ok-entries.entries l.entries ok.limits (t.shard ∙ ok.shard)
-    (t.rows ∙ ap (λ (x : List RowChange). all_applied x c.prepare_in.new.self.store.rows) ok.changes ∙ ap (all_applied c.args.tx.now.changes) ok.rows)
+    (subst (λ (db : Database). SameRows c.take.new.self.store.rows (all_applied c.args.tx.now.changes db)) ok.rows
+    (subst (λ (x : List RowChange). SameRows c.take.new.self.store.rows (all_applied x c.prepare_in.new.self.store.rows)) ok.changes t.rows))
     (t.stored ∙ ap (λ (x : List Entry). x ++ c.in_ok-prepared.prepared.entry ∷ []) ok.stored) (ap (λ v. v.items) t.steps ∙ ok.steps) (t.mode ∙ ok.mode) (t.limits ∙ ok.same_limits)
 
 pub invariant_of-self : goal.invariant_of-self

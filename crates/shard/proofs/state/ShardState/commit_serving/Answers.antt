@@ -1,3 +1,4 @@
+use denote.Param.Send.{sendable}
 use Rattle.std.proofs.Common.{Some, Ok, Option, ◌≡◌, ℕ, List, [], ◌∷◌, ◌++◌, length, sym, ap, subst, ◌∙◌, refl, arith}
 use Rattle.std.proofs.lemmas.Result.{err_from_is_err_and}
 use Rattle.vschema.specs.declared.schema.VSchema.{VSchema}
@@ -12,14 +13,18 @@ use Rattle.shard.specs.declared.contents.Contents.{Contents}
 use Rattle.shard.specs.declared.limits.Limits.{Limits}
 use Rattle.shard_run.specs.declared.Shard.{Shard}
 use Rattle.shard_run.specs.Legal.{IsOnItsSlot}
-use Rattle.shard_run.specs.Runs.{Opening, Run, mode, is_serving}
+use Rattle.shard_run.specs.Runs.{Opening, Run, mode, is_serving, held_changes}
 use Rattle.vschema.specs.declared.changes.Write.{Write}
 use Rattle.vschema.specs.declared.changes.RowChange.{RowChange}
 use Rattle.journal.specs.Runs.{NumbersBelow}
-use Rattle.vschema.specs.Database.{all_applied}
+use Rattle.vschema.specs.Database.{Database, SameRows, all_applied}
 use Rattle.sql_eval.specs.Writes.{changes_of}
 use Rattle.shard.proofs.Steps as steps
+use Rattle.shard_run.proofs.Sent.{entry_send}
 use Rattle.shard.proofs.state.ShardState.commit_serving.Goals as goal
+
+pub append-requires-send-L-Entry : goal.append-requires-send-L-Entry
+append-requires-send-L-Entry g c κs within = search (entry_send, sendable)
 
 -- what the state's view says of its fields
 inside : (o : Opening) (seen : Run) (s : Shard) (v : ShardView) → record { seen = seen; shard = s } ≡ v → mode o v.seen v.shard.slot ≡ Serving
@@ -96,12 +101,12 @@ append-requires-clause-lawful g c κs within run next =
     let l = c.look-entries.ensures in
     let ok = c.in_ok-prepared.ensures in
     let o = g.W.World.opening in
-    let is = given o c.self.inside.contents c.args.pass.now c.args.write c.in_ok-prepared.prepared.changes.items c.unwrap.result c.args.schema.now
+    let is = given o c.self.inside.contents c.args.pass.now c.args.write (held_changes c.in_ok-prepared.prepared.entry.event) c.unwrap.result c.args.schema.now
     c.session.result c.args.self.now _ c.requires.schema ok.changes c.self.view_is refl c.requires.placed
     c.session.ensures.number c.unwrap.ensures in
     let low = subst (λ (n : ℕ). NumbersBelow commit_of c.unwrap.result n c.args.pass.now.seen) (sym c.statements.ensures) (c.requires.above c.unwrap.result is.mine) in
     steps.lawful o g.W.World.limits c.self.inside.seat c.look-entries.new.self c.self.inside.contents c.args.pass.now
-    c.look-entries.new.pass c.self.invariant.0 (inside g.W.World.opening _ _ _ c.self.view_is c.requires.serving) l.seen l.seat l.pass c.args.write c.in_ok-prepared.prepared.changes.items c.unwrap.result c.statements.result
+    c.look-entries.new.pass c.self.invariant.0 (inside g.W.World.opening _ _ _ c.self.view_is c.requires.serving) l.seen l.seat l.pass c.args.write (held_changes c.in_ok-prepared.prepared.entry.event) c.unwrap.result c.statements.result
     c.in_ok-prepared.prepared.entry ok.entry is.changed c.requires.typed is.placed is.mine run next low
 
 left : (g : _) (c : goal.After-take g)
@@ -113,14 +118,15 @@ left g c =
     let a = c.append.ensures in
     let t = c.take.ensures in
     let o = g.W.World.opening in
-    let is = given o c.self.inside.contents c.args.pass.now c.args.write c.in_ok-prepared.prepared.changes.items c.unwrap.result c.args.schema.now
+    let is = given o c.self.inside.contents c.args.pass.now c.args.write (held_changes c.in_ok-prepared.prepared.entry.event) c.unwrap.result c.args.schema.now
     c.session.result c.args.self.now _ c.requires.schema ok.changes c.self.view_is refl c.requires.placed
     c.session.ensures.number c.unwrap.ensures in
     steps.left o g.W.World.limits c.self.inside.seat c.look-entries.new.self c.self.inside.contents c.args.pass.now
-    c.look-entries.new.pass c.self.invariant.0 (inside g.W.World.opening _ _ _ c.self.view_is c.requires.serving) l.seen l.seat l.pass c.args.write c.in_ok-prepared.prepared.changes.items c.unwrap.result c.statements.result
+    c.look-entries.new.pass c.self.invariant.0 (inside g.W.World.opening _ _ _ c.self.view_is c.requires.serving) l.seen l.seat l.pass c.args.write (held_changes c.in_ok-prepared.prepared.entry.event) c.unwrap.result c.statements.result
     c.in_ok-prepared.prepared.entry ok.entry is.changed c.requires.typed is.placed is.mine a.seen.0 a.seen.1 c.append.new.self c.append.new.pass
-    c.take.new.self c.take.result a.seen.2 a.seat a.pass c.statements.ensures a.legal c.look-entries.result l.count ok.limits t.count
-    (t.shard ∙ ok.shard) (t.rows ∙ ap (all_applied c.in_ok-prepared.prepared.changes.items) ok.rows)
+    c.take.new.self c.take.result a.seen.2 a.seat a.pass c.statements.ensures a.legal c.look-entries.result l.count ok.limits (t.count ∙ ok.count)
+    (t.shard ∙ ok.shard)
+    (subst (λ (db : Database). SameRows c.take.new.self.store.rows (all_applied (held_changes c.in_ok-prepared.prepared.entry.event) db)) ok.rows t.rows)
     (t.stored ∙ ap (λ (l : List Entry). l ++ c.in_ok-prepared.prepared.entry ∷ []) ok.stored) (ap (λ v. v.items) t.steps ∙ ok.steps) (t.mode ∙ ok.mode) (t.limits ∙ ok.same_limits)
 
 pub invariant_of-self-2 : goal.invariant_of-self-2

@@ -1,4 +1,4 @@
-use Rattle.std.proofs.Common.{◌≡◌, Bool, List, [], ◌∷◌, ◌++◌, sym, ap, ◌∙◌}
+use Rattle.std.proofs.Common.{Bool, List, [], ◌∷◌, ◌++◌, sym, ap, ◌∙◌}
 use Rattle.vschema.specs.declared.changes.RowChange.{RowChange}
 use Rattle.shard_run.specs.Copies.{change_is_copied}
 use Rattle.shard.proofs.CopySteps.{kept_next, dropped_next}

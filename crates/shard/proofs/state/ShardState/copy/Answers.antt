@@ -1,21 +1,24 @@
-use Rattle.std.proofs.Common.{◌<◌, List, [], ◌∷◌, ◌++◌, length, map, inl, inr, refl, sym, ap, subst, ◌∙◌, arith}
+use denote.Param.Send.{sendable}
+use Rattle.std.proofs.Common.{List, [], ◌∷◌, ◌++◌, map, inr, refl, sym, ap, subst, ◌∙◌, arith}
 use Rattle.vschema.specs.declared.changes.RowChange.{RowChange}
-use Rattle.vschema.specs.Database.{Database, all_applied}
+use Rattle.vschema.specs.declared.changes.RowChange.TheVariants.{Added}
+use Rattle.vschema.specs.Database.{Database, SameRows, all_applied}
 use Rattle.journal.specs.Views.{SeatView}
 use Rattle.shard_run.specs.declared.Shard.{Shard}
 use Rattle.shard_run.specs.declared.Entry.{Entry}
 use Rattle.shard_run.specs.declared.Event.TheVariants.{Copy}
-use Rattle.shard_run.specs.Copies.{is_last}
-use Rattle.shard_run.specs.Runs.{mode}
+use Rattle.shard_run.specs.Runs.{mode, held_changes}
 use Rattle.shard.specs.declared.forward.Step.{Step}
-use Rattle.shard.specs.declared.forward.Step.TheVariants.{Copied}
-use Rattle.shard.specs.Progress.{last_row}
 use Rattle.shard.specs.Shards.{MayFollow, Names}
 use Rattle.shard.proofs.Looks.{following_lives}
 use Rattle.shard.proofs.States.{looked, same_contents, names_none}
 use Rattle.shard.proofs.Follows as f
 use Rattle.shard.proofs.CopySteps as k
+use Rattle.shard_run.proofs.Sent.{entry_send}
 use Rattle.shard.proofs.state.ShardState.copy.Goals as goal
+
+pub append-requires-send-L-Entry : goal.append-requires-send-L-Entry
+append-requires-send-L-Entry g c κs within = search (entry_send, sendable)
 
 pub invariant_of-self : goal.invariant_of-self
 invariant_of-self g c =
@@ -81,8 +84,8 @@ invariant_of-self-2 g c =
     let shard_is = t.shard ∙ ok.shard in (
       k.after_copy o most seat had is follows a.seen.0 a.seen.1.alone taken c.append.new.self c.take_copy.new.self ends
           (ap (λ (s : SeatView Entry). s.slot) a.seat) shard_is
-          (t.rows ∙ ap (λ (db : Database). all_applied c.in_ok-prepared.prepared.changes.items db) ok.rows
-          ∙ ap (λ (l : List RowChange). all_applied l had.store.rows) ok.changes)
+          (subst (λ (db : Database). SameRows c.take_copy.new.self.store.rows (all_applied (map (Added taken.table) taken.rows) db)) ok.rows
+          (subst (λ (l : List RowChange). SameRows c.take_copy.new.self.store.rows (all_applied l c.prepare_copy.new.self.store.rows)) (ap (λ (e : Entry). held_changes e.event) ok.entry) t.rows))
           (t.mode ∙ ok.mode) (ap (λ v. v.items) t.stored ∙ ok.stored)
           (t.steps ∙ ap (λ (l : List Step). l ++ c.in_ok-prepared.prepared.step ∷ []) ok.steps
           ∙ ap (λ (s : Step). had.steps.items ++ s ∷ []) ok.step)

@@ -1,6 +1,5 @@
-use Rattle.std.proofs.Common.{◌≡◌, ℕ, sym, ap, subst, ◌∙◌}
+use Rattle.std.proofs.Common.{ℕ, sym, ap, ◌∙◌}
 use Rattle.std.specs.Prelude.{nat_le}
-use Rattle.shard_run.specs.declared.Mode.TheVariants.{Retired}
 use Rattle.shard_run.specs.Runs.{mode, held}
 use Rattle.shard_run.specs.Openings.{row_count}
 use Rattle.shard.specs.declared.limits.Limits.{Limits}

@@ -1,7 +1,8 @@
+use denote.Param.Send.{sendable}
 use Rattle.std.proofs.Common.{◌<◌, List, [], ◌∷◌, ◌++◌, length, inl, inr, refl, sym, ap, subst, ◌∙◌, arith}
 use Rattle.std.specs.List.{AllByRecursion}
 use Rattle.vschema.specs.declared.changes.RowChange.{RowChange}
-use Rattle.vschema.specs.Database.{changed_table, all_applied}
+use Rattle.vschema.specs.Database.{SameRows, Database, changed_table, all_applied}
 use Rattle.journal.specs.Views.{SeatView}
 use Rattle.shard_run.specs.declared.Shard.{Shard}
 use Rattle.shard_run.specs.declared.Entry.{Entry}
@@ -14,8 +15,12 @@ use Rattle.shard.specs.Shards.{MayFollow, Names}
 use Rattle.shard.proofs.Looks.{following_lives}
 use Rattle.shard.proofs.States.{looked, same_contents, names_none}
 use Rattle.shard.proofs.Follows as f
+use Rattle.shard_run.proofs.Sent.{entry_send}
 use Rattle.shard.proofs.state.ShardState.follow.Goals as goal
 use Rattle.shard.proofs.state.ShardState.follow.Goals.{then-entries-ge-MOST_ENTRIES-via-then-entries-ge-MOST_ENTRIES, then-entries-ge-MOST_ENTRIES-via-else-entries-ge-MOST_ENTRIES+then-len-self}
+
+pub append-requires-send-L-Entry : goal.append-requires-send-L-Entry
+append-requires-send-L-Entry g c κs within = search (entry_send, sendable)
 
 pub invariant_of-self : goal.invariant_of-self
 invariant_of-self g c =
@@ -71,8 +76,8 @@ invariant_of-self-2 g c =
     let changes = ok.changes in (
       f.after_follow o most seat had is follows a.seen.0 a.seen.1.alone c.args.taken c.append.new.self c.take_step.new.self ends
           (ap (λ (s : SeatView Entry). s.slot) a.seat) shard_is
-          (t.rows ∙ ap (λ (db : Rattle.vschema.specs.Database.Database). all_applied c.in_ok-step.step.changes.items db) ok.rows
-          ∙ ap (λ (l : List RowChange). all_applied l had.store.rows) changes)
+          (subst (λ (db : Database). SameRows c.take_step.new.self.store.rows (all_applied c.args.taken.changes db)) ok.rows
+          (subst (λ (l : List RowChange). SameRows c.take_step.new.self.store.rows (all_applied l c.prepare_follow.new.self.store.rows)) changes t.rows))
           (t.mode ∙ ok.mode)
           (t.stored ∙ ap (λ (l : List Entry). l ++ c.in_ok-step.step.entry ∷ []) ok.stored ∙ ap (λ (e : Entry). had.stored.items ++ e ∷ []) ok.entry)
           (t.steps ∙ ap (λ (l : List Step). l ++ Followed c.args.taken.source c.args.taken.place ∷ []) ok.steps)

@@ -1,4 +1,4 @@
-use Rattle.std.proofs.Common.{◌≡◌, ◌+◌, ◌++◌, ◌||◌, ◌∷◌, [], None, Some, Option, List, take, sym, ap, subst, ◌∙◌}
+use Rattle.std.proofs.Common.{◌≡◌, ◌+◌, ◌++◌, ◌||◌, ◌∷◌, [], None, Option, take, sym, ap, ◌∙◌}
 use Rattle.std.specs.Prelude.{option_copied}
 use Rattle.std.proofs.lemmas.List.{take_more}
 use Rattle.vt_value.specs.Values.{Row}
@@ -7,7 +7,6 @@ use Rattle.shard_law.specs.Law.{rows_copied}
 use Rattle.shard.specs.Progress.{last_row}
 use Rattle.shard.specs.Copying.{is_reached}
 use Rattle.shard.specs.declared.forward.Step.{Step}
-use Rattle.shard.specs.inner.Rowed.{row_of}
 use Rattle.shard.proofs.Legality.{legal_is}
 use Rattle.shard.proofs.Progress.{take_whole}
 use Rattle.shard.proofs.CopySteps.{later, row_last, row_last-push, row_told, copied_tells}

@@ -1,4 +1,4 @@
-use Rattle.std.proofs.Common.{◌≡◌, sym, ap, subst, ◌∙◌}
+use Rattle.std.proofs.Common.{sym, ap, ◌∙◌}
 use Rattle.shard_run.specs.Copies.{table_at}
 use Rattle.shard.specs.Copying.{is_reached}
 use Rattle.shard.proofs.CopySteps.{copied_as}

@@ -8,6 +8,7 @@ use Rattle.shard_run.specs.Runs.{stored_on}
 use Rattle.shard.specs.Shards.{seat_of}
 use Rattle.shard.specs.Transactions.{touched_with, PendingView}
 use Rattle.shard.specs.Transactions as t
+use Rattle.shard.proofs.HeldRows.{length-of_table}
 use Rattle.shard.proofs.LooksIn as l
 use Rattle.shard.proofs.state.ShardState.read_in.Goals as goal
 
@@ -33,6 +34,14 @@ select_behind-requires-clause-there g c =
     c.args.tx.now e.clear e.seen.legal in
     let there = c.requires.there in
     omega (arith, long, there)
+
+pub select_behind-requires-clause-few : goal.select_behind-requires-clause-few
+select_behind-requires-clause-few g c =
+    let e = c.in_ok-entries.ensures in
+    let few = l.few g.W.World.opening g.W.World.limits c.self.inside.seat c.self.inside.contents c.self.invariant.0 _ c.self.view_is c.args.self.now.shard e.shard
+    c.args.tx.now e.clear e.seen.legal in
+    let long = length-of_table c.self.inside.contents.store.rows c.args.query.now.table in
+    omega (arith, few, long)
 
 pub select_behind-requires-clause-summed : goal.select_behind-requires-clause-summed
 select_behind-requires-clause-summed g c aggregated few =

@@ -1,4 +1,4 @@
-use Rattle.std.proofs.Common.{◌≡◌, ◌∙◌, ◌++◌, ◌∷◌, [], List, IsPermutation, sym, ap, subst, is_some}
+use Rattle.std.proofs.Common.{◌≡◌, ◌++◌, ◌∷◌, [], List, IsPermutation, sym, ap, subst, is_some}
 use Rattle.std.specs.List.{list_any}
 use Rattle.vt_value.specs.Values.{Row}
 use Rattle.shard_store.specs.Slots.{rows_in, slot_at}

@@ -1,4 +1,4 @@
-use Rattle.std.proofs.Common.{◌≡◌, ◌∙◌, List, [], false, sym, ap, subst, refl}
+use Rattle.std.proofs.Common.{◌≡◌, List, [], false, sym, subst, refl}
 use Rattle.std.specs.Prelude.{IfOk}
 use Rattle.std.specs.List.{list_any}
 use Rattle.vt_value.specs.Values.{Row}

@@ -1,4 +1,4 @@
-use Rattle.std.proofs.Common.{◌≡◌, ℕ, ◌++◌, ◌∷◌, [], ◌==◌, ◌∙◌, List, cond, get_or, set, sym, ap, subst, arith, refl, eq-eqb}
+use Rattle.std.proofs.Common.{ℕ, ◌++◌, ◌∷◌, [], ◌==◌, ◌∙◌, List, cond, get_or, set, sym, ap, subst, arith, refl, eq-eqb}
 use Rattle.vt_value.specs.Values.{Row}
 use Rattle.vschema.specs.Database.{Database, SameRows}
 use Rattle.shard_store.specs.Tables.{key_at}

@@ -1,4 +1,4 @@
-use Rattle.std.proofs.Common.{◌≡◌, ◌<◌, ◌≤◌, ◌∙◌, ℕ, List, [], length, get_or, set, sym, ap, subst, arith}
+use Rattle.std.proofs.Common.{◌<◌, ◌≤◌, ◌∙◌, ℕ, List, [], length, get_or, set, sym, ap, subst, arith}
 use Rattle.std.proofs.lemmas.List.{length-map}
 use Rattle.vschema.specs.Database.{Database, SameRows, without}
 use Rattle.shard_store.specs.Tables.{key_at}

@@ -1,4 +1,4 @@
-use Rattle.std.proofs.Common.{◌≡◌, List, sym, subst}
+use Rattle.std.proofs.Common.{◌≡◌, sym, subst}
 use Rattle.std.specs.List.{list_any}
 use Rattle.vschema.specs.Database.{same_row}
 use Rattle.shard_store.specs.Slots.{rows_in}

@@ -4,7 +4,6 @@ use Rattle.std.specs.Prelude.{sum_by, nat_le}
 use Rattle.std.proofs.lemmas.Bool.{leb-true, le-leb}
 use Rattle.std.proofs.lemmas.List.Sums.{sum_by-cons}
 use Rattle.vt_value.specs.Values.{Row}
-use Rattle.shard_run.specs.Openings.{row_count}
 
 module _ {X : Type 0} (f : X → ℕ) where
   pub sum_next : (xs : List X) (i : ℕ) (x : X) → i < length xs → x ≡ get_or xs i x → sum_by f (take (i + 1) xs) ≡ sum_by f (take i xs) + f x
@@ -34,7 +33,7 @@ module _ {X : Type 0} (f : X → ℕ) where
       let rest = sum_front n xs in
       omega (arith, h, k, rest)
 
-pub rows_counted : {T : Type 0} (rows : T → List Row) (ts : List T) → row_count (map rows ts) ≡ sum_by (λ t. length (rows t)) ts
+pub rows_counted : {T : Type 0} (rows : T → List Row) (ts : List T) → sum_by length (map rows ts) ≡ sum_by (λ t. length (rows t)) ts
 rows_counted rows [] = refl
 rows_counted rows (t ∷ ts) =
     let h = sum_by-cons length (rows t) (map rows ts) in

@@ -1,6 +1,6 @@
 use Rattle.std.proofs.Common.{◌≡◌, ◌+◌, length, take}
 use Rattle.std.specs.Prelude.{sum_by}
-use Rattle.shard.proofs.store.Store.has_at_most.Given as goal
+use Rattle.shard_store.proofs.stored.StoredTables.has_at_most.Given as goal
 
 -- so many more rows may come behind the tables so far
 abbrev pub invariant-loop-table : goal.invariant-loop-table
