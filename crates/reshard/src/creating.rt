@@ -29,7 +29,7 @@ use shard::{Limits, Shard, ShardLaw, ShardState, Store, World};
 use shard_run::Mode;
 use std::alloc::Global;
 use std::sync::{Arc, Wait};
-use vschema::{Place, VSchema};
+use vschema::{Place, Table, VSchema};
 use vt_value::{Items, Refusal};
 
 // What a look at the shard of a slot and place shows.
@@ -221,14 +221,14 @@ fn own_of<W: World, J: Naming>(
     Ok(own)
 }
 
-// A store of so many empty tables.
-fn empty_store(alloc: Global, tables: usize) -> Result<Store, Refusal>
-    ensures ok { IfOk result (λ store. store.rows ≡ replicate tables []) }
+// A store of these tables, without rows.
+fn empty_store(alloc: Global, tables: &[Table]) -> Result<Store, Refusal>
+    ensures ok { IfOk result (λ store. store.rows ≡ replicate (length tables.now) []) }
     ensures err { IfErr result (λ e. e ≡ Refusal.OutOfMemory) }
 {
     let mut store = Store::new(alloc);
-    for made in 0..tables {
-        store.push_table(Vec::new(alloc))?;
+    for table in tables {
+        store.push_table(alloc, table)?;
     }
     Ok(store)
 }
@@ -247,7 +247,7 @@ fn open_shard<W: World, J: Naming>(
     alloc: Global,
     free: &mut Vec<ShardSeat<ShardLaw<W>, J>>,
     which: &mut shard_run::Shard,
-    tables: usize,
+    tables: &[Table],
     limits: Limits,
 ) -> Result<Arc<Shard<W, J>, Global>, Refusal>
     requires opens { IsOpening W.opening }
@@ -256,7 +256,7 @@ fn open_shard<W: World, J: Naming>(
     requires some { 0 < vec_len free.old }
     requires range { IsNamed which.old.place.range }
     requires sources { which.old.sources ≡ [] → ⊥ }
-    requires tables { tables ≡ length W.opening.schema.tables }
+    requires tables { tables.now ≡ W.opening.schema.tables }
     requires limits { limits ≡ W.limits }
     requires most_rows { limits.rows ≤ 2 ^ 20 }
     requires most_stored { limits.stored ≤ 2 ^ 20 }
@@ -280,7 +280,6 @@ fn open_shard<W: World, J: Naming>(
 #[derive(Clone, Copy)]
 pub(crate) struct Ground {
     pub(crate) keyspace: usize,
-    pub(crate) tables: usize,
     pub(crate) limits: Limits,
 }
 
@@ -289,11 +288,13 @@ fn make_target<W: World, J: Naming>(
     alloc: Global,
     free: &mut Vec<ShardSeat<ShardLaw<W>, J>>,
     ground: Ground,
+    schema: &VSchema,
     sources: &[Source<W, J>],
     range: KeyRange,
 ) -> Result<Target<W, J>, Refusal>
     requires opens { IsOpening W.opening }
     requires ground { IsGround W.opening W.limits ground }
+    requires schema { schema.now ≡ W.opening.schema }
     requires free { AllByRecursion (IsFree W.opening) free.old.items }
     requires some { 0 < vec_len free.old }
     requires range { IsNamed range }
@@ -315,7 +316,13 @@ fn make_target<W: World, J: Naming>(
         },
         members: own.members,
     };
-    let shard = open_shard(alloc, free, &mut target.which, ground.tables, ground.limits)?;
+    let shard = open_shard(
+        alloc,
+        free,
+        &mut target.which,
+        schema.tables.as_slice(),
+        ground.limits,
+    )?;
     Ok(Target {
         member: Member {
             which: target.which,
@@ -337,11 +344,13 @@ pub(crate) fn make_targets<W: World, J: Naming>(
     alloc: Global,
     free: &mut Vec<ShardSeat<ShardLaw<W>, J>>,
     ground: Ground,
+    schema: &VSchema,
     sources: &[Source<W, J>],
     ranges: &[KeyRange],
 ) -> Result<Vec<Target<W, J>>, Refusal>
     requires opens { IsOpening W.opening }
     requires ground { IsGround W.opening W.limits ground }
+    requires schema { schema.now ≡ W.opening.schema }
     requires free { AllByRecursion (IsFree W.opening) free.old.items }
     requires enough { length ranges.now ≤ vec_len free.old }
     requires ranges { AllByRecursion IsNamed ranges.now }
@@ -353,7 +362,7 @@ pub(crate) fn make_targets<W: World, J: Naming>(
 {
     let mut made = Vec::new(alloc);
     for range in ranges {
-        let target = make_target(alloc, free, ground, sources, *range)?;
+        let target = make_target(alloc, free, ground, schema, sources, *range)?;
         made.push(target)?;
     }
     Ok(made)

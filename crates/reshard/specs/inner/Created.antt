@@ -63,7 +63,6 @@ pub record AreOverlapped (sources : List S.Shard) (range : KeyRange) (own : List
 -- what is fixed is that of the world, whose limits are those of a shard
 pub record IsGround (o : Opening) (most : Limits) (g : Ground) : Type 0 where
   pub keyspace : g.keyspace < length o.schema.keyspaces
-  pub tables : g.tables ≡ length o.schema.tables
   pub limits : g.limits ≡ most
   pub rows : g.limits.rows ≤ 2 ^ 20
   pub stored : g.limits.stored ≤ 2 ^ 20

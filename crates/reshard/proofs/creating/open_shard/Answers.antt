@@ -1,7 +1,10 @@
-use Rattle.std.proofs.Common.{sym, ap, subst, ◌∙◌, ◌++◌, [], replicate}
+use denote.Param.Send.{sendable}
+use Rattle.std.proofs.Common.{ℕ, sym, ap, subst, ◌∙◌, ◌++◌, List, [], length, replicate}
 use Rattle.std.specs.List.{AllByRecursion}
 use Rattle.std.specs.Option.{option_to_list}
-use Rattle.shard_run.specs.Runs.{is_opening}
+use Rattle.vschema.specs.declared.schema.Table.{Table}
+use Rattle.shard_run.proofs.Sent.{entry_send}
+use Rattle.shard_run.specs.Runs.{is_opening, entries_on}
 use Rattle.reshard.specs.Workflows.{IsFree}
 use Rattle.reshard.proofs.Blank.{blank, stands_copy, follows_first, last_of}
 use Rattle.reshard.proofs.creating.open_shard.Goals as goal
@@ -11,6 +14,13 @@ free g c =
     last_of (IsFree g.W.World.opening) c.pop.new.self.items c.unwrap-seat.result
     (subst (AllByRecursion (IsFree g.W.World.opening))
     (c.pop.ensures.items ∙ ap (λ x. c.pop.new.self.items ++ option_to_list x) c.unwrap-seat.ensures) c.requires.free)
+
+pub slot-slot-requires-send-L-Entry : goal.slot-slot-requires-send-L-Entry
+slot-slot-requires-send-L-Entry g c κs within = search (entry_send, sendable)
+
+pub new-state-requires-clause-fresh : goal.new-state-requires-clause-fresh
+new-state-requires-clause-fresh g c =
+    ap (λ (n : ℕ). entries_on n c.unwrap-seat.result.seen) c.slot-slot.ensures.slot ∙ (free g c).fresh
 
 pub new-state-requires-clause-stands : goal.new-state-requires-clause-stands
 new-state-requires-clause-stands g c =
@@ -23,6 +33,6 @@ new-state-requires-clause-first_mode g c =
 
 pub new-state-requires-clause-rows : goal.new-state-requires-clause-rows
 new-state-requires-clause-rows g c =
-    c.in_ok-store.ensures.ok ∙ ap (λ n. replicate n []) c.requires.tables
+    c.in_ok-store.ensures.ok ∙ ap (λ (ts : List Table). replicate (length ts) []) c.requires.tables
     ∙ sym (blank g.W.World.opening c.requires.opens c.args.which.now.place.keyspace c.requires.keyspace (record c.in_ok-copy.copy { slot = c.slot-slot.result })
     (ap (is_opening g.W.World.opening) c.slot-slot.ensures.slot ∙ (free g c).not_opening))
