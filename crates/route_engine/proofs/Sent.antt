@@ -26,7 +26,7 @@ use Rattle.shard.specs.contracts.state.ShardState as state
 use Rattle.shard.specs.contracts.state.ShardState.TheInside as state_inside
 use Rattle.shard.specs.contracts.world.ShardLaw as law
 use Rattle.shard.specs.contracts.world.ShardLawLaw.TheImpl as laws
-use Rattle.shard.proofs.store.Store.TheSendSync as store
+use Rattle.shard_store.proofs.stored.StoredTables.TheSendSync as store
 use Rattle.shard_run.specs.contracts.Entry as entry
 use Rattle.shard_run.specs.contracts.Shard as which
 use Rattle.vt_value.specs.contracts.Items as items
