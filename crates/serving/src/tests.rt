@@ -1,7 +1,7 @@
 //! The partition that was published last is the one that is read.
 ghost use Rattle.std.specs.Prelude.{◌≡◌, [], ◌∷◌, IfOk};
 ghost use Rattle.keyrange.specs.Names.{IsNamed};
-ghost use Rattle.serving.specs.Partitions.{IsPartition};
+ghost use Rattle.serving.specs.Partitions.{IsPartition, AreOf};
 
 use crate::{MOST_PUBLISHED, Part, Partition, Seated, Serving};
 use keyrange::{KeyRange, covers_once};
@@ -17,7 +17,7 @@ struct Chair {
 }
 
 impl Seated for Chair {
-    ghost seat = { λ chair. (chair.slot, chair.range) };
+    ghost seat = { λ chair. (chair.slot, chair.range, 0) };
 
     fn slot(&self) -> usize {
         self.slot
@@ -26,10 +26,14 @@ impl Seated for Chair {
     fn range(&self) -> KeyRange {
         self.range
     }
+
+    fn keyspace(&self) -> usize {
+        0
+    }
 }
 
 fn one_part(alloc: Global, slot: usize, range: KeyRange) -> Result<Vec<Part<Chair>>, AllocError>
-    ensures { IfOk result (λ parts. parts.items ≡ (slot, range) ∷ []) }
+    ensures { IfOk result (λ parts. parts.items ≡ (slot, range, 0) ∷ []) }
 {
     let chair = Arc::new(alloc, Chair { slot, range })?;
     let mut parts = Vec::new(alloc);
@@ -38,12 +42,14 @@ fn one_part(alloc: Global, slot: usize, range: KeyRange) -> Result<Vec<Part<Chai
 }
 
 // All keyspace ids on one slot.
-fn whole(alloc: Global, slot: usize) -> Result<Partition<Chair>, Fail> {
+fn whole(alloc: Global, slot: usize) -> Result<Partition<Chair>, Fail>
+    ensures { IfOk result (λ p. AreOf 0 p) }
+{
     let range = KeyRange::read("-").ok_or("no range")?;
     if !covers_once(&[range]) {
         return Err(Fail::new("no cover"));
     }
-    Ok(Partition::new(one_part(alloc, slot, range)?))
+    Ok(Partition::new(0, one_part(alloc, slot, range)?))
 }
 
 fn current_slot(serving: &Serving<Chair>) -> Option<usize> {
@@ -56,7 +62,7 @@ fn current_slot(serving: &Serving<Chair>) -> Option<usize> {
 #[test]
 fn current_is_opening_partition(rt: HostRuntime) -> Result<(), Fail> {
     let alloc = rt.alloc();
-    let serving = Serving::new(alloc, whole(alloc, 0)?)?;
+    let serving = Serving::new(alloc, 0, whole(alloc, 0)?)?;
     assert_eq!(rt; current_slot(&serving), Some(0));
     for slot in 1..=MOST_PUBLISHED {
         let next = Box::new(alloc, whole(alloc, slot)?)?;

@@ -6,6 +6,7 @@ ghost use Rattle.shard_run.specs.declared.Shard as which;
 ghost use Rattle.shard_run.specs.Runs.{entries_on};
 ghost use Rattle.shard_run.specs.Legal.{IsOnItsSlot};
 ghost use Rattle.shard.specs.Shards.{commit_of, HasLooked};
+ghost use Rattle.shard.specs.Seats.{place_at};
 ghost use Rattle.shard.specs.Transactions.{IsClear, IsPendingOf, HasReadIn, HasWrittenIn, IsStopped, IsReadRefusal, IsWriteRefusal, HasCommittedAll, IsCommitAllRefusal};
 
 use crate::locked::Shard;
@@ -15,107 +16,99 @@ use crate::world::{ShardLaw, World};
 use journal::{Naming, Pass};
 use std::alloc::Global;
 use std::sync::Wait;
-use vschema::{Place, Query, VSchema, Write};
+use vschema::{Query, VSchema, Write};
 use vt_value::Refusal;
 
 impl<W: World, J: Naming> Shard<W, J> {
-    /// Looks once under the lock of the shard of this slot and place, as `ShardState::check`. Slot and place are tested as `read` tests them.
+    /// Looks once under the shard's lock, as `ShardState::check`. Slot and place are tested as `read` tests them.
     pub fn check(
         &self,
         rt: &impl Wait,
         pass: &mut Pass<ShardLaw<W>, J>,
-        slot: usize,
-        place: &Place,
         tx: &Pending,
     ) -> Result<u64, Refusal>
-        ensures check { (s : which.Shard) × IsOnItsSlot W.opening pass.new.seen s × (s.slot ≡ slot) × (s.place ≡ place.now) × HasLooked W.opening slot pass.old pass.new
-            × MatchResult result (λ n. (n ≡ length (entries_on slot pass.new.seen)) × IsClear W.opening s pass.new.seen tx.now)
+        ensures check { (s : which.Shard) × IsOnItsSlot W.opening pass.new.seen s × (s.slot ≡ self.now.0) × (s.place ≡ place_at self.now) × HasLooked W.opening self.now.0 pass.old pass.new
+            × MatchResult result (λ n. (n ≡ length (entries_on self.now.0 pass.new.seen)) × IsClear W.opening s pass.new.seen tx.now)
             (IsStopped W.opening s pass.new.seen tx.now) }
     {
         for _ in rt.forever() {
             let mut state = self.state.lock(rt);
-            if state.stands_at(slot, place) {
+            if state.stands_at(self.slot, &self.place) {
                 return state.check(pass, tx);
             }
         }
         unreachable!()
     }
 
-    /// What a query gives in a transaction under the lock of the shard of this slot and place, as `ShardState::read_in`.
+    /// What a query gives in a transaction under the shard's lock, as `ShardState::read_in`.
     pub fn read_in(
         &self,
         rt: &impl Wait,
         alloc: Global,
         pass: &mut Pass<ShardLaw<W>, J>,
-        slot: usize,
-        place: &Place,
         tx: &mut Pending,
         query: &Query,
     ) -> Result<Reading, Refusal>
         requires there { query.now.table < length W.opening.schema.tables }
-        requires tied { (s : which.Shard) → s.slot ≡ slot → s.place ≡ place.now → IsPendingOf W.opening s tx.old pass.old }
+        requires tied { (s : which.Shard) → s.slot ≡ self.now.0 → s.place ≡ place_at self.now → IsPendingOf W.opening s tx.old pass.old }
         requires session { IsSome pass.old.session }
         requires above { (n : ℕ) → pass.old.session ≡ Some n → NumbersBelow commit_of n pass.old.statements pass.old.seen }
-        ensures read { (s : which.Shard) × IsOnItsSlot W.opening pass.new.seen s × (s.slot ≡ slot) × (s.place ≡ place.now) × HasLooked W.opening slot pass.old pass.new
+        ensures read { (s : which.Shard) × IsOnItsSlot W.opening pass.new.seen s × (s.slot ≡ self.now.0) × (s.place ≡ place_at self.now) × HasLooked W.opening self.now.0 pass.old pass.new
             × MatchResult result (λ r. HasReadIn W.opening s tx.old pass.new.seen query.now r.rows r.entries tx.new)
             (λ e. IsReadRefusal W.opening s pass.new.seen tx.old e × (tx.new ≡ tx.old)) }
     {
         for _ in rt.forever() {
             let mut state = self.state.lock(rt);
-            if state.stands_at(slot, place) {
+            if state.stands_at(self.slot, &self.place) {
                 return state.read_in(alloc, pass, tx, query);
             }
         }
         unreachable!()
     }
 
-    /// Makes the changes of a write in a transaction under the lock of the shard of this slot and place, as `ShardState::write_in`.
+    /// Makes the changes of a write in a transaction under the shard's lock, as `ShardState::write_in`.
     pub fn write_in(
         &self,
         rt: &impl Wait,
         alloc: Global,
         pass: &mut Pass<ShardLaw<W>, J>,
-        slot: usize,
-        place: &Place,
         tx: &mut Pending,
         schema: &VSchema,
         write: Write,
     ) -> Result<u64, Refusal>
         requires schema { schema.now ≡ W.opening.schema }
         requires there { written_table write < length W.opening.schema.tables }
-        ensures written { (s : which.Shard) × IsOnItsSlot W.opening pass.new.seen s × (s.slot ≡ slot) × (s.place ≡ place.now) × HasLooked W.opening slot pass.old pass.new
+        ensures written { (s : which.Shard) × IsOnItsSlot W.opening pass.new.seen s × (s.slot ≡ self.now.0) × (s.place ≡ place_at self.now) × HasLooked W.opening self.now.0 pass.old pass.new
             × MatchResult result (λ count. HasWrittenIn W.opening s tx.old pass.new.seen write count tx.new)
             (λ e. IsWriteRefusal W.opening s pass.new.seen tx.old write e × (tx.new ≡ tx.old)) }
     {
         for _ in rt.forever() {
             let mut state = self.state.lock(rt);
-            if state.stands_at(slot, place) {
+            if state.stands_at(self.slot, &self.place) {
                 return state.write_in(alloc, pass, tx, schema, write);
             }
         }
         unreachable!()
     }
 
-    /// Commits a transaction under the lock of the shard of this slot and place, as `ShardState::commit_in`.
+    /// Commits a transaction under the shard's lock, as `ShardState::commit_in`.
     pub fn commit_in(
         &self,
         rt: &impl Wait,
         alloc: Global,
         pass: &mut Pass<ShardLaw<W>, J>,
-        slot: usize,
-        place: &Place,
         tx: &mut Pending,
     ) -> Result<(), Refusal>
-        requires tied { (s : which.Shard) → s.slot ≡ slot → s.place ≡ place.now → IsPendingOf W.opening s tx.old pass.old }
+        requires tied { (s : which.Shard) → s.slot ≡ self.now.0 → s.place ≡ place_at self.now → IsPendingOf W.opening s tx.old pass.old }
         requires session { IsSome pass.old.session }
         requires above { (n : ℕ) → pass.old.session ≡ Some n → NumbersBelow commit_of n pass.old.statements pass.old.seen }
-        ensures commit { (s : which.Shard) × IsOnItsSlot W.opening pass.new.seen s × (s.slot ≡ slot) × (s.place ≡ place.now)
+        ensures commit { (s : which.Shard) × IsOnItsSlot W.opening pass.new.seen s × (s.slot ≡ self.now.0) × (s.place ≡ place_at self.now)
             × MatchResult result (λ _. HasCommittedAll W.opening W.limits s pass.old tx.old pass.new)
-            (λ e. HasLooked W.opening slot pass.old pass.new × IsCommitAllRefusal W.opening W.limits s pass.new.seen tx.old e × (tx.new ≡ tx.old)) }
+            (λ e. HasLooked W.opening self.now.0 pass.old pass.new × IsCommitAllRefusal W.opening W.limits s pass.new.seen tx.old e × (tx.new ≡ tx.old)) }
     {
         for _ in rt.forever() {
             let mut state = self.state.lock(rt);
-            if state.stands_at(slot, place) {
+            if state.stands_at(self.slot, &self.place) {
                 return state.commit_in(alloc, pass, tx);
             }
         }

@@ -1,6 +1,8 @@
 use Rattle.std.proofs.Common.{◌≡◌, sym, subst, ap, ◌∙◌}
 use Rattle.journal.specs.Views.{PassView}
 use Rattle.shard_run.specs.declared.Entry.{Entry}
+use Rattle.serving.specs.Partitions.{Seat}
+use Rattle.shard.specs.Seats.{place_at}
 use Rattle.shard.specs.Shards.{ShardView}
 use Rattle.shard.specs.Transactions.{PendingView, IsPendingOf}
 use Rattle.shard.proofs.locked.Shard.read_in.Goals as goal
@@ -11,4 +13,5 @@ read_in-requires-clause-tied g c =
     let at = c.stands_at.ensures c.if-stands_at.true in
     subst (λ (x : PendingView). IsPendingOf g.W.World.opening c.deref_mut.result.now.shard x c.loop.pass) (sym c.loop.invariant.3)
     (subst (λ (x : PassView Entry). IsPendingOf g.W.World.opening c.deref_mut.result.now.shard c.args.tx.now x) (sym c.loop.invariant.2)
-    (c.requires.tied c.deref_mut.result.now.shard (ap (λ (v : ShardView). v.shard.slot) same ∙ at.0) (ap (λ (v : ShardView). v.shard.place) same ∙ at.1)))
+    (c.requires.tied c.deref_mut.result.now.shard (ap (λ (v : ShardView). v.shard.slot) same ∙ at.0 ∙ ap (λ (v : Seat). v.0) c.self.view_is)
+    (ap (λ (v : ShardView). v.shard.place) same ∙ at.1 ∙ ap place_at c.self.view_is)))
