@@ -3,7 +3,6 @@ use Rattle.std.proofs.Common.{◌≡◌, ◌≢◌, ℕ, List, [], ◌∷◌, Re
 use Rattle.std.specs.Prelude.{MatchResult, IfOk, IfErr, OnOk, OnErr}
 use Rattle.vt_value.specs.declared.refusal.Refusal.{Refusal}
 use Rattle.vt_value.specs.Values.{Row}
-use Rattle.keyrange.specs.declared.KeyRange.{KeyRange}
 use Rattle.vschema.specs.declared.schema.Place.{Place}
 use Rattle.vschema.specs.declared.schema.Query.{Query}
 use Rattle.vschema.specs.declared.changes.Write.{Write}
@@ -13,7 +12,9 @@ use Rattle.shard_run.specs.declared.Entry.{Entry}
 use Rattle.shard_run.specs.Runs.{Opening}
 use Rattle.shard_run.specs.Legal.{IsOnItsSlot}
 use Rattle.shard.specs.declared.limits.Limits.{Limits}
+use Rattle.serving.specs.Partitions.{Seat}
 use Rattle.shard.specs.Shards.{HasLooked}
+use Rattle.shard.specs.Seats.{place_at}
 use Rattle.shard.specs.Transactions.{PendingView, IsClear, IsStopped, HasReadIn, HasWrittenIn, HasCommittedAll, IsReadRefusal, IsWriteRefusal, IsCommitAllRefusal}
 use Rattle.shard.specs.Transactions as tx
 use Rattle.route_engine.specs.declared.reply.ShardRead.{ShardRead}
@@ -21,23 +22,24 @@ use Rattle.route_engine.specs.Pendings.{BoundView, bound_of}
 use Rattle.route_engine.specs.Within as w
 use Rattle.route_engine.specs.Within.{HasReadAt, IsNotReadAt, HasWrittenAt, IsNotWrittenAt, HasCommittedAt, IsNotCommittedAt}
 
-abbrev pub place_of : BoundView → Place
-place_of b = record { keyspace = b.keyspace; range = b.seat.1 }
+abbrev view_at : ℕ → ℕ → Place → BoundView
+view_at k n q = record { keyspace = k; seat = (n, q.range, q.keyspace) }
 
-abbrev view_at : ℕ → ℕ → KeyRange → BoundView
-view_at k n r = record { keyspace = k; seat = (n, r) }
+-- the shard of a seat is the one that a transaction is bound to by it
+pub bound_is : (b : BoundView) (seat : Seat) → seat ≡ b.seat → b.seat.2 ≡ b.keyspace → (s : Shard) → s.slot ≡ seat.0 → s.place ≡ place_at seat → bound_of s ≡ b
+bound_is b seat at home s on_slot is =
+    let n : s.slot ≡ b.seat.0 = on_slot ∙ ap (λ (x : Seat). x.0) at in
+    let q : s.place ≡ place_at b.seat = is ∙ ap place_at at in
+    ap (λ (x : ℕ). view_at s.place.keyspace x s.place) n ∙ ap (λ (x : Place). view_at x.keyspace b.seat.0 x) q
+    ∙ ap (λ (k : ℕ). view_at k b.seat.0 (place_at b.seat)) home
 
--- the shard of a slot and a place is the one that a transaction is bound to by these
-pub bound_is : (b : BoundView) (slot : ℕ) (place : Place) → slot ≡ b.seat.0 → place ≡ place_of b → (s : Shard) → s.slot ≡ slot → s.place ≡ place → bound_of s ≡ b
-bound_is b slot place at_slot in_place s on_slot is =
-    let n : s.slot ≡ b.seat.0 = on_slot ∙ at_slot in
-    let q : s.place ≡ place_of b = is ∙ in_place in
-    ap (λ (x : ℕ). view_at s.place.keyspace x s.place.range) n ∙ ap (λ (x : Place). view_at x.keyspace b.seat.0 x.range) q
+module _ (o : Opening) (limits : Limits) (b : BoundView) (seat : Seat) (at : seat ≡ b.seat) (home : b.seat.2 ≡ b.keyspace)
+    (p now : PassView Entry) (v : PendingView) (s : Shard) (stands : IsOnItsSlot o now.seen s) (on_slot : s.slot ≡ seat.0) (s_place : s.place ≡ place_at seat) where
+  abbrev slot : ℕ
+  slot = seat.0
 
-module _ (o : Opening) (limits : Limits) (b : BoundView) (slot : ℕ) (place : Place) (at_slot : slot ≡ b.seat.0) (in_place : place ≡ place_of b)
-    (p now : PassView Entry) (v : PendingView) (s : Shard) (stands : IsOnItsSlot o now.seen s) (on_slot : s.slot ≡ slot) (s_place : s.place ≡ place) where
   here : bound_of s ≡ b
-  here = bound_is b slot place at_slot in_place s on_slot s_place
+  here = bound_is b seat at home s on_slot s_place
 
   there : HasLooked o slot p now → HasLooked o s.slot p now
   there looked = subst (λ (n : ℕ). HasLooked o n p now) (sym on_slot) looked

@@ -30,3 +30,4 @@ pub mod Leading
 pub mod Calling
 pub mod Doing
 pub mod Keeping
+pub mod Homes

@@ -1,5 +1,5 @@
 -- The shards of an opening are few, and make the partitions that an engine begins with.
-use Rattle.std.proofs.Common.{◌≡◌, ℕ, ◌<◌, ◌≤◌, Bool, true, false, List, [], ◌∷◌, length, map, sym, ap, subst, ◌∙◌, refl, arith}
+use Rattle.std.proofs.Common.{◌≡◌, ℕ, ◌<◌, ◌≤◌, Bool, true, false, cond, List, [], ◌∷◌, length, map, filter, sym, ap, subst, ◌∙◌, refl, arith}
 use Rattle.std.specs.Prelude.{◌||◌, ◌==◌, ◌≢◌, AllPairs}
 use Rattle.std.specs.List.{AllByRecursion, list_any}
 use Rattle.std.proofs.lemmas.Bool.{false≢true, eqb-true}
@@ -16,7 +16,7 @@ use Rattle.shard_run.specs.Openings.{IsOpening, OpensWith, shards_in}
 use Rattle.keyrange.specs.declared.KeyRange.{KeyRange}
 use Rattle.keyrange.specs.Names.{IsNamed}
 use Rattle.keyrange.specs.Ranges.{Cover}
-use Rattle.serving.specs.Partitions.{IsPartition, ranges}
+use Rattle.serving.specs.Partitions.{IsPartition, AreOf, ranges}
 use Rattle.route_engine.specs.Seats.{seat_of}
 use Rattle.route_engine.proofs.Everywhere.{ranges_named}
 use Rattle.shard.specs.Shards.{opening_shards}
@@ -66,3 +66,13 @@ partition_at o opens k below = record {
       let long = length-map (shards_in o k) seat_of in
       omega (arith, in_all, less, kept, long);
 }
+
+-- the shards that lie in a keyspace are of it
+pub of_keyspace : (k : ℕ) (ss : List Shard) → AreOf k (map seat_of (filter (λ s. s.place.keyspace == k) ss))
+of_keyspace k [] = tt
+of_keyspace k (s ∷ ss) = by (s.place.keyspace == k) refl (of_keyspace k ss)
+  where
+    by : (b : Bool) → (s.place.keyspace == k) ≡ b → AreOf k (map seat_of (filter (λ s. s.place.keyspace == k) ss))
+        → AreOf k (map seat_of (cond b (s ∷ filter (λ s. s.place.keyspace == k) ss) (filter (λ s. s.place.keyspace == k) ss)))
+    by true e rest = (eqb-true s.place.keyspace k e, rest)
+    by false e rest = rest

@@ -18,7 +18,6 @@ use Rattle.serving.proofs.published.Serving.TheSendSync as sent_serving
 use Rattle.vschema.proofs.schema.VSchema.TheSendSync as schema
 use Rattle.shard.specs.declared.world.World as world
 use Rattle.shard.specs.contracts.contents.Contents as contents
-use Rattle.keyrange.proofs.KeyRange.TheSendSync as range
 use Rattle.shard.specs.contracts.locked.Shard as locked
 use Rattle.shard.specs.contracts.locked.Shard.TheInside as locked_inside
 use Rattle.shard.specs.contracts.locked.ShardSeated.TheImpl as seated
@@ -69,12 +68,12 @@ module _ (W J : RattleType) (w : world.Ghosts W.Denot) (j : naming.Ghosts J.Deno
   shard_shared =
       view_sync _ _ _ _ _
       (recorded_sync (locked_inside.the_field W J w j).row _ _ (locked_inside.the_type W J w j).to_one
-      (struct_sync (shape (locked_inside.the_type W J w j)) (search sendable, (range.the_field_sync, (search (state_send, std.crosses, sendable), tt)))))
+      (struct_sync (shape (locked_inside.the_type W J w j)) (search sendable, (place.the_field_sync, (search (state_send, std.crosses, sendable), tt)))))
 
   pub job_send : (ℓ : _) → IsSend (job.the_row ℓ W J w j)
   job_send ℓ =
       recorded_send (job.the_field ℓ W J w j).row _ _ (job.the_type ℓ W J w j).to_one
-      (struct_send (shape (job.the_type ℓ W J w j)) (search sendable, (search sendable, (place.the_field_send, (shr_send _ _ _ shard_shared, (query_send, (pass_send, tt)))))))
+      (struct_send (shape (job.the_type ℓ W J w j)) (search sendable, (shr_send _ _ _ shard_shared, (query_send, (pass_send, tt)))))
 
   pub done_send : IsSend (done.the_row W J w j)
   done_send =
@@ -85,7 +84,7 @@ module _ (W J : RattleType) (w : world.Ghosts W.Denot) (j : naming.Ghosts J.Deno
   shard_sent =
       view_send _ _ _ _ _
       (recorded_send (locked_inside.the_field W J w j).row _ _ (locked_inside.the_type W J w j).to_one
-      (struct_send (shape (locked_inside.the_type W J w j)) (search sendable, (range.the_field_send, (search (state_send, std.crosses, sendable), tt)))))
+      (struct_send (shape (locked_inside.the_type W J w j)) (search sendable, (place.the_field_send, (search (state_send, std.crosses, sendable), tt)))))
 
   partitions_sync : IsSync (serving.the_row (locked.the_row W J w j) (seated.ghosts W J w laws.no_dict j laws.no_dict))
   partitions_sync = sent_serving.the_sync (locked.the_row W J w j) (seated.ghosts W J w laws.no_dict j laws.no_dict) shard_sent shard_shared

@@ -33,6 +33,7 @@ use Rattle.serving.specs.Partitions.{Seat, IsPartition, ranges}
 use Rattle.shard.specs.declared.limits.Limits.{Limits}
 use Rattle.shard.specs.declared.state.Committed.{Committed}
 use Rattle.shard.specs.Shards.{MayFollow, HasLooked, commit_of}
+use Rattle.shard.specs.Seats.{place_at}
 use Rattle.shard.specs.Commits as c
 use Rattle.shard.specs.Commits.{IsPlaced, HasAnswered, IsCommitRefusal}
 use Rattle.route_engine.specs.Answers as a
@@ -89,6 +90,9 @@ not_writable Frozen is = refl
 not_writable Retired is = refl
 not_writable Dropped is = refl
 
+abbrev seat_at : ℕ → Place → Seat
+seat_at n q = (n, q.range, q.keyspace)
+
 module _ (o : Opening) (limits : Limits) (w : Write) (typed : IsTypedWrite o.schema w) (t : Table) (t_is : t ≡ table_at o.schema (written_table w)) (r : Route)
     (r_is : r ≡ write_route o.schema w) (seats : List Seat) (is : IsPartition seats) (p : PassView Entry) (legal : IsLegal (MayFollow o) p.seen) where
   needed_is : needed t r seats ≡ needed_by o w seats
@@ -100,24 +104,34 @@ module _ (o : Opening) (limits : Limits) (w : Write) (typed : IsTypedWrite o.sch
   pub several : 2 ≤ length (needed t r seats) → MayWriteRefuse o limits p w SeveralShards p
   several more = a.several seats is (subst (λ (l : List Seat). 2 ≤ length l) needed_is more) ([], stays o p legal)
 
-  module _ (slot : ℕ) (range : KeyRange) (one : needed t r seats ≡ (slot, range) ∷ []) where
+  module _ (seat : Seat) (one : needed t r seats ≡ seat ∷ []) (home : seat.2 ≡ t.keyspace) where
+    abbrev range : KeyRange
+    range = seat.1
+
     abbrev place : Place
     place = record { keyspace = t.keyspace; range = range }
 
-    pub placed_there : IsPlaced o.schema place w
-    placed_there =
-        subst (λ (x : Table). IsPlaced o.schema (record { keyspace = x.keyspace; range = range }) w) (sym t_is)
-        (placed o w typed seats is (slot, range) (sym needed_is ∙ one))
+    at_home : place_at seat ≡ place
+    at_home = ap (λ (k : ℕ). record { keyspace = k; range = seat.1 }) home
 
-    module _ (s : Shard) (on_slot : s.slot ≡ slot) (in_place : s.place ≡ place) (now : PassView Entry) where
+    pub placed_there : IsPlaced o.schema (place_at seat) w
+    placed_there =
+        subst (λ (q : Place). IsPlaced o.schema q w) (sym at_home)
+        (subst (λ (x : Table). IsPlaced o.schema (record { keyspace = x.keyspace; range = range }) w) (sym t_is)
+        (placed o w typed seats is seat (sym needed_is ∙ one)))
+
+    module _ (s : Shard) (on_slot : s.slot ≡ seat.0) (at_place : s.place ≡ place_at seat) (now : PassView Entry) where
+      in_place : s.place ≡ place
+      in_place = at_place ∙ at_home
+
       alone : NeedsAlone o w s
       alone = record {
         seats = seats;
         partition = is;
         keyspace = ap (λ (x : Place). x.keyspace) in_place ∙ ap (λ (x : Table). x.keyspace) t_is;
         only =
-            sym needed_is ∙ one ∙ ap (λ (i : ℕ). (i, range) ∷ []) (sym on_slot)
-            ∙ ap (λ (x : Place). (s.slot, x.range) ∷ []) (sym in_place);
+            sym needed_is ∙ one ∙ ap (λ (i : ℕ). seat_at i (place_at seat) ∷ []) (sym on_slot)
+            ∙ ap (λ (x : Place). seat_at s.slot x ∷ []) (sym at_place);
       }
 
       held_up : HasLooked o s.slot p now → IsOnItsSlot o now.seen s → is_writable (mode o now.seen s.slot) ≡ false
@@ -125,8 +139,8 @@ module _ (o : Opening) (limits : Limits) (w : Write) (typed : IsTypedWrite o.sch
       held_up look stands off = record {
         seats = seats;
         partition = is;
-        seat = (slot, range);
-        needed = Contains-from_In (slot, range) (needed_by o w seats) (subst (In (slot, range)) (sym one ∙ needed_is) (inl refl));
+        seat = seat;
+        needed = Contains-from_In seat (needed_by o w seats) (subst (In seat) (sym one ∙ needed_is) (inl refl));
         run = now.seen;
         since = look.later;
         until = prefix_self now.seen;
@@ -142,7 +156,7 @@ module _ (o : Opening) (limits : Limits) (w : Write) (typed : IsTypedWrite o.sch
       answered stands _ (c.frozen look m) = again (gone_by o s.slot p now look) (held_up look stands (ap is_writable m))
       answered stands _ (c.not_serving look m) = again (gone_by o s.slot p now look) (held_up look stands (not_writable (mode o now.seen s.slot) m))
 
-      pub refused : (e : Refusal) → HasLooked o slot p now → IsCommitRefusal o limits s now.seen w e → MayWriteRefuse o limits p w e now
+      pub refused : (e : Refusal) → HasLooked o seat.0 p now → IsCommitRefusal o limits s now.seen w e → MayWriteRefuse o limits p w e now
       refused e look why = a.refused s alone ([], stays o p legal) (subst (λ i. HasLooked o i p now) (sym on_slot) look) why
 
 -- ---- after tries before

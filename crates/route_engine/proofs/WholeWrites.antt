@@ -36,6 +36,7 @@ use Rattle.shard_law.proofs.Lists.{In, In-all, In-filter, In-map, all-from_In, a
 use Rattle.shard_law.proofs.Rows.{row_is}
 use Rattle.shard_law.proofs.Typed.{table_there}
 use Rattle.serving.specs.Partitions.{Seat, IsPartition}
+use Rattle.route_engine.specs.Seats.{seat_of}
 use Rattle.route_engine.specs.Answers.{needed, needed_by, NeedsAlone}
 use Rattle.route_engine.proofs.Everywhere.{rows_restricted}
 use Rattle.route_engine.proofs.Moments.{placed_at}
@@ -264,4 +265,4 @@ module _ (o : Opening) (opens : IsOpening o) (formed : is_vschema o.schema ≡ t
       → changes_of o.schema w (restrict o.schema s.place (one o run)) ≡ changes_of o.schema w (one o run)
   whole_changes w typed s alone =
       ap (λ (k : ℕ). changes_of o.schema w (restrict o.schema (record { keyspace = k; range = s.place.range }) (one o run))) alone.keyspace
-      ∙ whole_at w typed alone.seats alone.partition (s.slot, s.place.range) alone.only
+      ∙ whole_at w typed alone.seats alone.partition (seat_of s) alone.only

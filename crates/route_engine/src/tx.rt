@@ -1,5 +1,6 @@
 //! A session's transaction, as the engine keeps it.
 ghost use Rattle.std.specs.Prelude.{◌≡◌, ◌↔◌, IsTrue, IsSome, None, Some, IfOk, IfErr};
+ghost use Rattle.serving.specs.Partitions.{AreOf};
 
 use journal::Naming;
 use serving::{Part, Partition, Seated};
@@ -7,7 +8,6 @@ use shard::{Pending, Shard, World};
 use std::alloc::Global;
 use std::marker::Model;
 use std::sync::Arc;
-use vschema::Place;
 use vt_value::Refusal;
 
 /// The shard that a transaction is bound to, its keyspace, and the partition by which a statement needed it. Contracts see a `BoundView`.
@@ -19,11 +19,15 @@ pub(crate) struct Bound<W: World, J: Naming> {
 }
 
 impl<W: World, J: Naming> Model for Bound<W, J> {
+    ghost use Rattle.std.specs.Prelude.{◌≡◌};
+    ghost use Rattle.serving.specs.Partitions.{AreOf};
     ghost use Rattle.route_engine.specs.Pendings.{BoundView};
 
     ghost Value = { BoundView };
 
     ghost view = { λ b. record { keyspace = b.keyspace; seat = b.part } };
+
+    ghost invariant = { λ b. (b.part.2 ≡ b.keyspace) × AreOf b.keyspace b.partition };
 }
 
 fn copy_part<S: Seated + Drop>(part: &Part<S>) -> Result<Part<S>, Refusal>
@@ -52,6 +56,8 @@ impl<W: World, J: Naming> Bound<W, J> {
         partition: &Partition<Shard<W, J>>,
         part: &Part<Shard<W, J>>,
     ) -> Result<Bound<W, J>, Refusal>
+        requires part { part.now.2 ≡ keyspace }
+        requires keyspace { AreOf keyspace partition.now }
         ensures ok { IfOk result (λ bound. bound ≡ record { keyspace = keyspace; seat = part.now }) }
         ensures err { IfErr result (λ e. e ≡ Refusal.OutOfMemory) }
     {
@@ -60,7 +66,7 @@ impl<W: World, J: Naming> Bound<W, J> {
             Ok(parts) => Ok(Bound {
                 keyspace,
                 part,
-                partition: Partition::new(parts),
+                partition: Partition::new(keyspace, parts),
             }),
             Err(refusal) => {
                 drop(part);
@@ -83,31 +89,26 @@ impl<W: World, J: Naming> Bound<W, J> {
         self.part.slot()
     }
 
-    /// The shard's place.
-    pub(crate) fn place(&self) -> Place
-        ensures { result ≡ record { keyspace = self.now.keyspace; range = self.now.seat.1 } }
-    {
-        Place {
-            keyspace: self.keyspace,
-            range: self.part.range(),
-        }
-    }
-
     /// The shard.
-    pub(crate) fn shard(&self) -> &Shard<W, J> {
+    pub(crate) fn shard(&self) -> &Shard<W, J>
+        ensures seat { result.now ≡ self.now.seat }
+        ensures keyspace { self.now.seat.2 ≡ self.now.keyspace }
+    {
         self.part.shard()
     }
 
     /// The partition by which it was needed.
-    pub(crate) fn partition(&self) -> &Partition<Shard<W, J>> {
+    pub(crate) fn partition(&self) -> &Partition<Shard<W, J>>
+        ensures { AreOf self.now.keyspace result.now }
+    {
         &self.partition
     }
 
-    /// Whether the part's shard, of this keyspace, is the one.
-    pub(crate) fn is_at(&self, keyspace: usize, part: &Part<Shard<W, J>>) -> bool
-        ensures { IsTrue result ↔ (self.now ≡ record { keyspace = keyspace; seat = part.now }) }
+    /// Whether the part's shard is the one.
+    pub(crate) fn is_at(&self, part: &Part<Shard<W, J>>) -> bool
+        ensures { IsTrue result ↔ (self.now ≡ record { keyspace = part.now.2; seat = part.now }) }
     {
-        self.keyspace == keyspace
+        self.keyspace == part.keyspace()
             && self.part.slot() == part.slot()
             && self.part.range() == part.range()
     }

@@ -10,6 +10,7 @@ ghost use Rattle.journal.specs.Runs.{IsLegal, NumbersBelow};
 ghost use Rattle.shard_run.specs.declared.Shard as which;
 ghost use Rattle.vschema.specs.WellFormed.{is_vschema};
 ghost use Rattle.shard_run.specs.Openings.{IsOpening};
+ghost use Rattle.serving.specs.Partitions.{AreOf};
 ghost use Rattle.shard.specs.Shards.{MayFollow, commit_of};
 ghost use Rattle.shard.specs.Transactions.{IsPendingOf};
 ghost use Rattle.route_engine.specs.Pendings.{IsOf, bound_of};
@@ -22,7 +23,8 @@ use crate::reply::{Answer, Reply, Selected, ShardRead};
 use crate::tx::Bound;
 use journal::{Naming, Pass};
 use planner::{Route, copy_items, route_of, write_route};
-use shard::{Pending, Reading, ShardLaw, World, written_table};
+use serving::Partition;
+use shard::{Pending, Reading, Shard, ShardLaw, World, written_table};
 use sql_eval::select_local;
 use std::alloc::Global;
 use std::sync::Wait;
@@ -75,9 +77,7 @@ fn read_at<W: World, J: Naming>(
 {
     let slot = here.slot();
     let mut reads = Items::from_slice(alloc, &[ShardRead { slot, entries: 0 }])?;
-    let place = here.place();
-    let shard = here.shard();
-    match shard.read_in(rt, alloc, pass, slot, &place, pending, query) {
+    match here.shard().read_in(rt, alloc, pass, pending, query) {
         Ok(reading) => {
             let Reading { rows, entries } = reading;
             reads.set(0, ShardRead { slot, entries });
@@ -148,9 +148,8 @@ fn write_at<W: World, J: Naming>(
     ensures err { IfErr result (λ e. IsNotWrittenAt W.opening here.now pass.old pending.old write e pass.new) }
     ensures unchanged { OnErr result (pending.new ≡ pending.old) }
 {
-    let place = here.place();
-    let shard = here.shard();
-    shard.write_in(rt, alloc, pass, here.slot(), &place, pending, schema, write)
+    here.shard()
+        .write_in(rt, alloc, pass, pending, schema, write)
 }
 
 // The same of a transaction that is bound to the shard then.
@@ -199,35 +198,44 @@ fn commit_at<W: World, J: Naming>(
     ensures err { IfErr result (λ e. IsNotCommittedAt W.opening W.limits here.now pass.old pending.old e pass.new) }
     ensures unchanged { OnErr result (pending.new ≡ pending.old) }
 {
-    let slot = here.slot();
-    let place = here.place();
     let shard = here.shard();
     if pending.has_written() {
-        return shard.commit_in(rt, alloc, pass, slot, &place, pending);
+        return shard.commit_in(rt, alloc, pass, pending);
     }
-    match shard.check(rt, pass, slot, &place, pending) {
+    match shard.check(rt, pass, pending) {
         Ok(_) => Ok(()),
         Err(refusal) => Err(refusal),
     }
 }
 
 impl<W: World + Send + Sync, J: Naming + Send + Sync, G: Gate> Engine<W, J, G> {
-    // Whether a statement on the table with this route needs the shard that its transaction is bound to, or none. On a table of that
-    // shard's keyspace the partition tells by which it was bound. Refuses where it needs another shard, or several.
+    // The partition that tells which shards a statement on the table needs: on one of the bound shard's keyspace that by which it was bound.
+    fn partition_for<'e>(
+        &'e self,
+        here: &'e Bound<W, J>,
+        table: &Table,
+    ) -> &'e Partition<Shard<W, J>>
+        requires { table.now.keyspace < length self.now.keyspaces }
+        ensures { AreOf table.now.keyspace result.now }
+    {
+        if here.keyspace() == table.keyspace {
+            here.partition()
+        } else {
+            self.current(table.keyspace)
+        }
+    }
+
+    // Whether a statement on the table with this route needs the shard that its transaction is bound to, or none. Refuses where it needs another shard, or several.
     fn needs_bound(&self, here: &Bound<W, J>, table: &Table, route: &Route) -> Result<bool, Refusal>
         requires keyspace { table.now.keyspace < length self.now.keyspaces }
         ensures bound { IfOk result (λ b. b ≡ true → IsSeatOf table.now route.now here.now) }
         ensures none { IfOk result (λ b. b ≡ false → NeedsNoSeat table.now route.now) }
         ensures err { IfErr result (λ e. (e ≡ Refusal.SeveralShards) × NeedsOther table.now route.now here.now) }
     {
-        let partition = if here.keyspace() == table.keyspace {
-            here.partition()
-        } else {
-            self.keyspaces[table.keyspace].current()
-        };
+        let partition = self.partition_for(here, table);
         match only_needed(partition.parts(), table, route)? {
             Some(part) => {
-                if here.is_at(table.keyspace, part) {
+                if here.is_at(part) {
                     Ok(true)
                 } else {
                     Err(Refusal::SeveralShards)
@@ -250,7 +258,7 @@ impl<W: World + Send + Sync, J: Naming + Send + Sync, G: Gate> Engine<W, J, G> {
         ensures none { IfOk result (λ r. IfNone r (NeedsNoSeat table.now route.now)) }
         ensures err { IfErr result (λ e. (e ≡ Refusal.OutOfMemory) ⊎ ((e ≡ Refusal.SeveralShards) × NeedsSeveral table.now route.now)) }
     {
-        let partition = self.keyspaces[table.keyspace].current();
+        let partition = self.current(table.keyspace);
         match only_needed(partition.parts(), table, route)? {
             Some(part) => Ok(Some(Bound::to_part(alloc, table.keyspace, partition, part)?)),
             None => Ok(None),

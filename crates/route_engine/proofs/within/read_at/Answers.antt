@@ -11,5 +11,5 @@ returns-in_err-reads-clause-err g c =
 pub returns-in-Err-clause-err : goal.returns-in-Err-clause-err
 returns-in-Err-clause-err g c =
     let is = c.in-Err.ensures.read in
-    was_not_read g.W.World.opening g.W.World.limits c.args.here.now c.slot-slot.result c.place-place.result c.slot-slot.ensures c.place-place.ensures
+    was_not_read g.W.World.opening g.W.World.limits c.args.here.now c.shard.result.now c.shard.ensures.seat c.shard.ensures.keyspace
     c.args.pass.now c.read_in.new.pass c.args.pending.now is.0 is.1 is.2 is.3 is.4 c.in-Err.refusal is.5.0
