@@ -57,6 +57,7 @@ stands_met o p q _ _ more same own (stands.bound {v} {t} is) = stands.bound (rec
   touches =
       subst (λ (i : Option ℕ). Rattle.std.specs.List.AllByRecursion (Rattle.route_engine.specs.Pendings.IsTouchOf o is.shard i t.at t.steps) v.pending.touched) (sym same)
       is.touches;
+  behind = is.behind;
   seen = prefix_trans t.at p.seen q.seen is.seen more;
   own = λ n mine. let m = sym same ∙ mine in own n m ∙ is.own n m;
 })

@@ -65,7 +65,7 @@ stood o slot before (x ∷ run) e legal past (inl h) =
     record { before = before; past = past; may = subst (λ (y : Entry). May o before y.shard y.event) h legal.1 }
 stood o slot before (x ∷ run) e legal past (inr h) = stood o slot (before ++ x ∷ []) run e legal.2 (not_again o slot before x past) h
 
-found : {X : Type 0} (p : X → Bool) (xs : List X) → list_any p xs ≡ true → (x : X) × In x xs × (p x ≡ true)
+pub found : {X : Type 0} (p : X → Bool) (xs : List X) → list_any p xs ≡ true → (x : X) × In x xs × (p x ≡ true)
 found p [] h = absurd (false≢true h)
 found {X} p (x ∷ xs) h = by (p x) refl h (found p xs)
   where

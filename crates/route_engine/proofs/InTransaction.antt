@@ -1,5 +1,5 @@
 -- One statement of an open transaction, from what its shard did, and what then stands.
-use Rattle.std.proofs.Common.{true, ◌≡◌, ◌≢◌, ℕ, ◌<◌, false, List, [], ◌∷◌, ◌++◌, length, filter, flat_map, Option, Some, None, refl, sym, ap, subst, ◌∙◌, arith}
+use Rattle.std.proofs.Common.{true, ◌≡◌, ◌≢◌, ℕ, ◌<◌, ◌≤◌, false, List, [], ◌∷◌, ◌++◌, length, filter, flat_map, Option, Some, None, refl, sym, ap, subst, ◌∙◌, arith}
 use Rattle.std.specs.Prelude.{Contains}
 use Rattle.std.specs.List.{AllByRecursion}
 use Rattle.std.proofs.lemmas.Grind.{flat_map-append}
@@ -24,17 +24,18 @@ use Rattle.shard_run.specs.Openings.{IsOpening}
 use Rattle.shard.specs.declared.limits.Limits.{Limits}
 use Rattle.shard.specs.declared.touch.Touch.{Touch}
 use Rattle.shard.specs.Shards.{MayFollow, HasLooked, commit_of}
-use Rattle.shard.specs.Transactions.{PendingView, nothing_done, touched_with, IsClear, IsPending, HasReadIn, HasWrittenIn, HasCommittedAll, entry_of}
+use Rattle.shard.specs.Transactions.{PendingView, nothing_done, touched_with, IsClear, IsTouchBy, IsPending, HasReadIn, HasWrittenIn, HasCommittedAll, entry_of}
 use Rattle.shard.proofs.Moves.{all_touched}
 use Rattle.route_engine.specs.declared.reply.Selected.{Selected}
 use Rattle.route_engine.specs.declared.reply.Answer.TheVariants.{Rows, Count}
 use Rattle.route_engine.specs.Answers.{NeedsAlone}
 use Rattle.route_engine.specs.Transactions as gives
-use Rattle.route_engine.specs.Transactions.{Step, Transaction, Standing, GiveOver, AreOver, GivesIn, IsCommitted, ReadsAlone, table_of, if_any, used, writes_in, with_step, reads_of}
+use Rattle.route_engine.specs.Transactions.{Step, Transaction, Standing, GiveOver, AreOver, GivesIn, IsCommitted, IsConflict, ReadsAlone, table_of, if_any, used, writes_in, with_step, reads_of}
 use Rattle.route_engine.specs.Pendings as stands
-use Rattle.route_engine.specs.Pendings.{OpenView, BoundView, IsBound, IsTouchOf, Stands, IsAnywhere, AreTold, bound_of}
+use Rattle.route_engine.specs.Pendings.{OpenView, BoundView, IsBound, IsTouchOf, HasTouched, Stands, IsAnywhere, AreTold, bound_of}
 use Rattle.route_engine.proofs.Going as g
 use Rattle.route_engine.proofs.Causes.{one_on_slot, stands_early}
+use Rattle.route_engine.proofs.Clearing.{no_conflict, touched_more}
 use Rattle.route_engine.proofs.Over.{one_push, legal_last}
 
 -- A transaction that has used this shard alone, or none, at a look there.
@@ -42,6 +43,7 @@ pub record ReadyOn (o : Opening) (s : Shard) (p now : PassView Entry) (v : Pendi
   pub on_slot : IsOnItsSlot o now.seen s
   pub looked : HasLooked o s.slot p now
   pub touches : AllByRecursion (IsTouchOf o s p.session now.seen t.steps) v.touched
+  pub behind : AllByRecursion (HasTouched s v.touched) t.steps
   pub alone : AllByRecursion (λ u. u ≡ s) (used t.steps)
   pub at : IsClear o s now.seen v → g.IsAt o s now.seen v t.steps
 
@@ -53,6 +55,19 @@ module _ (o : Opening) (opens : IsOpening o) (formed : is_vschema o.schema ≡ t
 
   abbrev at_then : IsClear o s now.seen v → g.IsAt o s now.seen v t.steps
   at_then = ready.at
+
+  -- it wasn't disturbed
+  undisturbed : IsClear o s now.seen v → IsConflict o s p.session now.seen t.steps → ⊥
+  undisturbed clear = no_conflict o s now.seen p.session t.steps v.touched ready.behind clear.unchanged
+
+  -- with one more statement, which touches a table
+  behind_more : (last : Step) (touch : Touch) → IsClear o s now.seen v → table_of last.typed ≡ Some touch.table → last.seen ≡ now.seen
+      → touch.stored ≡ length (stored_on s.slot now.seen) → AllByRecursion (HasTouched s (touched_with v.touched touch)) (t.steps ++ last ∷ [])
+  behind_more last touch clear table seen stored =
+      touched_more s v.touched touch t.steps last ready.behind
+      (all-weaker (IsTouchBy o s now.seen) (λ x. x.stored ≤ touch.stored) (λ x h. let low = h.stored in omega (arith, low, stored)) v.touched
+      (at_then clear).pending.touches) table
+      (let e = ap (λ (r : Run). length (stored_on s.slot r)) seen in omega (arith, e, stored))
 
   contains_more : (steps : List Step) (step last : Step) → Contains steps step → Contains (steps ++ last ∷ []) step
   contains_more steps step last h = Contains-from_In step (steps ++ last ∷ []) (In-left step steps (last ∷ []) (In-from_Contains step steps h))
@@ -95,8 +110,9 @@ module _ (o : Opening) (opens : IsOpening o) (formed : is_vschema o.schema ≡ t
   -- it is bound as before, or from now on, one statement further
   further : (pending : PendingView) (last : Step) → last.on ≡ Some s → mode o now.seen s.slot ≡ Serving → g.IsAt o s now.seen pending (t.steps ++ last ∷ [])
       → AllByRecursion (IsTouchOf o s now.session now.seen (t.steps ++ last ∷ [])) pending.touched
+      → AllByRecursion (HasTouched s pending.touched) (t.steps ++ last ∷ [])
       → Stands o now (Some (record { bound = Some (bound_of s); pending = pending })) (Some (record { at = now.seen; steps = t.steps ++ last ∷ [] }))
-  further pending last on serves at touches = stands.bound (record {
+  further pending last on serves at touches behind = stands.bound (record {
     shard = s;
     stands = ready.on_slot;
     serves = serves;
@@ -105,6 +121,7 @@ module _ (o : Opening) (opens : IsOpening o) (formed : is_vschema o.schema ≡ t
     pending = at.pending;
     told = at.told;
     touches = touches;
+    behind = behind;
     seen = prefix_self now.seen;
     own = λ n mine. refl;
   })
@@ -128,9 +145,9 @@ module _ (o : Opening) (opens : IsOpening o) (formed : is_vschema o.schema ≡ t
       (touch_last last touch refl refl refl serves refl) in (
         subst (λ (n : ℕ). GivesIn o limits p t (typed.Select q) (record { answer = Rows selected; reads = record { slot = s.slot; entries = n } ∷ [] })
             (record { pass = now; tx = Some (record { at = now.seen; steps = t.steps ++ last ∷ [] }) })) (sym has.count)
-            (gives.on_shard s alone ready.alone looked serves (all_applied next.changes (one o now.seen), over)),
+            (gives.on_shard s alone ready.alone looked serves (undisturbed has.clear) (all_applied next.changes (one o now.seen), over)),
         subst (λ (x : PendingView). Stands o now (Some (record { bound = Some (bound_of s); pending = x })) (Some (record { at = now.seen; steps = t.steps ++ last ∷ [] })))
-            (sym has.touch) (further next last refl serves at touches),
+            (sym has.touch) (further next last refl serves at touches (behind_more last touch has.clear refl refl refl)),
       )
 
   -- A write.
@@ -158,9 +175,9 @@ module _ (o : Opening) (opens : IsOpening o) (formed : is_vschema o.schema ≡ t
       (record { pass = now; tx = Some (record { at = now.seen; steps = with_step t.steps (typed.Write w) (Count k) (Some s) now.seen }) })
       × Stands o now (Some (record { bound = Some (bound_of s); pending = pending }))
       (Some (record { at = now.seen; steps = with_step t.steps (typed.Write w) (Count k) (Some s) now.seen }))) (sym has.counted) (
-        gives.on_shard s alone ready.alone looked serves (all_applied next.changes (one o now.seen), over),
+        gives.on_shard s alone ready.alone looked serves (undisturbed has.clear) (all_applied next.changes (one o now.seen), over),
         subst (λ (x : PendingView). Stands o now (Some (record { bound = Some (bound_of s); pending = x })) (Some (record { at = now.seen; steps = t.steps ++ last ∷ [] })))
-            (sym has.kept) (further next last refl serves at touches),
+            (sym has.kept) (further next last refl serves at touches (behind_more last touch has.clear refl refl refl)),
       )
 
   -- A commit that has read alone.
@@ -168,7 +185,7 @@ module _ (o : Opening) (opens : IsOpening o) (formed : is_vschema o.schema ≡ t
       → GivesIn o limits p t typed.Commit (record { answer = Count 0; reads = [] }) (record { pass = now; tx = None })
   commits_reads in_use none clear =
       let at = at_then clear in
-      gives.commits_reads s in_use (g.told_writes o s now.seen v.touched t.steps v.writes v.changes at.told ∙ none) looked clear.serving
+      gives.commits_reads s in_use (g.told_writes o s now.seen v.touched t.steps v.writes v.changes at.told ∙ none) looked clear.serving (undisturbed clear)
       (all_applied v.changes (one o now.seen), g.at_over o s opens formed now.seen v t.steps at ready.on_slot clear.serving session number low)
 
 -- ---- what a bound transaction is on its shard
@@ -190,6 +207,9 @@ module _ (o : Opening) (opens : IsOpening o) (p : PassView Entry) (v : OpenView)
 
     pub bound_used : AllByRecursion (λ u. u ≡ s) (used t.steps)
     bound_used = g.told_used o s t.at v.pending.touched t.steps v.pending.writes v.pending.changes bound_at.told
+
+    pub bound_behind : AllByRecursion (HasTouched s v.pending.touched) t.steps
+    bound_behind = subst (λ (u : Shard). AllByRecursion (HasTouched u v.pending.touched) t.steps) here bound.behind
 
     pub bound_in_use : Contains (used t.steps) s
     bound_in_use = subst (Contains (used t.steps)) here bound.uses
@@ -226,6 +246,7 @@ ready_bound o opens p now v t bound s is on_slot looked =
       on_slot = on_slot;
       looked = looked;
       touches = bound_touches o opens p v t bound s slot here now.seen looked.later looked.own;
+      behind = bound_behind o opens p v t bound s slot here;
       alone = bound_used o opens p v t bound s slot here;
       at = bound_later o opens p v t bound s slot here now looked.later looked.legal;
     }
@@ -246,6 +267,7 @@ ready_first o p now t all s on_slot looked = record {
   on_slot = on_slot;
   looked = looked;
   touches = tt;
+  behind = all-weaker (IsAnywhere o) (HasTouched s []) (λ step any n on of. let none = any.on in absurd (cc (none, on))) t.steps all;
   alone = none_used o s t.steps all;
   at = λ clear. g.at_first o s now.seen t.steps looked.legal all;
 }
@@ -290,6 +312,9 @@ module _ (o : Opening) (opens : IsOpening o) (formed : is_vschema o.schema ≡ t
     seen = done.seen ∙ ap (λ (l : List Write). done.before ++ entry_of s done.session p.statements l v.pending.changes ∷ []) (sym writes_are);
     legal = done.legal;
     room = done.room;
+    clear =
+        no_conflict o s done.before p.session t.steps v.pending.touched (bound_behind o opens p v t bound s (ap (λ (u : Shard). u.slot) here) here)
+        done.clear.unchanged;
     over =
         subst (GiveOver o.schema (one o done.before) t.steps) (sym (ap (one o) done.seen ∙ one_push o done.before e))
         (g.at_over o s opens formed done.before v.pending t.steps at_before may_last.0 done.clear.serving done.session p.statements low_before);

@@ -27,9 +27,9 @@ use Rattle.route_engine.proofs.Stepping.{refused_session}
 module _ (o : Opening) (l : Limits) (p : PassView Entry) where
   gives_in_session : (tr : Transaction) (ty : Typed) (reply : Reply) (now : Standing) → GivesIn o l p tr ty reply now → now.pass.session ≡ p.session
   gives_in_session tr _ _ _ (t.nowhere none over) = refl
-  gives_in_session tr _ _ _ (t.on_shard {now = now} s only alone looked serves over) = looked_session o s.slot p now looked
+  gives_in_session tr _ _ _ (t.on_shard {now = now} s only alone looked serves clear over) = looked_session o s.slot p now looked
   gives_in_session tr _ _ _ (t.commits_nothing none) = refl
-  gives_in_session tr _ _ _ (t.commits_reads {now = now} s uses none looked serves over) = looked_session o s.slot p now looked
+  gives_in_session tr _ _ _ (t.commits_reads {now = now} s uses none looked serves clear over) = looked_session o s.slot p now looked
   gives_in_session tr _ _ _ (t.commits_writes {now = now} s uses some done) =
       ap (λ (q : PassView Entry). q.session) done.pass ∙ looked_session o s.slot p done.looked done.look
   gives_in_session tr _ _ _ t.rolls_back = refl

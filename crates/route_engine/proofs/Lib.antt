@@ -22,6 +22,7 @@ pub mod Openings
 pub mod Told
 pub mod Going
 pub mod Causes
+pub mod Clearing
 pub mod Anywhere
 pub mod InTransaction
 pub mod Refusing

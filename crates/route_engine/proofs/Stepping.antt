@@ -45,7 +45,7 @@ use Rattle.route_engine.specs.Answers.{HasGone, NeedsAlone}
 use Rattle.route_engine.specs.Transactions as t
 use Rattle.route_engine.specs.Transactions.{Step, Transaction, Standing, GiveOver, AreOver, GivesIn, IsRefusedIn, ReadsAlone, if_any, used, with_step, seats_for, keyspace_of}
 use Rattle.route_engine.specs.Pendings as stands
-use Rattle.route_engine.specs.Pendings.{BoundView, OpenView, IsBound, IsTouchOf, IsAnywhere, Stands, bound_of}
+use Rattle.route_engine.specs.Pendings.{BoundView, OpenView, IsBound, IsTouchOf, HasTouched, IsAnywhere, Stands, bound_of}
 use Rattle.route_engine.specs.Within as w
 use Rattle.route_engine.specs.Within.{left_by, ends, IsSeatOf, NeedsNoSeat, NeedsSeveral, NeedsOther, HasReadAt, IsNotReadAt, HasWrittenAt, IsNotWrittenAt, HasCommittedAt, IsNotCommittedAt}
 use Rattle.route_engine.proofs.Anywhere.{stands_met}
@@ -156,6 +156,8 @@ module _ (o : Opening) (opens : IsOpening o) (formed : is_vschema o.schema ≡ t
                 stored = h.stored;
                 own = h.own;
               }) v.pending.touched is.touches;
+          behind =
+              all-append (HasTouched is.shard v.pending.touched) tr.steps (last ∷ []) is.behind ((λ n on of. absurd (cc on)), tt);
           seen = is.seen;
           own = is.own;
         }),

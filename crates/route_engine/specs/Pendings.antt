@@ -1,5 +1,5 @@
 -- How a transaction as the program keeps it stands for a session's transaction.
-use Rattle.std.specs.Prelude.{◌≡◌, ℕ, ◌<◌, IsTrue, List, [], ◌∷◌, ◌++◌, length, filter, Contains, Option, Some, None}
+use Rattle.std.specs.Prelude.{◌≡◌, ℕ, ◌<◌, ◌≤◌, IsTrue, List, [], ◌∷◌, ◌++◌, length, filter, Contains, Option, Some, None}
 use Rattle.std.specs.List.{AllByRecursion}
 use mathlib.Core.List.{IsPrefix}
 use Rattle.vschema.specs.declared.schema.Query.{Query}
@@ -75,6 +75,17 @@ pub record IsTouchOf (o : Opening) (s : Shard) (session : Option ℕ) (at : Run)
   pub stored : t.stored ≡ length (stored_on s.slot step.seen)
   pub own : (n : ℕ) → session ≡ Some n → filter (by_session commit_of n) at ≡ filter (by_session commit_of n) step.seen
 
+-- the table was touched by then
+pub record WasTouched (s : Shard) (touched : List Touch) (n : ℕ) (seen : Run) : Type 0 where
+  pub touch : Touch
+  pub is : Contains touched touch
+  pub table : touch.table ≡ n
+  pub stored : touch.stored ≤ length (stored_on s.slot seen)
+
+-- a statement that used the shard has touched its table
+abbrev pub HasTouched : Shard → List Touch → Step → Type 0
+HasTouched s touched step = (n : ℕ) → step.on ≡ Some s → table_of step.typed ≡ Some n → WasTouched s touched n step.seen
+
 -- bound to a shard, where it has gone on up to the run of the transaction, which the pass has seen, and has made no commit since
 pub record IsBound (o : Opening) (p : PassView Entry) (v : OpenView) (t : Transaction) : Type 0 where
   pub shard : Shard
@@ -85,6 +96,7 @@ pub record IsBound (o : Opening) (p : PassView Entry) (v : OpenView) (t : Transa
   pub pending : IsPending o shard t.at v.pending
   pub told : AreTold o shard t.at v.pending.touched t.steps v.pending.writes v.pending.changes
   pub touches : AllByRecursion (IsTouchOf o shard p.session t.at t.steps) v.pending.touched
+  pub behind : AllByRecursion (HasTouched shard v.pending.touched) t.steps
   pub seen : IsPrefix t.at p.seen
   pub own : (n : ℕ) → p.session ≡ Some n → filter (by_session commit_of n) p.seen ≡ filter (by_session commit_of n) t.at
 

@@ -124,6 +124,28 @@ write_on _ _ = []
 abbrev pub writes_in : List Step → List Write
 writes_in steps = flat_map (λ step. write_on step.on step.typed) steps
 
+-- ---- conflicts
+
+-- the table of a query or a write
+abbrev pub table_of : Typed → Option ℕ
+table_of (typed.Select q) = Some q.table
+table_of (typed.Write w) = Some (written_table w)
+table_of _ = None
+
+-- Behind a statement of the transaction another session's commit on the shard that it used has changed a row of that statement's table.
+pub record IsConflict (o : Opening) (s : Shard) (session : Option ℕ) (run : Run) (steps : List Step) : Type 0 where
+  pub step : Step
+  pub is : Contains steps step
+  pub on : step.on ≡ Some s
+  pub table : ℕ
+  pub touched : table_of step.typed ≡ Some table
+  pub behind : List Entry
+  pub since : run ≡ step.seen ++ behind
+  pub commit : C.Commit
+  pub there : Contains behind (record { shard = s; event = Commit commit })
+  pub other : session ≢ Some commit.session
+  pub changed : changes_table table (record { shard = s; event = Commit commit }) ≡ true
+
 -- ---- what its statements give
 
 -- one more statement of a transaction
@@ -136,7 +158,8 @@ reads_of (typed.Select q) s run = record { slot = s.slot; entries = length (entr
 reads_of _ s run = []
 
 -- The session of the pass has committed these statements on the shard: one look, then one entry with their writes, in order, and this alone is
--- new of its session. The statements lead from the one database right before the entry to the one right behind it.
+-- new of its session. Up to the entry none of their tables was changed by another session, and the statements lead from the one database right
+-- before the entry to the one right behind it.
 pub record IsCommitted (o : Opening) (limits : Limits) (s : Shard) (p : PassView Entry) (steps : List Step) (now : PassView Entry) : Type 0 where
   pub looked : PassView Entry
   pub look : HasLooked o s.slot p looked
@@ -149,24 +172,26 @@ pub record IsCommitted (o : Opening) (limits : Limits) (s : Shard) (p : PassView
   pub seen : now.seen ≡ before ++ entry_of s session p.statements (writes_in steps) changes ∷ []
   pub legal : IsLegal (MayFollow o) now.seen
   pub room : HasRoom o limits s before changes
+  pub clear : IsConflict o s p.session before steps → ⊥
   pub over : GiveOver o.schema (one o before) steps (one o now.seen)
   pub pass : now ≡ record looked { seen = now.seen }
 
 -- What a statement gives in an open transaction. One that needs no shard gives what it means with those before it. One that needs a shard needs
--- the transaction's, which serves at a look, and then all statements so far give what they mean over the one database as it is at this look. So
--- they do where a commit has read alone, which adds nothing; one that has written adds one entry. A rollback adds nothing.
+-- the transaction's, which serves at a look, up to which no other session has changed a table of an earlier statement, and then all statements
+-- so far give what they mean over the one database as it is at this look. So it is where a commit has read alone, which adds nothing; one that
+-- has written adds one entry. A rollback adds nothing.
 pub data GivesIn (o : Opening) (limits : Limits) (p : PassView Entry) (t : Transaction) : Typed → Reply → Standing → Type 0 where
   nowhere : {typed : Typed} {answer : Answer} → NeedsNone o typed → AreOver o t.at (with_step t.steps typed answer None p.seen)
       → GivesIn o limits p t typed (record { answer = answer; reads = [] })
       (record { pass = p; tx = Some (record { at = t.at; steps = with_step t.steps typed answer None p.seen }) })
   on_shard : {typed : Typed} {answer : Answer} {now : PassView Entry} (s : Shard) → NeedsOnly o typed s
       → AllByRecursion (λ u. u ≡ s) (used t.steps) → HasLooked o s.slot p now → mode o now.seen s.slot ≡ Serving
-      → AreOver o now.seen (with_step t.steps typed answer (Some s) now.seen)
+      → (IsConflict o s p.session now.seen t.steps → ⊥) → AreOver o now.seen (with_step t.steps typed answer (Some s) now.seen)
       → GivesIn o limits p t typed (record { answer = answer; reads = reads_of typed s now.seen })
       (record { pass = now; tx = Some (record { at = now.seen; steps = with_step t.steps typed answer (Some s) now.seen }) })
   commits_nothing : used t.steps ≡ [] → GivesIn o limits p t typed.Commit (record { answer = Count 0; reads = [] }) (record { pass = p; tx = None })
   commits_reads : {now : PassView Entry} (s : Shard) → Contains (used t.steps) s → writes_in t.steps ≡ [] → HasLooked o s.slot p now
-      → mode o now.seen s.slot ≡ Serving → AreOver o now.seen t.steps
+      → mode o now.seen s.slot ≡ Serving → (IsConflict o s p.session now.seen t.steps → ⊥) → AreOver o now.seen t.steps
       → GivesIn o limits p t typed.Commit (record { answer = Count 0; reads = [] }) (record { pass = now; tx = None })
   commits_writes : {now : PassView Entry} (s : Shard) → Contains (used t.steps) s → writes_in t.steps ≢ [] → IsCommitted o limits s p t.steps now
       → GivesIn o limits p t typed.Commit (record { answer = Count 0; reads = [] }) (record { pass = now; tx = None })
@@ -199,26 +224,6 @@ abbrev pub IsAnswer : Opening → Limits → Standing → List ℕ → Reply →
 IsAnswer o limits p text reply now = IsAnswerNow o limits (numbered p) text reply now
 
 -- ---- why it is refused
-
--- the table of a query or a write
-abbrev pub table_of : Typed → Option ℕ
-table_of (typed.Select q) = Some q.table
-table_of (typed.Write w) = Some (written_table w)
-table_of _ = None
-
--- Behind a statement of the transaction another session's commit on the shard that it used has changed a row of that statement's table.
-pub record IsConflict (o : Opening) (s : Shard) (session : Option ℕ) (run : Run) (steps : List Step) : Type 0 where
-  pub step : Step
-  pub is : Contains steps step
-  pub on : step.on ≡ Some s
-  pub table : ℕ
-  pub touched : table_of step.typed ≡ Some table
-  pub behind : List Entry
-  pub since : run ≡ step.seen ++ behind
-  pub commit : C.Commit
-  pub there : Contains behind (record { shard = s; event = Commit commit })
-  pub other : session ≢ Some commit.session
-  pub changed : changes_table table (record { shard = s; event = Commit commit }) ≡ true
 
 -- the shard that a query or a write of the transaction needs alone, or of a commit the one that it has used
 abbrev pub IsFor : Opening → Transaction → Typed → Shard → Type 0

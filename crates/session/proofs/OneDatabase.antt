@@ -236,13 +236,13 @@ module _ (o : Opening) (opens : IsOpening o) (formed : is_vschema o.schema ≡ t
       goes_on p p t told legal others h refl typed answer None t.at p.seen h.at refl
       (subst (λ (run : Run). AreOver o run (with_step t.steps typed answer None p.seen)) h.at over)
       (nowhere_leaves o opens formed p.seen legal tree typed answer p.seen is none)
-  gives_in_over p t told _ _ _ tree is legal others h (x.on_shard {typed} {answer} {now} s needs all looked serves over) =
+  gives_in_over p t told _ _ _ tree is legal others h (x.on_shard {typed} {answer} {now} s needs all looked serves clear over) =
       let same = looked_unchanged p now others o s.slot looked in
       goes_on p now t told legal others h same typed answer (Some s) now.seen now.seen same same
       (subst (λ (run : Run). AreOver o run (with_step t.steps typed answer (Some s) now.seen)) same over)
       (reads_leave o.schema (one o p.seen) typed answer now.seen s)
   gives_in_over p t told _ _ _ tree is legal others h (x.commits_nothing none) = commits_nothing p p t told legal others h refl (writes_none t.steps none)
-  gives_in_over p t told _ _ _ tree is legal others h (x.commits_reads {now} s uses none looked serves over) =
+  gives_in_over p t told _ _ _ tree is legal others h (x.commits_reads {now} s uses none looked serves clear over) =
       commits_nothing p now t told legal others h (looked_unchanged p now others o s.slot looked) none
   gives_in_over p t told _ _ _ tree is legal others h (x.commits_writes {now} s uses some c) = commits_writes p now t told legal others h s c
   gives_in_over p t told _ _ _ tree is legal others h x.rolls_back = rolls_back p p t told legal others h refl

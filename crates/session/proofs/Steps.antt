@@ -55,9 +55,9 @@ module _ (o : Opening) (l : Limits) where
 
   gives_in_on : (p : PassView Entry) (tx : Transaction) (t : Typed) (reply : Reply) (now : Standing) → GivesIn o l p tx t reply now → Follows o p now.pass
   gives_in_on p tx _ _ _ (x.nowhere none over) = stays p
-  gives_in_on p tx _ _ _ (x.on_shard {now} s alone all looked serves over) = looked_on s.slot p now looked
+  gives_in_on p tx _ _ _ (x.on_shard {now} s alone all looked serves clear over) = looked_on s.slot p now looked
   gives_in_on p tx _ _ _ (x.commits_nothing none) = stays p
-  gives_in_on p tx _ _ _ (x.commits_reads {now} s used none looked serves over) = looked_on s.slot p now looked
+  gives_in_on p tx _ _ _ (x.commits_reads {now} s used none looked serves clear over) = looked_on s.slot p now looked
   gives_in_on p tx _ _ _ (x.commits_writes {now} s used some c) = committed_on s p tx.steps now c
   gives_in_on p tx _ _ _ x.rolls_back = stays p
 
