@@ -5,3 +5,6 @@ pub mod Retiring
 pub mod Splits
 pub mod Blank
 pub mod Making
+pub mod Begins
+pub mod Moving
+pub mod Unfit

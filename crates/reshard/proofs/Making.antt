@@ -20,7 +20,7 @@ use mathlib.Core.List.{IsPrefix}
 use Rattle.journal.specs.Views.{PassView}
 use Rattle.journal.proofs.Fronts.{prefix_trans}
 use Rattle.serving.specs.Partitions.{Seat}
-use Rattle.reshard.specs.Workflows.{Taking}
+use Rattle.reshard.specs.Workflows.{Taking, seat_of}
 
 -- of the first sources the ones that overlap the range
 pub record SoFar (sources : List Shard) (n : ℕ) (range : KeyRange) (own : List Shard) : Type 0 where
@@ -143,6 +143,13 @@ module _ {T : Type 0} (f : T → Taking) (sources : List Shard) (k : ℕ) (range
             (subst (AllByRecursion (IsMadeOf sources k)) (sym (map-append f made (t ∷ [])))
             (AllByRecursion-push (IsMadeOf sources k) (map f made) (f t) all one.is)),
       )
+
+pub seats_next : {T : Type 0} (v : T → Seat) (f : T → Taking) (made new : List T) (t : T) → new ≡ made ++ t ∷ [] → map v made ≡ map (λ t. seat_of t.0) (map f made)
+    → v t ≡ seat_of (f t).0 → map v new ≡ map (λ t. seat_of t.0) (map f new)
+seats_next {T} v f made new t grown so_far one =
+    let g : Taking → Seat = λ t. seat_of t.0 in
+    ap (map v) grown ∙ map-append v made (t ∷ []) ∙ ap (λ (l : List Seat). l ++ v t ∷ []) so_far ∙ ap (λ (x : Seat). map g (map f made) ++ x ∷ []) one
+    ∙ sym (map-append g (map f made) (f t ∷ [])) ∙ ap (map g) (sym (map-append f made (t ∷ []))) ∙ ap (λ (l : List T). map g (map f l)) (sym grown)
 
 -- ---- sources, one after the other
 

@@ -77,6 +77,13 @@ module _ (ranges : List KeyRange) (parts : List Seat) (i : ℕ) (x : Seat) (ther
       let w = other refl in
       subst (λ l. AreNamed ranges (take (i + 1) parts) l rest') (sym w.0) (subst (AreNamed ranges (take (i + 1) parts) taken) (sym w.1) (rest_next (nay refl)))
 
+-- those that aren't named are among all
+pub among_next : (parts : List Seat) (i : ℕ) (x : Seat) → i < length parts → x ≡ get_or parts i x → (rest rest' : List Seat) (b : Bool)
+    → AllByRecursion (Contains parts) rest → (b ≡ true → rest' ≡ rest) → (b ≡ false → rest' ≡ rest ++ x ∷ []) → AllByRecursion (Contains parts) rest'
+among_next parts i x there is rest rest' true all one other = subst (AllByRecursion (Contains parts)) (sym (one refl)) all
+among_next parts i x there is rest rest' false all one other =
+    subst (AllByRecursion (Contains parts)) (sym (other refl)) (all_push (Contains parts) rest x all (i, there, sym is))
+
 -- ---- ranges that don't overlap
 
 all_get : {X : Type 0} (P : X → Type 0) (xs : List X) (a : ℕ) (d : X) → a < length xs → AllByRecursion P xs → P (get_or xs a d)

@@ -2,3 +2,4 @@ pub mod inner
 pub mod Choices
 pub mod Steps
 pub mod Workflows
+pub mod Begun

@@ -46,7 +46,7 @@ fn is_among(range: &KeyRange, ranges: &[KeyRange]) -> bool
     false
 }
 
-fn copy_part<S: Seated + Drop>(part: &Part<S>) -> Result<Part<S>, Refusal>
+pub(crate) fn copy_part<S: Seated + Drop>(part: &Part<S>) -> Result<Part<S>, Refusal>
     ensures ok { IfOk result (λ p. p ≡ part.now) }
     ensures err { IfErr result (λ e. e ≡ Refusal.OutOfMemory) }
 {
@@ -60,6 +60,7 @@ pub fn choose<S: Seated + Drop>(
     ranges: &[KeyRange],
 ) -> Result<Chosen<S>, Refusal>
     ensures ok { IfOk result (λ c. AreNamed ranges.now parts.now c.taken.items c.rest.items) }
+    ensures rest { IfOk result (λ c. AllByRecursion (Contains parts.now) c.rest.items) }
     ensures err { IfErr result (λ e. e ≡ Refusal.OutOfMemory) }
 {
     let mut chosen = Chosen {

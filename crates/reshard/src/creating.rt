@@ -14,22 +14,21 @@ ghost use Rattle.shard.specs.Shards.{MayFollow};
 ghost use Rattle.follow.specs.Steps.{IsOnward};
 ghost use Rattle.reshard.specs.Choices.{AreNamed, AreApart, HoldTheSame};
 ghost use Rattle.reshard.specs.Steps.{TakesFrom};
-ghost use Rattle.reshard.specs.Workflows.{IsFree, IsSplit};
-ghost use Rattle.reshard.specs.inner.Created.{IsSight, IsAway, IsPicked, AreOverlapped, HasGrown, IsGround, IsMade, IsMadeOf, IsUnfit};
+ghost use Rattle.reshard.specs.Workflows.{IsFree, IsGround, seat_of, placed};
+ghost use Rattle.reshard.specs.inner.Created.{IsSight, IsAway, IsPicked, AreOverlapped, HasGrown, IsMade, IsMadeOf};
 
-use crate::choosing::{Chosen, any_overlap, choose, next_ranges};
-use crate::fault::ReshardFault;
+use crate::ground::Ground;
 use crate::steps::Source;
-use crate::workflow::{Stage, Target, Workflow};
+use crate::workflow::Target;
 use follow::Member;
 use journal::{Naming, Pass, ShardSeat};
-use keyrange::{KeyRange, covers_once};
-use serving::{Part, Serving};
+use keyrange::KeyRange;
+use serving::Part;
 use shard::{Limits, Shard, ShardLaw, ShardState, Store, World};
 use shard_run::Mode;
 use std::alloc::Global;
 use std::sync::{Arc, Wait};
-use vschema::{Place, Table, VSchema};
+use vschema::{Place, VSchema};
 use vt_value::{Items, Refusal};
 
 // What a look at the shard of a slot and place shows.
@@ -40,7 +39,10 @@ enum Sight {
     Another,
 }
 
-fn copy_shard(alloc: Global, shard: &shard_run::Shard) -> Result<shard_run::Shard, Refusal>
+pub(crate) fn copy_shard(
+    alloc: Global,
+    shard: &shard_run::Shard,
+) -> Result<shard_run::Shard, Refusal>
     ensures ok { IfOk result (λ copy. copy ≡ shard.now) }
     ensures err { IfErr result (λ e. e ≡ Refusal.OutOfMemory) }
 {
@@ -221,13 +223,13 @@ fn own_of<W: World, J: Naming>(
     Ok(own)
 }
 
-// A store of these tables, without rows.
-fn empty_store(alloc: Global, tables: &[Table]) -> Result<Store, Refusal>
-    ensures ok { IfOk result (λ store. store.rows ≡ replicate (length tables.now) []) }
+// A store of the tables, which are empty.
+fn empty_store(alloc: Global, schema: &VSchema) -> Result<Store, Refusal>
+    ensures ok { IfOk result (λ store. store.rows ≡ replicate (length schema.now.tables) []) }
     ensures err { IfErr result (λ e. e ≡ Refusal.OutOfMemory) }
 {
     let mut store = Store::new(alloc);
-    for table in tables {
+    for table in schema.tables.as_slice() {
         store.push_table(alloc, table)?;
     }
     Ok(store)
@@ -237,6 +239,7 @@ fn shared<W: World, J: Naming>(
     alloc: Global,
     state: ShardState<W, J>,
 ) -> Result<Arc<Shard<W, J>, Global>, Refusal>
+    ensures seat { IfOk result (λ shard. shard.value ≡ seat_of state.shard) }
     ensures err { IfErr result (λ e. e ≡ Refusal.OutOfMemory) }
 {
     Ok(Arc::new(alloc, Shard::new(state))?)
@@ -247,7 +250,7 @@ fn open_shard<W: World, J: Naming>(
     alloc: Global,
     free: &mut Vec<ShardSeat<ShardLaw<W>, J>>,
     which: &mut shard_run::Shard,
-    tables: &[Table],
+    schema: &VSchema,
     limits: Limits,
 ) -> Result<Arc<Shard<W, J>, Global>, Refusal>
     requires opens { IsOpening W.opening }
@@ -256,17 +259,18 @@ fn open_shard<W: World, J: Naming>(
     requires some { 0 < vec_len free.old }
     requires range { IsNamed which.old.place.range }
     requires sources { which.old.sources ≡ [] → ⊥ }
-    requires tables { tables.now ≡ W.opening.schema.tables }
+    requires schema { schema.now ≡ W.opening.schema }
     requires limits { limits ≡ W.limits }
     requires most_rows { limits.rows ≤ 2 ^ 20 }
     requires most_stored { limits.stored ≤ 2 ^ 20 }
+    ensures seat { IfOk result (λ shard. shard.value ≡ seat_of which.new) }
     ensures place { which.new.place ≡ which.old.place }
     ensures sources { which.new.sources ≡ which.old.sources }
     ensures free { AllByRecursion (IsFree W.opening) free.new.items }
     ensures count { vec_len free.old ≤ vec_len free.new + 1 }
     ensures err { IfErr result (λ e. e ≡ Refusal.OutOfMemory) }
 {
-    let store = empty_store(alloc, tables)?;
+    let store = empty_store(alloc, schema)?;
     let mut copy = copy_shard(alloc, which)?;
     let seat = free.pop().unwrap();
     let slot = seat.slot();
@@ -276,30 +280,24 @@ fn open_shard<W: World, J: Naming>(
     shared(alloc, state)
 }
 
-// What the controller fixes for all workflows.
-#[derive(Clone, Copy)]
-pub(crate) struct Ground {
-    pub(crate) keyspace: usize,
-    pub(crate) limits: Limits,
-}
-
 // A target of this range on a free slot, with those of the sources that overlap it.
 fn make_target<W: World, J: Naming>(
     alloc: Global,
     free: &mut Vec<ShardSeat<ShardLaw<W>, J>>,
-    ground: Ground,
     schema: &VSchema,
+    ground: Ground,
     sources: &[Source<W, J>],
     range: KeyRange,
 ) -> Result<Target<W, J>, Refusal>
     requires opens { IsOpening W.opening }
-    requires ground { IsGround W.opening W.limits ground }
     requires schema { schema.now ≡ W.opening.schema }
+    requires ground { IsGround W.opening W.limits ground }
     requires free { AllByRecursion (IsFree W.opening) free.old.items }
     requires some { 0 < vec_len free.old }
     requires range { IsNamed range }
     requires covered { (own : List which.Shard) → AreOverlapped (map (λ s. s.member.which) sources.now) range own → own ≡ [] → ⊥ }
     ensures target { IfOk result (λ t. IsMade (map (λ s. s.member.which) sources.now) ground.keyspace range (t.member.which, map (λ s. s.which) t.sources.items)) }
+    ensures seat { IfOk result (λ t. t.member.shard.value ≡ seat_of t.member.which) }
     ensures free { AllByRecursion (IsFree W.opening) free.new.items }
     ensures count { vec_len free.old ≤ vec_len free.new + 1 }
     ensures err { IfErr result (λ e. e ≡ Refusal.OutOfMemory) }
@@ -316,13 +314,7 @@ fn make_target<W: World, J: Naming>(
         },
         members: own.members,
     };
-    let shard = open_shard(
-        alloc,
-        free,
-        &mut target.which,
-        schema.tables.as_slice(),
-        ground.limits,
-    )?;
+    let shard = open_shard(alloc, free, &mut target.which, schema, ground.limits)?;
     Ok(Target {
         member: Member {
             which: target.which,
@@ -343,26 +335,28 @@ struct Blank<W: World, J: Naming> {
 pub(crate) fn make_targets<W: World, J: Naming>(
     alloc: Global,
     free: &mut Vec<ShardSeat<ShardLaw<W>, J>>,
-    ground: Ground,
     schema: &VSchema,
+    ground: Ground,
     sources: &[Source<W, J>],
     ranges: &[KeyRange],
 ) -> Result<Vec<Target<W, J>>, Refusal>
     requires opens { IsOpening W.opening }
-    requires ground { IsGround W.opening W.limits ground }
     requires schema { schema.now ≡ W.opening.schema }
+    requires ground { IsGround W.opening W.limits ground }
     requires free { AllByRecursion (IsFree W.opening) free.old.items }
     requires enough { length ranges.now ≤ vec_len free.old }
     requires ranges { AllByRecursion IsNamed ranges.now }
     requires covered { AllByRecursion (λ r. (own : List which.Shard) → AreOverlapped (map (λ s. s.member.which) sources.now) r own → own ≡ [] → ⊥) ranges.now }
     ensures targets { IfOk result (λ ts. (map (λ t. t.member.which.place.range) ts.items ≡ ranges.now)
         × AllByRecursion (IsMadeOf (map (λ s. s.member.which) sources.now) ground.keyspace) (map (λ t. (t.member.which, map (λ s. s.which) t.sources.items)) ts.items)) }
+    ensures seats { IfOk result (λ ts. map (λ t. t.member.shard.value) ts.items
+        ≡ placed (map (λ t. (t.member.which, map (λ s. s.which) t.sources.items)) ts.items)) }
     ensures free { AllByRecursion (IsFree W.opening) free.new.items }
     ensures err { IfErr result (λ e. e ≡ Refusal.OutOfMemory) }
 {
     let mut made = Vec::new(alloc);
     for range in ranges {
-        let target = make_target(alloc, free, ground, schema, sources, *range)?;
+        let target = make_target(alloc, free, schema, ground, sources, *range)?;
         made.push(target)?;
     }
     Ok(made)

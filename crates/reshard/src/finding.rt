@@ -1,5 +1,5 @@
 //! Which shards a workflow replaces, and whether these targets may take their place.
-ghost use Rattle.std.specs.Prelude.{◌≡◌, ◌⊎◌, ◌++◌, IfOk, IfErr, OnOk, MatchOption, Contains, map};
+ghost use Rattle.std.specs.Prelude.{◌≡◌, ◌⊎◌, ◌++◌, IfOk, IfErr, OnOk, MatchOption, Contains, map, length};
 ghost use Rattle.std.specs.List.{AllByRecursion};
 ghost use Rattle.keyrange.specs.Ranges.{Cover};
 ghost use Rattle.serving.specs.Partitions.{Seat};
@@ -7,9 +7,9 @@ ghost use Rattle.journal.specs.Runs.{IsLegal};
 ghost use Rattle.shard.specs.Shards.{MayFollow};
 ghost use Rattle.follow.specs.Steps.{IsOnward};
 ghost use Rattle.reshard.specs.Choices.{AreApart};
-ghost use Rattle.reshard.specs.inner.Created.{IsAway};
+ghost use Rattle.reshard.specs.inner.Created.{IsAway, IsUnfit};
 
-use crate::choosing::{any_overlap, next_ranges};
+use crate::choosing::{Chosen, any_overlap, next_ranges};
 use crate::creating::source_of;
 use crate::fault::ReshardFault;
 use crate::steps::Source;
@@ -64,5 +64,38 @@ pub(crate) fn test_targets<W: World, J: Naming>(
         Ok(())
     } else {
         Err(ReshardFault::Gap)
+    }
+}
+
+// The sources of these ranges, where targets of those may take their place.
+pub(crate) fn find_sources<W: World, J: Naming>(
+    rt: &impl Wait,
+    alloc: Global,
+    pass: &mut Pass<ShardLaw<W>, J>,
+    keyspace: usize,
+    chosen: &Chosen<Shard<W, J>>,
+    sources: &[KeyRange],
+    targets: &[KeyRange],
+) -> Result<Vec<Source<W, J>>, ReshardFault>
+    requires legal { IsLegal (MayFollow W.opening) pass.old.seen }
+    ensures found { IfOk result (λ found. (map (λ s. (s.member.which.slot, s.member.which.place.range)) found.items ≡ chosen.now.taken.items)
+        × AllByRecursion (λ s. s.member.which.place.keyspace ≡ keyspace) found.items) }
+    ensures cover { OnOk result (Cover (map (λ s. s.1) chosen.now.rest.items ++ targets.now)) }
+    ensures count { OnOk result (length chosen.now.taken.items ≡ length sources.now) }
+    ensures onward { IsOnward W.opening pass.old pass.new }
+    ensures err { IfErr result (IsUnfit W.opening pass.old pass.new keyspace sources.now targets.now chosen.now.taken.items chosen.now.rest.items) }
+{
+    if sources.is_empty() {
+        return Err(ReshardFault::WrongSource);
+    }
+    if chosen.taken.len() != sources.len() {
+        return Err(ReshardFault::WrongSource);
+    }
+    let Some(found) = sources_of(rt, alloc, pass, keyspace, chosen.taken.as_slice())? else {
+        return Err(ReshardFault::WrongSource);
+    };
+    match test_targets(alloc, chosen.rest.as_slice(), targets) {
+        Ok(()) => Ok(found),
+        Err(fault) => Err(fault),
     }
 }

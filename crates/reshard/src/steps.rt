@@ -121,7 +121,7 @@ pub fn retire<W: World, J: Naming>(
     unreachable!()
 }
 
-fn follows<W: World, J: Naming>(state: &ShardState<W, J>) -> bool
+pub(crate) fn follows<W: World, J: Naming>(state: &ShardState<W, J>) -> bool
     ensures { result ≡ true → mode W.opening state.now.seen state.now.shard.slot ≡ Mode.Following }
 {
     state.mode() == Mode::Following
@@ -147,7 +147,7 @@ fn is_up_to<W: World, J: Naming>(
     }
 }
 
-fn is_source_of(target: &shard_run::Shard, slot: usize) -> bool
+pub(crate) fn is_source_of(target: &shard_run::Shard, slot: usize) -> bool
     ensures { result ≡ has_source slot target.now }
 {
     target.sources.as_slice().contains(&slot)

@@ -1,8 +1,10 @@
 //! A workflow that replaces some shards of a keyspace by others, which hold the same ids.
+use crate::ground::Ground;
 use crate::steps::Source;
 use follow::Member;
 use journal::{Naming, ShardSeat};
-use shard::{ShardLaw, World};
+use serving::Part;
+use shard::{Shard, ShardLaw, World};
 use std::marker::Model;
 
 /// How far a workflow is.
@@ -29,10 +31,17 @@ pub struct Target<W: World, J: Naming> {
 /// a `WorkflowView`.
 #[derive(Drop)]
 pub struct Workflow<W: World, J: Naming> {
+    pub(crate) ground: Ground,
     pub(crate) stage: Stage,
     pub(crate) free: Vec<ShardSeat<ShardLaw<W>, J>>,
     pub(crate) sources: Vec<Source<W, J>>,
     pub(crate) targets: Vec<Target<W, J>>,
+    // the parts of the partition that stay
+    pub(crate) rest: Vec<Part<Shard<W, J>>>,
+    // so many of the first sources are frozen or retired, and so many of the first targets serve
+    pub(crate) frozen: usize,
+    pub(crate) retired: usize,
+    pub(crate) served: usize,
 }
 
 impl<W: World, J: Naming> Model for Workflow<W, J> {
@@ -43,10 +52,15 @@ impl<W: World, J: Naming> Model for Workflow<W, J> {
 
     ghost view = { λ w. record {
       stage = w.stage;
+      keyspace = w.ground.keyspace;
       free = map (λ s. s.slot) w.free.items;
       sources = map (λ s. s.member.which) w.sources.items;
-      targets = map (λ t. t.member.which) w.targets.items;
+      targets = map (λ t. (t.member.which, map (λ s. s.which) t.sources.items)) w.targets.items;
+      frozen = w.frozen;
+      retired = w.retired;
+      served = w.served;
     } };
 
-    ghost invariant = { λ w. IsWorkflow W.opening w.free.items (map (λ s. s.member.which) w.sources.items) (map (λ t. (t.member.which, map (λ s. s.which) t.sources.items)) w.targets.items) };
+    ghost invariant = { λ w. IsWorkflow W.opening W.limits w.ground w.stage w.free.items (map (λ s. s.member.which) w.sources.items)
+        (map (λ t. (t.member.which, map (λ s. s.which) t.sources.items)) w.targets.items) (map (λ t. t.member.shard.value) w.targets.items) w.rest.items };
 }

@@ -1,5 +1,5 @@
 -- What a workflow's beginning finds.
-use Rattle.std.specs.Prelude.{◌≡◌, ℕ, ◌<◌, ◌≤◌, ◌^◌, ◌++◌, ◌∷◌, [], List, length, map, Contains}
+use Rattle.std.specs.Prelude.{◌≡◌, ℕ, ◌++◌, ◌∷◌, [], List, length, map, Contains}
 use Rattle.std.specs.List.{AllByRecursion}
 use mathlib.Core.List.{IsPrefix}
 use Rattle.keyrange.specs.declared.KeyRange.{KeyRange}
@@ -12,7 +12,6 @@ use Rattle.shard_run.specs.declared.Entry.{Entry}
 use Rattle.shard_run.specs.declared.Mode.TheVariants as modes
 use Rattle.shard_run.specs.Runs.{Run, Opening, mode}
 use Rattle.shard_run.specs.Legal.{IsOnItsSlot}
-use Rattle.shard.specs.declared.limits.Limits.{Limits}
 use Rattle.vt_value.specs.declared.refusal.Refusal.TheVariants.{OutOfMemory}
 use Rattle.reshard.specs.declared.fault.ReshardFault.{ReshardFault}
 use Rattle.reshard.specs.declared.fault.ReshardFault.TheVariants.{Refused, Gap, WrongSource}
@@ -20,7 +19,6 @@ use Rattle.reshard.specs.declared.fault.ReshardFault.TheVariants as faults
 use Rattle.reshard.specs.Choices.{AreApart}
 use Rattle.reshard.specs.Steps.{TakesFrom}
 use Rattle.reshard.specs.Workflows.{Taking}
-use Rattle.reshard.specs.declared.creating.Ground.{Ground}
 use Rattle.reshard.specs.declared.creating.Sight.{Sight}
 use Rattle.reshard.specs.declared.creating.Sight.TheVariants.{Serves, DoesNot, Another}
 
@@ -59,13 +57,6 @@ pub data HasGrown (range : KeyRange) (s : S.Shard) (old new : List S.Shard) : Ty
 pub record AreOverlapped (sources : List S.Shard) (range : KeyRange) (own : List S.Shard) : Type 0 where
   pub among : AllByRecursion (Contains sources) own
   pub all : (s : S.Shard) → Contains sources s → Overlap s.place.range range → Contains own s
-
--- what is fixed is that of the world, whose limits are those of a shard
-pub record IsGround (o : Opening) (most : Limits) (g : Ground) : Type 0 where
-  pub keyspace : g.keyspace < length o.schema.keyspaces
-  pub limits : g.limits ≡ most
-  pub rows : g.limits.rows ≤ 2 ^ 20
-  pub stored : g.limits.stored ≤ 2 ^ 20
 
 -- the target is in the keyspace, and takes from those of the sources that overlap it
 pub record IsMadeOf (sources : List S.Shard) (keyspace : ℕ) (t : Taking) : Type 0 where

@@ -1,7 +1,12 @@
 use Rattle.std.proofs.Common.{take}
+use Rattle.std.specs.Prelude.{Contains}
+use Rattle.std.specs.List.{AllByRecursion}
 use Rattle.reshard.specs.Choices.{AreNamed}
 use Rattle.reshard.proofs.choosing.choose.Given as goal
 
 -- the parts so far
 abbrev pub invariant-loop-part : goal.invariant-loop-part
-invariant-loop-part g l = AreNamed l.ranges (take l.part-index l.parts) l.chosen.taken.items l.chosen.rest.items
+invariant-loop-part g l = record {
+  are : AreNamed l.ranges (take l.part-index l.parts) l.chosen.taken.items l.chosen.rest.items;
+  among : AllByRecursion (Contains l.parts) l.chosen.rest.items;
+}

@@ -2,7 +2,7 @@ use Rattle.std.proofs.Common.{◌≡◌, List, [], map, arith}
 use Rattle.shard_run.specs.declared.Shard.{Shard}
 use Rattle.reshard.specs.inner.Created.{AreOverlapped}
 use Rattle.reshard.proofs.Retiring.{item_of}
-use Rattle.reshard.proofs.Making.{made_next}
+use Rattle.reshard.proofs.Making.{made_next, seats_next}
 use Rattle.reshard.proofs.creating.make_targets.Goals as goal
 
 pub make_target-requires-clause-covered : goal.make_target-requires-clause-covered
@@ -21,5 +21,8 @@ loop-range-preserved g c =
       free = c.make_target.ensures.free;
       enough = omega (arith, a, b);
       ranges = w.0;
+      seats =
+          seats_next (λ t. t.member.shard.value) (λ t. (t.member.which, map (λ s. s.which) t.sources.items)) c.loop-range.made.items c.push.new.self.items
+          c.in_ok-target.target c.in_ok-push.ensures.items c.loop-range.invariant.seats c.in_ok-target.ensures.seat;
       made = w.1;
     }

@@ -1,8 +1,8 @@
 use denote.Param.Send.{sendable}
 use Rattle.std.proofs.Common.{ℕ, sym, ap, subst, ◌∙◌, ◌++◌, List, [], length, replicate}
+use Rattle.vschema.specs.declared.schema.VSchema.{VSchema}
 use Rattle.std.specs.List.{AllByRecursion}
 use Rattle.std.specs.Option.{option_to_list}
-use Rattle.vschema.specs.declared.schema.Table.{Table}
 use Rattle.shard_run.proofs.Sent.{entry_send}
 use Rattle.shard_run.specs.Runs.{is_opening, entries_on}
 use Rattle.reshard.specs.Workflows.{IsFree}
@@ -33,6 +33,6 @@ new-state-requires-clause-first_mode g c =
 
 pub new-state-requires-clause-rows : goal.new-state-requires-clause-rows
 new-state-requires-clause-rows g c =
-    c.in_ok-store.ensures.ok ∙ ap (λ (ts : List Table). replicate (length ts) []) c.requires.tables
+    c.in_ok-store.ensures.ok ∙ ap (λ (v : VSchema). replicate (length v.tables) []) c.requires.schema
     ∙ sym (blank g.W.World.opening c.requires.opens c.args.which.now.place.keyspace c.requires.keyspace (record c.in_ok-copy.copy { slot = c.slot-slot.result })
     (ap (is_opening g.W.World.opening) c.slot-slot.ensures.slot ∙ (free g c).not_opening))

@@ -1,0 +1,106 @@
+//! What a workflow begins with: its sources, its targets, and the parts of the partition that stay.
+ghost use Rattle.std.specs.Prelude.{◌≡◌, ◌≤◌, ◌++◌, ◌⊎◌, ◌<◌, ◌+◌, true, false, IfOk, IfErr, OnOk, IsPermutation, map, length};
+ghost use Rattle.std.specs.List.{AllByRecursion};
+ghost use Rattle.keyrange.specs.Names.{IsNamed};
+ghost use Rattle.journal.specs.Runs.{IsLegal};
+ghost use Rattle.shard_run.specs.Openings.{IsOpening};
+ghost use Rattle.shard.specs.Shards.{MayFollow};
+ghost use Rattle.serving.specs.Partitions.{IsPartition};
+ghost use Rattle.follow.specs.Steps.{IsOnward};
+ghost use Rattle.reshard.specs.Workflows.{IsFree, IsGround, IsSplit, placed};
+ghost use Rattle.reshard.specs.Begun.{HasBegun, IsCreateRefusal};
+
+use crate::choosing::choose;
+use crate::creating::make_targets;
+use crate::fault::ReshardFault;
+use crate::finding::find_sources;
+use crate::ground::Ground;
+use crate::steps::Source;
+use crate::workflow::Target;
+use journal::{Naming, Pass, ShardSeat};
+use keyrange::KeyRange;
+use serving::{Part, Partition};
+use shard::{Shard, ShardLaw, World};
+use std::alloc::Global;
+use std::sync::Wait;
+use vschema::VSchema;
+use vt_value::Refusal;
+
+// A partition has at most so many parts.
+const MOST_PARTS: usize = 64;
+
+/// Sources, the targets that take their place, and the parts that stay.
+#[derive(Drop)]
+pub(crate) struct Begun<W: World, J: Naming> {
+    pub(crate) sources: Vec<Source<W, J>>,
+    pub(crate) targets: Vec<Target<W, J>>,
+    pub(crate) rest: Vec<Part<Shard<W, J>>>,
+}
+
+// The ranges in the order of their begins.
+fn in_order(alloc: Global, ranges: &[KeyRange]) -> Result<Vec<KeyRange>, Refusal>
+    ensures ok { IfOk result (λ r. IsPermutation ranges.now r.items) }
+    ensures err { IfErr result (λ e. e ≡ Refusal.OutOfMemory) }
+{
+    let mut ordered = Vec::from_slice(alloc, ranges)?;
+    ordered.sort_unstable_by(|a, b| a.begin.as_slice().cmp(b.begin.as_slice()));
+    Ok(ordered)
+}
+
+// Whether there are too few slots, or too many parts, for so many targets.
+fn lack_slots(free: usize, rest: usize, targets: usize) -> bool
+    ensures few { result ≡ true → (free < targets) ⊎ (64 < rest + targets) }
+    ensures enough { result ≡ false → (targets ≤ free) × (rest + targets ≤ 64) }
+{
+    free < targets || rest > MOST_PARTS || targets > MOST_PARTS - rest
+}
+
+// The sources of these ranges, and targets of those, on free slots.
+pub(crate) fn begin<W: World, J: Naming>(
+    rt: &impl Wait,
+    alloc: Global,
+    pass: &mut Pass<ShardLaw<W>, J>,
+    schema: &VSchema,
+    free: &mut Vec<ShardSeat<ShardLaw<W>, J>>,
+    ground: Ground,
+    current: &Partition<Shard<W, J>>,
+    sources: &[KeyRange],
+    targets: &[KeyRange],
+) -> Result<Begun<W, J>, ReshardFault>
+    requires opens { IsOpening W.opening }
+    requires schema { schema.now ≡ W.opening.schema }
+    requires ground { IsGround W.opening W.limits ground }
+    requires legal { IsLegal (MayFollow W.opening) pass.old.seen }
+    requires free { AllByRecursion (IsFree W.opening) free.old.items }
+    requires named { AllByRecursion IsNamed targets.now }
+    ensures begun { IfOk result (λ b. HasBegun (map (λ s. s.member.which) b.sources.items) (map (λ t. (t.member.which, map (λ s. s.which) t.sources.items)) b.targets.items)
+        ground.keyspace sources.now targets.now) }
+    ensures split { IfOk result (λ b. IsSplit (map (λ s. s.member.which) b.sources.items) (map (λ t. (t.member.which, map (λ s. s.which) t.sources.items)) b.targets.items)) }
+    ensures seated { IfOk result (λ b. map (λ t. t.member.shard.value) b.targets.items
+        ≡ placed (map (λ t. (t.member.which, map (λ s. s.which) t.sources.items)) b.targets.items)) }
+    ensures next { IfOk result (λ b. IsPartition (b.rest.items ++ map (λ t. t.member.shard.value) b.targets.items)) }
+    ensures free { AllByRecursion (IsFree W.opening) free.new.items }
+    ensures onward { IsOnward W.opening pass.old pass.new }
+    ensures err { IfErr result (IsCreateRefusal W.opening pass.old pass.new ground.keyspace (length free.old.items) sources.now targets.now) }
+    ensures kept { IfErr result (λ e. (e ≡ ReshardFault.Refused Refusal.OutOfMemory → ⊥) → free.new ≡ free.old) }
+{
+    let chosen = choose(alloc, current.parts(), sources)?;
+    let found = find_sources(rt, alloc, pass, ground.keyspace, &chosen, sources, targets)?;
+    if lack_slots(free.len(), chosen.rest.len(), targets.len()) {
+        return Err(ReshardFault::FewSlots);
+    }
+    let ranges = in_order(alloc, targets)?;
+    let made = make_targets(
+        alloc,
+        free,
+        schema,
+        ground,
+        found.as_slice(),
+        ranges.as_slice(),
+    )?;
+    Ok(Begun {
+        sources: found,
+        targets: made,
+        rest: chosen.rest,
+    })
+}

@@ -1,0 +1,177 @@
+//! The calls that begin a workflow, and bring its targets forward.
+ghost use Rattle.std.specs.Prelude.{◌≡◌, ◌⊎◌, [], IfOk, IfErr, OnOk, IsTrue, map, length};
+ghost use Rattle.std.specs.List.{AllByRecursion};
+ghost use Rattle.vschema.specs.WellFormed.{is_vschema};
+ghost use Rattle.keyrange.specs.Names.{IsNamed};
+ghost use Rattle.journal.specs.Runs.{IsLegal};
+ghost use Rattle.shard_run.specs.Openings.{IsOpening};
+ghost use Rattle.shard.specs.Shards.{MayFollow};
+ghost use Rattle.follow.specs.Steps.{IsOnward};
+ghost use Rattle.reshard.specs.Workflows.{IsFree, IsGround, TakeFromOwn};
+ghost use Rattle.reshard.specs.Begun.{HasBegun, IsCreateRefusal, HasMovedFirst, IsMoveRefusal};
+
+use crate::beginning::begin;
+use crate::fault::ReshardFault;
+use crate::ground::Ground;
+use crate::workflow::{Stage, Target, Workflow};
+use follow::{Step, bring_forward_with};
+use journal::{Naming, Pass, ShardSeat};
+use keyrange::KeyRange;
+use serving::Serving;
+use shard::{Shard, ShardLaw, World};
+use std::alloc::Global;
+use std::sync::Wait;
+use vschema::VSchema;
+use vt_value::Refusal;
+
+// Brings the first of the targets forward that isn't level.
+pub(crate) fn move_first<W: World, J: Naming>(
+    rt: &impl Wait,
+    alloc: Global,
+    pass: &mut Pass<ShardLaw<W>, J>,
+    schema: &VSchema,
+    targets: &[Target<W, J>],
+) -> Result<Step, Refusal>
+    requires opens { IsOpening W.opening }
+    requires schema { schema.now ≡ W.opening.schema }
+    requires formed { IsTrue (is_vschema W.opening.schema) }
+    requires own { TakeFromOwn (map (λ t. (t.member.which, map (λ s. s.which) t.sources.items)) targets.now) }
+    requires legal { IsLegal (MayFollow W.opening) pass.old.seen }
+    ensures moved { IfOk result (HasMovedFirst W.opening (map (λ t. (t.member.which, map (λ s. s.which) t.sources.items)) targets.now) pass.old pass.new) }
+    ensures refused { IfErr result (λ e. IsMoveRefusal W.limits (map (λ t. (t.member.which, map (λ s. s.which) t.sources.items)) targets.now) pass.new (ReshardFault.Refused e)) }
+    ensures onward { IsOnward W.opening pass.old pass.new }
+{
+    for target in targets {
+        let step = bring_forward_with(
+            rt,
+            alloc,
+            pass,
+            schema,
+            target.sources.as_slice(),
+            &target.member,
+        )?;
+        if step != Step::Level {
+            return Ok(step);
+        }
+    }
+    Ok(Step::Level)
+}
+
+impl<W: World, J: Naming> Workflow<W, J> {
+    /// A controller of a keyspace and these free slots, which has no workflow.
+    pub fn new(
+        alloc: Global,
+        ground: Ground,
+        free: Vec<ShardSeat<ShardLaw<W>, J>>,
+    ) -> Workflow<W, J>
+        requires opens { IsOpening W.opening }
+        requires ground { IsGround W.opening W.limits ground }
+        requires free { AllByRecursion (IsFree W.opening) free.items }
+        ensures { result ≡ record {
+          stage = Stage.None;
+          keyspace = ground.keyspace;
+          free = map (λ s. s.slot) free.items;
+          sources = [];
+          targets = [];
+          frozen = 0;
+          retired = 0;
+          served = 0;
+        } }
+    {
+        Workflow {
+            ground,
+            stage: Stage::None,
+            free,
+            sources: Vec::new(alloc),
+            targets: Vec::new(alloc),
+            rest: Vec::new(alloc),
+            frozen: 0,
+            retired: 0,
+            served: 0,
+        }
+    }
+
+    /// How far its workflow is.
+    pub fn stage(&self) -> Stage
+        ensures { result ≡ self.now.stage }
+    {
+        self.stage
+    }
+
+    /// Begins a workflow: targets of these ranges, on free slots, are to take the place of the shards of those. Refuses where it has a
+    /// workflow; where no source is named, one is named twice or isn't a range of the present partition, or its shard doesn't serve or is
+    /// frozen; where two targets overlap; where they don't hold what the sources do; where too few slots are free; and for want of memory.
+    /// Then it stands as it stood; only for want of memory slots may be used up.
+    pub fn create(
+        &mut self,
+        rt: &impl Wait,
+        alloc: Global,
+        pass: &mut Pass<ShardLaw<W>, J>,
+        schema: &VSchema,
+        serving: &Serving<Shard<W, J>>,
+        sources: &[KeyRange],
+        targets: &[KeyRange],
+    ) -> Result<(), ReshardFault>
+        requires schema { schema.now ≡ W.opening.schema }
+        requires legal { IsLegal (MayFollow W.opening) pass.old.seen }
+        requires named { AllByRecursion IsNamed targets.now }
+        ensures begun { OnOk result (HasBegun self.new.sources self.new.targets self.old.keyspace sources.now targets.now) }
+        ensures at { OnOk result (self.new ≡ record self.old { stage = Stage.Following; free = self.new.free; sources = self.new.sources; targets = self.new.targets; frozen = 0; retired = 0; served = 0 }) }
+        ensures was { OnOk result (self.old.stage ≡ Stage.None) }
+        ensures refused { IfErr result (λ e. ((e ≡ ReshardFault.WrongState) × (self.old.stage ≡ Stage.None → ⊥))
+            ⊎ ((self.old.stage ≡ Stage.None) × IsCreateRefusal W.opening pass.old pass.new self.old.keyspace (length self.old.free) sources.now targets.now e)) }
+        ensures same { IfErr result (λ e. self.new ≡ record self.old { free = self.new.free }) }
+        ensures kept { IfErr result (λ e. (e ≡ ReshardFault.Refused Refusal.OutOfMemory → ⊥) → self.new ≡ self.old) }
+        ensures onward { IsOnward W.opening pass.old pass.new }
+    {
+        if self.stage != Stage::None {
+            return Err(ReshardFault::WrongState);
+        }
+        let begun = begin(
+            rt,
+            alloc,
+            pass,
+            schema,
+            &mut self.free,
+            self.ground,
+            serving.current(),
+            sources,
+            targets,
+        )?;
+        self.sources = begun.sources;
+        self.targets = begun.targets;
+        self.rest = begun.rest;
+        self.frozen = 0;
+        self.retired = 0;
+        self.served = 0;
+        self.stage = Stage::Following;
+        Ok(())
+    }
+
+    /// Brings the first target forward, in their order, that isn't level with its sources: it takes over the entry that is next, else it
+    /// copies the next rows; where all are level, nothing. Refuses where no targets follow; where a target has as many entries as it may
+    /// have; and for want of memory.
+    pub fn step(
+        &mut self,
+        rt: &impl Wait,
+        alloc: Global,
+        pass: &mut Pass<ShardLaw<W>, J>,
+        schema: &VSchema,
+    ) -> Result<Step, ReshardFault>
+        requires schema { schema.now ≡ W.opening.schema }
+        requires formed { IsTrue (is_vschema W.opening.schema) }
+        requires legal { IsLegal (MayFollow W.opening) pass.old.seen }
+        ensures was { OnOk result (self.old.stage ≡ Stage.Following) }
+        ensures moved { IfOk result (HasMovedFirst W.opening self.old.targets pass.old pass.new) }
+        ensures refused { IfErr result (λ e. ((e ≡ ReshardFault.WrongState) × (self.old.stage ≡ Stage.Following → ⊥))
+            ⊎ ((self.old.stage ≡ Stage.Following) × IsMoveRefusal W.limits self.old.targets pass.new e)) }
+        ensures same { self.new ≡ self.old }
+        ensures onward { IsOnward W.opening pass.old pass.new }
+    {
+        if self.stage != Stage::Following {
+            return Err(ReshardFault::WrongState);
+        }
+        let step = move_first(rt, alloc, pass, schema, self.targets.as_slice())?;
+        Ok(step)
+    }
+}
