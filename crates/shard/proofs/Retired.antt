@@ -1,0 +1,27 @@
+-- What a shard keeps that is retired.
+use Rattle.std.proofs.Common.{◌≡◌, List, length, sym, ap, subst, ◌∙◌}
+use Rattle.std.specs.Prelude.{Contains}
+use Rattle.journal.specs.Views.{SeatView}
+use Rattle.shard_run.specs.declared.Shard.{Shard}
+use Rattle.shard_run.specs.declared.Entry.{Entry}
+use Rattle.shard_run.specs.declared.Event.TheVariants as events
+use Rattle.shard_run.specs.declared.Mode.TheVariants.{Retired, Dropped}
+use Rattle.shard_run.specs.Runs.{Run, Opening, stored_on}
+use Rattle.shard.specs.declared.limits.Limits.{Limits}
+use Rattle.shard.specs.declared.contents.Contents.{Contents}
+use Rattle.shard.specs.Shards.{ShardView, Holds, Keeps, holds, dropped, IsAfter, Names}
+
+still_holds : (o : Opening) (most : Limits) (run : Run) (c : Contents) → Keeps o most run c → c.mode ≡ Retired → Holds o most run c
+still_holds o most run c (holds h) is = h
+still_holds o most run c (dropped gone m) is = let e : Dropped ≡ Retired = sym gone ∙ is in absurd (cc e)
+
+module _ (o : Opening) (most : Limits) (seat : SeatView Entry) (c : Contents) (v : ShardView) (after : IsAfter o most seat c)
+    (view : record { seen = seat.seen; shard = c.shard } ≡ v) (is : c.mode ≡ Retired) where
+  pub retired : (targets : List Shard) → Names o seat.seen c.shard targets → Contains v.seen (record { shard = v.shard; event = events.Retire targets })
+  retired targets names =
+      subst (λ (v : ShardView). Contains v.seen (record { shard = v.shard; event = events.Retire targets })) view
+      (names (sym (still_holds o most seat.seen c after.keeps is).mode ∙ is))
+
+  pub stored_last : length c.stored.items ≡ length (stored_on v.shard.slot v.seen)
+  stored_last =
+      ap length (still_holds o most seat.seen c after.keeps is).stored ∙ ap (λ (v : ShardView). length (stored_on v.shard.slot v.seen)) view

@@ -1,0 +1,35 @@
+//! A retired shard gives up its rows.
+ghost use Rattle.std.specs.Prelude.{◌≡◌, []};
+ghost use Rattle.shard_run.specs.Runs.{mode};
+
+use crate::contents::Contents;
+use crate::state::ShardState;
+use crate::store::Store;
+use crate::world::World;
+use journal::Naming;
+use shard_run::Mode;
+
+// Nothing is left of what the shard held. Takes no memory.
+fn empty(contents: &mut Contents)
+    ensures rows { contents.new.store.rows ≡ [] }
+    ensures stored { contents.new.stored.items ≡ [] }
+    ensures mode { contents.new.mode ≡ Mode.Dropped }
+    ensures shard { contents.new.shard ≡ contents.old.shard }
+    ensures limits { contents.new.limits ≡ contents.old.limits }
+{
+    let alloc = *contents.stored.allocator();
+    contents.store = Store::new(alloc);
+    contents.stored = Vec::new(alloc);
+    contents.steps = Vec::new(alloc);
+    contents.mode = Mode::Dropped;
+}
+
+impl<W: World, J: Naming> ShardState<W, J> {
+    /// Gives up the rows of a shard that is retired. Takes no memory.
+    pub fn drop_rows(&mut self)
+        requires retired { mode W.opening self.old.seen self.old.shard.slot ≡ Mode.Retired }
+        ensures { self.new ≡ self.old }
+    {
+        empty(&mut self.contents);
+    }
+}
