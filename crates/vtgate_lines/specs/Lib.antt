@@ -1,4 +1,5 @@
 pub mod Partitions
 pub mod Lines
+pub mod AdminLines
 pub mod Printed
 pub mod Plans

@@ -47,7 +47,7 @@ fn line_len(input: &[u8]) -> usize
 }
 
 // What follows a front.
-fn behind<'b>(bytes: &'b [u8], front: &[u8]) -> Option<&'b [u8]>
+pub(crate) fn behind<'b>(bytes: &'b [u8], front: &[u8]) -> Option<&'b [u8]>
     ensures { MatchOption result ((rest : List ℕ) → bytes.now ≢ front.now ++ rest) (λ rest. bytes.now ≡ front.now ++ rest.now) }
 {
     bytes.strip_prefix(front)

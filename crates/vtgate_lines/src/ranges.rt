@@ -28,7 +28,7 @@ fn push_named(ranges: &mut Vec<KeyRange>, name: &str) -> Result<bool, Refusal>
 }
 
 /// The ranges of which the text has the names, in the text's order. `None` where some part is no range's name.
-fn named_ranges(alloc: Global, text: &str) -> Result<Option<Vec<KeyRange>>, Refusal>
+pub(crate) fn named_ranges(alloc: Global, text: &str) -> Result<Option<Vec<KeyRange>>, Refusal>
     ensures found { IfOk result (λ o. IfSome o (λ v. IsListOf text.now v.items)) }
     ensures only { IfOk result (λ o. (ranges : List KeyRange) → IsListOf text.now ranges → IsSomeAnd o (λ v. v.items ≡ ranges)) }
     ensures err { IfErr result (λ e. e ≡ Refusal.OutOfMemory) }
