@@ -7,7 +7,7 @@ use Rattle.std.proofs.lemmas.List.Sorted.{sum_by-IsPermutation, Contains-permuta
 use Rattle.keyrange.specs.declared.KeyRange.{KeyRange}
 use Rattle.keyrange.specs.Ranges.{has_id, IsByteString, Overlap, Cover}
 use Rattle.keyrange.specs.Names.{IsNamed}
-use Rattle.serving.specs.Partitions.{Seat, IsPartition, ranges}
+use Rattle.serving.specs.Partitions.{Seat, IsPartition, AreOf, ranges}
 use Rattle.shard_run.specs.declared.Shard.{Shard}
 use Rattle.shard_law.proofs.Lists.{In, In-from_Contains, Contains-from_In, In-map, In-from_map, In-all, all-from_In, all-weaker}
 use Rattle.reshard.specs.Choices.{AreNamed, holders, HoldTheSame}
@@ -142,6 +142,12 @@ module _ (current taken rest : List Seat) (from into ordered : List KeyRange) (a
         }
 
 -- what is known once the targets' ranges are in order
+-- those that are named are of the keyspace of all
+pub of_taken : (k : ℕ) (parts taken : List Seat) → AllByRecursion (Contains parts) taken → AreOf k parts → AreOf k taken
+of_taken k parts [] among of = tt
+of_taken k parts (x ∷ taken) among of =
+    (In-all (λ (seat : Seat). seat.2 ≡ k) x parts of (In-from_Contains x parts among.0), of_taken k parts taken among.1 of)
+
 pub record Setting (parts taken rest : List Seat) (from into ordered : List KeyRange) (k : ℕ) (sources : List Shard) : Type 0 where
   pub is : IsPartition parts
   pub are : AreNamed from parts taken rest
@@ -153,7 +159,7 @@ pub record Setting (parts taken rest : List Seat) (from into ordered : List KeyR
 
 pub setting : {S : Type 0} (which : S → Shard) (parts current taken rest : List Seat) (from into ordered : List KeyRange) (k : ℕ) (found : List S)
     → parts ≡ current → IsPartition current → AreNamed from parts taken rest → AllByRecursion (Contains parts) rest
-    → (map {B = Seat} (λ s. ((which s).slot, (which s).place.range)) found ≡ taken) × AllByRecursion (λ s. (which s).place.keyspace ≡ k) found
+    → (map {B = Seat} (λ s. ((which s).slot, (which s).place.range, (which s).place.keyspace)) found ≡ taken) × AllByRecursion (λ s. (which s).place.keyspace ≡ k) found
     → Cover (map (λ s. s.1) rest ++ into) → IsPermutation into ordered → Setting parts taken rest from into ordered k (map which found)
 setting which parts current taken rest from into ordered k found same is are among of cover order = record {
   is = subst IsPartition (sym same) is;

@@ -19,7 +19,7 @@ use Rattle.reshard.specs.inner.Created.{AreOverlapped, HasGrown, added, left, Is
 use mathlib.Core.List.{IsPrefix}
 use Rattle.journal.specs.Views.{PassView}
 use Rattle.journal.proofs.Fronts.{prefix_trans}
-use Rattle.serving.specs.Partitions.{Seat}
+use Rattle.serving.specs.Partitions.{Seat, AreOf}
 use Rattle.reshard.specs.Workflows.{Taking, seat_of}
 
 -- of the first sources the ones that overlap the range
@@ -153,13 +153,21 @@ seats_next {T} v f made new t grown so_far one =
 
 -- ---- sources, one after the other
 
+of_at : (parts : List Seat) (i : ℕ) (d : Seat) {k : ℕ} → i < length parts → AreOf k parts → (get_or parts i d).2 ≡ k
+of_at [] i d l of = absurd (omega (arith, l))
+of_at (x ∷ parts) zero d l of = of.0
+of_at (x ∷ parts) (suc i) d l of = of_at parts i d (omega (arith, l)) of.1
+
 module _ {S : Type 0} (which : S → Shard) (o : Opening) (p q now : PassView Entry) (k : ℕ) (parts : List Seat) (i : ℕ) (part : Seat) (sources new : List S) (s : S) where
-  pub picked_next : i < length parts → part ≡ get_or parts i part → new ≡ sources ++ s ∷ [] → IsPicked o q now k part (which s)
-      → map {B = Seat} (λ s. ((which s).slot, (which s).place.range)) sources ≡ take i parts → AllByRecursion (λ s. (which s).place.keyspace ≡ k) sources
-      → (map {B = Seat} (λ s. ((which s).slot, (which s).place.range)) new ≡ take (i + 1) parts) × AllByRecursion (λ s. (which s).place.keyspace ≡ k) new
-  picked_next there is grown picked so_far home =
-      let r : S → Seat = λ s. ((which s).slot, (which s).place.range) in
-      let one : r s ≡ part = ap (λ (n : ℕ). (n, (which s).place.range)) picked.slot ∙ ap (λ (x : Place). (part.0, x.range)) picked.place in (
+  pub picked_next : i < length parts → part ≡ get_or parts i part → AreOf k parts → new ≡ sources ++ s ∷ [] → IsPicked o q now k part (which s)
+      → map {B = Seat} (λ s. ((which s).slot, (which s).place.range, (which s).place.keyspace)) sources ≡ take i parts → AllByRecursion (λ s. (which s).place.keyspace ≡ k) sources
+      → (map {B = Seat} (λ s. ((which s).slot, (which s).place.range, (which s).place.keyspace)) new ≡ take (i + 1) parts) × AllByRecursion (λ s. (which s).place.keyspace ≡ k) new
+  picked_next there is of grown picked so_far home =
+      let here : part.2 ≡ k = subst (λ (x : Seat). x.2 ≡ k) (sym is) (of_at parts i part there of) in
+      let r : S → Seat = λ s. ((which s).slot, (which s).place.range, (which s).place.keyspace) in
+      let one : r s ≡ part =
+      ap (λ (n : ℕ). (n, (which s).place.range, (which s).place.keyspace)) picked.slot ∙ ap (λ (x : Place). (part.0, x.range, x.keyspace)) picked.place
+      ∙ ap (λ (n : ℕ). (part.0, part.1, n)) (sym here) in (
         ap (map r) grown ∙ map-append r sources (s ∷ []) ∙ ap (λ (l : List Seat). l ++ r s ∷ []) so_far
             ∙ ap (λ (y : Seat). take i parts ++ y ∷ []) (one ∙ is) ∙ sym (take_more parts i part there),
         subst (AllByRecursion (λ s. (which s).place.keyspace ≡ k)) (sym grown)

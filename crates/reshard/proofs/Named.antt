@@ -77,6 +77,14 @@ module _ (ranges : List KeyRange) (parts : List Seat) (i : ℕ) (x : Seat) (ther
       let w = other refl in
       subst (λ l. AreNamed ranges (take (i + 1) parts) l rest') (sym w.0) (subst (AreNamed ranges (take (i + 1) parts) taken) (sym w.1) (rest_next (nay refl)))
 
+-- those that are named are among all
+pub taken_among_next : (parts : List Seat) (i : ℕ) (x : Seat) → i < length parts → x ≡ get_or parts i x → (taken taken' : List Seat) (b : Bool)
+    → AllByRecursion (Contains parts) taken → (b ≡ true → taken' ≡ taken ++ x ∷ []) → (b ≡ false → taken' ≡ taken)
+    → AllByRecursion (Contains parts) taken'
+taken_among_next parts i x there is taken taken' true all one other =
+    subst (AllByRecursion (Contains parts)) (sym (one refl)) (all_push (Contains parts) taken x all (i, there, sym is))
+taken_among_next parts i x there is taken taken' false all one other = subst (AllByRecursion (Contains parts)) (sym (other refl)) all
+
 -- those that aren't named are among all
 pub among_next : (parts : List Seat) (i : ℕ) (x : Seat) → i < length parts → x ≡ get_or parts i x → (rest rest' : List Seat) (b : Bool)
     → AllByRecursion (Contains parts) rest → (b ≡ true → rest' ≡ rest) → (b ≡ false → rest' ≡ rest ++ x ∷ []) → AllByRecursion (Contains parts) rest'

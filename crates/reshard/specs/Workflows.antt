@@ -58,7 +58,7 @@ pub record IsSplit (sources : List Shard) (targets : List Taking) : Type 0 where
 
 -- the seat of a shard in a partition
 abbrev pub seat_of : Shard → Seat
-seat_of s = (s.slot, s.place.range)
+seat_of s = (s.slot, s.place.range, s.place.keyspace)
 
 abbrev pub placed : List Taking → List Seat
 placed targets = map (λ t. seat_of t.0) targets

@@ -5,7 +5,7 @@ ghost use Rattle.keyrange.specs.Names.{IsNamed};
 ghost use Rattle.journal.specs.Runs.{IsLegal};
 ghost use Rattle.shard_run.specs.Openings.{IsOpening};
 ghost use Rattle.shard.specs.Shards.{MayFollow};
-ghost use Rattle.serving.specs.Partitions.{IsPartition};
+ghost use Rattle.serving.specs.Partitions.{IsPartition, AreOf};
 ghost use Rattle.follow.specs.Steps.{IsOnward};
 ghost use Rattle.reshard.specs.Workflows.{IsFree, IsGround, IsSplit, placed};
 ghost use Rattle.reshard.specs.Begun.{HasBegun, IsCreateRefusal};
@@ -72,6 +72,7 @@ pub(crate) fn begin<W: World, J: Naming>(
     requires ground { IsGround W.opening W.limits ground }
     requires legal { IsLegal (MayFollow W.opening) pass.old.seen }
     requires free { AllByRecursion (IsFree W.opening) free.old.items }
+    requires home { AreOf ground.keyspace current.now }
     requires named { AllByRecursion IsNamed targets.now }
     ensures begun { IfOk result (λ b. HasBegun (map (λ s. s.member.which) b.sources.items) (map (λ t. (t.member.which, map (λ s. s.which) t.sources.items)) b.targets.items)
         ground.keyspace sources.now targets.now) }

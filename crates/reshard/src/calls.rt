@@ -114,6 +114,7 @@ impl<W: World, J: Naming> Workflow<W, J> {
     ) -> Result<(), ReshardFault>
         requires schema { schema.now ≡ W.opening.schema }
         requires legal { IsLegal (MayFollow W.opening) pass.old.seen }
+        requires home { serving.now ≡ self.old.keyspace }
         requires named { AllByRecursion IsNamed targets.now }
         ensures begun { OnOk result (HasBegun self.new.sources self.new.targets self.old.keyspace sources.now targets.now) }
         ensures at { OnOk result (self.new ≡ record self.old { stage = Stage.Following; free = self.new.free; sources = self.new.sources; targets = self.new.targets; frozen = 0; retired = 0; served = 0 }) }

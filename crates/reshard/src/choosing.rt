@@ -60,6 +60,7 @@ pub fn choose<S: Seated + Drop>(
     ranges: &[KeyRange],
 ) -> Result<Chosen<S>, Refusal>
     ensures ok { IfOk result (λ c. AreNamed ranges.now parts.now c.taken.items c.rest.items) }
+    ensures taken { IfOk result (λ c. AllByRecursion (Contains parts.now) c.taken.items) }
     ensures rest { IfOk result (λ c. AllByRecursion (Contains parts.now) c.rest.items) }
     ensures err { IfErr result (λ e. e ≡ Refusal.OutOfMemory) }
 {

@@ -2,7 +2,7 @@
 ghost use Rattle.std.specs.Prelude.{◌≡◌, ◌⊎◌, ◌++◌, IfOk, IfErr, OnOk, MatchOption, Contains, map, length};
 ghost use Rattle.std.specs.List.{AllByRecursion};
 ghost use Rattle.keyrange.specs.Ranges.{Cover};
-ghost use Rattle.serving.specs.Partitions.{Seat};
+ghost use Rattle.serving.specs.Partitions.{Seat, AreOf};
 ghost use Rattle.journal.specs.Runs.{IsLegal};
 ghost use Rattle.shard.specs.Shards.{MayFollow};
 ghost use Rattle.follow.specs.Steps.{IsOnward};
@@ -30,8 +30,9 @@ pub(crate) fn sources_of<W: World, J: Naming>(
     parts: &[Part<Shard<W, J>>],
 ) -> Result<Option<Vec<Source<W, J>>>, Refusal>
     requires legal { IsLegal (MayFollow W.opening) pass.old.seen }
+    requires home { AreOf keyspace parts.now }
     ensures found { IfOk result (λ r. MatchOption r ((seat : Seat) × Contains parts.now seat × IsAway W.opening pass.old pass.new keyspace seat)
-        (λ sources. (map (λ s. (s.member.which.slot, s.member.which.place.range)) sources.items ≡ parts.now)
+        (λ sources. (map (λ s. (s.member.which.slot, s.member.which.place.range, s.member.which.place.keyspace)) sources.items ≡ parts.now)
         × AllByRecursion (λ s. s.member.which.place.keyspace ≡ keyspace) sources.items)) }
     ensures onward { IsOnward W.opening pass.old pass.new }
     ensures err { IfErr result (λ e. e ≡ Refusal.OutOfMemory) }
@@ -78,7 +79,8 @@ pub(crate) fn find_sources<W: World, J: Naming>(
     targets: &[KeyRange],
 ) -> Result<Vec<Source<W, J>>, ReshardFault>
     requires legal { IsLegal (MayFollow W.opening) pass.old.seen }
-    ensures found { IfOk result (λ found. (map (λ s. (s.member.which.slot, s.member.which.place.range)) found.items ≡ chosen.now.taken.items)
+    requires home { AreOf keyspace chosen.now.taken.items }
+    ensures found { IfOk result (λ found. (map (λ s. (s.member.which.slot, s.member.which.place.range, s.member.which.place.keyspace)) found.items ≡ chosen.now.taken.items)
         × AllByRecursion (λ s. s.member.which.place.keyspace ≡ keyspace) found.items) }
     ensures cover { OnOk result (Cover (map (λ s. s.1) chosen.now.rest.items ++ targets.now)) }
     ensures count { OnOk result (length chosen.now.taken.items ≡ length sources.now) }

@@ -4,10 +4,10 @@ ghost use Rattle.shard_run.specs.Runs.{mode};
 
 use crate::contents::Contents;
 use crate::state::ShardState;
-use crate::store::Store;
 use crate::world::World;
 use journal::Naming;
 use shard_run::Mode;
+use shard_store::StoredTables;
 
 // Nothing is left of what the shard held. Takes no memory.
 fn empty(contents: &mut Contents)
@@ -18,7 +18,7 @@ fn empty(contents: &mut Contents)
     ensures limits { contents.new.limits ≡ contents.old.limits }
 {
     let alloc = *contents.stored.allocator();
-    contents.store = Store::new(alloc);
+    contents.store = StoredTables::new(alloc);
     contents.stored = Vec::new(alloc);
     contents.steps = Vec::new(alloc);
     contents.mode = Mode::Dropped;

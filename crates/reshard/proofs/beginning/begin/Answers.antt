@@ -4,10 +4,10 @@ use Rattle.std.proofs.lemmas.List.Sorted.{length_permutation}
 use Rattle.keyrange.specs.declared.KeyRange.{KeyRange}
 use Rattle.keyrange.specs.Names.{IsNamed}
 use Rattle.shard_run.specs.declared.Shard.{Shard}
-use Rattle.serving.specs.Partitions.{IsPartition}
+use Rattle.serving.specs.Partitions.{IsPartition, AreOf}
 use Rattle.reshard.specs.Begun.{unfit}
 use Rattle.reshard.specs.inner.Created.{AreOverlapped, IsMadeOf}
-use Rattle.reshard.proofs.Begins.{all_permuted, setting, covered_here, split_here, begun_here, next_here}
+use Rattle.reshard.proofs.Begins.{all_permuted, of_taken, setting, covered_here, split_here, begun_here, next_here}
 use Rattle.reshard.proofs.Unfit.{residual, residual_same, create_memory, lacking}
 use Rattle.reshard.proofs.beginning.begin.Goals as goal
 
@@ -16,6 +16,11 @@ returns-in_err-chosen-clause-err g c =
     residual c.from_residual.result c.in_err-chosen.field-0.0 _ c.from_residual.ensures.1
     (create_memory g.W.World.opening c.args.pass.now c.args.pass.now c.args.ground.keyspace (length c.args.free.now.items) c.args.sources.now c.args.targets.now
     c.in_err-chosen.field-0.0 c.in_err-chosen.ensures.err)
+
+pub find_sources-requires-clause-home : goal.find_sources-requires-clause-home
+find_sources-requires-clause-home g c =
+    of_taken c.args.ground.keyspace c.parts.result.now c.in_ok-chosen.chosen.taken.items c.in_ok-chosen.ensures.taken
+    (subst (AreOf c.args.ground.keyspace) (sym c.parts.ensures.seats) c.requires.home)
 
 pub returns-in_err-found-clause-err : goal.returns-in_err-found-clause-err
 returns-in_err-found-clause-err g c =

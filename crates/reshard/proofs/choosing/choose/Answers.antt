@@ -1,7 +1,7 @@
 use Rattle.std.proofs.Common.{◌≡◌, ◌∙◌, ◌++◌, ◌∷◌, [], ap, subst, sym, Bool, true, false}
 use Rattle.std.specs.Prelude.{Contains}
 use Rattle.serving.specs.Partitions.{Seat}
-use Rattle.reshard.proofs.Named.{named_next, among_next}
+use Rattle.reshard.proofs.Named.{named_next, taken_among_next, among_next}
 use Rattle.reshard.proofs.choosing.choose.Goals as goal
 
 pub loop-part-preserved : goal.loop-part-preserved
@@ -19,6 +19,9 @@ loop-part-preserved g c =
           named_next c.args.ranges.now c.args.parts.now c.loop-part.part-index x c.loop-part-test.true c.part-item.is taken rest c.loop-part.invariant.are b
           c.add.new.self.taken.items c.add.new.self.rest.items (λ e. subst (Contains c.args.ranges.now) c.range.ensures (c.is_among-named.ensures.yes e))
           (λ e h. c.is_among-named.ensures.no e (subst (Contains c.args.ranges.now) (sym c.range.ensures) h)) one other;
+      from =
+          taken_among_next c.args.parts.now c.loop-part.part-index x c.loop-part-test.true c.part-item.is taken c.add.new.self.taken.items b c.loop-part.invariant.from
+          (λ e. (one e).0) (λ e. (other e).0);
       among =
           among_next c.args.parts.now c.loop-part.part-index x c.loop-part-test.true c.part-item.is rest c.add.new.self.rest.items b c.loop-part.invariant.among
           (λ e. (one e).1) (λ e. (other e).1);

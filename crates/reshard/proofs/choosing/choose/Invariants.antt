@@ -8,5 +8,6 @@ use Rattle.reshard.proofs.choosing.choose.Given as goal
 abbrev pub invariant-loop-part : goal.invariant-loop-part
 invariant-loop-part g l = record {
   are : AreNamed l.ranges (take l.part-index l.parts) l.chosen.taken.items l.chosen.rest.items;
+  from : AllByRecursion (Contains l.parts) l.chosen.taken.items;
   among : AllByRecursion (Contains l.parts) l.chosen.rest.items;
 }

@@ -8,6 +8,6 @@ use Rattle.reshard.proofs.finding.sources_of.Given as goal
 abbrev pub invariant-loop-part : goal.invariant-loop-part
 invariant-loop-part g l = record {
   onward : IsOnward g.W.World.opening l.fn.pass l.pass;
-  seats : map {B = Seat} (λ s. (s.member.which.slot, s.member.which.place.range)) l.sources.items ≡ take l.part-index l.parts;
+  seats : map {B = Seat} (λ s. (s.member.which.slot, s.member.which.place.range, s.member.which.place.keyspace)) l.sources.items ≡ take l.part-index l.parts;
   home : AllByRecursion (λ s. s.member.which.place.keyspace ≡ l.keyspace) l.sources.items;
 }
