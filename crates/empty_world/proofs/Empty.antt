@@ -14,6 +14,7 @@ use Rattle.vschema.specs.Database.{Database, union, restricted}
 use Rattle.journal.specs.Views.{SeatView}
 use Rattle.shard_run.specs.declared.Shard.{Shard}
 use Rattle.shard_run.specs.Runs.{Opening, all_rows, opening_part, first_rows}
+use Rattle.shard_run.specs.Openings.{row_count}
 use Rattle.shard.specs.Shards.{opening_shards}
 use Rattle.empty_opening.specs.Empty.{unsharded_keyspace, sharded_keyspace, full_range, shards_from, keyspace_shards, empty_shards, no_rows, opening_of}
 
@@ -64,6 +65,10 @@ on_own_slots schema ranges = slot_of_both (unsharded_keyspace schema) (sharded_k
 
 abbrev empties : List Table → Database
 empties tables = map (λ t. []) tables
+
+pub none_counted : (tables : List Table) → row_count (map (λ t. []) tables) ≡ 0
+none_counted [] = refl
+none_counted (t ∷ tables) = none_counted tables
 
 joined : (tables : List Table) → union (empties tables) (empties tables) ≡ empties tables
 joined [] = refl

@@ -1,4 +1,4 @@
-ghost use Rattle.std.specs.Prelude.{◌≡◌, ◌==◌, ℕ, ◌<◌, ◌≤◌, [], None, IsTrue, IfOk, IfErr, Contains, length, map, filter, replicate, slice_index_or, vec_len};
+ghost use Rattle.std.specs.Prelude.{◌≡◌, ◌==◌, ℕ, ◌<◌, ◌≤◌, [], None, IsTrue, IfOk, IfErr, Contains, length, map, filter, slice_index_or, vec_len};
 ghost use Rattle.vschema.specs.WellFormed.{is_vschema};
 ghost use Rattle.journal.specs.Views.{fresh_seats, new_pass};
 ghost use Rattle.shard_run.specs.declared.Shard as which;
@@ -9,7 +9,7 @@ ghost use Rattle.route_engine.specs.Seats.{seat_of};
 ghost use Rattle.empty_opening.specs.Empty.{opening_of, FitRanges};
 
 use buffer::Buffer;
-use empty_opening::{empty_tables, opening_shards};
+use empty_opening::opening_shards;
 use journal::{Naming, Opened, Opener, Pass, ShardSeat};
 use keyrange::KeyRange;
 use route_engine::{Engine, Gate};
@@ -18,17 +18,17 @@ use shard::{Limits, MOST_ROWS, MOST_STORED, Shard, ShardLaw, ShardState, Store, 
 use shard_run::Mode;
 use std::alloc::Global;
 use std::sync::Arc;
-use vschema::{Place, VSchema};
+use vschema::{Place, Table, VSchema};
 use vt_value::{Items, Refusal};
 
-// A store of so many empty tables.
-fn empty_store(alloc: Global, tables: usize) -> Result<Store, Refusal>
-    ensures ok { IfOk result (λ store. store.rows ≡ replicate tables []) }
+// A store of these tables, without rows.
+fn empty_store(alloc: Global, tables: &[Table]) -> Result<Store, Refusal>
+    ensures ok { IfOk result (λ store. store.rows ≡ map (λ t. []) tables.now) }
     ensures err { IfErr result (λ e. e ≡ Refusal.OutOfMemory) }
 {
     let mut store = Store::new(alloc);
-    for made in 0..tables {
-        store.push_table(Vec::new(alloc))?;
+    for table in tables {
+        store.push_table(alloc, table)?;
     }
     Ok(store)
 }
@@ -56,13 +56,13 @@ fn copy_shard(alloc: Global, shard: &shard_run::Shard) -> Result<shard_run::Shar
 // An opening shard whose tables are empty, with the seat of its slot.
 fn empty_shard<W: World, J: Naming>(
     alloc: Global,
-    tables: usize,
+    tables: &[Table],
     seat: ShardSeat<ShardLaw<W>, J>,
     shard: &shard_run::Shard,
 ) -> Result<Arc<Shard<W, J>, Global>, Refusal>
     requires opens { IsOpening W.opening }
     requires limits { W.limits ≡ most_limits }
-    requires rows { first_rows W.opening shard.now ≡ replicate tables [] }
+    requires rows { first_rows W.opening shard.now ≡ map (λ t. []) tables.now }
     requires opening { Contains (opening_shards W.opening) shard.now }
     requires seat { seat ≡ record { seen = []; slot = shard.now.slot } }
     ensures seat { IfOk result (λ held. held.value ≡ seat_of shard.now) }
@@ -81,13 +81,13 @@ fn empty_shard<W: World, J: Naming>(
 // The opening shards, each with the seat of its slot.
 fn empty_shards<W: World, J: Naming>(
     alloc: Global,
-    tables: usize,
+    tables: &[Table],
     shards: &[shard_run::Shard],
     seats: Vec<ShardSeat<ShardLaw<W>, J>>,
 ) -> Result<Vec<Arc<Shard<W, J>, Global>>, Refusal>
     requires opens { IsOpening W.opening }
     requires limits { W.limits ≡ most_limits }
-    requires rows { (s : which.Shard) → Contains (opening_shards W.opening) s → first_rows W.opening s ≡ replicate tables [] }
+    requires rows { (s : which.Shard) → Contains (opening_shards W.opening) s → first_rows W.opening s ≡ map (λ t. []) tables.now }
     requires opening { opening_shards W.opening ≡ shards.now }
     requires slots { (i : ℕ) (d : which.Shard) → i < length shards.now → (slice_index_or shards.now i d).slot ≡ i }
     requires few { length shards.now ≤ 64 }
@@ -149,7 +149,7 @@ fn opening_keyspaces<W: World, J: Naming>(
 // The opening shards, and the partitions of so many keyspaces, which begin with the opening's.
 fn held_and_served<W: World, J: Naming>(
     alloc: Global,
-    tables: usize,
+    tables: &[Table],
     keyspaces: usize,
     shards: &[shard_run::Shard],
     seats: Vec<ShardSeat<ShardLaw<W>, J>>,
@@ -157,7 +157,7 @@ fn held_and_served<W: World, J: Naming>(
     requires opens { IsOpening W.opening }
     requires limits { W.limits ≡ most_limits }
     requires each { keyspaces ≡ length W.opening.schema.keyspaces }
-    requires rows { (s : which.Shard) → Contains (opening_shards W.opening) s → first_rows W.opening s ≡ replicate tables [] }
+    requires rows { (s : which.Shard) → Contains (opening_shards W.opening) s → first_rows W.opening s ≡ map (λ t. []) tables.now }
     requires opening { opening_shards W.opening ≡ shards.now }
     requires slots { (i : ℕ) (d : which.Shard) → i < length shards.now → (slice_index_or shards.now i d).slot ≡ i }
     requires few { length shards.now ≤ 64 }
@@ -206,7 +206,7 @@ pub(crate) fn opened_shards<W: World, J: Naming>(
 {
     let shards = opening_shards(alloc, schema, ranges)?;
     let (seats, opener, pass) = opened.named::<J>(alloc)?;
-    let tables = empty_tables(schema);
+    let tables = schema.tables.as_slice();
     let keyspaces = schema.keyspaces.len();
     let made = held_and_served(alloc, tables, keyspaces, shards.as_slice(), seats);
     drop(shards);

@@ -1,9 +1,11 @@
-use Rattle.std.proofs.Common.{Bool, [], length, ap, sym, ◌∙◌}
+use Rattle.std.proofs.Common.{Bool, [], length, ap, sym, ◌∙◌, arith}
 use Rattle.std.specs.Prelude.{if◌then◌else◌}
 use Rattle.shard_run.specs.declared.Shard.{Shard}
 use Rattle.shard_run.specs.declared.Mode.TheVariants.{Following, Serving}
 use Rattle.shard_run.specs.Runs.{is_opening}
+use Rattle.shard_run.specs.Openings.{row_count}
 use Rattle.shard.proofs.Legality.{on_its_slot, opening_slot, tables_held}
+use Rattle.empty_world.proofs.Empty.{none_counted}
 use Rattle.empty_world.proofs.router.empty_shard.Goals as goal
 
 pub new-state-requires-clause-stands : goal.new-state-requires-clause-stands
@@ -19,3 +21,8 @@ new-state-requires-clause-first_mode g c =
 pub new-state-requires-clause-tables : goal.new-state-requires-clause-tables
 new-state-requires-clause-tables g c =
     ap length (c.in_ok-store.ensures.ok ∙ sym c.requires.rows) ∙ tables_held g.W.World.opening c.requires.opens c.args.shard.now c.requires.opening []
+
+pub new-state-requires-clause-within : goal.new-state-requires-clause-within
+new-state-requires-clause-within g c =
+    let none = ap row_count c.in_ok-store.ensures.ok ∙ none_counted c.args.tables.now in
+    omega (arith, none)

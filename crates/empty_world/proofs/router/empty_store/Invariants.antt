@@ -1,5 +1,5 @@
-use Rattle.std.proofs.Common.{◌≡◌, [], replicate}
+use Rattle.std.proofs.Common.{◌≡◌, [], map, take}
 use Rattle.empty_world.proofs.router.empty_store.Given as goal
 
-abbrev pub invariant-loop-made : goal.invariant-loop-made
-invariant-loop-made l = l.store.rows ≡ replicate l.made []
+abbrev pub invariant-loop-table : goal.invariant-loop-table
+invariant-loop-table l = l.store.rows ≡ map (λ t. []) (take l.table-index l.tables)

@@ -1,6 +1,7 @@
 use denote.Param.Send.{sendable}
-use Rattle.std.proofs.Common.{◌≡◌, ◌<◌, List, [], ◌∙◌, sym, subst, length, get_or, replicate, Contains}
+use Rattle.std.proofs.Common.{◌≡◌, ◌<◌, List, [], ◌∙◌, sym, ap, subst, length, get_or, map, Contains}
 use Rattle.shard_run.proofs.Sent.{entry_send}
+use Rattle.vschema.specs.declared.schema.Table.{Table}
 use Rattle.shard_run.specs.declared.Shard.{Shard}
 use Rattle.shard_run.specs.Runs.{Opening, first_rows}
 use Rattle.shard.specs.Shards.{opening_shards}
@@ -13,8 +14,8 @@ named-requires-send-L-Entry g c κs within = search (entry_send, sendable)
 
 pub held_and_served-made-requires-clause-rows : goal.held_and_served-made-requires-clause-rows
 held_and_served-made-requires-clause-rows g c = λ s there.
-    subst (λ (o : Opening). Contains (opening_shards o) s → first_rows o s ≡ replicate c.empty_tables-tables.result []) (sym c.requires.opening)
-    (λ h. first_rows_are c.args.schema.now c.args.ranges.now s h ∙ c.empty_tables-tables.ensures) there
+    subst (λ (o : Opening). Contains (opening_shards o) s → first_rows o s ≡ map (λ t. []) c.as_slice-tables.result.now) (sym c.requires.opening)
+    (λ h. first_rows_are c.args.schema.now c.args.ranges.now s h ∙ ap (λ (ts : List Table). map (λ t. []) ts) (sym c.as_slice-tables.ensures)) there
 
 pub held_and_served-made-requires-clause-slots : goal.held_and_served-made-requires-clause-slots
 held_and_served-made-requires-clause-slots g c = λ i d below.
