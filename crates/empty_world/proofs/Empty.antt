@@ -1,7 +1,9 @@
 -- Fresh seats by their slots, the slots of the opening's shards, and the rows that they begin with.
 use Rattle.std.proofs.Common.{◌≡◌, ℕ, zero, suc, ◌+◌, ◌-◌, ◌<◌, List, [], ◌∷◌, ◌++◌, length, get_or, map, Contains, Bool, true, false, filter, take, Option, Some, None, option_to_list, refl, sym, ap, ◌∙◌, subst, arith}
 use Rattle.std.specs.Prelude.{if◌then◌else◌}
-use Rattle.std.proofs.lemmas.List.{append-nil, get_or-map, length-map, take_more}
+use Rattle.std.specs.List.{range_with_len}
+use Rattle.std.proofs.lemmas.List.{append-nil, get_or-map, length-map, map-id, take_more}
+use Rattle.std.proofs.lemmas.List.FromFn.{map-range_with_len_more}
 use Rattle.std.proofs.lemmas.List.Elements.{filter-append}
 use Rattle.route_engine.proofs.Gathers.{map-push}
 use Rattle.shard_law.proofs.Lists.{In-from_Contains}
@@ -137,3 +139,10 @@ same_at f g xs ys e i x y there at_x at_y =
   where
     within : i < length xs
     within = let a = length-map xs f in let b = length-map ys g in let c = ap length e in omega (arith, a, b, c, there)
+
+-- ---- keyspaces
+
+-- the numbers of one more
+pub one_number_more : (n : ℕ) → range_with_len 0 (n + 1) ≡ range_with_len 0 n ++ n ∷ []
+one_number_more n =
+    sym (map-id (range_with_len 0 (n + 1))) ∙ map-range_with_len_more (λ (x : ℕ). x) 0 n n (omega arith) ∙ ap (λ (l : List ℕ). l ++ n ∷ []) (map-id (range_with_len 0 n))

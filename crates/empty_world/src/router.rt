@@ -1,4 +1,5 @@
-ghost use Rattle.std.specs.Prelude.{◌≡◌, ◌==◌, ℕ, ◌<◌, ◌≤◌, [], None, IsTrue, IfOk, IfErr, Contains, length, map, filter, slice_index_or, vec_len};
+ghost use Rattle.std.specs.Prelude.{◌≡◌, ◌==◌, ℕ, ◌<◌, ◌≤◌, [], None, IsTrue, IfOk, IfErr, Contains, length, map, filter, slice_index_or};
+ghost use Rattle.std.specs.List.{range_with_len};
 ghost use Rattle.vschema.specs.WellFormed.{is_vschema};
 ghost use Rattle.journal.specs.Views.{fresh_seats, new_pass};
 ghost use Rattle.shard_run.specs.declared.Shard as which;
@@ -124,7 +125,7 @@ fn keyspace_parts<W: World, J: Naming>(
     Ok(parts)
 }
 
-// The partitions of each keyspace, which begin with the opening's.
+// The partitions of each keyspace, in the order of the VSchema, which begin with the opening's.
 fn opening_keyspaces<W: World, J: Naming>(
     alloc: Global,
     keyspaces: usize,
@@ -135,13 +136,14 @@ fn opening_keyspaces<W: World, J: Naming>(
     requires opening { opening_shards W.opening ≡ shards.now }
     requires each { keyspaces ≡ length W.opening.schema.keyspaces }
     requires held { map (λ h. h.value) held.now ≡ map seat_of shards.now }
-    ensures each { IfOk result (λ all. vec_len all ≡ keyspaces) }
+    ensures each { IfOk result (λ all. all.items ≡ range_with_len 0 keyspaces) }
     ensures err { IfErr result (λ e. e ≡ Refusal.OutOfMemory) }
 {
     let mut all = Vec::new(alloc);
     for keyspace in 0..keyspaces {
         let parts = keyspace_parts(alloc, keyspace, shards, held)?;
-        all.push(Serving::new(alloc, Partition::new(parts))?)?;
+        let opening = Partition::new(keyspace, parts);
+        all.push(Serving::new(alloc, keyspace, opening)?)?;
     }
     Ok(all)
 }
@@ -163,7 +165,7 @@ fn held_and_served<W: World, J: Naming>(
     requires few { length shards.now ≤ 64 }
     requires seats { seats.items ≡ fresh_seats 64 }
     ensures held { IfOk result (λ r. map (λ h. h.value) r.0.items ≡ map seat_of shards.now) }
-    ensures each { IfOk result (λ r. vec_len r.1 ≡ keyspaces) }
+    ensures each { IfOk result (λ r. r.1.items ≡ range_with_len 0 keyspaces) }
     ensures err { IfErr result (λ e. e ≡ Refusal.OutOfMemory) }
 {
     let held = empty_shards(alloc, tables, shards, seats)?;
@@ -199,7 +201,7 @@ pub(crate) fn opened_shards<W: World, J: Naming>(
     requires ranges { FitRanges schema.now ranges.now }
     ensures opens { IfOk result (λ r. IsOpening W.opening) }
     ensures held { IfOk result (λ r. map (λ h. h.value) r.0.items ≡ map seat_of (opening_shards W.opening)) }
-    ensures each { IfOk result (λ r. vec_len r.1 ≡ length schema.now.keyspaces) }
+    ensures each { IfOk result (λ r. r.1.items ≡ range_with_len 0 (length schema.now.keyspaces)) }
     ensures opener { IfOk result (λ r. r.2 ≡ 0) }
     ensures pass { IfOk result (λ r. r.3 ≡ new_pass [] None) }
     ensures err { IfErr result (λ e. e ≡ Refusal.OutOfMemory) }
