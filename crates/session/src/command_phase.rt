@@ -149,6 +149,34 @@ fn serve_on<W: World + Send + Sync, J: Naming + Send + Sync, G: Gate, R: Source,
     unreachable!()
 }
 
+// A session that is new, and a buffer for the pieces of its input. Refuses only where there is no memory.
+fn begin<W: World, J: Naming>(
+    alloc: Global,
+    access: &Access,
+    salt: &[u8; 20],
+    id: u32,
+) -> Result<(Core<W, J>, Vec<u8>), SessionFault>
+    ensures begins { IfOk result (λ r. (o : Opening) (l : Limits) (s : PassAndTransaction)
+        → HasTalked (terms_of o r.0.hello) (Means o l) Standing.New r.0 s [] [] s) }
+    ensures hello { IfOk result (λ r. r.0.hello ≡ record { access = access.now; salt = salt.now; id = id }) }
+    ensures standing { IfOk result (λ r. r.0.standing ≡ Standing.New) }
+    ensures limit { IfOk result (λ r. r.0.framing.limit ≡ COMMAND_LIMIT) }
+    ensures none_open { IfOk result (λ r. r.0.tx ≡ None) }
+    ensures room { IfOk result (λ r. 0 < vec_len r.1) }
+    ensures err { IfErr result (λ e. e ≡ SessionFault.Memory) }
+{
+    let Ok(buffer) = zeroed(alloc, PIECE) else {
+        return Err(SessionFault::Memory);
+    };
+    match Core::new(alloc, access, salt, id) {
+        Ok(core) => Ok((core, buffer)),
+        Err(_) => {
+            drop(buffer);
+            Err(SessionFault::Memory)
+        }
+    }
+}
+
 /// Serves one connection, the one with this id, until it ends: greets its client by the salt, lets in whom `access` tells, reads commands
 /// from the source, and writes their replies to the sink.
 pub fn serve<W: World + Send + Sync, J: Naming + Send + Sync, G: Gate, R: Source, S: Sink>(
@@ -198,12 +226,7 @@ pub fn serve<W: World + Send + Sync, J: Naming + Send + Sync, G: Gate, R: Source
     // Whatever happened, the pass is still its session's.
     ensures session { pass.new.session ≡ pass.old.session }
 {
-    let Ok(mut buffer) = zeroed(alloc, PIECE) else {
-        return Err(SessionFault::Memory);
-    };
-    let Ok(mut core) = Core::new(alloc, access, salt, id) else {
-        return Err(SessionFault::Memory);
-    };
+    let (mut core, mut buffer) = begin(alloc, access, salt, id)?;
     serve_on(
         rt,
         alloc,

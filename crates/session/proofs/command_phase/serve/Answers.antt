@@ -5,23 +5,20 @@ use Rattle.session.specs.Outcomes.{none_open}
 use Rattle.session.proofs.Servings.{unstarted}
 use Rattle.session.proofs.command_phase.serve.Goals as goal
 
-pub returns-in_default-clause-memory : goal.returns-in_default-clause-memory
-returns-in_default-clause-memory g c = λ is. ([], [], [], Consumes-nil (g.R.Source.unread c.args.source.now), Appends-nil (g.S.Sink.taken c.args.sink.now), (none_open c.args.pass.now, refl, unstarted _ _ New _ _))
-
-pub returns-in_default-new-clause-memory : goal.returns-in_default-new-clause-memory
-returns-in_default-new-clause-memory g c = λ is. ([], [], [], Consumes-nil (g.R.Source.unread c.args.source.now), Appends-nil (g.S.Sink.taken c.args.sink.now), (none_open c.args.pass.now, refl, unstarted _ _ New _ _))
+pub returns-in_err-core-clause-memory : goal.returns-in_err-core-clause-memory
+returns-in_err-core-clause-memory g c = λ is. ([], [], [], Consumes-nil (g.R.Source.unread c.args.source.now), Appends-nil (g.S.Sink.taken c.args.sink.now), (none_open c.args.pass.now, refl, unstarted _ _ New _ _))
 
 pub returns-clause-talk : goal.returns-clause-talk
-returns-clause-talk g c = rw c.in-Ok-new.ensures.hello at c.serve_on.ensures.talk
+returns-clause-talk g c = rw c.in_ok-core.ensures.hello at c.serve_on.ensures.talk
 
 pub returns-clause-alone : goal.returns-clause-alone
-returns-clause-alone g c = rw c.in-Ok-new.ensures.hello at c.serve_on.ensures.alone
+returns-clause-alone g c = rw c.in_ok-core.ensures.hello at c.serve_on.ensures.alone
 
 pub returns-clause-read : goal.returns-clause-read
-returns-clause-read g c = rw c.in-Ok-new.ensures.hello at c.serve_on.ensures.read
+returns-clause-read g c = rw c.in_ok-core.ensures.hello at c.serve_on.ensures.read
 
 pub returns-clause-memory : goal.returns-clause-memory
-returns-clause-memory g c = rw c.in-Ok-new.ensures.hello at c.serve_on.ensures.memory
+returns-clause-memory g c = rw c.in_ok-core.ensures.hello at c.serve_on.ensures.memory
 
 pub returns-clause-write : goal.returns-clause-write
-returns-clause-write g c = rw c.in-Ok-new.ensures.hello at c.serve_on.ensures.write
+returns-clause-write g c = rw c.in_ok-core.ensures.hello at c.serve_on.ensures.write
