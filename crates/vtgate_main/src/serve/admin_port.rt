@@ -38,6 +38,11 @@ struct AdminSource<'s> {
     failures: u64,
 }
 
+// Whether a read that failed so is made again: nothing has come yet, or it was interrupted.
+fn is_made_again(kind: ErrorKind) -> bool {
+    kind == ErrorKind::WouldBlock || kind == ErrorKind::Interrupted
+}
+
 // Reads, unless all is served or the client says nothing for too long.
 fn read_until(
     mut stream: &TcpStream,
@@ -50,7 +55,7 @@ fn read_until(
         match stream.read(buffer) {
             Ok(n) => return Ok(n),
             Err(error) => {
-                if error.kind() != ErrorKind::WouldBlock || ended.load(Ordering::SeqCst) == 1 {
+                if !is_made_again(error.kind()) || ended.load(Ordering::SeqCst) == 1 {
                     return Err(DeviceFailed);
                 }
             }

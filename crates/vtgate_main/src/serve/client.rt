@@ -2,7 +2,7 @@
 ghost use Rattle.std.specs.Prelude.{◌≡◌};
 
 use session::{DeviceFailed, Sink};
-use std::io::Read;
+use std::io::{ErrorKind, Read};
 use std::net::{Shutdown, TcpStream};
 use std::time::{Clock, Duration, Instant};
 
@@ -74,8 +74,13 @@ pub fn end<R: Clock>(rt: &R, stream: &TcpStream) {
         };
         let _ = stream.set_read_timeout(Some(patience));
         match reader.read(&mut rest) {
-            Ok(0) | Err(_) => return,
+            Ok(0) => return,
             Ok(_) => {}
+            Err(error) => {
+                if error.kind() != ErrorKind::Interrupted {
+                    return;
+                }
+            }
         }
     }
 }
