@@ -6,6 +6,7 @@ use Rattle.vschema.specs.declared.schema.ColumnType.TheVariants.{BigIntUnsigned}
 use Rattle.vschema.specs.declared.schema.VSchema.{VSchema}
 use Rattle.vschema.specs.declared.changes.Write.{Write}
 use Rattle.vschema.specs.declared.changes.Write.TheVariants.{Insert, Update, Delete}
+use Rattle.serving.specs.Partitions.{Seat}
 use Rattle.shard_run.specs.declared.Shard.{Shard}
 use Rattle.shard_run.specs.declared.Entry.{Entry}
 use Rattle.shard_run.specs.Runs.{Opening}
@@ -28,6 +29,10 @@ small_schema = record {
 
 abbrev pub small_shard : Shard
 small_shard = record { slot = 0; place = record { keyspace = 0; range = record { begin = []; end = None } }; sources = [] }
+
+-- where it stands
+abbrev pub small_seat : Seat
+small_seat = (0, small_shard.place.range, 0)
 
 abbrev pub small_opening : Opening
 small_opening = record { schema = small_schema; shards = (small_shard, [] ∷ []) ∷ [] }

@@ -2,7 +2,7 @@
 ghost use Rattle.std.specs.Prelude.{◌≡◌, ◌<◌, IsSome};
 ghost use Rattle.vschema.specs.TypedWrites.{IsTypedWrite};
 ghost use Rattle.shard.specs.Commits.{IsPlaced};
-ghost use Rattle.shard_limits.specs.SmallWorld.{small_schema, small_shard, IsHere};
+ghost use Rattle.shard_limits.specs.SmallWorld.{small_schema, small_seat, small_shard, IsHere};
 
 use crate::writing::{Small, counts, first_seat, insert, insert_row, place, query, schema, state};
 use journal::{Naming, Opened, Pass};
@@ -33,6 +33,7 @@ fn write_in<J: Naming>(
     tx: &mut Pending,
     write: Write,
 ) -> Result<u64, Refusal>
+    requires here { shard.now ≡ small_seat }
     requires typed { IsTypedWrite small_schema write }
     requires placed { IsPlaced small_schema small_shard.place write }
     requires session { IsSome pass.old.session }
@@ -42,7 +43,7 @@ fn write_in<J: Naming>(
 {
     let schema = schema(alloc)?;
     pass.next_statement()?;
-    shard.write_in(rt, alloc, pass, 0, &place(), tx, &schema, write)
+    shard.write_in(rt, alloc, pass, tx, &schema, write)
 }
 
 // INSERT INTO t VALUES (id, NULL)
@@ -54,6 +55,7 @@ fn insert_in<J: Naming>(
     tx: &mut Pending,
     id: u64,
 ) -> Result<u64, Refusal>
+    requires here { shard.now ≡ small_seat }
     requires below { id < 4 }
     requires session { IsSome pass.old.session }
     requires tied { IsHere tx.old pass.old }
@@ -72,6 +74,7 @@ fn rows_in<J: Naming>(
     pass: &mut Pass<ShardLaw<Small>, J>,
     tx: &mut Pending,
 ) -> Result<usize, Refusal>
+    requires here { shard.now ≡ small_seat }
     requires session { IsSome pass.old.session }
     requires tied { IsHere tx.old pass.old }
     ensures session { IsSome pass.new.session }
@@ -79,7 +82,7 @@ fn rows_in<J: Naming>(
 {
     let query = query(alloc, Item::Column(0))?;
     pass.next_statement()?;
-    let reading = shard.read_in(rt, alloc, pass, 0, &place(), tx, &query)?;
+    let reading = shard.read_in(rt, alloc, pass, tx, &query)?;
     Ok(reading.rows.len())
 }
 
@@ -91,12 +94,13 @@ fn commit_in<J: Naming>(
     pass: &mut Pass<ShardLaw<Small>, J>,
     tx: &mut Pending,
 ) -> Result<(), Refusal>
+    requires here { shard.now ≡ small_seat }
     requires session { IsSome pass.old.session }
     requires tied { IsHere tx.old pass.old }
     ensures session { IsSome pass.new.session }
 {
     pass.next_statement()?;
-    shard.commit_in(rt, alloc, pass, 0, &place(), tx)
+    shard.commit_in(rt, alloc, pass, tx)
 }
 
 fn transactions_in_turn<J: Naming, R: Wait + Abort>(
@@ -118,12 +122,9 @@ fn transactions_in_turn<J: Naming, R: Wait + Abort>(
     assert_eq!(rt; counts(rt, alloc, &shard, &mut other)?, (1, 1));
     let mut tx = begin(alloc, &pass);
     assert_eq!(rt; rows_in(rt, alloc, &shard, &mut pass, &mut tx)?, 1);
-    assert_eq!(rt; shard.check(rt, &mut pass, 0, &place(), &tx), Ok(1));
+    assert_eq!(rt; shard.check(rt, &mut pass, &tx), Ok(1));
     assert_eq!(rt; insert_row(rt, alloc, &shard, &mut other, 2)?, 1);
-    assert_eq!(rt;
-        shard.check(rt, &mut pass, 0, &place(), &tx),
-        Err(Refusal::Conflict)
-    );
+    assert_eq!(rt; shard.check(rt, &mut pass, &tx), Err(Refusal::Conflict));
     Ok(())
 }
 

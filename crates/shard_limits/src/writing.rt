@@ -3,7 +3,7 @@ ghost use Rattle.std.specs.Prelude.{◌≡◌, ◌<◌, ◌∷◌, [], IsSome, I
 ghost use Rattle.vschema.specs.TypedWrites.{IsTypedWrite};
 ghost use Rattle.journal.specs.Views.{fresh_seats};
 ghost use Rattle.shard.specs.Commits.{IsPlaced};
-ghost use Rattle.shard_limits.specs.SmallWorld.{small_schema, small_shard, insert_of, update_all, delete_all};
+ghost use Rattle.shard_limits.specs.SmallWorld.{small_schema, small_seat, small_shard, insert_of, update_all, delete_all};
 
 use journal::{Naming, Opened, Pass, ShardSeat};
 use keyrange::KeyRange;
@@ -135,6 +135,7 @@ pub(crate) fn state<J: Naming>(
     seat: ShardSeat<ShardLaw<Small>, J>,
 ) -> Result<ShardState<Small, J>, Refusal>
     requires { seat ≡ record { seen = []; slot = 0 } }
+    ensures { IfOk result (λ state. state.shard ≡ small_shard) }
 {
     let mut store = Store::new(alloc);
     let schema = schema(alloc)?;
@@ -156,6 +157,7 @@ fn write<J: Naming>(
     pass: &mut Pass<ShardLaw<Small>, J>,
     write: Write,
 ) -> Result<u64, Refusal>
+    requires here { shard.now ≡ small_seat }
     requires typed { IsTypedWrite small_schema write }
     requires placed { IsPlaced small_schema small_shard.place write }
     requires session { IsSome pass.old.session }
@@ -163,7 +165,7 @@ fn write<J: Naming>(
 {
     let schema = schema(alloc)?;
     pass.next_statement()?;
-    match shard.commit(rt, alloc, pass, 0, &place(), &schema, write)? {
+    match shard.commit(rt, alloc, pass, &schema, write)? {
         Committed::Count(count) => Ok(count),
         Committed::Frozen(write) => not_taken(write),
         Committed::NotServing(write) => not_taken(write),
@@ -181,7 +183,7 @@ fn read<J: Naming>(
     requires { IsSome pass.old.session }
     ensures { IsSome pass.new.session }
 {
-    match shard.read(rt, alloc, pass, 0, &place(), query)? {
+    match shard.read(rt, alloc, pass, query)? {
         Read::Rows(reading) => Ok(reading),
         Read::NotServing => Err(Refusal::NotSupported),
     }
@@ -195,6 +197,7 @@ pub(crate) fn insert_row<J: Naming>(
     pass: &mut Pass<ShardLaw<Small>, J>,
     id: u64,
 ) -> Result<u64, Refusal>
+    requires here { shard.now ≡ small_seat }
     requires below { id < 4 }
     requires session { IsSome pass.old.session }
     ensures session { IsSome pass.new.session }
@@ -211,6 +214,7 @@ fn insert_again<J: Naming>(
     pass: &mut Pass<ShardLaw<Small>, J>,
     id: u64,
 ) -> Result<u64, Refusal>
+    requires here { shard.now ≡ small_seat }
     requires below { id < 4 }
     requires session { IsSome pass.old.session }
     ensures session { IsSome pass.new.session }
@@ -228,6 +232,7 @@ fn update_rows<J: Naming>(
     shard: &Shard<Small, J>,
     pass: &mut Pass<ShardLaw<Small>, J>,
 ) -> Result<u64, Refusal>
+    requires here { shard.now ≡ small_seat }
     requires session { IsSome pass.old.session }
     ensures session { IsSome pass.new.session }
 {
@@ -242,6 +247,7 @@ fn delete_rows<J: Naming>(
     shard: &Shard<Small, J>,
     pass: &mut Pass<ShardLaw<Small>, J>,
 ) -> Result<u64, Refusal>
+    requires here { shard.now ≡ small_seat }
     requires session { IsSome pass.old.session }
     ensures session { IsSome pass.new.session }
 {

@@ -1,6 +1,7 @@
-use Rattle.std.proofs.Common.{ap}
+use Rattle.std.proofs.Common.{refl, ap}
 use Rattle.journal.specs.Views.{PassView}
 use Rattle.shard_run.specs.declared.Entry.{Entry}
+use Rattle.shard_limits.specs.SmallWorld.{small_shard}
 use Rattle.shard_limits.proofs.Here.{here_same, here_written}
 use Rattle.shard_limits.proofs.transactions.write_in.Goals as goal
 
@@ -12,5 +13,5 @@ pub returns-clause-tied : goal.returns-clause-tied
 returns-clause-tied g c =
     let now = c.next_statement.new.self in
     let here = here_same c.args.tx.now c.args.pass.now now (ap (λ (v : PassView Entry). v.seen) c.in_ok-next_statement.ensures.counted) c.requires.tied in
-    here_written c.args.tx.now c.write_in.new.tx now c.write_in.new.pass c.place.result c.place.ensures here c.args.write c.write_in.result c.requires.typed
-    c.requires.placed c.write_in.ensures.written
+    here_written c.args.tx.now c.write_in.new.tx now c.write_in.new.pass small_shard.place refl here c.args.write c.write_in.result c.requires.typed
+    c.requires.placed (rw c.requires.here at c.write_in.ensures.written)

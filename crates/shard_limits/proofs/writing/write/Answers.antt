@@ -27,3 +27,6 @@ pub returns : goal.returns
 returns g c = record {
   session = subst (λ (s : Option ℕ). IsSome s) (sym (same_session _ _ _ _ _ _ c.commit.new.pass c.in_ok-count.ensures.commit.4)) (search rules);
 }
+
+pub commit-requires-clause-placed : goal.commit-requires-clause-placed
+commit-requires-clause-placed g c = rw c.requires.here c.requires.placed
