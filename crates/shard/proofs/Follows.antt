@@ -16,7 +16,7 @@ use Rattle.shard_run.specs.declared.Follow as F
 use Rattle.shard_run.specs.declared.Entry.{Entry}
 use Rattle.shard_run.specs.declared.Event.TheVariants.{Follow}
 use Rattle.shard_run.specs.Runs.{Run, Opening, held, first_rows, mode, is_serving, is_on, is_stored, stored_on, stored_changes, entries_on}
-use Rattle.shard_run.specs.Legal.{Legal, MayFollow, IsOnItsSlot}
+use Rattle.shard_run.specs.Legal.{Legal, MayFollowSource, IsOnItsSlot}
 use Rattle.shard_run.specs.Copies.{position, change_is_copied}
 use Rattle.shard.proofs.Positions.{position-same, copied-same}
 use Rattle.shard_run.specs.Openings.{IsOpening}
@@ -56,7 +56,7 @@ stored_later source place old new e (rest, is) at =
 pub may_follow_later : (o : Opening) (old seen new : Run) (t : Shard) (f : F.Follow) → IsPrefix old new → entries_on t.slot new ≡ entries_on t.slot seen
     → mode o new t.slot ≡ Following → Contains t.sources f.source → position seen t.slot f.source ≡ Some f.place → (e : Entry)
     → slice_get (stored_on f.source old) f.place ≡ Some e
-    → f.changes ≡ filter (change_is_copied o.schema seen t.slot f.source) (restricted_changes o.schema t.place (stored_changes e.event)) → MayFollow o new t f
+    → f.changes ≡ filter (change_is_copied o.schema seen t.slot f.source) (restricted_changes o.schema t.place (stored_changes e.event)) → MayFollowSource o new t f
 may_follow_later o old seen new t f later same following of_source next e stored filtered = record {
   following = following;
   of_source = of_source;
