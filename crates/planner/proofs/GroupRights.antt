@@ -18,14 +18,15 @@ use Rattle.vschema.specs.Checks.{is_aggregate, is_aggregated, has_number}
 use Rattle.vschema.specs.Database.{rows_of}
 use Rattle.sql_eval.specs.Conditions.{is_kept}
 use Rattle.sql_eval.specs.Groups.{group_values, group_rows, group_value, item_value}
-use Rattle.sql_eval.specs.Grouping.{aggregates_of, part_row}
+use Rattle.sql_eval.specs.Grouping.{aggregates_of}
+use Rattle.sql_eval.specs.inner.Parts.{part_row}
 use Rattle.sql_eval.specs.Queries.{Keyed, keyed_group, keyed_groups, kept_rows, Allowed}
 use Rattle.sql_eval.proofs.AnswerLemmas.{kept_grouped, group_answer}
 use Rattle.sql_eval.proofs.GroupLemmas.{map_both, shares, IsKey, all_keys, group_row, grouped_is}
 use Rattle.planner.specs.declared.plans.Plan.{Plan}
 use Rattle.planner.specs.Routes.{takes, route_of, table_at}
 use Rattle.planner.specs.Plans.{pushed_groups, piece_of, Shard, Pieces, routed}
-use Rattle.planner.specs.Right.{all_rows, IsPlaced, IsRightPlan}
+use Rattle.planner.specs.Right.{rows_of_shards, LiesInPlace, IsRightPlan}
 use Rattle.planner.proofs.Aggregated.{groups_plan, same_aggregated}
 use Rattle.planner.proofs.KeptRows.{rows-all, piece_kept, same_filter, no_filter, all_rows_are}
 use Rattle.planner.proofs.Placed.{IsHome, rows_home}
@@ -107,7 +108,7 @@ module _ (schema : VSchema) (q : Query) (aggregated : is_aggregated q ≡ true) 
   shown_groups rows = shown_each rows (group_values q.group_by rows) (all_keys q.group_by rows) ∙ sym (grouped_is q.group_by q.items rows)
 
   -- a shard's list has the groups of what the query keeps there
-  pub first : (shard : Shard) → IsPlaced schema t.keyspace q.table shard → (list : List Row) → Allowed (piece_of t p shard.0) shard.1 list
+  pub first : (shard : Shard) → LiesInPlace schema t.keyspace q.table shard → (list : List Row) → Allowed (piece_of t p shard.0) shard.1 list
       → IsPermutation (joined (map part (kept_of (rows_on shard)))) list
   first shard placed list (arranged, permuted, ascending, is) =
       let pq = piece_of t p shard.0 in
@@ -149,7 +150,7 @@ module _ (schema : VSchema) (q : Query) (aggregated : is_aggregated q ≡ true) 
         IsPermutation-append (joined (map part (kept_of (rows_on s)))) list (flat_map (λ rows. joined (map part rows)) rest.kept) (flat_map (λ l. l) lists) f rest.groups;
   }
 
-  lists_of : (shards : List Shard) → AllByRecursion (IsPlaced schema t.keyspace q.table) shards → (lists : List (List Row))
+  lists_of : (shards : List Shard) → AllByRecursion (LiesInPlace schema t.keyspace q.table) shards → (lists : List (List Row))
       → Pieces t p (routed t p shards) lists → Lists shards lists
   lists_of [] placed [] pieces = record { kept = []; all = refl; groups = IsPermutation-refl [] }
   lists_of [] placed (list ∷ lists) pieces = absurd pieces
@@ -167,7 +168,7 @@ module _ (schema : VSchema) (q : Query) (aggregated : is_aggregated q ≡ true) 
   pub wide_parts : (rows : List Row) → AreWide (length q.group_by) (map part rows)
   wide_parts [] = tt
   wide_parts (row ∷ rows) =
-      (omega (arith, length-append (columns_of q.group_by row) (map (Rattle.sql_eval.specs.Grouping.part_value row) (aggregates_of q.items)), length-map q.group_by (value_at row)), wide_parts rows)
+      (omega (arith, length-append (columns_of q.group_by row) (map (Rattle.sql_eval.specs.inner.Parts.row_part row) (aggregates_of q.items)), length-map q.group_by (value_at row)), wide_parts rows)
 
   all_parts : (kept : List (List Row)) → AllByRecursion (AreWide (length q.group_by)) (map (map part) kept)
   all_parts [] = tt
@@ -184,7 +185,7 @@ module _ (schema : VSchema) (q : Query) (aggregated : is_aggregated q ≡ true) 
   pub groups_right : IsRightPlan schema q (groups_plan t q)
   groups_right shards placed few list (lists, pieces, (arranged, permuted, ascending, is)) =
       let a = lists_of shards placed lists pieces in
-      let rows = rows_of (all_rows shards) q.table in
+      let rows = rows_of (rows_of_shards shards) q.table in
       let kept : kept_of rows ≡ flat_map (λ r. r) a.kept = ap kept_of (rows-all shards q.table) ∙ sym a.all in
       let whole : joined (map part (kept_of rows)) ≡ joined (flat_map (λ r. joined (map part r)) a.kept) =
       ap (λ l. joined (map part l)) kept ∙ ap joined (parts_together a.kept)

@@ -14,7 +14,7 @@ use Rattle.planner.specs.declared.routes.Route.{Route}
 use Rattle.planner.specs.declared.routes.Route.TheVariants as route
 use Rattle.planner.specs.Routes.{type_at, is_held, id_of}
 use Rattle.planner.specs.Plans.{is_member_of, cut_through, shard_filter, Shard}
-use Rattle.planner.specs.Right.{all_rows}
+use Rattle.planner.specs.Right.{rows_of_shards}
 use Rattle.planner.proofs.Placed.{IsHome}
 use Rattle.planner.proofs.CutTruth.{keeps}
 
@@ -27,10 +27,10 @@ rows-union (xs ∷ a) [] (suc n) = sym (append-nil (rows_of a n))
 rows-union (xs ∷ a) (ys ∷ b) zero = refl
 rows-union (xs ∷ a) (ys ∷ b) (suc n) = rows-union a b n
 
-pub rows-all : (shards : List Shard) (n : ℕ) → rows_of (all_rows shards) n ≡ flat_map (λ s. rows_of s.1 n) shards
+pub rows-all : (shards : List Shard) (n : ℕ) → rows_of (rows_of_shards shards) n ≡ flat_map (λ s. rows_of s.1 n) shards
 rows-all [] zero = refl
 rows-all [] (suc n) = refl
-rows-all (s ∷ shards) n = rows-union s.1 (all_rows shards) n ∙ ap (λ l. rows_of s.1 n ++ l) (rows-all shards n)
+rows-all (s ∷ shards) n = rows-union s.1 (rows_of_shards shards) n ∙ ap (λ l. rows_of s.1 n ++ l) (rows-all shards n)
 
 -- what a shard keeps by its piece's condition
 member_kept : (t : Table) (shard : Shard) (row : Row) → IsHome t shard row → (v : ColumnVindex) → t.vindex ≡ Some v

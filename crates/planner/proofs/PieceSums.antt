@@ -10,9 +10,9 @@ use Rattle.vt_value.specs.declared.value.Value.{Value}
 use Rattle.vt_value.specs.Values.{Row, value_at, value_cmp, same_row}
 use Rattle.sql_tree.specs.declared.Item.{Item}
 use Rattle.sql_tree.specs.declared.Item.TheVariants.{Column, CountRows, Count, Sum, Min, Max}
-use Rattle.aggregate.specs.Aggregates.{present, size, sizes, sum_of, least_of, greatest_of, IsStored}
+use Rattle.aggregate.specs.Aggregates.{present, size, sizes, sum_of, least_of, greatest_of, IsColumnValue}
 use Rattle.aggregate.specs.Groups.{distinct, joined_part, joined_parts, of_group, group_keys, joined_rows, column_size, AreSummable}
-use Rattle.aggregate.specs.Proofs.SumLemmas.{total_within, present_within}
+use Rattle.aggregate.specs.inner.SumLemmas.{total_within, present_within}
 use Rattle.aggregate.proofs.PartsOfRows.{size_is, group_size}
 use Rattle.vschema.specs.declared.schema.Query.{Query}
 use Rattle.vschema.specs.declared.schema.Table.{Table}
@@ -22,13 +22,14 @@ use Rattle.vschema.specs.Database.{rows_of}
 use Rattle.sql_eval.specs.Conditions.{is_kept}
 use Rattle.sql_eval.specs.Groups.{CanBeSummed}
 use Rattle.sql_eval.specs.declared.groups.Grouping.{Grouping}
-use Rattle.sql_eval.specs.Grouping.{aggregates_of, part_row}
+use Rattle.sql_eval.specs.Grouping.{aggregates_of}
+use Rattle.sql_eval.specs.inner.Parts.{part_row}
 use Rattle.sql_eval.proofs.GroupLemmas.{filter_short}
 use Rattle.sql_eval.proofs.Sums.{storable_summed, filter_summed, sizes_small, small_at, all_small}
 use Rattle.planner.specs.declared.plans.Plan.{Plan}
 use Rattle.planner.specs.Routes.{takes, table_at}
 use Rattle.planner.specs.Plans.{planned, Shard, Pieces, routed, CanJoin}
-use Rattle.planner.specs.Right.{IsPlaced}
+use Rattle.planner.specs.Right.{LiesInPlace}
 use Rattle.planner.proofs.Aggregated.{groups_plan, planned_rows, planned_groups}
 use Rattle.planner.proofs.GroupRights.{first, wide_parts}
 use Rattle.sql_eval.proofs.Rejoined.{AreWide, some_keys, key_lengths, one}
@@ -119,7 +120,7 @@ module _ (schema : VSchema) (q : Query) (aggregated : is_aggregated q ≡ true) 
   abbrev IsSmallShard : Shard → Type 0
   IsSmallShard shard = length (rows_of shard.1 q.table) ≤ 2 ^ 20
 
-  list_below : (shard : Shard) → IsPlaced schema t.keyspace q.table shard → IsSmallShard shard → (list : List Row)
+  list_below : (shard : Shard) → LiesInPlace schema t.keyspace q.table shard → IsSmallShard shard → (list : List Row)
       → IsPermutation (joined_rows (aggregates_of q.items) (length q.group_by) (map (part_row q.group_by (aggregates_of q.items)) (filter (is_kept q.filter) (rows_of shard.1 q.table)))) list
       → (n : ℕ) → length q.group_by ≤ n → column_size n list ≤ 2 ^ 105
   list_below shard placed few list permuted n behind =
@@ -132,7 +133,7 @@ module _ (schema : VSchema) (q : Query) (aggregated : is_aggregated q ≡ true) 
       let below = groups_below (aggregates_of q.items) (length q.group_by) parts small n behind (wide_parts schema q aggregated kept) (omega (arith, length-map kept (part_row q.group_by (aggregates_of q.items)), short)) in
       omega (arith, below, sum_by-IsPermutation (λ r. size (value_at r n)) (joined_rows (aggregates_of q.items) (length q.group_by) parts) list permuted)
 
-  lists_below : (shards : List Shard) → AllByRecursion (IsPlaced schema t.keyspace q.table) shards → AllByRecursion IsSmallShard shards → (lists : List (List Row))
+  lists_below : (shards : List Shard) → AllByRecursion (LiesInPlace schema t.keyspace q.table) shards → AllByRecursion IsSmallShard shards → (lists : List (List Row))
       → Pieces t p (routed t p shards) lists → (n : ℕ) → length q.group_by ≤ n → column_size n (flat_map (λ l. l) lists) ≤ length shards * 2 ^ 105
   lists_below [] placed few [] pieces n behind = omega arith
   lists_below [] placed few (list ∷ lists) pieces n behind = absurd pieces
@@ -148,7 +149,7 @@ module _ (schema : VSchema) (q : Query) (aggregated : is_aggregated q ≡ true) 
           omega (arith, here, others, sum_by-append (λ r. size (value_at r n)) list (flat_map (λ l. l) lists))
       by false lists pieces rest = omega (arith, rest lists pieces)
 
-  groups_fit : (shards : List Shard) → AllByRecursion (IsPlaced schema t.keyspace q.table) shards → AllByRecursion IsSmallShard shards → length shards ≤ 64
+  groups_fit : (shards : List Shard) → AllByRecursion (LiesInPlace schema t.keyspace q.table) shards → AllByRecursion IsSmallShard shards → length shards ≤ 64
       → (lists : List (List Row)) → Pieces t p (routed t p shards) lists → AreSummable (length q.group_by) (flat_map (λ l. l) lists)
   groups_fit shards placed few most lists pieces = λ n behind. (let below = lists_below shards placed few lists pieces n behind in omega (arith, below, most))
 
@@ -157,7 +158,7 @@ Fits t shards lists p = Pieces t p (routed t p shards) lists → CanJoin p.finis
 
 -- What the shards of a plan give may be joined, where they are at most 64 and each has at most 2^20 rows.
 pub pieces_fit : (schema : VSchema) (q : Query) (p : Plan) → p ≡ planned (table_at schema q.table) q → (shards : List Shard)
-    → AllByRecursion (IsPlaced schema (table_at schema q.table).keyspace q.table) shards → AllByRecursion (λ shard. length (rows_of shard.1 q.table) ≤ 2 ^ 20) shards
+    → AllByRecursion (LiesInPlace schema (table_at schema q.table).keyspace q.table) shards → AllByRecursion (λ shard. length (rows_of shard.1 q.table) ≤ 2 ^ 20) shards
     → length shards ≤ 64 → (lists : List (List Row)) → Pieces (table_at schema q.table) p (routed (table_at schema q.table) p shards) lists
     → CanJoin p.finish.grouping (flat_map (λ l. l) lists)
 pieces_fit schema q p is shards placed few most lists = by (is_aggregated q) refl
@@ -166,7 +167,7 @@ pieces_fit schema q p is shards placed few most lists = by (is_aggregated q) ref
     by true e = subst (Fits (table_at schema q.table) shards lists) (sym (is ∙ planned_groups (table_at schema q.table) q e)) (groups_fit schema q e shards placed few most lists)
     by false e = subst (Fits (table_at schema q.table) shards lists) (sym (is ∙ planned_rows (table_at schema q.table) q e)) (λ pieces. tt)
 
-stored_sizes : (rows : List Row) (n : ℕ) → AllByRecursion (AllByRecursion IsStored) rows → column_size n rows ≤ length rows * 2 ^ 64
+stored_sizes : (rows : List Row) (n : ℕ) → AllByRecursion (AllByRecursion IsColumnValue) rows → column_size n rows ≤ length rows * 2 ^ 64
 stored_sizes [] n all = omega arith
 stored_sizes (row ∷ rows) n all =
     omega (arith, small_at row n (all_small row all.0), stored_sizes rows n all.1, sum_by-cons (λ r. size (value_at r n)) row rows)

@@ -23,8 +23,8 @@ use Rattle.vschema.specs.WriteChecks.{is_out_of_range, is_too_long}
 use Rattle.vschema.specs.Storable.{is_storable_value, are_storable_values, is_storable}
 use Rattle.vschema.specs.Database.{Database, rows_of, lies_in, restricted}
 use Rattle.planner.specs.Plans.{Shard}
-use Rattle.planner.specs.Right.{IsPlaced}
-use Rattle.planner.specs.Routes.{type_of, type_at, is_held, id_by, id_of, table_at}
+use Rattle.planner.specs.Right.{LiesInPlace}
+use Rattle.planner.specs.Routes.{kind_of, type_at, is_held, id_by, id_of, table_at}
 
 pub at_contains : {X : Type 0} (P : X → Type 0) (xs : List X) (x : X) → AllByRecursion P xs → Contains xs x → P x
 at_contains P [] x all h = absurd (omega (arith, h.1))
@@ -94,7 +94,7 @@ not_true false e = refl
 neither_of : (a b c : Bool) → a ≡ false → b ≡ false → c ≡ false → not (a || b || c) ≡ true
 neither_of a b c e f g = rw (e, f, g) refl
 
-held : (column : Option Column) (v : Value) → stored column v ≡ true → is_null v ≡ false → is_held (type_of column) v ≡ true
+held : (column : Option Column) (v : Value) → stored column v ≡ true → is_null v ≡ false → is_held (kind_of column) v ≡ true
 unfolding stored
 held None v e h = cc
 held (Some c) v e h =
@@ -165,7 +165,7 @@ homes : (t : Table) (shard : Shard) (keyspace : ℕ) (rows : List Row)
 homes t shard keyspace [] lies fits = tt
 homes t shard keyspace (row ∷ rows) lies fits = (home t shard keyspace row lies.0 fits.0, homes t shard keyspace rows lies.1 fits.1)
 
-pub rows_home : (schema : VSchema) (n : ℕ) (shard : Shard) → IsPlaced schema (table_at schema n).keyspace n shard
+pub rows_home : (schema : VSchema) (n : ℕ) (shard : Shard) → LiesInPlace schema (table_at schema n).keyspace n shard
     → AllByRecursion (IsHome (table_at schema n) shard) (rows_of shard.1 n)
 rows_home schema n shard is =
     homes (table_at schema n) shard (table_at schema n).keyspace (rows_of shard.1 n)

@@ -28,7 +28,7 @@ use Rattle.sql_eval.specs.Queries.{Keyed, shown, keyed_row, Allowed}
 use Rattle.planner.specs.declared.plans.Plan.{Plan}
 use Rattle.planner.specs.Routes.{takes, route_of, table_at}
 use Rattle.planner.specs.Plans.{pushed_limit, key_item, keys_from, piece_of, Shard, Pieces, routed}
-use Rattle.planner.specs.Right.{all_rows, IsPlaced, HasFewRows, IsRightPlan}
+use Rattle.planner.specs.Right.{rows_of_shards, LiesInPlace, HasFewRows, IsRightPlan}
 use Rattle.planner.proofs.KeptRows.{rows-all, piece_kept, same_filter, no_filter, all_rows_are}
 use Rattle.planner.proofs.Placed.{IsHome, rows_home}
 use Rattle.planner.proofs.Skips.{skipped}
@@ -75,7 +75,7 @@ module _ (schema : VSchema) (q : Query) (plain : is_aggregated q ≡ false) wher
     few : length rows < 2 ^ 64
     is : list ≡ map row_wide (pushed_rows rows)
 
-  first : (shard : Shard) → IsPlaced schema t.keyspace q.table shard → length (rows_on shard) < 2 ^ 64 → (list : List Row) → Allowed (piece_of t p shard.0) shard.1 list → First shard list
+  first : (shard : Shard) → LiesInPlace schema t.keyspace q.table shard → length (rows_on shard) < 2 ^ 64 → (list : List Row) → Allowed (piece_of t p shard.0) shard.1 list → First shard list
   first shard placed few list (arranged, permuted, ascending, is) =
       let pq = piece_of t p shard.0 in
       let a = arranged_map (keyed_row pq) (filter (is_kept pq.filter) (rows_on shard)) arranged
@@ -135,7 +135,7 @@ module _ (schema : VSchema) (q : Query) (plain : is_aggregated q ≡ false) wher
     is = (λ i. f.is i ++ rest.is i) ∙ sym (map-append row_wide (pushed_rows f.rows) (flat_map pushed_rows rest.rows));
   }
 
-  lists_of : (shards : List Shard) → AllByRecursion (IsPlaced schema t.keyspace q.table) shards → AllByRecursion (HasFewRows t p q.table) shards
+  lists_of : (shards : List Shard) → AllByRecursion (LiesInPlace schema t.keyspace q.table) shards → AllByRecursion (HasFewRows t p q.table) shards
       → (lists : List (List Row)) → Pieces t p (routed t p shards) lists → Lists shards lists
   lists_of [] placed few [] pieces = record { rows = []; all = IsPermutation-refl []; sorted = tt; few = tt; is = refl }
   lists_of [] placed few (list ∷ lists) pieces = absurd pieces
@@ -198,8 +198,8 @@ module _ (schema : VSchema) (q : Query) (plain : is_aggregated q ≡ false) wher
       in
       let s = with_limit q.limit a.rows m.arranged a.sorted a.few m.all up in (
         map (keyed_row q) s.arranged,
-        subst (λ l. IsPermutation l (map (keyed_row q) s.arranged)) (sym (kept_plain q (rows_of (all_rows shards) q.table) plain))
-            (IsPermutation-map (keyed_row q) (filter (is_kept q.filter) (rows_of (all_rows shards) q.table)) s.arranged
+        subst (λ l. IsPermutation l (map (keyed_row q) s.arranged)) (sym (kept_plain q (rows_of (rows_of_shards shards) q.table) plain))
+            (IsPermutation-map (keyed_row q) (filter (is_kept q.filter) (rows_of (rows_of_shards shards) q.table)) s.arranged
             (subst (λ l. IsPermutation (filter (is_kept q.filter) l) s.arranged) (sym (rows-all shards q.table)) (IsPermutation-trans _ _ _ a.all s.all))),
         sorted_mapped (keyed_row q) lt (λ (x : Keyed) (y : Keyed). is_lt (keys_cmp q.order_by x.1 y.1)) (λ x y. refl) s.arranged (sorted_from_up lt o s.arranged s.sorted),
         is ∙ ap (λ l. map (columns_of (places_from 0 q.items)) (sliced q.limit l)) m.is

@@ -22,7 +22,7 @@ use Rattle.vschema.specs.Database.{Database}
 use Rattle.aggregate.specs.Groups.{AreSummable}
 use Rattle.vschema.specs.Checks.{is_aggregated}
 use Rattle.sql_eval.specs.declared.groups.Grouping.{Grouping}
-use Rattle.sql_eval.specs.Grouping.{aggregates_of, grouping_of, group_columns, group_order, grouped, IsShown}
+use Rattle.sql_eval.specs.Grouping.{aggregates_of, grouping_of, group_columns, group_order, grouped, IsSortedSlice}
 use Rattle.sql_eval.specs.Queries.{Allowed}
 use Rattle.planner.specs.declared.routes.Route.{Route}
 use Rattle.planner.specs.declared.routes.Route.TheVariants as route
@@ -136,7 +136,7 @@ joined_by (Some g) rows = grouped g rows
 
 -- the finish: these rows in an order that the keys allow, their slice, and the columns of the answer
 abbrev pub Finishes : Finish → List Row → List Row → Type 0
-Finishes f rows list = IsShown f.order_by f.limit f.columns (joined_by f.grouping rows) list
+Finishes f rows list = IsSortedSlice f.order_by f.limit f.columns (joined_by f.grouping rows) list
 
 -- the counts and sums of the pieces' groups fit
 abbrev pub CanJoin : Option Grouping → List Row → Type 0
@@ -159,6 +159,6 @@ abbrev pub routed : Table → Plan → List Shard → List Shard
 routed t p shards = filter (λ shard. takes t p.route shard.0) shards
 
 -- what the plan may give over these shards
-abbrev pub Means : Table → Plan → List Shard → List Row → Type 0
-Means t p shards list =
+abbrev pub PlanGives : Table → Plan → List Shard → List Row → Type 0
+PlanGives t p shards list =
     (lists : List (List Row)) × Pieces t p (routed t p shards) lists × Finishes p.finish (flat_map (λ l. l) lists) list

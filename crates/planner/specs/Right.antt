@@ -11,15 +11,15 @@ use Rattle.sql_eval.specs.Conditions.{is_kept}
 use Rattle.sql_eval.specs.Queries.{Allowed}
 use Rattle.planner.specs.declared.plans.Plan.{Plan}
 use Rattle.planner.specs.Routes.{table_at, takes}
-use Rattle.planner.specs.Plans.{Shard, Means}
+use Rattle.planner.specs.Plans.{Shard, PlanGives}
 
 -- the rows of all shards
-abbrev pub all_rows : List Shard → Database
-all_rows [] = []
-all_rows (shard ∷ shards) = union shard.1 (all_rows shards)
+abbrev pub rows_of_shards : List Shard → Database
+rows_of_shards [] = []
+rows_of_shards (shard ∷ shards) = union shard.1 (rows_of_shards shards)
 
 -- A shard may stand in the keyspace: its rows lie in its range, and the table of this place may hold each of its own.
-pub record IsPlaced (schema : VSchema) (keyspace n : ℕ) (shard : Shard) : Type 0 where
+pub record LiesInPlace (schema : VSchema) (keyspace n : ℕ) (shard : Shard) : Type 0 where
   pub placed : restrict schema (record { keyspace = keyspace; range = shard.0 }) shard.1 ≡ shard.1
   pub storable : AllByRecursion (λ row. is_storable (table_at schema n) row ≡ true) (rows_of shard.1 n)
 
@@ -30,13 +30,13 @@ HasFewRows t p n shard = takes t p.route shard.0 ≡ true → length (rows_of sh
 -- Each list that the plan may give over any shards is an answer over the rows of all of them.
 abbrev pub IsRightPlan : VSchema → Query → Plan → Type 0
 IsRightPlan schema q p =
-    (shards : List Shard) → AllByRecursion (IsPlaced schema (table_at schema q.table).keyspace q.table) shards
+    (shards : List Shard) → AllByRecursion (LiesInPlace schema (table_at schema q.table).keyspace q.table) shards
     → AllByRecursion (HasFewRows (table_at schema q.table) p q.table) shards
-    → (list : List Row) → Means (table_at schema q.table) p shards list → Allowed q (all_rows shards) list
+    → (list : List Row) → PlanGives (table_at schema q.table) p shards list → Allowed q (rows_of_shards shards) list
 
 -- A shard that the plan's route skips holds no row that the query keeps.
 abbrev pub SkipsNothing : VSchema → Query → Plan → Type 0
 SkipsNothing schema q p =
-    (shard : Shard) → IsPlaced schema (table_at schema q.table).keyspace q.table shard
+    (shard : Shard) → LiesInPlace schema (table_at schema q.table).keyspace q.table shard
     → takes (table_at schema q.table) p.route shard.0 ≡ false
     → (row : Row) → Contains (rows_of shard.1 q.table) row → is_kept q.filter row ≡ false

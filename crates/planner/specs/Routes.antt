@@ -1,6 +1,6 @@
 -- The route of a statement: the shards that it needs, by its condition, as Vitess routes EqualUnique, IN and Scatter.
 -- The conjuncts of a condition are the members of its AND, nested ANDs opened, from the left.
-use Rattle.std.specs.Prelude.{ℕ, Bool, true, false, not, ◌&&◌, ◌||◌, ◌==◌, List, [], ◌∷◌, map, filter, flat_map, zip, slice_get, slice_index_or, Option, Some, None, if◌then◌else◌}
+use Rattle.std.specs.Prelude.{ℕ, Bool, true, false, not, ◌&&◌, ◌||◌, ◌==◌, List, [], ◌∷◌, map, filter, flat_map, zip, slice_get, Option, Some, None, if◌then◌else◌}
 use Rattle.std.specs.List.{list_any, list_all}
 use Rattle.vt_value.specs.declared.value.Value.{Value}
 use Rattle.vt_value.specs.declared.value.Comparison.{Comparison}
@@ -21,7 +21,7 @@ use Rattle.vschema.specs.declared.schema.ColumnType.TheVariants.{BigInt}
 use Rattle.vschema.specs.declared.schema.ColumnVindex.{ColumnVindex}
 use Rattle.vschema.specs.declared.changes.Write.{Write}
 use Rattle.vschema.specs.declared.changes.Write.TheVariants.{Insert, Update, Delete}
-use Rattle.vschema.specs.Schema.{no_table}
+pub use Rattle.vschema.specs.Schema.{table_at}
 use Rattle.vschema.specs.Resolved.{places_from}
 use Rattle.vschema.specs.WriteChecks.{is_out_of_range, is_too_long}
 use Rattle.planner.specs.declared.routes.Route.{Route}
@@ -86,13 +86,13 @@ abbrev pub first_of : {X : Type 0} → List X → Option X
 first_of [] = None
 first_of (x ∷ xs) = Some x
 
-abbrev pub type_of : Option schema.Column → ColumnType
-type_of None = BigInt
-type_of (Some c) = c.kind
+abbrev pub kind_of : Option schema.Column → ColumnType
+kind_of None = BigInt
+kind_of (Some c) = c.kind
 
 -- the type of the column at a place
 abbrev pub type_at : Table → ℕ → ColumnType
-type_at t n = type_of (slice_get t.columns n)
+type_at t n = kind_of (slice_get t.columns n)
 
 -- a value that a column of the type may hold
 abbrev pub is_held : ColumnType → Value → Bool
@@ -132,9 +132,6 @@ rows_route (Some v) rows = route.In (map (λ row. value_at row v.column) rows)
 -- an INSERT goes to the shards of its rows
 abbrev pub insert_route : Table → List Row → Route
 insert_route t rows = rows_route t.vindex rows
-
-abbrev pub table_at : VSchema → ℕ → Table
-table_at schema n = slice_index_or schema.tables n no_table
 
 abbrev pub write_route : VSchema → Write → Route
 write_route schema (Insert n rows) = insert_route (table_at schema n) rows

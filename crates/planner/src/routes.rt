@@ -1,6 +1,5 @@
 ghost use Rattle.std.specs.Prelude.{◌≡◌, IfOk, IfErr, filter, map, slice_get};
 ghost use Rattle.vt_value.specs.Values.{value_at};
-ghost use Rattle.vschema.specs.WriteChecks.{is_out_of_range, is_too_long};
 ghost use Rattle.planner.specs.Routes.{type_at, is_held, route_among, route_by, sharded_route, filter_route, route_of, insert_route, write_route};
 
 use crate::conjuncts::{first_among, first_equal, is_never, is_null};
@@ -8,7 +7,7 @@ use crate::members::Members;
 use sql_tree::Condition;
 use std::alloc::Global;
 use vindex::AnyVindex;
-use vschema::{ColumnType, ColumnVindex, Table, VSchema, Write};
+use vschema::{ColumnType, ColumnVindex, Table, VSchema, Write, is_out_of_range, is_too_long};
 use vt_value::{Refusal, Row, Value, copy};
 
 /// Which shards of its keyspace a statement needs.
@@ -33,27 +32,6 @@ pub fn type_at(table: &Table, place: usize) -> ColumnType
     match table.columns.as_slice().get(place) {
         Some(column) => column.kind,
         None => ColumnType::BigInt,
-    }
-}
-
-fn is_out_of_range(kind: ColumnType, value: &Value) -> bool
-    ensures { result ≡ is_out_of_range kind value.now }
-{
-    match (kind, value) {
-        (ColumnType::BigInt, Value::Int(n)) => {
-            *n < -9_223_372_036_854_775_808 || 9_223_372_036_854_775_807 < *n
-        }
-        (ColumnType::BigIntUnsigned, Value::Int(n)) => *n < 0 || 18_446_744_073_709_551_615 < *n,
-        _ => false,
-    }
-}
-
-fn is_too_long(kind: ColumnType, value: &Value) -> bool
-    ensures { result ≡ is_too_long kind value.now }
-{
-    match (kind, value) {
-        (ColumnType::VarBinary(most), Value::Bytes(text)) => usize::from(most) < text.len(),
-        _ => false,
     }
 }
 

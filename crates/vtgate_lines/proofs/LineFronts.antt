@@ -4,7 +4,7 @@ use Rattle.std.specs.Prelude.{codes, slice_index}
 use Rattle.std.specs.List.{list_all}
 use Rattle.std.proofs.lemmas.Bool.{and_parts, true≢false}
 use Rattle.std.proofs.Math.Seq.{drop-cons}
-use Rattle.vtgate_lines.specs.Lines.{is_letter, is_inner, IsStatementLine, IsNextLine, ended, last}
+use Rattle.vtgate_lines.specs.Lines.{is_lower_letter, is_inner, IsStatementLine, IsNextLine, ended, last}
 
 -- what stands behind the front at n
 pub at : (xs : List ℕ) (n : ℕ) → n < length xs → drop n xs ≡ slice_index xs n ∷ drop (suc n) xs
@@ -41,34 +41,34 @@ next_last input line rest n l r inner none some =
     rw (empty, l, whole) (last {line = input} (subst (λ (xs : List ℕ). list_all is_inner xs ≡ true) whole inner) not_empty)
 
 -- a front of letters is split off in one way
-letters_apart : (xs ys : List ℕ) (z : ℕ) (zs ws : List ℕ) → list_all is_letter xs ≡ true → list_all is_letter ys ≡ true → is_letter z ≡ false
-    → ((w : ℕ) (more : List ℕ) → ws ≡ w ∷ more → is_letter w ≡ false) → xs ++ (z ∷ zs) ≡ ys ++ ws → (xs ≡ ys) × (z ∷ zs ≡ ws)
+letters_apart : (xs ys : List ℕ) (z : ℕ) (zs ws : List ℕ) → list_all is_lower_letter xs ≡ true → list_all is_lower_letter ys ≡ true → is_lower_letter z ≡ false
+    → ((w : ℕ) (more : List ℕ) → ws ≡ w ∷ more → is_lower_letter w ≡ false) → xs ++ (z ∷ zs) ≡ ys ++ ws → (xs ≡ ys) × (z ∷ zs ≡ ws)
 letters_apart [] [] z zs ws h g other behind e = (refl, e)
 letters_apart [] (y ∷ ys) z zs ws h g other behind e =
-    let p = and_parts (is_letter y) (list_all is_letter ys) g in
+    let p = and_parts (is_lower_letter y) (list_all is_lower_letter ys) g in
     let same : z ≡ y = cc in
-    absurd (true≢false (sym p.0 ∙ (ap is_letter (sym same) ∙ other)))
+    absurd (true≢false (sym p.0 ∙ (ap is_lower_letter (sym same) ∙ other)))
 letters_apart (x ∷ xs) [] z zs ws h g other behind e =
-    let p = and_parts (is_letter x) (list_all is_letter xs) h in
+    let p = and_parts (is_lower_letter x) (list_all is_lower_letter xs) h in
     absurd (true≢false (sym p.0 ∙ behind x (xs ++ (z ∷ zs)) (sym e)))
 letters_apart (x ∷ xs) (y ∷ ys) z zs ws h g other behind e =
-    let p = and_parts (is_letter x) (list_all is_letter xs) h in
-    let q = and_parts (is_letter y) (list_all is_letter ys) g in
+    let p = and_parts (is_lower_letter x) (list_all is_lower_letter xs) h in
+    let q = and_parts (is_lower_letter y) (list_all is_lower_letter ys) g in
     let w = letters_apart xs ys z zs ws p.1 q.1 other behind (cc) in
     let same : x ≡ y = cc in
     (cc, w.1)
 
 -- behind as many letters as there are, another byte or nothing stands
-other_behind : (line : List ℕ) (n : ℕ) → n ≤ length line → (n < length line → is_letter (slice_index line n) ≡ false)
-    → (w : ℕ) (more : List ℕ) → drop n line ≡ w ∷ more → is_letter w ≡ false
+other_behind : (line : List ℕ) (n : ℕ) → n ≤ length line → (n < length line → is_lower_letter (slice_index line n) ≡ false)
+    → (w : ℕ) (more : List ℕ) → drop n line ≡ w ∷ more → is_lower_letter w ≡ false
 other_behind line n bound end w more e =
     let within : n < length line = omega (arith, ap length e, length-drop n line) in
     let same : slice_index line n ≡ w = cc (at line n within) in
-    ap is_letter (sym same) ∙ end within
+    ap is_lower_letter (sym same) ∙ end within
 
 -- a statement's line is split at its name
 pub at_name : (line name sql front rest : List ℕ) (n : ℕ) → IsStatementLine line name sql → front ≡ take n line → rest ≡ drop n line → n ≤ length line
-    → list_all is_letter (take n line) ≡ true → (n < length line → is_letter (slice_index line n) ≡ false)
+    → list_all is_lower_letter (take n line) ≡ true → (n < length line → is_lower_letter (slice_index line n) ≡ false)
     → (front ≢ []) × (rest ≡ codes ": " ++ sql)
 at_name line name sql front rest n s f r bound letters end =
     let colon : line ≡ name ++ (58 ∷ 32 ∷ sql) = s.1 ∙ append_assoc name (codes ": ") sql in

@@ -4,12 +4,12 @@ use Rattle.std.specs.List.{list_all}
 use Rattle.vtgate_lines.specs.declared.lines.Line.{Line}
 use Rattle.vtgate_lines.specs.declared.lines.Line.TheVariants.{Statement, Admin, Unknown}
 
-abbrev pub is_letter : ℕ → Bool
-is_letter b = nat_le 0x61 b && nat_le b 0x7A
+abbrev pub is_lower_letter : ℕ → Bool
+is_lower_letter b = nat_le 0x61 b && nat_le b 0x7A
 
 -- one or more lower-case letters
 abbrev pub IsName : List ℕ → Type 0
-IsName name = IsTrue (list_all is_letter name) × (name ≢ [])
+IsName name = IsTrue (list_all is_lower_letter name) × (name ≢ [])
 
 -- name: SQL
 abbrev pub IsStatementLine : List ℕ → List ℕ → List ℕ → Type 0

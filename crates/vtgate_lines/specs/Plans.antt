@@ -35,17 +35,17 @@ insert_name (route.EqualUnique v) shards = route_name (route.EqualUnique v)
 insert_name route.Scatter shards = route_name route.Scatter
 
 -- the name of the range at a place, after a blank
-abbrev pub named : Option KeyRange → List ℕ
-named None = []
-named (Some range) = codes " " ++ range_text range
+abbrev pub range_word : Option KeyRange → List ℕ
+range_word None = []
+range_word (Some range) = codes " " ++ range_text range
 
 -- the shards of a route: the one of the unsharded keyspace is 0
 abbrev pub shards_text : Route → List KeyRange → List ℕ → List ℕ
 shards_text route.Unsharded ranges places = codes " 0"
-shards_text route.None ranges places = flat_map (λ n. named (slice_get ranges n)) places
-shards_text (route.EqualUnique v) ranges places = flat_map (λ n. named (slice_get ranges n)) places
-shards_text (route.In values) ranges places = flat_map (λ n. named (slice_get ranges n)) places
-shards_text route.Scatter ranges places = flat_map (λ n. named (slice_get ranges n)) places
+shards_text route.None ranges places = flat_map (λ n. range_word (slice_get ranges n)) places
+shards_text (route.EqualUnique v) ranges places = flat_map (λ n. range_word (slice_get ranges n)) places
+shards_text (route.In values) ranges places = flat_map (λ n. range_word (slice_get ranges n)) places
+shards_text route.Scatter ranges places = flat_map (λ n. range_word (slice_get ranges n)) places
 
 abbrev pub plan_text : List ℕ → Route → List KeyRange → List ℕ → List ℕ
 plan_text name r ranges places = line (name ++ codes ":" ++ shards_text r ranges places)

@@ -1,7 +1,7 @@
 //! The lines of a script.
 ghost use Rattle.std.specs.Prelude.{◌≡◌, ◌≢◌, ◌<◌, ◌≤◌, ◌++◌, ℕ, List, [], true, false, length, take, slice_index, IfSome, IfNone, MatchOption};
 ghost use Rattle.std.specs.List.{list_all};
-ghost use Rattle.vtgate_lines.specs.Lines.{is_letter, is_inner, Says, IsNextLine};
+ghost use Rattle.vtgate_lines.specs.Lines.{is_lower_letter, is_inner, Says, IsNextLine};
 
 /// What a line of a script says.
 #[derive(Clone, Copy, Debug)]
@@ -15,7 +15,7 @@ pub enum Line<'l> {
 }
 
 fn is_letter(byte: u8) -> bool
-    ensures { result ≡ is_letter byte }
+    ensures { result ≡ is_lower_letter byte }
 {
     byte.is_ascii_lowercase()
 }
@@ -23,8 +23,8 @@ fn is_letter(byte: u8) -> bool
 // How many letters the line begins with.
 fn name_len(line: &[u8]) -> usize
     ensures bound { result ≤ length line.now }
-    ensures front { list_all is_letter (take result line.now) ≡ true }
-    ensures end { result < length line.now → is_letter (slice_index line.now result) ≡ false }
+    ensures front { list_all is_lower_letter (take result line.now) ≡ true }
+    ensures end { result < length line.now → is_lower_letter (slice_index line.now result) ≡ false }
 {
     let mut len = 0;
     while len < line.len() && is_letter(line[len]) {

@@ -1,6 +1,6 @@
 //! The line of a plan: the name of a statement's route, and the shards that it has.
 ghost use Rattle.std.specs.Prelude.{◌≡◌, ◌++◌, List, flat_map, slice_get, IfOk, IfErr, OnOk};
-ghost use Rattle.vtgate_lines.specs.Plans.{route_name, insert_name, named, shards_text, plan_text, write_text, typed_text, IsPlanLine, IsPlanRefusal};
+ghost use Rattle.vtgate_lines.specs.Plans.{route_name, insert_name, range_word, shards_text, plan_text, write_text, typed_text, IsPlanLine, IsPlanRefusal};
 
 use crate::rows::put;
 use keyrange::KeyRange;
@@ -38,7 +38,7 @@ fn put_shard(
     ranges: &[KeyRange],
     place: usize,
 ) -> Result<(), Refusal>
-    ensures ok { OnOk result (out.new.items ≡ out.old.items ++ named (slice_get ranges.now place)) }
+    ensures ok { OnOk result (out.new.items ≡ out.old.items ++ range_word (slice_get ranges.now place)) }
     ensures err { IfErr result (λ e. e ≡ Refusal.OutOfMemory) }
 {
     match ranges.get(place) {
@@ -56,7 +56,7 @@ fn put_shards(
     ranges: &[KeyRange],
     places: &[usize],
 ) -> Result<(), Refusal>
-    ensures ok { OnOk result (out.new.items ≡ out.old.items ++ flat_map (λ n. named (slice_get ranges.now n)) places.now) }
+    ensures ok { OnOk result (out.new.items ≡ out.old.items ++ flat_map (λ n. range_word (slice_get ranges.now n)) places.now) }
     ensures err { IfErr result (λ e. e ≡ Refusal.OutOfMemory) }
 {
     for place in places {

@@ -3,7 +3,7 @@ ghost use Rattle.std.specs.Prelude.{◌≡◌, ◌<◌, ◌++◌, List, codes, f
 ghost use Rattle.std.specs.Fmt.{decimal};
 ghost use Rattle.keyrange.specs.Names.{hex_digit};
 ghost use Rattle.sql_tree.specs.Printing.{following};
-ghost use Rattle.vtgate_lines.specs.Printed.{is_plain, byte_text, value_text, row_text, line, rows_text};
+ghost use Rattle.vtgate_lines.specs.Printed.{is_printable, byte_text, printed_value, printed_row, line, rows_text};
 
 use itoa::Buffer;
 use vt_value::{Refusal, Row, Value};
@@ -30,7 +30,7 @@ fn digit_of(value: u8) -> u8
 }
 
 fn is_plain(byte: u8) -> bool
-    ensures { result ≡ is_plain byte }
+    ensures { result ≡ is_printable byte }
 {
     0x20 <= byte && byte <= 0x7E && byte != b'\'' && byte != b'\\'
 }
@@ -60,7 +60,7 @@ fn put_bytes(out: &mut Vec<u8>, bytes: &[u8]) -> Result<(), Refusal>
 }
 
 fn put_value(out: &mut Vec<u8>, value: &Value) -> Result<(), Refusal>
-    ensures ok { OnOk result (out.new.items ≡ out.old.items ++ value_text value.now) }
+    ensures ok { OnOk result (out.new.items ≡ out.old.items ++ printed_value value.now) }
     ensures err { IfErr result (λ e. e ≡ Refusal.OutOfMemory) }
 {
     match value {
@@ -79,7 +79,7 @@ fn put_value(out: &mut Vec<u8>, value: &Value) -> Result<(), Refusal>
 
 // Puts each value with a bar before it.
 fn put_following(out: &mut Vec<u8>, values: &[Value]) -> Result<(), Refusal>
-    ensures ok { OnOk result (out.new.items ≡ out.old.items ++ following (codes "|") (map value_text values.now)) }
+    ensures ok { OnOk result (out.new.items ≡ out.old.items ++ following (codes "|") (map printed_value values.now)) }
     ensures err { IfErr result (λ e. e ≡ Refusal.OutOfMemory) }
 {
     for value in values {
@@ -90,7 +90,7 @@ fn put_following(out: &mut Vec<u8>, values: &[Value]) -> Result<(), Refusal>
 }
 
 fn put_row(out: &mut Vec<u8>, row: &[Value]) -> Result<(), Refusal>
-    ensures ok { OnOk result (out.new.items ≡ out.old.items ++ row_text row.now) }
+    ensures ok { OnOk result (out.new.items ≡ out.old.items ++ printed_row row.now) }
     ensures err { IfErr result (λ e. e ≡ Refusal.OutOfMemory) }
 {
     match row {
@@ -103,7 +103,7 @@ fn put_row(out: &mut Vec<u8>, row: &[Value]) -> Result<(), Refusal>
 }
 
 fn put_row_lines(out: &mut Vec<u8>, rows: &[Row]) -> Result<(), Refusal>
-    ensures ok { OnOk result (out.new.items ≡ out.old.items ++ flat_map (λ row. line (row_text row)) rows.now) }
+    ensures ok { OnOk result (out.new.items ≡ out.old.items ++ flat_map (λ row. line (printed_row row)) rows.now) }
     ensures err { IfErr result (λ e. e ≡ Refusal.OutOfMemory) }
 {
     for row in rows {
