@@ -3,7 +3,7 @@ use crate::fields::{Unanswered, fields, row_of, small_number, value_of};
 use crate::told::Told;
 use std::alloc::Global;
 use std::cmp::Ordering;
-use vt_value::{Comparison, Refusal, Truth, Value, compare, copy, copy_row, sort_order};
+use vt_value::{Comparison, REFUSALS, Refusal, Truth, Value, compare, copy, copy_row, sort_order};
 
 /// The comparisons, by their signs.
 const COMPARISONS: [(&str, Comparison); 6] = [
@@ -13,34 +13,6 @@ const COMPARISONS: [(&str, Comparison); 6] = [
     ("<=", Comparison::Le),
     (">", Comparison::Gt),
     (">=", Comparison::Ge),
-];
-
-/// Each refusal, in the order of their numbers.
-const REFUSALS: [Refusal; 24] = [
-    Refusal::OutOfMemory,
-    Refusal::SyntaxError,
-    Refusal::NotSupported,
-    Refusal::UnknownTable,
-    Refusal::UnknownColumn,
-    Refusal::UnknownKeyspace,
-    Refusal::AccessDenied,
-    Refusal::UnknownCommand,
-    Refusal::PacketTooLarge,
-    Refusal::PacketsOutOfOrder,
-    Refusal::BadHandshake,
-    Refusal::DuplicateKey,
-    Refusal::NullNotAllowed,
-    Refusal::NoDefaultValue,
-    Refusal::OutOfRange,
-    Refusal::TooLong,
-    Refusal::WrongValueCount,
-    Refusal::ColumnNamedTwice,
-    Refusal::NotGrouped,
-    Refusal::SeveralShards,
-    Refusal::Conflict,
-    Refusal::BufferFull,
-    Refusal::ShardMoved,
-    Refusal::ShardFull,
 ];
 
 fn truth_name(truth: Truth) -> &'static str {
@@ -118,6 +90,6 @@ pub(crate) fn refusal(case: &str, told: &mut Told) -> Result<(), Unanswered> {
     told.put(" ");
     told.put(refusal.state());
     told.put(" ");
-    told.put(refusal.message());
+    told.show(&refusal);
     Ok(())
 }
