@@ -45,19 +45,38 @@ def entries(lines):
     table(("", "appends", "ratio", "looks", "ratio"), rows)
 
 
+def query_line(line):
+    """Returns the shards, the rows in each, the query's name and its nanoseconds, if the line has them."""
+    found = re.match(r"shards (\d+), rows (\d+): (.*): (\d+) nanoseconds", line)
+    return (found[1], found[2], found[3], int(found[4])) if found else None
+
+
 def queries(lines):
     print("\n## Queries\n\nMicroseconds a query through the engine, without a connection, over more and more shards. The ratio is to one shard.")
     rows, first, planning = [], {}, ""
     for line in lines:
-        found = re.match(r"shards (\d+), rows (\d+): (.*): (\d+) microseconds", line)
+        found = query_line(line)
         if found:
-            shards, each, name, micros = found[1], found[2], found[3], int(found[4])
-            first.setdefault(name, micros)
-            rows.append((name, shards, each, micros, ratio(micros, first[name])))
+            shards, each, name, nanos = found
+            if name == "load":
+                continue
+            first.setdefault(name, nanos)
+            rows.append((name, shards, each, f"{nanos / 1000:.1f}", ratio(nanos, first[name])))
         else:
             planning = line
     table(("query", "shards", "rows in each", "microseconds", "ratio"), rows)
     print(f"\n{planning[:1].upper()}{planning[1:]}.")
+
+
+def store(lines):
+    print("\n## A store of rows\n\nMicroseconds a statement on one shard of few rows and on one of many, and a row of its loading by INSERTs of 1,000 rows. A SELECT")
+    print("and an UPDATE by the whole primary key, and an INSERT of one row, look the key up; LIMIT 1 and COUNT(*) read all rows.")
+    rows, first = [], {}
+    for line in lines:
+        shards, each, name, nanos = query_line(line)
+        first.setdefault(name, nanos)
+        rows.append((name, each, f"{nanos / 1000:.1f}", ratio(nanos, first[name])))
+    table(("statement", "rows", "microseconds", "ratio"), rows)
 
 
 def writes(lines):
@@ -70,7 +89,7 @@ def writes(lines):
 def main():
     folder = pathlib.Path(sys.argv[1])
     print(HEAD.format(day=datetime.date.today(), cores=os.cpu_count()), end="")
-    for name, write in (("texts", texts), ("entries", entries), ("queries", queries), ("writes", writes)):
+    for name, write in (("texts", texts), ("entries", entries), ("queries", queries), ("store", store), ("writes", writes)):
         write((folder / name).read_text().splitlines())
 
 

@@ -1,5 +1,5 @@
 //! Measures the router's layers. `bench MEASUREMENT ROUNDS` runs one of them and prints what it counted, `bench MEASUREMENT ROUNDS rates`
-//! how fast it was. The measurements are `texts`, `entries`, `queries` and `writes`; `all` stands for each of them.
+//! how fast it was. The measurements are `texts`, `entries`, `queries`, `store` and `writes`; `all` stands for each of them.
 #![tactic(auto)]
 
 mod entries;
@@ -25,6 +25,7 @@ struct Asked {
     texts: bool,
     entries: bool,
     queries: bool,
+    store: bool,
     writes: bool,
     rounds: u32,
     rates: bool,
@@ -38,6 +39,7 @@ impl Asked {
             texts: all || name == "texts",
             entries: all || name == "entries",
             queries: all || name == "queries",
+            store: all || name == "store",
             writes: all || name == "writes",
             rounds,
             rates,
@@ -70,6 +72,9 @@ fn run<R: Threads + Wait + Clock + Print + Sync + AllocGlobal>(
     }
     if asked.queries {
         queries::measure_shards(rt, rt.alloc(), rounds, rates)?;
+    }
+    if asked.store {
+        queries::measure_rows(rt, rt.alloc(), rounds, rates)?;
     }
     if asked.writes {
         writes::measure_sessions(rt, rt.alloc(), rounds, rates)?;

@@ -6,9 +6,9 @@ ghost use Rattle.vschema.specs.WellFormed.{is_vschema};
 ghost use Rattle.shard.specs.Shards.{most_limits};
 ghost use Rattle.empty_opening.specs.Empty.{opening_of, FitRanges};
 
-use crate::rates::{micros_each, refused};
+use crate::rates::{nanos_each, refused};
 use crate::router::{fits, named, no_range, schema, told};
-use crate::tables::{Asked, QUERIES, Size, put_insert, put_query};
+use crate::tables::{Asked, BY_KEY, QUERIES, Size, put_insert, put_query};
 use empty_world::empty_router;
 use journal::{Naming, Opened, Pass};
 use keyrange::KeyRange;
@@ -79,7 +79,7 @@ fn ask<W: World + Send + Sync, J: Naming + Send + Sync>(
     Ok(rows)
 }
 
-// Prints how many rows a query gave, or the microseconds that it took.
+// Prints how many rows a query gave, or the nanoseconds that it took.
 fn print_query<R: Print>(
     rt: &R,
     size: Size,
@@ -90,14 +90,61 @@ fn print_query<R: Print>(
 ) -> io::Result<()> {
     let Size { shards, rows } = size;
     if rates {
-        println!(rt; "shards {shards}, rows {rows}: {name}: {time} microseconds")
+        println!(rt; "shards {shards}, rows {rows}: {name}: {time} nanoseconds")
     } else {
         println!(rt; "shards {shards}, rows {rows}: {name}: {given} rows")
     }
 }
 
-// Runs each query, and prints how many rows it gave, or the microseconds that it took.
+/// Which queries are asked.
+#[derive(Clone, Copy)]
+enum Questions {
+    /// Over more and more shards.
+    OverShards,
+    /// Over more and more rows.
+    OverRows,
+}
+
+impl Questions {
+    // Each with its name, and how often it is asked where rates are wanted.
+    fn list(self) -> &'static [(Asked, &'static str, u64)] {
+        match self {
+            Questions::OverShards => &QUERIES,
+            Questions::OverRows => &BY_KEY,
+        }
+    }
+}
+
+// Runs each query, and prints how many rows it gave, or the nanoseconds that it took.
 fn measure_queries<
+    W: World + Send + Sync,
+    J: Naming + Send + Sync,
+    R: Threads + Wait + Clock + Print + Sync,
+>(
+    rt: &R,
+    alloc: Global,
+    engine: &Engine<W, J, Open>,
+    pass: &mut Pass<ShardLaw<W>, J>,
+    size: Size,
+    questions: Questions,
+    rates: bool,
+) -> io::Result<()>
+    requires { IsSome pass.old.session }
+    ensures { pass.new.session ≡ pass.old.session }
+{
+    for query in questions.list() {
+        let (asked, name, most) = *query;
+        let rounds = if rates { most } else { 1 };
+        let begun = Instant::now(rt)?;
+        let given = ask(rt, alloc, engine, pass, size, asked, rounds).map_err(refused)?;
+        let time = begun.elapsed(rt)?;
+        print_query(rt, size, name, given, nanos_each(time, rounds), rates)?;
+    }
+    Ok(())
+}
+
+// Loads the shards, and prints how many rows there are, or the nanoseconds that each took.
+fn measure_load<
     W: World + Send + Sync,
     J: Naming + Send + Sync,
     R: Threads + Wait + Clock + Print + Sync,
@@ -112,15 +159,13 @@ fn measure_queries<
     requires { IsSome pass.old.session }
     ensures { pass.new.session ≡ pass.old.session }
 {
-    for query in &QUERIES {
-        let (asked, name, most) = *query;
-        let rounds = if rates { most } else { 1 };
-        let begun = Instant::now(rt)?;
-        let given = ask(rt, alloc, engine, pass, size, asked, rounds).map_err(refused)?;
-        let time = begun.elapsed(rt)?;
-        print_query(rt, size, name, given, micros_each(time, rounds), rates)?;
+    let begun = Instant::now(rt)?;
+    for shard in 0..size.shards {
+        load(rt, alloc, engine, pass, size, shard).map_err(refused)?;
     }
-    Ok(())
+    let time = begun.elapsed(rt)?;
+    let rows = size.shards.wrapping_mul(size.rows);
+    print_query(rt, size, "load", rows, nanos_each(time, rows), rates)
 }
 
 // Loads the shards, and measures the queries.
@@ -134,14 +179,13 @@ fn load_and_measure<
     engine: &Engine<W, J, Open>,
     pass: &mut Pass<ShardLaw<W>, J>,
     size: Size,
+    questions: Questions,
     rates: bool,
 ) -> io::Result<()>
     requires { IsSome pass.old.session }
 {
-    for shard in 0..size.shards {
-        load(rt, alloc, engine, pass, size, shard).map_err(refused)?;
-    }
-    measure_queries(rt, alloc, engine, pass, size, rates)
+    measure_load(rt, alloc, engine, pass, size, rates)?;
+    measure_queries(rt, alloc, engine, pass, size, questions, rates)
 }
 
 // A router over these ranges, with a session.
@@ -179,6 +223,7 @@ fn measure<
     ranges: &[KeyRange],
     opened: Opened<ShardLaw<W>>,
     rows: u64,
+    questions: Questions,
     rates: bool,
 ) -> io::Result<()>
     requires opened { opened ≡ J.table }
@@ -192,7 +237,7 @@ fn measure<
         rows,
     };
     let (engine, mut pass) = open_router::<W, J>(alloc, schema, ranges, opened).map_err(refused)?;
-    load_and_measure(rt, alloc, &engine, &mut pass, size, rates)
+    load_and_measure(rt, alloc, &engine, &mut pass, size, questions, rates)
 }
 
 // The same in the world that has this VSchema and these ranges, and no rows.
@@ -202,6 +247,7 @@ fn measure_in_empty_world<W: World + Send + Sync, R: Threads + Wait + Clock + Pr
     schema: VSchema,
     ranges: &[KeyRange],
     rows: u64,
+    questions: Questions,
     rates: bool,
 ) -> io::Result<()>
     requires opening { W.opening ≡ opening_of schema ranges.now }
@@ -210,7 +256,7 @@ fn measure_in_empty_world<W: World + Send + Sync, R: Threads + Wait + Clock + Pr
     requires fit { FitRanges schema ranges.now }
 {
     let opened = Opened::<ShardLaw<W>>::new(alloc).map_err(refused)?;
-    measure::<W, Brand, R>(rt, alloc, schema, ranges, opened, rows, rates)
+    measure::<W, Brand, R>(rt, alloc, schema, ranges, opened, rows, questions, rates)
 }
 
 fn two_ranges() -> io::Result<[KeyRange; 2]>
@@ -250,6 +296,7 @@ fn measure_over<R: Threads + Wait + Clock + Print + Sync>(
     alloc: Global,
     ranges: &[KeyRange],
     rows: u64,
+    questions: Questions,
     rates: bool,
 ) -> io::Result<()>
     requires { AllByRecursion IsNamed ranges.now }
@@ -258,7 +305,7 @@ fn measure_over<R: Threads + Wait + Clock + Print + Sync>(
     if !fits(alloc, &schema, ranges)? {
         return Err(no_range());
     }
-    measure_in_empty_world::<Brand, R>(rt, alloc, schema, ranges, rows, rates)
+    measure_in_empty_world::<Brand, R>(rt, alloc, schema, ranges, rows, questions, rates)
 }
 
 fn plan_query(alloc: Global, schema: &VSchema, query: Query) -> Result<(), Refusal> {
@@ -310,12 +357,27 @@ pub fn measure_shards<R: Threads + Wait + Clock + Print + Sync>(
     rates: bool,
 ) -> io::Result<()> {
     let rows = u64::from(rows);
-    measure_over(rt, alloc, &[KeyRange::full()], rows, rates)?;
-    measure_over(rt, alloc, &two_ranges()?, rows, rates)?;
-    measure_over(rt, alloc, &four_ranges()?, rows, rates)?;
-    measure_over(rt, alloc, &eight_ranges()?, rows, rates)?;
+    let questions = Questions::OverShards;
+    measure_over(rt, alloc, &[KeyRange::full()], rows, questions, rates)?;
+    measure_over(rt, alloc, &two_ranges()?, rows, questions, rates)?;
+    measure_over(rt, alloc, &four_ranges()?, rows, questions, rates)?;
+    measure_over(rt, alloc, &eight_ranges()?, rows, questions, rates)?;
     if rates {
         measure_planning(rt, alloc)?;
     }
     Ok(())
+}
+
+/// Loads a thousandth of so many rows into one shard, and all of them into another; asks each for rows by their keys, and writes some.
+pub fn measure_rows<R: Threads + Wait + Clock + Print + Sync>(
+    rt: &R,
+    alloc: Global,
+    rows: u32,
+    rates: bool,
+) -> io::Result<()> {
+    let rows = u64::from(rows);
+    let ranges = [KeyRange::full()];
+    let few = (rows / 1000).max(1);
+    measure_over(rt, alloc, &ranges, few, Questions::OverRows, rates)?;
+    measure_over(rt, alloc, &ranges, rows, Questions::OverRows, rates)
 }

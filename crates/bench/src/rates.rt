@@ -22,7 +22,7 @@ pub fn megabytes_each_second(bytes: u64, time: Duration) -> u64 {
     bytes / micros(time).max(1)
 }
 
-/// How many microseconds one of so many takes.
-pub fn micros_each(time: Duration, count: u64) -> u64 {
-    micros(time) / count.max(1)
+/// How many nanoseconds one of so many takes.
+pub fn nanos_each(time: Duration, count: u64) -> u64 {
+    u64::try_from(time.as_nanos()).unwrap_or(u64::MAX) / count.max(1)
 }

@@ -73,6 +73,14 @@ pub enum Asked {
     FewGroups,
     /// The same of each of 10,000.
     ManyGroups,
+    /// Another c for the row of an id.
+    Update,
+    /// A row behind those that are there.
+    Insert,
+    /// One row, whichever.
+    Any,
+    /// How many rows there are.
+    Count,
 }
 
 /// Each query with its name, and how often it is run where rates are wanted.
@@ -84,17 +92,48 @@ pub const QUERIES: [(Asked, &str, u64); 5] = [
     (Asked::ManyGroups, "10,000 groups", 5),
 ];
 
+/// The same of what is asked of one shard of few rows and of one of many.
+pub const BY_KEY: [(Asked, &str, u64); 5] = [
+    (Asked::Point, "point", 20_000),
+    (Asked::Update, "update", 20_000),
+    (Asked::Any, "LIMIT 1", 5),
+    (Asked::Count, "COUNT(*)", 5),
+    (Asked::Insert, "insert", 20_000),
+];
+
+// The id of a round: they are scattered.
+fn put_id(text: &mut Vec<u8>, size: Size, round: u64) -> Result<(), Refusal> {
+    let ids = size.shards.wrapping_mul(size.rows).max(1);
+    put_number(text, round.wrapping_mul(7919) % ids)
+}
+
+fn put_update(text: &mut Vec<u8>, size: Size, round: u64) -> Result<(), Refusal> {
+    put(text, b"UPDATE t SET c = ")?;
+    put_number(text, round.wrapping_add(2_000_000))?;
+    put(text, b" WHERE id = ")?;
+    put_id(text, size, round)
+}
+
+fn put_new_row(text: &mut Vec<u8>, size: Size, round: u64) -> Result<(), Refusal> {
+    let number = size.rows.wrapping_add(round);
+    put(text, b"INSERT INTO t VALUES ")?;
+    put_row(text, number.wrapping_mul(size.shards), number)
+}
+
 /// Puts the query of a round.
 pub fn put_query(text: &mut Vec<u8>, asked: Asked, size: Size, round: u64) -> Result<(), Refusal> {
     match asked {
         Asked::Point => {
-            let ids = size.shards.wrapping_mul(size.rows).max(1);
             put(text, b"SELECT c FROM t WHERE id = ")?;
-            put_number(text, round.wrapping_mul(7919) % ids)
+            put_id(text, size, round)
         }
         Asked::Scatter => put(text, b"SELECT id FROM t WHERE c = 0"),
         Asked::Ordered => put(text, b"SELECT id FROM t ORDER BY c LIMIT 10"),
         Asked::FewGroups => put(text, b"SELECT few, COUNT(*), SUM(c) FROM t GROUP BY few"),
         Asked::ManyGroups => put(text, b"SELECT many, COUNT(*), SUM(c) FROM t GROUP BY many"),
+        Asked::Update => put_update(text, size, round),
+        Asked::Insert => put_new_row(text, size, round),
+        Asked::Any => put(text, b"SELECT id FROM t LIMIT 1"),
+        Asked::Count => put(text, b"SELECT COUNT(*) FROM t"),
     }
 }
