@@ -8,3 +8,6 @@ pub mod Making
 pub mod Begins
 pub mod Moving
 pub mod Unfit
+pub mod Thaws
+pub mod Served
+pub mod Prepares

@@ -3,3 +3,4 @@ pub mod Choices
 pub mod Steps
 pub mod Workflows
 pub mod Begun
+pub mod Cutover

@@ -1,5 +1,5 @@
 -- What contracts see of a workflow, and what it keeps.
-use Rattle.std.specs.Prelude.{◌≡◌, ℕ, ◌<◌, ◌≤◌, ◌^◌, ◌++◌, false, List, [], map, length, Contains}
+use Rattle.std.specs.Prelude.{◌≡◌, ℕ, ◌<◌, ◌≤◌, ◌^◌, ◌++◌, Bool, true, false, List, [], map, drop, length, Contains}
 use Rattle.std.specs.List.{AllByRecursion}
 use Rattle.journal.specs.Views.{SeatView}
 use Rattle.serving.specs.Partitions.{Seat, IsPartition}
@@ -18,7 +18,7 @@ abbrev pub Taking : Type 0
 Taking = Shard × List Shard
 
 -- How far it is, in which keyspace, the slots that no shard ever stood on, and the shards that it replaces, and by which; how many of the
--- first of these are frozen or retired, and how many of those serve.
+-- first of these are frozen or retired, and how many of those serve; whether the memory of the cutover is made.
 pub record WorkflowView : Type 0 where
   pub stage : Stage
   pub keyspace : ℕ
@@ -28,6 +28,7 @@ pub record WorkflowView : Type 0 where
   pub frozen : ℕ
   pub retired : ℕ
   pub served : ℕ
+  pub prepared : Bool
 
 -- the targets alone
 abbrev pub shards_of : List Taking → List Shard
@@ -55,6 +56,12 @@ pub record IsSplit (sources : List Shard) (targets : List Taking) : Type 0 where
   pub fit : AllByRecursion (λ s. FitTargets s (named_for s (shards_of targets))) sources
   pub of_sources : AllByRecursion (λ t. IsTargetOf sources t.0) targets
   pub own : TakeFromOwn targets
+
+-- once the memory of a cutover is made, there is for each source that isn't retired the list of the targets that it names; before, none is
+-- retired
+pub record IsPrepared (sources : List Shard) (targets : List Taking) (retired : ℕ) (prepared : Bool) (named : List (List Shard)) : Type 0 where
+  pub before : prepared ≡ false → retired ≡ 0
+  pub after : prepared ≡ true → named ≡ map (λ s. named_for s (shards_of targets)) (drop retired sources)
 
 -- the seat of a shard in a partition
 abbrev pub seat_of : Shard → Seat

@@ -1,5 +1,5 @@
 //! The calls that begin a workflow, and bring its targets forward.
-ghost use Rattle.std.specs.Prelude.{◌≡◌, ◌⊎◌, [], IfOk, IfErr, OnOk, IsTrue, map, length};
+ghost use Rattle.std.specs.Prelude.{◌≡◌, ◌⊎◌, false, [], IfOk, IfErr, OnOk, IsTrue, map, length};
 ghost use Rattle.std.specs.List.{AllByRecursion};
 ghost use Rattle.vschema.specs.WellFormed.{is_vschema};
 ghost use Rattle.keyrange.specs.Names.{IsNamed};
@@ -76,6 +76,7 @@ impl<W: World, J: Naming> Workflow<W, J> {
           frozen = 0;
           retired = 0;
           served = 0;
+          prepared = false;
         } }
     {
         Workflow {
@@ -88,6 +89,9 @@ impl<W: World, J: Naming> Workflow<W, J> {
             frozen: 0,
             retired: 0,
             served: 0,
+            prepared: false,
+            named: Vec::new(alloc).into_iter(),
+            next: None,
         }
     }
 
@@ -117,7 +121,7 @@ impl<W: World, J: Naming> Workflow<W, J> {
         requires home { serving.now ≡ self.old.keyspace }
         requires named { AllByRecursion IsNamed targets.now }
         ensures begun { OnOk result (HasBegun self.new.sources self.new.targets self.old.keyspace sources.now targets.now) }
-        ensures at { OnOk result (self.new ≡ record self.old { stage = Stage.Following; free = self.new.free; sources = self.new.sources; targets = self.new.targets; frozen = 0; retired = 0; served = 0 }) }
+        ensures at { OnOk result (self.new ≡ record self.old { stage = Stage.Following; free = self.new.free; sources = self.new.sources; targets = self.new.targets; frozen = 0; retired = 0; served = 0; prepared = false }) }
         ensures was { OnOk result (self.old.stage ≡ Stage.None) }
         ensures refused { IfErr result (λ e. ((e ≡ ReshardFault.WrongState) × (self.old.stage ≡ Stage.None → ⊥))
             ⊎ ((self.old.stage ≡ Stage.None) × IsCreateRefusal W.opening pass.old pass.new self.old.keyspace (length self.old.free) sources.now targets.now e)) }
@@ -145,6 +149,7 @@ impl<W: World, J: Naming> Workflow<W, J> {
         self.frozen = 0;
         self.retired = 0;
         self.served = 0;
+        self.prepared = false;
         self.stage = Stage::Following;
         Ok(())
     }

@@ -69,7 +69,7 @@ fn copy_member<W: World, J: Naming>(
     Ok(Member { which, shard })
 }
 
-fn serves<W: World, J: Naming>(state: &ShardState<W, J>) -> bool
+pub(crate) fn serves<W: World, J: Naming>(state: &ShardState<W, J>) -> bool
     ensures yes { result ≡ true → mode W.opening state.now.seen state.now.shard.slot ≡ Mode.Serving }
     ensures no { result ≡ false → mode W.opening state.now.seen state.now.shard.slot ≡ Mode.Serving → ⊥ }
 {

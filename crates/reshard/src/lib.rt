@@ -4,14 +4,21 @@
 mod beginning;
 mod calls;
 mod choosing;
+mod confirming;
 mod creating;
+mod cutover;
+mod ending;
 mod fault;
 mod finding;
+mod fitting;
 mod ground;
 mod leaving;
+mod preparing;
 mod steps;
+mod thawing;
 mod workflow;
 
+pub use cutover::CutoverStep;
 pub use fault::ReshardFault;
 pub use ground::Ground;
 pub use leaving::hand_over;

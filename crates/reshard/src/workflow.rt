@@ -3,9 +3,11 @@ use crate::ground::Ground;
 use crate::steps::Source;
 use follow::Member;
 use journal::{Naming, ShardSeat};
-use serving::Part;
+use serving::{Part, Partition};
 use shard::{Shard, ShardLaw, World};
 use std::marker::Model;
+use std::vec::IntoIter;
+use vt_value::Items;
 
 /// How far a workflow is.
 #[derive(Clone, Copy, Debug, PartialEq, Eq)]
@@ -42,11 +44,16 @@ pub struct Workflow<W: World, J: Naming> {
     pub(crate) frozen: usize,
     pub(crate) retired: usize,
     pub(crate) served: usize,
+    // the memory of a cutover: for each source that isn't retired the targets that it names, and the next partition, until it is published
+    pub(crate) prepared: bool,
+    pub(crate) named: IntoIter<Items<shard_run::Shard>>,
+    pub(crate) next: Option<Box<Partition<Shard<W, J>>>>,
 }
 
 impl<W: World, J: Naming> Model for Workflow<W, J> {
     ghost use Rattle.std.specs.Prelude.{map};
-    ghost use Rattle.reshard.specs.Workflows.{WorkflowView, IsWorkflow};
+    ghost use Rattle.std.specs.Vec.Iter.{into_iter_items};
+    ghost use Rattle.reshard.specs.Workflows.{WorkflowView, IsWorkflow, IsPrepared};
 
     ghost Value = { WorkflowView };
 
@@ -59,8 +66,11 @@ impl<W: World, J: Naming> Model for Workflow<W, J> {
       frozen = w.frozen;
       retired = w.retired;
       served = w.served;
+      prepared = w.prepared;
     } };
 
     ghost invariant = { λ w. IsWorkflow W.opening W.limits w.ground w.stage w.free.items (map (λ s. s.member.which) w.sources.items)
-        (map (λ t. (t.member.which, map (λ s. s.which) t.sources.items)) w.targets.items) (map (λ t. t.member.shard.value) w.targets.items) w.rest.items };
+        (map (λ t. (t.member.which, map (λ s. s.which) t.sources.items)) w.targets.items) (map (λ t. t.member.shard.value) w.targets.items) w.rest.items
+        × IsPrepared (map (λ s. s.member.which) w.sources.items) (map (λ t. (t.member.which, map (λ s. s.which) t.sources.items)) w.targets.items) w.retired w.prepared
+        (into_iter_items w.named) };
 }

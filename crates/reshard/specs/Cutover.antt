@@ -1,0 +1,89 @@
+-- What the steps of a cutover do to a workflow and to what the controller's pass has seen.
+use Rattle.std.specs.Prelude.{◌≡◌, ◌⊎◌, ℕ, ◌<◌, ◌≤◌, ◌+◌, ◌^◌, List, length, Contains, Some, slice_get}
+use Rattle.std.specs.List.{AllByRecursion}
+use Rattle.vt_value.specs.declared.refusal.Refusal.TheVariants.{OutOfMemory, ShardFull}
+use Rattle.journal.specs.Views.{PassView}
+use Rattle.shard_run.specs.declared.Shard.{Shard}
+use Rattle.shard_run.specs.declared.Entry.{Entry}
+use Rattle.shard_run.specs.declared.Event.TheVariants as events
+use Rattle.shard_run.specs.declared.Mode.TheVariants as modes
+use Rattle.shard_run.specs.Runs.{Opening, Run, mode, held, entries_on}
+use Rattle.shard_run.specs.Openings.{row_count}
+use Rattle.shard.specs.declared.limits.Limits.{Limits}
+use Rattle.follow.specs.Steps.{IsOnward, IsBetween, HasStepped, IsFull}
+use Rattle.follow.specs.declared.steps.Step.TheVariants as moves
+use Rattle.reshard.specs.declared.fault.ReshardFault.{ReshardFault}
+use Rattle.reshard.specs.declared.fault.ReshardFault.TheVariants.{Refused}
+use Rattle.reshard.specs.declared.workflow.Stage.TheVariants as stages
+use Rattle.reshard.specs.declared.cutover.CutoverStep.{CutoverStep}
+use Rattle.reshard.specs.declared.cutover.CutoverStep.TheVariants.{Freeze, Copy, Follow, Retire, Serve, Publish, Release}
+use Rattle.reshard.specs.Steps.{HasEntry, named_for}
+use Rattle.reshard.specs.Workflows.{WorkflowView, Taking, shards_of}
+use Rattle.reshard.specs.Begun.{HasMovedFirst}
+
+-- At a run that the pass came by the shard served and wasn't frozen: a Freeze of it before was followed by its Thaw.
+pub record IsServingAgain (o : Opening) (s : Shard) (p now : PassView Entry) : Type 0 where
+  pub run : Run
+  pub between : IsBetween p now run
+  pub serving : mode o run s.slot ≡ modes.Serving
+
+-- the pass has seen that the source retired, and that the target serves
+abbrev pub IsGone : Run → Shard → Type 0
+IsGone run s = (named : List Shard) × HasEntry run s (events.Retire named)
+
+abbrev pub HasServed : Run → Shard → Type 0
+HasServed run t = HasEntry run t events.Serve
+
+-- a workflow may be given up that follows, or of which no source is retired
+abbrev pub MayCancel : WorkflowView → Type 0
+MayCancel w = (w.stage ≡ stages.Following) ⊎ ((w.stage ≡ stages.Switching) × (w.retired ≡ 0))
+
+abbrev pub HaveServed : Run → List Taking → Type 0
+HaveServed run targets = AllByRecursion (λ t. HasServed run t.0) targets
+
+-- all that a cutover is for
+pub record IsCutOver (run : Run) (sources : List Shard) (targets : List Taking) : Type 0 where
+  pub gone : AllByRecursion (IsGone run) sources
+  pub served : HaveServed run targets
+
+-- at a run that the pass came by a target had more rows than a shard that serves may have
+pub record IsOverfull (o : Opening) (most : Limits) (t : Shard) (p now : PassView Entry) : Type 0 where
+  pub run : Run
+  pub between : IsBetween p now run
+  pub many : most.rows < row_count (held o run t)
+
+-- at a run that the pass came by a source had as many entries as a shard may have that is to be frozen
+pub record HasNoRoom (s : Shard) (p now : PassView Entry) : Type 0 where
+  pub run : Run
+  pub between : IsBetween p now run
+  pub full : 2 ^ 40 ≤ length (entries_on s.slot run)
+
+-- at a run that the pass came by a target had as many entries as it may have, or stored as many
+pub record IsStuck (most : Limits) (t : Shard) (p now : PassView Entry) : Type 0 where
+  pub run : Run
+  pub between : IsBetween p now run
+  pub full : IsFull most t.slot run
+
+-- Why a cutover gives up that hasn't retired a source: want of memory, or a limit of a shard would be passed.
+pub data IsSwitchRefusal (o : Opening) (most : Limits) (w : WorkflowView) (p now : PassView Entry) : ReshardFault → Type 0 where
+  no_memory : IsSwitchRefusal o most w p now (Refused OutOfMemory)
+  no_room : (s : Shard) → Contains w.sources s → HasNoRoom s p now → IsSwitchRefusal o most w p now (Refused ShardFull)
+  stuck : (t : Taking) → Contains w.targets t → IsStuck most t.0 p now → IsSwitchRefusal o most w p now (Refused ShardFull)
+  overfull : (t : Taking) → Contains w.targets t → IsOverfull o most t.0 p now → IsSwitchRefusal o most w p now (Refused ShardFull)
+
+-- What a step of the cutover does: the next source is frozen; once all are, the first target that isn't level moves, else the next source
+-- is retired for those of the targets that take from it; once all are, the next target serves; once all do, the next partition is published,
+-- and then the workflow's statements are released.
+pub data HasSwitched (o : Opening) (w : WorkflowView) (now : WorkflowView) (p q : PassView Entry) : CutoverStep → Type 0 where
+  froze : (s : Shard) → slice_get w.sources w.frozen ≡ Some s → HasStepped o s events.Freeze p q
+      → now ≡ record w { stage = stages.Switching; frozen = w.frozen + 1 } → HasSwitched o w now p q Freeze
+  copied : w.frozen ≡ length w.sources → HasMovedFirst o w.targets p q moves.Copied → now ≡ w → HasSwitched o w now p q Copy
+  followed : w.frozen ≡ length w.sources → HasMovedFirst o w.targets p q moves.Followed → now ≡ w → HasSwitched o w now p q Follow
+  retired : (s : Shard) → slice_get w.sources w.retired ≡ Some s → w.frozen ≡ length w.sources
+      → HasStepped o s (events.Retire (named_for s (shards_of w.targets))) p q → now ≡ record w { retired = w.retired + 1 }
+      → HasSwitched o w now p q Retire
+  served : (t : Taking) → slice_get w.targets w.served ≡ Some t → w.retired ≡ length w.sources → HasStepped o t.0 events.Serve p q
+      → now ≡ record w { served = w.served + 1 } → HasSwitched o w now p q Serve
+  published : w.retired ≡ length w.sources → w.served ≡ length w.targets → p ≡ q → now ≡ w → HasSwitched o w now p q Publish
+  released : w.retired ≡ length w.sources → w.served ≡ length w.targets → p ≡ q → now ≡ record w { stage = stages.Switched }
+      → HasSwitched o w now p q Release

@@ -1,0 +1,67 @@
+//! How a workflow ends: it is given up, or its sources are through.
+ghost use Rattle.std.specs.Prelude.{◌≡◌, true, false, [], OnOk, IfErr};
+ghost use Rattle.std.specs.List.{AllByRecursion};
+ghost use Rattle.journal.specs.Runs.{IsLegal};
+ghost use Rattle.shard.specs.Shards.{MayFollow};
+ghost use Rattle.follow.specs.Steps.{IsOnward};
+ghost use Rattle.reshard.specs.Cutover.{MayCancel, IsServingAgain};
+
+use crate::fault::ReshardFault;
+use crate::thawing::unfreeze_all;
+use crate::workflow::{Stage, Workflow};
+use buffer::Buffer;
+use journal::{Naming, Pass};
+use shard::{ShardLaw, World};
+use std::sync::Wait;
+
+impl<W: World, J: Naming> Workflow<W, J> {
+    fn may_cancel(&self) -> bool
+        ensures yes { result ≡ true → MayCancel self.now }
+        ensures no { result ≡ false → MayCancel self.now → ⊥ }
+    {
+        match self.stage {
+            Stage::Following => true,
+            Stage::Switching => self.retired == 0,
+            _ => false,
+        }
+    }
+
+    // Has no workflow from now on.
+    fn forget(&mut self)
+        ensures { self.new ≡ record self.old { stage = Stage.None; sources = []; targets = []; frozen = 0; retired = 0; served = 0; prepared = false } }
+    {
+        self.sources.clear();
+        self.targets.clear();
+        self.rest.clear();
+        self.next = None;
+        self.prepared = false;
+        self.frozen = 0;
+        self.retired = 0;
+        self.served = 0;
+        self.stage = Stage::None;
+    }
+
+    /// Gives the workflow up, of which no source is retired: each source that is frozen is thawed, and the statements that wait go on. Its
+    /// targets' slots are used up. Refuses where there is none, or a source is retired. Takes no memory.
+    pub fn cancel(
+        &mut self,
+        rt: &impl Wait,
+        pass: &mut Pass<ShardLaw<W>, J>,
+        buffer: &Buffer,
+    ) -> Result<(), ReshardFault>
+        requires legal { IsLegal (MayFollow W.opening) pass.old.seen }
+        ensures was { OnOk result (MayCancel self.old) }
+        ensures none { OnOk result (self.new ≡ record self.old { stage = Stage.None; sources = []; targets = []; frozen = 0; retired = 0; served = 0; prepared = false }) }
+        ensures serve { OnOk result (AllByRecursion (λ s. IsServingAgain W.opening s pass.old pass.new) self.old.sources) }
+        ensures refused { IfErr result (λ e. (e ≡ ReshardFault.WrongState) × (MayCancel self.old → ⊥) × (self.new ≡ self.old) × (pass.new ≡ pass.old)) }
+        ensures onward { IsOnward W.opening pass.old pass.new }
+    {
+        if !self.may_cancel() {
+            return Err(ReshardFault::WrongState);
+        }
+        unfreeze_all(rt, self.sources.as_slice(), pass);
+        self.forget();
+        buffer.release(rt);
+        Ok(())
+    }
+}
