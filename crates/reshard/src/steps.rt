@@ -1,6 +1,6 @@
 //! The steps that change a shard's mode. A lock can't tell which shard it holds and in which mode the controller left it, so both are
 //! tested under it; where they differ, which no run of one controller meets, the lock is taken again.
-ghost use Rattle.std.specs.Prelude.{◌≡◌, ◌≤◌, ◌^◌, true, IsTrue, IfErr, OnOk, OnErr, length, map};
+ghost use Rattle.std.specs.Prelude.{◌≡◌, ◌≤◌, ◌^◌, true, IsTrue, IfOk, IfErr, IfSome, OnOk, OnErr, length, map};
 ghost use Rattle.journal.specs.Runs.{IsLegal};
 ghost use Rattle.shard_run.specs.declared.Event.{Event};
 ghost use Rattle.shard_run.specs.Runs.{mode, stored_on, entries_on};
@@ -24,27 +24,51 @@ pub struct Source<W: World, J: Naming> {
     pub stored: u64,
 }
 
-/// Freezes the shard. Refuses where it has too many entries; then nothing was appended. Takes no memory.
+// Freezes the shard, where it is this one and serves.
+fn try_freeze<W: World, J: Naming>(
+    state: &mut ShardState<W, J>,
+    which: &shard_run::Shard,
+    pass: &mut Pass<ShardLaw<W>, J>,
+) -> Result<Option<u64>, Refusal>
+    requires legal { IsLegal (MayFollow W.opening) pass.old.seen }
+    ensures ok { IfOk result (λ r. IfSome r (λ stored. HasStepped W.opening which.now Event.Freeze pass.old pass.new
+        × (stored ≡ length (stored_on which.now.slot pass.new.seen)))) }
+    ensures full { IfErr result (λ e. (e ≡ Refusal.ShardFull) × (2 ^ 40 ≤ length (entries_on which.now.slot pass.new.seen))) }
+    ensures onward { IsOnward W.opening pass.old pass.new }
+{
+    let entries = state.look(pass);
+    if !state.is(which) {
+        return Ok(None);
+    }
+    if state.mode() != Mode::Serving {
+        return Ok(None);
+    }
+    if entries >= MOST_ENTRIES {
+        return Err(Refusal::ShardFull);
+    }
+    let stored = state.stored();
+    state.freeze(pass);
+    Ok(Some(stored))
+}
+
+/// Freezes the shard, and answers how many entries it has stored. Refuses where it has too many entries; then nothing was appended. Takes no
+/// memory.
 pub fn freeze<W: World, J: Naming>(
     rt: &impl Wait,
     shard: &Shard<W, J>,
     which: &shard_run::Shard,
     pass: &mut Pass<ShardLaw<W>, J>,
-) -> Result<(), Refusal>
+) -> Result<u64, Refusal>
     requires legal { IsLegal (MayFollow W.opening) pass.old.seen }
     ensures ok { OnOk result (HasStepped W.opening which.now Event.Freeze pass.old pass.new) }
+    ensures stored { IfOk result (λ stored. stored ≡ length (stored_on which.now.slot pass.new.seen)) }
     ensures full { IfErr result (λ e. (e ≡ Refusal.ShardFull) × (2 ^ 40 ≤ length (entries_on which.now.slot pass.new.seen))) }
     ensures onward { OnErr result (IsOnward W.opening pass.old pass.new) }
 {
     for _ in rt.forever() {
-        let mut state = shard.lock(rt);
-        let entries = state.look(pass);
-        if state.is(which) && state.mode() == Mode::Serving {
-            if entries >= MOST_ENTRIES {
-                return Err(Refusal::ShardFull);
-            }
-            state.freeze(pass);
-            return Ok(());
+        let frozen = try_freeze(&mut shard.lock(rt), which, pass)?;
+        if let Some(stored) = frozen {
+            return Ok(stored);
         }
     }
     unreachable!()
