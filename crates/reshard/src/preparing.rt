@@ -1,6 +1,6 @@
 //! The memory of a cutover, which is made before its first step: the next partition, and for each source the targets that it names.
 ghost use Rattle.std.specs.Prelude.{◌≡◌, ◌++◌, IfOk, IfErr, IsPermutation, map, filter};
-ghost use Rattle.serving.specs.Partitions.{IsPartition};
+ghost use Rattle.serving.specs.Partitions.{IsPartition, AreOf};
 ghost use Rattle.reshard.specs.Steps.{has_source, named_for};
 
 use crate::choosing::copy_part;
@@ -77,15 +77,18 @@ fn next_parts<W: World, J: Naming>(
     Ok(parts)
 }
 
-// The next partition.
+// The next partition of the keyspace.
 pub(crate) fn next_partition<W: World, J: Naming>(
     alloc: Global,
+    keyspace: usize,
     rest: &[Part<Shard<W, J>>],
     targets: &[Target<W, J>],
 ) -> Result<Box<Partition<Shard<W, J>>>, Refusal>
     requires next { IsPartition (rest.now ++ map (λ t. t.member.shard.value) targets.now) }
+    requires home { AreOf keyspace (rest.now ++ map (λ t. t.member.shard.value) targets.now) }
+    ensures next { IfOk result (λ partition. AreOf keyspace partition.value) }
     ensures err { IfErr result (λ e. e ≡ Refusal.OutOfMemory) }
 {
     let parts = next_parts(alloc, rest, targets)?;
-    Ok(Box::new(alloc, Partition::new(parts))?)
+    Ok(Box::new(alloc, Partition::new(keyspace, parts))?)
 }
