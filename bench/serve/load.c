@@ -4,7 +4,8 @@
    load fill PORT USER PASSWORD DATABASE ROWS          puts so many rows into the table t, and 100 into the table few
    load reply PORT USER PASSWORD DATABASE ROWS KIND    writes the bytes of the reply to one statement of a kind
    load run PORT USER PASSWORD DATABASE ROWS KIND CONNECTIONS SECONDS
-                                                       prints statements a second, and the 50th and 99th of 100 latencies in nanoseconds
+                                                       prints statements or transactions a second, the 50th and 99th of 100 latencies in
+                                                       nanoseconds, and how many of 1000 transactions were given up for a conflict
    load echo PORT POINT INSERT UPDATE SCATTER          answers requests with the bytes of these files, by their kind
    A USER of - is none: the connection begins with the first statement. */
 #include <arpa/inet.h>
@@ -21,8 +22,8 @@
 #include <unistd.h>
 
 enum { FIRST_ID = 100000, FIRST_INSERTED = 10000000, FEW = 100, SHARDS = 4, AT_ONCE = 500, BUFFER = 1 << 16 };
-enum kind { POINT, INSERT, UPDATE, SCATTER, MIX, KINDS };
-static const char *const names[KINDS] = {"point", "insert", "update", "scatter", "mix"};
+enum kind { POINT, INSERT, UPDATE, SCATTER, MIX, TRANSACTION, KINDS };
+static const char *const names[KINDS] = {"point", "insert", "update", "scatter", "mix", "transaction"};
 
 static void fail(const char *what) {
     perror(what);
@@ -100,18 +101,28 @@ static void must_be_no_error(const unsigned char *payload, size_t length) {
     }
 }
 
-/* Reads a whole reply, whose result sets have EOF packets. */
-static void read_reply(struct connection *it) {
+enum { CONFLICT = 1213 };
+
+/* Reads a whole reply, whose result sets have EOF packets; 0 where it tells a conflict, which ends its transaction. */
+static int read_reply_or_conflict(struct connection *it) {
     size_t length;
     unsigned char *payload = payload_of(it, &length);
+    if (payload[0] == 0xff && (payload[1] | payload[2] << 8) == CONFLICT)
+        return 0;
     must_be_no_error(payload, length);
     if (payload[0] == 0)
-        return;
+        return 1;
     for (int ends = 0; ends < 2;) {
         payload = payload_of(it, &length);
         must_be_no_error(payload, length);
         ends += payload[0] == 0xfe && length < 9;
     }
+    return 1;
+}
+
+static void read_reply(struct connection *it) {
+    if (!read_reply_or_conflict(it))
+        refuse("a conflict outside a transaction");
 }
 
 static uint32_t turned(uint32_t word, int by) { return word << by | word >> (32 - by); }
@@ -308,7 +319,7 @@ struct asker {
     enum kind kind;
     unsigned number, step;
     uint32_t *latencies;
-    size_t count, room;
+    size_t count, room, conflicts;
 };
 
 static pthread_barrier_t ready;
@@ -322,6 +333,29 @@ static void note(struct asker *asker, uint64_t nanoseconds) {
     asker->latencies[asker->count++] = nanoseconds > UINT32_MAX ? UINT32_MAX : nanoseconds;
 }
 
+static int asked(struct asker *asker, unsigned char *out, size_t text) {
+    send_query(asker->connection, out, text);
+    return read_reply_or_conflict(asker->connection);
+}
+
+/* Reads a row by its key in a transaction and changes it there; 0 where that was given up for a conflict. */
+static int transact(struct asker *asker, unsigned char *out, size_t room, uint64_t *state) {
+    char *text = (char *)out + 5;
+    unsigned long long id = random_id(state), value = random_value(state);
+    return asked(asker, out, snprintf(text, room, "BEGIN"))
+        && asked(asker, out, snprintf(text, room, "SELECT c FROM t WHERE id = %llu", id))
+        && asked(asker, out, snprintf(text, room, "UPDATE t SET c = %llu WHERE id = %llu", value, id))
+        && asked(asker, out, snprintf(text, room, "COMMIT"));
+}
+
+static int ask_one(struct asker *asker, unsigned char *out, size_t room, uint64_t *state, uint64_t *next_id) {
+    if (asker->kind == TRANSACTION)
+        return transact(asker, out, room, state);
+    send_query(asker->connection, out, put_text((char *)out + 5, room, asker->kind, state, next_id, asker->step));
+    read_reply(asker->connection);
+    return 1;
+}
+
 static void *ask(void *data) {
     struct asker *asker = data;
     uint64_t state = 88172645463325252u * (asker->number + 1), next_id = FIRST_INSERTED + asker->number;
@@ -329,11 +363,14 @@ static void *ask(void *data) {
     pthread_barrier_wait(&ready);
     pthread_barrier_wait(&ready);
     for (uint64_t begin = now(); begin < measured_to;) {
-        send_query(asker->connection, out, put_text((char *)out + 5, sizeof out - 5, asker->kind, &state, &next_id, asker->step));
-        read_reply(asker->connection);
+        int done = ask_one(asker, out, sizeof out - 5, &state, &next_id);
         uint64_t end = now();
-        if (begin >= measured_from && end <= measured_to)
-            note(asker, end - begin);
+        if (begin >= measured_from && end <= measured_to) {
+            if (done)
+                note(asker, end - begin);
+            else
+                asker->conflicts++;
+        }
         begin = end;
     }
     return NULL;
@@ -345,16 +382,16 @@ static int compare(const void *a, const void *b) {
 }
 
 static void print_results(struct asker *askers, unsigned count, double seconds) {
-    size_t total = 0;
+    size_t total = 0, conflicts = 0;
     for (unsigned i = 0; i < count; i++)
-        total += askers[i].count;
+        total += askers[i].count, conflicts += askers[i].conflicts;
     uint32_t *all = malloc((total + 1) * sizeof *all), *at = all;
     for (unsigned i = 0; i < count; i++)
         at = (uint32_t *)mempcpy(at, askers[i].latencies, askers[i].count * sizeof *all);
     qsort(all, total, sizeof *all, compare);
     if (total == 0)
         refuse("no statement was answered in time");
-    printf("%.0f %u %u\n", total / seconds, all[total / 2], all[total * 99 / 100]);
+    printf("%.0f %u %u %zu\n", total / seconds, all[total / 2], all[total * 99 / 100], conflicts * 1000 / (total + conflicts));
     free(all);
 }
 

@@ -14,6 +14,7 @@ KINDS = {
     "update": "`UPDATE t SET c = M WHERE id = N`, of {rows} rows",
     "scatter": "`SELECT id, c FROM few ORDER BY c, id LIMIT 10`, of 100 rows on 4 shards",
     "mix": "of 20 statements 16 points, 2 updates, 1 insert, 1 scatter",
+    "transaction": "`BEGIN`, `SELECT c FROM t WHERE id = N`, `UPDATE t SET c = M WHERE id = N`, `COMMIT`, of {rows} rows",
 }
 HEAD = """## The server
 
@@ -25,23 +26,35 @@ answers each request with the bytes of the router's reply, and knows nothing els
 client and servers share the processors, so compare ratios, not figures.
 """
 COLUMNS = ("connections", "router", "50th", "99th", "MariaDB", "50th", "99th", "echo", "50th", "99th", "router : MariaDB", "router : echo")
+OF_TRANSACTIONS = ("connections", "router", "50th", "99th", "conflicts", "MariaDB", "50th", "99th", "conflicts", "router : MariaDB")
 
 
 def read_cells(path):
     cells = {}
     for line in path.read_text().splitlines():
-        kind, count, server, rate, half, most = line.split()
-        cells.setdefault(kind, {}).setdefault(int(count), {})[server] = (int(rate), int(half), int(most))
+        kind, count, server, *numbers = line.split()
+        cells.setdefault(kind, {}).setdefault(int(count), {})[server] = tuple(map(int, numbers))
     return cells
+
+
+def ratio(servers, name):
+    return f"{servers['router'][0] / servers[name][0]:.2f}"
 
 
 def row_of(count, servers):
     row = [count]
     for name in ("router", "MariaDB", "echo"):
-        rate, half, most = servers[name]
+        rate, half, most, _ = servers[name]
         row += [rate, f"{half / 1000:.0f}", f"{most / 1000:.0f}"]
-    router = servers["router"][0]
-    return row + [f"{router / servers['MariaDB'][0]:.2f}", f"{router / servers['echo'][0]:.2f}"]
+    return row + [ratio(servers, "MariaDB"), ratio(servers, "echo")]
+
+
+def row_of_transactions(count, servers):
+    row = [count]
+    for name in ("router", "MariaDB"):
+        rate, half, most, conflicts = servers[name]
+        row += [rate, f"{half / 1000:.0f}", f"{most / 1000:.0f}", f"{conflicts / 10:.1f} %"]
+    return row + [ratio(servers, "MariaDB")]
 
 
 def section(cells, how, rows, version):
@@ -49,8 +62,11 @@ def section(cells, how, rows, version):
     for kind, counts in cells.items():
         text = KINDS[kind].format(rows=rows)
         lines += [f"### {kind[0].upper()}{kind[1:]}", "", f"{text[0].upper()}{text[1:]}.", ""]
-        lines += ["| " + " | ".join(COLUMNS) + " |", "|" + "---|" * len(COLUMNS)]
-        lines += ["| " + " | ".join(map(str, row_of(count, servers))) + " |" for count, servers in counts.items()]
+        if kind == "transaction":
+            lines += ["Rates and latencies are of whole transactions that committed; a conflict (1213) gives one up, of as many in a hundred.", ""]
+        columns, row = (OF_TRANSACTIONS, row_of_transactions) if kind == "transaction" else (COLUMNS, row_of)
+        lines += ["| " + " | ".join(columns) + " |", "|" + "---|" * len(columns)]
+        lines += ["| " + " | ".join(map(str, row(count, servers))) + " |" for count, servers in counts.items()]
         lines.append("")
     return "\n".join(lines)
 
