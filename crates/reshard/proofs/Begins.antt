@@ -141,13 +141,20 @@ module _ (current taken rest : List Seat) (from into ordered : List KeyRange) (a
               omega (arith, b, c, d, e, f, few);
         }
 
--- what is known once the targets' ranges are in order
 -- those that are named are of the keyspace of all
 pub of_taken : (k : ℕ) (parts taken : List Seat) → AllByRecursion (Contains parts) taken → AreOf k parts → AreOf k taken
 of_taken k parts [] among of = tt
 of_taken k parts (x ∷ taken) among of =
     (In-all (λ (seat : Seat). seat.2 ≡ k) x parts of (In-from_Contains x parts among.0), of_taken k parts taken among.1 of)
 
+-- so are the parts that stay, with the targets
+pub homes_here : (k : ℕ) (parts rest seats : List Seat) (targets : List Taking) → AllByRecursion (Contains parts) rest → AreOf k parts → seats ≡ placed targets
+    → AllByRecursion (λ t. t.0.place.keyspace ≡ k) targets → AreOf k (rest ++ seats)
+homes_here k parts rest seats targets among of seated homes =
+    all_both (λ (s : Seat). s.2 ≡ k) rest seats (of_taken k parts rest among of)
+    (subst (AreOf k) (sym seated) (all_map (λ (s : Seat). s.2 ≡ k) (λ (t : Taking). seat_of t.0) targets homes))
+
+-- what is known once the targets' ranges are in order
 pub record Setting (parts taken rest : List Seat) (from into ordered : List KeyRange) (k : ℕ) (sources : List Shard) : Type 0 where
   pub is : IsPartition parts
   pub are : AreNamed from parts taken rest

@@ -2,7 +2,7 @@
 use Rattle.std.specs.Prelude.{◌≡◌, ℕ, ◌<◌, ◌≤◌, ◌^◌, ◌++◌, Bool, true, false, List, [], map, drop, length, Contains}
 use Rattle.std.specs.List.{AllByRecursion}
 use Rattle.journal.specs.Views.{SeatView}
-use Rattle.serving.specs.Partitions.{Seat, IsPartition}
+use Rattle.serving.specs.Partitions.{Seat, IsPartition, AreOf}
 use Rattle.shard_run.specs.declared.Shard.{Shard}
 use Rattle.shard_run.specs.declared.Entry.{Entry}
 use Rattle.shard_run.specs.Runs.{Opening, entries_on, is_opening}
@@ -70,8 +70,8 @@ seat_of s = (s.slot, s.place.range, s.place.keyspace)
 abbrev pub placed : List Taking → List Seat
 placed targets = map (λ t. seat_of t.0) targets
 
--- What it keeps: the targets may take the sources' place, and with the parts that stay they make a partition. The seats are those of the
--- targets' shards.
+-- What it keeps: the targets may take the sources' place, and with the parts that stay they make a partition of the keyspace. The seats are
+-- those of the targets' shards.
 pub record IsWorkflow (o : Opening) (most : Limits) (g : Ground) (stage : Stage) (free : List (SeatView Entry)) (sources : List Shard)
     (targets : List Taking) (seats rest : List Seat) : Type 0 where
   pub opens : IsOpening o
@@ -80,3 +80,4 @@ pub record IsWorkflow (o : Opening) (most : Limits) (g : Ground) (stage : Stage)
   pub split : IsSplit sources targets
   pub seated : seats ≡ placed targets
   pub next : (stage ≡ stages.None → ⊥) → IsPartition (rest ++ seats)
+  pub home : AreOf g.keyspace (rest ++ seats)

@@ -80,6 +80,7 @@ pub(crate) fn begin<W: World, J: Naming>(
     ensures seated { IfOk result (λ b. map (λ t. t.member.shard.value) b.targets.items
         ≡ placed (map (λ t. (t.member.which, map (λ s. s.which) t.sources.items)) b.targets.items)) }
     ensures next { IfOk result (λ b. IsPartition (b.rest.items ++ map (λ t. t.member.shard.value) b.targets.items)) }
+    ensures at_home { IfOk result (λ b. AreOf ground.keyspace (b.rest.items ++ map (λ t. t.member.shard.value) b.targets.items)) }
     ensures free { AllByRecursion (IsFree W.opening) free.new.items }
     ensures onward { IsOnward W.opening pass.old pass.new }
     ensures err { IfErr result (IsCreateRefusal W.opening pass.old pass.new ground.keyspace (length free.old.items) sources.now targets.now) }

@@ -51,7 +51,8 @@ pub struct Workflow<W: World, J: Naming> {
 }
 
 impl<W: World, J: Naming> Model for Workflow<W, J> {
-    ghost use Rattle.std.specs.Prelude.{map};
+    ghost use Rattle.std.specs.Prelude.{map, IfSome};
+    ghost use Rattle.serving.specs.Partitions.{AreOf};
     ghost use Rattle.std.specs.Vec.Iter.{into_iter_items};
     ghost use Rattle.reshard.specs.Workflows.{WorkflowView, IsWorkflow, IsPrepared};
 
@@ -72,5 +73,6 @@ impl<W: World, J: Naming> Model for Workflow<W, J> {
     ghost invariant = { λ w. IsWorkflow W.opening W.limits w.ground w.stage w.free.items (map (λ s. s.member.which) w.sources.items)
         (map (λ t. (t.member.which, map (λ s. s.which) t.sources.items)) w.targets.items) (map (λ t. t.member.shard.value) w.targets.items) w.rest.items
         × IsPrepared (map (λ s. s.member.which) w.sources.items) (map (λ t. (t.member.which, map (λ s. s.which) t.sources.items)) w.targets.items) w.retired w.prepared
-        (into_iter_items w.named) };
+        (into_iter_items w.named)
+        × IfSome w.next (λ next. AreOf w.ground.keyspace next.value) };
 }

@@ -7,7 +7,7 @@ use Rattle.shard_run.specs.declared.Shard.{Shard}
 use Rattle.serving.specs.Partitions.{IsPartition, AreOf}
 use Rattle.reshard.specs.Begun.{unfit}
 use Rattle.reshard.specs.inner.Created.{AreOverlapped, IsMadeOf}
-use Rattle.reshard.proofs.Begins.{all_permuted, of_taken, setting, covered_here, split_here, begun_here, next_here}
+use Rattle.reshard.proofs.Begins.{all_permuted, of_taken, homes_here, setting, covered_here, split_here, begun_here, next_here}
 use Rattle.reshard.proofs.Unfit.{residual, residual_same, create_memory, lacking}
 use Rattle.reshard.proofs.beginning.begin.Goals as goal
 
@@ -122,3 +122,9 @@ returns-clause-next g c =
     (λ t. (t.member.which, map (λ s. s.which) t.sources.items)) c.in_ok-made.made.items c.as_slice-2.result.now c.as_slice-2.ensures.value
     c.in_ok-made.ensures.targets.0 made
     (map (λ t. t.member.shard.value) c.in_ok-made.made.items) c.in_ok-made.ensures.seats c.requires.named few
+
+pub returns-clause-at_home : goal.returns-clause-at_home
+returns-clause-at_home g c =
+    homes_here c.args.ground.keyspace c.parts.result.now c.in_ok-chosen.chosen.rest.items (map (λ t. t.member.shard.value) c.in_ok-made.made.items)
+    (map (λ t. (t.member.which, map (λ s. s.which) t.sources.items)) c.in_ok-made.made.items) c.in_ok-chosen.ensures.rest
+    (subst (AreOf c.args.ground.keyspace) (sym c.parts.ensures.seats) c.requires.home) c.in_ok-made.ensures.seats (returns-clause-begun g c).home
