@@ -4,7 +4,7 @@ ghost use Rattle.vschema.specs.TypedWrites.{IsTypedWrite};
 ghost use Rattle.shard.specs.Commits.{IsPlaced};
 ghost use Rattle.shard_limits.specs.SmallWorld.{small_schema, small_seat, small_shard, IsHere};
 
-use crate::writing::{Small, counts, first_seat, insert, insert_row, place, query, schema, state};
+use crate::writing::{Small, counts, first_seat, insert, insert_row, query, schema, state};
 use journal::{Naming, Opened, Pass};
 use shard::{Pending, Shard, ShardLaw};
 use sql_tree::Item;

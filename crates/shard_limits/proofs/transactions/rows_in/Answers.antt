@@ -1,3 +1,5 @@
+use denote.Param.Send.{sendable}
+use Rattle.shard_run.proofs.Sent.{entry_send}
 use Rattle.std.proofs.Common.{refl, ap, ◌∙◌}
 use Rattle.journal.specs.Views.{PassView}
 use Rattle.shard_run.specs.declared.Entry.{Entry}
@@ -27,3 +29,6 @@ returns-clause-tied g c =
     let now = c.next_statement.new.self in
     let here = here_same c.args.tx.now c.args.pass.now now (ap (λ (v : PassView Entry). v.seen) c.in_ok-next_statement.ensures.counted) c.requires.tied in
     here_read c.args.tx.now c.read_in.new.tx now c.read_in.new.pass small_shard.place refl here c.in_ok-query.query c.read_in.result (rw c.requires.here at c.read_in.ensures.read)
+
+pub next_statement-requires-send-L-Entry : goal.next_statement-requires-send-L-Entry
+next_statement-requires-send-L-Entry g c κs within = search (entry_send, sendable)

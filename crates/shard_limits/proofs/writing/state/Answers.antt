@@ -7,10 +7,10 @@ use Rattle.shard_limits.specs.SmallWorld.{small_opening, small_shard}
 use Rattle.shard_limits.proofs.SmallWorld.{opens}
 use Rattle.shard_limits.proofs.writing.state.Goals as goal
 
-pub new-requires-2-clause-opens : goal.new-requires-2-clause-opens
-new-requires-2-clause-opens g c = opens
+pub new-requires-clause-opens : goal.new-requires-clause-opens
+new-requires-clause-opens g c = opens
 
-pub new-requires-2-clause-stands : goal.new-requires-2-clause-stands
-new-requires-2-clause-stands g c =
+pub new-requires-clause-stands : goal.new-requires-clause-stands
+new-requires-clause-stands g c =
     rw (c.requires, c.shard.ensures)
     (on_its_slot small_opening opens small_shard (Contains-from_In small_shard (opening_shards small_opening) (inl refl)) [] tt)

@@ -1,3 +1,5 @@
+use denote.Param.Send.{sendable}
+use Rattle.shard_run.proofs.Sent.{entry_send}
 use Rattle.std.proofs.Common.{◌≡◌, ℕ, Option, sym, ap, subst, ◌∙◌, rules}
 use Rattle.std.specs.Prelude.{IsSome}
 use Rattle.vschema.specs.declared.changes.Write.{Write}
@@ -30,3 +32,6 @@ returns g c = record {
 
 pub commit-requires-clause-placed : goal.commit-requires-clause-placed
 commit-requires-clause-placed g c = rw c.requires.here c.requires.placed
+
+pub next_statement-requires-send-L-Entry : goal.next_statement-requires-send-L-Entry
+next_statement-requires-send-L-Entry g c κs within = search (entry_send, sendable)

@@ -1,0 +1,9 @@
+use denote.Param.Send.{sendable}
+use Rattle.shard_run.proofs.Sent.{entry_send}
+use Rattle.shard_limits.proofs.writing.writes_in_turn.Goals as goal
+
+pub named-requires-send-L-Entry : goal.named-requires-send-L-Entry
+named-requires-send-L-Entry g c κs within = search (entry_send, sendable)
+
+pub open-requires-send-L-Entry : goal.open-requires-send-L-Entry
+open-requires-send-L-Entry g c κs within = search (entry_send, sendable)
