@@ -24,7 +24,7 @@ while [ $# -gt 0 ]; do
     esac
     shift
 done
-if ! dpkg-query -W mariadb-server mariadb-client > /dev/null 2>&1; then
+if ! dpkg -s mariadb-server mariadb-client > /dev/null 2>&1; then
     as_root=()
     [ "$(id -u)" = 0 ] || as_root=(sudo)
     "${as_root[@]}" apt-get update -qq

@@ -6,7 +6,7 @@ set -euo pipefail
 top=$(cd "$(dirname "$0")/.." && pwd)
 . "$top/bench/program.sh"
 packages=(mariadb-client python3-pymysql golang-go golang-github-go-sql-driver-mysql-dev libdbd-mysql-perl libdbd-mariadb-perl)
-if ! dpkg-query -W "${packages[@]}" > /dev/null 2>&1; then
+if ! dpkg -s "${packages[@]}" > /dev/null 2>&1; then
     as_root=()
     [ "$(id -u)" = 0 ] || as_root=(sudo)
     "${as_root[@]}" apt-get update -qq
