@@ -1,6 +1,6 @@
 //! The connection phase of sessions, by their bytes.
 use crate::handshakes::{RIGHT, SALT, STAGE2, payload};
-use crate::replies::{PING, PONG};
+use crate::replies::{PING, PONG, query};
 use crate::sessions::{Ended, Told, Way, talk};
 use session::{End, SessionFault};
 use std::alloc::Global;
@@ -179,6 +179,28 @@ fn a_failing_source_ends_a_session(rt: HostRuntime) -> Result<(), Fail> {
     let mut replies = OK.to_vec(alloc)?;
     replies.extend_from_slice(PONG)?;
     expects(&rt, &told, &replies, Err(SessionFault::Read));
+    Ok(())
+}
+
+#[test]
+fn a_session_that_fails_drops_its_transaction(rt: HostRuntime) -> Result<(), Fail> {
+    let alloc = rt.alloc();
+    let mut input = response(alloc, PLAIN, b"u", b"", b"")?;
+    input.extend_from_slice(query(alloc, b"BEGIN")?.as_slice())?;
+    input.extend_from_slice(query(alloc, b"DELETE FROM t WHERE id = 1")?.as_slice())?;
+    let told = talk(&rt, alloc, Way::FailingSource(SALT), &input)?;
+    assert_eq!(rt; told.end, Err(SessionFault::Read));
+    assert_eq!(rt; told.rows, 6);
+    Ok(())
+}
+
+#[test]
+fn a_commit_whose_reply_is_not_written_stands(rt: HostRuntime) -> Result<(), Fail> {
+    let alloc = rt.alloc();
+    let input = query(alloc, b"DELETE FROM t WHERE id = 1")?;
+    let told = talk(&rt, alloc, Way::BrokenSink, &input)?;
+    assert_eq!(rt; told.end, Err(SessionFault::Write));
+    assert_eq!(rt; told.rows, 5);
     Ok(())
 }
 

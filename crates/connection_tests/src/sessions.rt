@@ -12,7 +12,7 @@ use empty_opening::opening_shards;
 use empty_world::empty_router;
 use journal::{Naming, Opened, Pass};
 use keyrange::{KeyRange, covers_once};
-use route_engine::{Engine, Open, Tx};
+use route_engine::{Answer, Engine, Open, Reply, Tx};
 use session::{Access, Core, End, Reader, SessionFault, Sink, Writer, serve};
 use shard::{ShardLaw, World};
 use std::alloc::Global;
@@ -46,16 +46,19 @@ pub(crate) enum Way {
     Interrupted([u8; 20]),
     /// Twice in one piece, to a sink that fails at its second write.
     FailingSink,
+    /// In one piece, to a sink that fails at once.
+    BrokenSink,
 }
 
 /// How a session ends.
 pub(crate) type Ended = Result<End, SessionFault>;
 
-/// What a session wrote, and how it ended.
+/// What a session wrote, how it ended, and how many rows another session finds then.
 #[derive(Drop)]
 pub(crate) struct Told {
     pub(crate) written: Vec<u8>,
     pub(crate) end: Ended,
+    pub(crate) rows: usize,
 }
 
 // Feeds a piece, and tells how the session ends where nothing follows.
@@ -128,6 +131,24 @@ fn fail_sink<W: World + Send + Sync, J: Naming + Send + Sync, R: Threads + Wait 
     }
 }
 
+fn break_sink<W: World + Send + Sync, J: Naming + Send + Sync, R: Threads + Wait + Sync>(
+    rt: &R,
+    alloc: Global,
+    engine: &Engine<W, J, Open>,
+    pass: &mut Pass<ShardLaw<W>, J>,
+    core: &mut Core<W, J>,
+    input: &[u8],
+) -> Ended
+    requires session { IsSome pass.old.session }
+    requires tx { IsOf W.opening core.old.tx pass.old }
+{
+    let mut sink = FailingSink {
+        writes_left: 0,
+        failures: 0,
+    };
+    feed(rt, alloc, engine, pass, core, input, &mut sink)
+}
+
 fn talk_by<W: World + Send + Sync, J: Naming + Send + Sync, R: Threads + Wait + Sync>(
     rt: &R,
     alloc: Global,
@@ -146,6 +167,7 @@ fn talk_by<W: World + Send + Sync, J: Naming + Send + Sync, R: Threads + Wait + 
         Way::Whole => feed(rt, alloc, engine, pass, &mut core, input, sink),
         Way::Bytes => feed_bytes(rt, alloc, engine, pass, &mut core, input, sink),
         Way::FailingSink => fail_sink(rt, alloc, engine, pass, &mut core, input),
+        Way::BrokenSink => break_sink(rt, alloc, engine, pass, &mut core, input),
         Way::Served(stage2, salt) => {
             serve_from(rt, alloc, engine, pass, stage2, &salt, input, sink)
         }
@@ -232,6 +254,28 @@ fn put_rows<W: World + Send + Sync, J: Naming + Send + Sync, R: Threads + Wait +
     }
 }
 
+// How many rows the table has.
+fn count_rows<W: World + Send + Sync, J: Naming + Send + Sync, R: Threads + Wait + Sync>(
+    rt: &R,
+    alloc: Global,
+    engine: &Engine<W, J, Open>,
+    pass: &mut Pass<ShardLaw<W>, J>,
+) -> Result<usize, Refusal>
+    requires { IsSome pass.old.session }
+{
+    let Reply { answer, .. } = engine.execute(
+        rt,
+        alloc,
+        pass,
+        &mut Tx::new(),
+        b"SELECT id FROM t",
+    )?;
+    match answer {
+        Answer::Rows(selected) => Ok(selected.rows.len()),
+        Answer::Count(_) => Err(Refusal::NotSupported),
+    }
+}
+
 fn talk_opened<W: World + Send + Sync, J: Naming + Send + Sync, R: Threads + Wait + Sync>(
     rt: &R,
     alloc: Global,
@@ -241,7 +285,7 @@ fn talk_opened<W: World + Send + Sync, J: Naming + Send + Sync, R: Threads + Wai
     way: Way,
     input: &[u8],
     sink: &mut Writer<Vec<u8>>,
-) -> Result<Ended, Refusal>
+) -> Result<(Ended, usize), Refusal>
     requires name { opened ≡ J.table }
     requires opening { W.opening ≡ opening_of schema ranges.now }
     requires limits { W.limits ≡ most_limits }
@@ -253,7 +297,10 @@ fn talk_opened<W: World + Send + Sync, J: Naming + Send + Sync, R: Threads + Wai
     )?;
     let mut pass = opener.open(&mut first)?;
     put_rows(rt, alloc, &engine, &mut pass)?;
-    Ok(talk_by(rt, alloc, &engine, &mut pass, way, input, sink))
+    let ended = talk_by(rt, alloc, &engine, &mut pass, way, input, sink);
+    let mut other = opener.open(&mut first)?;
+    let rows = count_rows(rt, alloc, &engine, &mut other)?;
+    Ok((ended, rows))
 }
 
 // The same in the world that has this VSchema and these ranges.
@@ -265,7 +312,7 @@ fn talk_in_world<W: World + Send + Sync, R: Threads + Wait + Sync>(
     way: Way,
     input: &[u8],
     sink: &mut Writer<Vec<u8>>,
-) -> Result<Ended, Refusal>
+) -> Result<(Ended, usize), Refusal>
     requires opening { W.opening ≡ opening_of schema ranges.now }
     requires limits { W.limits ≡ most_limits }
     requires schema { IsTrue (is_vschema schema) }
@@ -304,10 +351,10 @@ pub(crate) fn talk<R: Threads + Wait + Sync>(
         return Err(Fail::new("no opening"));
     }
     let mut sink = Writer::new(Vec::new(alloc));
-    let end = talk_in_world::<Brand, R>(rt, alloc, schema, &ranges, way, input, &mut sink)?;
+    let (end, rows) = talk_in_world::<Brand, R>(rt, alloc, schema, &ranges, way, input, &mut sink)?;
     let Writer {
         writer: written,
         failures: _,
     } = sink;
-    Ok(Told { written, end })
+    Ok(Told { written, end, rows })
 }

@@ -9,3 +9,6 @@ feed_bytes-requires-clause-tx g c κs within = none_of g.W.World.opening c.args.
 
 pub fail_sink-requires-clause-tx : goal.fail_sink-requires-clause-tx
 fail_sink-requires-clause-tx g c κs within = none_of g.W.World.opening c.args.pass.now c.in-Ok.core.tx c.in-Ok.ensures.none_open
+
+pub break_sink-requires-clause-tx : goal.break_sink-requires-clause-tx
+break_sink-requires-clause-tx g c κs within = none_of g.W.World.opening c.args.pass.now c.in-Ok.core.tx c.in-Ok.ensures.none_open

@@ -4,3 +4,6 @@ use Rattle.connection_tests.proofs.sessions.talk_opened.Goals as goal
 
 pub open-requires-send-L-Entry : goal.open-requires-send-L-Entry
 open-requires-send-L-Entry g c κs within = search (entry_send, sendable)
+
+pub open-requires-2-send-L-Entry : goal.open-requires-2-send-L-Entry
+open-requires-2-send-L-Entry g c κs within = search (entry_send, sendable)
