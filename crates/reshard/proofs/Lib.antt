@@ -11,3 +11,4 @@ pub mod Unfit
 pub mod Thaws
 pub mod Served
 pub mod Prepares
+pub mod Nexts

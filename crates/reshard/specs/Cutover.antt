@@ -1,5 +1,5 @@
 -- What the steps of a cutover do to a workflow and to what the controller's pass has seen.
-use Rattle.std.specs.Prelude.{◌≡◌, ◌⊎◌, ℕ, ◌<◌, ◌≤◌, ◌+◌, ◌^◌, List, length, Contains, Some, slice_get}
+use Rattle.std.specs.Prelude.{◌≡◌, ◌⊎◌, ℕ, ◌<◌, ◌≤◌, ◌+◌, ◌^◌, true, List, length, Contains, Some, slice_get}
 use Rattle.std.specs.List.{AllByRecursion}
 use Rattle.vt_value.specs.declared.refusal.Refusal.TheVariants.{OutOfMemory, ShardFull}
 use Rattle.journal.specs.Views.{PassView}
@@ -26,6 +26,10 @@ pub record IsServingAgain (o : Opening) (s : Shard) (p now : PassView Entry) : T
   pub run : Run
   pub between : IsBetween p now run
   pub serving : mode o run s.slot ≡ modes.Serving
+
+-- a cutover goes on while targets follow, or it has begun
+abbrev pub MaySwitch : WorkflowView → Type 0
+MaySwitch w = (w.stage ≡ stages.Following) ⊎ (w.stage ≡ stages.Switching)
 
 -- the pass has seen that the source retired, and that the target serves
 abbrev pub IsGone : Run → Shard → Type 0
@@ -65,25 +69,35 @@ pub record IsStuck (most : Limits) (t : Shard) (p now : PassView Entry) : Type 0
   pub full : IsFull most t.slot run
 
 -- Why a cutover gives up that hasn't retired a source: want of memory, or a limit of a shard would be passed.
-pub data IsSwitchRefusal (o : Opening) (most : Limits) (w : WorkflowView) (p now : PassView Entry) : ReshardFault → Type 0 where
-  no_memory : IsSwitchRefusal o most w p now (Refused OutOfMemory)
-  no_room : (s : Shard) → Contains w.sources s → HasNoRoom s p now → IsSwitchRefusal o most w p now (Refused ShardFull)
-  stuck : (t : Taking) → Contains w.targets t → IsStuck most t.0 p now → IsSwitchRefusal o most w p now (Refused ShardFull)
-  overfull : (t : Taking) → Contains w.targets t → IsOverfull o most t.0 p now → IsSwitchRefusal o most w p now (Refused ShardFull)
+pub data IsSwitchRefusal (o : Opening) (most : Limits) (sources : List Shard) (targets : List Taking) (p now : PassView Entry) : ReshardFault → Type 0 where
+  no_memory : IsSwitchRefusal o most sources targets p now (Refused OutOfMemory)
+  no_room : (s : Shard) → Contains sources s → HasNoRoom s p now → IsSwitchRefusal o most sources targets p now (Refused ShardFull)
+  stuck : (t : Taking) → Contains targets t → IsStuck most t.0 p now → IsSwitchRefusal o most sources targets p now (Refused ShardFull)
+  overfull : (t : Taking) → Contains targets t → IsOverfull o most t.0 p now → IsSwitchRefusal o most sources targets p now (Refused ShardFull)
 
 -- What a step of the cutover does: the next source is frozen; once all are, the first target that isn't level moves, else the next source
 -- is retired for those of the targets that take from it; once all are, the next target serves; once all do, the next partition is published,
 -- and then the workflow's statements are released.
 pub data HasSwitched (o : Opening) (w : WorkflowView) (now : WorkflowView) (p q : PassView Entry) : CutoverStep → Type 0 where
   froze : (s : Shard) → slice_get w.sources w.frozen ≡ Some s → HasStepped o s events.Freeze p q
-      → now ≡ record w { stage = stages.Switching; frozen = w.frozen + 1 } → HasSwitched o w now p q Freeze
-  copied : w.frozen ≡ length w.sources → HasMovedFirst o w.targets p q moves.Copied → now ≡ w → HasSwitched o w now p q Copy
-  followed : w.frozen ≡ length w.sources → HasMovedFirst o w.targets p q moves.Followed → now ≡ w → HasSwitched o w now p q Follow
-  retired : (s : Shard) → slice_get w.sources w.retired ≡ Some s → w.frozen ≡ length w.sources
-      → HasStepped o s (events.Retire (named_for s (shards_of w.targets))) p q → now ≡ record w { retired = w.retired + 1 }
-      → HasSwitched o w now p q Retire
-  served : (t : Taking) → slice_get w.targets w.served ≡ Some t → w.retired ≡ length w.sources → HasStepped o t.0 events.Serve p q
-      → now ≡ record w { served = w.served + 1 } → HasSwitched o w now p q Serve
-  published : w.retired ≡ length w.sources → w.served ≡ length w.targets → p ≡ q → now ≡ w → HasSwitched o w now p q Publish
-  released : w.retired ≡ length w.sources → w.served ≡ length w.targets → p ≡ q → now ≡ record w { stage = stages.Switched }
+      → now ≡ record w { stage = stages.Switching; frozen = w.frozen + 1; prepared = true } → HasSwitched o w now p q Freeze
+  copied : length w.sources ≤ w.frozen → HasMovedFirst o w.targets p q moves.Copied → now ≡ record w { prepared = true } → HasSwitched o w now p q Copy
+  followed : length w.sources ≤ w.frozen → HasMovedFirst o w.targets p q moves.Followed → now ≡ record w { prepared = true } → HasSwitched o w now p q Follow
+  retired : (s : Shard) → slice_get w.sources w.retired ≡ Some s → HasStepped o s (events.Retire (named_for s (shards_of w.targets))) p q
+      → now ≡ record w { retired = w.retired + 1; prepared = true } → HasSwitched o w now p q Retire
+  served : (t : Taking) → slice_get w.targets w.served ≡ Some t → length w.sources ≤ w.retired → HasStepped o t.0 events.Serve p q
+      → now ≡ record w { served = w.served + 1; prepared = true } → HasSwitched o w now p q Serve
+  published : length w.sources ≤ w.retired → length w.targets ≤ w.served → now ≡ record w { prepared = true } → HasSwitched o w now p q Publish
+  released : length w.sources ≤ w.retired → length w.targets ≤ w.served → now ≡ record w { stage = stages.Switched; prepared = true }
       → HasSwitched o w now p q Release
+
+-- A cutover was given up of which no source was retired: its targets follow again, and each of its sources serves.
+pub record HasGivenUp (o : Opening) (w now : WorkflowView) (p q : PassView Entry) : Type 0 where
+  pub none : w.retired ≡ 0
+  pub at : now ≡ record w { stage = stages.Following; frozen = 0; prepared = now.prepared }
+  pub serve : AllByRecursion (λ s. IsServingAgain o s p q) w.sources
+
+-- A cutover is through: the pass has seen each source retired and each target serve, and the workflow is switched.
+pub record HasFinished (w now : WorkflowView) (q : PassView Entry) : Type 0 where
+  pub through : IsCutOver q.seen w.sources w.targets
+  pub at : now ≡ record w { stage = stages.Switched; frozen = now.frozen; retired = now.retired; served = now.served; prepared = now.prepared }

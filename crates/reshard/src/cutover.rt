@@ -1,3 +1,30 @@
+//! The cutover, step by step: the sources freeze, the targets come level, the sources retire, the targets serve, and the next partition is
+//! published.
+ghost use Rattle.shard_run.specs.declared.Shard as which;
+ghost use Rattle.shard_run.specs.declared.Event.{Event};
+ghost use Rattle.std.specs.Prelude.{◌≡◌, ◌+◌, ◌<◌, true, Some, IfErr, OnOk, OnErr, Contains, map, length, slice_get};
+ghost use Rattle.std.specs.List.{AllByRecursion};
+ghost use Rattle.journal.specs.Runs.{IsLegal};
+ghost use Rattle.shard.specs.Shards.{MayFollow};
+ghost use Rattle.follow.specs.Steps.{IsOnward, HasStepped};
+ghost use Rattle.reshard.specs.Steps.{named_for};
+ghost use Rattle.reshard.specs.Workflows.{Taking, shards_of};
+ghost use Rattle.reshard.specs.Cutover.{HasNoRoom, IsServingAgain};
+
+use crate::confirming::confirm_retired;
+use crate::preparing::{named_of_all, next_partition};
+use crate::steps::{Source, freeze, retire, serve};
+use crate::thawing::unfreeze_all;
+use crate::workflow::{Stage, Workflow};
+use buffer::Buffer;
+use journal::{Naming, Pass};
+use serving::Serving;
+use shard::{Shard, ShardLaw, World};
+use std::alloc::Global;
+use std::sync::Wait;
+use vschema::VSchema;
+use vt_value::Refusal;
+
 /// A step of a cutover.
 #[derive(Clone, Copy, Debug, PartialEq, Eq)]
 pub enum CutoverStep {
@@ -15,4 +42,136 @@ pub enum CutoverStep {
     Publish,
     /// The statements that waited go on.
     Release,
+}
+
+// Notes how many entries a source had stored when it was frozen.
+fn note_stored<W: World, J: Naming>(sources: &mut [Source<W, J>], at: usize, stored: u64)
+    requires there { at < length sources.old }
+    ensures { map (λ s. s.member.which) sources.new ≡ map (λ s. s.member.which) sources.old }
+{
+    sources[at].stored = stored;
+}
+
+impl<W: World, J: Naming> Workflow<W, J> {
+    // Makes the memory of the cutover, unless it was made.
+    pub(crate) fn prepare(&mut self, alloc: Global) -> Result<(), Refusal>
+        requires begun { self.old.stage ≡ Stage.None → ⊥ }
+        ensures now { OnOk result (self.new ≡ record self.old { prepared = true }) }
+        ensures same { OnErr result (self.new ≡ self.old) }
+        ensures err { IfErr result (λ e. e ≡ Refusal.OutOfMemory) }
+    {
+        if self.prepared {
+            return Ok(());
+        }
+        let next = next_partition(
+            alloc,
+            self.ground.keyspace,
+            self.rest.as_slice(),
+            self.targets.as_slice(),
+        )?;
+        let named = named_of_all(alloc, self.sources.as_slice(), self.targets.as_slice())?;
+        self.named = named.into_iter();
+        self.next = Some(next);
+        self.prepared = true;
+        Ok(())
+    }
+
+    // Freezes the next source.
+    pub(crate) fn freeze_next(
+        &mut self,
+        rt: &impl Wait,
+        pass: &mut Pass<ShardLaw<W>, J>,
+    ) -> Result<(), Refusal>
+        requires begun { self.old.stage ≡ Stage.None → ⊥ }
+        requires legal { IsLegal (MayFollow W.opening) pass.old.seen }
+        requires some { self.old.frozen < length self.old.sources }
+        ensures froze { OnOk result ((s : which.Shard) × (slice_get self.old.sources self.old.frozen ≡ Some s) × HasStepped W.opening s Event.Freeze pass.old pass.new) }
+        ensures now { OnOk result (self.new ≡ record self.old { stage = Stage.Switching; frozen = self.old.frozen + 1 }) }
+        ensures same { OnErr result (self.new ≡ self.old) }
+        ensures err { IfErr result (λ e. (e ≡ Refusal.ShardFull) × ((s : which.Shard) × Contains self.old.sources s × HasNoRoom s pass.old pass.new)) }
+        ensures onward { IsOnward W.opening pass.old pass.new }
+    {
+        let at = self.frozen;
+        let source = &self.sources[at];
+        let stored = freeze(rt, &source.member.shard, &source.member.which, pass)?;
+        note_stored(self.sources.as_mut_slice(), at, stored);
+        self.frozen = at + 1;
+        self.stage = Stage::Switching;
+        Ok(())
+    }
+
+    // Retires the next source for its targets.
+    pub(crate) fn retire_next(&mut self, rt: &impl Wait, pass: &mut Pass<ShardLaw<W>, J>)
+        requires legal { IsLegal (MayFollow W.opening) pass.old.seen }
+        requires some { self.old.retired < length self.old.sources }
+        requires prepared { self.old.prepared ≡ true }
+        ensures retired { (s : which.Shard) × (slice_get self.old.sources self.old.retired ≡ Some s)
+            × HasStepped W.opening s (Event.Retire (named_for s (shards_of self.old.targets))) pass.old pass.new }
+        ensures now { self.new ≡ record self.old { retired = self.old.retired + 1 } }
+    {
+        let targets = self.named.next().unwrap();
+        let source = &self.sources[self.retired];
+        retire(
+            rt,
+            &source.member.shard,
+            &source.member.which,
+            pass,
+            targets,
+            source.stored,
+        );
+        self.retired += 1;
+    }
+
+    // Serves the next target, once its sources are found retired for it.
+    pub(crate) fn serve_next(
+        &mut self,
+        rt: &impl Wait,
+        pass: &mut Pass<ShardLaw<W>, J>,
+        schema: &VSchema,
+    )
+        requires schema { schema.now ≡ W.opening.schema }
+        requires legal { IsLegal (MayFollow W.opening) pass.old.seen }
+        requires some { self.old.served < length self.old.targets }
+        ensures served { (t : Taking) × (slice_get self.old.targets self.old.served ≡ Some t) × HasStepped W.opening t.0 Event.Serve pass.old pass.new }
+        ensures now { self.new ≡ record self.old { served = self.old.served + 1 } }
+    {
+        let target = &self.targets[self.served];
+        confirm_retired(rt, self.sources.as_slice(), &target.member.which, pass);
+        serve(rt, &target.member, pass, schema, self.sources.as_slice());
+        self.served += 1;
+    }
+
+    // Publishes the next partition, unless that was done. Whether it does.
+    pub(crate) fn publish_next(&mut self, serving: &Serving<Shard<W, J>>) -> bool
+        requires home { serving.now ≡ self.old.keyspace }
+        ensures { self.new ≡ self.old }
+    {
+        match self.next.take() {
+            Some(next) => {
+                let _ = serving.publish(next);
+                true
+            }
+            None => false,
+        }
+    }
+
+    // Each source that is frozen is thawed, and the statements that wait go on.
+    pub(crate) fn give_up(
+        &mut self,
+        rt: &impl Wait,
+        pass: &mut Pass<ShardLaw<W>, J>,
+        buffer: &Buffer,
+    )
+        requires legal { IsLegal (MayFollow W.opening) pass.old.seen }
+        requires begun { self.old.stage ≡ Stage.None → ⊥ }
+        requires none { self.old.retired ≡ 0 }
+        ensures now { self.new ≡ record self.old { stage = Stage.Following; frozen = 0 } }
+        ensures serve { AllByRecursion (λ s. IsServingAgain W.opening s pass.old pass.new) self.old.sources }
+        ensures onward { IsOnward W.opening pass.old pass.new }
+    {
+        unfreeze_all(rt, self.sources.as_slice(), pass);
+        self.frozen = 0;
+        self.stage = Stage::Following;
+        buffer.release(rt);
+    }
 }
