@@ -8,6 +8,7 @@ ghost use Rattle.empty_opening.specs.Empty.{opening_of, FitRanges};
 mod gates;
 mod locks;
 mod modes;
+mod transactions;
 mod waiting;
 
 use crate::empty_router;
