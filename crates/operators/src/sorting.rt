@@ -64,6 +64,9 @@ pub fn sort_rows(
     ensures sorted { IfOk result (λ arranged. IsSorted (row_cmp keys.now) arranged) }
     ensures err { IfErr result (λ e. e ≡ Refusal.OutOfMemory) }
 {
+    if rows.len() < 2 {
+        return Ok(rows);
+    }
     let mut list = into_vec(alloc, rows)?;
     sort(&mut list, keys)?;
     Ok(Items::from_vec(list))

@@ -16,4 +16,4 @@ pub use members::{Member, Members};
 pub use planning::plan;
 pub use plans::{Finish, Plan};
 pub use routes::{Route, route_of, write_route};
-pub use taking::{shards, takes};
+pub use taking::{shards, single_id, takes, takes_by};

@@ -1,13 +1,17 @@
-ghost use Rattle.std.specs.Prelude.{◌≡◌, ◌&&◌, [], IfOk, IfErr};
+ghost use Rattle.std.specs.Prelude.{◌≡◌, ◌&&◌, [], IfOk, IfErr, IfNone, IfSome};
 ghost use Rattle.std.specs.List.{list_any};
+ghost use Rattle.keyrange.specs.declared.KeyRange.{KeyRange};
 ghost use Rattle.keyrange.specs.Ranges.{has_id};
+ghost use Rattle.vindex.specs.Ksids.{ksid_bytes};
+ghost use Rattle.vt_value.specs.declared.value.Value.{Value};
+ghost use Rattle.planner.specs.declared.routes.Route.{Route};
 ghost use Rattle.planner.specs.Routes.{id_of, is_sharded, takes, taken_places};
 
 use crate::members::Member;
 use crate::routes::Route;
 use keyrange::KeyRange;
 use std::alloc::Global;
-use vindex::AnyVindex;
+use vindex::{AnyVindex, Ksid};
 use vschema::Table;
 use vt_value::{Refusal, Value};
 
@@ -53,6 +57,29 @@ pub fn takes(table: &Table, route: &Route, range: &KeyRange) -> bool
         Route::None => false,
         Route::EqualUnique(value) => has_value(table, range, value),
         Route::In(values) => has_one_of(table, range, values.as_slice()),
+    }
+}
+
+/// The keyspace id of the one value that the route needs, made once for all shards; `None` where it needs another number of values, and
+/// where that value has no id of its own.
+pub fn single_id<'r>(table: &Table, route: &'r Route) -> Option<Ksid<'r>>
+    ensures id { IfSome result (λ id. (range : KeyRange) → takes table.now route.now range ≡ has_id range (ksid_bytes id)) }
+    ensures none { IfNone result ((value : Value) → route.now ≡ Route.EqualUnique value → id_of table.now value ≡ []) }
+{
+    match (&table.vindex, route) {
+        (Some(vindex), Route::EqualUnique(value)) => vindex.vindex.map(value),
+        _ => None,
+    }
+}
+
+/// `takes`, by the id that `single_id` gave for the table and the route.
+pub fn takes_by(table: &Table, route: &Route, id: &Option<Ksid>, range: &KeyRange) -> bool
+    requires { IfSome id.now (λ id. (range : KeyRange) → takes table.now route.now range ≡ has_id range (ksid_bytes id)) }
+    ensures { result ≡ takes table.now route.now range.now }
+{
+    match id {
+        Some(id) => range.contains(id.as_slice()),
+        None => takes(table, route, range),
     }
 }
 

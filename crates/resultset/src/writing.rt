@@ -14,6 +14,9 @@ use mysql_packet::put_payload;
 use std::alloc::Global;
 use vt_value::{Refusal, Row, Value};
 
+/// The room for one payload that is made at first, in bytes: most definitions and rows have less.
+const PAYLOAD_ROOM: usize = 256;
+
 /// Appends the packets of a result, the first with this sequence number, and gives the number after the last. A count
 /// is an OK packet and a refusal an ERR packet. A result set is the number of its columns, a definition of each, EOF,
 /// its rows, EOF, a packet for each; without EOF packets it ends with a packet laid out as OK. It refuses only for want
@@ -78,7 +81,7 @@ fn put_set(
     ensures memory { IfErr result (λ e. e ≡ Refusal.OutOfMemory) }
     ensures capacity { length out.old.items + out.old.spare ≤ length out.new.items + out.new.spare }
 {
-    let mut payload = Vec::new(alloc);
+    let mut payload = Vec::with_capacity(alloc, PAYLOAD_ROOM)?;
     put_length_encoded(set.columns.len() as u64, &mut payload)?;
     let number = put_payload(number, &payload, out)?;
     let number = put_definitions(set.columns.as_slice(), number, &mut payload, out)?;

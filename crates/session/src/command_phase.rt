@@ -21,17 +21,22 @@ use crate::standing::{Standing, is_new};
 use journal::{Naming, Pass};
 use route_engine::{Engine, Gate};
 use shard::{ShardLaw, World};
-use std::alloc::{AllocError, Global};
+use std::alloc::Global;
 use std::sync::Wait;
 use std::thread::Threads;
 
 /// How many bytes are asked of a source at once.
 const PIECE: usize = 1 << 16;
 
-fn zeroed(alloc: Global, len: usize) -> Result<Vec<u8>, AllocError>
-    ensures { IfOk result (λ bytes. vec_len bytes ≡ len) }
+/// A buffer for the pieces of the input. Refuses only where there is no memory.
+fn piece_buffer(alloc: Global) -> Result<Vec<u8>, SessionFault>
+    ensures room { IfOk result (λ bytes. 0 < vec_len bytes) }
+    ensures err { IfErr result (λ e. e ≡ SessionFault.Memory) }
 {
-    vec![in alloc; 0u8; len]
+    match vec![in alloc; 0u8; PIECE] {
+        Ok(bytes) => Ok(bytes),
+        Err(_) => Err(SessionFault::Memory),
+    }
 }
 
 /// Reads the next piece of the input to the front of the buffer.
@@ -149,32 +154,115 @@ fn serve_on<W: World + Send + Sync, J: Naming + Send + Sync, G: Gate, R: Source,
     unreachable!()
 }
 
-// A session that is new, and a buffer for the pieces of its input. Refuses only where there is no memory.
+/// The same, and drops the session.
+fn serve_whole<W: World + Send + Sync, J: Naming + Send + Sync, G: Gate, R: Source, S: Sink>(
+    rt: &(impl Threads + Wait + Sync),
+    alloc: Global,
+    engine: &Engine<W, J, G>,
+    pass: &mut Pass<ShardLaw<W>, J>,
+    core: Core<W, J>,
+    buffer: &mut [u8],
+    source: &mut R,
+    sink: &mut S,
+) -> Result<End, SessionFault>
+    requires session { IsSome pass.old.session }
+    requires room { 0 < length buffer.old }
+    requires limit { core.framing.limit ≡ COMMAND_LIMIT }
+    requires open_session { end_of core.standing ≡ None }
+    requires none_open { core.tx ≡ None }
+    requires begins { (o : Opening) (l : Limits) (s : PassAndTransaction) → HasTalked (terms_of o core.hello) (Means o l) Standing.New core s [] [] s }
+    ensures talk { IfOk result (λ end. (read : List ℕ) × (written : List ℕ)
+        × Consumes (R.unread source.old) (R.unread source.new) read × Appends (S.taken sink.old) (S.taken sink.new) written
+        × ((now : PassAndTransaction) × (now.pass ≡ pass.new)
+        × Talk COMMAND_LIMIT (terms_of W.opening core.hello) (Means W.opening W.limits) Standing.New (none_open pass.old) read written end now)) }
+    ensures alone { IfOk result (λ end. NoOthers pass.old pass.new → (read : List ℕ) × (written : List ℕ)
+        × Consumes (R.unread source.old) (R.unread source.new) read × Appends (S.taken sink.old) (S.taken sink.new) written
+        × ((now : Alone W.opening) × (now.kept.pass ≡ pass.new)
+        × Talk COMMAND_LIMIT (alone_terms W.opening core.hello) (MeansAlone W.opening W.limits) Standing.New (alone_first W.opening pass.old) read written end now)) }
+    ensures at_end { IfOk result (λ end. IsByInput end → IsAtEnd (R.unread source.new)) }
+    ensures read { result ≡ Err SessionFault.Read → (read : List ℕ) × (written : List ℕ)
+        × Consumes (R.unread source.old) (R.unread source.new) read × Appends (S.taken sink.old) (S.taken sink.new) written
+        × ((now : PassAndTransaction) × (now.pass ≡ pass.new)
+        × IsUnfinished COMMAND_LIMIT (terms_of W.opening core.hello) (Means W.opening W.limits) Standing.New (none_open pass.old) read written now) }
+    ensures memory { result ≡ Err SessionFault.Memory → (read : List ℕ) × (piece : List ℕ) × (written : List ℕ)
+        × Consumes (R.unread source.old) (R.unread source.new) (read ++ piece) × Appends (S.taken sink.old) (S.taken sink.new) written
+        × ((now : PassAndTransaction) × (now.pass ≡ pass.new)
+        × IsUnfinished COMMAND_LIMIT (terms_of W.opening core.hello) (Means W.opening W.limits) Standing.New (none_open pass.old) read written now) }
+    ensures write { result ≡ Err SessionFault.Write → (read : List ℕ) × (written : List ℕ)
+        × Consumes (R.unread source.old) (R.unread source.new) read × Appends (S.taken sink.old) (S.taken sink.new) written
+        × ((now : PassAndTransaction) × (now.pass ≡ pass.new)
+        × HasBrokenOff COMMAND_LIMIT (terms_of W.opening core.hello) (Means W.opening W.limits) Standing.New (none_open pass.old) read written now) }
+    ensures source_count { R.failures source.new ≡ read_failures_after result (R.failures source.old) }
+    ensures sink_count { S.failures sink.new ≡ write_failures_after result (S.failures sink.old) }
+    ensures session { pass.new.session ≡ pass.old.session }
+{
+    let mut core = core;
+    serve_on(rt, alloc, engine, pass, &mut core, buffer, source, sink)
+}
+
+/// A session that is new. Refuses only where there is no memory.
 fn begin<W: World, J: Naming>(
     alloc: Global,
     access: &Access,
     salt: &[u8; 20],
     id: u32,
-) -> Result<(Core<W, J>, Vec<u8>), SessionFault>
-    ensures begins { IfOk result (λ r. (o : Opening) (l : Limits) (s : PassAndTransaction)
-        → HasTalked (terms_of o r.0.hello) (Means o l) Standing.New r.0 s [] [] s) }
-    ensures hello { IfOk result (λ r. r.0.hello ≡ record { access = access.now; salt = salt.now; id = id }) }
-    ensures standing { IfOk result (λ r. r.0.standing ≡ Standing.New) }
-    ensures limit { IfOk result (λ r. r.0.framing.limit ≡ COMMAND_LIMIT) }
-    ensures none_open { IfOk result (λ r. r.0.tx ≡ None) }
-    ensures room { IfOk result (λ r. 0 < vec_len r.1) }
+) -> Result<Core<W, J>, SessionFault>
+    ensures begins { IfOk result (λ core. (o : Opening) (l : Limits) (s : PassAndTransaction)
+        → HasTalked (terms_of o core.hello) (Means o l) Standing.New core s [] [] s) }
+    ensures hello { IfOk result (λ core. core.hello ≡ record { access = access.now; salt = salt.now; id = id }) }
+    ensures standing { IfOk result (λ core. core.standing ≡ Standing.New) }
+    ensures limit { IfOk result (λ core. core.framing.limit ≡ COMMAND_LIMIT) }
+    ensures none_open { IfOk result (λ core. core.tx ≡ None) }
     ensures err { IfErr result (λ e. e ≡ SessionFault.Memory) }
 {
-    let Ok(buffer) = zeroed(alloc, PIECE) else {
-        return Err(SessionFault::Memory);
-    };
     match Core::new(alloc, access, salt, id) {
-        Ok(core) => Ok((core, buffer)),
-        Err(_) => {
-            drop(buffer);
-            Err(SessionFault::Memory)
-        }
+        Ok(core) => Ok(core),
+        Err(_) => Err(SessionFault::Memory),
     }
+}
+
+/// Serves one connection by a buffer for the pieces of its input.
+fn serve_by<W: World + Send + Sync, J: Naming + Send + Sync, G: Gate, R: Source, S: Sink>(
+    rt: &(impl Threads + Wait + Sync),
+    alloc: Global,
+    engine: &Engine<W, J, G>,
+    pass: &mut Pass<ShardLaw<W>, J>,
+    access: &Access,
+    salt: &[u8; 20],
+    id: u32,
+    buffer: &mut [u8],
+    source: &mut R,
+    sink: &mut S,
+) -> Result<End, SessionFault>
+    requires room { 0 < length buffer.old }
+    requires session { IsSome pass.old.session }
+    ensures talk { IfOk result (λ end. (read : List ℕ) × (written : List ℕ)
+        × Consumes (R.unread source.old) (R.unread source.new) read × Appends (S.taken sink.old) (S.taken sink.new) written
+        × ((now : PassAndTransaction) × (now.pass ≡ pass.new)
+        × Talk COMMAND_LIMIT (terms_of W.opening (record { access = access.now; salt = salt.now; id = id })) (Means W.opening W.limits) Standing.New (none_open pass.old) read written end now)) }
+    ensures alone { IfOk result (λ end. NoOthers pass.old pass.new → (read : List ℕ) × (written : List ℕ)
+        × Consumes (R.unread source.old) (R.unread source.new) read × Appends (S.taken sink.old) (S.taken sink.new) written
+        × ((now : Alone W.opening) × (now.kept.pass ≡ pass.new)
+        × Talk COMMAND_LIMIT (alone_terms W.opening (record { access = access.now; salt = salt.now; id = id })) (MeansAlone W.opening W.limits) Standing.New (alone_first W.opening pass.old) read written end now)) }
+    ensures at_end { IfOk result (λ end. IsByInput end → IsAtEnd (R.unread source.new)) }
+    ensures read { result ≡ Err SessionFault.Read → (read : List ℕ) × (written : List ℕ)
+        × Consumes (R.unread source.old) (R.unread source.new) read × Appends (S.taken sink.old) (S.taken sink.new) written
+        × ((now : PassAndTransaction) × (now.pass ≡ pass.new)
+        × IsUnfinished COMMAND_LIMIT (terms_of W.opening (record { access = access.now; salt = salt.now; id = id })) (Means W.opening W.limits) Standing.New (none_open pass.old) read written now) }
+    ensures memory { result ≡ Err SessionFault.Memory → (read : List ℕ) × (piece : List ℕ) × (written : List ℕ)
+        × Consumes (R.unread source.old) (R.unread source.new) (read ++ piece) × Appends (S.taken sink.old) (S.taken sink.new) written
+        × ((now : PassAndTransaction) × (now.pass ≡ pass.new)
+        × IsUnfinished COMMAND_LIMIT (terms_of W.opening (record { access = access.now; salt = salt.now; id = id })) (Means W.opening W.limits) Standing.New (none_open pass.old) read written now) }
+    ensures write { result ≡ Err SessionFault.Write → (read : List ℕ) × (written : List ℕ)
+        × Consumes (R.unread source.old) (R.unread source.new) read × Appends (S.taken sink.old) (S.taken sink.new) written
+        × ((now : PassAndTransaction) × (now.pass ≡ pass.new)
+        × HasBrokenOff COMMAND_LIMIT (terms_of W.opening (record { access = access.now; salt = salt.now; id = id })) (Means W.opening W.limits) Standing.New (none_open pass.old) read written now) }
+    ensures source_count { R.failures source.new ≡ read_failures_after result (R.failures source.old) }
+    ensures sink_count { S.failures sink.new ≡ write_failures_after result (S.failures sink.old) }
+    ensures session { pass.new.session ≡ pass.old.session }
+{
+    let core = begin(alloc, access, salt, id)?;
+    serve_whole(rt, alloc, engine, pass, core, buffer, source, sink)
 }
 
 /// Serves one connection, the one with this id, until it ends: greets its client by the salt, lets in whom `access` tells, reads commands
@@ -226,13 +314,15 @@ pub fn serve<W: World + Send + Sync, J: Naming + Send + Sync, G: Gate, R: Source
     // Whatever happened, the pass is still its session's.
     ensures session { pass.new.session ≡ pass.old.session }
 {
-    let (mut core, mut buffer) = begin(alloc, access, salt, id)?;
-    serve_on(
+    let mut buffer = piece_buffer(alloc)?;
+    serve_by(
         rt,
         alloc,
         engine,
         pass,
-        &mut core,
+        access,
+        salt,
+        id,
         &mut buffer,
         source,
         sink,

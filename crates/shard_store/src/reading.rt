@@ -21,7 +21,7 @@ use crate::source::{all_kept, any_has_key};
 use crate::stored::StoredTables;
 use crate::table::StoredTable;
 use crate::walk::{AllRows, RowsBeside};
-use sql_eval::{change_local, select_local};
+use sql_eval::{change_local, select_kept};
 use sql_tree::Condition;
 use std::alloc::Global;
 use vschema::{Query, RowChange, Table, Write};
@@ -159,7 +159,7 @@ impl StoredTables {
         ensures err { IfErr result (λ e. e ≡ Refusal.OutOfMemory) }
     {
         let kept = self.kept(alloc, query.table, &query.filter)?;
-        select_local(alloc, query, kept.as_slice())
+        select_kept(alloc, query, kept)
     }
 
     fn has_any_key(

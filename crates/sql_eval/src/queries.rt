@@ -1,5 +1,6 @@
 ghost use Rattle.std.specs.Prelude.{◌≡◌, IfOk, IfErr, map, filter, true};
 ghost use Rattle.vschema.specs.Checks.{is_aggregated};
+ghost use Rattle.operators.specs.Slices.{columns_of};
 ghost use Rattle.sql_eval.specs.Conditions.{is_kept};
 ghost use Rattle.sql_eval.specs.Groups.{CanBeSummed};
 ghost use Rattle.sql_eval.specs.Grouping.{shown_place, group_columns, group_order, IsSortedSlice};
@@ -8,7 +9,7 @@ ghost use Rattle.sql_eval.specs.Queries.{IsAnswer};
 
 use crate::conditions::keeps;
 use crate::groups::{Grouping, group_columns, group_order, part_rows, shown_place};
-use operators::{Limit, Project, Rows, collect, sort_rows};
+use operators::{Limit, Project, Rows, collect, project_row, sort_rows};
 use sql_tree::{Condition, Item, Key};
 use std::alloc::Global;
 use vschema::Query;
@@ -44,6 +45,18 @@ fn shown_places(alloc: Global, items: &[Item<usize>]) -> Result<Items<usize>, Re
     Ok(places)
 }
 
+/// The rows by the columns in these places, each copied.
+fn project_rows(alloc: Global, rows: &[Row], places: &[usize]) -> Result<Items<Row>, Refusal>
+    ensures ok { IfOk result (λ list. list ≡ map (columns_of places.now) rows.now) }
+    ensures err { IfErr result (λ e. e ≡ Refusal.OutOfMemory) }
+{
+    let mut list = Items::new(alloc);
+    for row in rows {
+        list.push(project_row(alloc, places, row)?)?;
+    }
+    Ok(list)
+}
+
 /// What is shown of rows: the slice that `limit` leaves of them in an order that the keys allow, each by the columns in these places.
 /// Refuses only for want of memory.
 pub fn show(
@@ -57,6 +70,10 @@ pub fn show(
     ensures err { IfErr result (λ e. e ≡ Refusal.OutOfMemory) }
 {
     let sorted = sort_rows(alloc, rows, keys)?;
+    // of many rows each goes once it is copied
+    if limit.is_none() && sorted.len() < 2 {
+        return project_rows(alloc, sorted.as_slice(), places.as_slice());
+    }
     let limited = Limit::new(Rows::new(alloc, sorted)?, limit);
     let mut shown = Project::new(limited, places);
     collect(alloc, &mut shown)
@@ -92,6 +109,20 @@ fn select_groups(alloc: Global, query: &Query, rows: Items<Row>) -> Result<Items
     let keys = group_order(alloc, query)?;
     let places = group_columns(alloc, query)?;
     show(alloc, groups, keys.as_slice(), query.limit, places)
+}
+
+/// What a query gives over rows at which its condition is true, such as `select_local` keeps. Refuses only for want of memory.
+pub fn select_kept(alloc: Global, query: &Query, rows: Items<Row>) -> Result<Items<Row>, Refusal>
+    requires kept { filter (is_kept query.now.filter) rows ≡ rows }
+    requires summed { is_aggregated query.now ≡ true → CanBeSummed rows }
+    ensures ok { IfOk result (IsAnswer query.now rows) }
+    ensures err { IfErr result (λ e. e ≡ Refusal.OutOfMemory) }
+{
+    if query.is_aggregated() {
+        select_groups(alloc, query, rows)
+    } else {
+        select_rows(alloc, query, rows)
+    }
 }
 
 /// What a query gives over the rows of its table: those whose condition is true, each by the columns that the query shows, or, of an

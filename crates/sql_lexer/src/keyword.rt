@@ -1,5 +1,6 @@
 //! The keywords, in any case.
-ghost use Rattle.std.specs.Prelude.{◌≡◌};
+ghost use Rattle.std.specs.Prelude.{◌≡◌, ℕ, List, length as list_length};
+ghost use Rattle.std.specs.List.{find};
 ghost use Rattle.sql_lexer.specs.Keywords.{keyword_text};
 ghost use Rattle.sql_lexer.specs.Lexemes.{is_spelling_of, is_keyword};
 ghost use Rattle.sql_lexer.specs.inner.Scanning.{keyword_at};
@@ -87,15 +88,63 @@ fn is_spelling_of(word: &[u8], keyword: Keyword) -> bool
     word.eq_ignore_ascii_case(text_of(keyword).as_bytes())
 }
 
-/// The keyword that the word is in some case.
-#[tactic(auto, unfolding(crate::specs::inner::Scanning::keyword_at))]
-pub fn keyword_of(word: &[u8]) -> Option<Keyword>
-    ensures { result ≡ keyword_at word.now }
+/// The keywords of this length, those of a query by a key first; where none has it, all.
+fn of_length(length: usize) -> &'static [Keyword]
+    ensures { (word : List ℕ) → list_length word ≡ length → find (is_spelling_of word) result.now ≡ keyword_at word }
 {
-    KEYWORDS
+    match length {
+        1 => &[],
+        2 => &[Keyword::By, Keyword::In, Keyword::Is, Keyword::Or],
+        3 => &[
+            Keyword::And,
+            Keyword::Asc,
+            Keyword::Max,
+            Keyword::Min,
+            Keyword::Not,
+            Keyword::Set,
+            Keyword::Sum,
+        ],
+        4 => &[Keyword::From, Keyword::Into, Keyword::Desc, Keyword::Null],
+        5 => &[
+            Keyword::Where,
+            Keyword::Begin,
+            Keyword::Count,
+            Keyword::Group,
+            Keyword::Limit,
+            Keyword::Names,
+            Keyword::Order,
+            Keyword::Start,
+        ],
+        6 => &[
+            Keyword::Select,
+            Keyword::Insert,
+            Keyword::Values,
+            Keyword::Update,
+            Keyword::Delete,
+            Keyword::Commit,
+            Keyword::Offset,
+        ],
+        8 => &[Keyword::Rollback],
+        11 => &[Keyword::Transaction],
+        _ => &KEYWORDS,
+    }
+}
+
+/// The first of the keywords that the word is in some case.
+fn among(word: &[u8], keywords: &[Keyword]) -> Option<Keyword>
+    ensures { result ≡ find (is_spelling_of word.now) keywords.now }
+{
+    keywords
         .iter()
         .copied()
         .find(|keyword| is_spelling_of(word, *keyword))
+}
+
+/// The keyword that the word is in some case.
+pub fn keyword_of(word: &[u8]) -> Option<Keyword>
+    ensures { result ≡ keyword_at word.now }
+{
+    among(word, of_length(word.len()))
 }
 
 /// Whether the word is a keyword in some case, so that as an identifier it stands in backquotes.

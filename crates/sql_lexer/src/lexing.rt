@@ -19,6 +19,9 @@ use vt_value::{Comparison, Refusal};
 /// How many bytes a word has at most.
 const MAX_WORD: usize = 64;
 
+/// For how many tokens room is made at first: most queries by a key have less.
+const TOKENS: usize = 16;
+
 /// The kind of the token at a text's front, and how many bytes it has.
 type Front = (TokenKind, usize);
 
@@ -145,7 +148,7 @@ fn rest_from(text: &[u8], at: usize) -> &[u8]
 fn tokens(alloc: Global, text: &[u8]) -> Result<Vec<Token>, Refusal>
     ensures { AgreesWith (λ v. v.items) result (lex_at (length text.now) 0 text.now) }
 {
-    let mut tokens = Vec::new(alloc);
+    let mut tokens = Vec::with_capacity(alloc, TOKENS)?;
     let mut at = 0;
     while at < text.len() {
         let rest = rest_from(text, at);

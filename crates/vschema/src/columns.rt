@@ -3,12 +3,16 @@ ghost use Rattle.std.specs.List.{list_any};
 ghost use Rattle.std.specs.Option.{option_copied};
 ghost use Rattle.vschema.specs.Schema.{place_from};
 
+use crate::names::place_among;
 use crate::schema::Column;
 use indexmap::{Equivalent, IndexSet};
 use sql_tree::Name;
 use std::alloc::{AllocError, Global};
 use std::hash::{Hash, Hasher};
 use std::marker::Model;
+
+/// Up to so many columns a name is compared with each, which takes less time than its hash.
+const FEW: usize = 8;
 
 /// Columns of one table are the same where their names are.
 impl PartialEq for Column {
@@ -122,6 +126,9 @@ impl Columns {
     pub fn place_of(&self, name: &Name) -> Option<usize>
         ensures { result ≡ place_from (λ c. bytes_eq c.name name.now) 0 self.now }
     {
+        if self.by_name.len() <= FEW {
+            return place_among(self.by_name.as_slice(), name);
+        }
         self.by_name.get_index_of(name.as_slice())
     }
 }

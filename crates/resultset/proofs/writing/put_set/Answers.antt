@@ -19,7 +19,7 @@ returns c =
     let ended = puts_more _ (behind_definitions c.args.end c.args.status) _ _ _ _ _ _ defined c.in_ok-number-3.ensures.ok c.in_ok-number-3.ensures.next c.put_definitions_end.ensures.capacity in
     let written = puts_more _ (map row_payload c.as_slice-2.result.now) _ _ _ _ _ _ ended c.in_ok-number-4.ensures.ok c.in_ok-number-4.ensures.next c.put_rows.ensures.capacity in
     let count : c.deref.result.now ≡ length_encoded (length c.args.set.now.columns) =
-    c.deref.ensures.value ∙ c.in_ok-put_length_encoded.ensures.ok ∙ ap (λ l. l ++ length_encoded c.len.result) c.new-payload.ensures.items ∙ ap length_encoded c.len.ensures
+    c.deref.ensures.value ∙ c.in_ok-put_length_encoded.ensures.ok ∙ ap (λ l. l ++ length_encoded c.len.result) c.in_ok-payload.ensures.items ∙ ap length_encoded c.len.ensures
     in
     let shape = set_shape c.deref.result.now _ (behind_rows c.args.end c.args.status) _ _ (behind_definitions c.args.end c.args.status) _ _ count (ap (map definition_payload) c.as_slice.ensures) (ap (map row_payload) c.as_slice-2.ensures) in
     record {

@@ -1,4 +1,4 @@
-use Rattle.std.proofs.Common.{◌∙◌, List, sym, subst}
+use Rattle.std.proofs.Common.{◌≡◌, List, filter, sym, subst}
 use Rattle.std.proofs.lemmas.Result.{IfOk-weaker}
 use Rattle.vt_value.specs.Values.{Row}
 use Rattle.vschema.specs.Database.{rows_of}
@@ -6,18 +6,19 @@ use Rattle.sql_eval.specs.Conditions.{is_kept}
 use Rattle.sql_eval.specs.Groups.{CanBeSummed}
 use Rattle.sql_eval.specs.Queries.{IsAnswer}
 use Rattle.sql_eval.proofs.Sums.{filter_summed}
-use Rattle.shard_store.proofs.KeptRows.{answer_of_kept}
+use Rattle.shard_store.proofs.KeptRows.{answer_of_kept, filter_twice}
 use Rattle.shard_store.proofs.stored.StoredTables.select.Goals as goal
 
-pub select_local-requires : goal.select_local-requires
-select_local-requires c = record {
-  summed = λ aggregated.
-      subst CanBeSummed (sym (c.as_slice.ensures ∙ c.in_ok-kept.ensures.ok))
-      (filter_summed (is_kept c.args.query.now.filter) (rows_of c.args.self.now.rows c.args.query.now.table) (c.requires.summed aggregated));
-}
+pub select_kept-requires : goal.select_kept-requires
+select_kept-requires c =
+    let test = is_kept c.args.query.now.filter in
+    let rows = rows_of c.args.self.now.rows c.args.query.now.table in record {
+      kept = subst (λ (l : List Row). filter test l ≡ l) (sym c.in_ok-kept.ensures.ok) (filter_twice test rows);
+      summed = λ aggregated. subst CanBeSummed (sym c.in_ok-kept.ensures.ok) (filter_summed test rows (c.requires.summed aggregated));
+    }
 
 pub returns-clause-ok : goal.returns-clause-ok
 returns-clause-ok c =
-    IfOk-weaker c.select_local.result _ _
+    IfOk-weaker c.select_kept.result _ _
     (λ list h. answer_of_kept c.args.query.now (rows_of c.args.self.now.rows c.args.query.now.table) list
-    (subst (λ (rows : List Row). IsAnswer c.args.query.now rows list) (c.as_slice.ensures ∙ c.in_ok-kept.ensures.ok) h)) c.select_local.ensures.ok
+    (subst (λ (rows : List Row). IsAnswer c.args.query.now rows list) c.in_ok-kept.ensures.ok h)) c.select_kept.ensures.ok

@@ -6,7 +6,7 @@ use Rattle.vschema.proofs.columns.Columns.place_of.Goals as goal
 
 pub returns : goal.returns
 returns c =
-    let name = c.as_slice.result.now in
+    let name = c.as_slice-2.result.now in
     let columns = c.self.inside.by_name.keys in
     c.get_index_of.ensures.index ∙ place_by_name name columns
-    ∙ (λ i. place_from (λ (x : Column). bytes_eq x.name (c.as_slice.ensures i)) 0 (c.self.view_is i))
+    ∙ (λ i. place_from (λ (x : Column). bytes_eq x.name (c.as_slice-2.ensures i)) 0 (c.self.view_is i))
