@@ -14,7 +14,7 @@ use Rattle.reshard.specs.Choices.{AreNamed, holders, HoldTheSame}
 use Rattle.reshard.specs.Steps.{named_for, FitTargets, IsTargetOf, TakesFrom}
 use Rattle.reshard.specs.Workflows.{Taking, shards_of, seat_of, placed, IsSplit}
 use Rattle.reshard.specs.Begun.{HasBegun}
-use Rattle.reshard.specs.inner.Created.{AreOverlapped, IsMadeOf}
+use Rattle.reshard.specs.inner.Created.{AreOverlapped, IsMadeOf, IsSurvey}
 use Rattle.reshard.proofs.Ranges.{counted-append, same_from_cover, at_most_one, held_too}
 use Rattle.reshard.proofs.Blank.{begins_inside}
 use Rattle.reshard.proofs.Splits.{fit, is_target}
@@ -164,17 +164,30 @@ pub record Setting (parts taken rest : List Seat) (from into ordered : List KeyR
   pub cover : Cover (map (λ s. s.1) rest ++ into)
   pub order : IsPermutation into ordered
 
-pub setting : {S : Type 0} (which : S → Shard) (parts current taken rest : List Seat) (from into ordered : List KeyRange) (k : ℕ) (found : List S)
-    → parts ≡ current → IsPartition current → AreNamed from parts taken rest → AllByRecursion (Contains parts) rest
+pub surveyed : {S : Type 0} (which : S → Shard) (parts current taken rest : List Seat) (from into : List KeyRange) (k : ℕ) (found : List S)
+    → parts ≡ current → AreNamed from parts taken rest → AllByRecursion (Contains parts) rest
     → (map {B = Seat} (λ s. ((which s).slot, (which s).place.range, (which s).place.keyspace)) found ≡ taken) × AllByRecursion (λ s. (which s).place.keyspace ≡ k) found
-    → Cover (map (λ s. s.1) rest ++ into) → IsPermutation into ordered → Setting parts taken rest from into ordered k (map which found)
-setting which parts current taken rest from into ordered k found same is are among of cover order = record {
-  is = subst IsPartition (sym same) is;
-  are = are;
-  among = among;
+    → length taken ≡ length from → Cover (map (λ s. s.1) rest ++ into) → length rest + length into ≤ 64 → IsSurvey k from into current (map which found) rest
+surveyed which parts current taken rest from into k found same are among of count cover few = record {
+  taken = taken;
+  named = subst (λ (l : List Seat). AreNamed from l taken rest) same are;
+  among = subst (λ (l : List Seat). AllByRecursion (Contains l) rest) same among;
   seats = map_twice seat_of which found ∙ of.0;
   home = all_map (λ (s : Shard). s.place.keyspace ≡ k) which found of.1;
+  count = count;
   cover = cover;
+  few = few;
+}
+
+pub setting : (parts rest : List Seat) (from into ordered : List KeyRange) (k : ℕ) (sources : List Shard) → IsPartition parts
+    → (sv : IsSurvey k from into parts sources rest) → IsPermutation into ordered → Setting parts sv.taken rest from into ordered k sources
+setting parts rest from into ordered k sources is sv order = record {
+  is = is;
+  are = sv.named;
+  among = sv.among;
+  seats = sv.seats;
+  home = sv.home;
+  cover = sv.cover;
   order = order;
 }
 

@@ -12,3 +12,7 @@ pub mod Thaws
 pub mod Served
 pub mod Prepares
 pub mod Nexts
+pub mod Through
+pub mod Switches
+pub mod Dropping
+pub mod Seats

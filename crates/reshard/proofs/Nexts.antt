@@ -1,5 +1,5 @@
 -- The steps of a cutover: which source or target is next, and what earlier steps leave.
-use Rattle.std.proofs.Common.{◌≡◌, ◌⊎◌, ℕ, zero, suc, ◌+◌, ◌^◌, ◌<◌, ◌≤◌, true, false, List, [], ◌∷◌, ◌++◌, length, map, drop, set, get_or, Some, refl, sym, ap, ◌∙◌, subst, inl, inr, arith}
+use Rattle.std.proofs.Common.{◌≡◌, ℕ, zero, suc, ◌+◌, ◌^◌, ◌<◌, ◌≤◌, true, List, [], ◌∷◌, length, map, drop, get_or, Some, sym, ap, ◌∙◌, subst, arith}
 use Rattle.std.specs.Prelude.{Contains, slice_get}
 use Rattle.std.specs.List.{AllByRecursion}
 use Rattle.std.proofs.lemmas.Bool.{false≢true}
@@ -7,7 +7,6 @@ use Rattle.std.proofs.lemmas.Option.{slice_get-get_or}
 use mathlib.Core.List.{IsPrefix}
 use Rattle.journal.specs.Views.{PassView}
 use Rattle.journal.proofs.Fronts.{prefix_trans, prefix_self}
-use Rattle.vt_value.specs.declared.refusal.Refusal.TheVariants.{OutOfMemory, ShardFull}
 use Rattle.shard_run.specs.declared.Shard.{Shard}
 use Rattle.shard_run.specs.declared.Entry.{Entry}
 use Rattle.shard_run.specs.Runs.{Opening, Run, entries_on}
@@ -15,12 +14,11 @@ use Rattle.std.proofs.lemmas.List.{length-map}
 use Rattle.shard.specs.declared.limits.Limits.{Limits}
 use Rattle.follow.specs.Steps.{IsOnward, IsBetween}
 use Rattle.reshard.specs.declared.fault.ReshardFault.{ReshardFault}
-use Rattle.reshard.specs.declared.fault.ReshardFault.TheVariants.{Refused}
 use Rattle.reshard.specs.Steps.{named_for}
-use Rattle.reshard.specs.Workflows.{Taking, WorkflowView, shards_of, IsPrepared}
+use Rattle.reshard.specs.Workflows.{Taking, shards_of, IsPrepared}
 use Rattle.reshard.specs.Begun.{IsMoveRefusal}
 use Rattle.reshard.specs.Begun as begun
-use Rattle.reshard.specs.Cutover.{IsSwitchRefusal, no_memory, no_room, stuck, overfull, IsOverfull, HasNoRoom, IsStuck, IsServingAgain}
+use Rattle.reshard.specs.Cutover.{IsSwitchRefusal, no_memory, no_room, stuck, overfull, HasNoRoom, IsServingAgain}
 use Rattle.reshard.proofs.Begins.{map_twice}
 use Rattle.reshard.proofs.Making.{map_at}
 

@@ -1,6 +1,5 @@
 -- A controller's pass goes on, look by look and entry by entry.
-use Rattle.std.proofs.Common.{◌≡◌, ℕ, zero, suc, ◌+◌, ◌<◌, Bool, true, false, cond, ◌&&◌, filter, List, [], ◌∷◌, ◌++◌, length, take, get_or, refl, sym, ap, ◌∙◌, subst, arith}
-use Rattle.std.specs.List.{AllByRecursion}
+use Rattle.std.proofs.Common.{◌≡◌, ℕ, Bool, true, false, cond, ◌&&◌, filter, List, [], ◌∷◌, ◌++◌, refl, sym, ap, ◌∙◌, subst}
 use Rattle.std.proofs.lemmas.List.{append-nil}
 use mathlib.Core.List.{IsPrefix}
 use Rattle.journal.specs.Runs.{IsLegal}
@@ -10,7 +9,6 @@ use Rattle.shard_run.specs.declared.Event.{Event}
 use Rattle.shard_run.specs.declared.Entry.{Entry}
 use Rattle.shard_run.specs.Runs.{Run, Opening, stored_on, is_on, is_stored}
 use Rattle.shard_run.specs.Legal.{Legal}
-use Rattle.shard_law.proofs.Lists.{Contains-from_In, In-last, all-weaker}
 use Rattle.shard_law.proofs.Law.{beginnings}
 use Rattle.shard_law.proofs.Runs.{stored_on-push}
 use Rattle.shard.specs.Shards.{slot_of, commit_of, MayFollow, HasAppended, ShardView}
@@ -57,31 +55,3 @@ legal_front o early run (rest, is) legal = beginnings o early rest (subst (Legal
 
 pub entry_later : (old new : Run) (s : Shard) (ev : Event) → IsPrefix old new → HasEntry old s ev → HasEntry new s ev
 entry_later old new s ev later h = contains_later (record { shard = s; event = ev }) old new later h
-
-pub has_entry : (o : Opening) (s : Shard) (ev : Event) (p now : PassView Entry) → HasStepped o s ev p now → HasEntry now.seen s ev
-has_entry o s ev p now is =
-    let e : Entry = record { shard = s; event = ev } in
-    subst (λ (r : Run). HasEntry r s ev) (sym is.seen) (Contains-from_In e (is.before ++ e ∷ []) (In-last e is.before))
-
--- ---- every one of a list
-
-pub all_take_next : {X : Type 0} (P : X → Type 0) (xs : List X) (n : ℕ) (d : X) → n < length xs → AllByRecursion P (take n xs) → P (get_or xs n d)
-    → AllByRecursion P (take (n + 1) xs)
-all_take_next {X} P xs n d within all one =
-    let same : suc n ≡ n + 1 = omega arith in
-    subst (λ k. AllByRecursion P (take k xs)) same (by xs n within all one)
-  where
-    by : (xs : List X) (n : ℕ) → n < length xs → AllByRecursion P (take n xs) → P (get_or xs n d) → AllByRecursion P (take (suc n) xs)
-    by [] n within all one = absurd (omega (arith, within))
-    by (x ∷ xs) zero within all one = (one, tt)
-    by (x ∷ xs) (suc n) within all one = (all.0, by xs n (omega (arith, within)) all.1 one)
-
-module _ {T : Type 0} (which : T → Shard) (o : Opening) (p q now : PassView Entry) (targets : List T) (n : ℕ) (t : T) (ev : Event) where
-  pub served_next : n < length targets → IsOnward o p q → AllByRecursion (λ t. HasEntry q.seen (which t) ev) (take n targets)
-      → t ≡ get_or targets n t → HasStepped o (which t) ev q now
-      → IsOnward o p now × AllByRecursion (λ t. HasEntry now.seen (which t) ev) (take (n + 1) targets)
-  served_next within on served is step =
-      let P : T → Type 0 = λ t. HasEntry now.seen (which t) ev in
-      let old = all-weaker (λ t. HasEntry q.seen (which t) ev) P (λ t h. entry_later q.seen now.seen (which t) ev step.onward.later h) (take n targets) served in
-      let one : P (get_or targets n t) = subst P is (has_entry o (which t) ev q now step) in
-      ((stepped_after o p q now (which t) ev on step).onward, all_take_next P targets n t within old one)

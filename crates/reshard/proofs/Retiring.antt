@@ -1,29 +1,25 @@
 -- A target whose sources are retired for it, and which is level with them, may serve.
-use Rattle.std.proofs.Common.{◌≡◌, ℕ, zero, suc, ◌+◌, ◌<◌, ◌≤◌, ◌==◌, ◌||◌, Bool, true, false, zip, drop, List, [], ◌∷◌, ◌++◌, length, take, map, get_or, IsTrue, Some, inl, inr, arith, refl, sym, ap, ◌∙◌, subst}
+use Rattle.std.proofs.Common.{◌≡◌, ℕ, zero, suc, ◌+◌, ◌<◌, ◌==◌, ◌||◌, Bool, true, false, zip, List, [], ◌∷◌, ◌++◌, length, take, map, get_or, IsTrue, Some, inl, inr, arith, refl, sym, ap, ◌∙◌, subst}
 use Rattle.std.specs.Prelude.{Contains}
 use Rattle.std.specs.List.{AllByRecursion, list_any}
 use Rattle.std.proofs.lemmas.Bool.{eq-eqb}
 use Rattle.std.proofs.lemmas.List.{length-map, take_more, map-append}
 use mathlib.Core.List.{IsPrefix}
 use Rattle.vschema.specs.declared.schema.Place.{Place}
-use Rattle.journal.specs.Views.{PassView}
 use Rattle.shard_run.specs.declared.Shard.{Shard}
 use Rattle.shard_run.specs.declared.Mode.TheVariants.{Following, Retired}
 use Rattle.shard_run.specs.declared.Event.TheVariants.{Retire}
-use Rattle.shard_run.specs.declared.Entry.{Entry}
 use Rattle.shard_run.specs.Runs.{Run, Opening, mode, stored_on}
 use Rattle.shard_run.specs.Legal.{Legal, MayServe, IsRetiredFor}
 use Rattle.shard_run.specs.Copies.{position}
 use Rattle.shard_run.specs.Openings.{IsOpening}
 use Rattle.shard.specs.Copying.{HasCopiedAll}
-use Rattle.shard_law.proofs.Lists.{In, In-from_Contains, Contains-from_In, In-map, In-from_map, In-all, In-filter, all-from_In, all-weaker, AllByRecursion-push}
+use Rattle.shard_law.proofs.Lists.{In, In-from_Contains, In-map, In-from_map, In-all, all-weaker, AllByRecursion-push}
 use Rattle.shard_law.proofs.Law.{slots}
 use Rattle.shard.proofs.States.{stored-same}
 use Rattle.shard.proofs.Modes.{retired_stays}
-use Rattle.shard.proofs.Legality.{legal_is}
-use Rattle.follow.specs.Steps.{IsOnward, HasStepped}
-use Rattle.reshard.specs.Steps.{Looked, has_source, named_for, IsUpTo, HasEntry, IsRetired, AreRetired, AreFollowed, IsTargetOf}
-use Rattle.reshard.proofs.Onward.{legal_front, entry_later, has_entry, stepped_after, all_take_next}
+use Rattle.reshard.specs.Steps.{Looked, has_source, IsUpTo, HasEntry, IsRetired, AreRetired, AreFollowed, IsTargetOf}
+use Rattle.reshard.proofs.Onward.{legal_front, entry_later}
 
 -- ---- a retired source stays as it is
 
@@ -137,74 +133,6 @@ module _ (o : Opening) (opens : IsOpening o) (target : Shard) (sources : List Lo
 
 -- ---- every source
 
--- the next source, and the targets at its place in the list
-pub zip_next : {X Y : Type 0} (xs : List X) (ys : List Y) (i : ℕ) (x : X) (y : Y) (rest : List Y) → i < length xs → x ≡ get_or xs i x → drop i ys ≡ y ∷ rest
-    → (i < length (zip xs ys)) × ((x, y) ≡ get_or (zip xs ys) i (x, y)) × (drop (suc i) ys ≡ rest)
-zip_next [] ys i x y rest within is left = absurd (omega (arith, within))
-zip_next {X} {Y} (a ∷ xs) [] zero x y rest within is left = absurd (cc left)
-zip_next (a ∷ xs) [] (suc i) x y rest within is left = absurd (cc left)
-zip_next {X} {Y} (a ∷ xs) (b ∷ ys) zero x y rest within is left =
-    (omega arith, ap (λ (c : X). (c, y)) is ∙ ap (λ (c : Y). (a, c)) (sym (head left)), tail left)
-  where
-    first : List Y → Y
-    first [] = y
-    first (c ∷ cs) = c
-
-    behind : List Y → List Y
-    behind [] = []
-    behind (c ∷ cs) = cs
-
-    head : b ∷ ys ≡ y ∷ rest → b ≡ y
-    head e = ap first e
-
-    tail : b ∷ ys ≡ y ∷ rest → ys ≡ rest
-    tail e = ap behind e
-zip_next (a ∷ xs) (b ∷ ys) (suc i) x y rest within is left =
-    let w = zip_next xs ys i x y rest (omega (arith, within)) is left in
-    let l = w.0 in
-    (omega (arith, l), w.1, w.2)
-
-module _ {S : Type 0} (looked : S → Looked) (o : Opening) (opens : IsOpening o) (p q now : PassView Entry) (sources : List S) (named : List (List Shard)) (n : ℕ) (s : S)
-    (targets : List Shard) where
-  pub retired_next : n < length (zip sources named) → IsOnward o p q → (s, targets) ≡ get_or (zip sources named) n (s, targets)
-      → AllByRecursion (λ x. IsRetired q.seen (looked x.0) x.1) (take n (zip sources named)) → HasStepped o (looked s).0 (Retire targets) q now
-      → (looked s).1 ≡ length (stored_on (looked s).0.slot now.seen)
-      → IsOnward o p now × AllByRecursion (λ x. IsRetired now.seen (looked x.0) x.1) (take (n + 1) (zip sources named))
-  retired_next within on is so_far step stored =
-      let P : S × List Shard → Type 0 = λ x. IsRetired now.seen (looked x.0) x.1 in
-      let legal = legal_is o now.seen step.onward.legal in
-      let old = all-weaker (λ (x : S × List Shard). IsRetired q.seen (looked x.0) x.1) P
-      (λ x h. retired_later o opens q.seen now.seen step.onward.later legal (looked x.0) x.1 h) (take n (zip sources named)) so_far in
-      let one : P (s, targets) = record { retired = has_entry o (looked s).0 (Retire targets) q now step; stored = stored } in
-      ((stepped_after o p q now (looked s).0 (Retire targets) on step).onward, all_take_next P (zip sources named) n (s, targets) within old (subst P is one))
-
-pub zip_map : {X Y : Type 0} (P : X → Y → Type 0) (f : X → Y) (xs : List X) → AllByRecursion (λ x. P x (f x)) xs → AllByRecursion (λ p. P p.0 p.1) (zip xs (map f xs))
-zip_map P f [] all = tt
-zip_map P f (x ∷ xs) all = (all.0, zip_map P f xs all.1)
-
-pub map_zip : {X Y : Type 0} (P : X → Y → Type 0) (f : X → Y) (xs : List X) → AllByRecursion (λ p. P p.0 p.1) (zip xs (map f xs)) → AllByRecursion (λ x. P x (f x)) xs
-map_zip P f [] all = tt
-map_zip P f (x ∷ xs) all = (all.0, map_zip P f xs all.1)
-
--- once each source is retired for those of the targets that have it as a source, each target is named
-module _ {S T : Type 0} (looked : S → Looked) (which : T → Shard) (run : Run) (sources : List S) (targets : List T) where
-  named_in : (t : T) → In t targets → (ss : List S) → AllByRecursion (λ s. IsRetired run (looked s) (named_for (looked s).0 (map which targets))) ss
-      → AreRetired run (which t) (map looked ss)
-  named_in t h [] all = tt
-  named_in t h (s ∷ ss) all = (
-    λ own. (
-      named_for (looked s).0 (map which targets),
-      all.0,
-      Contains-from_In (which t) (named_for (looked s).0 (map which targets))
-          (In-filter (has_source (looked s).0.slot) (which t) own (map which targets) (In-map which t targets h)),
-    ),
-    named_in t h ss all.1,
-  )
-
-  pub all_named : AllByRecursion (λ s. IsRetired run (looked s) (named_for (looked s).0 (map which targets))) sources
-      → AllByRecursion (λ t. AreRetired run (which t) (map looked sources)) targets
-  all_named all = all-from_In (λ t. AreRetired run (which t) (map looked sources)) targets (λ t h. named_in t h sources all)
-
 -- the next one of a list, seen through a map
 pub all_map_next : {X Y : Type 0} (P : Y → Type 0) (f : X → Y) (xs : List X) (n : ℕ) (x : X) → n < length xs → x ≡ get_or xs n x
     → AllByRecursion P (map f (take n xs)) → P (f x) → AllByRecursion P (map f (take (n + 1) xs))
@@ -233,9 +161,3 @@ pub item_of : {X : Type 0} (P : X → Type 0) (xs : List X) (i : ℕ) (x : X) �
 item_of P [] i x there is all = absurd (omega (arith, there))
 item_of P (y ∷ xs) zero x there is all = subst P (sym is) all.0
 item_of P (y ∷ xs) (suc i) x there is all = item_of P xs i x (omega (arith, there)) is all.1
-
-pub zip_short : {X Y : Type 0} (xs : List X) (ys : List Y) (n : ℕ) → length xs ≤ n → length (zip xs ys) ≤ n
-zip_short [] ys n l = omega arith
-zip_short (x ∷ xs) [] n l = omega arith
-zip_short (x ∷ xs) (y ∷ ys) zero l = absurd (omega (arith, l))
-zip_short (x ∷ xs) (y ∷ ys) (suc n) l = let h = zip_short xs ys n (omega (arith, l)) in omega (arith, h)

@@ -1,5 +1,5 @@
 -- Sources serve again, one after the other.
-use Rattle.std.proofs.Common.{◌≡◌, ℕ, ◌+◌, ◌<◌, List, [], ◌∷◌, ◌++◌, length, map, take, get_or, refl, sym, ap, ◌∙◌, subst, true}
+use Rattle.std.proofs.Common.{◌≡◌, ℕ, ◌+◌, ◌<◌, List, length, map, take, get_or, refl, sym, ap, ◌∙◌, true}
 use Rattle.std.specs.List.{AllByRecursion}
 use Rattle.std.proofs.lemmas.Bool.{eq-eqb}
 use Rattle.journal.specs.Views.{PassView}
@@ -8,13 +8,13 @@ use Rattle.shard_run.specs.declared.Shard.{Shard}
 use Rattle.shard_run.specs.declared.Entry.{Entry}
 use Rattle.shard_run.specs.declared.Event.{Event}
 use Rattle.shard_run.specs.declared.Mode.{Mode}
-use Rattle.shard_run.specs.declared.Mode.TheVariants.{Serving}
+use Rattle.shard_run.specs.declared.Mode.TheVariants.{Serving, Retired}
 use Rattle.shard_run.specs.Runs.{Opening, Run, mode, mode_after, is_on}
 use Rattle.shard_law.proofs.Runs.{mode-on}
 use Rattle.shard_law.proofs.Lists.{all-weaker}
 use Rattle.shard.specs.Shards.{ShardView, HasAppended}
-use Rattle.follow.specs.Steps.{IsOnward, IsBetween}
-use Rattle.reshard.specs.Cutover.{IsServingAgain}
+use Rattle.follow.specs.Steps.{IsOnward}
+use Rattle.reshard.specs.Cutover.{IsServingAgain, IsOutOfUse}
 use Rattle.reshard.proofs.Retiring.{all_map_next}
 use Rattle.reshard.proofs.Onward.{onward_trans}
 
@@ -45,4 +45,24 @@ module _ {S : Type 0} (which : S → Shard) (o : Opening) (p q now : PassView En
         run = now.seen;
         between = record { since = (onward_trans o p q now before on).later; until = prefix_self now.seen };
         serving = serving;
+      })
+
+out_later : (o : Opening) (s : Shard) (p q now : PassView Entry) → IsOnward o q now → IsOutOfUse o s p q → IsOutOfUse o s p now
+out_later o s p q now on is = record {
+  run = is.run;
+  between = record { since = is.between.since; until = prefix_trans is.run q.seen now.seen is.between.until on.later };
+  retired = is.retired;
+}
+
+module _ {S : Type 0} (which : S → Shard) (o : Opening) (p q now : PassView Entry) (sources : List S) (n : ℕ) (s : S) where
+  pub out_next : n < length sources → s ≡ get_or sources n s → IsOnward o p q → IsOnward o q now → mode o now.seen (which s).slot ≡ Retired
+      → AllByRecursion (λ s. IsOutOfUse o s p q) (map which (take n sources))
+      → AllByRecursion (λ s. IsOutOfUse o s p now) (map which (take (n + 1) sources))
+  out_next there is before on retired so_far =
+      all_map_next (λ s. IsOutOfUse o s p now) which sources n s there is
+      (all-weaker (λ s. IsOutOfUse o s p q) (λ s. IsOutOfUse o s p now) (λ s h. out_later o s p q now on h) (map which (take n sources)) so_far)
+      (record {
+        run = now.seen;
+        between = record { since = (onward_trans o p q now before on).later; until = prefix_self now.seen };
+        retired = retired;
       })

@@ -1,5 +1,5 @@
 -- What the steps of a cutover do to a workflow and to what the controller's pass has seen.
-use Rattle.std.specs.Prelude.{◌≡◌, ◌⊎◌, ℕ, ◌<◌, ◌≤◌, ◌+◌, ◌^◌, true, List, length, Contains, Some, slice_get}
+use Rattle.std.specs.Prelude.{◌≡◌, ◌⊎◌, ◌<◌, ◌≤◌, ◌+◌, ◌^◌, true, List, length, Contains, Some, slice_get}
 use Rattle.std.specs.List.{AllByRecursion}
 use Rattle.vt_value.specs.declared.refusal.Refusal.TheVariants.{OutOfMemory, ShardFull}
 use Rattle.journal.specs.Views.{PassView}
@@ -16,6 +16,8 @@ use Rattle.reshard.specs.declared.fault.ReshardFault.{ReshardFault}
 use Rattle.reshard.specs.declared.fault.ReshardFault.TheVariants.{Refused}
 use Rattle.reshard.specs.declared.workflow.Stage.TheVariants as stages
 use Rattle.reshard.specs.declared.cutover.CutoverStep.{CutoverStep}
+use Rattle.reshard.specs.declared.finishing.Resumed.{Resumed}
+use Rattle.reshard.specs.declared.finishing.Resumed.TheVariants.{Thawed, Finished}
 use Rattle.reshard.specs.declared.cutover.CutoverStep.TheVariants.{Freeze, Copy, Follow, Retire, Serve, Publish, Release}
 use Rattle.reshard.specs.Steps.{HasEntry, named_for}
 use Rattle.reshard.specs.Workflows.{WorkflowView, Taking, shards_of}
@@ -26,6 +28,12 @@ pub record IsServingAgain (o : Opening) (s : Shard) (p now : PassView Entry) : T
   pub run : Run
   pub between : IsBetween p now run
   pub serving : mode o run s.slot ≡ modes.Serving
+
+-- At a run that the pass came by the shard was retired, so that no statement reads it from then on.
+pub record IsOutOfUse (o : Opening) (s : Shard) (p now : PassView Entry) : Type 0 where
+  pub run : Run
+  pub between : IsBetween p now run
+  pub retired : mode o run s.slot ≡ modes.Retired
 
 -- a cutover goes on while targets follow, or it has begun
 abbrev pub MaySwitch : WorkflowView → Type 0
@@ -101,3 +109,27 @@ pub record HasGivenUp (o : Opening) (w now : WorkflowView) (p q : PassView Entry
 pub record HasFinished (w now : WorkflowView) (q : PassView Entry) : Type 0 where
   pub through : IsCutOver q.seen w.sources w.targets
   pub at : now ≡ record w { stage = stages.Switched; frozen = now.frozen; retired = now.retired; served = now.served; prepared = now.prepared }
+
+-- A step of a cutover stopped for this cause, which the pass came by, and then the cutover was given up.
+pub record HasStopped (o : Opening) (most : Limits) (w now : WorkflowView) (p q : PassView Entry) (e : ReshardFault) : Type 0 where
+  pub at : PassView Entry
+  pub onward : IsOnward o p at
+  pub cause : IsSwitchRefusal o most w.sources w.targets p at e
+  pub given_up : HasGivenUp o w now at q
+
+-- the same workflow, whose cutover may have gone on
+abbrev pub IsFurther : WorkflowView → WorkflowView → Type 0
+IsFurther w now = now ≡ record w { stage = now.stage; frozen = now.frozen; retired = now.retired; served = now.served; prepared = now.prepared }
+
+-- A cutover went on, and then a step of it stopped.
+pub record HasStoppedLater (o : Opening) (most : Limits) (w now : WorkflowView) (p q : PassView Entry) (e : ReshardFault) : Type 0 where
+  pub mid : WorkflowView
+  pub further : IsFurther w mid
+  pub before : PassView Entry
+  pub onward : IsOnward o p before
+  pub stopped : HasStopped o most mid now before q e
+
+-- What becomes of a cutover that had begun: it is given up, of which no source was retired; else it is through.
+pub data IsResumed (o : Opening) (w now : WorkflowView) (p q : PassView Entry) : Resumed → Type 0 where
+  thawed : HasGivenUp o w now p q → IsResumed o w now p q Thawed
+  finished : (w.retired ≡ 0 → ⊥) → HasFinished w now q → IsResumed o w now p q Finished

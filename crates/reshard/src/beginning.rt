@@ -1,5 +1,5 @@
 //! What a workflow begins with: its sources, its targets, and the parts of the partition that stay.
-ghost use Rattle.std.specs.Prelude.{◌≡◌, ◌≤◌, ◌++◌, ◌⊎◌, ◌<◌, ◌+◌, true, false, IfOk, IfErr, OnOk, IsPermutation, map, length};
+ghost use Rattle.std.specs.Prelude.{◌≡◌, ◌≤◌, ◌++◌, ◌⊎◌, ◌<◌, ◌+◌, true, false, IfOk, IfErr, OnOk, OnErr, IsPermutation, map, reverse, length};
 ghost use Rattle.std.specs.List.{AllByRecursion};
 ghost use Rattle.keyrange.specs.Names.{IsNamed};
 ghost use Rattle.journal.specs.Runs.{IsLegal};
@@ -9,6 +9,7 @@ ghost use Rattle.serving.specs.Partitions.{IsPartition, AreOf};
 ghost use Rattle.follow.specs.Steps.{IsOnward};
 ghost use Rattle.reshard.specs.Workflows.{IsFree, IsGround, IsSplit, placed};
 ghost use Rattle.reshard.specs.Begun.{HasBegun, IsCreateRefusal};
+ghost use Rattle.reshard.specs.inner.Created.{IsSurvey};
 
 use crate::choosing::choose;
 use crate::creating::make_targets;
@@ -55,7 +56,44 @@ fn lack_slots(free: usize, rest: usize, targets: usize) -> bool
     free < targets || rest > MOST_PARTS || targets > MOST_PARTS - rest
 }
 
-// The sources of these ranges, and targets of those, on free slots.
+// The sources of a workflow, and the parts that stay.
+#[derive(Drop)]
+struct Surveyed<W: World, J: Naming> {
+    sources: Vec<Source<W, J>>,
+    rest: Vec<Part<Shard<W, J>>>,
+}
+
+// The sources of these ranges, where targets of those may take their place, for which so many slots are free.
+fn survey<W: World, J: Naming>(
+    rt: &impl Wait,
+    alloc: Global,
+    pass: &mut Pass<ShardLaw<W>, J>,
+    keyspace: usize,
+    free: usize,
+    current: &Partition<Shard<W, J>>,
+    sources: &[KeyRange],
+    targets: &[KeyRange],
+) -> Result<Surveyed<W, J>, ReshardFault>
+    requires legal { IsLegal (MayFollow W.opening) pass.old.seen }
+    requires home { AreOf keyspace current.now }
+    ensures found { IfOk result (λ f. IsSurvey keyspace sources.now targets.now current.now (map (λ s. s.member.which) f.sources.items) f.rest.items) }
+    ensures partition { IsPartition current.now }
+    ensures enough { OnOk result (length targets.now ≤ free) }
+    ensures onward { IsOnward W.opening pass.old pass.new }
+    ensures err { IfErr result (IsCreateRefusal W.opening pass.old pass.new keyspace free sources.now targets.now) }
+{
+    let chosen = choose(alloc, current.parts(), sources)?;
+    let found = find_sources(rt, alloc, pass, keyspace, &chosen, sources, targets)?;
+    if lack_slots(free, chosen.rest.len(), targets.len()) {
+        return Err(ReshardFault::FewSlots);
+    }
+    Ok(Surveyed {
+        sources: found,
+        rest: chosen.rest,
+    })
+}
+
+// The sources of these ranges, and targets of those, on the last of the free slots.
 pub(crate) fn begin<W: World, J: Naming>(
     rt: &impl Wait,
     alloc: Global,
@@ -84,25 +122,32 @@ pub(crate) fn begin<W: World, J: Naming>(
     ensures free { AllByRecursion (IsFree W.opening) free.new.items }
     ensures onward { IsOnward W.opening pass.old pass.new }
     ensures err { IfErr result (IsCreateRefusal W.opening pass.old pass.new ground.keyspace (length free.old.items) sources.now targets.now) }
-    ensures kept { IfErr result (λ e. (e ≡ ReshardFault.Refused Refusal.OutOfMemory → ⊥) → free.new ≡ free.old) }
+    ensures taken { IfOk result (λ b. map (λ s. s.slot) free.old.items ≡ map (λ s. s.slot) free.new.items ++ reverse (map (λ t. t.member.which.slot) b.targets.items)) }
+    ensures kept { OnErr result (map (λ s. s.slot) free.new.items ≡ map (λ s. s.slot) free.old.items) }
 {
-    let chosen = choose(alloc, current.parts(), sources)?;
-    let found = find_sources(rt, alloc, pass, ground.keyspace, &chosen, sources, targets)?;
-    if lack_slots(free.len(), chosen.rest.len(), targets.len()) {
-        return Err(ReshardFault::FewSlots);
-    }
+    let found = survey(
+        rt,
+        alloc,
+        pass,
+        ground.keyspace,
+        free.len(),
+        current,
+        sources,
+        targets,
+    )?;
     let ranges = in_order(alloc, targets)?;
     let made = make_targets(
+        rt,
         alloc,
         free,
         schema,
         ground,
-        found.as_slice(),
+        found.sources.as_slice(),
         ranges.as_slice(),
     )?;
     Ok(Begun {
-        sources: found,
+        sources: found.sources,
         targets: made,
-        rest: chosen.rest,
+        rest: found.rest,
     })
 }

@@ -1,5 +1,5 @@
 //! The calls that begin a workflow, and bring its targets forward.
-ghost use Rattle.std.specs.Prelude.{◌≡◌, ◌⊎◌, false, [], IfOk, IfErr, OnOk, IsTrue, map, length};
+ghost use Rattle.std.specs.Prelude.{◌≡◌, ◌⊎◌, ◌++◌, false, [], IfOk, IfErr, OnOk, OnErr, IsTrue, map, reverse, length};
 ghost use Rattle.std.specs.List.{AllByRecursion};
 ghost use Rattle.vschema.specs.WellFormed.{is_vschema};
 ghost use Rattle.keyrange.specs.Names.{IsNamed};
@@ -102,10 +102,10 @@ impl<W: World, J: Naming> Workflow<W, J> {
         self.stage
     }
 
-    /// Begins a workflow: targets of these ranges, on free slots, are to take the place of the shards of those. Refuses where it has a
-    /// workflow; where no source is named, one is named twice or isn't a range of the present partition, or its shard doesn't serve or is
-    /// frozen; where two targets overlap; where they don't hold what the sources do; where too few slots are free; and for want of memory.
-    /// Then it stands as it stood; only for want of memory slots may be used up.
+    /// Begins a workflow: targets of these ranges, on the last of the free slots, one for each, are to take the place of the shards of
+    /// those. Refuses where it has a workflow; where no source is named, one is named twice or isn't a range of the present partition, or
+    /// its shard doesn't serve or is frozen; where two targets overlap; where they don't hold what the sources do; where too few slots are
+    /// free; and for want of memory. Then it stands as it stood, and no slot is taken.
     pub fn create(
         &mut self,
         rt: &impl Wait,
@@ -125,8 +125,8 @@ impl<W: World, J: Naming> Workflow<W, J> {
         ensures was { OnOk result (self.old.stage ≡ Stage.None) }
         ensures refused { IfErr result (λ e. ((e ≡ ReshardFault.WrongState) × (self.old.stage ≡ Stage.None → ⊥))
             ⊎ ((self.old.stage ≡ Stage.None) × IsCreateRefusal W.opening pass.old pass.new self.old.keyspace (length self.old.free) sources.now targets.now e)) }
-        ensures same { IfErr result (λ e. self.new ≡ record self.old { free = self.new.free }) }
-        ensures kept { IfErr result (λ e. (e ≡ ReshardFault.Refused Refusal.OutOfMemory → ⊥) → self.new ≡ self.old) }
+        ensures taken { OnOk result (self.old.free ≡ self.new.free ++ reverse (map (λ t. t.0.slot) self.new.targets)) }
+        ensures same { OnErr result (self.new ≡ self.old) }
         ensures onward { IsOnward W.opening pass.old pass.new }
     {
         if self.stage != Stage::None {

@@ -2,7 +2,7 @@
 ghost use Rattle.shard_run.specs.declared.Shard as which;
 ghost use Rattle.shard_run.specs.declared.Entry.{Entry};
 ghost use Rattle.journal.specs.Views.{SeatView};
-ghost use Rattle.std.specs.Prelude.{◌≡◌, ◌-◌, ◌+◌, slice_index_or, Contains, ◌≤◌, ◌<◌, ◌^◌, ◌++◌, ◌∷◌, ◌⊎◌, [], ℕ, false, true, List, IfOk, IfErr, IfSome, OnOk, OnErr, MatchOption, IsTrue, map, length, replicate, vec_len, vec_capacity};
+ghost use Rattle.std.specs.Prelude.{◌≡◌, ◌-◌, ◌+◌, slice_index_or, Contains, ◌≤◌, ◌<◌, ◌^◌, ◌++◌, ◌∷◌, ◌⊎◌, [], ℕ, false, true, List, IfOk, IfErr, IfSome, OnOk, OnErr, MatchOption, IsTrue, map, reverse, length, replicate, vec_len, vec_capacity};
 ghost use Rattle.std.specs.List.{AllByRecursion};
 ghost use Rattle.keyrange.specs.Names.{IsNamed};
 ghost use Rattle.keyrange.specs.Ranges.{Cover};
@@ -19,6 +19,7 @@ ghost use Rattle.reshard.specs.inner.Created.{IsSight, IsAway, IsPicked, AreOver
 
 use crate::ground::Ground;
 use crate::steps::Source;
+use crate::undoing::{give_back, put, seat_back};
 use crate::workflow::Target;
 use follow::Member;
 use journal::{Naming, Pass, ShardSeat};
@@ -235,18 +236,26 @@ fn empty_store(alloc: Global, schema: &VSchema) -> Result<Store, Refusal>
     Ok(store)
 }
 
+// The state of a target's shard behind its lock, or its seat again.
 fn shared<W: World, J: Naming>(
+    rt: &impl Wait,
     alloc: Global,
     state: ShardState<W, J>,
-) -> Result<Arc<Shard<W, J>, Global>, Refusal>
+) -> Result<Arc<Shard<W, J>, Global>, ShardSeat<ShardLaw<W>, J>>
     ensures seat { IfOk result (λ shard. shard.value ≡ seat_of state.shard) }
-    ensures err { IfErr result (λ e. e ≡ Refusal.OutOfMemory) }
+    ensures free { IfErr result (IsFree W.opening) }
+    ensures slot { IfErr result (λ seat. seat.slot ≡ state.shard.slot) }
 {
-    Ok(Arc::new(alloc, Shard::new(state))?)
+    let slot = state.slot();
+    match Arc::new(alloc, Shard::new(state)) {
+        Ok(shard) => Ok(shard),
+        Err(failed) => Err(seat_back(rt, failed.value, slot)),
+    }
 }
 
-// The shard of a target on a free slot, without rows, behind its lock. The slot is taken last, and told.
+// The shard of a target on the last of the free slots, which is told, without rows, behind its lock.
 fn open_shard<W: World, J: Naming>(
+    rt: &impl Wait,
     alloc: Global,
     free: &mut Vec<ShardSeat<ShardLaw<W>, J>>,
     which: &mut shard_run::Shard,
@@ -267,7 +276,9 @@ fn open_shard<W: World, J: Naming>(
     ensures place { which.new.place ≡ which.old.place }
     ensures sources { which.new.sources ≡ which.old.sources }
     ensures free { AllByRecursion (IsFree W.opening) free.new.items }
-    ensures count { vec_len free.old ≤ vec_len free.new + 1 }
+    ensures taken { OnOk result (map (λ s. s.slot) free.old.items ≡ map (λ s. s.slot) free.new.items ++ which.new.slot ∷ []) }
+    ensures kept { OnErr result (map (λ s. s.slot) free.new.items ≡ map (λ s. s.slot) free.old.items) }
+    ensures room { vec_capacity free.old ≤ vec_capacity free.new }
     ensures err { IfErr result (λ e. e ≡ Refusal.OutOfMemory) }
 {
     let store = empty_store(alloc, schema)?;
@@ -277,11 +288,18 @@ fn open_shard<W: World, J: Naming>(
     copy.slot = slot;
     which.slot = slot;
     let state = ShardState::new(alloc, seat, copy, store, Mode::Following, limits);
-    shared(alloc, state)
+    match shared(rt, alloc, state) {
+        Ok(shard) => Ok(shard),
+        Err(seat) => {
+            put(free, seat);
+            Err(Refusal::OutOfMemory)
+        }
+    }
 }
 
 // A target of this range on a free slot, with those of the sources that overlap it.
 fn make_target<W: World, J: Naming>(
+    rt: &impl Wait,
     alloc: Global,
     free: &mut Vec<ShardSeat<ShardLaw<W>, J>>,
     schema: &VSchema,
@@ -299,7 +317,9 @@ fn make_target<W: World, J: Naming>(
     ensures target { IfOk result (λ t. IsMade (map (λ s. s.member.which) sources.now) ground.keyspace range (t.member.which, map (λ s. s.which) t.sources.items)) }
     ensures seat { IfOk result (λ t. t.member.shard.value ≡ seat_of t.member.which) }
     ensures free { AllByRecursion (IsFree W.opening) free.new.items }
-    ensures count { vec_len free.old ≤ vec_len free.new + 1 }
+    ensures taken { IfOk result (λ t. map (λ s. s.slot) free.old.items ≡ map (λ s. s.slot) free.new.items ++ t.member.which.slot ∷ []) }
+    ensures kept { OnErr result (map (λ s. s.slot) free.new.items ≡ map (λ s. s.slot) free.old.items) }
+    ensures room { vec_capacity free.old ≤ vec_capacity free.new }
     ensures err { IfErr result (λ e. e ≡ Refusal.OutOfMemory) }
 {
     let own = own_of(alloc, &range, sources)?;
@@ -314,7 +334,7 @@ fn make_target<W: World, J: Naming>(
         },
         members: own.members,
     };
-    let shard = open_shard(alloc, free, &mut target.which, schema, ground.limits)?;
+    let shard = open_shard(rt, alloc, free, &mut target.which, schema, ground.limits)?;
     Ok(Target {
         member: Member {
             which: target.which,
@@ -331,8 +351,9 @@ struct Blank<W: World, J: Naming> {
     members: Vec<Member<W, J>>,
 }
 
-// A target of each range.
+// A target of each range, on the last of the free slots.
 pub(crate) fn make_targets<W: World, J: Naming>(
+    rt: &impl Wait,
     alloc: Global,
     free: &mut Vec<ShardSeat<ShardLaw<W>, J>>,
     schema: &VSchema,
@@ -352,12 +373,19 @@ pub(crate) fn make_targets<W: World, J: Naming>(
     ensures seats { IfOk result (λ ts. map (λ t. t.member.shard.value) ts.items
         ≡ placed (map (λ t. (t.member.which, map (λ s. s.which) t.sources.items)) ts.items)) }
     ensures free { AllByRecursion (IsFree W.opening) free.new.items }
+    ensures taken { IfOk result (λ ts. map (λ s. s.slot) free.old.items ≡ map (λ s. s.slot) free.new.items ++ reverse (map (λ t. t.member.which.slot) ts.items)) }
+    ensures kept { OnErr result (map (λ s. s.slot) free.new.items ≡ map (λ s. s.slot) free.old.items) }
     ensures err { IfErr result (λ e. e ≡ Refusal.OutOfMemory) }
 {
-    let mut made = Vec::new(alloc);
+    let mut made = Vec::with_capacity(alloc, ranges.len())?;
     for range in ranges {
-        let target = make_target(alloc, free, schema, ground, sources, *range)?;
-        made.push(target)?;
+        match make_target(rt, alloc, free, schema, ground, sources, *range) {
+            Ok(target) => made.push(target)?,
+            Err(refusal) => {
+                give_back(rt, free, made);
+                return Err(refusal);
+            }
+        }
     }
     Ok(made)
 }

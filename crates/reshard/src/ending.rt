@@ -27,7 +27,7 @@ impl<W: World, J: Naming> Workflow<W, J> {
     }
 
     // Has no workflow from now on.
-    fn forget(&mut self)
+    pub(crate) fn forget(&mut self)
         ensures { self.new ≡ record self.old { stage = Stage.None; sources = []; targets = []; frozen = 0; retired = 0; served = 0; prepared = false } }
     {
         self.sources.clear();

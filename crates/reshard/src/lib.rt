@@ -4,23 +4,26 @@
 mod beginning;
 mod calls;
 mod choosing;
+mod completing;
 mod confirming;
 mod creating;
 mod cutover;
 mod ending;
 mod fault;
 mod finding;
+mod finishing;
 mod fitting;
 mod ground;
-mod leaving;
 mod preparing;
 mod steps;
+mod switching;
 mod thawing;
+mod undoing;
 mod workflow;
 
 pub use cutover::CutoverStep;
 pub use fault::ReshardFault;
+pub use finishing::Resumed;
 pub use ground::Ground;
-pub use leaving::hand_over;
 pub use steps::{Source, freeze, retire, serve, thaw};
 pub use workflow::{Stage, Target, Workflow};

@@ -1,5 +1,5 @@
 -- What a workflow's beginning finds.
-use Rattle.std.specs.Prelude.{◌≡◌, ℕ, ◌++◌, ◌∷◌, [], List, length, map, Contains}
+use Rattle.std.specs.Prelude.{◌≡◌, ℕ, ◌+◌, ◌≤◌, ◌++◌, ◌∷◌, [], List, length, map, Contains}
 use Rattle.std.specs.List.{AllByRecursion}
 use mathlib.Core.List.{IsPrefix}
 use Rattle.keyrange.specs.declared.KeyRange.{KeyRange}
@@ -16,9 +16,9 @@ use Rattle.vt_value.specs.declared.refusal.Refusal.TheVariants.{OutOfMemory}
 use Rattle.reshard.specs.declared.fault.ReshardFault.{ReshardFault}
 use Rattle.reshard.specs.declared.fault.ReshardFault.TheVariants.{Refused, Gap, WrongSource}
 use Rattle.reshard.specs.declared.fault.ReshardFault.TheVariants as faults
-use Rattle.reshard.specs.Choices.{AreApart}
+use Rattle.reshard.specs.Choices.{AreNamed, AreApart}
 use Rattle.reshard.specs.Steps.{TakesFrom}
-use Rattle.reshard.specs.Workflows.{Taking}
+use Rattle.reshard.specs.Workflows.{Taking, seat_of}
 use Rattle.reshard.specs.declared.creating.Sight.{Sight}
 use Rattle.reshard.specs.declared.creating.Sight.TheVariants.{Serves, DoesNot, Another}
 
@@ -77,3 +77,14 @@ pub data IsUnfit (o : Opening) (p now : PassView Entry) (keyspace : ℕ) (source
   away : (seat : Seat) → Contains taken seat → IsAway o p now keyspace seat → IsUnfit o p now keyspace sources targets taken rest WrongSource
   overlap : (AreApart targets → ⊥) → IsUnfit o p now keyspace sources targets taken rest faults.Overlap
   gap : (Cover (map (λ s. s.1) rest ++ targets) → ⊥) → IsUnfit o p now keyspace sources targets taken rest Gap
+
+-- Of the parts of a partition those of the named ranges, whose shards are the sources; targets of the other ranges may stand beside the rest.
+pub record IsSurvey (keyspace : ℕ) (from into : List KeyRange) (parts : List Seat) (sources : List S.Shard) (rest : List Seat) : Type 0 where
+  pub taken : List Seat
+  pub named : AreNamed from parts taken rest
+  pub among : AllByRecursion (Contains parts) rest
+  pub seats : map seat_of sources ≡ taken
+  pub home : AllByRecursion (λ s. s.place.keyspace ≡ keyspace) sources
+  pub count : length taken ≡ length from
+  pub cover : Cover (map (λ s. s.1) rest ++ into)
+  pub few : length rest + length into ≤ 64

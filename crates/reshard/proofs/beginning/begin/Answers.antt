@@ -1,49 +1,23 @@
-use Rattle.std.proofs.Common.{◌≡◌, ◌+◌, ◌≤◌, length, map, sym, ap, subst, ◌∙◌, List, [], arith}
+use Rattle.std.proofs.Common.{◌≡◌, length, map, sym, ap, subst, List, [], arith}
 use Rattle.std.specs.List.{AllByRecursion}
 use Rattle.std.proofs.lemmas.List.Sorted.{length_permutation}
 use Rattle.keyrange.specs.declared.KeyRange.{KeyRange}
 use Rattle.keyrange.specs.Names.{IsNamed}
 use Rattle.shard_run.specs.declared.Shard.{Shard}
-use Rattle.serving.specs.Partitions.{IsPartition, AreOf}
-use Rattle.reshard.specs.Begun.{unfit}
 use Rattle.reshard.specs.inner.Created.{AreOverlapped, IsMadeOf}
-use Rattle.reshard.proofs.Begins.{all_permuted, of_taken, homes_here, setting, covered_here, split_here, begun_here, next_here}
-use Rattle.reshard.proofs.Unfit.{residual, residual_same, create_memory, lacking}
+use Rattle.reshard.proofs.Begins.{all_permuted, homes_here, setting, covered_here, split_here, begun_here, next_here}
+use Rattle.reshard.proofs.Unfit.{residual, create_memory}
 use Rattle.reshard.proofs.beginning.begin.Goals as goal
-
-pub returns-in_err-chosen-clause-err : goal.returns-in_err-chosen-clause-err
-returns-in_err-chosen-clause-err g c =
-    residual c.from_residual.result c.in_err-chosen.field-0.0 _ c.from_residual.ensures.1
-    (create_memory g.W.World.opening c.args.pass.now c.args.pass.now c.args.ground.keyspace (length c.args.free.now.items) c.args.sources.now c.args.targets.now
-    c.in_err-chosen.field-0.0 c.in_err-chosen.ensures.err)
-
-pub find_sources-requires-clause-home : goal.find_sources-requires-clause-home
-find_sources-requires-clause-home g c =
-    of_taken c.args.ground.keyspace c.parts.result.now c.in_ok-chosen.chosen.taken.items c.in_ok-chosen.ensures.taken
-    (subst (AreOf c.args.ground.keyspace) (sym c.parts.ensures.seats) c.requires.home)
-
-pub returns-in_err-found-clause-err : goal.returns-in_err-found-clause-err
-returns-in_err-found-clause-err g c =
-    residual_same c.from_residual-in_err-found.result c.in_err-found.field-0.0 _ c.from_residual-in_err-found.ensures.1
-    (unfit c.parts.result.now c.in_ok-chosen.chosen.taken.items c.in_ok-chosen.chosen.rest.items
-    (subst IsPartition (sym c.parts.ensures.seats) c.parts.ensures.partition) c.in_ok-chosen.ensures.ok c.in_err-found.ensures.err)
-
-pub returns-then-lack_slots-clause-err : goal.returns-then-lack_slots-clause-err
-returns-then-lack_slots-clause-err g c =
-    lacking g.W.World.opening c.args.pass.now c.find_sources.new.pass c.args.ground.keyspace (length c.args.free.now.items) c.args.sources.now c.args.targets.now
-    c.parts.result.now c.in_ok-chosen.chosen.taken.items c.in_ok-chosen.chosen.rest.items
-    (subst IsPartition (sym c.parts.ensures.seats) c.parts.ensures.partition) c.in_ok-chosen.ensures.ok c.len.result c.len-2.result
-    (c.len.ensures ∙ c.args.free.now.ok.0) (c.len-2.ensures ∙ c.in_ok-chosen.chosen.rest.ok.0) (c.lack_slots.ensures.few c.if-lack_slots.true)
 
 pub returns-in_err-ranges-clause-err : goal.returns-in_err-ranges-clause-err
 returns-in_err-ranges-clause-err g c =
     residual c.from_residual-in_err-ranges.result c.in_err-ranges.field-0.0 _ c.from_residual-in_err-ranges.ensures.1
-    (create_memory g.W.World.opening c.args.pass.now c.find_sources.new.pass c.args.ground.keyspace (length c.args.free.now.items) c.args.sources.now
+    (create_memory g.W.World.opening c.args.pass.now c.survey.new.pass c.args.ground.keyspace (length c.args.free.now.items) c.args.sources.now
     c.args.targets.now c.in_err-ranges.field-0.0 c.in_err-ranges.ensures.err)
 
 pub make_targets-requires-clause-enough : goal.make_targets-requires-clause-enough
 make_targets-requires-clause-enough g c =
-    let a = (c.lack_slots.ensures.enough c.if-lack_slots.false).0 in
+    let a = c.in_ok-found.ensures.enough in
     let b = length_permutation c.args.targets.now c.in_ok-ranges.ranges.items c.in_ok-ranges.ensures.ok in
     let d = ap length c.as_slice-2.ensures.value in
     let e = c.len.ensures in
@@ -56,75 +30,67 @@ make_targets-requires-clause-ranges g c =
 
 pub make_targets-requires-clause-covered : goal.make_targets-requires-clause-covered
 make_targets-requires-clause-covered g c =
-    let st =
-    setting (λ s. s.member.which) c.parts.result.now c.args.current.now c.in_ok-chosen.chosen.taken.items c.in_ok-chosen.chosen.rest.items c.args.sources.now
-    c.args.targets.now c.in_ok-ranges.ranges.items c.args.ground.keyspace c.in_ok-found.found.items c.parts.ensures.seats c.parts.ensures.partition
-    c.in_ok-chosen.ensures.ok c.in_ok-chosen.ensures.rest c.in_ok-found.ensures.found c.in_ok-found.ensures.cover c.in_ok-ranges.ensures.ok in
-    let sources = map (λ s. s.member.which) c.in_ok-found.found.items in
+    let sources = map (λ s. s.member.which) c.in_ok-found.found.sources.items in
+    let sv = c.in_ok-found.ensures.found in
+    let st = setting c.args.current.now c.in_ok-found.found.rest.items c.args.sources.now c.args.targets.now c.in_ok-ranges.ranges.items c.args.ground.keyspace sources
+    c.in_ok-found.ensures.partition sv c.in_ok-ranges.ensures.ok in
     subst (λ l. AllByRecursion (λ r. (own : List Shard) → AreOverlapped (map (λ s. s.member.which) l) r own → own ≡ [] → ⊥) c.as_slice-2.result.now)
     (sym c.as_slice.ensures.value)
     (subst (λ (l : List KeyRange). AllByRecursion (λ r. (own : List Shard) → AreOverlapped sources r own → own ≡ [] → ⊥) l) (sym c.as_slice-2.ensures.value)
-    (covered_here c.parts.result.now c.in_ok-chosen.chosen.taken.items c.in_ok-chosen.chosen.rest.items c.args.sources.now c.args.targets.now
+    (covered_here c.args.current.now sv.taken c.in_ok-found.found.rest.items c.args.sources.now c.args.targets.now
     c.in_ok-ranges.ranges.items c.args.ground.keyspace sources st c.requires.named))
 
 pub returns-in_err-made-clause-err : goal.returns-in_err-made-clause-err
 returns-in_err-made-clause-err g c =
     residual c.from_residual-in_err-made.result c.in_err-made.field-0.0 _ c.from_residual-in_err-made.ensures.1
-    (create_memory g.W.World.opening c.args.pass.now c.find_sources.new.pass c.args.ground.keyspace (length c.args.free.now.items) c.args.sources.now
+    (create_memory g.W.World.opening c.args.pass.now c.survey.new.pass c.args.ground.keyspace (length c.args.free.now.items) c.args.sources.now
     c.args.targets.now c.in_err-made.field-0.0 c.in_err-made.ensures.err)
 
 pub returns-clause-begun : goal.returns-clause-begun
 returns-clause-begun g c =
-    let st =
-    setting (λ s. s.member.which) c.parts.result.now c.args.current.now c.in_ok-chosen.chosen.taken.items c.in_ok-chosen.chosen.rest.items c.args.sources.now
-    c.args.targets.now c.in_ok-ranges.ranges.items c.args.ground.keyspace c.in_ok-found.found.items c.parts.ensures.seats c.parts.ensures.partition
-    c.in_ok-chosen.ensures.ok c.in_ok-chosen.ensures.rest c.in_ok-found.ensures.found c.in_ok-found.ensures.cover c.in_ok-ranges.ensures.ok in
-    let sources = map (λ s. s.member.which) c.in_ok-found.found.items in
+    let sources = map (λ s. s.member.which) c.in_ok-found.found.sources.items in
+    let sv = c.in_ok-found.ensures.found in
+    let st = setting c.args.current.now c.in_ok-found.found.rest.items c.args.sources.now c.args.targets.now c.in_ok-ranges.ranges.items c.args.ground.keyspace sources
+    c.in_ok-found.ensures.partition sv c.in_ok-ranges.ensures.ok in
     let made =
     subst (λ l. AllByRecursion (IsMadeOf (map (λ s. s.member.which) l) c.args.ground.keyspace)
     (map (λ t. (t.member.which, map (λ s. s.which) t.sources.items)) c.in_ok-made.made.items)) c.as_slice.ensures.value c.in_ok-made.ensures.targets.1 in
-    begun_here c.parts.result.now c.in_ok-chosen.chosen.taken.items c.in_ok-chosen.chosen.rest.items c.args.sources.now c.args.targets.now
+    begun_here c.args.current.now sv.taken c.in_ok-found.found.rest.items c.args.sources.now c.args.targets.now
     c.in_ok-ranges.ranges.items c.args.ground.keyspace sources st
     (λ t. (t.member.which, map (λ s. s.which) t.sources.items)) c.in_ok-made.made.items c.as_slice-2.result.now c.as_slice-2.ensures.value
-    c.in_ok-made.ensures.targets.0 made
-    c.in_ok-found.ensures.count
+    c.in_ok-made.ensures.targets.0 made sv.count
 
 pub returns-clause-split : goal.returns-clause-split
 returns-clause-split g c =
-    let st =
-    setting (λ s. s.member.which) c.parts.result.now c.args.current.now c.in_ok-chosen.chosen.taken.items c.in_ok-chosen.chosen.rest.items c.args.sources.now
-    c.args.targets.now c.in_ok-ranges.ranges.items c.args.ground.keyspace c.in_ok-found.found.items c.parts.ensures.seats c.parts.ensures.partition
-    c.in_ok-chosen.ensures.ok c.in_ok-chosen.ensures.rest c.in_ok-found.ensures.found c.in_ok-found.ensures.cover c.in_ok-ranges.ensures.ok in
-    let sources = map (λ s. s.member.which) c.in_ok-found.found.items in
+    let sources = map (λ s. s.member.which) c.in_ok-found.found.sources.items in
+    let sv = c.in_ok-found.ensures.found in
+    let st = setting c.args.current.now c.in_ok-found.found.rest.items c.args.sources.now c.args.targets.now c.in_ok-ranges.ranges.items c.args.ground.keyspace sources
+    c.in_ok-found.ensures.partition sv c.in_ok-ranges.ensures.ok in
     let made =
     subst (λ l. AllByRecursion (IsMadeOf (map (λ s. s.member.which) l) c.args.ground.keyspace)
     (map (λ t. (t.member.which, map (λ s. s.which) t.sources.items)) c.in_ok-made.made.items)) c.as_slice.ensures.value c.in_ok-made.ensures.targets.1 in
-    split_here c.parts.result.now c.in_ok-chosen.chosen.taken.items c.in_ok-chosen.chosen.rest.items c.args.sources.now c.args.targets.now
+    split_here c.args.current.now sv.taken c.in_ok-found.found.rest.items c.args.sources.now c.args.targets.now
     c.in_ok-ranges.ranges.items c.args.ground.keyspace sources st
     (λ t. (t.member.which, map (λ s. s.which) t.sources.items)) c.in_ok-made.made.items c.as_slice-2.result.now c.as_slice-2.ensures.value
     c.in_ok-made.ensures.targets.0 made
 
 pub returns-clause-next : goal.returns-clause-next
 returns-clause-next g c =
-    let st =
-    setting (λ s. s.member.which) c.parts.result.now c.args.current.now c.in_ok-chosen.chosen.taken.items c.in_ok-chosen.chosen.rest.items c.args.sources.now
-    c.args.targets.now c.in_ok-ranges.ranges.items c.args.ground.keyspace c.in_ok-found.found.items c.parts.ensures.seats c.parts.ensures.partition
-    c.in_ok-chosen.ensures.ok c.in_ok-chosen.ensures.rest c.in_ok-found.ensures.found c.in_ok-found.ensures.cover c.in_ok-ranges.ensures.ok in
-    let sources = map (λ s. s.member.which) c.in_ok-found.found.items in
+    let sources = map (λ s. s.member.which) c.in_ok-found.found.sources.items in
+    let sv = c.in_ok-found.ensures.found in
+    let st = setting c.args.current.now c.in_ok-found.found.rest.items c.args.sources.now c.args.targets.now c.in_ok-ranges.ranges.items c.args.ground.keyspace sources
+    c.in_ok-found.ensures.partition sv c.in_ok-ranges.ensures.ok in
     let made =
     subst (λ l. AllByRecursion (IsMadeOf (map (λ s. s.member.which) l) c.args.ground.keyspace)
     (map (λ t. (t.member.which, map (λ s. s.which) t.sources.items)) c.in_ok-made.made.items)) c.as_slice.ensures.value c.in_ok-made.ensures.targets.1 in
-    let a = (c.lack_slots.ensures.enough c.if-lack_slots.false).1 in
-    let b = c.len-2.ensures ∙ c.in_ok-chosen.chosen.rest.ok.0 in
-    let few : length c.in_ok-chosen.chosen.rest.items + length c.args.targets.now ≤ 64 = omega (arith, a, b) in
-    next_here c.parts.result.now c.in_ok-chosen.chosen.taken.items c.in_ok-chosen.chosen.rest.items c.args.sources.now c.args.targets.now
+    next_here c.args.current.now sv.taken c.in_ok-found.found.rest.items c.args.sources.now c.args.targets.now
     c.in_ok-ranges.ranges.items c.args.ground.keyspace sources st
     (λ t. (t.member.which, map (λ s. s.which) t.sources.items)) c.in_ok-made.made.items c.as_slice-2.result.now c.as_slice-2.ensures.value
     c.in_ok-made.ensures.targets.0 made
-    (map (λ t. t.member.shard.value) c.in_ok-made.made.items) c.in_ok-made.ensures.seats c.requires.named few
+    (map (λ t. t.member.shard.value) c.in_ok-made.made.items) c.in_ok-made.ensures.seats c.requires.named sv.few
 
 pub returns-clause-at_home : goal.returns-clause-at_home
 returns-clause-at_home g c =
-    homes_here c.args.ground.keyspace c.parts.result.now c.in_ok-chosen.chosen.rest.items (map (λ t. t.member.shard.value) c.in_ok-made.made.items)
-    (map (λ t. (t.member.which, map (λ s. s.which) t.sources.items)) c.in_ok-made.made.items) c.in_ok-chosen.ensures.rest
-    (subst (AreOf c.args.ground.keyspace) (sym c.parts.ensures.seats) c.requires.home) c.in_ok-made.ensures.seats (returns-clause-begun g c).home
+    homes_here c.args.ground.keyspace c.args.current.now c.in_ok-found.found.rest.items (map (λ t. t.member.shard.value) c.in_ok-made.made.items)
+    (map (λ t. (t.member.which, map (λ s. s.which) t.sources.items)) c.in_ok-made.made.items) c.in_ok-found.ensures.found.among
+    c.requires.home c.in_ok-made.ensures.seats (returns-clause-begun g c).home

@@ -1,15 +1,18 @@
-use Rattle.std.proofs.Common.{◌≡◌, ◌+◌, ◌≤◌, length, map, take}
-use Rattle.std.specs.Prelude.{vec_len}
+use Rattle.std.proofs.Common.{◌≡◌, ◌≤◌, ◌++◌, length, map, reverse, take}
+use Rattle.std.specs.Prelude.{vec_len, vec_capacity}
 use Rattle.std.specs.List.{AllByRecursion}
 use Rattle.reshard.specs.Workflows.{IsFree, placed}
 use Rattle.reshard.specs.inner.Created.{IsMadeOf}
 use Rattle.reshard.proofs.creating.make_targets.Given as goal
 
--- the targets of the ranges so far, and enough free slots for the rest
+-- the targets of the ranges so far, enough free slots for the rest, and room for all of them again
 abbrev pub invariant-loop-range : goal.invariant-loop-range
 invariant-loop-range g l = record {
   free : AllByRecursion (IsFree g.W.World.opening) l.free.items;
-  enough : length l.ranges ≤ vec_len l.free + l.range-index;
+  slots : map (λ s. s.slot) l.fn.free.items ≡ map (λ s. s.slot) l.free.items ++ reverse (map (λ t. t.member.which.slot) l.made.items);
+  room : vec_len l.fn.free ≤ vec_capacity l.free;
+  count : vec_len l.made ≡ l.range-index;
+  space : length l.ranges ≤ vec_capacity l.made;
   ranges : map (λ t. t.member.which.place.range) l.made.items ≡ take l.range-index l.ranges;
   seats : map (λ t. t.member.shard.value) l.made.items ≡ placed (map (λ t. (t.member.which, map (λ s. s.which) t.sources.items)) l.made.items);
   made : AllByRecursion (IsMadeOf (map (λ s. s.member.which) l.sources) l.ground.keyspace)

@@ -1,5 +1,5 @@
 use denote.Param.Send.{sendable}
-use Rattle.std.proofs.Common.{ℕ, sym, ap, subst, ◌∙◌, ◌++◌, List, [], length, replicate}
+use Rattle.std.proofs.Common.{ℕ, sym, ap, subst, ◌∙◌, ◌++◌, [], length, replicate}
 use Rattle.vschema.specs.declared.schema.VSchema.{VSchema}
 use Rattle.std.specs.List.{AllByRecursion}
 use Rattle.std.specs.Option.{option_to_list}

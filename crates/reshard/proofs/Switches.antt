@@ -1,0 +1,117 @@
+-- The steps of a cutover, and why one stops.
+use Rattle.std.proofs.Common.{◌≡◌, ◌+◌, ◌≤◌, Bool, true, List, length, Option, Some, None, sym, ap, ◌∙◌, subst}
+use Rattle.std.specs.Prelude.{Contains, slice_get, MatchOption}
+use Rattle.std.specs.List.{AllByRecursion}
+use Rattle.journal.specs.Views.{PassView}
+use Rattle.vt_value.specs.declared.refusal.Refusal.{Refusal}
+use Rattle.vt_value.specs.declared.refusal.Refusal.TheVariants.{OutOfMemory, ShardFull}
+use Rattle.shard_run.specs.declared.Shard.{Shard}
+use Rattle.shard_run.specs.declared.Entry.{Entry}
+use Rattle.shard_run.specs.declared.Event.TheVariants as events
+use Rattle.shard_run.specs.Runs.{Opening}
+use Rattle.shard_law.proofs.Lists.{all-weaker}
+use Rattle.shard.specs.declared.limits.Limits.{Limits}
+use Rattle.follow.specs.Steps.{IsOnward, HasStepped, HasMovedWith}
+use Rattle.follow.specs.declared.steps.Step.{Step}
+use Rattle.follow.specs.declared.steps.Step.TheVariants.{Copied, Followed, Level}
+use Rattle.reshard.specs.declared.fault.ReshardFault.{ReshardFault}
+use Rattle.reshard.specs.declared.fault.ReshardFault.TheVariants.{Refused}
+use Rattle.reshard.specs.declared.workflow.Stage.TheVariants.{Following, Switching}
+use Rattle.reshard.specs.declared.cutover.CutoverStep.{CutoverStep}
+use Rattle.reshard.specs.declared.cutover.CutoverStep.TheVariants as steps
+use Rattle.reshard.specs.Begun.{HasMovedFirst}
+use Rattle.reshard.specs.Begun as begun
+use Rattle.reshard.specs.Steps.{named_for}
+use Rattle.reshard.specs.Workflows.{WorkflowView, Taking, shards_of}
+use Rattle.reshard.specs.Cutover.{HasSwitched, HasStopped, HasNoRoom, IsSwitchRefusal, IsServingAgain}
+use Rattle.reshard.specs.Cutover as cut
+use Rattle.reshard.proofs.Onward.{stepped_after}
+use Rattle.reshard.proofs.Moving.{with_after}
+
+module _ (o : Opening) (targets : List Taking) (p q now : PassView Entry) (on : IsOnward o p q) where
+  levels : (ts : List Taking) → AllByRecursion (λ t. HasMovedWith o t.1 t.0 q now Level) ts → AllByRecursion (λ t. HasMovedWith o t.1 t.0 p now Level) ts
+  levels ts h =
+      all-weaker (λ (t : Taking). HasMovedWith o t.1 t.0 q now Level) (λ (t : Taking). HasMovedWith o t.1 t.0 p now Level)
+      (λ t k. with_after o t.1 t.0 p q now on Level k) ts h
+
+  -- a step of the targets counts from any time before it
+  pub first_after : (step : Step) → HasMovedFirst o targets q now step → HasMovedFirst o targets p now step
+  first_after step (begun.one before after t is all moved) =
+      begun.one before after t is (levels before all) (with_after o t.1 t.0 p q now on step moved)
+  first_after _ (begun.all_level all) = begun.all_level (levels targets all)
+
+module _ (o : Opening) (w now : WorkflowView) (p q r : PassView Entry) (on : IsOnward o p q) where
+  since : (step : CutoverStep) → HasSwitched o (record w { prepared = true }) now q r step → HasSwitched o w now p r step
+  since _ (cut.froze s at is e) = cut.froze s at (stepped_after o p q r s events.Freeze on is) e
+  since _ (cut.copied f m e) = cut.copied f (first_after o w.targets p q r on Copied m) e
+  since _ (cut.followed f m e) = cut.followed f (first_after o w.targets p q r on Followed m) e
+  since _ (cut.retired s at is e) = cut.retired s at (stepped_after o p q r s (events.Retire (named_for s (shards_of w.targets))) on is) e
+  since _ (cut.served t at l is e) = cut.served t at l (stepped_after o p q r t.0 events.Serve on is) e
+  since _ (cut.published a b e) = cut.published a b e
+  since _ (cut.released a b e) = cut.released a b e
+
+  -- and so does a step of the cutover, once the memory is made
+  pub switched_since : (mid : WorkflowView) → mid ≡ record w { prepared = true } → (step : CutoverStep) → HasSwitched o mid now q r step
+      → HasSwitched o w now p r step
+  switched_since mid made step h = since step (subst (λ (v : WorkflowView). HasSwitched o v now q r step) made h)
+
+module _ (o : Opening) (w w1 now : WorkflowView) (p q : PassView Entry) (made : w1 ≡ record w { prepared = true }) where
+  pub froze_after : ((s : Shard) × (slice_get w1.sources w1.frozen ≡ Some s) × HasStepped o s events.Freeze p q)
+      → now ≡ record w1 { stage = Switching; frozen = w1.frozen + 1 } → HasSwitched o w now p q steps.Freeze
+  froze_after h is =
+      cut.froze h.0 (sym (ap (λ (v : WorkflowView). slice_get v.sources v.frozen) made) ∙ h.1) h.2
+      (is ∙ ap (λ (v : WorkflowView). record v { stage = Switching; frozen = v.frozen + 1 }) made)
+
+  moved_after : (step : Step) → length w1.sources ≤ w1.frozen → HasMovedFirst o w1.targets p q step
+      → (length w.sources ≤ w.frozen) × HasMovedFirst o w.targets p q step
+  moved_after step l m = (
+    subst (λ (v : WorkflowView). length v.sources ≤ v.frozen) made l,
+    subst (λ (v : WorkflowView). HasMovedFirst o v.targets p q step) made m,
+  )
+
+  pub copied_after : length w1.sources ≤ w1.frozen → HasMovedFirst o w1.targets p q Copied → now ≡ w1 → HasSwitched o w now p q steps.Copy
+  copied_after l m is = let h = moved_after Copied l m in cut.copied h.0 h.1 (is ∙ made)
+
+  pub followed_after : length w1.sources ≤ w1.frozen → HasMovedFirst o w1.targets p q Followed → now ≡ w1 → HasSwitched o w now p q steps.Follow
+  followed_after l m is = let h = moved_after Followed l m in cut.followed h.0 h.1 (is ∙ made)
+
+module _ (o : Opening) (most : Limits) (sources : List Shard) (targets : List Taking) (p now : PassView Entry) (e : Refusal) where
+  pub memory_refused : e ≡ OutOfMemory → IsSwitchRefusal o most sources targets p now (Refused e)
+  memory_refused is = subst (λ (x : Refusal). IsSwitchRefusal o most sources targets p now (Refused x)) (sym is) cut.no_memory
+
+  pub room_refused : (e ≡ ShardFull) × ((s : Shard) × Contains sources s × HasNoRoom s p now) → IsSwitchRefusal o most sources targets p now (Refused e)
+  room_refused h =
+      subst (λ (x : Refusal). IsSwitchRefusal o most sources targets p now (Refused x)) (sym h.0) (cut.no_room h.1.0 h.1.1 h.1.2)
+
+-- a refusal is of the workflow that it was before its memory was made
+pub refused_as : (o : Opening) (most : Limits) (w w1 : WorkflowView) (b : Bool) (p now : PassView Entry) (e : ReshardFault) → w1 ≡ record w { prepared = b }
+    → IsSwitchRefusal o most w1.sources w1.targets p now e → IsSwitchRefusal o most w.sources w.targets p now e
+refused_as o most w w1 b p now e made h = subst (λ (v : WorkflowView). IsSwitchRefusal o most v.sources v.targets p now e) made h
+
+pub when_none : {X : Type 0} (o : Option X) (A : Type 0) (B : X → Type 0) → o ≡ None → MatchOption o A B → A
+when_none {X = X} o A B none h = subst (λ (x : Option X). MatchOption x A B) none h
+
+-- a step stopped, and the cutover was given up
+pub stopped : (o : Opening) (most : Limits) (w mid now : WorkflowView) (p at q : PassView Entry) (e : ReshardFault) → IsOnward o p at
+    → IsSwitchRefusal o most w.sources w.targets p at e → w.retired ≡ 0 → mid ≡ record w { prepared = mid.prepared }
+    → now ≡ record mid { stage = Following; frozen = 0 } → AllByRecursion (λ s. IsServingAgain o s at q) mid.sources → HasStopped o most w now p q e
+stopped o most w mid now p at q e on cause none same is again = record {
+  at = at;
+  onward = on;
+  cause = cause;
+  given_up = record {
+    none = none;
+    at =
+        is ∙ ap (λ (v : WorkflowView). record v { stage = Following; frozen = 0 }) same
+        ∙ ap (λ (b : Bool). record w { stage = Following; frozen = 0; prepared = b }) (sym (ap (λ (v : WorkflowView). v.prepared) is));
+    serve = subst (λ (l : List Shard). AllByRecursion (λ s. IsServingAgain o s at q) l) (ap (λ (v : WorkflowView). v.sources) same) again;
+  };
+}
+
+pub given_up : (o : Opening) (w now : WorkflowView) (p q : PassView Entry) → w.retired ≡ 0 → now ≡ record w { stage = Following; frozen = 0 }
+    → AllByRecursion (λ s. IsServingAgain o s p q) w.sources → cut.HasGivenUp o w now p q
+given_up o w now p q none is again = record {
+  none = none;
+  at = is ∙ ap (λ (b : Bool). record w { stage = Following; frozen = 0; prepared = b }) (sym (ap (λ (v : WorkflowView). v.prepared) is));
+  serve = again;
+}

@@ -1,0 +1,94 @@
+-- A cutover goes on to its end.
+use Rattle.std.proofs.Common.{◌≡◌, ◌⊎◌, inl, inr, ◌+◌, true, List, refl, sym, ap, ◌∙◌, subst}
+use Rattle.journal.specs.Views.{PassView}
+use Rattle.shard_run.specs.declared.Shard.{Shard}
+use Rattle.shard_run.specs.declared.Entry.{Entry}
+use Rattle.shard_run.specs.Runs.{Opening}
+use Rattle.shard.specs.declared.limits.Limits.{Limits}
+use Rattle.follow.specs.Steps.{IsOnward}
+use Rattle.reshard.specs.declared.fault.ReshardFault.{ReshardFault}
+use Rattle.reshard.specs.declared.fault.ReshardFault.TheVariants.{WrongState}
+use Rattle.reshard.specs.declared.workflow.Stage.TheVariants.{None, Switching, Switched}
+use Rattle.reshard.specs.declared.cutover.CutoverStep.{CutoverStep}
+use Rattle.reshard.specs.declared.cutover.CutoverStep.TheVariants.{Release}
+use Rattle.reshard.specs.Workflows.{WorkflowView, Taking}
+use Rattle.reshard.specs.Cutover.{IsFurther, IsCutOver, HasFinished, HasSwitched, HasStopped, HasStoppedLater, MaySwitch}
+use Rattle.reshard.specs.Cutover as cut
+
+pub further_still : (w : WorkflowView) → IsFurther w w
+further_still w = refl
+
+pub further_trans : (a b c : WorkflowView) → IsFurther a b → IsFurther b c → IsFurther a c
+further_trans a b c ab bc =
+    bc ∙ ap (λ (w : WorkflowView). record w { stage = c.stage; frozen = c.frozen; retired = c.retired; served = c.served; prepared = c.prepared }) ab
+
+module _ (o : Opening) (w now : WorkflowView) (p q : PassView Entry) where
+  from : (v : WorkflowView) → now ≡ v → IsFurther w v → IsFurther w now
+  from v is h = subst (λ (x : WorkflowView). IsFurther w x) (sym is) h
+
+  pub further_switched : (step : CutoverStep) → HasSwitched o w now p q step → IsFurther w now
+  further_switched _ (cut.froze s at is e) = from (record w { stage = Switching; frozen = w.frozen + 1; prepared = true }) e refl
+  further_switched _ (cut.copied f m e) = from (record w { prepared = true }) e refl
+  further_switched _ (cut.followed f m e) = from (record w { prepared = true }) e refl
+  further_switched _ (cut.retired s at is e) = from (record w { retired = w.retired + 1; prepared = true }) e refl
+  further_switched _ (cut.served t at l is e) = from (record w { served = w.served + 1; prepared = true }) e refl
+  further_switched _ (cut.published a b e) = from (record w { prepared = true }) e refl
+  further_switched _ (cut.released a b e) = from (record w { stage = Switched; prepared = true }) e refl
+
+  pub switched_at_end : (step : CutoverStep) → HasSwitched o w now p q step → step ≡ Release → now.stage ≡ Switched
+  switched_at_end _ (cut.froze s at is e) r = absurd (cc r)
+  switched_at_end _ (cut.copied f m e) r = absurd (cc r)
+  switched_at_end _ (cut.followed f m e) r = absurd (cc r)
+  switched_at_end _ (cut.retired s at is e) r = absurd (cc r)
+  switched_at_end _ (cut.served t at l is e) r = absurd (cc r)
+  switched_at_end _ (cut.published a b e) r = absurd (cc r)
+  switched_at_end _ (cut.released a b e) r = ap (λ (v : WorkflowView). v.stage) e
+
+  stage_of : (v : WorkflowView) → now ≡ v → now.stage ≡ v.stage
+  stage_of v is = ap (λ (x : WorkflowView). x.stage) is
+
+  pub begun_still : (step : CutoverStep) → HasSwitched o w now p q step → (w.stage ≡ None → ⊥) → now.stage ≡ None → ⊥
+  begun_still _ (cut.froze s at is e) h n = let x : Switching ≡ None = sym (ap (λ (v : WorkflowView). v.stage) e) ∙ n in absurd (cc x)
+  begun_still _ (cut.copied f m e) h n = h (sym (stage_of (record w { prepared = true }) e) ∙ n)
+  begun_still _ (cut.followed f m e) h n = h (sym (stage_of (record w { prepared = true }) e) ∙ n)
+  begun_still _ (cut.retired s at is e) h n = h (sym (stage_of (record w { retired = w.retired + 1; prepared = true }) e) ∙ n)
+  begun_still _ (cut.served t at l is e) h n = h (sym (stage_of (record w { served = w.served + 1; prepared = true }) e) ∙ n)
+  begun_still _ (cut.published a b e) h n = h (sym (stage_of (record w { prepared = true }) e) ∙ n)
+  begun_still _ (cut.released a b e) h n = let x : Switched ≡ None = sym (ap (λ (v : WorkflowView). v.stage) e) ∙ n in absurd (cc x)
+
+  kept : (v : WorkflowView) → now ≡ v → v.stage ≡ w.stage → MaySwitch w → MaySwitch now
+  kept v is same (inl h) = inl (stage_of v is ∙ same ∙ h)
+  kept v is same (inr h) = inr (stage_of v is ∙ same ∙ h)
+
+  -- a cutover that isn't at its end may go on
+  pub may_still : (step : CutoverStep) → HasSwitched o w now p q step → (step ≡ Release → ⊥) → MaySwitch w → MaySwitch now
+  may_still _ (cut.froze s at is e) r m = inr (ap (λ (v : WorkflowView). v.stage) e)
+  may_still _ (cut.copied f h e) r m = kept (record w { prepared = true }) e refl m
+  may_still _ (cut.followed f h e) r m = kept (record w { prepared = true }) e refl m
+  may_still _ (cut.retired s at is e) r m = kept (record w { retired = w.retired + 1; prepared = true }) e refl m
+  may_still _ (cut.served t at l is e) r m = kept (record w { served = w.served + 1; prepared = true }) e refl m
+  may_still _ (cut.published a b e) r m = kept (record w { prepared = true }) e refl m
+  may_still _ (cut.released a b e) r m = absurd (r refl)
+
+pub finished : (w now : WorkflowView) (q : PassView Entry) → IsFurther w now → now.stage ≡ Switched → (sources : List Shard) (targets : List Taking)
+    → sources ≡ now.sources → targets ≡ now.targets → IsCutOver q.seen sources targets → HasFinished w now q
+finished w now q far end sources targets s t through = record {
+  through =
+      subst (λ (l : List Taking). IsCutOver q.seen w.sources l) (t ∙ ap (λ (v : WorkflowView). v.targets) far)
+      (subst (λ (l : List Shard). IsCutOver q.seen l targets) (s ∙ ap (λ (v : WorkflowView). v.sources) far) through);
+  at =
+      far
+      ∙ ap (λ (x : _). record w { stage = x; frozen = now.frozen; retired = now.retired; served = now.served; prepared = now.prepared }) end;
+}
+
+-- a refusal in a step of a cutover that had gone on
+pub stopped_later : (o : Opening) (most : Limits) (w mid now : WorkflowView) (p before q : PassView Entry) (e : ReshardFault) → IsFurther w mid
+    → IsOnward o p before → HasStopped o most mid now before q e → HasStoppedLater o most w now p q e
+stopped_later o most w mid now p before q e far on is = record { mid = mid; further = far; before = before; onward = on; stopped = is }
+
+pub refused_later : (o : Opening) (most : Limits) (w mid now : WorkflowView) (p before q : PassView Entry) (e : ReshardFault) → IsFurther w mid
+    → MaySwitch mid → IsOnward o p before
+    → ((e ≡ WrongState) × (MaySwitch mid → ⊥) × (now ≡ mid) × (q ≡ before)) ⊎ (MaySwitch mid × HasStopped o most mid now before q e)
+    → HasStoppedLater o most w now p q e
+refused_later o most w mid now p before q e far may on (inl h) = absurd (h.1 may)
+refused_later o most w mid now p before q e far may on (inr h) = stopped_later o most w mid now p before q e far on h.1

@@ -1,0 +1,104 @@
+use Rattle.std.proofs.Common.{true, List, length, map, refl, sym, ap, ◌∙◌, subst, arith}
+use Rattle.std.proofs.lemmas.List.{length-map}
+use Rattle.std.specs.Prelude.{IfErr}
+use Rattle.journal.proofs.Fronts.{prefix_self}
+use Rattle.vt_value.specs.declared.refusal.Refusal.{Refusal}
+use Rattle.vt_value.specs.declared.refusal.Refusal.TheVariants.{ShardFull}
+use Rattle.follow.specs.declared.steps.Step.{Step}
+use Rattle.reshard.specs.declared.fault.ReshardFault.TheVariants.{Refused}
+use Rattle.reshard.specs.Begun.{HasMovedFirst, IsMoveRefusal}
+use Rattle.reshard.specs.Workflows.{WorkflowView, Taking}
+use Rattle.reshard.specs.Cutover.{IsSwitchRefusal, overfull}
+use Rattle.reshard.proofs.Nexts.{from_move, refusal_within}
+use Rattle.reshard.proofs.Unfit.{residual_same}
+use Rattle.reshard.proofs.Switches.{froze_after, copied_after, followed_after, memory_refused, room_refused, refused_as}
+use Rattle.reshard.proofs.workflow.Workflow.switch_before.Goals.{then-all_fit, else-all_fit}
+use Rattle.reshard.proofs.workflow.Workflow.switch_before.Goals as goal
+
+pub returns-in_err-prepare-clause-refused : goal.returns-in_err-prepare-clause-refused
+returns-in_err-prepare-clause-refused g c =
+    residual_same c.from_residual.result c.in_err-prepare.field-0.0 _ c.from_residual.ensures.1
+    (memory_refused g.W.World.opening g.W.World.limits c.args.self.now.sources c.args.self.now.targets c.args.pass.now c.args.pass.now c.in_err-prepare.field-0.0
+    c.in_err-prepare.ensures.err)
+
+pub returns-in_err-freeze_next-clause-refused : goal.returns-in_err-freeze_next-clause-refused
+returns-in_err-freeze_next-clause-refused g c =
+    let w1 = c.prepare.new.self in
+    let e = c.in_err-freeze_next.field-0.0 in
+    residual_same c.from_residual-in_err-freeze_next.result e _ c.from_residual-in_err-freeze_next.ensures.1
+    (refused_as g.W.World.opening g.W.World.limits c.args.self.now w1 true c.args.pass.now c.freeze_next.new.pass (Refused e) c.in_ok-prepare.ensures.now
+    (room_refused g.W.World.opening g.W.World.limits w1.sources w1.targets c.args.pass.now c.freeze_next.new.pass e c.in_err-freeze_next.ensures.err))
+
+pub returns-then-self-len-clause-step : goal.returns-then-self-len-clause-step
+returns-then-self-len-clause-step g c =
+    froze_after g.W.World.opening c.args.self.now c.prepare.new.self c.freeze_next.new.self c.args.pass.now c.freeze_next.new.pass c.in_ok-prepare.ensures.now
+    c.in_ok-freeze_next.ensures.froze c.in_ok-freeze_next.ensures.now
+
+pub returns-in_err-move_first-clause-refused : goal.returns-in_err-move_first-clause-refused
+returns-in_err-move_first-clause-refused g c =
+    let o = g.W.World.opening in
+    let most = g.W.World.limits in
+    let w1 = c.prepare.new.self in
+    let e = c.in_err-move_first.field-0.0 in
+    let now = c.move_first.new.pass in
+    let ts =
+    ap (map {B = Taking} (λ t. (t.member.which, map (λ s. s.which) t.sources.items))) c.as_slice.ensures.value ∙ ap (λ (w : WorkflowView). w.targets) c.self.view_is in
+    residual_same c.from_residual-in_err-move_first.result e _ c.from_residual-in_err-move_first.ensures.1
+    (refused_as o most c.args.self.now w1 true c.args.pass.now now (Refused e) c.in_ok-prepare.ensures.now
+    (from_move o most w1.sources w1.targets c.args.pass.now now (Refused e) c.move_first.ensures.onward.later
+    (subst (λ (l : List Taking). IsMoveRefusal most l now (Refused e)) ts c.in_err-move_first.ensures.refused)))
+
+pub returns-in-Copied-clause-step : goal.returns-in-Copied-clause-step
+returns-in-Copied-clause-step g c =
+    let o = g.W.World.opening in
+    let w1 = c.prepare.new.self in
+    let now = c.move_first.new.pass in
+    let ts =
+    ap (map {B = Taking} (λ t. (t.member.which, map (λ s. s.which) t.sources.items))) c.as_slice.ensures.value ∙ ap (λ (w : WorkflowView). w.targets) c.self.view_is in
+    let a = c.if-self-len.false in
+    let b = c.len.ensures in
+    let d = c.self.inside.sources.ok.0 in
+    let e = length-map c.self.inside.sources.items (λ s. s.member.which) in
+    let v = ap (λ (w : WorkflowView). length w.sources) c.self.view_is in
+    let n = ap (λ (w : WorkflowView). w.frozen) c.self.view_is in
+    copied_after o c.args.self.now w1 w1 c.args.pass.now now c.in_ok-prepare.ensures.now (omega (arith, a, b, d, e, v, n))
+    (subst (λ (l : List Taking). HasMovedFirst o l c.args.pass.now now Rattle.follow.specs.declared.steps.Step.TheVariants.Copied) ts
+    (subst (λ (s : Step). HasMovedFirst o (map {B = Taking} (λ t. (t.member.which, map (λ s. s.which) t.sources.items)) c.as_slice.result.now) c.args.pass.now now s)
+    c.in-Copied.is c.in_ok-move_first.ensures.moved)) refl
+
+pub returns-in-Followed-clause-step : goal.returns-in-Followed-clause-step
+returns-in-Followed-clause-step g c =
+    let o = g.W.World.opening in
+    let w1 = c.prepare.new.self in
+    let now = c.move_first.new.pass in
+    let ts =
+    ap (map {B = Taking} (λ t. (t.member.which, map (λ s. s.which) t.sources.items))) c.as_slice.ensures.value ∙ ap (λ (w : WorkflowView). w.targets) c.self.view_is in
+    let a = c.if-self-len.false in
+    let b = c.len.ensures in
+    let d = c.self.inside.sources.ok.0 in
+    let e = length-map c.self.inside.sources.items (λ s. s.member.which) in
+    let v = ap (λ (w : WorkflowView). length w.sources) c.self.view_is in
+    let n = ap (λ (w : WorkflowView). w.frozen) c.self.view_is in
+    followed_after o c.args.self.now w1 w1 c.args.pass.now now c.in_ok-prepare.ensures.now (omega (arith, a, b, d, e, v, n))
+    (subst (λ (l : List Taking). HasMovedFirst o l c.args.pass.now now Rattle.follow.specs.declared.steps.Step.TheVariants.Followed) ts
+    (subst (λ (s : Step). HasMovedFirst o (map {B = Taking} (λ t. (t.member.which, map (λ s. s.which) t.sources.items)) c.as_slice.result.now) c.args.pass.now now s)
+    c.in-Followed.is c.in_ok-move_first.ensures.moved)) refl
+
+pub returns-clause-refused : goal.returns-clause-refused
+returns-clause-refused g c =
+    let o = g.W.World.opening in
+    let most = g.W.World.limits in
+    let w1 = c.prepare.new.self in
+    let q = c.move_first.new.pass in
+    let now = c.all_fit.new.pass in
+    let ts =
+    ap (map {B = Taking} (λ t. (t.member.which, map (λ s. s.which) t.sources.items))) c.as_slice-2.ensures.value ∙ ap (λ (w : WorkflowView). w.targets) c.self.view_is in
+    elim c.if-all_fit.branch [
+      | then-all_fit w ↦ subst (λ r. IfErr r (λ (e : Refusal). IsSwitchRefusal o most c.args.self.now.sources c.args.self.now.targets c.args.pass.now now (Refused e))) (sym w.result-is) tt
+      | else-all_fit w ↦
+          subst (λ r. IfErr r (λ (e : Refusal). IsSwitchRefusal o most c.args.self.now.sources c.args.self.now.targets c.args.pass.now now (Refused e))) (sym w.result-is)
+          (refused_as o most c.args.self.now w1 true c.args.pass.now now (Refused ShardFull) c.in_ok-prepare.ensures.now
+          (refusal_within o most w1.sources w1.targets q c.args.pass.now now now c.in_ok-move_first.ensures.onward.later (prefix_self now.seen) (Refused ShardFull)
+          (let h = c.all_fit.ensures.many w.if-all_fit.false in
+          overfull h.0 (subst (λ (l : List Taking). Rattle.std.specs.Prelude.Contains l h.0) ts h.1) h.2)))
+    ]

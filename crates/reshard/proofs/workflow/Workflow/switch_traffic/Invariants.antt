@@ -1,0 +1,14 @@
+use Rattle.follow.specs.Steps.{IsOnward}
+use Rattle.reshard.specs.Cutover.{IsFurther, MaySwitch}
+use Rattle.reshard.proofs.workflow.Workflow.switch_traffic.Given as goal
+
+-- so far the cutover went on
+abbrev pub invariant-loop : goal.invariant-loop
+invariant-loop g l =
+    record {
+      next : (goal.iterator-loop g).can_next l.iterator';
+      finite : (goal.iterator-loop g).is_finite l.iterator';
+      further : IsFurther l.fn.self l.self;
+      may : MaySwitch l.self;
+      onward : IsOnward g.W.World.opening l.fn.pass l.pass;
+    }

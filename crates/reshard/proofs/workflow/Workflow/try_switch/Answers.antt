@@ -1,0 +1,35 @@
+use Rattle.std.proofs.Common.{sym, ◌∙◌, subst}
+use Rattle.journal.specs.Views.{PassView}
+use Rattle.shard_run.specs.declared.Entry.{Entry}
+use Rattle.follow.specs.Steps.{IsOnward}
+use Rattle.reshard.specs.Workflows.{WorkflowView}
+use Rattle.reshard.specs.Cutover.{HasSwitched}
+use Rattle.reshard.proofs.Onward.{onward_trans}
+use Rattle.reshard.proofs.Switches.{switched_since, when_none}
+use Rattle.reshard.proofs.workflow.Workflow.try_switch.Goals.{then-self-eq0+in_ok-step+in_default, else-self-eq0}
+use Rattle.reshard.proofs.workflow.Workflow.try_switch.Goals as goal
+
+pub returns-clause-switched : goal.returns-clause-switched
+returns-clause-switched g c =
+    let o = g.W.World.opening in
+    let h = c.switch_after.ensures.switched in
+    elim c.if-self-eq0.branch [
+      | then-self-eq0+in_ok-step+in_default w ↦
+          switched_since o c.args.self.now c.switch_after.new.self c.args.pass.now c.if-self-eq0.pass c.switch_after.new.pass
+          (subst (λ (q : PassView Entry). IsOnward o c.args.pass.now q) (sym w.pass-is) w.switch_before.ensures.onward) c.if-self-eq0.self
+          (w.self-is ∙ when_none w.in_ok-step.field-0 _ _ w.in_default.is w.in_ok-step.ensures.step) c.switch_after.result h
+      | else-self-eq0 w ↦
+          subst (λ (q : PassView Entry). HasSwitched o c.args.self.now c.switch_after.new.self q c.switch_after.new.pass c.switch_after.result) w.pass-is
+          (subst (λ (v : WorkflowView). HasSwitched o v c.switch_after.new.self c.if-self-eq0.pass c.switch_after.new.pass c.switch_after.result) w.self-is h)
+    ]
+
+pub returns-clause-onward : goal.returns-clause-onward
+returns-clause-onward g c =
+    let o = g.W.World.opening in
+    let h = c.switch_after.ensures.onward in
+    elim c.if-self-eq0.branch [
+      | then-self-eq0+in_ok-step+in_default w ↦
+          onward_trans o c.args.pass.now c.if-self-eq0.pass c.switch_after.new.pass
+          (subst (λ (q : PassView Entry). IsOnward o c.args.pass.now q) (sym w.pass-is) w.switch_before.ensures.onward) h
+      | else-self-eq0 w ↦ subst (λ (q : PassView Entry). IsOnward o q c.switch_after.new.pass) w.pass-is h
+    ]

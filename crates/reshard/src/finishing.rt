@@ -1,0 +1,131 @@
+//! A cutover as a whole, and one that was begun and is to end.
+ghost use Rattle.std.specs.Prelude.{◌≡◌, ◌⊎◌, true, false, IfOk, IfErr, OnOk, IsTrue};
+ghost use Rattle.vschema.specs.WellFormed.{is_vschema};
+ghost use Rattle.journal.specs.Runs.{IsLegal};
+ghost use Rattle.shard.specs.Shards.{MayFollow};
+ghost use Rattle.follow.specs.Steps.{IsOnward};
+ghost use Rattle.reshard.specs.Cutover.{MaySwitch, HasFinished, IsResumed, HasStoppedLater};
+
+use crate::confirming::confirm_cutover;
+use crate::cutover::CutoverStep;
+use crate::fault::ReshardFault;
+use crate::workflow::{Stage, Workflow};
+use buffer::Buffer;
+use journal::{Naming, Pass};
+use serving::Serving;
+use shard::{Shard, ShardLaw, World};
+use std::alloc::Global;
+use std::sync::Wait;
+use vschema::VSchema;
+
+/// What became of a cutover that had begun.
+#[derive(Clone, Copy, Debug, PartialEq, Eq)]
+pub enum Resumed {
+    /// No source was retired: each serves again, and the targets follow.
+    Thawed,
+    /// The targets serve.
+    Finished,
+}
+
+impl<W: World, J: Naming> Workflow<W, J> {
+    // Ends a cutover of which all memory is made, and that no target is to hold up. Takes no memory.
+    fn finish(
+        &mut self,
+        rt: &impl Wait,
+        pass: &mut Pass<ShardLaw<W>, J>,
+        schema: &VSchema,
+        serving: &Serving<Shard<W, J>>,
+        buffer: &Buffer,
+    )
+        requires schema { schema.now ≡ W.opening.schema }
+        requires legal { IsLegal (MayFollow W.opening) pass.old.seen }
+        requires home { serving.now ≡ self.old.keyspace }
+        requires begun { self.old.stage ≡ Stage.None → ⊥ }
+        requires prepared { self.old.prepared ≡ true }
+        ensures finished { HasFinished self.old self.new pass.new }
+        ensures onward { IsOnward W.opening pass.old pass.new }
+    {
+        for _ in rt.forever() {
+            let step = self.switch_after(rt, pass, schema, serving, buffer);
+            if step == CutoverStep::Release {
+                confirm_cutover(rt, self.sources.as_slice(), self.targets.as_slice(), pass);
+                return;
+            }
+        }
+        unreachable!()
+    }
+
+    /// Takes all steps of the cutover that are left: the targets serve then, in the place of the sources. Refuses where no targets follow, or a
+    /// cutover has begun. For want of memory, and where a shard would have more rows or entries than it may, the cutover is given up, of which
+    /// no source is retired: each source serves again, the statements that waited go on, and the targets follow.
+    pub fn switch_traffic(
+        &mut self,
+        rt: &impl Wait,
+        alloc: Global,
+        pass: &mut Pass<ShardLaw<W>, J>,
+        schema: &VSchema,
+        serving: &Serving<Shard<W, J>>,
+        buffer: &Buffer,
+    ) -> Result<(), ReshardFault>
+        requires schema { schema.now ≡ W.opening.schema }
+        requires formed { IsTrue (is_vschema W.opening.schema) }
+        requires legal { IsLegal (MayFollow W.opening) pass.old.seen }
+        requires home { serving.now ≡ self.old.keyspace }
+        ensures was { OnOk result (self.old.stage ≡ Stage.Following) }
+        ensures through { OnOk result (HasFinished self.old self.new pass.new) }
+        ensures refused { IfErr result (λ e. ((e ≡ ReshardFault.WrongState) × (self.old.stage ≡ Stage.Following → ⊥) × (self.new ≡ self.old) × (pass.new ≡ pass.old))
+            ⊎ ((self.old.stage ≡ Stage.Following) × HasStoppedLater W.opening W.limits self.old self.new pass.old pass.new e)) }
+        ensures onward { IsOnward W.opening pass.old pass.new }
+    {
+        if self.stage != Stage::Following {
+            return Err(ReshardFault::WrongState);
+        }
+        for _ in rt.forever() {
+            let step = self.switch_step(rt, alloc, pass, schema, serving, buffer)?;
+            if step == CutoverStep::Release {
+                confirm_cutover(rt, self.sources.as_slice(), self.targets.as_slice(), pass);
+                return Ok(());
+            }
+        }
+        unreachable!()
+    }
+
+    fn is_switching(&self) -> bool
+        ensures yes { result ≡ true → self.now.stage ≡ Stage.Switching }
+        ensures no { result ≡ false → self.now.stage ≡ Stage.Switching → ⊥ }
+    {
+        match self.stage {
+            Stage::Switching => true,
+            _ => false,
+        }
+    }
+
+    /// Ends a cutover that has begun: where no source is retired, each is thawed that is frozen, the statements that waited go on, and the
+    /// targets follow; else the cutover is finished. Refuses where none has begun. Takes no memory.
+    pub fn resume(
+        &mut self,
+        rt: &impl Wait,
+        pass: &mut Pass<ShardLaw<W>, J>,
+        schema: &VSchema,
+        serving: &Serving<Shard<W, J>>,
+        buffer: &Buffer,
+    ) -> Result<Resumed, ReshardFault>
+        requires schema { schema.now ≡ W.opening.schema }
+        requires legal { IsLegal (MayFollow W.opening) pass.old.seen }
+        requires home { serving.now ≡ self.old.keyspace }
+        ensures was { OnOk result (self.old.stage ≡ Stage.Switching) }
+        ensures resumed { IfOk result (IsResumed W.opening self.old self.new pass.old pass.new) }
+        ensures refused { IfErr result (λ e. (e ≡ ReshardFault.WrongState) × (self.old.stage ≡ Stage.Switching → ⊥) × (self.new ≡ self.old) × (pass.new ≡ pass.old)) }
+        ensures onward { IsOnward W.opening pass.old pass.new }
+    {
+        if !self.is_switching() {
+            return Err(ReshardFault::WrongState);
+        }
+        if self.retired == 0 {
+            self.give_up(rt, pass, buffer);
+            return Ok(Resumed::Thawed);
+        }
+        self.finish(rt, pass, schema, serving, buffer);
+        Ok(Resumed::Finished)
+    }
+}

@@ -1,0 +1,169 @@
+//! The calls of a cutover.
+ghost use Rattle.std.specs.Prelude.{◌≡◌, ◌⊎◌, ◌≤◌, true, false, Some, IfOk, IfErr, OnOk, OnErr, MatchOption, IsTrue};
+ghost use Rattle.vschema.specs.WellFormed.{is_vschema};
+ghost use Rattle.journal.specs.Runs.{IsLegal};
+ghost use Rattle.shard.specs.Shards.{MayFollow};
+ghost use Rattle.follow.specs.Steps.{IsOnward};
+ghost use Rattle.reshard.specs.Cutover.{HasSwitched, HasStopped, IsSwitchRefusal, MaySwitch};
+
+use crate::calls::move_first;
+use crate::cutover::CutoverStep;
+use crate::fault::ReshardFault;
+use crate::fitting::all_fit;
+use crate::workflow::{Stage, Workflow};
+use buffer::Buffer;
+use follow::Step;
+use journal::{Naming, Pass};
+use serving::Serving;
+use shard::{Shard, ShardLaw, World};
+use std::alloc::Global;
+use std::sync::Wait;
+use vschema::VSchema;
+use vt_value::Refusal;
+
+impl<W: World, J: Naming> Workflow<W, J> {
+    // A step behind which nothing takes memory nor fails.
+    pub(crate) fn switch_after(
+        &mut self,
+        rt: &impl Wait,
+        pass: &mut Pass<ShardLaw<W>, J>,
+        schema: &VSchema,
+        serving: &Serving<Shard<W, J>>,
+        buffer: &Buffer,
+    ) -> CutoverStep
+        requires schema { schema.now ≡ W.opening.schema }
+        requires legal { IsLegal (MayFollow W.opening) pass.old.seen }
+        requires home { serving.now ≡ self.old.keyspace }
+        requires begun { self.old.stage ≡ Stage.None → ⊥ }
+        requires prepared { self.old.prepared ≡ true }
+        ensures switched { HasSwitched W.opening self.old self.new pass.old pass.new result }
+        ensures steady { self.new ≡ record self.old { stage = self.new.stage; retired = self.new.retired; served = self.new.served } }
+        ensures onward { IsOnward W.opening pass.old pass.new }
+    {
+        if self.retired < self.sources.len() {
+            self.retire_next(rt, pass);
+            return CutoverStep::Retire;
+        }
+        if self.served < self.targets.len() {
+            self.serve_next(rt, pass, schema);
+            return CutoverStep::Serve;
+        }
+        if self.publish_next(serving) {
+            return CutoverStep::Publish;
+        }
+        buffer.release(rt);
+        self.stage = Stage::Switched;
+        CutoverStep::Release
+    }
+
+    // A step of a cutover of which no source is retired, or none where the first may retire.
+    pub(crate) fn switch_before(
+        &mut self,
+        rt: &impl Wait,
+        alloc: Global,
+        pass: &mut Pass<ShardLaw<W>, J>,
+        schema: &VSchema,
+    ) -> Result<Option<CutoverStep>, Refusal>
+        requires begun { self.old.stage ≡ Stage.None → ⊥ }
+        requires schema { schema.now ≡ W.opening.schema }
+        requires formed { IsTrue (is_vschema W.opening.schema) }
+        requires legal { IsLegal (MayFollow W.opening) pass.old.seen }
+        ensures step { IfOk result (λ r. MatchOption r (self.new ≡ record self.old { prepared = true }) (HasSwitched W.opening self.old self.new pass.old pass.new)) }
+        ensures steady { OnOk result (self.new ≡ record self.old { stage = self.new.stage; frozen = self.new.frozen; prepared = true }) }
+        ensures refused { IfErr result (λ e. IsSwitchRefusal W.opening W.limits self.old.sources self.old.targets pass.old pass.new (ReshardFault.Refused e)) }
+        ensures same { OnErr result (self.new ≡ record self.old { prepared = self.new.prepared }) }
+        ensures onward { IsOnward W.opening pass.old pass.new }
+    {
+        self.prepare(alloc)?;
+        if self.frozen < self.sources.len() {
+            self.freeze_next(rt, pass)?;
+            return Ok(Some(CutoverStep::Freeze));
+        }
+        match move_first(rt, alloc, pass, schema, self.targets.as_slice())? {
+            Step::Copied => return Ok(Some(CutoverStep::Copy)),
+            Step::Followed => return Ok(Some(CutoverStep::Follow)),
+            Step::Level => {}
+        }
+        if all_fit(rt, self.targets.as_slice(), pass) {
+            Ok(None)
+        } else {
+            Err(Refusal::ShardFull)
+        }
+    }
+
+    // The next step of the cutover, where nothing is given up.
+    fn try_switch(
+        &mut self,
+        rt: &impl Wait,
+        alloc: Global,
+        pass: &mut Pass<ShardLaw<W>, J>,
+        schema: &VSchema,
+        serving: &Serving<Shard<W, J>>,
+        buffer: &Buffer,
+    ) -> Result<CutoverStep, Refusal>
+        requires begun { self.old.stage ≡ Stage.None → ⊥ }
+        requires schema { schema.now ≡ W.opening.schema }
+        requires formed { IsTrue (is_vschema W.opening.schema) }
+        requires legal { IsLegal (MayFollow W.opening) pass.old.seen }
+        requires home { serving.now ≡ self.old.keyspace }
+        ensures switched { IfOk result (HasSwitched W.opening self.old self.new pass.old pass.new) }
+        ensures refused { IfErr result (λ e. IsSwitchRefusal W.opening W.limits self.old.sources self.old.targets pass.old pass.new (ReshardFault.Refused e)) }
+        ensures none { OnErr result (self.old.retired ≡ 0) }
+        ensures same { OnErr result (self.new ≡ record self.old { prepared = self.new.prepared }) }
+        ensures onward { IsOnward W.opening pass.old pass.new }
+    {
+        if self.retired == 0 {
+            if let Some(step) = self.switch_before(rt, alloc, pass, schema)? {
+                return Ok(step);
+            }
+        }
+        Ok(self.switch_after(rt, pass, schema, serving, buffer))
+    }
+
+    fn may_switch(&self) -> bool
+        ensures yes { result ≡ true → MaySwitch self.now }
+        ensures no { result ≡ false → MaySwitch self.now → ⊥ }
+    {
+        match self.stage {
+            Stage::Following => true,
+            Stage::Switching => true,
+            _ => false,
+        }
+    }
+
+    /// Takes the next step of the cutover, and tells which: the next source is frozen; once all are, the first target moves that isn't level,
+    /// else the next source is retired; then the targets serve, the next partition is published, and the statements that waited go on.
+    /// Refuses where no targets follow and no cutover has begun. For want of memory, and where a shard would have more rows or entries than
+    /// it may, the cutover is given up, of which no source is retired: each source serves again, the statements that waited go on, and the
+    /// targets follow.
+    pub fn switch_step(
+        &mut self,
+        rt: &impl Wait,
+        alloc: Global,
+        pass: &mut Pass<ShardLaw<W>, J>,
+        schema: &VSchema,
+        serving: &Serving<Shard<W, J>>,
+        buffer: &Buffer,
+    ) -> Result<CutoverStep, ReshardFault>
+        requires schema { schema.now ≡ W.opening.schema }
+        requires formed { IsTrue (is_vschema W.opening.schema) }
+        requires legal { IsLegal (MayFollow W.opening) pass.old.seen }
+        requires home { serving.now ≡ self.old.keyspace }
+        ensures was { OnOk result (MaySwitch self.old) }
+        ensures switched { IfOk result (HasSwitched W.opening self.old self.new pass.old pass.new) }
+        ensures refused { IfErr result (λ e. ((e ≡ ReshardFault.WrongState) × (MaySwitch self.old → ⊥) × (self.new ≡ self.old) × (pass.new ≡ pass.old))
+            ⊎ (MaySwitch self.old × HasStopped W.opening W.limits self.old self.new pass.old pass.new e)) }
+        ensures onward { IsOnward W.opening pass.old pass.new }
+    {
+        if !self.may_switch() {
+            return Err(ReshardFault::WrongState);
+        }
+        match self.try_switch(rt, alloc, pass, schema, serving, buffer) {
+            Ok(step) => Ok(step),
+            Err(refusal) => {
+                self.give_up(rt, pass, buffer);
+                Err(ReshardFault::Refused(refusal))
+            }
+        }
+    }
+}
