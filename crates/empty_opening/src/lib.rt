@@ -5,4 +5,4 @@ mod opening;
 #[cfg(test)]
 mod tests;
 
-pub use opening::{empty_tables, opening_shards};
+pub use opening::{empty_tables, opening_shards, sharded_keyspace};

@@ -21,8 +21,8 @@ fn unsharded_keyspace(schema: &VSchema) -> Option<usize>
     None
 }
 
-// The keyspace that is sharded.
-fn sharded_keyspace(schema: &VSchema) -> Option<usize>
+/// The place of the keyspace that is sharded; a VSchema has at most one.
+pub fn sharded_keyspace(schema: &VSchema) -> Option<usize>
     ensures { result ≡ sharded_keyspace schema.now }
 {
     for (place, keyspace) in schema.keyspaces.as_slice().iter().enumerate() {

@@ -1,5 +1,5 @@
 -- Fresh seats by their slots, the slots of the opening's shards, and the rows that they begin with.
-use Rattle.std.proofs.Common.{◌≡◌, ℕ, zero, suc, ◌+◌, ◌-◌, ◌<◌, List, [], ◌∷◌, ◌++◌, length, get_or, map, Contains, Bool, true, false, filter, take, Option, Some, None, option_to_list, refl, sym, ap, ◌∙◌, subst, arith}
+use Rattle.std.proofs.Common.{◌≡◌, ℕ, zero, suc, ◌+◌, ◌-◌, ◌<◌, ◌≤◌, List, [], ◌∷◌, ◌++◌, length, get_or, map, Contains, Bool, true, false, filter, take, Option, Some, None, option_to_list, refl, sym, ap, ◌∙◌, subst, arith}
 use Rattle.std.specs.Prelude.{if◌then◌else◌}
 use Rattle.std.specs.List.{range_with_len}
 use Rattle.std.proofs.lemmas.List.{append-nil, get_or-map, length-map, map-id, take_more}
@@ -37,6 +37,12 @@ module _ {E : Type 0} where
       let same : k ≡ suc k - 1 = omega arith in
       let rest : new ≡ seats_from (n + 1) k = cc (e, f) in
       rest ∙ ap (seats_from (n + 1)) same
+
+module _ {E : Type 0} where
+  pub first_seats : (n k most : ℕ) → k ≤ most → take k (seats_from {E = E} n most) ≡ seats_from n k
+  first_seats n zero most l = refl
+  first_seats n (suc k) zero l = absurd (omega (arith, l))
+  first_seats n (suc k) (suc most) l = ap (λ (seats : List (SeatView E)). record { seen = []; slot = n } ∷ seats) (first_seats (n + 1) k most (omega (arith, l)))
 
 -- ---- slots
 

@@ -6,4 +6,4 @@ mod router;
 #[cfg(test)]
 mod tests;
 
-pub use router::empty_router;
+pub use router::{empty_router, seated_router};

@@ -1,4 +1,4 @@
-ghost use Rattle.std.specs.Prelude.{◌≡◌, ◌==◌, ℕ, ◌<◌, ◌≤◌, [], None, IsTrue, IfOk, IfErr, Contains, length, map, filter, slice_index_or};
+ghost use Rattle.std.specs.Prelude.{◌≡◌, ◌==◌, ℕ, ◌<◌, ◌≤◌, [], None, IsTrue, IfOk, IfErr, Contains, length, map, filter, take, drop, slice_index_or};
 ghost use Rattle.std.specs.List.{range_with_len};
 ghost use Rattle.vschema.specs.WellFormed.{is_vschema};
 ghost use Rattle.journal.specs.Views.{fresh_seats, new_pass};
@@ -92,7 +92,7 @@ fn empty_shards<W: World, J: Naming>(
     requires opening { opening_shards W.opening ≡ shards.now }
     requires slots { (i : ℕ) (d : which.Shard) → i < length shards.now → (slice_index_or shards.now i d).slot ≡ i }
     requires few { length shards.now ≤ 64 }
-    requires seats { seats.items ≡ fresh_seats 64 }
+    requires seats { seats.items ≡ take (length shards.now) (fresh_seats 64) }
     ensures ok { IfOk result (λ held. map (λ h. h.value) held.items ≡ map seat_of shards.now) }
     ensures err { IfErr result (λ e. e ≡ Refusal.OutOfMemory) }
 {
@@ -103,6 +103,41 @@ fn empty_shards<W: World, J: Naming>(
         held.push(empty_shard(alloc, tables, seat, shard)?)?;
     }
     Ok(held)
+}
+
+// The opening shards, and the seats behind theirs.
+fn shards_and_seats<W: World, J: Naming>(
+    alloc: Global,
+    tables: &[Table],
+    shards: &[shard_run::Shard],
+    seats: Vec<ShardSeat<ShardLaw<W>, J>>,
+) -> Result<
+    (
+        Vec<Arc<Shard<W, J>, Global>>,
+        Vec<ShardSeat<ShardLaw<W>, J>>,
+    ),
+    Refusal,
+>
+    requires opens { IsOpening W.opening }
+    requires limits { W.limits ≡ most_limits }
+    requires rows { (s : which.Shard) → Contains (opening_shards W.opening) s → first_rows W.opening s ≡ map (λ t. []) tables.now }
+    requires opening { opening_shards W.opening ≡ shards.now }
+    requires slots { (i : ℕ) (d : which.Shard) → i < length shards.now → (slice_index_or shards.now i d).slot ≡ i }
+    requires few { length shards.now ≤ 64 }
+    requires seats { seats.items ≡ fresh_seats 64 }
+    ensures held { IfOk result (λ r. map (λ h. h.value) r.0.items ≡ map seat_of shards.now) }
+    ensures free { IfOk result (λ r. r.1.items ≡ drop (length shards.now) (fresh_seats 64)) }
+    ensures err { IfErr result (λ e. e ≡ Refusal.OutOfMemory) }
+{
+    let mut seats = seats;
+    let free = seats.split_off(shards.len())?;
+    match empty_shards(alloc, tables, shards, seats) {
+        Ok(held) => Ok((held, free)),
+        Err(refusal) => {
+            drop(free);
+            Err(refusal)
+        }
+    }
 }
 
 // The parts of a keyspace, in the order of its shards.
@@ -148,14 +183,21 @@ fn opening_keyspaces<W: World, J: Naming>(
     Ok(all)
 }
 
-// The opening shards, and the partitions of so many keyspaces, which begin with the opening's.
+// The opening shards, the partitions of so many keyspaces, which begin with the opening's, and the seats behind those of the shards.
 fn held_and_served<W: World, J: Naming>(
     alloc: Global,
     tables: &[Table],
     keyspaces: usize,
     shards: &[shard_run::Shard],
     seats: Vec<ShardSeat<ShardLaw<W>, J>>,
-) -> Result<(Vec<Arc<Shard<W, J>, Global>>, Vec<Serving<Shard<W, J>>>), Refusal>
+) -> Result<
+    (
+        Vec<Arc<Shard<W, J>, Global>>,
+        Vec<Serving<Shard<W, J>>>,
+        Vec<ShardSeat<ShardLaw<W>, J>>,
+    ),
+    Refusal,
+>
     requires opens { IsOpening W.opening }
     requires limits { W.limits ≡ most_limits }
     requires each { keyspaces ≡ length W.opening.schema.keyspaces }
@@ -166,13 +208,61 @@ fn held_and_served<W: World, J: Naming>(
     requires seats { seats.items ≡ fresh_seats 64 }
     ensures held { IfOk result (λ r. map (λ h. h.value) r.0.items ≡ map seat_of shards.now) }
     ensures each { IfOk result (λ r. r.1.items ≡ range_with_len 0 keyspaces) }
+    ensures free { IfOk result (λ r. r.2.items ≡ drop (length shards.now) (fresh_seats 64)) }
     ensures err { IfErr result (λ e. e ≡ Refusal.OutOfMemory) }
 {
-    let held = empty_shards(alloc, tables, shards, seats)?;
+    let (held, free) = shards_and_seats(alloc, tables, shards, seats)?;
     match opening_keyspaces(alloc, keyspaces, shards, held.as_slice()) {
-        Ok(all) => Ok((held, all)),
+        Ok(all) => Ok((held, all, free)),
         Err(refusal) => {
             drop(held);
+            drop(free);
+            Err(refusal)
+        }
+    }
+}
+
+/// The shards of an opening without rows, in the journal that was opened, the partitions that each keyspace begins with, the opener of
+/// their sessions, a first pass, which has seen nothing, and the seats of the slots on which none of these shards stands.
+pub(crate) fn opened_seats<W: World, J: Naming>(
+    alloc: Global,
+    schema: &VSchema,
+    ranges: &[KeyRange],
+    opened: Opened<ShardLaw<W>>,
+) -> Result<
+    (
+        Vec<Arc<Shard<W, J>, Global>>,
+        Vec<Serving<Shard<W, J>>>,
+        Opener<ShardLaw<W>, J>,
+        Pass<ShardLaw<W>, J>,
+        Vec<ShardSeat<ShardLaw<W>, J>>,
+    ),
+    Refusal,
+>
+    requires name { opened ≡ J.table }
+    requires opening { W.opening ≡ opening_of schema.now ranges.now }
+    requires limits { W.limits ≡ most_limits }
+    requires schema { IsTrue (is_vschema schema.now) }
+    requires ranges { FitRanges schema.now ranges.now }
+    ensures opens { IfOk result (λ r. IsOpening W.opening) }
+    ensures held { IfOk result (λ r. map (λ h. h.value) r.0.items ≡ map seat_of (opening_shards W.opening)) }
+    ensures each { IfOk result (λ r. r.1.items ≡ range_with_len 0 (length schema.now.keyspaces)) }
+    ensures opener { IfOk result (λ r. r.2 ≡ 0) }
+    ensures pass { IfOk result (λ r. r.3 ≡ new_pass [] None) }
+    ensures free { IfOk result (λ r. r.4.items ≡ drop (length (opening_shards W.opening)) (fresh_seats 64)) }
+    ensures err { IfErr result (λ e. e ≡ Refusal.OutOfMemory) }
+{
+    let shards = opening_shards(alloc, schema, ranges)?;
+    let (seats, opener, pass) = opened.named::<J>(alloc)?;
+    let tables = schema.tables.as_slice();
+    let keyspaces = schema.keyspaces.len();
+    let made = held_and_served(alloc, tables, keyspaces, shards.as_slice(), seats);
+    drop(shards);
+    match made {
+        Ok((held, all, free)) => Ok((held, all, opener, pass, free)),
+        Err(refusal) => {
+            drop(opener);
+            drop(pass);
             Err(refusal)
         }
     }
@@ -206,20 +296,50 @@ pub(crate) fn opened_shards<W: World, J: Naming>(
     ensures pass { IfOk result (λ r. r.3 ≡ new_pass [] None) }
     ensures err { IfErr result (λ e. e ≡ Refusal.OutOfMemory) }
 {
-    let shards = opening_shards(alloc, schema, ranges)?;
-    let (seats, opener, pass) = opened.named::<J>(alloc)?;
-    let tables = schema.tables.as_slice();
-    let keyspaces = schema.keyspaces.len();
-    let made = held_and_served(alloc, tables, keyspaces, shards.as_slice(), seats);
-    drop(shards);
-    match made {
-        Ok((held, all)) => Ok((held, all, opener, pass)),
-        Err(refusal) => {
-            drop(opener);
-            drop(pass);
-            Err(refusal)
-        }
-    }
+    let (held, keyspaces, opener, pass, free) = opened_seats::<W, J>(
+        alloc, schema, ranges, opened,
+    )?;
+    drop(free);
+    Ok((held, keyspaces, opener, pass))
+}
+
+/// The engine over a VSchema and the ranges of its sharded keyspace, whose tables are empty, in the journal that was opened; the opener
+/// of its sessions, a first pass, which has seen nothing, and the seats of the slots on which none of its shards stands. So many statements
+/// may wait in its buffer. It refuses only for want of memory.
+pub fn seated_router<W: World + Send + Sync, J: Naming + Send + Sync, G: Gate>(
+    alloc: Global,
+    schema: VSchema,
+    ranges: &[KeyRange],
+    opened: Opened<ShardLaw<W>>,
+    buffer_size: u64,
+    gate: G,
+) -> Result<
+    (
+        Engine<W, J, G>,
+        Opener<ShardLaw<W>, J>,
+        Pass<ShardLaw<W>, J>,
+        Vec<ShardSeat<ShardLaw<W>, J>>,
+    ),
+    Refusal,
+>
+    requires name { opened ≡ J.table }
+    requires opening { W.opening ≡ opening_of schema ranges.now }
+    requires limits { W.limits ≡ most_limits }
+    requires schema { IsTrue (is_vschema schema) }
+    requires ranges { FitRanges schema ranges.now }
+    ensures schema { IfOk result (λ r. r.0 ≡ schema) }
+    ensures opener { IfOk result (λ r. r.1 ≡ 0) }
+    ensures pass { IfOk result (λ r. r.2 ≡ new_pass [] None) }
+    ensures opens { IfOk result (λ r. IsOpening W.opening) }
+    ensures free { IfOk result (λ r. r.3.items ≡ drop (length (opening_shards W.opening)) (fresh_seats 64)) }
+    ensures err { IfErr result (λ e. e ≡ Refusal.OutOfMemory) }
+{
+    let (held, keyspaces, opener, pass, free) = opened_seats::<W, J>(
+        alloc, &schema, ranges, opened,
+    )?;
+    drop(held);
+    let engine = Engine::new(schema, keyspaces, Buffer::new(buffer_size), gate);
+    Ok((engine, opener, pass, free))
 }
 
 /// The engine over a VSchema and the ranges of its sharded keyspace, whose tables are empty, in the journal that was opened; the opener
@@ -250,8 +370,14 @@ pub fn empty_router<W: World + Send + Sync, J: Naming + Send + Sync, G: Gate>(
     ensures pass { IfOk result (λ r. r.2 ≡ new_pass [] None) }
     ensures err { IfErr result (λ e. e ≡ Refusal.OutOfMemory) }
 {
-    let (held, keyspaces, opener, pass) = opened_shards::<W, J>(alloc, &schema, ranges, opened)?;
-    drop(held);
-    let engine = Engine::new(schema, keyspaces, Buffer::new(buffer_size), gate);
+    let (engine, opener, pass, free) = seated_router::<W, J, G>(
+        alloc,
+        schema,
+        ranges,
+        opened,
+        buffer_size,
+        gate,
+    )?;
+    drop(free);
     Ok((engine, opener, pass))
 }

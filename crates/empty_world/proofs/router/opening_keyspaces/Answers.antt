@@ -1,7 +1,7 @@
 use Rattle.std.proofs.Common.{ℕ, ◌==◌, ◌<◌, ◌++◌, ◌∷◌, [], List, length, map, filter, subst, sym, ap, ◌∙◌, arith}
 use Rattle.std.specs.List.{range_with_len}
 use Rattle.shard_run.specs.declared.Shard.{Shard}
-use Rattle.serving.specs.Partitions.{Seat, IsPartition, AreOf}
+use Rattle.serving.specs.Partitions.{IsPartition}
 use Rattle.route_engine.specs.Seats.{seat_of}
 use Rattle.route_engine.proofs.Openings.{partition_at, of_keyspace}
 use Rattle.empty_world.proofs.Empty.{one_number_more}

@@ -7,7 +7,7 @@ use Rattle.shard_run.specs.Runs.{Opening, first_rows}
 use Rattle.shard.specs.Shards.{opening_shards}
 use Rattle.empty_opening.specs.Empty.{empty_shards}
 use Rattle.empty_world.proofs.Empty.{opening_is, first_rows_are, on_own_slots}
-use Rattle.empty_world.proofs.router.opened_shards.Goals as goal
+use Rattle.empty_world.proofs.router.opened_seats.Goals as goal
 
 pub named-requires-send-L-Entry : goal.named-requires-send-L-Entry
 named-requires-send-L-Entry g c κs within = search (entry_send, sendable)
