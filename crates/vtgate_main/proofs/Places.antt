@@ -255,7 +255,7 @@ is_opened s t name place e at_end is =
 further : (o : Opening) (seen then : Run) (s : KeptSession) → IsPrefix seen then → IsBehind o seen s → IsBehind o then s
 further o seen then s later h = (h.0, prefix_trans s.kept.pass.seen seen then h.1 later, h.2)
 
-all_further : (o : Opening) (seen then : Run) (xs : List KeptSession) → IsPrefix seen then → AllByRecursion (IsBehind o seen) xs → AllByRecursion (IsBehind o then) xs
+pub all_further : (o : Opening) (seen then : Run) (xs : List KeptSession) → IsPrefix seen then → AllByRecursion (IsBehind o seen) xs → AllByRecursion (IsBehind o then) xs
 all_further o seen then [] later h = tt
 all_further o seen then (x ∷ xs) later h = (further o seen then x later h.0, all_further o seen then xs later h.1)
 

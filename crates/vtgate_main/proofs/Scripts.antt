@@ -1,11 +1,17 @@
 -- The lines of a script, one after the other.
-use Rattle.std.proofs.Common.{◌≡◌, ℕ, ◌<◌, List, [], ◌∷◌, ◌++◌, length, refl, sym, subst, append_assoc, arith}
+use Rattle.std.proofs.Common.{◌≡◌, ℕ, ◌<◌, List, [], ◌∷◌, ◌++◌, length, Option, refl, sym, subst, ◌∙◌, append_assoc, arith}
 use Rattle.std.proofs.lemmas.List.{append-nil, length-append}
 use Rattle.std.specs.Io.KnownBytes.{Appends}
 use Rattle.std.proofs.KnownBytes.{Appends-nil, Appends-trans}
-use Rattle.keyrange.specs.declared.KeyRange.{KeyRange}
+use Rattle.journal.specs.Views.{PassView}
+use Rattle.shard_run.specs.declared.Entry.{Entry}
 use Rattle.shard_run.specs.Runs.{Opening}
-use Rattle.vtgate_lines.specs.Lines.{IsNextLine}
+use Rattle.shard.specs.Shards.{most_limits}
+use Rattle.reshard.specs.Workflows.{WorkflowView}
+use Rattle.administration.specs.declared.reply.AdminReply.{AdminReply}
+use Rattle.administration.specs.Told.{IsTold}
+use Rattle.administration.specs.Words.{reply_text}
+use Rattle.vtgate_lines.specs.Lines.{IsNextLine, IsAdminLine}
 use Rattle.vtgate_lines.specs.Lines as l
 use Rattle.vtgate_main.specs.Planned.{Known}
 use Rattle.vtgate_main.specs.Scripted as s
@@ -13,63 +19,78 @@ use Rattle.vtgate_main.specs.UnderWay.{KeptProgress, IsProgressOf, nothing_kept}
 use Rattle.vtgate_main.specs.Scripted.{Progress, Gives, AllGive, HasGiven, at_first}
 
 -- What was written so far, over the lines that are run: whatever the rest gives stands behind it.
-pub record IsUnderWay (o : Opening) (serving : List KeyRange) (first : Progress) (lines : List ℕ) (taken : Known) (now : Progress) (rest : List ℕ) (taken_now : Known) : Type 0 where
+pub record IsUnderWay (o : Opening) (first : Progress) (workflow : Option WorkflowView) (lines : List ℕ) (taken : Known) (now : Progress)
+    (then : Option WorkflowView) (rest : List ℕ) (taken_now : Known) : Type 0 where
   pub written : List ℕ
   pub appended : Appends taken taken_now written
-  pub goes_on : (out : List ℕ) (last : Progress) → AllGive o serving now rest out last → AllGive o serving first lines (written ++ out) last
+  pub goes_on : (out : List ℕ) (last : Progress) (left : Option WorkflowView) → AllGive o now then rest out last left
+      → AllGive o first workflow lines (written ++ out) last left
 
-pub begins : (o : Opening) (serving : List KeyRange) (first : Progress) (lines : List ℕ) (taken : Known) → IsUnderWay o serving first lines taken first lines taken
-begins o serving first lines taken = record { written = []; appended = Appends-nil taken; goes_on = λ out last r. r }
+pub begins : (o : Opening) (first : Progress) (workflow : Option WorkflowView) (lines : List ℕ) (taken : Known)
+    → IsUnderWay o first workflow lines taken first workflow lines taken
+begins o first workflow lines taken = record { written = []; appended = Appends-nil taken; goes_on = λ out last left r. r }
 
-pub one_more : (o : Opening) (serving : List KeyRange) (first now mid : Progress) (lines rest line more text : List ℕ) (taken taken_now taken_then : Known)
-    → IsUnderWay o serving first lines taken now rest taken_now → IsNextLine rest line more → Gives o serving now line text mid → Appends taken_now taken_then text
-    → IsUnderWay o serving first lines taken mid more taken_then
-one_more o serving first now mid lines rest line more text taken taken_now taken_then so next gives appends = record {
-  written = so.written ++ text;
-  appended = Appends-trans taken taken_now taken_then so.written text so.appended appends;
-  goes_on = λ out last r.
-      subst (λ (w : List ℕ). AllGive o serving first lines w last) (sym (append_assoc so.written text out))
-      (so.goes_on (text ++ out) last (s.next next gives r));
-}
+module _ (o : Opening) (first now mid : Progress) (workflow then amid : Option WorkflowView) (lines rest line more text : List ℕ)
+    (taken taken_now taken_then : Known) where
+  pub one_more : IsUnderWay o first workflow lines taken now then rest taken_now → IsNextLine rest line more → Gives o now then line text mid amid
+      → Appends taken_now taken_then text → IsUnderWay o first workflow lines taken mid amid more taken_then
+  one_more so next gives appends = record {
+    written = so.written ++ text;
+    appended = Appends-trans taken taken_now taken_then so.written text so.appended appends;
+    goes_on = λ out last left r.
+        subst (λ (w : List ℕ). AllGive o first workflow lines w last left) (sym (append_assoc so.written text out))
+        (so.goes_on (text ++ out) last left (s.next next gives r));
+  }
 
-pub ends : (o : Opening) (serving : List KeyRange) (first now : Progress) (lines rest : List ℕ) (taken taken_now : Known) → first ≡ at_first
-    → IsUnderWay o serving first lines taken now rest taken_now → rest ≡ [] → HasGiven o serving lines taken taken_now
-ends o serving first now lines rest taken taken_now begun so none =
-    let all : AllGive o serving first lines (so.written ++ []) now = so.goes_on [] now (subst (λ (r : List ℕ). AllGive o serving now r [] now) (sym none) s.none) in
+pub ends : (o : Opening) (workflow then : Option WorkflowView) (now : Progress) (lines rest : List ℕ) (taken taken_now : Known)
+    → IsUnderWay o at_first workflow lines taken now then rest taken_now → rest ≡ [] → HasGiven o workflow lines taken taken_now
+ends o workflow then now lines rest taken taken_now so none =
+    let all : AllGive o at_first workflow lines (so.written ++ []) now then =
+    so.goes_on [] now then (subst (λ (r : List ℕ). AllGive o now then r [] now then) (sym none) s.none) in
     record {
       out = so.written;
       last = now;
-      gives =
-          subst (λ (w : List ℕ). AllGive o serving at_first lines w now) (append-nil so.written)
-          (subst (λ (p : Progress). AllGive o serving p lines (so.written ++ []) now) begun all);
+      after = then;
+      gives = subst (λ (w : List ℕ). AllGive o at_first workflow lines w now then) (append-nil so.written) all;
       printed = so.appended;
     }
 
 -- ---- over what is kept
 
 -- The lines so far are run over what is kept now.
-abbrev pub AreRun : Opening → List KeyRange → List ℕ → Known → KeptProgress → List ℕ → Known → Type 0
-AreRun o serving lines taken kept rest taken_now = (now : Progress) × IsProgressOf o kept now × IsUnderWay o serving at_first lines taken now rest taken_now
+abbrev pub AreRun : Opening → Option WorkflowView → List ℕ → Known → KeptProgress → Option WorkflowView → List ℕ → Known → Type 0
+AreRun o workflow lines taken kept then rest taken_now =
+    (now : Progress) × IsProgressOf o kept now × IsUnderWay o at_first workflow lines taken now then rest taken_now
 
-pub none_run : (o : Opening) (serving : List KeyRange) (lines : List ℕ) (taken : Known) (kept : KeptProgress) → kept ≡ nothing_kept
-    → AreRun o serving lines taken kept lines taken
-none_run o serving lines taken kept none = (
+pub none_run : (o : Opening) (workflow : Option WorkflowView) (lines : List ℕ) (taken : Known) (kept : KeptProgress) → kept ≡ nothing_kept
+    → AreRun o workflow lines taken kept workflow lines taken
+none_run o workflow lines taken kept none = (
   at_first,
   subst (λ (k : KeptProgress). IsProgressOf o k at_first) (sym none) (record { sessions = tt; seen = refl }),
-  begins o serving at_first lines taken,
+  begins o at_first workflow lines taken,
 )
 
-pub one_run : (o : Opening) (serving : List KeyRange) (kept then : KeptProgress) (lines rest line more : List ℕ) (taken : Known) (text : List ℕ) (taken_now taken_then : Known)
-    → AreRun o serving lines taken kept rest taken_now → IsNextLine rest line more → Appends taken_now taken_then text
-    → ((p : Progress) → IsProgressOf o kept p → (q : Progress) × IsProgressOf o then q × Gives o serving p line text q)
-    → AreRun o serving lines taken then more taken_then
-one_run o serving kept then lines rest line more taken text taken_now taken_then so next appends gives =
+pub one_run : (o : Opening) (workflow was then : Option WorkflowView) (kept after : KeptProgress) (lines rest line more : List ℕ) (taken : Known) (text : List ℕ)
+    (taken_now taken_then : Known) → AreRun o workflow lines taken kept was rest taken_now → IsNextLine rest line more → Appends taken_now taken_then text
+    → ((p : Progress) → IsProgressOf o kept p → (q : Progress) × IsProgressOf o after q × Gives o p was line text q then)
+    → AreRun o workflow lines taken after then more taken_then
+one_run o workflow was then kept after lines rest line more taken text taken_now taken_then so next appends gives =
     let mid = gives so.0 so.1 in
-    (mid.0, mid.1, one_more o serving at_first so.0 mid.0 lines rest line more text taken taken_now taken_then so.2 next mid.2 appends)
+    (mid.0, mid.1, one_more o at_first so.0 mid.0 workflow was then lines rest line more text taken taken_now taken_then so.2 next mid.2 appends)
 
-pub all_run : (o : Opening) (serving : List KeyRange) (lines : List ℕ) (taken : Known) (kept : KeptProgress) (rest : List ℕ) (taken_now : Known)
-    → AreRun o serving lines taken kept rest taken_now → rest ≡ [] → HasGiven o serving lines taken taken_now
-all_run o serving lines taken kept rest taken_now so none = ends o serving at_first so.0 lines rest taken taken_now refl so.2 none
+pub all_run : (o : Opening) (workflow then : Option WorkflowView) (lines : List ℕ) (taken : Known) (kept : KeptProgress) (rest : List ℕ) (taken_now : Known)
+    → AreRun o workflow lines taken kept then rest taken_now → rest ≡ [] → HasGiven o workflow lines taken taken_now
+all_run o workflow then lines taken kept rest taken_now so none = ends o workflow then so.0 lines rest taken taken_now so.2 none
+
+-- what an admin line leaves of what is kept
+pub admin_run : (o : Opening) (kept after : KeptProgress) (was then : Option WorkflowView) (line words : List ℕ) (p q : PassView Entry) (reply : AdminReply)
+    → IsAdminLine line words → p.seen ≡ kept.seen → after ≡ record kept { seen = q.seen } → IsTold o most_limits words p q reply was then
+    → (from : Progress) → IsProgressOf o kept from → (t : Progress) × IsProgressOf o after t × Gives o from was line (reply_text reply) t then
+admin_run o kept after was then line words p q reply asks seen left told from held = (
+  record from { seen = q.seen },
+  subst (λ (k : KeptProgress). IsProgressOf o k (record from { seen = q.seen })) (sym left) (record { sessions = held.sessions; seen = refl }),
+  s.admin words p q asks (seen ∙ held.seen) told,
+)
 
 -- a line is behind it
 pub shorter : (input line rest : List ℕ) → IsNextLine input line rest → length rest < length input

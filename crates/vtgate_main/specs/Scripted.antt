@@ -1,5 +1,5 @@
 -- What `vtgate script` reads and prints: a VSchema, and lines that are run in order.
-use Rattle.std.specs.Prelude.{◌≡◌, ◌≢◌, ℕ, List, [], ◌∷◌, ◌++◌, length, Some, Ok, if◌then◌else◌}
+use Rattle.std.specs.Prelude.{◌≡◌, ◌≢◌, ℕ, List, [], ◌∷◌, ◌++◌, length, Option, Some, Ok, if◌then◌else◌}
 use Rattle.std.specs.List.{AllByRecursion, list_any}
 use Rattle.std.specs.Io.KnownBytes.{Appends, Consumes, IsAtEnd}
 use Rattle.vt_value.specs.declared.refusal.Refusal.{Refusal}
@@ -7,7 +7,8 @@ use Rattle.vt_value.specs.declared.refusal.Refusal.TheVariants.{OutOfMemory}
 use Rattle.keyrange.specs.declared.KeyRange.{KeyRange}
 use Rattle.vschema.specs.declared.schema.VSchema.{VSchema}
 use Rattle.vschema.specs.Faults.{schema_read}
-use Rattle.journal.specs.Views.{new_pass}
+use Rattle.journal.specs.Views.{PassView, new_pass}
+use Rattle.shard_run.specs.declared.Entry.{Entry}
 use Rattle.shard_run.specs.Runs.{Run, Opening}
 use Rattle.shard.specs.Shards.{most_limits}
 use Rattle.route_engine.specs.declared.reply.Answer.{Answer}
@@ -18,7 +19,12 @@ use Rattle.empty_opening.specs.Empty.{opening_of, FitRanges}
 use Rattle.session.specs.Outcomes.{PassAndTransaction, none_open, HasRows}
 use Rattle.vtgate_lines.specs.Lines.{IsStatementLine, IsAdminLine, IsNextLine}
 use Rattle.vtgate_lines.specs.Partitions.{IsPartition}
-use Rattle.serve_lines.specs.Admin.{admin_text, unknown_text}
+use Rattle.serve_lines.specs.Admin.{unknown_text}
+use Rattle.reshard.specs.Workflows.{WorkflowView}
+use Rattle.administration.specs.declared.reply.AdminReply.{AdminReply}
+use Rattle.administration.specs.Told.{IsTold}
+use Rattle.administration.specs.Words.{reply_text}
+use Rattle.administered_world.specs.Idle.{opening_workflow}
 use Rattle.vtgate_lines.specs.Printed.{rows_text, count_text, refusal_text}
 use Rattle.vtgate_main.specs.Planned.{Known}
 
@@ -69,29 +75,32 @@ pub data Runs (o : Opening) (s : Progress) (name sql : List ℕ) : List ℕ → 
 abbrev pub serving_ranges : VSchema → List KeyRange → List KeyRange
 serving_ranges schema ranges = if list_any (λ k. k.sharded) schema.keyspaces then ranges else []
 
--- what is printed for a line, where these ranges are served
-pub data Gives (o : Opening) (serving : List KeyRange) (s : Progress) (text : List ℕ) : List ℕ → Progress → Type 0 where
+-- What is printed for a line, over a workflow of the sharded keyspace, where there is one. An admin line is the controller's, whose pass has
+-- seen what all lines before it have.
+pub data Gives (o : Opening) (s : Progress) (workflow : Option WorkflowView) (text : List ℕ) : List ℕ → Progress → Option WorkflowView → Type 0 where
   statement : {printed : List ℕ} {now : Progress} (name sql : List ℕ) → IsStatementLine text name sql → Runs o s name sql printed now
-      → Gives o serving s text printed now
-  admin : (words : List ℕ) → IsAdminLine text words → Gives o serving s text (admin_text serving words) s
+      → Gives o s workflow text printed now workflow
+  admin : {reply : AdminReply} {after : Option WorkflowView} (words : List ℕ) (p q : PassView Entry) → IsAdminLine text words → p.seen ≡ s.seen
+      → IsTold o most_limits words p q reply workflow after → Gives o s workflow text (reply_text reply) (record s { seen = q.seen }) after
   unknown : ((name sql : List ℕ) → IsStatementLine text name sql → ⊥) → ((words : List ℕ) → IsAdminLine text words → ⊥)
-      → Gives o serving s text unknown_text s
+      → Gives o s workflow text unknown_text s workflow
 
 -- what is printed for all lines of an input, in order
-pub data AllGive (o : Opening) (serving : List KeyRange) : Progress → List ℕ → List ℕ → Progress → Type 0 where
-  none : {s : Progress} → AllGive o serving s [] [] s
-  next : {s mid now : Progress} {input text rest printed out : List ℕ} → IsNextLine input text rest → Gives o serving s text printed mid
-      → AllGive o serving mid rest out now → AllGive o serving s input (printed ++ out) now
+pub data AllGive (o : Opening) : Progress → Option WorkflowView → List ℕ → List ℕ → Progress → Option WorkflowView → Type 0 where
+  none : {s : Progress} {workflow : Option WorkflowView} → AllGive o s workflow [] [] s workflow
+  next : {s mid now : Progress} {workflow amid after : Option WorkflowView} {input text rest printed out : List ℕ} → IsNextLine input text rest
+      → Gives o s workflow text printed mid amid → AllGive o mid amid rest out now after → AllGive o s workflow input (printed ++ out) now after
 
--- exactly that was printed
-pub record HasGiven (o : Opening) (serving : List KeyRange) (input : List ℕ) (taken now : Known) : Type 0 where
+-- exactly that was printed, from this workflow on
+pub record HasGiven (o : Opening) (workflow : Option WorkflowView) (input : List ℕ) (taken now : Known) : Type 0 where
   pub out : List ℕ
   pub last : Progress
-  pub gives : AllGive o serving at_first input out last
+  pub after : Option WorkflowView
+  pub gives : AllGive o at_first workflow input out last after
   pub printed : Appends taken now out
 
 -- The input was read to its end. Its first line declares the VSchema, and the others are run over it and the ranges that the word of the
--- shards tells, from no rows on.
+-- shards tells, from no rows and no workflow on.
 pub record HasScripted (shards : List ℕ) (unread rest taken now : Known) : Type 0 where
   pub text : List ℕ
   pub consumed : Consumes unread rest text
@@ -104,4 +113,4 @@ pub record HasScripted (shards : List ℕ) (unread rest taken now : Known) : Typ
   pub ranges : List KeyRange
   pub partition : IsPartition shards ranges
   pub fit : FitRanges schema ranges
-  pub given : HasGiven (opening_of schema ranges) (serving_ranges schema ranges) lines taken now
+  pub given : HasGiven (opening_of schema ranges) (opening_workflow schema ranges) lines taken now

@@ -5,20 +5,20 @@ ghost use Rattle.vschema.specs.Faults.{schema_read};
 ghost use Rattle.vschema.specs.WellFormed.{is_vschema};
 ghost use Rattle.shard.specs.Shards.{most_limits};
 ghost use Rattle.empty_opening.specs.Empty.{opening_of, FitRanges};
+ghost use Rattle.administered_world.specs.Idle.{opening_workflow};
 ghost use Rattle.vtgate_lines.specs.Lines.{IsNextLine};
 ghost use Rattle.vtgate_lines.specs.Partitions.{IsPartition};
-ghost use Rattle.vtgate_main.specs.Scripted.{HasGiven, HasScripted, serving_ranges};
+ghost use Rattle.vtgate_main.specs.Scripted.{HasGiven, HasScripted};
 
 use crate::fault::{Fault, refuse};
 use crate::input::read_all;
 use crate::run::SUCCESS;
 use crate::sessions::{Sessions, run_lines};
-use crate::setup::{has_too_many, ranges_of, schema_of, serving_ranges};
-use empty_world::empty_router;
+use crate::setup::{has_too_many, ranges_of, schema_of};
+use administered_world::administered_router;
 use journal::{Naming, Opened};
 use keyrange::KeyRange;
 use route_engine::Open;
-use serve_lines::Administration;
 use session::{Sink, Source};
 use shard::{ShardLaw, World};
 use std::alloc::Global;
@@ -35,7 +35,6 @@ fn run_opened<W: World + Send + Sync, J: Naming + Send + Sync, R: Threads + Wait
     schema: VSchema,
     ranges: &[KeyRange],
     opened: Opened<ShardLaw<W>>,
-    administration: &Administration<'_>,
     lines: &[u8],
     output: &mut O,
 ) -> Result<(), Fault>
@@ -44,10 +43,9 @@ fn run_opened<W: World + Send + Sync, J: Naming + Send + Sync, R: Threads + Wait
     requires limits { W.limits ≡ most_limits }
     requires schema { IsTrue (is_vschema schema) }
     requires ranges { FitRanges schema ranges.now }
-    requires serving { administration.now ≡ serving_ranges schema ranges.now }
-    ensures { OnOk result (HasGiven (opening_of schema ranges.now) (serving_ranges schema ranges.now) lines.now (O.taken output.old) (O.taken output.new)) }
+    ensures { OnOk result (HasGiven (opening_of schema ranges.now) (opening_workflow schema ranges.now) lines.now (O.taken output.old) (O.taken output.new)) }
 {
-    let Ok((engine, opener, pass)) = empty_router::<W, J, Open>(
+    let Ok((engine, mut administrator, opener, pass)) = administered_router::<W, J, Open>(
         alloc, schema, ranges, opened, 0, Open,
     ) else {
         return Err(Fault::OutOfMemory);
@@ -57,7 +55,7 @@ fn run_opened<W: World + Send + Sync, J: Naming + Send + Sync, R: Threads + Wait
         rt,
         alloc,
         &engine,
-        administration,
+        &mut administrator,
         &mut sessions,
         lines,
         output,
@@ -70,7 +68,6 @@ fn run_in_world<W: World + Send + Sync, R: Threads + Wait + Sync, O: Sink>(
     alloc: Global,
     schema: VSchema,
     ranges: &[KeyRange],
-    administration: &Administration<'_>,
     lines: &[u8],
     output: &mut O,
 ) -> Result<(), Fault>
@@ -78,22 +75,12 @@ fn run_in_world<W: World + Send + Sync, R: Threads + Wait + Sync, O: Sink>(
     requires limits { W.limits ≡ most_limits }
     requires schema { IsTrue (is_vschema schema) }
     requires ranges { FitRanges schema ranges.now }
-    requires serving { administration.now ≡ serving_ranges schema ranges.now }
-    ensures { OnOk result (HasGiven (opening_of schema ranges.now) (serving_ranges schema ranges.now) lines.now (O.taken output.old) (O.taken output.new)) }
+    ensures { OnOk result (HasGiven (opening_of schema ranges.now) (opening_workflow schema ranges.now) lines.now (O.taken output.old) (O.taken output.new)) }
 {
     let Ok(opened) = Opened::<ShardLaw<W>>::new(alloc) else {
         return Err(Fault::OutOfMemory);
     };
-    run_opened::<W, Brand, R, O>(
-        rt,
-        alloc,
-        schema,
-        ranges,
-        opened,
-        administration,
-        lines,
-        output,
-    )
+    run_opened::<W, Brand, R, O>(rt, alloc, schema, ranges, opened, lines, output)
 }
 
 // The VSchema of the first line, over the ranges, and the other lines.
@@ -128,20 +115,9 @@ fn run_over<R: Threads + Wait + Sync, O: Sink>(
 ) -> Result<(), Fault>
     requires schema { IsTrue (is_vschema schema) }
     requires ranges { FitRanges schema ranges.now }
-    ensures { OnOk result (HasGiven (opening_of schema ranges.now) (serving_ranges schema ranges.now) lines.now (O.taken output.old) (O.taken output.new)) }
+    ensures { OnOk result (HasGiven (opening_of schema ranges.now) (opening_workflow schema ranges.now) lines.now (O.taken output.old) (O.taken output.new)) }
 {
-    match Administration::new(alloc, serving_ranges(&schema, ranges)) {
-        Err(_) => Err(Fault::OutOfMemory),
-        Ok(administration) => run_in_world::<Brand, R, O>(
-            rt,
-            alloc,
-            schema,
-            ranges,
-            &administration,
-            lines,
-            output,
-        ),
-    }
+    run_in_world::<Brand, R, O>(rt, alloc, schema, ranges, lines, output)
 }
 
 fn scripted<R: Threads + Wait + Sync, I: Source, O: Sink>(

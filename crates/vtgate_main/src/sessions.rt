@@ -6,13 +6,16 @@ ghost use Rattle.shard.specs.Shards.{most_limits};
 ghost use Rattle.vtgate_lines.specs.Printed.{rows_text, refusal_text};
 ghost use Rattle.serve_lines.specs.Admin.{unknown_text};
 ghost use Rattle.route_engine.specs.Pendings.{IsOf};
+ghost use Rattle.empty_opening.specs.Empty.{sharded_keyspace};
+ghost use Rattle.administration.specs.Told.{keyspace_of};
 ghost use Rattle.vtgate_main.specs.Scripted.{HasGiven};
 ghost use Rattle.vtgate_main.specs.UnderWay.{IsShown, IsTold, PrintsFrom, nothing_kept};
 
 use crate::fault::Fault;
+use administered_world::administer;
+use administration::Administrator;
 use journal::{Naming, Opener, Pass};
 use route_engine::{Answer, Engine, Open, Reply, Tx};
-use serve_lines::Administration;
 use session::{DeviceFailed, Sink};
 use shard::{ShardLaw, World};
 use std::alloc::Global;
@@ -146,6 +149,13 @@ impl<W: World + Send + Sync, J: Naming + Send + Sync> Sessions<W, J> {
     ghost use Rattle.std.specs.Io.KnownBytes.{Appends};
     ghost use Rattle.shard.specs.Shards.{most_limits};
     ghost use Rattle.journal.specs.Views.{new_pass};
+    ghost use Rattle.journal.specs.Views.{PassView};
+    ghost use Rattle.shard_run.specs.declared.Entry.{Entry};
+    ghost use Rattle.administration.specs.declared.reply.AdminReply.{AdminReply};
+    ghost use Rattle.empty_opening.specs.Empty.{sharded_keyspace};
+    ghost use Rattle.administration.specs.Told as told;
+    ghost use Rattle.administration.specs.Told.{keyspace_of};
+    ghost use Rattle.administration.specs.Words.{reply_text};
     ghost use Rattle.vtgate_main.specs.Scripted.{Progress, Runs, Gives};
     ghost use Rattle.vtgate_main.specs.UnderWay.{Kept, KeptSession, IsProgressOf, PrintsFrom, HasOpened, nothing_kept};
 
@@ -260,23 +270,46 @@ impl<W: World + Send + Sync, J: Naming + Send + Sync> Sessions<W, J> {
         }
     }
 
+    // Does what the words of an admin line ask for, behind all that was seen.
+    fn run_admin<R: Wait, O: Sink>(
+        &mut self,
+        rt: &R,
+        alloc: Global,
+        engine: &Engine<W, J, Open>,
+        administrator: &mut Administrator<W, J>,
+        words: &[u8],
+        output: &mut O,
+    ) -> Result<(), Fault>
+        requires limits { W.limits ≡ most_limits }
+        requires home { keyspace_of administrator.old ≡ sharded_keyspace engine.now }
+        ensures keyspace { keyspace_of administrator.new ≡ keyspace_of administrator.old }
+        ensures told { OnOk result ((reply : AdminReply) × (p : PassView Entry) × (q : PassView Entry) × Appends (O.taken output.old) (O.taken output.new) (reply_text reply)
+            × (p.seen ≡ self.old.seen) × (self.new ≡ record self.old { seen = q.seen })
+            × told.IsTold W.opening most_limits words.now p q reply administrator.old administrator.new) }
+    {
+        let reply = administer(rt, alloc, engine, administrator, &mut self.all, words);
+        write_all(reply.line(), output)
+    }
+
     // Runs a line.
     fn run_line<R: Threads + Wait + Sync, O: Sink>(
         &mut self,
         rt: &R,
         alloc: Global,
         engine: &Engine<W, J, Open>,
-        administration: &Administration<'_>,
+        administrator: &mut Administrator<W, J>,
         line: &[u8],
         output: &mut O,
     ) -> Result<(), Fault>
         requires limits { W.limits ≡ most_limits }
-        ensures { OnOk result ((text : List ℕ) × Appends (O.taken output.old) (O.taken output.new) text
-            × ((p : Progress) → IsProgressOf W.opening self.old p → (q : Progress) × IsProgressOf W.opening self.new q × Gives W.opening administration.now p line.now text q)) }
+        requires home { keyspace_of administrator.old ≡ sharded_keyspace engine.now }
+        ensures keyspace { keyspace_of administrator.new ≡ keyspace_of administrator.old }
+        ensures gives { OnOk result ((text : List ℕ) × Appends (O.taken output.old) (O.taken output.new) text
+            × ((p : Progress) → IsProgressOf W.opening self.old p → (q : Progress) × IsProgressOf W.opening self.new q × Gives W.opening p administrator.old line.now text q administrator.new)) }
     {
         match read_line(line) {
             Line::Statement(name, sql) => self.run_statement(rt, alloc, engine, name, sql, output),
-            Line::Admin(words) => write_all(administration.reply(words), output),
+            Line::Admin(words) => self.run_admin(rt, alloc, engine, administrator, words, output),
             Line::Unknown => write_all(b"unknown\n", output),
         }
     }
@@ -302,18 +335,19 @@ pub fn run_lines<
     rt: &R,
     alloc: Global,
     engine: &Engine<W, J, Open>,
-    administration: &Administration<'_>,
+    administrator: &mut Administrator<W, J>,
     sessions: &mut Sessions<W, J>,
     lines: &[u8],
     output: &mut O,
 ) -> Result<(), Fault>
     requires limits { W.limits ≡ most_limits }
     requires first { sessions.old ≡ nothing_kept }
-    ensures { OnOk result (HasGiven W.opening administration.now lines.now (O.taken output.old) (O.taken output.new)) }
+    requires home { keyspace_of administrator.old ≡ sharded_keyspace engine.now }
+    ensures { OnOk result (HasGiven W.opening administrator.old lines.now (O.taken output.old) (O.taken output.new)) }
 {
     let mut rest = lines;
     while let Some((line, more)) = next_line(rest) {
-        sessions.run_line(rt, alloc, engine, administration, line, output)?;
+        sessions.run_line(rt, alloc, engine, administrator, line, output)?;
         rest = more;
     }
     Ok(())

@@ -136,7 +136,7 @@ fn a_script_tells_its_status(rt: HostRuntime) -> Result<(), Fail> {
     let alloc = rt.alloc();
     let mut input = BOTH.to_vec(alloc)?;
     input.extend_from_slice(b"\n! status\n! status \n! step\n")?;
-    let told = b"serving -80 80- none\nunknown\nunknown\n";
+    let told = b"serving -80 80- none\nunknown\nN4\n";
     assert!(rt; leaves(&rt, alloc, &["script", "80-,-80"], &input, (0, told, b""))?);
     let mut input = UNSHARDED.to_vec(alloc)?;
     input.extend_from_slice(b"\n! status")?;

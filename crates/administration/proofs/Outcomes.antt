@@ -1,0 +1,48 @@
+-- What a refused call of a workflow did.
+use Rattle.std.proofs.Common.{◌≡◌, ◌⊎◌, List, length, inl, inr, sym, subst}
+use Rattle.keyrange.specs.declared.KeyRange.{KeyRange}
+use Rattle.journal.specs.Views.{PassView}
+use Rattle.shard_run.specs.declared.Entry.{Entry}
+use Rattle.shard_run.specs.Runs.{Opening}
+use Rattle.shard.specs.declared.limits.Limits.{Limits}
+use Rattle.reshard.specs.declared.workflow.Stage.TheVariants as stages
+use Rattle.reshard.specs.declared.fault.ReshardFault.{ReshardFault}
+use Rattle.reshard.specs.declared.fault.ReshardFault.TheVariants as faults
+use Rattle.reshard.specs.Workflows.{WorkflowView}
+use Rattle.reshard.specs.Begun.{IsCreateRefusal, IsMoveRefusal}
+use Rattle.reshard.specs.Cutover.{MaySwitch, MayCancel, HasStopped, HasStoppedLater}
+use Rattle.administration.specs.declared.reply.AdminReply.TheVariants.{Refused}
+use Rattle.administration.specs.Told.{HasCreated, HasMoved, HasCutOver, HasAdvanced, HasResumed, HasCancelled, HasCompleted}
+use Rattle.administration.specs.Told as told
+
+module _ (o : Opening) (most : Limits) (w now : WorkflowView) (p q : PassView Entry) (e : ReshardFault) where
+  pub move_refused : ((e ≡ faults.WrongState) × (w.stage ≡ stages.Following → ⊥)) ⊎ ((w.stage ≡ stages.Following) × IsMoveRefusal most w.targets q e)
+      → now ≡ w → HasMoved o most w now p q (Refused e)
+  move_refused (inl h) same = subst (λ x. HasMoved o most w now p q (Refused x)) (sym h.0) (told.wrong_state h.1 same)
+  move_refused (inr h) same = told.refused h.0 h.1 same
+
+  pub switch_refused : ((e ≡ faults.WrongState) × (w.stage ≡ stages.Following → ⊥) × (now ≡ w) × (q ≡ p))
+      ⊎ ((w.stage ≡ stages.Following) × HasStoppedLater o most w now p q e) → HasCutOver o most w now p q (Refused e)
+  switch_refused (inl h) = subst (λ x. HasCutOver o most w now p q (Refused x)) (sym h.0) (told.wrong_state h.1 h.2 h.3)
+  switch_refused (inr h) = told.refused h.0 h.1
+
+  pub advance_refused : ((e ≡ faults.WrongState) × (MaySwitch w → ⊥) × (now ≡ w) × (q ≡ p)) ⊎ (MaySwitch w × HasStopped o most w now p q e)
+      → HasAdvanced o most w now p q (Refused e)
+  advance_refused (inl h) = subst (λ x. HasAdvanced o most w now p q (Refused x)) (sym h.0) (told.wrong_state h.1 h.2 h.3)
+  advance_refused (inr h) = told.refused h.0 h.1
+
+module _ (o : Opening) (w now : WorkflowView) (p q : PassView Entry) (e : ReshardFault) where
+  pub create_refused : (from into : List KeyRange)
+      → ((e ≡ faults.WrongState) × (w.stage ≡ stages.None → ⊥)) ⊎ ((w.stage ≡ stages.None) × IsCreateRefusal o p q w.keyspace (length w.free) from into e)
+      → now ≡ w → HasCreated o from into w now p q (Refused e)
+  create_refused from into (inl h) same = subst (λ x. HasCreated o from into w now p q (Refused x)) (sym h.0) (told.wrong_state h.1 same)
+  create_refused from into (inr h) same = told.refused h.0 h.1 same
+
+  pub resume_refused : e ≡ faults.WrongState → (w.stage ≡ stages.Switching → ⊥) → now ≡ w → q ≡ p → HasResumed o w now p q (Refused e)
+  resume_refused is not same still = subst (λ x. HasResumed o w now p q (Refused x)) (sym is) (told.wrong_state not same still)
+
+  pub cancel_refused : e ≡ faults.WrongState → (MayCancel w → ⊥) → now ≡ w → q ≡ p → HasCancelled o w now p q (Refused e)
+  cancel_refused is not same still = subst (λ x. HasCancelled o w now p q (Refused x)) (sym is) (told.wrong_state not same still)
+
+  pub complete_refused : e ≡ faults.WrongState → (w.stage ≡ stages.Switched → ⊥) → now ≡ w → q ≡ p → HasCompleted o w now p q (Refused e)
+  complete_refused is not same still = subst (λ x. HasCompleted o w now p q (Refused x)) (sym is) (told.wrong_state not same still)

@@ -1,0 +1,90 @@
+//! The status: which ranges are served, and how far a workflow is.
+ghost use Rattle.std.specs.Prelude.{◌≡◌, ◌++◌, IfOk, IfErr, OnOk, IsPermutation, IsSorted, codes, map};
+ghost use Rattle.keyrange.specs.Names.{range_text};
+ghost use Rattle.vtgate_lines.specs.Partitions.{range_cmp};
+ghost use Rattle.administration.specs.Words.{status_text};
+ghost use Rattle.administration.specs.Told.{IsAnsweredWithout, IsStatus, TellsStatus};
+
+use crate::reply::AdminReply;
+use crate::words::stage_word;
+use keyrange::KeyRange;
+use reshard::{ReshardFault, Stage};
+use serving::{Part, Seated, Serving};
+use std::alloc::Global;
+use vt_value::{Items, Refusal};
+
+fn put_range(alloc: Global, out: &mut Vec<u8>, range: &KeyRange) -> Result<(), Refusal>
+    ensures ok { OnOk result (out.new.items ≡ out.old.items ++ codes " " ++ range_text range.now) }
+    ensures err { IfErr result (λ e. e ≡ Refusal.OutOfMemory) }
+{
+    let name = format!(in alloc; " {range}")?;
+    out.extend_from_slice(name.as_bytes())?;
+    Ok(())
+}
+
+// The line that tells the ranges and the stage.
+fn status_line(alloc: Global, serving: &[KeyRange], stage: Stage) -> Result<Vec<u8>, Refusal>
+    ensures ok { IfOk result (λ line. line.items ≡ status_text serving.now stage) }
+    ensures err { IfErr result (λ e. e ≡ Refusal.OutOfMemory) }
+{
+    let mut out = Vec::from_slice(alloc, b"serving")?;
+    for range in serving {
+        put_range(alloc, &mut out, range)?;
+    }
+    out.extend_from_slice(b" ")?;
+    out.extend_from_slice(stage_word(stage).as_bytes())?;
+    out.extend_from_slice(b"\n")?;
+    Ok(out)
+}
+
+// The ranges of the parts, in the order of their begins.
+fn ranges_of<S: Seated + Drop>(alloc: Global, parts: &[Part<S>]) -> Result<Vec<KeyRange>, Refusal>
+    ensures same { IfOk result (λ r. IsPermutation (map (λ seat. seat.1) parts.now) r.items) }
+    ensures sorted { IfOk result (λ r. IsSorted range_cmp r.items) }
+    ensures err { IfErr result (λ e. e ≡ Refusal.OutOfMemory) }
+{
+    let mut ranges = Vec::new(alloc);
+    for part in parts {
+        ranges.push(part.range())?;
+    }
+    ranges.sort_unstable_by(|a, b| a.begin.as_slice().cmp(b.begin.as_slice()));
+    Ok(ranges)
+}
+
+// The line of a keyspace's status.
+fn keyspace_line<S: Seated + Drop>(
+    alloc: Global,
+    serving: &Serving<S>,
+    stage: Stage,
+) -> Result<Items<u8>, Refusal>
+    ensures ok { IfOk result (IsStatus serving.now stage) }
+    ensures err { IfErr result (λ e. e ≡ Refusal.OutOfMemory) }
+{
+    let ranges = ranges_of(alloc, serving.current().parts())?;
+    let line = status_line(alloc, ranges.as_slice(), stage)?;
+    Ok(Items::from_vec(line))
+}
+
+/// Tells the status of a keyspace. Takes memory for its line.
+pub(crate) fn status<S: Seated + Drop>(
+    alloc: Global,
+    serving: &Serving<S>,
+    stage: Stage,
+) -> AdminReply
+    ensures { TellsStatus serving.now stage result }
+{
+    match keyspace_line(alloc, serving, stage) {
+        Ok(text) => AdminReply::Status(text),
+        Err(refusal) => AdminReply::Refused(ReshardFault::Refused(refusal)),
+    }
+}
+
+/// Tells the status where there is no sharded keyspace.
+pub(crate) fn empty_status(alloc: Global) -> AdminReply
+    ensures { IsAnsweredWithout (codes "status") result }
+{
+    match status_line(alloc, &[], Stage::None) {
+        Ok(line) => AdminReply::Status(Items::from_vec(line)),
+        Err(refusal) => AdminReply::Refused(ReshardFault::Refused(refusal)),
+    }
+}

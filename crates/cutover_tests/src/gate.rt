@@ -1,0 +1,81 @@
+//! The signals by which two threads tell one another how far they are, and a gate that holds a read by them.
+use route_engine::Gate;
+use std::alloc::Global;
+use std::sync::Arc;
+use std::sync::atomic::{AtomicU64, Ordering};
+use std::test::Fail;
+use std::thread;
+
+/// How often a thread looks whether a signal was given.
+const TURNS: u32 = 3_000_000;
+
+/// What the threads and the gate tell one another.
+#[derive(Drop)]
+pub(crate) struct Signals {
+    /// The second thread may begin its statement.
+    pub(crate) begun: AtomicU64,
+    /// It was answered.
+    pub(crate) answered: AtomicU64,
+    /// The gate is to hold a read.
+    pub(crate) armed: AtomicU64,
+    /// It holds one.
+    pub(crate) held: AtomicU64,
+    /// That may go on.
+    pub(crate) let_go: AtomicU64,
+    /// It went on without leave.
+    pub(crate) in_vain: AtomicU64,
+}
+
+pub(crate) fn is_given(signal: &AtomicU64) -> bool {
+    signal.load(Ordering::SeqCst) > 0
+}
+
+pub(crate) fn give(signal: &AtomicU64) {
+    signal.store(1, Ordering::SeqCst);
+}
+
+/// Waits for a signal, for so many turns at most.
+pub(crate) fn wait_for(signal: &AtomicU64) -> bool {
+    for _ in 0..TURNS {
+        if is_given(signal) {
+            return true;
+        }
+        thread::yield_now();
+    }
+    false
+}
+
+/// Signals of which none is given.
+pub(crate) fn no_signals(alloc: Global) -> Result<Arc<Signals, Global>, Fail> {
+    Ok(Arc::new(
+        alloc,
+        Signals {
+            begun: AtomicU64::new(0),
+            answered: AtomicU64::new(0),
+            armed: AtomicU64::new(0),
+            held: AtomicU64::new(0),
+            let_go: AtomicU64::new(0),
+            in_vain: AtomicU64::new(0),
+        },
+    )?)
+}
+
+/// Holds one read of the first shard, once it is armed, until that may go on.
+#[derive(Drop)]
+pub(crate) struct HoldsFirst {
+    pub(crate) signals: Arc<Signals, Global>,
+}
+
+impl Gate for HoldsFirst {
+    fn before(&self, place: usize) {
+        let signals = &self.signals;
+        if place == 0 && is_given(&signals.armed) && !is_given(&signals.held) {
+            give(&signals.held);
+            if !wait_for(&signals.let_go) {
+                give(&signals.in_vain);
+            }
+        }
+    }
+
+    fn after(&self, _place: usize) {}
+}

@@ -1,0 +1,207 @@
+//! A cutover that is stopped after each of its steps in turn and then resumed, while two sessions write and read.
+use crate::acts::Act;
+use crate::common::{
+    ALL, BEGUN, CANCELLED, COMPLETED, COPIED, EIGHT, EVEN, FOLLOWING, ODD, RESUMED, SPLIT,
+    SWITCHED, UNSPLIT,
+};
+use crate::scenes::{SHOP, play_alone};
+use std::alloc::{AllocError, Global};
+use std::sync::Wait;
+use std::test::Fail;
+use std::thread::Threads;
+use vt_value::Refusal;
+
+const FULL: Result<u64, Refusal> = Err(Refusal::BufferFull);
+
+const TWICE: Result<u64, Refusal> = Err(Refusal::DuplicateKey);
+
+/// Six rows, of which the first target has copied its own; then a seventh, which it is to follow.
+const BEGINNING: [Act<'static>; 5] = [EVEN, ODD, BEGUN, COPIED, Act::One(EIGHT, Ok(1))];
+
+// After each step of the cutover an INSERT into the shard that is split, one into the other shard, and a query of all rows. Nobody may wait.
+const STEPS: [[Act<'static>; 4]; 8] = [
+    [
+        Act::Line(b"advance", b"ok freeze\n"),
+        Act::One(b"INSERT INTO t (id, c) VALUES (10, 1)", FULL),
+        Act::Two(b"INSERT INTO t (id, c) VALUES (11, 1)", Ok(1)),
+        Act::Two(ALL, Ok(8)),
+    ],
+    [
+        Act::Line(b"advance", b"ok follow\n"),
+        Act::One(b"INSERT INTO t (id, c) VALUES (12, 1)", FULL),
+        Act::Two(b"INSERT INTO t (id, c) VALUES (13, 1)", Ok(1)),
+        Act::Two(ALL, Ok(9)),
+    ],
+    [
+        Act::Line(b"advance", b"ok copy\n"),
+        Act::One(b"INSERT INTO t (id, c) VALUES (14, 1)", FULL),
+        Act::Two(b"INSERT INTO t (id, c) VALUES (15, 1)", Ok(1)),
+        Act::Two(ALL, Ok(10)),
+    ],
+    [
+        Act::Line(b"advance", b"ok retire\n"),
+        Act::One(b"INSERT INTO t (id, c) VALUES (16, 1)", FULL),
+        Act::Two(b"INSERT INTO t (id, c) VALUES (17, 1)", Ok(1)),
+        Act::Two(ALL, FULL),
+    ],
+    [
+        Act::Line(b"advance", b"ok serve\n"),
+        Act::One(b"INSERT INTO t (id, c) VALUES (18, 1)", FULL),
+        Act::Two(b"INSERT INTO t (id, c) VALUES (19, 1)", Ok(1)),
+        Act::Two(ALL, FULL),
+    ],
+    [
+        Act::Line(b"advance", b"ok serve\n"),
+        Act::One(b"INSERT INTO t (id, c) VALUES (20, 1)", FULL),
+        Act::Two(b"INSERT INTO t (id, c) VALUES (21, 1)", Ok(1)),
+        Act::Two(ALL, FULL),
+    ],
+    [
+        Act::Line(b"advance", b"ok publish\n"),
+        Act::One(b"INSERT INTO t (id, c) VALUES (22, 1)", Ok(1)),
+        Act::Two(b"INSERT INTO t (id, c) VALUES (23, 1)", Ok(1)),
+        Act::Two(ALL, Ok(15)),
+    ],
+    [
+        Act::Line(b"advance", b"ok release\n"),
+        Act::One(b"INSERT INTO t (id, c) VALUES (24, 1)", Ok(1)),
+        Act::Two(b"INSERT INTO t (id, c) VALUES (25, 1)", Ok(1)),
+        Act::Two(ALL, Ok(17)),
+    ],
+];
+
+/// So many steps come before the one that retires the source.
+const UNTIL_RETIRED: usize = 3;
+
+// Once the cutover was resumed, the same INSERTs: those that were accepted are there, the others are not.
+const AGAIN: [[Act<'static>; 2]; 8] = [
+    [
+        Act::Two(b"INSERT INTO t (id, c) VALUES (10, 1)", Ok(1)),
+        Act::One(b"INSERT INTO t (id, c) VALUES (11, 1)", TWICE),
+    ],
+    [
+        Act::Two(b"INSERT INTO t (id, c) VALUES (12, 1)", Ok(1)),
+        Act::One(b"INSERT INTO t (id, c) VALUES (13, 1)", TWICE),
+    ],
+    [
+        Act::Two(b"INSERT INTO t (id, c) VALUES (14, 1)", Ok(1)),
+        Act::One(b"INSERT INTO t (id, c) VALUES (15, 1)", TWICE),
+    ],
+    [
+        Act::Two(b"INSERT INTO t (id, c) VALUES (16, 1)", Ok(1)),
+        Act::One(b"INSERT INTO t (id, c) VALUES (17, 1)", TWICE),
+    ],
+    [
+        Act::Two(b"INSERT INTO t (id, c) VALUES (18, 1)", Ok(1)),
+        Act::One(b"INSERT INTO t (id, c) VALUES (19, 1)", TWICE),
+    ],
+    [
+        Act::Two(b"INSERT INTO t (id, c) VALUES (20, 1)", Ok(1)),
+        Act::One(b"INSERT INTO t (id, c) VALUES (21, 1)", TWICE),
+    ],
+    [
+        Act::Two(b"INSERT INTO t (id, c) VALUES (22, 1)", TWICE),
+        Act::One(b"INSERT INTO t (id, c) VALUES (23, 1)", TWICE),
+    ],
+    [
+        Act::Two(b"INSERT INTO t (id, c) VALUES (24, 1)", TWICE),
+        Act::One(b"INSERT INTO t (id, c) VALUES (25, 1)", TWICE),
+    ],
+];
+
+/// How many rows were accepted where so many steps were taken, and how many there are once those that were refused have come too.
+const ROWS: [(u64, u64); 9] = [
+    (7, 7),
+    (8, 9),
+    (9, 11),
+    (10, 13),
+    (11, 15),
+    (12, 17),
+    (13, 19),
+    (15, 21),
+    (17, 23),
+];
+
+// The cutover is undone before the source is retired, and finished from then on. Before its first step and after its last there is nothing
+// to resume.
+fn ending(steps: usize) -> [Act<'static>; 2] {
+    let resumed = match steps {
+        0 | 8 => Act::Line(b"resume", b"N4\n"),
+        _ => RESUMED,
+    };
+    if steps <= UNTIL_RETIRED {
+        [resumed, FOLLOWING]
+    } else {
+        [resumed, SWITCHED]
+    }
+}
+
+fn ended(steps: usize) -> [Act<'static>; 2] {
+    if steps <= UNTIL_RETIRED {
+        [CANCELLED, UNSPLIT]
+    } else {
+        [COMPLETED, SPLIT]
+    }
+}
+
+// Puts the first so many steps behind the beginning, and what is done with them then.
+fn put_stopped(
+    acts: &mut Vec<Act<'static>>,
+    steps: usize,
+    accepted: u64,
+) -> Result<(), AllocError> {
+    for step in STEPS.iter().take(steps) {
+        acts.extend_from_slice(step)?;
+    }
+    acts.extend_from_slice(&ending(steps))?;
+    acts.push(Act::Two(ALL, Ok(accepted)))?;
+    Ok(())
+}
+
+// Puts the INSERTs again, and the end of the split.
+fn put_again(acts: &mut Vec<Act<'static>>, steps: usize, rows: u64) -> Result<(), AllocError> {
+    for again in AGAIN.iter().take(steps) {
+        acts.extend_from_slice(again)?;
+    }
+    acts.extend_from_slice(&ended(steps))?;
+    acts.push(Act::One(ALL, Ok(rows)))?;
+    Ok(())
+}
+
+// What is done where the cutover is stopped after so many steps.
+fn stopped_after(
+    alloc: Global,
+    steps: usize,
+    accepted: u64,
+    rows: u64,
+) -> Result<Vec<Act<'static>>, AllocError> {
+    let mut acts: Vec<Act<'static>> = Vec::from_slice(alloc, &BEGINNING)?;
+    put_stopped(&mut acts, steps, accepted)?;
+    put_again(&mut acts, steps, rows)?;
+    Ok(acts)
+}
+
+// Whether all goes as it is to where the cutover is stopped after so many steps.
+fn is_kept<R: Threads + Wait + Sync>(
+    rt: &R,
+    alloc: Global,
+    steps: usize,
+    accepted: u64,
+    rows: u64,
+) -> Result<bool, Fail> {
+    let acts = stopped_after(alloc, steps, accepted, rows)?;
+    play_alone(rt, alloc, SHOP, &acts)
+}
+
+#[test]
+fn a_cutover_that_is_stopped_and_resumed_keeps_each_accepted_row_once(
+    rt: HostRuntime,
+) -> Result<(), Fail> {
+    for (steps, (accepted, rows)) in ROWS.iter().enumerate() {
+        assert!(rt;
+            is_kept(&rt, rt.alloc(), steps, *accepted, *rows)?,
+            "after {steps} steps"
+        );
+    }
+    Ok(())
+}

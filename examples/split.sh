@@ -1,0 +1,13 @@
+#!/usr/bin/env bash
+# Splits a shard of examples/shop.json while two sessions write, and merges its halves again (examples/split.lines, docs/RESHARD.md).
+# Usage: examples/split.sh [PROGRAM]
+set -euo pipefail
+top=$(cd "$(dirname "$0")/.." && pwd)
+input=$(mktemp)
+trap 'rm -f "$input"' EXIT
+{ tr -d '\n' < "$top/examples/shop.json"; echo; cat "$top/examples/split.lines"; } > "$input"
+if [ $# -gt 0 ]; then
+    "$1" script -80,80- < "$input"
+else
+    cd "$top/crates/vtgate_main" && rt run -- script -80,80- < "$input"
+fi
