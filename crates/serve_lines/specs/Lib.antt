@@ -1,3 +1,2 @@
 pub mod Salts
 pub mod Asking
-pub mod Admin

@@ -16,8 +16,8 @@ use Rattle.route_engine.specs.Pendings.{OpenView, IsOf}
 use Rattle.session.specs.Outcomes.{PassAndTransaction, none_open}
 use Rattle.vtgate_main.specs.Scripted as s
 use Rattle.vtgate_main.specs.Scripted.{Session, Progress, Prints, Runs, met}
-use Rattle.vtgate_main.specs.UnderWay as u
-use Rattle.vtgate_main.specs.UnderWay.{Kept, KeptSession, KeptProgress, IsKeptOf, AreKept, IsProgressOf, PrintsFrom, HasOpened, IsBehind}
+use Rattle.vtgate_main.specs.inner.UnderWay as u
+use Rattle.vtgate_main.specs.inner.UnderWay.{Kept, KeptSession, KeptProgress, IsKeptOf, AreKept, IsProgressOf, PrintsFrom, HasOpened, IsBehind}
 
 module _ {X : Type 0} where
   parted : (xs : List X) (k : ℕ) (d : X) → k < length xs → xs ≡ take k xs ++ get_or xs k d ∷ drop (suc k) xs

@@ -16,7 +16,7 @@ use Rattle.session.specs.Outcomes.{PassAndTransaction}
 use Rattle.route_engine.proofs.Anywhere.{stands_met}
 use Rattle.vtgate_main.specs.Scripted as s
 use Rattle.vtgate_main.specs.Scripted.{Prints, met}
-use Rattle.vtgate_main.specs.UnderWay.{PrintsFrom, IsTold}
+use Rattle.vtgate_main.specs.inner.UnderWay.{PrintsFrom, IsTold}
 use Rattle.vtgate_main.proofs.Passes.{Answered, Refused, goes_on, sees_all}
 
 pub on_ok : {X E P Q : Type 0} (r : Result X E) → OnOk r P → (P → Q) → OnOk r Q

@@ -15,7 +15,7 @@ use Rattle.vtgate_lines.specs.Lines.{IsNextLine, IsAdminLine}
 use Rattle.vtgate_lines.specs.Lines as l
 use Rattle.vtgate_main.specs.Planned.{Known}
 use Rattle.vtgate_main.specs.Scripted as s
-use Rattle.vtgate_main.specs.UnderWay.{KeptProgress, IsProgressOf, nothing_kept}
+use Rattle.vtgate_main.specs.inner.UnderWay.{KeptProgress, IsProgressOf, nothing_kept}
 use Rattle.vtgate_main.specs.Scripted.{Progress, Gives, AllGive, HasGiven, at_first}
 
 -- What was written so far, over the lines that are run: whatever the rest gives stands behind it.

@@ -1,5 +1,5 @@
+pub mod inner
 pub mod Words
 pub mod Planned
 pub mod Scripted
-pub mod UnderWay
 pub mod Served

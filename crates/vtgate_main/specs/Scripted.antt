@@ -1,6 +1,6 @@
 -- What `vtgate script` reads and prints: a VSchema, and lines that are run in order.
-use Rattle.std.specs.Prelude.{◌≡◌, ◌≢◌, ℕ, List, [], ◌∷◌, ◌++◌, length, Option, Some, Ok, if◌then◌else◌}
-use Rattle.std.specs.List.{AllByRecursion, list_any}
+use Rattle.std.specs.Prelude.{◌≡◌, ◌≢◌, ℕ, List, [], ◌∷◌, ◌++◌, codes, length, Option, Some, Ok}
+use Rattle.std.specs.List.{AllByRecursion}
 use Rattle.std.specs.Io.KnownBytes.{Appends, Consumes, IsAtEnd}
 use Rattle.vt_value.specs.declared.refusal.Refusal.{Refusal}
 use Rattle.vt_value.specs.declared.refusal.Refusal.TheVariants.{OutOfMemory}
@@ -19,7 +19,6 @@ use Rattle.empty_opening.specs.Empty.{opening_of, FitRanges}
 use Rattle.session.specs.Outcomes.{PassAndTransaction, none_open, HasRows}
 use Rattle.vtgate_lines.specs.Lines.{IsStatementLine, IsAdminLine, IsNextLine}
 use Rattle.vtgate_lines.specs.Partitions.{IsPartition}
-use Rattle.serve_lines.specs.Admin.{unknown_text}
 use Rattle.reshard.specs.Workflows.{WorkflowView}
 use Rattle.administration.specs.declared.reply.AdminReply.{AdminReply}
 use Rattle.administration.specs.Told.{IsTold}
@@ -71,9 +70,9 @@ pub data Runs (o : Opening) (s : Progress) (name sql : List ℕ) : List ℕ → 
       → Prints o (met s.seen state) sql text now
       → Runs o s name sql text (record { sessions = before ++ record { name = name; state = now } ∷ after; seen = now.pass.seen })
 
--- the ranges of the shards that serve the sharded keyspace: without one, none
-abbrev pub serving_ranges : VSchema → List KeyRange → List KeyRange
-serving_ranges schema ranges = if list_any (λ k. k.sharded) schema.keyspaces then ranges else []
+-- what answers a line that is none
+abbrev pub unknown_text : List ℕ
+unknown_text = codes "unknown\n"
 
 -- What is printed for a line, over a workflow of the sharded keyspace, where there is one. An admin line is the controller's, whose pass has
 -- seen what all lines before it have.

@@ -1,10 +1,12 @@
 //! `vtgate script`: lines that are run in order, on one thread.
-ghost use Rattle.std.specs.Prelude.{◌≡◌, ℕ, List, IsTrue, IfOk, OnOk, Ok};
+ghost use Rattle.std.specs.Prelude.{◌≡◌, ℕ, List, [], None, IsTrue, IfOk, OnOk, Ok};
 ghost use Rattle.keyrange.specs.declared.KeyRange.{KeyRange};
 ghost use Rattle.vschema.specs.Faults.{schema_read};
 ghost use Rattle.vschema.specs.WellFormed.{is_vschema};
 ghost use Rattle.shard.specs.Shards.{most_limits};
-ghost use Rattle.empty_opening.specs.Empty.{opening_of, FitRanges};
+ghost use Rattle.journal.specs.Views.{new_pass};
+ghost use Rattle.empty_opening.specs.Empty.{opening_of, sharded_keyspace, FitRanges};
+ghost use Rattle.administration.specs.Told.{keyspace_of};
 ghost use Rattle.administered_world.specs.Idle.{opening_workflow};
 ghost use Rattle.vtgate_lines.specs.Lines.{IsNextLine};
 ghost use Rattle.vtgate_lines.specs.Partitions.{IsPartition};
@@ -16,9 +18,10 @@ use crate::run::SUCCESS;
 use crate::sessions::{Sessions, run_lines};
 use crate::setup::{has_too_many, ranges_of, schema_of};
 use administered_world::administered_router;
-use journal::{Naming, Opened};
+use administration::Administrator;
+use journal::{Naming, Opened, Opener, Pass};
 use keyrange::KeyRange;
-use route_engine::Open;
+use route_engine::{Engine, Open};
 use session::{Sink, Source};
 use shard::{ShardLaw, World};
 use std::alloc::Global;
@@ -27,6 +30,35 @@ use std::sync::Wait;
 use std::thread::Threads;
 use vschema::{SchemaFault, VSchema};
 use vtgate_lines::next_line;
+
+// The lines, run by the engine and the administrator of its sharded keyspace.
+fn run_router<W: World + Send + Sync, J: Naming + Send + Sync, R: Threads + Wait + Sync, O: Sink>(
+    rt: &R,
+    alloc: Global,
+    engine: &Engine<W, J, Open>,
+    mut administrator: Administrator<W, J>,
+    opener: Opener<ShardLaw<W>, J>,
+    pass: Pass<ShardLaw<W>, J>,
+    lines: &[u8],
+    output: &mut O,
+) -> Result<(), Fault>
+    requires home { keyspace_of administrator ≡ sharded_keyspace engine.now }
+    requires limits { W.limits ≡ most_limits }
+    requires opener { opener ≡ 0 }
+    requires pass { pass ≡ new_pass [] None }
+    ensures { OnOk result (HasGiven W.opening administrator lines.now (O.taken output.old) (O.taken output.new)) }
+{
+    let mut sessions = Sessions::new(alloc, opener, pass);
+    run_lines(
+        rt,
+        alloc,
+        engine,
+        &mut administrator,
+        &mut sessions,
+        lines,
+        output,
+    )
+}
 
 // The lines, run over the VSchema and the ranges in the journal that was opened.
 fn run_opened<W: World + Send + Sync, J: Naming + Send + Sync, R: Threads + Wait + Sync, O: Sink>(
@@ -45,21 +77,19 @@ fn run_opened<W: World + Send + Sync, J: Naming + Send + Sync, R: Threads + Wait
     requires ranges { FitRanges schema ranges.now }
     ensures { OnOk result (HasGiven (opening_of schema ranges.now) (opening_workflow schema ranges.now) lines.now (O.taken output.old) (O.taken output.new)) }
 {
-    let Ok((engine, mut administrator, opener, pass)) = administered_router::<W, J, Open>(
-        alloc, schema, ranges, opened, 0, Open,
-    ) else {
-        return Err(Fault::OutOfMemory);
-    };
-    let mut sessions = Sessions::new(alloc, opener, pass);
-    run_lines(
-        rt,
-        alloc,
-        &engine,
-        &mut administrator,
-        &mut sessions,
-        lines,
-        output,
-    )
+    match administered_router::<W, J, Open>(alloc, schema, ranges, opened, 0, Open) {
+        Err(_) => Err(Fault::OutOfMemory),
+        Ok((engine, administrator, opener, pass)) => run_router(
+            rt,
+            alloc,
+            &engine,
+            administrator,
+            opener,
+            pass,
+            lines,
+            output,
+        ),
+    }
 }
 
 // The same in the world that begins with this VSchema and these ranges, and no rows.

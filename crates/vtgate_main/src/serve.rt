@@ -12,10 +12,10 @@ ghost use Rattle.std.specs.Io.KnownBytes.{Appends};
 ghost use Rattle.keyrange.specs.declared.KeyRange.{KeyRange};
 ghost use Rattle.vschema.specs.WellFormed.{is_vschema};
 ghost use Rattle.shard.specs.Shards.{most_limits};
-ghost use Rattle.empty_opening.specs.Empty.{opening_of, FitRanges};
+ghost use Rattle.empty_opening.specs.Empty.{opening_of, sharded_keyspace, FitRanges};
+ghost use Rattle.administration.specs.Told.{keyspace_of};
 ghost use Rattle.vtgate_lines.specs.Partitions.{IsPartition};
 ghost use Rattle.vtgate_main.specs.Planned.{HasRead};
-ghost use Rattle.vtgate_main.specs.Scripted.{serving_ranges};
 ghost use Rattle.vtgate_main.specs.Served.{HasServed, listening_text};
 
 use crate::fault::{Fault, refuse};
@@ -24,12 +24,13 @@ use crate::run::SUCCESS;
 use crate::serve::connection::Welcome;
 use crate::serve::entrance::Acceptor;
 use crate::serve::ports::{Ports, bind, serve_beside_admin};
-use crate::setup::{has_too_many, ranges_of, schema_of, serving_ranges};
-use empty_world::empty_router;
+use crate::setup::{has_too_many, ranges_of, schema_of};
+use administered_world::administered_router;
+use administration::Administrator;
 use journal::{Naming, Opened, Opener, Pass};
 use keyrange::KeyRange;
 use route_engine::{Engine, Gate, Open};
-use serve_lines::{Administration, Asked};
+use serve_lines::Asked;
 use session::{Access, Sink, Source};
 use shard::{ShardLaw, World};
 use std::alloc::Global;
@@ -73,43 +74,37 @@ fn welcome_of(alloc: Global, asked: &Asked<'_>) -> Result<Welcome, Fault>
     })
 }
 
-/// What a server is told: what the words ask for, whom it lets in, what answers admin lines, and its ports.
+/// What a server is told: what the words ask for, whom it lets in, and its ports.
 #[derive(Drop)]
 pub struct Setting<'s> {
     pub asked: &'s Asked<'s>,
     pub welcome: Welcome,
-    pub administration: Administration<'s>,
     pub ports: Ports,
 }
 
-/// What a server is told that serves the ranges on the ports.
+/// What a server is told that serves on the ports.
 pub fn setting_of<'s>(
     alloc: Global,
     asked: &'s Asked<'s>,
-    schema: &VSchema,
-    ranges: &'s [KeyRange],
     ports: Ports,
 ) -> Result<Setting<'s>, Fault>
     ensures asked { IfOk result (λ s. s.asked.now ≡ asked.now) }
     ensures user { IfOk result (λ s. s.welcome.access.user ≡ asked.now.user) }
     ensures stage2 { IfOk result (λ s. s.welcome.access.stage2 ≡ asked.now.stage2) }
     ensures nonce { IfOk result (λ s. s.welcome.nonce ≡ asked.now.nonce) }
-    ensures serving { IfOk result (λ s. s.administration ≡ serving_ranges schema.now ranges.now) }
 {
-    let welcome = welcome_of(alloc, asked)?;
-    match Administration::new(alloc, serving_ranges(schema, ranges)) {
-        Ok(administration) => Ok(Setting {
+    match welcome_of(alloc, asked) {
+        Ok(welcome) => Ok(Setting {
             asked,
             welcome,
-            administration,
             ports,
         }),
-        Err(_) => Err(Fault::Failed),
+        Err(fault) => Err(fault),
     }
 }
 
-// Tells that it listens, and serves by the engine.
-fn serve_by<
+// Tells that it listens, and serves by the engine. The administrator is that of its sharded keyspace.
+fn serve_router<
     W: World + Send + Sync,
     J: Naming + Send + Sync,
     G: Gate,
@@ -119,13 +114,18 @@ fn serve_by<
     rt: &R,
     alloc: Global,
     engine: &Engine<W, J, G>,
+    administrator: &mut Administrator<W, J>,
     opener: Opener<ShardLaw<W>, J>,
-    pass: Pass<ShardLaw<W>, J>,
+    mut pass: Pass<ShardLaw<W>, J>,
     setting: &Setting<'_>,
     output: &mut O,
 ) -> Result<(), Fault>
+    requires home { keyspace_of administrator.old ≡ sharded_keyspace engine.now }
     ensures { OnOk result (Appends (O.taken output.old) (O.taken output.new) listening_text) }
 {
+    let Ok(mut controller) = pass.split() else {
+        return Err(Fault::Failed);
+    };
     if output.write(LISTENING).is_err() {
         return Err(Fault::Failed);
     }
@@ -139,7 +139,8 @@ fn serve_by<
         asked.workers,
         Acceptor::new(&setting.ports.clients, opener, pass, last),
         &setting.ports.admin,
-        &setting.administration,
+        administrator,
+        &mut controller,
     )
 }
 
@@ -169,10 +170,21 @@ pub fn serve_opened<
 {
     let asked = setting.asked;
     let waiting = u64::from(asked.buffer);
-    match empty_router::<W, J, G>(alloc, schema, ranges, opened, waiting, gate) {
-        Err(_) => Err(Fault::Failed),
-        Ok((engine, opener, pass)) => serve_by(rt, alloc, &engine, opener, pass, setting, output),
-    }
+    let Ok((engine, mut administrator, opener, pass)) = administered_router::<W, J, G>(
+        alloc, schema, ranges, opened, waiting, gate,
+    ) else {
+        return Err(Fault::Failed);
+    };
+    serve_router(
+        rt,
+        alloc,
+        &engine,
+        &mut administrator,
+        opener,
+        pass,
+        setting,
+        output,
+    )
 }
 
 // The same in the world that begins with this VSchema and these ranges, and no rows.
@@ -213,7 +225,7 @@ fn serve_over<
     ensures { OnOk result (Appends (O.taken output.old) (O.taken output.new) listening_text) }
 {
     let ports = bind(rt, asked.address, asked.admin)?;
-    match setting_of(alloc, asked, &schema, ranges, ports) {
+    match setting_of(alloc, asked, ports) {
         Err(fault) => Err(fault),
         Ok(setting) => serve_in_world::<Brand, R, O>(rt, alloc, schema, ranges, &setting, output),
     }

@@ -4,12 +4,11 @@ ghost use Rattle.std.specs.Io.KnownBytes.{Appends};
 ghost use mathlib.Core.List.{IsPrefix};
 ghost use Rattle.shard.specs.Shards.{most_limits};
 ghost use Rattle.vtgate_lines.specs.Printed.{rows_text, refusal_text};
-ghost use Rattle.serve_lines.specs.Admin.{unknown_text};
 ghost use Rattle.route_engine.specs.Pendings.{IsOf};
 ghost use Rattle.empty_opening.specs.Empty.{sharded_keyspace};
 ghost use Rattle.administration.specs.Told.{keyspace_of};
-ghost use Rattle.vtgate_main.specs.Scripted.{HasGiven};
-ghost use Rattle.vtgate_main.specs.UnderWay.{IsShown, IsTold, PrintsFrom, nothing_kept};
+ghost use Rattle.vtgate_main.specs.Scripted.{HasGiven, unknown_text};
+ghost use Rattle.vtgate_main.specs.inner.UnderWay.{IsShown, IsTold, PrintsFrom, nothing_kept};
 
 use crate::fault::Fault;
 use administered_world::administer;
@@ -99,7 +98,7 @@ impl<W: World, J: Naming> Model for ScriptSession<W, J> {
     ghost use Rattle.std.specs.Coded.{codes};
     ghost use Rattle.shard_run.specs.contracts.Entry as entry;
     ghost use Rattle.vschema.specs.contracts.changes.Write as write;
-    ghost use Rattle.vtgate_main.specs.UnderWay.{KeptSession};
+    ghost use Rattle.vtgate_main.specs.inner.UnderWay.{KeptSession};
 
     ghost Value = { KeptSession };
 
@@ -131,7 +130,7 @@ impl<W: World, J: Naming> Model for Sessions<W, J> {
     ghost use Rattle.std.specs.Prelude.{◌≡◌, length};
     ghost use Rattle.std.specs.List.{AllByRecursion};
     ghost use Rattle.vschema.specs.contracts.changes.Write as write;
-    ghost use Rattle.vtgate_main.specs.UnderWay.{KeptProgress, IsBehind};
+    ghost use Rattle.vtgate_main.specs.inner.UnderWay.{KeptProgress, IsBehind};
     ghost use Rattle.std.specs.Coded.{codes};
     ghost use Rattle.shard_run.specs.contracts.Entry as entry;
 
@@ -157,7 +156,7 @@ impl<W: World + Send + Sync, J: Naming + Send + Sync> Sessions<W, J> {
     ghost use Rattle.administration.specs.Told.{keyspace_of};
     ghost use Rattle.administration.specs.Words.{reply_text};
     ghost use Rattle.vtgate_main.specs.Scripted.{Progress, Runs, Gives};
-    ghost use Rattle.vtgate_main.specs.UnderWay.{Kept, KeptSession, IsProgressOf, PrintsFrom, HasOpened, nothing_kept};
+    ghost use Rattle.vtgate_main.specs.inner.UnderWay.{Kept, KeptSession, IsProgressOf, PrintsFrom, HasOpened, nothing_kept};
 
     /// No session yet.
     pub fn new(

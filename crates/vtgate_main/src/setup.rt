@@ -5,7 +5,6 @@ ghost use Rattle.vschema.specs.Faults.{schema_read};
 ghost use Rattle.vschema.specs.WellFormed.{is_vschema};
 ghost use Rattle.empty_opening.specs.Empty.{empty_shards};
 ghost use Rattle.vtgate_lines.specs.Partitions.{IsPartition};
-ghost use Rattle.vtgate_main.specs.Scripted.{serving_ranges};
 
 use crate::fault::Fault;
 use keyrange::KeyRange;
@@ -55,18 +54,4 @@ pub fn has_too_many(schema: &VSchema, ranges: &[KeyRange]) -> bool
         return false;
     }
     has_unsharded(schema)
-}
-
-fn has_sharded(schema: &VSchema) -> bool
-    ensures { result ≡ list_any (λ k. k.sharded) schema.now.keyspaces }
-{
-    let keyspaces = schema.keyspaces.as_slice();
-    keyspaces.iter().any(|keyspace| keyspace.sharded)
-}
-
-/// The ranges of the shards that serve the sharded keyspace: without one, none.
-pub fn serving_ranges<'r>(schema: &VSchema, ranges: &'r [KeyRange]) -> &'r [KeyRange]
-    ensures { result.now ≡ serving_ranges schema.now ranges.now }
-{
-    if has_sharded(schema) { ranges } else { &[] }
 }

@@ -1,16 +1,23 @@
 //! The admin port.
 ghost use Rattle.std.specs.Prelude.{◌≡◌, None};
 ghost use Rattle.std.specs.Io.{ReadsAtMost};
+ghost use Rattle.empty_opening.specs.Empty.{sharded_keyspace};
+ghost use Rattle.administration.specs.Told.{keyspace_of};
 
-use serve_lines::Administration;
-use session::{DeviceFailed, Sink, Source, Writer};
+use crate::serve::ports::UNDER_WAY;
+use admin_talk::talk;
+use administration::Administrator;
+use journal::{Naming, Pass};
+use route_engine::{Engine, Gate};
+use session::{DeviceFailed, Source, Writer};
+use shard::{ShardLaw, World};
 use std::alloc::Global;
 use std::io::{ErrorKind, Read};
 use std::net::{TcpListener, TcpStream};
+use std::sync::Wait;
 use std::sync::atomic::{AtomicU64, Ordering};
 use std::thread;
 use std::time::{Clock, Duration};
-use vtgate_lines::next_line;
 
 /// How long it sleeps between two looks for a client, and how long a read waits between two looks whether all is served, in milliseconds.
 const BETWEEN_LOOKS: u64 = 20;
@@ -19,16 +26,6 @@ const BETWEEN_READS: u64 = 100;
 
 /// How many such reads in turn may give nothing: ten minutes.
 const SILENT_READS: u32 = 6000;
-
-/// The most bytes of a line.
-const LONGEST_LINE: usize = 8192;
-
-/// How many bytes are asked of a source at once.
-const PIECE: usize = 4096;
-
-/// A conversation can't go on: a device failed, a line is too long, or there is no memory for it.
-#[derive(Clone, Copy)]
-struct BrokenOff;
 
 /// Reads from a client of the admin port, until all is served.
 #[derive(Drop)]
@@ -55,7 +52,7 @@ fn read_until(
         match stream.read(buffer) {
             Ok(n) => return Ok(n),
             Err(error) => {
-                if !is_made_again(error.kind()) || ended.load(Ordering::SeqCst) == 1 {
+                if !is_made_again(error.kind()) || ended.load(Ordering::SeqCst) != UNDER_WAY {
                     return Err(DeviceFailed);
                 }
             }
@@ -80,75 +77,19 @@ impl Source for AdminSource<'_> {
     }
 }
 
-// Puts the front of a line that a piece ends with behind what came before.
-fn push(line: &mut Vec<u8>, front: &[u8]) -> Result<(), BrokenOff> {
-    if front.len() > LONGEST_LINE.saturating_sub(line.len()) {
-        return Err(BrokenOff);
-    }
-    match line.extend_from_slice(front) {
-        Ok(()) => Ok(()),
-        Err(_) => Err(BrokenOff),
-    }
-}
-
-fn answer_line<O: Sink>(
-    administration: &Administration<'_>,
-    line: &[u8],
-    sink: &mut O,
-) -> Result<(), BrokenOff> {
-    match sink.write(administration.reply(line)) {
-        Ok(()) => Ok(()),
-        Err(_) => Err(BrokenOff),
-    }
-}
-
-// Answers the lines that a piece ends. What stands behind them waits for its end.
-fn answer_piece<O: Sink>(
-    administration: &Administration<'_>,
-    line: &mut Vec<u8>,
-    piece: &[u8],
-    sink: &mut O,
-) -> Result<(), BrokenOff> {
-    let mut rest = piece;
-    while let Some((front, more)) = next_line(rest) {
-        push(line, front)?;
-        if front.len() == rest.len() {
-            return Ok(());
-        }
-        answer_line(administration, line, sink)?;
-        line.clear();
-        rest = more;
-    }
-    Ok(())
-}
-
-/// Answers the lines of a client until its input ends.
-fn administer<I: Source, O: Sink>(
+// Answers the lines of one client, until it leaves or all is served.
+fn serve_one<W: World + Send + Sync, J: Naming + Send + Sync, G: Gate>(
+    rt: &impl Wait,
     alloc: Global,
-    administration: &Administration<'_>,
-    source: &mut I,
-    sink: &mut O,
-) -> Result<(), BrokenOff> {
-    let mut line = Vec::new(alloc);
-    let mut buffer = [0u8; PIECE];
-    for _ in 0..u64::MAX {
-        let Ok(n) = source.read(&mut buffer) else {
-            return Err(BrokenOff);
-        };
-        if n == 0 {
-            return Ok(());
-        }
-        answer_piece(administration, &mut line, &buffer[..n], sink)?;
-    }
-    Err(BrokenOff)
-}
-
-fn serve_one(
-    alloc: Global,
+    engine: &Engine<W, J, G>,
+    administrator: &mut Administrator<W, J>,
+    pass: &mut Pass<ShardLaw<W>, J>,
     stream: &TcpStream,
-    administration: &Administration<'_>,
     ended: &AtomicU64,
-) {
+)
+    requires home { keyspace_of administrator.old ≡ sharded_keyspace engine.now }
+    ensures keyspace { keyspace_of administrator.new ≡ keyspace_of administrator.old }
+{
     let _ = stream.set_nodelay(true);
     let _ = stream.set_read_timeout(Some(Duration::from_millis(BETWEEN_READS)));
     let _ = stream.set_write_timeout(Some(Duration::from_millis(BETWEEN_READS)));
@@ -157,27 +98,42 @@ fn serve_one(
         ended,
         failures: 0,
     };
-    let _ = administer(alloc, administration, &mut source, &mut Writer::new(stream));
+    let mut sink = Writer::new(stream);
+    let _ = talk(
+        rt,
+        alloc,
+        engine,
+        administrator,
+        pass,
+        &mut source,
+        &mut sink,
+    );
 }
 
-/// Serves the clients of the admin port, one after the other, until all connections are served.
-pub fn serve_admin<R: Clock>(
+/// Serves the clients of the admin port, one after the other, until all connections are served. The administrator is that of the engine's
+/// sharded keyspace.
+pub fn serve_admin<W: World + Send + Sync, J: Naming + Send + Sync, G: Gate, R: Wait + Clock>(
     rt: &R,
     alloc: Global,
+    engine: &Engine<W, J, G>,
+    administrator: &mut Administrator<W, J>,
+    pass: &mut Pass<ShardLaw<W>, J>,
     listener: &TcpListener,
-    administration: &Administration<'_>,
     ended: &AtomicU64,
-) {
+)
+    requires home { keyspace_of administrator.old ≡ sharded_keyspace engine.now }
+{
     let _ = listener.set_nonblocking(true);
-    for _ in 0..u64::MAX {
-        if ended.load(Ordering::SeqCst) == 1 {
+    for _ in rt.forever() {
+        if ended.load(Ordering::SeqCst) != UNDER_WAY {
             return;
         }
         match listener.accept() {
-            Ok((stream, _)) => serve_one(alloc, &stream, administration, ended),
+            Ok((stream, _)) => serve_one(rt, alloc, engine, administrator, pass, &stream, ended),
             Err(_) => {
                 let _ = thread::sleep(rt, Duration::from_millis(BETWEEN_LOOKS));
             }
         }
     }
+    unreachable!()
 }

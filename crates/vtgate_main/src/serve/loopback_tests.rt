@@ -319,7 +319,7 @@ fn a_scatter_that_is_held_holds_no_other_connection(rt: HostRuntime) -> Result<(
     if !fits(alloc, &schema, &ranges)? {
         return Err(Fail::new("no opening"));
     }
-    let Ok(setting) = setting_of(alloc, &ASKED, &schema, &ranges, bind_ports(&rt)?) else {
+    let Ok(setting) = setting_of(alloc, &ASKED, bind_ports(&rt)?) else {
         return Err(Fail::new("no memory"));
     };
     serve_in_world::<Brand, HostRuntime>(&rt, alloc, schema, &ranges, &setting)

@@ -1,14 +1,18 @@
 //! The two ports, and who serves them.
+ghost use denote.Param.Send.{IsSync};
+ghost use Rattle.std.specs.Prelude.{◌≡◌};
+ghost use Rattle.empty_opening.specs.Empty.{sharded_keyspace};
+ghost use Rattle.administration.specs.Told.{keyspace_of};
 
 use crate::fault::Fault;
 use crate::serve::admin_port::serve_admin;
 use crate::serve::connection::{Connection, Welcome, serve_connection};
 use crate::serve::entrance::Acceptor;
+use administration::Administrator;
 use connection_workers::run;
-use journal::Naming;
+use journal::{Naming, Pass};
 use route_engine::{Engine, Gate};
-use serve_lines::Administration;
-use shard::World;
+use shard::{ShardLaw, World};
 use std::alloc::Global;
 use std::net::{Net, TcpListener, TcpStream};
 use std::sync::Wait;
@@ -19,6 +23,13 @@ use std::time::Clock;
 
 /// How many connections wait for a worker.
 const QUEUED: usize = 64;
+
+/// What is told of the connections: that they are being served, that the last one was, or that none could be.
+pub const UNDER_WAY: u64 = 0;
+
+const SERVED: u64 = 1;
+
+const NOT_SERVED: u64 = 2;
 
 /// The two ports, bound.
 #[derive(Drop)]
@@ -71,7 +82,29 @@ fn serve_clients<
     }
 }
 
-/// Serves the connections that are let in, and beside them the admin port, until the last connection is served.
+// Serves the connections, and tells how that ended.
+fn serve_and_tell<
+    W: World + Send + Sync,
+    J: Naming + Send + Sync,
+    G: Gate,
+    R: Threads + Wait + Sync + Clock,
+>(
+    rt: &R,
+    alloc: Global,
+    engine: &Engine<W, J, G>,
+    welcome: &Welcome,
+    workers: u32,
+    acceptor: Acceptor<'_, W, J>,
+    ended: &AtomicU64,
+) {
+    match serve_clients(rt, alloc, engine, welcome, workers, acceptor) {
+        Ok(()) => ended.store(SERVED, Ordering::SeqCst),
+        Err(_) => ended.store(NOT_SERVED, Ordering::SeqCst),
+    }
+}
+
+/// Serves the connections that are let in, in threads of their own, and beside them the admin port, until the last connection is served. The
+/// administrator is that of the engine's sharded keyspace.
 pub fn serve_beside_admin<
     W: World + Send + Sync,
     J: Naming + Send + Sync,
@@ -85,19 +118,35 @@ pub fn serve_beside_admin<
     workers: u32,
     acceptor: Acceptor<'_, W, J>,
     admin: &TcpListener,
-    administration: &Administration<'_>,
-) -> Result<(), Fault> {
-    let ended = AtomicU64::new(0);
+    administrator: &mut Administrator<W, J>,
+    pass: &mut Pass<ShardLaw<W>, J>,
+) -> Result<(), Fault>
+    requires home { keyspace_of administrator.old ≡ sharded_keyspace engine.now }
+{
+    let ended = AtomicU64::new(UNDER_WAY);
     let ended = &ended;
-    thread::scope(thread::scope_env(), rt, move |scope| {
-        if scope
-            .spawn(move || serve_admin(rt, alloc, admin, administration, ended))
-            .is_err()
+    thread::scope(
+        thread::scope_env(),
+        rt,
+        move |scope| -> Result<(), Fault>
+            requires { IsSync R.row × IsSync G.row × (keyspace_of administrator.now ≡ sharded_keyspace engine.now) }
         {
-            return Err(Fault::Failed);
-        }
-        let served = serve_clients(rt, alloc, engine, welcome, workers, acceptor);
-        ended.store(1, Ordering::SeqCst);
-        served
-    })
+            if scope
+                .spawn(
+                    move ||
+                        requires { IsSync R.row × IsSync G.row }
+                    { serve_and_tell(rt, alloc, engine, welcome, workers, acceptor, ended) },
+                )
+                .is_err()
+            {
+                return Err(Fault::Failed);
+            }
+            serve_admin(rt, alloc, engine, administrator, pass, admin, ended);
+            if ended.load(Ordering::SeqCst) == SERVED {
+                Ok(())
+            } else {
+                Err(Fault::Failed)
+            }
+        },
+    )
 }

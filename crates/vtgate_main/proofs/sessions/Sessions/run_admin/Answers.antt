@@ -2,7 +2,7 @@ use Rattle.std.proofs.Common.{ℕ, List, ap, subst}
 use Rattle.std.specs.Io.KnownBytes.{Appends}
 use Rattle.shard.specs.declared.limits.Limits.{Limits}
 use Rattle.administration.specs.Told.{IsTold}
-use Rattle.vtgate_main.specs.UnderWay.{KeptProgress}
+use Rattle.vtgate_main.specs.inner.UnderWay.{KeptProgress}
 use Rattle.vtgate_main.proofs.Printing.{on_ok}
 use Rattle.vtgate_main.proofs.Places.{all_further}
 use Rattle.vtgate_main.proofs.sessions.Sessions.run_admin.Goals as goal

@@ -1,5 +1,5 @@
 use Rattle.std.proofs.Common.{◌<◌, length, sym, subst}
-use Rattle.vtgate_main.specs.UnderWay.{Kept, KeptProgress}
+use Rattle.vtgate_main.specs.inner.UnderWay.{Kept, KeptProgress}
 use Rattle.vtgate_main.proofs.Printing.{on_ok}
 use Rattle.vtgate_main.proofs.Places.{keeps_all, prints_at, after_is}
 use Rattle.vtgate_main.proofs.sessions.Sessions.run_at.Goals as goal

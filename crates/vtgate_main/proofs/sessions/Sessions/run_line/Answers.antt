@@ -1,5 +1,5 @@
+use Rattle.vtgate_main.specs.Scripted.{unknown_text}
 use Rattle.vtgate_main.specs.Scripted as s
-use Rattle.serve_lines.specs.Admin.{unknown_text}
 use Rattle.vtgate_main.proofs.Printing.{on_ok}
 use Rattle.vtgate_main.proofs.Scripts.{admin_run}
 use Rattle.vtgate_main.proofs.sessions.Sessions.run_line.Goals as goal
