@@ -1,6 +1,7 @@
 #!/usr/bin/env bash
-# Runs a script, plans and a connection once for each growth of memory that they ask for, and has that one growth refused. Then at most
-# one statement is refused for want of memory, and hasn't happened, or the program ends at once with status 1: nothing else may come out.
+# Runs scripts, with a split and a merge of shards, and a plan once for each growth of memory that they ask for, and has that one growth
+# refused. Then at most one line is refused for want of memory, and hasn't happened, or the program ends at once with status 1: nothing else
+# may come out.
 # Usage: tests/memory.sh [PROGRAM]   (built by `rt run` in crates/vtgate_main where none is given; needs a C compiler)
 set -euo pipefail
 top=$(cd "$(dirname "$0")/.." && pwd)
@@ -79,11 +80,24 @@ in_turn() {
     echo "$name: $((growth - 1)) growths refused in turn: $ends runs ended with status 1, $refusals went on"
 }
 
-# runs NAME COUNT REFUSAL WORD..: what the program may give that runs the statements $work/NAME.1 to $work/NAME.COUNT behind
-# $work/NAME.0. Without one of them it gives what it gives where that one is refused, but for the refusal.
+# refusal_of FILE: what is printed for the line of the file where it is refused for want of memory.
+refusal_of() {
+    case $(cat "$1") in
+        '! '*) echo F1 ;;
+        *) echo 'ERROR 1037 (HY001): out of memory' ;;
+    esac
+}
+
+# runs NAME WORD..: what the program may give that runs the lines of standard input behind the VSchema. Without one of them it gives what
+# it gives where that one is refused, but for the refusal.
 runs() {
-    local name=$1 count=$2 refusal=$3 at before
-    shift 3
+    local name=$1 count=0 at before line
+    shift
+    cp "$work/schema" "$work/$name.0"
+    while IFS= read -r line; do
+        count=$((count + 1))
+        printf '%s\n' "$line" > "$work/$name.$count"
+    done
     for ((at = 0; at <= count; at++)); do
         (cd "$work" && eval cat "$name.{0..$at}") | "$program" "$@" > "$work/$name.part.$at"
     done
@@ -92,7 +106,7 @@ runs() {
         (cd "$work" && eval cat "$name.{0..$((at - 1))}" && if [ $at -lt $count ]; then eval cat "$name.{$((at + 1))..$count}"; fi) |
             "$program" "$@" > "$work/without"
         before=$work/$name.part.$((at - 1))
-        { cat "$before"; printf %b "$refusal"; tail -c "+$(($(wc -c < "$before") + 1))" "$work/without"; } > "$work/$name.whole.$at"
+        { cat "$before"; refusal_of "$work/$name.$at"; tail -c "+$(($(wc -c < "$before") + 1))" "$work/without"; } > "$work/$name.whole.$at"
     done
     (cd "$work" && eval cat "$name.{0..$count}") > "$work/$name.input"
 }
@@ -101,14 +115,8 @@ runs() {
 echo failed > "$work/tells.failed"
 echo 'out of memory' > "$work/tells.memory"
 { tr -d '\n' < "$top/examples/shop.json"; echo; } > "$work/schema"
-told='ERROR 1037 (HY001): out of memory'
 
-cp "$work/schema" "$work/script.0"
-count=0
-while IFS= read -r line; do
-    count=$((count + 1))
-    printf '%s\n' "$line" > "$work/script.$count"
-done <<'LINES'
+runs script script -80,80- <<'LINES'
 a: INSERT INTO t (id, c) VALUES (2, 7), (4, 9)
 b: INSERT INTO t (id, c) VALUES (1, 7)
 a: SELECT id, c FROM t WHERE NOT (c < 7) ORDER BY c DESC, id LIMIT 5 OFFSET 0
@@ -119,29 +127,40 @@ b: SELECT v FROM b
 a: DELETE FROM t WHERE id = 4
 a: SELECT * FROM t WHERE id IN (1, 2, 4)
 LINES
-runs script "$count" "$told\n" script -80,80-
 in_turn script "$work/script.input" script -80,80-
+
+# A cutover that is refused memory leaves the sources serving and the targets following, as if it hadn't been asked for.
+runs split script -80,80- <<'LINES'
+a: INSERT INTO t (id, c) VALUES (2, 7), (4, 9), (6, 1)
+b: INSERT INTO t (id, c) VALUES (1, 7)
+! create -80 -40,40-80
+! step
+! step
+b: UPDATE t SET c = 8 WHERE id = 2
+! step
+! step
+! status
+! switch
+! status
+b: SELECT id, c FROM t ORDER BY id
+LINES
+in_turn split "$work/split.input" script -80,80-
+runs merge script -40,40-80,80- <<'LINES'
+a: INSERT INTO t (id, c) VALUES (4, 9)
+a: INSERT INTO t (id, c) VALUES (2, 7), (6, 1)
+! create -40,40-80 -80
+! step
+! step
+a: DELETE FROM t WHERE id = 4
+! switch
+! complete
+! status
+b: SELECT id, c FROM t ORDER BY id
+LINES
+in_turn merge "$work/merge.input" script -40,40-80,80-
 
 plan=(plan -40,40-80,80- 'SELECT id FROM t WHERE id IN (1, 2) ORDER BY id')
 "$program" "${plan[@]}" < "$work/schema" > "$work/plan.whole.0"
-echo "$told" > "$work/plan.part.refused"
+echo 'ERROR 1037 (HY001): out of memory' > "$work/plan.part.refused"
 : > "$work/plan.part.nothing"
 in_turn plan "$work/schema" "${plan[@]}"
-
-# A connection: the answer to the greeting, a packet of a COM_QUERY for each statement, and the ERR packet of the refusal.
-{ printf '\x22\x00\x00\x01\x00\x82\x00\x00\x00\x00\x00\x01\x3f'; head -c 25 /dev/zero; } > "$work/first.0"
-count=0
-while IFS= read -r text; do
-    count=$((count + 1))
-    printf "%b%s" "\\x$(printf %02x $((${#text} + 1)))\\x00\\x00\\x00\\x03" "$text" > "$work/first.$count"
-done <<'TEXTS'
-SELECT id FROM t WHERE c = 7
-INSERT INTO t (id, c) VALUES (77, 7)
-SELECT * FROM t ORDER BY c LIMIT 3
-SELECT COUNT(*) FROM t WHERE c = 7
-TEXTS
-runs first "$count" '\x16\x00\x00\x01\xff\x0d\x04#HY001out of memory' first
-# without memory to begin, nothing is written, and without memory for the client's answer only the greeting
-: > "$work/first.part.nothing"
-"$program" first < /dev/null > "$work/first.part.greeting"
-in_turn first "$work/first.input" first

@@ -426,6 +426,49 @@ def answers_admin_lines(program):
         check("admin, again", router.admin("status"), [status])
 
 
+def splits_live(program):
+    """Each library writes and reads rows of its own while shards are split and merged again, by lines to the admin port."""
+    def lines_of(place):
+        lines = []
+        for number in range(place, 2000, len(LIBRARIES)):
+            lines.append((f"INSERT INTO t VALUES ({number}, {place})", ["ok 1"]))
+            lines.append((f"SELECT id, c FROM t WHERE id = {number}", [f"{number}|{place}", "rows 1"]))
+            lines.append((f"UPDATE t SET c = {place + 10} WHERE id = {number}", ["ok 1"]))
+            lines.append((f"SELECT COUNT(*) FROM t WHERE c = {place + 10}", [str(number // len(LIBRARIES) + 1), "rows 1"]))
+        return lines
+
+    def cuts_over(router, sources, targets):
+        """The answers of a workflow: it is created, brought level, cut over and completed."""
+        answers = router.admin(f"create {sources} {targets}")
+        while answers[-1] in ("ok", "ok copied", "ok followed"):
+            answers += router.admin(*["step"] * 500)
+        return [answers[0], answers[-1], *router.admin("switch", "complete")]
+
+    with Router(program, PASSWORD, workers=len(LIBRARIES)) as router:
+        started = [library.start(router.port, USER, PASSWORD, "shop") for library in LIBRARIES]
+        outcomes = [None] * len(LIBRARIES)
+
+        def finish(place):
+            outcomes[place] = LIBRARIES[place].finish(started[place], [line for line, _ in lines_of(place)])
+
+        threads = [threading.Thread(target=finish, args=(place,)) for place in range(len(LIBRARIES))]
+        for thread in threads:
+            thread.start()
+        cutovers = 0
+        while cutovers < 2 or cutovers < 12 and any(thread.is_alive() for thread in threads):
+            check("a split", cuts_over(router, "-40", "-20,20-40"), ["ok", "ok level", "ok", "ok"])
+            check("ranges after it", router.admin("status"), ["serving -20 20-40 40-80 80-c0 c0- none"])
+            check("a merge", cuts_over(router, "-20,20-40", "-40"), ["ok", "ok level", "ok", "ok"])
+            check("ranges after it", router.admin("status"), ["serving -40 40-80 80-c0 c0- none"])
+            cutovers += 2
+        for thread in threads:
+            thread.join()
+        for place, library in enumerate(LIBRARIES):
+            check_all(f"{library.name} beside splits", library, lines_of(place), outcomes[place] or [])
+        got = PYMYSQL.run(router.port, USER, PASSWORD, "shop", ["SELECT COUNT(*), MIN(c), MAX(c) FROM t"])
+        check("all rows after splits", got, [[f"2000|10|{9 + len(LIBRARIES)}", "rows 1"]])
+
+
 def ends_by_itself(program):
     with Router(program, connections=2) as router:
         for _ in range(2):
@@ -496,6 +539,7 @@ def main():
         goes_on_after_a_stop,
         keeps_no_descriptors,
         answers_admin_lines,
+        splits_live,
         ends_by_itself,
         words_are_tested,
     ):

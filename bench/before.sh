@@ -1,0 +1,25 @@
+#!/usr/bin/env bash
+# Runs queries through the engine of this tree and of an earlier commit at the same time, and prints how long each takes. Both are built by
+# `rt try`: without proofs, without optimisation and with checks of memory, so compare the ratios alone. With --write the table is put into
+# docs/PERFORMANCE.md.
+# Usage: bench/before.sh [--write] [COMMIT]   (e1da63f, the last one before shards of any kind, where none is given; its program is query_bench)
+# ROWS: how many rows lie on each shard, "20 1000" where it is not set
+set -euo pipefail
+top=$(cd "$(dirname "$0")/.." && pwd)
+document=() commit=e1da63f
+for word in "$@"; do
+    case $word in
+        --write) document=("$top/docs/PERFORMANCE.md") ;;
+        *) commit=$word ;;
+    esac
+done
+work=$(mktemp -d)
+trap 'git -C "$top" worktree remove --force "$work/tree" 2> /dev/null || true; rm -rf "$work"' EXIT
+git -C "$top" worktree add -q --detach "$work/tree" "$commit"
+for rows in ${ROWS:-20 1000}; do
+    (cd "$work/tree/crates/query_bench" && rt try --seconds 1200 -- "$rows" rates >> "$work/before" 2> "$work/before.log") &
+    before=$!
+    (cd "$top/crates/bench" && rt try --seconds 1200 -- queries "$rows" rates >> "$work/now" 2> "$work/now.log") || { cat "$work/now.log" >&2; exit 1; }
+    wait $before || { cat "$work/before.log" >&2; exit 1; }
+done
+python3 "$top/bench/before.py" "$work/before" "$work/now" "$commit" "${document[@]}"

@@ -1,0 +1,205 @@
+"""Measures splits of a served shard: copying, the longest wait of a writer, and the rate of statements beside a copy. Called by bench/split.sh."""
+
+import argparse
+import datetime
+import os
+import pathlib
+import socket
+import statistics
+import subprocess
+import sys
+import threading
+import time
+
+TOP = pathlib.Path(__file__).resolve().parents[2]
+sys.path.insert(0, str(TOP / "tests" / "clients"))
+
+import packets  # noqa: E402
+
+BEGIN, END = "<!-- bench/split.sh begins -->", "<!-- bench/split.sh ends -->"
+# of the rows that `load fill` makes, each second one lies on the shard that is split
+FIRST_ID = 100000
+HEAD = """## Splits
+
+Written by `bench/split.sh` on {day}, on a machine of {cores} processors, through sockets: one of two shards, with half the rows of a table, is split
+into two by lines to the admin port. A step copies at most 100 rows. The longest wait is that of one client which changes a row of the split
+shard, again and again, while `switch` is answered; beside it stands what it waits at most in as long a time before. Figures are the middle ones of
+{rounds} rounds, each with a new router.
+"""
+
+
+def free_ports(count):
+    sockets = [socket.socket() for _ in range(count)]
+    for each in sockets:
+        each.bind(("127.0.0.1", 0))
+    ports = [each.getsockname()[1] for each in sockets]
+    for each in sockets:
+        each.close()
+    return ports
+
+
+class Router:
+    """A router with so many rows in its table, until the `with` ends, and one connection to its admin port."""
+
+    def __init__(self, words, rows):
+        self.words, self.rows = words, rows
+
+    def __enter__(self):
+        self.port, admin = free_ports(2)
+        call = ["serve", "-80,80-", f"127.0.0.1:{self.port}", f"127.0.0.1:{admin}", "16", "100", "0", "bench", "-", "a nonce of the bench"]
+        schema = (TOP / "bench" / "serve" / "schema.json").open()
+        self.process = subprocess.Popen([self.words.program, *call], stdin=schema, stdout=subprocess.PIPE)
+        if self.process.stdout.readline() != b"listening\n":
+            sys.exit("the router doesn't listen")
+        self.load("fill")
+        self.admin = socket.create_connection(("127.0.0.1", admin))
+        self.admin.setsockopt(socket.IPPROTO_TCP, socket.TCP_NODELAY, 1)
+        return self
+
+    def __exit__(self, *_):
+        self.process.kill()
+        self.process.wait()
+
+    def load(self, what, *more):
+        call = [self.words.load, what, str(self.port), "bench", "", "shop", str(self.rows), *more]
+        return subprocess.run(call, stdout=subprocess.PIPE, check=True).stdout
+
+    def ask(self, *lines):
+        """The answer to the last of the lines."""
+        self.admin.sendall("".join(line + "\n" for line in lines).encode())
+        answers = b""
+        while answers.count(b"\n") < len(lines):
+            answers += self.admin.recv(65536)
+        return answers.decode().splitlines()[-1]
+
+    def does(self, line):
+        answer = self.ask(line)
+        if answer != "ok":
+            sys.exit(f"{line}: {answer}")
+
+    def follow(self):
+        """Steps until the targets are level."""
+        while True:
+            answer = self.ask(*["step"] * 20)
+            if answer == "ok level":
+                return
+            if not answer.startswith("ok "):
+                sys.exit(f"step: {answer}")
+
+
+class Writer(threading.Thread):
+    """Changes a row of the split shard, again and again, and notes how long each time took, and when it ended."""
+
+    def __init__(self, port):
+        super().__init__()
+        self.client = packets.Client(("127.0.0.1", port))
+        self.client.login(b"bench", b"")
+        self.client.socket.setsockopt(socket.IPPROTO_TCP, socket.TCP_NODELAY, 1)
+        self.times, self.enough = [], False
+
+    def run(self):
+        number = 0
+        while not self.enough:
+            number += 1
+            begin = time.perf_counter()
+            self.client.query(b"UPDATE t SET c = %d WHERE id = %d" % (number, FIRST_ID))
+            end = time.perf_counter()
+            self.times.append((end, end - begin))
+
+    def longest(self, begin, end):
+        """The longest of what went on between the two times."""
+        return max(took for ended, took in self.times if ended >= begin and ended - took <= end)
+
+
+def split(words, rows):
+    """Seconds of copying, of `switch`, and a writer's longest wait before and while that is answered."""
+    with Router(words, rows) as router:
+        router.does("create -80 -40,40-80")
+        begin = time.perf_counter()
+        router.follow()
+        copying = time.perf_counter() - begin
+        writer = Writer(router.port)
+        writer.start()
+        time.sleep(0.3)
+        router.follow()
+        begin = time.perf_counter()
+        router.does("switch")
+        end = time.perf_counter()
+        time.sleep(0.2)
+        writer.enough = True
+        writer.join()
+        took = end - begin
+        return copying, took, writer.longest(begin - 0.2 - took, begin - 0.2), writer.longest(begin, end)
+
+
+def splits(words):
+    for rows in map(int, words.rows.split(",")):
+        rounds = [split(words, rows) for _ in range(words.rounds)]
+        copying, switch, before, wait = (statistics.median(it) for it in zip(*rounds))
+        most = max(it[3] for it in rounds)
+        yield rows, rows // 2 / copying, *(1e6 * it for it in (switch, before, wait, most))
+
+
+def rate(router, words, kind):
+    return int(router.load("run", kind, "4", str(words.seconds)).split()[0])
+
+
+def beside(words, kind, rows=100000):
+    """Statements a second without a copy and beside one, which is begun again as often as it ends."""
+    with Router(words, rows) as router:
+        without = rate(router, words, kind)
+        enough, copies = threading.Event(), [0]
+
+        def copy():
+            while not enough.is_set():
+                router.does("create -80 -40,40-80")
+                while not enough.is_set() and router.ask(*["step"] * 20) != "ok level":
+                    pass
+                copies[0] += 1
+                router.does("cancel")
+
+        copying = threading.Thread(target=copy)
+        copying.start()
+        during = rate(router, words, kind)
+        enough.set()
+        copying.join()
+        return without, during, copies[0]
+
+
+def section(words):
+    lines = [HEAD.format(day=datetime.date.today(), cores=os.cpu_count(), rounds=words.rounds)]
+    lines += ["| rows | copied a second | `switch`, µs | longest wait before, µs | longest wait meanwhile, µs | of all rounds |", "|---|---|---|---|---|---|"]
+    lines += ["| " + " | ".join(f"{it:.0f}" for it in row) + " |" for row in splits(words)]
+    lines += ["", "Statements a second by 4 connections, without a copy and beside one of 50,000 rows that begins again once it has ended:", ""]
+    lines += ["| statements | without | beside | ratio | copies begun |", "|---|---|---|---|---|"]
+    for kind in ("point", "update"):
+        rounds = [beside(words, kind) for _ in range(words.rounds)]
+        without, during, copies = (statistics.median(it) for it in zip(*rounds))
+        lines.append(f"| {kind} | {without:.0f} | {during:.0f} | {during / without:.2f} | {copies:.0f} |")
+    return "\n".join(lines) + "\n"
+
+
+def put_between(text, part):
+    if BEGIN not in text:
+        return f"{text.rstrip()}\n\n{BEGIN}\n{part}{END}\n"
+    front, rest = text.split(BEGIN)
+    return f"{front}{BEGIN}\n{part}{END}{rest.split(END)[1]}"
+
+
+def main():
+    reader = argparse.ArgumentParser()
+    reader.add_argument("program")
+    reader.add_argument("load")
+    reader.add_argument("document", nargs="?", type=pathlib.Path)
+    reader.add_argument("--rows", default="1000,10000,100000")
+    reader.add_argument("--rounds", type=int, default=5)
+    reader.add_argument("--seconds", type=float, default=2)
+    words = reader.parse_args()
+    part = section(words)
+    if words.document:
+        words.document.write_text(put_between(words.document.read_text(), part))
+    else:
+        print(part, end="")
+
+
+main()
