@@ -31,12 +31,16 @@ for first in 0 1; do
 done | client
 echo "  SELECT COUNT(*) FROM t: $(client -e 'SELECT COUNT(*) FROM t')"
 
-# Four clients, each with ids of its own: a row is written, read, and changed.
+# Four clients, each with ids of its own: rows are written, read, changed and read again, some hundreds a second.
 writes() {
-    local id=$((1000000 * $1))
+    local id=$((1000000 * $1)) end
     while [ ! -e "$work/enough" ]; do
-        id=$((id + 1))
-        echo "INSERT INTO t VALUES ($id, 1); SELECT c FROM t WHERE id = $id; UPDATE t SET c = 2 WHERE id = $id; SELECT c FROM t WHERE id = $id;"
+        end=$((id + 10))
+        while [ $id -lt $end ]; do
+            id=$((id + 1))
+            echo "INSERT INTO t VALUES ($id, 1); SELECT c FROM t WHERE id = $id; UPDATE t SET c = 2 WHERE id = $id; SELECT c FROM t WHERE id = $id;"
+        done
+        sleep 0.05
     done
     seq $((1000000 * $1 + 1)) "$id" > "$work/ids.$1"
 }
@@ -49,7 +53,7 @@ done
 echo "splitting -80 while four clients write and read"
 tell status
 tell 'create -80 -40,40-80'
-# Clients write faster than lines go to and fro, so many are sent at once.
+# Many lines are sent at once, so that steps are taken faster than clients write.
 declare -A steps=()
 until [ "${answer:-}" = 'ok level' ]; do
     printf 'step\n%.0s' {1..500} >&3
