@@ -34,6 +34,17 @@ def texts(lines):
     table(("bytes", "lexing", "ratio", "parsing", "ratio"), rows)
 
 
+def costly(lines):
+    print("\n## Costly texts\n\nKilobytes a second of texts that are read, resolved and planned over 32 shards, and have much of one thing. The INSERT is refused:")
+    print("its columns aren't there. The ratio is to the shorter text of the kind.")
+    rows, first = [], {}
+    for line in lines:
+        size, name, length, rate = re.match(r"(\d+) (.*): (\d+) bytes: (\d+) kB/s", line).groups()
+        first.setdefault(name, int(rate))
+        rows.append((size, name, length, rate, ratio(int(rate), first[name])))
+    table(("how many", "of what", "bytes", "kB/s", "ratio"), rows)
+
+
 def entries(lines):
     print("\n## The journal\n\nAppends and looks a second by threads that each have a slot of their own, and by threads that share one.")
     rows, first = [], None
@@ -89,7 +100,7 @@ def writes(lines):
 def main():
     folder = pathlib.Path(sys.argv[1])
     print(HEAD.format(day=datetime.date.today(), cores=os.cpu_count()), end="")
-    for name, write in (("texts", texts), ("entries", entries), ("queries", queries), ("store", store), ("writes", writes)):
+    for name, write in (("texts", texts), ("costly", costly), ("entries", entries), ("queries", queries), ("store", store), ("writes", writes)):
         write((folder / name).read_text().splitlines())
 
 

@@ -19,12 +19,14 @@ import packets  # noqa: E402
 BEGIN, END = "<!-- bench/split.sh begins -->", "<!-- bench/split.sh ends -->"
 # of the rows that `load fill` makes, each second one lies on the shard that is split
 FIRST_ID = 100000
+# how long the writer waits between two statements, in seconds, so that targets come level
+BETWEEN = 0.001
 HEAD = """## Splits
 
 Written by `bench/split.sh` on {day}, on a machine of {cores} processors, through sockets: one of two shards, with half the rows of a table, is split
 into two by lines to the admin port. A step copies at most 100 rows. The longest wait is that of one client which changes a row of the split
-shard, again and again, while `switch` is answered; beside it stands what it waits at most in as long a time before. Figures are the middle ones of
-{rounds} rounds, each with a new router.
+shard each millisecond, while `switch` is answered and a hundredth of a second behind; beside it stands what it waits at most in the fifth of a second before. Figures are the
+middle ones of {rounds} rounds, each with a new router.
 """
 
 
@@ -88,7 +90,7 @@ class Router:
 
 
 class Writer(threading.Thread):
-    """Changes a row of the split shard, again and again, and notes how long each time took, and when it ended."""
+    """Changes a row of the split shard each millisecond, and notes how long each time took, and when it ended."""
 
     def __init__(self, port):
         super().__init__()
@@ -105,6 +107,7 @@ class Writer(threading.Thread):
             self.client.query(b"UPDATE t SET c = %d WHERE id = %d" % (number, FIRST_ID))
             end = time.perf_counter()
             self.times.append((end, end - begin))
+            time.sleep(BETWEEN)
 
     def longest(self, begin, end):
         """The longest of what went on between the two times."""
@@ -122,6 +125,8 @@ def split(words, rows):
         writer.start()
         time.sleep(0.3)
         router.follow()
+        time.sleep(0.3)
+        router.follow()
         begin = time.perf_counter()
         router.does("switch")
         end = time.perf_counter()
@@ -129,7 +134,7 @@ def split(words, rows):
         writer.enough = True
         writer.join()
         took = end - begin
-        return copying, took, writer.longest(begin - 0.2 - took, begin - 0.2), writer.longest(begin, end)
+        return copying, took, writer.longest(begin - 0.2, begin), writer.longest(begin, end + 0.01)
 
 
 def splits(words):

@@ -1,7 +1,8 @@
 //! Measures the router's layers. `bench MEASUREMENT ROUNDS` runs one of them and prints what it counted, `bench MEASUREMENT ROUNDS rates`
-//! how fast it was. The measurements are `texts`, `entries`, `queries`, `store` and `writes`; `all` stands for each of them.
+//! how fast it was. The measurements are `texts`, `costly`, `entries`, `queries`, `store` and `writes`; `all` stands for each of them.
 #![tactic(auto)]
 
+mod costly;
 mod entries;
 mod load;
 mod marks;
@@ -23,6 +24,7 @@ use std::{env, io};
 #[derive(Clone, Copy)]
 struct Asked {
     texts: bool,
+    costly: bool,
     entries: bool,
     queries: bool,
     store: bool,
@@ -37,6 +39,7 @@ impl Asked {
         let all = name == "all";
         Asked {
             texts: all || name == "texts",
+            costly: all || name == "costly",
             entries: all || name == "entries",
             queries: all || name == "queries",
             store: all || name == "store",
@@ -66,6 +69,9 @@ fn run<R: Threads + Wait + Clock + Print + Sync + AllocGlobal>(
     let Asked { rounds, rates, .. } = asked;
     if asked.texts {
         texts::measure_texts(rt, rt.alloc(), rounds, rates)?;
+    }
+    if asked.costly {
+        costly::measure_costly(rt, rt.alloc(), rounds, rates)?;
     }
     if asked.entries {
         entries::measure_entries(rt, rt.alloc(), rounds, rates)?;

@@ -5,23 +5,27 @@ use itoa::Buffer;
 use std::alloc::Global;
 use vt_value::Refusal;
 
-/// The table t, whose column `few` has 10 values and whose column `many` has 10,000.
+/// The table t, whose column `few` has 10 values and whose column `many` has 10,000; and the table m, whose ids are MD5 sums.
 pub const SCHEMA: &str = r#"{"keyspaces":{"shop":{"sharded":true,
- "vindexes":{"rev":{"type":"reverse_bits"}},
+ "vindexes":{"rev":{"type":"reverse_bits"},"md5":{"type":"binary_md5"}},
  "tables":{"t":{
   "columns":[{"name":"id","type":"BIGINT UNSIGNED"},{"name":"c","type":"BIGINT UNSIGNED"},
    {"name":"few","type":"BIGINT UNSIGNED"},{"name":"many","type":"BIGINT UNSIGNED"}],
-  "primary_key":["id"],"column_vindexes":[{"column":"id","name":"rev"}]}}}}}"#;
+  "primary_key":["id"],"column_vindexes":[{"column":"id","name":"rev"}]},
+ "m":{"columns":[{"name":"k","type":"VARBINARY(8)"}],
+  "primary_key":["k"],"column_vindexes":[{"column":"k","name":"md5"}]}}}}}"#;
 
 /// How many rows one INSERT has at most: with four literals each, 4,000 of a statement's 4,096.
 const BATCH: u64 = 1000;
 
-fn put(text: &mut Vec<u8>, more: &[u8]) -> Result<(), Refusal> {
+/// Puts more bytes behind a text.
+pub fn put(text: &mut Vec<u8>, more: &[u8]) -> Result<(), Refusal> {
     text.extend_from_slice(more)?;
     Ok(())
 }
 
-fn put_number(text: &mut Vec<u8>, number: u64) -> Result<(), Refusal> {
+/// Puts a number in decimal behind a text.
+pub fn put_number(text: &mut Vec<u8>, number: u64) -> Result<(), Refusal> {
     let mut buffer = Buffer::new();
     put(text, buffer.format(number).as_bytes())
 }
