@@ -9,7 +9,7 @@ top=$(cd "$(dirname "$0")/.." && pwd)
 rows=1000,10000,100000 rounds=5 seconds=2 document=() program=''
 while [ $# -gt 0 ]; do
     case $1 in
-        --write) document=("$top/docs/PERFORMANCE.md") ;;
+        --write) document=(--document "$top/docs/PERFORMANCE.md") ;;
         --rows) rows=$2 && shift ;;
         --rounds) rounds=$2 && shift ;;
         --seconds) seconds=$2 && shift ;;

@@ -195,7 +195,7 @@ def main():
     reader = argparse.ArgumentParser()
     reader.add_argument("program")
     reader.add_argument("load")
-    reader.add_argument("document", nargs="?", type=pathlib.Path)
+    reader.add_argument("--document", type=pathlib.Path)
     reader.add_argument("--rows", default="1000,10000,100000")
     reader.add_argument("--rounds", type=int, default=5)
     reader.add_argument("--seconds", type=float, default=2)
