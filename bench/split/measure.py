@@ -15,6 +15,7 @@ TOP = pathlib.Path(__file__).resolve().parents[2]
 sys.path.insert(0, str(TOP / "tests" / "clients"))
 
 import packets  # noqa: E402
+from router import free_ports  # noqa: E402
 
 BEGIN, END = "<!-- bench/split.sh begins -->", "<!-- bench/split.sh ends -->"
 # of the rows that `load fill` makes, each second one lies on the shard that is split
@@ -25,19 +26,9 @@ HEAD = """## Splits
 
 Written by `bench/split.sh` on {day}, on a machine of {cores} processors, through sockets: one of two shards, with half the rows of a table, is split
 into two by lines to the admin port. A step copies at most 100 rows. The longest wait is that of one client which changes a row of the split
-shard each millisecond, while `switch` is answered and a hundredth of a second behind; beside it stands what it waits at most in the fifth of a second before. Figures are the
-middle ones of {rounds} rounds, each with a new router.
+shard each millisecond, while `switch` is answered and a hundredth of a second behind; beside it stands what it waits at most in the fifth of a
+second before. Rounds: {rounds}, each with a new router; figures are the middle ones.
 """
-
-
-def free_ports(count):
-    sockets = [socket.socket() for _ in range(count)]
-    for each in sockets:
-        each.bind(("127.0.0.1", 0))
-    ports = [each.getsockname()[1] for each in sockets]
-    for each in sockets:
-        each.close()
-    return ports
 
 
 class Router:
