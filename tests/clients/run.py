@@ -242,6 +242,24 @@ def serves_two_at_once(program):
                 check("seen by the other", rows, [[b"%d" % (number + 1), b"%d" % number]])
 
 
+def run_all_at_once(router, name, lines_of, meanwhile=lambda threads: None):
+    """Has each library run its lines while the others do, and `meanwhile` with their threads."""
+    started = [library.start(router.port, USER, PASSWORD, "shop") for library in LIBRARIES]
+    outcomes = [None] * len(LIBRARIES)
+
+    def finish(place):
+        outcomes[place] = LIBRARIES[place].finish(started[place], [line for line, _ in lines_of(place)])
+
+    threads = [threading.Thread(target=finish, args=(place,)) for place in range(len(LIBRARIES))]
+    for thread in threads:
+        thread.start()
+    meanwhile(threads)
+    for thread in threads:
+        thread.join()
+    for place, library in enumerate(LIBRARIES):
+        check_all(f"{library.name} beside {name}", library, lines_of(place), outcomes[place] or [])
+
+
 def serves_all_at_once(program):
     """Each library writes and reads rows of its own while the others do."""
     def lines_of(place):
@@ -254,19 +272,7 @@ def serves_all_at_once(program):
         return lines
 
     with Router(program, PASSWORD, workers=4) as router:
-        started = [library.start(router.port, USER, PASSWORD, "shop") for library in LIBRARIES]
-        outcomes = [None] * len(LIBRARIES)
-
-        def finish(place):
-            outcomes[place] = LIBRARIES[place].finish(started[place], [line for line, _ in lines_of(place)])
-
-        threads = [threading.Thread(target=finish, args=(place,)) for place in range(len(LIBRARIES))]
-        for thread in threads:
-            thread.start()
-        for thread in threads:
-            thread.join()
-        for place, library in enumerate(LIBRARIES):
-            check_all(f"{library.name} beside the others", library, lines_of(place), outcomes[place] or [])
+        run_all_at_once(router, "the others", lines_of)
         got = PYMYSQL.run(router.port, USER, PASSWORD, "shop", ["SELECT COUNT(*), MIN(c), MAX(c) FROM t"])
         check("all rows", got, [[f"400|10|{9 + len(LIBRARIES)}", "rows 1"]])
 
@@ -445,26 +451,16 @@ def splits_live(program):
         return [answers[0], answers[-1], *router.admin("switch", "complete")]
 
     with Router(program, PASSWORD, workers=len(LIBRARIES)) as router:
-        started = [library.start(router.port, USER, PASSWORD, "shop") for library in LIBRARIES]
-        outcomes = [None] * len(LIBRARIES)
+        def split_and_merge(threads):
+            cutovers = 0
+            while cutovers < 2 or cutovers < 12 and any(thread.is_alive() for thread in threads):
+                check("a split", cuts_over(router, "-40", "-20,20-40"), ["ok", "ok level", "ok", "ok"])
+                check("ranges after it", router.admin("status"), ["serving -20 20-40 40-80 80-c0 c0- none"])
+                check("a merge", cuts_over(router, "-20,20-40", "-40"), ["ok", "ok level", "ok", "ok"])
+                check("ranges after it", router.admin("status"), ["serving -40 40-80 80-c0 c0- none"])
+                cutovers += 2
 
-        def finish(place):
-            outcomes[place] = LIBRARIES[place].finish(started[place], [line for line, _ in lines_of(place)])
-
-        threads = [threading.Thread(target=finish, args=(place,)) for place in range(len(LIBRARIES))]
-        for thread in threads:
-            thread.start()
-        cutovers = 0
-        while cutovers < 2 or cutovers < 12 and any(thread.is_alive() for thread in threads):
-            check("a split", cuts_over(router, "-40", "-20,20-40"), ["ok", "ok level", "ok", "ok"])
-            check("ranges after it", router.admin("status"), ["serving -20 20-40 40-80 80-c0 c0- none"])
-            check("a merge", cuts_over(router, "-20,20-40", "-40"), ["ok", "ok level", "ok", "ok"])
-            check("ranges after it", router.admin("status"), ["serving -40 40-80 80-c0 c0- none"])
-            cutovers += 2
-        for thread in threads:
-            thread.join()
-        for place, library in enumerate(LIBRARIES):
-            check_all(f"{library.name} beside splits", library, lines_of(place), outcomes[place] or [])
+        run_all_at_once(router, "splits", lines_of, split_and_merge)
         got = PYMYSQL.run(router.port, USER, PASSWORD, "shop", ["SELECT COUNT(*), MIN(c), MAX(c) FROM t"])
         check("all rows after splits", got, [[f"2000|10|{9 + len(LIBRARIES)}", "rows 1"]])
 
