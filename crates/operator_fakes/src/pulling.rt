@@ -3,6 +3,7 @@ ghost use Rattle.std.specs.Prelude.{◌≡◌};
 
 use aggregate::GroupMerge;
 use operators::*;
+use sql_tree::Key;
 use std::alloc::Global;
 use std::cell::Cell;
 use std::test::Fail;
@@ -98,6 +99,57 @@ fn a_limit_pulls_no_row_behind_its_last(rt: HostRuntime) -> Result<(), Fail> {
         let numbers = limited(rt.alloc(), limit, &calls)?;
         assert!(rt; numbers.as_slice() == wanted);
         assert!(rt; calls.get() <= most);
+    }
+    Ok(())
+}
+
+/// Inputs whose calls are counted together, each in order.
+fn counted<'a>(alloc: Global, calls: &'a Cell<u64>) -> Result<Vec<Counting<'a>>, Fail> {
+    let mut inputs = Vec::new(alloc);
+    for numbers in [[1, 4, 9].as_slice(), &[2, 2, 5], &[3], &[]] {
+        let input = given(alloc, numbers)?;
+        inputs.push(Counting { input, calls })?;
+    }
+    Ok(inputs)
+}
+
+#[test]
+fn a_merge_pulls_a_row_of_each_input_and_one_for_each_that_it_gave(
+    rt: HostRuntime,
+) -> Result<(), Fail> {
+    let alloc = rt.alloc();
+    let calls = Cell::new(0);
+    let keys = [Key {
+        column: 0,
+        descending: false,
+    }];
+    let mut merge = MergeSort::new(alloc, counted(alloc, &calls)?, &keys)?;
+    assert!(rt; calls.get() <= 4);
+    for (wanted, most) in [(1, 5), (2, 6), (2, 7), (3, 8), (4, 9), (5, 10), (9, 11)] {
+        let row = merge.next(alloc)?;
+        assert!(rt; row.as_ref().map(number_in) == Some(wanted));
+        assert!(rt; calls.get() <= most);
+    }
+    assert!(rt; matches!(merge.next(alloc), Ok(None)));
+    Ok(())
+}
+
+#[test]
+fn a_merge_stays_failed_where_an_input_does(rt: HostRuntime) -> Result<(), Fail> {
+    let alloc = rt.alloc();
+    let mut inputs = Vec::new(alloc);
+    for left in [3, 2] {
+        inputs.push(Failing {
+            left,
+            failed: false,
+        })?;
+    }
+    let mut merge = MergeSort::new(alloc, inputs, &[])?;
+    for _ in 0..2 {
+        assert!(rt; matches!(merge.next(alloc), Ok(Some(_))));
+    }
+    for _ in 0..3 {
+        assert!(rt; matches!(merge.next(alloc), Err(Refusal::OutOfMemory)));
     }
     Ok(())
 }

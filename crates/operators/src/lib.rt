@@ -3,6 +3,7 @@
 
 mod columns;
 mod concatenation;
+mod merging;
 mod pulling;
 mod slicing;
 mod sorting;
@@ -10,7 +11,8 @@ mod stored;
 
 pub use columns::{Project, project_row};
 pub use concatenation::Concat;
+pub use merging::MergeSort;
 pub use pulling::{Operator, collect};
 pub use slicing::Limit;
-pub use sorting::{MergeSort, compare_rows, sort_rows};
+pub use sorting::{compare_rows, sort_rows};
 pub use stored::Rows;

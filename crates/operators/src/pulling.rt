@@ -1,4 +1,4 @@
-ghost use Rattle.std.specs.Prelude.{◌≡◌, List, [], ◌∷◌, ◌↔◌, Bool, IsTrue, IsErr, IfOk, IfErr, MatchOption};
+ghost use Rattle.std.specs.Prelude.{◌≡◌, List, [], ◌∷◌, ◌↔◌, Bool, IsTrue, IsErr, IfOk, IfErr, MatchOption, ⊤};
 ghost use Rattle.vt_value.specs.declared.value.Value.{Value};
 
 use std::alloc::Global;
@@ -12,6 +12,9 @@ pub trait Operator: Drop {
     // a call had no memory
     ghost has_failed: { Self → Bool };
 
+    // what one call of `next` may make of an operator: by this relation calls are counted
+    ghost one_call: { Self → Self → Type 0 } = { λ _ _. ⊤ };
+
     /// The next row, or `None` where no row is left. Refuses only for want of memory, and then each later call does.
     fn next(&mut self, alloc: Global) -> Result<Option<Row>, Refusal>
         ensures row { IfOk result (λ next. MatchOption next
@@ -19,6 +22,7 @@ pub trait Operator: Drop {
             (λ row. to_come self.old ≡ row ∷ to_come self.new)) }
         ensures failed { IsTrue (has_failed self.old) → IsErr result }
         ensures fails { IsTrue (has_failed self.new) ↔ IsErr result }
+        ensures call { one_call self.old self.new }
         ensures err { IfErr result (λ e. e ≡ Refusal.OutOfMemory) };
 }
 

@@ -1,33 +1,25 @@
-ghost use Rattle.std.specs.Prelude.{◌≡◌, IsTrue, IfOk, IfErr, IsErr, IsOk, OnErr, OnOk, ◌↔◌, drop};
+ghost use Rattle.std.specs.Prelude.{◌≡◌, [], ◌∷◌, IsTrue, IfOk, IfErr, IsErr, IsOk, OnErr, OnOk, ◌↔◌, MatchOption, true, false, drop, ℕ};
 ghost use Rattle.operators.specs.Slices.{sliced};
+ghost use Rattle.operators.specs.Calls.{Calls, CallsAtMost, most_calls};
 
 use crate::pulling::Operator;
 use std::alloc::Global;
 use vt_value::{Refusal, Row};
 
-/// The slice of an input's rows that LIMIT leaves. It calls its input at most offset plus count times.
+/// The slice of an input's rows that LIMIT leaves. It calls its input at most offset plus count times, and never again once the input
+/// has failed.
 #[derive(Drop)]
 pub struct Limit<O> {
     input: O,
     /// What LIMIT still leaves of the rows that the input has.
     rest: Option<sql_tree::Limit>,
-}
-
-impl<O: Operator> Limit<O> {
-    /// What `limit` leaves of the input's rows, all of them where it is `None`.
-    pub fn new(input: O, limit: Option<sql_tree::Limit>) -> Limit<O>
-        ensures rows { ⟦<Limit<O> as Operator>⟧.to_come result ≡ sliced limit (O.to_come input) }
-        ensures fresh { IsTrue (⟦<Limit<O> as Operator>⟧.has_failed result) → IsTrue (O.has_failed input) }
-    {
-        Limit { input, rest: limit }
-    }
+    failed: bool,
 }
 
 /// Passes over `count` rows, or all where there are fewer.
 fn pass_over<O: Operator>(alloc: Global, input: &mut O, count: u64) -> Result<(), Refusal>
     ensures ok { OnOk result (O.to_come input.new ≡ drop count (O.to_come input.old)) }
-    ensures stays { IsTrue (O.has_failed input.old) → IsTrue (O.has_failed input.new) }
-    ensures fails { OnErr result (IsTrue (O.has_failed input.new)) }
+    ensures calls { CallsAtMost O.one_call count input.old input.new }
     ensures err { IfErr result (λ e. e ≡ Refusal.OutOfMemory) }
 {
     for _ in 0..count {
@@ -38,15 +30,37 @@ fn pass_over<O: Operator>(alloc: Global, input: &mut O, count: u64) -> Result<()
     Ok(())
 }
 
-impl<O: Operator> Operator for Limit<O> {
-    ghost use Rattle.std.specs.Prelude.{not, ◌&&◌};
-    ghost use Rattle.operators.specs.Slices.{sliced, is_spent};
+impl<O: Operator> Limit<O> {
+    ghost use Rattle.operators.specs.declared.slicing.Limit.{Limit};
+    ghost use Rattle.operators.specs.inner.Limits.{input_of, LimitCall};
 
-    ghost to_come = { λ limit. sliced limit.rest (O.to_come limit.input) };
+    /// What `limit` leaves of the input's rows, all of them where it is `None`.
+    pub fn new(input: O, limit: Option<sql_tree::Limit>) -> Limit<O>
+        ensures rows { ⟦<Limit<O> as Operator>⟧.to_come result ≡ sliced limit (O.to_come input) }
+        ensures fresh { IsTrue (⟦<Limit<O> as Operator>⟧.has_failed result) → IsTrue (O.has_failed input) }
 
-    ghost has_failed = { λ limit. not (is_spent limit.rest) && O.has_failed limit.input };
+        // However often the limit is called, `later` being what it is then.
+        ensures calls { (calls : ℕ) (later : Limit O) → Calls ⟦<Limit<O> as Operator>⟧.one_call calls result later
+            → CallsAtMost O.one_call (most_calls limit calls) input (input_of later) }
+    {
+        Limit {
+            input,
+            rest: limit,
+            failed: false,
+        }
+    }
 
-    fn next(&mut self, alloc: Global) -> Result<Option<Row>, Refusal> {
+    /// The next row, where no call failed before.
+    fn pull(&mut self, alloc: Global) -> Result<Option<Row>, Refusal>
+        requires { self.old.failed ≡ false }
+        ensures row { IfOk result (λ next. MatchOption next
+            ((sliced self.old.rest (O.to_come self.old.input) ≡ []) × (sliced self.new.rest (O.to_come self.new.input) ≡ []))
+            (λ row. sliced self.old.rest (O.to_come self.old.input) ≡ row ∷ sliced self.new.rest (O.to_come self.new.input))) }
+        ensures call { OnOk result (LimitCall O.one_call self.old self.new) }
+        ensures failing { OnErr result (LimitCall O.one_call self.old (record self.new { failed = true })) }
+        ensures same { self.new.failed ≡ false }
+        ensures err { IfErr result (λ e. e ≡ Refusal.OutOfMemory) }
+    {
         let Some(limit) = self.rest else {
             return self.input.next(alloc);
         };
@@ -66,5 +80,25 @@ impl<O: Operator> Operator for Limit<O> {
             offset: 0,
         });
         Ok(Some(row))
+    }
+}
+
+impl<O: Operator> Operator for Limit<O> {
+    ghost use Rattle.operators.specs.Slices.{sliced};
+    ghost use Rattle.operators.specs.inner.Limits.{LimitCall};
+
+    ghost to_come = { λ limit. sliced limit.rest (O.to_come limit.input) };
+
+    ghost has_failed = { λ limit. limit.failed };
+
+    ghost one_call = { LimitCall O.one_call };
+
+    fn next(&mut self, alloc: Global) -> Result<Option<Row>, Refusal> {
+        if self.failed {
+            return Err(Refusal::OutOfMemory);
+        }
+        let next = self.pull(alloc);
+        self.failed = next.is_err();
+        next
     }
 }

@@ -1,10 +1,8 @@
-ghost use Rattle.std.specs.Prelude.{◌≡◌, All, flat_map, IsPermutation, IsSorted, IfOk, IfErr, OnOk};
+ghost use Rattle.std.specs.Prelude.{◌≡◌, IsPermutation, IsSorted, IfOk, IfErr, OnOk};
 ghost use Rattle.vt_value.specs.Values.{value_at};
 ghost use Rattle.operators.specs.Orders.{value_order, row_cmp};
 
-use crate::concatenation::Concat;
-use crate::pulling::{Operator, pull_all};
-use crate::stored::{Rows, into_vec};
+use crate::stored::into_vec;
 use sql_tree::Key;
 use std::alloc::Global;
 use std::cmp::Ordering;
@@ -70,42 +68,4 @@ pub fn sort_rows(
     let mut list = into_vec(alloc, rows)?;
     sort(&mut list, keys)?;
     Ok(Items::from_vec(list))
-}
-
-/// The rows of several inputs in one order, where each input has its rows in that order.
-#[derive(Drop)]
-pub struct MergeSort {
-    arranged: Rows,
-}
-
-impl MergeSort {
-    /// The rows of these inputs, in an order that the keys allow where each input's rows are in such an order. Takes all rows
-    /// of the inputs. Refuses only for want of memory.
-    pub fn new<O: Operator>(
-        alloc: Global,
-        inputs: Vec<O>,
-        keys: &[Key<usize>],
-    ) -> Result<MergeSort, Refusal>
-        ensures permutation { IfOk result (λ merge. IsPermutation (flat_map O.to_come inputs.items) (⟦<MergeSort as Operator>⟧.to_come merge)) }
-        ensures sorted { IfOk result (λ merge. All (λ input. IsSorted (row_cmp keys.now) (O.to_come input)) inputs.items
-            → IsSorted (row_cmp keys.now) (⟦<MergeSort as Operator>⟧.to_come merge)) }
-        ensures err { IfErr result (λ e. e ≡ Refusal.OutOfMemory) }
-    {
-        let mut all = Concat::new(inputs);
-        let mut rows = pull_all(alloc, &mut all)?;
-        sort(&mut rows, keys)?;
-        Ok(MergeSort {
-            arranged: Rows::from_vec(rows),
-        })
-    }
-}
-
-impl Operator for MergeSort {
-    ghost to_come = { λ merge. ⟦<Rows as Operator>⟧.to_come merge.arranged };
-
-    ghost has_failed = { λ merge. ⟦<Rows as Operator>⟧.has_failed merge.arranged };
-
-    fn next(&mut self, alloc: Global) -> Result<Option<Row>, Refusal> {
-        self.arranged.next(alloc)
-    }
 }

@@ -2,6 +2,7 @@ pub mod Examples
 pub mod TrueConditions
 pub mod Placed
 pub mod Skips
+pub mod SortedPieces
 pub mod Cuts
 pub mod PieceRows
 pub mod Rights

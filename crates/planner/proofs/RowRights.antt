@@ -37,7 +37,7 @@ use Rattle.planner.proofs.PieceRows.{wide, columns_wide, cmp_wide}
 use Rattle.planner.proofs.Mapped.{map_both, sliced-map, arranged_map, sorted_unmapped, sorted_mapped}
 use Rattle.planner.proofs.TopRows.{Up, up_from_sorted, sorted_from_up, whole}
 
-plain_items : (items : List (Item ℕ)) (keys : List (Key ℕ)) → list_any is_aggregate (items ++ map key_item keys) ≡ list_any is_aggregate items
+pub plain_items : (items : List (Item ℕ)) (keys : List (Key ℕ)) → list_any is_aggregate (items ++ map key_item keys) ≡ list_any is_aggregate items
 plain_items [] [] = refl
 plain_items [] (k ∷ keys) = plain_items [] keys
 plain_items (i ∷ items) keys = ap (λ b. is_aggregate i || b) (plain_items items keys)

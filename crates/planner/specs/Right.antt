@@ -1,7 +1,8 @@
 -- When a plan is right: whatever the ranges and wherever the rows lie, what it may give is an answer over all rows.
-use Rattle.std.specs.Prelude.{◌≡◌, ℕ, ◌^◌, ◌<◌, true, false, List, [], ◌∷◌, length, Contains}
+use Rattle.std.specs.Prelude.{◌≡◌, ℕ, ◌^◌, ◌<◌, true, false, List, [], ◌∷◌, length, Contains, None, IsSorted}
 use Rattle.std.specs.List.{AllByRecursion}
 use Rattle.vt_value.specs.Values.{Row}
+use Rattle.operators.specs.Orders.{row_cmp}
 use Rattle.vschema.specs.declared.schema.Query.{Query}
 use Rattle.vschema.specs.declared.schema.Table.{Table}
 use Rattle.vschema.specs.declared.schema.VSchema.{VSchema}
@@ -11,7 +12,7 @@ use Rattle.sql_eval.specs.Conditions.{is_kept}
 use Rattle.sql_eval.specs.Queries.{Allowed}
 use Rattle.planner.specs.declared.plans.Plan.{Plan}
 use Rattle.planner.specs.Routes.{table_at, takes}
-use Rattle.planner.specs.Plans.{Shard, PlanGives}
+use Rattle.planner.specs.Plans.{piece_of, Shard, PlanGives}
 
 -- the rows of all shards
 abbrev pub rows_of_shards : List Shard → Database
@@ -40,3 +41,8 @@ SkipsNothing schema q p =
     (shard : Shard) → LiesInPlace schema (table_at schema q.table).keyspace q.table shard
     → takes (table_at schema q.table) p.route shard.0 ≡ false
     → (row : Row) → Contains (rows_of shard.1 q.table) row → is_kept q.filter row ≡ false
+
+-- Where the query isn't aggregated, each list that a shard may give for its piece is in the order of the finish's keys.
+abbrev pub GivesInOrder : Table → Plan → Type 0
+GivesInOrder t p =
+    p.finish.grouping ≡ None → (shard : Shard) (list : List Row) → Allowed (piece_of t p shard.0) shard.1 list → IsSorted (row_cmp p.finish.order_by) list

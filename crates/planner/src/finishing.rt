@@ -1,25 +1,65 @@
 //! The finish of a query, over the rows that its pieces gave.
-ghost use Rattle.std.specs.Prelude.{◌≡◌, IfOk, IfErr, flat_map};
+ghost use Rattle.std.specs.Prelude.{◌≡◌, All, None, IsSorted, IfOk, IfErr, map, flat_map};
+ghost use Rattle.operators.specs.Orders.{row_cmp};
+ghost use Rattle.operators.specs.Slices.{sliced, columns_of};
 ghost use Rattle.planner.specs.Plans.{joined_by, CanJoin, Finishes};
 
 use crate::copies::copy_places;
 use crate::plans::Finish;
-use operators::{Concat, Operator, collect};
+use operators::{Concat, Limit, MergeSort, Operator, Project, collect};
 use sql_eval::show;
 use std::alloc::Global;
 use vt_value::{Items, Refusal, Row};
 
+/// What `limit` leaves of the rows, each by the columns in these places. No row behind these is pulled.
+fn slice<O: Operator>(
+    alloc: Global,
+    rows: O,
+    limit: Option<sql_tree::Limit>,
+    places: Items<usize>,
+) -> Result<Items<Row>, Refusal>
+    ensures ok { IfOk result (λ list. list ≡ map (columns_of places) (sliced limit (O.to_come rows))) }
+    ensures err { IfErr result (λ e. e ≡ Refusal.OutOfMemory) }
+{
+    let mut shown = Project::new(Limit::new(rows, limit), places);
+    collect(alloc, &mut shown)
+}
+
 impl Finish {
     /// The rows of the answer, from those of the pieces: joined to groups where the query is aggregated, sorted by the keys, sliced and cut
-    /// to the answer's columns. Refuses only for want of memory.
+    /// to the answer's columns. Without groups and keys no more rows are pulled than the limit asks for. Refuses only for want of memory.
     pub fn answer<O: Operator>(&self, alloc: Global, pieces: Vec<O>) -> Result<Items<Row>, Refusal>
         requires fit { CanJoin self.now.grouping (flat_map O.to_come pieces.items) }
         ensures ok { IfOk result (Finishes self.now (flat_map O.to_come pieces.items)) }
         ensures err { IfErr result (λ e. e ≡ Refusal.OutOfMemory) }
     {
-        let rows = self.joined(alloc, Concat::new(pieces))?;
         let columns = copy_places(alloc, self.columns.as_slice())?;
+        let pieces = Concat::new(pieces);
+        if self.grouping.is_none() && self.order_by.is_empty() {
+            return slice(alloc, pieces, self.limit, columns);
+        }
+        let rows = self.joined(alloc, pieces)?;
         show(alloc, rows, self.order_by.as_slice(), self.limit, columns)
+    }
+
+    /// The same where each piece gives its rows in the order of the finish's keys, as those of `plan` do. They are merged, and no more of
+    /// them are pulled than the limit asks for and one of each piece. Refuses only for want of memory.
+    pub fn answer_in_order<O: Operator>(
+        &self,
+        alloc: Global,
+        pieces: Vec<O>,
+    ) -> Result<Items<Row>, Refusal>
+        requires fit { CanJoin self.now.grouping (flat_map O.to_come pieces.items) }
+        requires order { self.now.grouping ≡ None → All (λ piece. IsSorted (row_cmp self.now.order_by) (O.to_come piece)) pieces.items }
+        ensures ok { IfOk result (Finishes self.now (flat_map O.to_come pieces.items)) }
+        ensures err { IfErr result (λ e. e ≡ Refusal.OutOfMemory) }
+    {
+        if self.grouping.is_some() || self.order_by.is_empty() {
+            return self.answer(alloc, pieces);
+        }
+        let columns = copy_places(alloc, self.columns.as_slice())?;
+        let merge = MergeSort::new(alloc, pieces, self.order_by.as_slice())?;
+        slice(alloc, merge, self.limit, columns)
     }
 
     /// The rows of the pieces, or their groups.

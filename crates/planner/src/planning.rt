@@ -4,7 +4,7 @@ ghost use Rattle.sql_tree.specs.declared.Item.TheVariants as item;
 ghost use Rattle.vschema.specs.Resolved.{places_from};
 ghost use Rattle.planner.specs.Routes.{table_at, route_of};
 ghost use Rattle.planner.specs.Plans.{pushed_limit, key_item, pushed_rows, pushed_groups, pushed, keys_from, rows_finish, groups_finish, finish_of, planned};
-ghost use Rattle.planner.specs.Right.{IsRightPlan, SkipsNothing};
+ghost use Rattle.planner.specs.Right.{IsRightPlan, SkipsNothing, GivesInOrder};
 
 use crate::plans::{Finish, Plan};
 use crate::routes::{Route, route_of};
@@ -234,6 +234,7 @@ pub fn plan(alloc: Global, schema: &VSchema, query: Query) -> Result<Plan, Refus
     ensures exact { IfOk result (λ p. p ≡ planned (table_at schema.now query.table) query) }
     ensures right { IfOk result (IsRightPlan schema.now query) }
     ensures skips { IfOk result (SkipsNothing schema.now query) }
+    ensures order { IfOk result (GivesInOrder (table_at schema.now query.table)) }
     ensures err { IfErr result (λ e. e ≡ Refusal.OutOfMemory) }
 {
     let (route, finish) = route_and_finish(alloc, schema, &query)?;

@@ -1,5 +1,7 @@
 use Rattle.planner.proofs.Rights.{rights}
 use Rattle.planner.proofs.Skips.{skips}
+use Rattle.planner.specs.Routes.{table_at}
+use Rattle.planner.proofs.SortedPieces.{in_order}
 use Rattle.planner.proofs.planning.plan.Goals as goal
 
 pub returns-clause-right : goal.returns-clause-right
@@ -8,3 +10,8 @@ returns-clause-right c =
 
 pub returns-clause-skips : goal.returns-clause-skips
 returns-clause-skips c = skips c.args.schema.now c.args.query (record { route = c.in_ok-route.route; piece = c.in_ok-piece.piece; finish = c.in_ok-route.finish }) c.in_ok-route.ensures.route
+
+pub returns-clause-order : goal.returns-clause-order
+returns-clause-order c =
+    in_order (table_at c.args.schema.now c.args.query.table) c.args.query (record { route = c.in_ok-route.route; piece = c.in_ok-piece.piece; finish = c.in_ok-route.finish })
+    (λ i. record { route = c.in_ok-route.ensures.route i; piece = c.in_ok-piece.ensures.ok i; finish = c.in_ok-route.ensures.finish i })

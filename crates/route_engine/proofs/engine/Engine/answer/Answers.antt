@@ -1,11 +1,22 @@
-use Rattle.std.proofs.Common.{List, reverse, map, sym, subst}
+use Rattle.std.proofs.Common.{ℕ, ◌<◌, List, length, reverse, map, sym, subst}
+use Rattle.std.specs.Prelude.{All, IsSorted}
+use Rattle.std.proofs.lemmas.List.{get_or-map, length-map}
+use Rattle.operators.specs.Orders.{row_cmp}
 use Rattle.vt_value.specs.Values.{Row}
 use Rattle.planner.specs.Plans.{Finishes, CanJoin}
 use Rattle.route_engine.proofs.Selecting.{flat_mapped}
 use Rattle.route_engine.proofs.engine.Engine.answer.Goals as goal
 
-pub answer-requires : goal.answer-requires
-answer-requires g c = record {
+-- what holds of the rows that each piece gives, of the pieces
+given_back : {X Y : Type 0} (P : Y → Type 0) (f : X → Y) (xs : List X) → All P (map f xs) → All (λ x. P (f x)) xs
+given_back P f xs all k d within = subst P (get_or-map f xs k d (f d) within) (all k (f d) (subst (λ (n : ℕ). k < n) (sym (length-map xs f)) within))
+
+pub answer_in_order-requires : goal.answer_in_order-requires
+answer_in_order-requires g c = record {
+  order = λ plain.
+      given_back (λ piece. IsSorted (row_cmp c.args.plan.now.finish.order_by) piece) (λ r. reverse r.reversed.items) c.in_ok-pieces.field-0.pieces.items
+      (c.requires.order (map (λ r. reverse r.reversed.items) c.in_ok-pieces.field-0.pieces.items) c.in_ok-pieces.field-0.reads c.scatter_until.new.pass
+      c.in_ok-pieces.ensures.ok plain);
   fit =
       subst (CanJoin c.args.plan.now.finish.grouping) (sym (flat_mapped (λ r. reverse r.reversed.items) c.in_ok-pieces.field-0.pieces.items))
       (c.requires.fit (map (λ r. reverse r.reversed.items) c.in_ok-pieces.field-0.pieces.items) c.in_ok-pieces.field-0.reads c.scatter_until.new.pass

@@ -1,0 +1,22 @@
+use Rattle.std.proofs.Common.{◌≡◌, ◌<◌, length, sym, ◌∙◌, arith}
+use Rattle.operators.specs.inner.Merges.{row_lt, row_at, earlier}
+use Rattle.operators.proofs.FirstLemmas.{row_read, stays, turns}
+use Rattle.operators.proofs.merging.first.Goals as goal
+use Rattle.operators.proofs.merging.first.Goals.{then-comes_before, else-comes_before}
+
+pub loop-place-preserved : goal.loop-place-preserved
+loop-place-preserved g c =
+    let keys = c.args.keys.now in
+    let heads = c.args.heads.now in
+    let least = c.loop-place.least in
+    let place = c.loop-place.place in
+    let within : place < length heads = omega (arith, c.loop-place-test.true) in
+    let here = row_read heads place c.index-heads-place.result within in
+    let there = row_read heads least c.index-heads-least.result (omega (arith, within, c.loop-place.invariant.0)) in
+    let test : earlier (row_lt keys) (row_at heads place) (row_at heads least) ≡ c.comes_before.result =
+    rw (here, there) (sym c.comes_before.ensures)
+    in
+    elim c.if-comes_before.branch [
+      | then-comes_before w ↦ rw w.least-is (turns keys heads least place c.loop-place.invariant (test ∙ w.if-comes_before.true))
+      | else-comes_before w ↦ rw w.least-is (stays keys heads least place c.loop-place.invariant (test ∙ w.if-comes_before.false))
+    ]

@@ -1,0 +1,3 @@
+-- What no reader has to believe.
+pub mod Limits
+pub mod Merges
