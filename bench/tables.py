@@ -81,7 +81,7 @@ def queries(lines):
 
 def store(lines):
     print("\n## A store of rows\n\nMicroseconds a statement on one shard of few rows and on one of many, and a row of its loading by INSERTs of 1,000 rows. A SELECT")
-    print("and an UPDATE by the whole primary key, and an INSERT of one row, look the key up; LIMIT 1 and COUNT(*) read all rows.")
+    print("and an UPDATE by the whole primary key, and an INSERT of one row, look the key up; LIMIT 1 ends with its row, COUNT(*) walks all rows.")
     rows, first = [], {}
     for line in lines:
         shards, each, name, nanos = query_line(line)

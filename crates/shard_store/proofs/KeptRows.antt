@@ -15,7 +15,7 @@ use Rattle.vt_value.specs.declared.value.Comparison.TheVariants.{Eq}
 use Rattle.operators.proofs.OrderLemmas.{value_cmp-same, value_cmp-total}
 use Rattle.sql_tree.specs.declared.Operand.{Operand}
 use Rattle.sql_tree.specs.declared.Operand.TheVariants.{Column, Literal}
-use Rattle.vt_value.specs.Values.{Row, value_at, value_cmp, is_true, all_true, truth_and, truth_of, fits_order, compare}
+use Rattle.vt_value.specs.Values.{Row, value_at, value_cmp, is_true, is_null, all_true, truth_and, truth_of, fits_order, compare, in_list}
 use Rattle.vt_value.specs.declared.value.Truth.{Truth}
 use Rattle.vt_value.specs.declared.value.Truth.TheVariants.{True, False, Unknown}
 use Rattle.vt_value.specs.declared.refusal.Refusal.TheVariants.{DuplicateKey}
@@ -35,6 +35,7 @@ use Rattle.sql_eval.specs.Queries.{keyed_row, keyed_groups, kept_rows, IsAnswer}
 use Rattle.sql_eval.specs.Writes.{has_duplicate, assigned, row_updates, changes_over}
 use Rattle.sql_eval.proofs.RowLemmas.{has_key, has_duplicate-same}
 use Rattle.shard_store.specs.Tables.{key_at}
+use Rattle.shard_store.specs.Chosen.{is_among}
 use Rattle.shard_store.specs.Stores.{RowsView}
 
 -- ---- conditions
@@ -180,6 +181,43 @@ fixed_left row a b p c v is_a is_b same h =
     subst (λ (x : Operand ℕ). is_true (compare Eq (value_at row p) (operand_value row x)) ≡ true) is_b
     (subst (λ (x : Operand ℕ). is_true (compare Eq (operand_value row x) (operand_value row b)) ≡ true) is_a h) in
     subst (λ n. is_eq (value_cmp v (value_at row n)) ≡ true) same (equal_turned (value_at row p) v g)
+
+either : (a b : Bool) → b ≡ true → (a || b) ≡ true
+either true b e = refl
+either false b e = e
+
+unlisted : (x : Value) (members : List Value) → list_any (λ m. is_true (compare Eq x m)) members ≡ false → is_true (in_list x members) ≡ false
+unlisted x members none = by (is_null x || list_any is_null members) (simp none)
+  where
+    by : (b : Bool) → in_list x members ≡ cond b Unknown False → is_true (in_list x members) ≡ false
+    by true e = ap is_true e
+    by false e = ap is_true e
+
+equal_each : (x : Value) (ms : List Value) → list_any (λ m. is_true (compare Eq x m)) ms ≡ true → is_among ms x ≡ true
+equal_each x [] e = absurd (false≢true e)
+equal_each x (m ∷ ms) e = by (equal_each x ms) (is_true (compare Eq x m)) refl e
+  where
+    by : (list_any (λ m. is_true (compare Eq x m)) ms ≡ true → is_among ms x ≡ true) → (b : Bool) → is_true (compare Eq x m) ≡ b
+        → (is_true (compare Eq x m) || list_any (λ m. is_true (compare Eq x m)) ms) ≡ true → (is_eq (value_cmp m x) || is_among ms x) ≡ true
+    by ih true t g =
+        let f : is_eq (value_cmp m x) ≡ true = equal_turned x m t in
+        ap (λ b. b || is_among ms x) f
+    by ih false t g =
+        let f : list_any (λ m. is_true (compare Eq x m)) ms ≡ true = rw t at g in
+        either (is_eq (value_cmp m x)) (is_among ms x) (ih f)
+
+equal_among : (x : Value) (members : List Value) → is_true (in_list x members) ≡ true → is_among members x ≡ true
+equal_among x members h = by (list_any (λ m. is_true (compare Eq x m)) members) refl
+  where
+    by : (b : Bool) → list_any (λ m. is_true (compare Eq x m)) members ≡ b → is_among members x ≡ true
+    by true t = equal_each x members t
+    by false t = absurd (false≢true (sym (unlisted x members t) ∙ h))
+
+pub listed : (row : Row) (a : Operand ℕ) (p c : ℕ) (members : List Value) → a ≡ Column p → p ≡ c
+    → is_true (in_list (operand_value row a) members) ≡ true → is_among members (value_at row c) ≡ true
+listed row a p c members is same h =
+    subst (λ n. is_among members (value_at row n) ≡ true) same
+    (equal_among (value_at row p) members (subst (λ (x : Operand ℕ). is_true (in_list (operand_value row x) members) ≡ true) is h))
 
 -- ---- counts
 

@@ -11,12 +11,14 @@ use Rattle.std.specs.Cmp.Lexicographic.{slice_cmp}
 use Rattle.std.specs.declared.cmp.Ordering.{Ordering}
 use Rattle.std.specs.declared.cmp.Ordering.TheVariants.{Less, Equal, Greater}
 use Rattle.vt_value.specs.declared.value.Value.{Value}
-use Rattle.vt_value.specs.Values.{Row, value_cmp}
+use Rattle.std.specs.Prelude.{slice_index}
+use Rattle.vt_value.specs.Values.{Row, value_at, value_cmp}
 use Rattle.vschema.specs.Database.{same_row, without}
 use Rattle.shard_store.specs.declared.key.RowKey.{RowKey}
 use Rattle.shard_store.specs.Keys.{key_cmp}
 use Rattle.shard_store.specs.Slots.{Slot, rows_in, slot_at, row_at, begins, slots_with, with_slot, with_row, without_slot}
 use Rattle.shard_store.specs.Tables.{key_at, has_key, begins_with, IsAtItsKey}
+use Rattle.shard_store.specs.Chosen.{is_among, slots_among}
 use Rattle.shard_store.specs.Proofs.KeyLemmas.{key-same}
 use Rattle.shard_store.proofs.Rows.{row_is, nil_is, head_is, tail_is}
 use Rattle.shard_store.proofs.Bags.{same_self}
@@ -79,6 +81,14 @@ begun [] v slots some h = absurd (omega (arith, some))
 begun (n ∷ places) v slots some h =
     sym (filter_slots (n ∷ places) (begins_with (n ∷ places) v) (λ k. begins v k.values)
     (λ k row at. ap (λ (vs : Row). begins v vs) (sym at)) slots h)
+
+-- the same of several values
+pub begun_any : (places : List ℕ) (vs : List Value) (slots : List Slot) → 1 ≤ length places → Keyed places slots
+    → rows_in (slots_among vs slots) ≡ filter (λ row. is_among vs (value_at row (slice_index places 0))) (rows_in slots)
+begun_any [] vs slots some h = absurd (omega (arith, some))
+begun_any (n ∷ places) vs slots some h =
+    sym (filter_slots (n ∷ places) (λ row. is_among vs (value_at row n)) (λ k. list_any (λ v. begins v k.values) vs)
+    (λ k row at. ap (λ (ks : Row). list_any (λ v. begins v ks) vs) (sym at)) slots h)
 
 some_first : (x : Row) (xs : List Row) (o : Option Row) → x ∷ xs ≡ option_to_list o → (o ≡ Some x) × (xs ≡ [])
 some_first x xs None e = nil_is (sym e)

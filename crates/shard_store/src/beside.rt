@@ -1,11 +1,12 @@
 ghost use Rattle.std.specs.Prelude.{◌≡◌, ◌+◌, ◌<◌, ◌≤◌, ◌++◌, ◌∷◌, [], IfOk, IfErr, OnOk, IsPermutation, length, position};
 ghost use Rattle.vschema.specs.Database.{same_row, without};
+ghost use Rattle.shard_store.specs.Slots.{rows_in};
 ghost use Rattle.shard_store.specs.Tables.{key_at};
 
 use crate::key::RowKey;
 use crate::table::StoredTable;
-use crate::walk::{AllRows, RowsBeside};
-use sql_eval::same_row;
+use crate::walk::AllRows;
+use sql_eval::{SliceRows, same_row};
 use std::alloc::Global;
 use std::marker::Model;
 use vt_value::{Items, Refusal, Row};
@@ -17,12 +18,24 @@ fn place_of(rows: &[Row], row: &Row) -> Option<usize>
     rows.iter().position(|r| same_row(row, r))
 }
 
+// Gives up the slots of these keys that have no row.
+fn sweep_slots(stored: &mut StoredTable, keys: &mut Vec<RowKey>)
+    ensures rows { rows_in stored.new.slots ≡ rows_in stored.old.slots }
+    ensures places { stored.new.places ≡ stored.old.places }
+{
+    while let Some(key) = keys.pop() {
+        stored.sweep(&key);
+    }
+}
+
 /// The rows of a table in any number, also of one key: each in the slot of its key, or beside the slots where another row has its key
 /// or the key has no slot. Contracts see a `RowsView`.
 #[derive(Drop)]
 pub struct TableRows {
     pub(crate) stored: StoredTable,
     pub(crate) beside: Vec<Row>,
+    // keys of removed rows, whose slots are to be given up
+    pub(crate) freed: Vec<RowKey>,
 }
 
 impl Model for TableRows {
@@ -44,6 +57,7 @@ impl TableRows {
         TableRows {
             stored: StoredTable::new(alloc, places),
             beside: Vec::new(alloc),
+            freed: Vec::new(alloc),
         }
     }
 
@@ -68,9 +82,7 @@ impl TableRows {
     {
         AllRows {
             slots: self.stored.rows(),
-            beside: RowsBeside {
-                rows: self.beside.as_slice(),
-            },
+            beside: SliceRows::new(self.beside.as_slice()),
         }
     }
 
@@ -140,5 +152,30 @@ impl TableRows {
         } else if let Some(place) = place_of(self.beside.as_slice(), row) {
             self.beside.remove(place);
         }
+    }
+
+    /// Makes memory to remember so many more keys of removed rows. Refuses for want of memory; the rows stay as they are.
+    pub fn reserve_freed(&mut self, additional: usize) -> Result<(), Refusal>
+        ensures unchanged { self.new ≡ self.old }
+        ensures err { IfErr result (λ e. e ≡ Refusal.OutOfMemory) }
+    {
+        self.freed.reserve(additional)?;
+        Ok(())
+    }
+
+    /// Remembers the key of a removed row, whose slot is to be given up by `sweep`, where there is memory for that. Takes no memory.
+    pub fn free(&mut self, key: RowKey)
+        ensures { self.new ≡ self.old }
+    {
+        if self.freed.len() < self.freed.capacity() {
+            self.freed.push_reserved(key);
+        }
+    }
+
+    /// Gives up the slots of removed rows where no other row has come into them. Takes no memory.
+    pub fn sweep(&mut self)
+        ensures { self.new ≡ self.old }
+    {
+        sweep_slots(&mut self.stored, &mut self.freed);
     }
 }

@@ -1,8 +1,9 @@
-//! What queries give and what writes change, over the stored rows. Where a condition fixes the first key column to a value, the rows of that
-//! value alone are looked at, and an INSERT looks each of its keys up.
-ghost use Rattle.std.specs.Prelude.{◌≡◌, ◌⊎◌, ◌<◌, true, IsTrue, IfOk, IfErr, IfSome, MatchOption, Ok, Err, List, [], filter, length};
+//! What queries give and what writes change, over the stored rows. Where a condition fixes the first key column to values, the rows of these
+//! values alone are looked at, and an INSERT looks each of its keys up.
+ghost use Rattle.std.specs.Prelude.{◌≡◌, ◌⊎◌, ◌<◌, true, IsTrue, IfOk, IfErr, IfSome, MatchOption, Ok, Err, List, [], filter, length, slice_index};
 ghost use Rattle.std.specs.List.{list_any};
 ghost use Rattle.vt_value.specs.declared.value.Value.{Value as V};
+ghost use Rattle.vt_value.specs.Values.{value_at};
 ghost use Rattle.vschema.specs.Checks.{is_aggregated};
 ghost use Rattle.vschema.specs.Schema.{key_of};
 ghost use Rattle.vschema.specs.Database.{rows_of, same_row};
@@ -11,67 +12,75 @@ ghost use Rattle.sql_eval.specs.Groups.{CanBeSummed};
 ghost use Rattle.sql_eval.specs.Queries.{IsAnswer};
 ghost use Rattle.sql_eval.specs.Writes.{written_table, changes_over};
 ghost use Rattle.shard_store.specs.Slots.{rows_in};
-ghost use Rattle.shard_store.specs.Tables.{key_at, begins_with};
+ghost use Rattle.shard_store.specs.Tables.{key_at};
 ghost use Rattle.shard_store.specs.Stores.{IsInsertOf};
+ghost use Rattle.shard_store.specs.Chosen.{fits, slots_chosen, rows_chosen};
 
 use crate::beside::TableRows;
-use crate::fixed::fixed_value;
+use crate::fixed::{Fixed, fixed_values};
 use crate::primary::are_key_places;
-use crate::source::{all_kept, any_has_key};
+use crate::source::any_has_key;
 use crate::stored::StoredTables;
 use crate::table::StoredTable;
-use crate::walk::{AllRows, RowsBeside};
-use sql_eval::{change_local, select_kept};
+use crate::walk::{AllRows, ChosenRows, ChosenSlots};
+use sql_eval::{SliceRows, all_kept, change_local, select_from, select_local};
 use sql_tree::Condition;
 use std::alloc::Global;
 use vschema::{Query, RowChange, Table, Write};
-use vt_value::{Items, Refusal, Row, Value};
+use vt_value::{Items, Refusal, Row};
 
 impl StoredTable {
-    // The value that the first key column has in each row whose condition is true.
-    fn first_value<'a>(&self, condition: &'a Option<Condition<usize>>) -> Option<&'a Value>
-        ensures some { IfSome result (λ v. 0 < length self.now.places) }
-        ensures value { IfSome result (λ v. (row : List V) → is_kept condition.now row ≡ true → begins_with self.now.places v.now row ≡ true) }
+    // Values of which the first key column has one in each row whose condition is true.
+    fn first_values<'a>(&self, condition: &'a Option<Condition<usize>>) -> Option<Fixed<'a>>
+        ensures some { IfSome result (λ f. 0 < length self.now.places) }
+        ensures values { IfSome result (λ f. (row : List V) → is_kept condition.now row ≡ true → fits f (value_at row (slice_index self.now.places 0)) ≡ true) }
     {
         match (condition, self.key_columns().first()) {
-            (Some(condition), Some(column)) => fixed_value(condition, *column),
+            (Some(condition), Some(column)) => fixed_values(condition, *column),
             _ => None,
         }
     }
 
-    // Copies of the rows whose condition is true, which all have this value in the first key column.
-    fn kept_with(
-        &self,
+    // Rows in slots among which are all whose condition is true.
+    fn chosen<'a>(
+        &'a self,
         alloc: Global,
-        condition: &Option<Condition<usize>>,
-        value: &Value,
-    ) -> Result<Items<Row>, Refusal>
-        requires some { 0 < length self.now.places }
-        requires value { (row : List V) → is_kept condition.now row ≡ true → begins_with self.now.places value.now row ≡ true }
-        ensures ok { IfOk result (λ list. list ≡ filter (is_kept condition.now) (rows_in self.now.slots)) }
+        condition: &'a Option<Condition<usize>>,
+    ) -> Result<ChosenSlots<'a>, Refusal>
+        ensures ok { IfOk result (λ rows. filter (is_kept condition.now) (slots_chosen rows) ≡ filter (is_kept condition.now) (rows_in self.now.slots)) }
         ensures err { IfErr result (λ e. e ≡ Refusal.OutOfMemory) }
     {
-        let rows = self.rows_with(alloc, value)?;
-        all_kept(alloc, condition, rows)
-    }
-
-    /// Copies of the rows whose condition is true. Refuses for want of memory.
-    pub fn kept(
-        &self,
-        alloc: Global,
-        condition: &Option<Condition<usize>>,
-    ) -> Result<Items<Row>, Refusal>
-        ensures ok { IfOk result (λ list. list ≡ filter (is_kept condition.now) (rows_in self.now.slots)) }
-        ensures err { IfErr result (λ e. e ≡ Refusal.OutOfMemory) }
-    {
-        match self.first_value(condition) {
-            Some(value) => self.kept_with(alloc, condition, value),
-            None => all_kept(alloc, condition, self.rows()),
+        match self.first_values(condition) {
+            Some(Fixed::One(value)) => {
+                let rows = self.rows_with(alloc, value)?;
+                Ok(ChosenSlots::With(rows))
+            }
+            Some(Fixed::Among(values)) => {
+                let rows = self.rows_among(alloc, values)?;
+                Ok(ChosenSlots::Among(rows))
+            }
+            None => Ok(ChosenSlots::All(self.rows())),
         }
     }
 }
 
 impl TableRows {
+    /// Rows among which are all whose condition is true. Refuses for want of memory.
+    pub fn chosen<'a>(
+        &'a self,
+        alloc: Global,
+        condition: &'a Option<Condition<usize>>,
+    ) -> Result<ChosenRows<'a>, Refusal>
+        ensures ok { IfOk result (λ rows. filter (is_kept condition.now) (rows_chosen rows) ≡ filter (is_kept condition.now) self.now.rows) }
+        ensures err { IfErr result (λ e. e ≡ Refusal.OutOfMemory) }
+    {
+        let slots = self.stored.chosen(alloc, condition)?;
+        Ok(ChosenRows {
+            slots,
+            beside: SliceRows::new(self.beside.as_slice()),
+        })
+    }
+
     // Copies of the rows whose condition is true.
     fn kept(
         &self,
@@ -81,13 +90,18 @@ impl TableRows {
         ensures ok { IfOk result (λ list. list ≡ filter (is_kept condition.now) self.now.rows) }
         ensures err { IfErr result (λ e. e ≡ Refusal.OutOfMemory) }
     {
-        let mut list = self.stored.kept(alloc, condition)?;
-        let rows = RowsBeside {
-            rows: self.beside.as_slice(),
-        };
-        let beside = all_kept(alloc, condition, rows)?;
-        list.append(beside)?;
-        Ok(list)
+        let rows = self.chosen(alloc, condition)?;
+        all_kept(alloc, condition, rows)
+    }
+
+    // What a query gives over the rows.
+    fn select(&self, alloc: Global, query: &Query) -> Result<Items<Row>, Refusal>
+        requires summed { is_aggregated query.now ≡ true → CanBeSummed self.now.rows }
+        ensures ok { IfOk result (IsAnswer query.now self.now.rows) }
+        ensures err { IfErr result (λ e. e ≡ Refusal.OutOfMemory) }
+    {
+        let rows = self.chosen(alloc, &query.filter)?;
+        select_from(alloc, query, rows)
     }
 
     // Whether a row has this row's primary key; `keyed` tells whether it can be looked up.
@@ -100,9 +114,7 @@ impl TableRows {
             return Ok(any_has_key(table, row, self.all()));
         }
         let key = self.stored.key_of(alloc, row)?;
-        let beside = RowsBeside {
-            rows: self.beside.as_slice(),
-        };
+        let beside = SliceRows::new(self.beside.as_slice());
         Ok(self.stored.contains(&key) || any_has_key(table, row, beside))
     }
 
@@ -158,8 +170,10 @@ impl StoredTables {
         ensures ok { IfOk result (IsAnswer query.now (rows_of self.now.rows query.now.table)) }
         ensures err { IfErr result (λ e. e ≡ Refusal.OutOfMemory) }
     {
-        let kept = self.kept(alloc, query.table, &query.filter)?;
-        select_kept(alloc, query, kept)
+        match self.table(query.table) {
+            Some(table) => table.select(alloc, query),
+            None => select_local(alloc, query, &[]),
+        }
     }
 
     fn has_any_key(

@@ -44,6 +44,19 @@ fn key_in(change: &KeyedChange) -> &RowKey {
     }
 }
 
+fn is_removal(change: &KeyedChange) -> bool {
+    matches!(change, KeyedChange::Take(_, _))
+}
+
+// Gives up the slots of removed rows.
+fn sweep_tables(tables: &mut Vec<TableRows>)
+    ensures { tables.new.items ≡ tables.old.items }
+{
+    for place in 0..tables.len() {
+        tables[place].sweep();
+    }
+}
+
 impl StoredTables {
     /// No tables.
     pub fn new(alloc: Global) -> StoredTables
@@ -210,6 +223,36 @@ impl StoredTables {
         self.tables[place].make_room(alloc, key, additional)
     }
 
+    // Makes memory to remember so many more keys of rows that are removed from the table at a place.
+    fn reserve_freed(&mut self, place: usize, additional: usize) -> Result<(), Refusal>
+        requires { place < length self.old.rows }
+        ensures unchanged { self.new ≡ self.old }
+        ensures err { IfErr result (λ e. e ≡ Refusal.OutOfMemory) }
+    {
+        self.tables[place].reserve_freed(additional)
+    }
+
+    // Makes memory for a change, one of so many.
+    fn reserve_for(
+        &mut self,
+        alloc: Global,
+        change: &KeyedChange,
+        changes: usize,
+    ) -> Result<(), Refusal>
+        requires { changed_table (change_in change.now) < length self.old.rows }
+        ensures rows { self.new.rows ≡ self.old.rows }
+        ensures places { self.new.places ≡ self.old.places }
+        ensures ok { OnOk result (changes ≤ room_of self.new (changed_table (change_in change.now))) }
+        ensures room { (n : ℕ) → room_of self.old n ≤ room_of self.new n }
+        ensures err { IfErr result (λ e. e ≡ Refusal.OutOfMemory) }
+    {
+        let place = place_in(change);
+        if is_removal(change) {
+            self.reserve_freed(place, changes)?;
+        }
+        self.reserve(alloc, place, key_in(change), changes)
+    }
+
     // Makes memory for the changes.
     fn reserve_all(&mut self, alloc: Global, keyed: &[KeyedChange]) -> Result<(), Refusal>
         requires { AllByRecursion (λ c. changed_table (change_in c) < length self.old.rows) keyed.now }
@@ -219,7 +262,7 @@ impl StoredTables {
         ensures err { IfErr result (λ e. e ≡ Refusal.OutOfMemory) }
     {
         for change in keyed {
-            self.reserve(alloc, place_in(change), key_in(change), keyed.len())?;
+            self.reserve_for(alloc, change, keyed.len())?;
         }
         Ok(())
     }
@@ -265,6 +308,22 @@ impl StoredTables {
         }
     }
 
+    // Remembers the key of a row that was removed from the table at a place.
+    fn free(&mut self, place: usize, key: RowKey)
+        ensures { self.new ≡ self.old }
+    {
+        if place < self.tables.len() {
+            self.tables[place].free(key);
+        }
+    }
+
+    // Gives up the slots of removed rows.
+    fn sweep(&mut self)
+        ensures { self.new ≡ self.old }
+    {
+        sweep_tables(&mut self.tables);
+    }
+
     fn apply_one(&mut self, change: KeyedChange)
         requires key { HasItsKey self.old change }
         requires room { (n : ℕ) → IsTrue (puts_into n change) → 0 < room_of self.old n }
@@ -277,11 +336,15 @@ impl StoredTables {
                 let KeyedRow { key, row } = keyed;
                 self.put(place, &key, row);
             }
-            KeyedChange::Take(place, keyed) => self.take(place, &keyed.key, &keyed.row),
+            KeyedChange::Take(place, keyed) => {
+                let KeyedRow { key, row } = keyed;
+                self.take(place, &key, &row);
+                self.free(place, key);
+            }
         }
     }
 
-    /// Does the changes, in order. Takes no memory.
+    /// Does the changes, in order, and gives up the slots of the removed rows' keys that have none then. Takes no memory.
     pub fn apply(&mut self, changes: Vec<KeyedChange>)
         requires keys { AllByRecursion (HasItsKey self.old) changes.items }
         requires room { HasRoomFor self.old changes.items }
@@ -291,5 +354,6 @@ impl StoredTables {
         for change in changes {
             self.apply_one(change);
         }
+        self.sweep();
     }
 }

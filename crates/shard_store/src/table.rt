@@ -1,15 +1,19 @@
-ghost use Rattle.std.specs.Prelude.{◌≡◌, ◌<◌, ◌^◌, ◌&&◌, not, ◌++◌, ◌∷◌, [], IsSome, IfOk, IfErr, OnOk, OnErr, IsPermutation, option_to_list, option_copied, filter, length, is_some, if◌then◌else◌};
+ghost use Rattle.std.specs.Prelude.{◌≡◌, ◌<◌, ◌^◌, ◌&&◌, not, ◌++◌, ◌∷◌, [], IsSome, IsTrue, IfOk, IfErr, OnOk, OnErr, IsPermutation, option_to_list, option_copied, filter, length, slice_index, is_some, if◌then◌else◌};
 ghost use Rattle.std.specs.List.{list_any};
 ghost use Rattle.vt_value.specs.Values.{value_at};
 ghost use Rattle.vschema.specs.Database.{same_row, without};
 ghost use Rattle.shard_store.specs.Slots.{rows_in, slot_at, row_at, slots_from, with_slot, without_slot};
 ghost use Rattle.shard_store.specs.Tables.{key_at, has_key, begins_with, CanTake};
+ghost use Rattle.shard_store.specs.Chosen.{is_among};
+ghost use Rattle.shard_store.specs.Behind.{is_behind, IsInOrder};
 
 use crate::key::RowKey;
 use crate::slots::Slots;
-use crate::walk::{RowsInOrder, RowsWith};
+use crate::sorted::sorted;
+use crate::walk::{RowsAmong, RowsInOrder, RowsWith};
 use std::alloc::Global;
 use std::marker::Model;
+use vschema::Table;
 use vt_value::{Items, Refusal, Row, Value, copy};
 
 /// The rows of a table, each in the slot of its own key: the values of the table's key columns. No two rows have the same key.
@@ -104,6 +108,42 @@ impl StoredTable {
         self.slots.rows_from(key)
     }
 
+    /// Whether the key columns are those of the primary key, in its order.
+    pub(crate) fn is_by_primary_key(&self, table: &Table) -> bool
+        ensures { IsTrue result → self.now.places ≡ table.now.primary_key }
+    {
+        self.key_columns() == table.primary_key.as_slice()
+    }
+
+    // The rows from the key of a row on.
+    fn rows_from_row(&self, alloc: Global, row: &Row) -> Result<RowsInOrder<'_>, Refusal>
+        ensures ok { IfOk result (λ rows. rows ≡ rows_in (slots_from (record { values = key_at self.now.places row.now }) self.now.slots)) }
+        ensures err { IfErr result (λ e. e ≡ Refusal.OutOfMemory) }
+    {
+        let key = self.key_of(alloc, row)?;
+        Ok(self.slots.rows_from(&key))
+    }
+
+    /// Rows in slots among which are all behind a row; all, where they don't stand in the order of primary keys.
+    pub(crate) fn behind(
+        &self,
+        alloc: Global,
+        table: &Table,
+        in_order: bool,
+        last: Option<&Row>,
+    ) -> Result<RowsInOrder<'_>, Refusal>
+        requires { IsTrue in_order → self.now.places ≡ table.now.primary_key }
+        ensures rows { IfOk result (λ rows. filter (is_behind table.now (option_copied last.entry)) rows ≡ filter (is_behind table.now (option_copied last.entry)) (rows_in self.now.slots)) }
+        ensures order { IfOk result (λ rows. IsTrue in_order → IsInOrder table.now rows) }
+        ensures err { IfErr result (λ e. e ≡ Refusal.OutOfMemory) }
+    {
+        let _slots = self.slots.len();
+        match last {
+            Some(last) if in_order => self.rows_from_row(alloc, last),
+            _ => Ok(self.slots.rows()),
+        }
+    }
+
     /// The rows whose first key column has a value, in the order of their keys. Refuses for want of memory for that value's key.
     pub fn rows_with<'a>(&'a self, alloc: Global, value: &'a Value) -> Result<RowsWith<'a>, Refusal>
         requires { 0 < length self.now.places }
@@ -111,6 +151,21 @@ impl StoredTable {
         ensures err { IfErr result (λ e. e ≡ Refusal.OutOfMemory) }
     {
         let rows = self.slots.rows_with(alloc, value)?;
+        Ok(rows)
+    }
+
+    /// The rows whose first key column has one of these values, in the order of their keys. Refuses for want of memory.
+    pub fn rows_among<'a>(
+        &'a self,
+        alloc: Global,
+        values: &'a [Value],
+    ) -> Result<RowsAmong<'a>, Refusal>
+        requires { 0 < length self.now.places }
+        ensures ok { IfOk result (λ rows. rows ≡ filter (λ row. is_among values.now (value_at row (slice_index self.now.places 0))) (rows_in self.now.slots)) }
+        ensures err { IfErr result (λ e. e ≡ Refusal.OutOfMemory) }
+    {
+        let sorted = sorted(alloc, values)?;
+        let rows = self.slots.rows_among(alloc, sorted.as_slice())?;
         Ok(rows)
     }
 

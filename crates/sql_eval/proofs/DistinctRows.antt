@@ -49,7 +49,7 @@ unfolding IsDistinct
 settled [] h = refl
 settled (x ∷ xs) h = ap (λ d. x ∷ others x d) (settled xs h.1) ∙ ap (λ d. x ∷ d) (unchanged x xs h.0)
 
-filter_true : (xs : List Row) → filter (λ x. true) xs ≡ xs
+pub filter_true : (xs : List Row) → filter (λ x. true) xs ≡ xs
 filter_true [] = refl
 filter_true (x ∷ xs) = ap (λ l. x ∷ l) (filter_true xs)
 

@@ -11,3 +11,6 @@ pub mod DistinctRows
 pub mod Rejoined
 pub mod SameAnswers
 pub mod PlaceLemmas
+pub mod Firsts
+pub mod Counted
+pub mod LentRows

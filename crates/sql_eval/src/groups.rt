@@ -1,15 +1,17 @@
 //! The groups of aggregated queries.
-ghost use Rattle.std.specs.Prelude.{◌≡◌, IfOk, IfErr, map, length, unwrap_or};
+ghost use Rattle.std.specs.Prelude.{◌≡◌, IfOk, IfErr, map, filter, length, unwrap_or};
 ghost use Rattle.aggregate.specs.Groups.{AreSummable};
 ghost use Rattle.vschema.specs.Checks.{is_aggregate};
 ghost use Rattle.vschema.specs.FirstPlaces.{first_place};
+ghost use Rattle.sql_eval.specs.Conditions.{is_kept};
 ghost use Rattle.sql_eval.specs.Grouping.{shown_place, aggregates_of, item_places, placed_key, grouping_of, group_columns, group_order, grouped};
 ghost use Rattle.sql_eval.specs.inner.Parts.{one_of, row_part, part_row};
 
 use crate::rows::value_at;
+use crate::source::{RowSource, next_kept};
 use aggregate::GroupMerge;
 use operators::{Operator, collect, project_row};
-use sql_tree::{Item, Key};
+use sql_tree::{Condition, Item, Key};
 use std::alloc::Global;
 use vschema::{FirstPlaces, Query};
 use vt_value::{Items, Refusal, Row, Value, copy};
@@ -132,21 +134,54 @@ fn part_row(
     Ok(part)
 }
 
-/// Of each row the values of its group, and the parts of the aggregates that it is.
-pub fn part_rows(
-    alloc: Global,
-    columns: &[usize],
-    aggregates: &[Item<usize>],
-    rows: &[Row],
-) -> Result<Items<Row>, Refusal>
-    ensures ok { IfOk result (λ parts. parts ≡ map (part_row columns.now aggregates.now) rows.now) }
-    ensures err { IfErr result (λ e. e ≡ Refusal.OutOfMemory) }
-{
-    let mut parts = Items::new(alloc);
-    for row in rows {
-        parts.push(part_row(alloc, columns, aggregates, row)?)?;
+/// Of each row of a source whose condition is true the values of its group, and the parts of the aggregates that it is.
+#[derive(Drop)]
+pub struct Parts<'a, S> {
+    condition: &'a Option<Condition<usize>>,
+    columns: &'a [usize],
+    aggregates: Items<Item<usize>>,
+    rows: S,
+    failed: bool,
+}
+
+impl<'a, S: RowSource<'a>> Parts<'a, S> {
+    /// The parts of the groups of an aggregated query. Refuses only for want of memory.
+    pub fn of(alloc: Global, query: &'a Query, rows: S) -> Result<Parts<'a, S>, Refusal>
+        ensures ok { IfOk result (λ parts. ⟦<Parts<'a, S> as Operator>⟧.to_come parts
+            ≡ map (part_row query.now.group_by (aggregates_of query.now.items)) (filter (is_kept query.now.filter) (S.to_come rows))) }
+        ensures err { IfErr result (λ e. e ≡ Refusal.OutOfMemory) }
+    {
+        let aggregates = aggregates_of(alloc, query.items.as_slice())?;
+        Ok(Parts {
+            condition: &query.filter,
+            columns: query.group_by.as_slice(),
+            aggregates,
+            rows,
+            failed: false,
+        })
     }
-    Ok(parts)
+}
+
+impl<'a, S: RowSource<'a>> Operator for Parts<'a, S> {
+    ghost use Rattle.std.specs.Prelude.{map, filter};
+    ghost use Rattle.sql_eval.specs.Conditions.{is_kept};
+    ghost use Rattle.sql_eval.specs.inner.Parts.{part_row};
+
+    ghost to_come = { λ parts. map (part_row parts.columns.now parts.aggregates) (filter (is_kept parts.condition.now) (S.to_come parts.rows)) };
+
+    ghost has_failed = { λ parts. parts.failed };
+
+    fn next(&mut self, alloc: Global) -> Result<Option<Row>, Refusal> {
+        if self.failed {
+            return Err(Refusal::OutOfMemory);
+        }
+        let Some(row) = next_kept(self.condition, &mut self.rows) else {
+            return Ok(None);
+        };
+        let part = part_row(alloc, self.columns, self.aggregates.as_slice(), row);
+        self.failed = part.is_err();
+        Ok(Some(part?))
+    }
 }
 
 fn place_of(columns: &FirstPlaces, column: usize, other: usize) -> usize

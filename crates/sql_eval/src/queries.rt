@@ -1,38 +1,21 @@
-ghost use Rattle.std.specs.Prelude.{◌≡◌, IfOk, IfErr, map, filter, true};
+ghost use Rattle.std.specs.Prelude.{◌≡◌, ◌≤◌, ◌^◌, ◌∷◌, [], IsTrue, length, pos, IfOk, IfErr, map, filter, true};
+ghost use Rattle.std.specs.List.{list_all};
 ghost use Rattle.vschema.specs.Checks.{is_aggregated};
 ghost use Rattle.operators.specs.Slices.{columns_of};
 ghost use Rattle.sql_eval.specs.Conditions.{is_kept};
 ghost use Rattle.sql_eval.specs.Groups.{CanBeSummed};
 ghost use Rattle.sql_eval.specs.Grouping.{shown_place, group_columns, group_order, IsSortedSlice};
-ghost use Rattle.sql_eval.specs.inner.Parts.{grouped_rows};
+ghost use Rattle.sql_eval.specs.inner.Parts.{grouped_rows, is_count_rows, counted_row};
 ghost use Rattle.sql_eval.specs.Queries.{IsAnswer};
 
-use crate::conditions::keeps;
-use crate::groups::{Grouping, group_columns, group_order, part_rows, shown_place};
+use crate::groups::{Grouping, Parts, group_columns, group_order, shown_place};
+use crate::ordered::ordered;
+use crate::source::{RowSource, SliceRows, kept_count, shown};
 use operators::{Limit, Project, Rows, collect, project_row, sort_rows};
 use sql_tree::{Condition, Item, Key};
 use std::alloc::Global;
 use vschema::Query;
-use vt_value::{Items, Refusal, Row, copy_row};
-
-/// Copies of the rows whose condition is true.
-fn kept(
-    alloc: Global,
-    condition: &Option<Condition<usize>>,
-    rows: &[Row],
-) -> Result<Items<Row>, Refusal>
-    ensures ok { IfOk result (λ list. list ≡ filter (is_kept condition.now) rows.now) }
-    ensures err { IfErr result (λ e. e ≡ Refusal.OutOfMemory) }
-{
-    let mut list = Items::new(alloc);
-    for row in rows {
-        if keeps(condition, row) {
-            let row = copy_row(alloc, row)?;
-            list.push(row)?;
-        }
-    }
-    Ok(list)
-}
+use vt_value::{Items, Refusal, Row, Value};
 
 fn shown_places(alloc: Global, items: &[Item<usize>]) -> Result<Items<usize>, Refusal>
     ensures ok { IfOk result (λ places. places ≡ map shown_place items.now) }
@@ -79,43 +62,115 @@ pub fn show(
     collect(alloc, &mut shown)
 }
 
-fn select_rows(alloc: Global, query: &Query, rows: Items<Row>) -> Result<Items<Row>, Refusal>
-    ensures ok { IfOk result (IsSortedSlice query.now.order_by query.now.limit (map shown_place query.now.items) rows) }
+// What a query without aggregates gives. Only what goes out is copied.
+fn select_rows<'a, S: RowSource<'a>>(
+    alloc: Global,
+    query: &'a Query,
+    rows: S,
+) -> Result<Items<Row>, Refusal>
+    ensures ok { IfOk result (IsSortedSlice query.now.order_by query.now.limit (map shown_place query.now.items) (filter (is_kept query.now.filter) (S.to_come rows))) }
     ensures err { IfErr result (λ e. e ≡ Refusal.OutOfMemory) }
 {
     let places = shown_places(alloc, query.items.as_slice())?;
-    show(alloc, rows, query.order_by.as_slice(), query.limit, places)
+    let keys = query.order_by.as_slice();
+    if keys.is_empty() {
+        return shown(alloc, &query.filter, rows, query.limit, places.as_slice());
+    }
+    let rows = ordered(alloc, &query.filter, rows, keys)?;
+    shown(alloc, &None, rows, query.limit, places.as_slice())
 }
 
-/// One row for each group of the rows.
-fn grouped(alloc: Global, query: &Query, rows: &[Row]) -> Result<Items<Row>, Refusal>
-    requires { CanBeSummed rows.now }
-    ensures ok { IfOk result (λ list. list ≡ grouped_rows query.now rows.now) }
+fn is_count_rows(aggregate: &Item<usize>) -> bool
+    ensures { result ≡ is_count_rows aggregate.now }
+{
+    matches!(aggregate, Item::CountRows)
+}
+
+fn are_count_rows(aggregates: &[Item<usize>]) -> bool
+    ensures { result ≡ list_all is_count_rows aggregates.now }
+{
+    aggregates.iter().all(|aggregate| is_count_rows(aggregate))
+}
+
+// Whether COUNT(*) of all rows is all that is asked.
+fn counts_alone(columns: &[usize], aggregates: &[Item<usize>]) -> bool
+    ensures columns { IsTrue result → columns.now ≡ [] }
+    ensures aggregates { IsTrue result → list_all is_count_rows aggregates.now ≡ true }
+{
+    columns.is_empty() && are_count_rows(aggregates)
+}
+
+fn count_value(count: u64) -> Value
+    ensures { result ≡ Value.Int (pos count) }
+{
+    Value::Int(i128::from(count))
+}
+
+// The one row of the rows whose condition is true: their count, so many times.
+fn counted<'a, S: RowSource<'a>>(
+    alloc: Global,
+    condition: &Option<Condition<usize>>,
+    rows: S,
+    aggregates: &[Item<usize>],
+) -> Result<Items<Row>, Refusal>
+    requires { length (filter (is_kept condition.now) (S.to_come rows)) ≤ 2 ^ 60 }
+    ensures ok { IfOk result (λ list. list ≡ counted_row aggregates.now (length (filter (is_kept condition.now) (S.to_come rows))) ∷ []) }
+    ensures err { IfErr result (λ e. e ≡ Refusal.OutOfMemory) }
+{
+    let count = kept_count(condition, rows);
+    let mut row = Items::new(alloc);
+    for _ in aggregates {
+        row.push(count_value(count))?;
+    }
+    let mut list = Items::new(alloc);
+    list.push(row)?;
+    Ok(list)
+}
+
+/// One row for each group of the rows whose condition is true.
+fn grouped<'a, S: RowSource<'a>>(
+    alloc: Global,
+    query: &'a Query,
+    rows: S,
+) -> Result<Items<Row>, Refusal>
+    requires { CanBeSummed (filter (is_kept query.now.filter) (S.to_come rows)) }
+    ensures ok { IfOk result (λ list. list ≡ grouped_rows query.now (filter (is_kept query.now.filter) (S.to_come rows))) }
     ensures err { IfErr result (λ e. e ≡ Refusal.OutOfMemory) }
 {
     let grouping = Grouping::of(alloc, query)?;
-    let columns = query.group_by.as_slice();
-    let parts = part_rows(alloc, columns, grouping.aggregates.as_slice(), rows)?;
-    let input = Rows::new(alloc, parts)?;
-    grouping.joined(alloc, input)
+    let aggregates = grouping.aggregates.as_slice();
+    if counts_alone(query.group_by.as_slice(), aggregates) {
+        return counted(alloc, &query.filter, rows, aggregates);
+    }
+    let parts = Parts::of(alloc, query, rows)?;
+    grouping.joined(alloc, parts)
 }
 
-fn select_groups(alloc: Global, query: &Query, rows: Items<Row>) -> Result<Items<Row>, Refusal>
-    requires { CanBeSummed rows }
-    ensures ok { IfOk result (IsSortedSlice (group_order query.now) query.now.limit (group_columns query.now) (grouped_rows query.now rows)) }
+fn select_groups<'a, S: RowSource<'a>>(
+    alloc: Global,
+    query: &'a Query,
+    rows: S,
+) -> Result<Items<Row>, Refusal>
+    requires { CanBeSummed (filter (is_kept query.now.filter) (S.to_come rows)) }
+    ensures ok { IfOk result (IsSortedSlice (group_order query.now) query.now.limit (group_columns query.now) (grouped_rows query.now (filter (is_kept query.now.filter) (S.to_come rows)))) }
     ensures err { IfErr result (λ e. e ≡ Refusal.OutOfMemory) }
 {
-    let groups = grouped(alloc, query, rows.as_slice())?;
+    let groups = grouped(alloc, query, rows)?;
     let keys = group_order(alloc, query)?;
     let places = group_columns(alloc, query)?;
     show(alloc, groups, keys.as_slice(), query.limit, places)
 }
 
-/// What a query gives over rows at which its condition is true, such as `select_local` keeps. Refuses only for want of memory.
-pub fn select_kept(alloc: Global, query: &Query, rows: Items<Row>) -> Result<Items<Row>, Refusal>
-    requires kept { filter (is_kept query.now.filter) rows ≡ rows }
-    requires summed { is_aggregated query.now ≡ true → CanBeSummed rows }
-    ensures ok { IfOk result (IsAnswer query.now rows) }
+/// What a query gives over the rows of its table that a source lends: those whose condition is true, each by the columns that the
+/// query shows, or, of an aggregated query, their groups; in an order that its ORDER BY allows, and of these what its LIMIT leaves. No
+/// row is copied that doesn't go out. Refuses only for want of memory.
+pub fn select_from<'a, S: RowSource<'a>>(
+    alloc: Global,
+    query: &'a Query,
+    rows: S,
+) -> Result<Items<Row>, Refusal>
+    requires summed { is_aggregated query.now ≡ true → CanBeSummed (filter (is_kept query.now.filter) (S.to_come rows)) }
+    ensures ok { IfOk result (IsAnswer query.now (S.to_come rows)) }
     ensures err { IfErr result (λ e. e ≡ Refusal.OutOfMemory) }
 {
     if query.is_aggregated() {
@@ -125,18 +180,11 @@ pub fn select_kept(alloc: Global, query: &Query, rows: Items<Row>) -> Result<Ite
     }
 }
 
-/// What a query gives over the rows of its table: those whose condition is true, each by the columns that the query shows, or, of an
-/// aggregated query, their groups; in an order that its ORDER BY allows, and of these what its LIMIT leaves. Refuses only for want of
-/// memory.
+/// What a query gives over the rows of its table, as `select_from`. Refuses only for want of memory.
 pub fn select_local(alloc: Global, query: &Query, rows: &[Row]) -> Result<Items<Row>, Refusal>
     requires summed { is_aggregated query.now ≡ true → CanBeSummed rows.now }
     ensures ok { IfOk result (IsAnswer query.now rows.now) }
     ensures err { IfErr result (λ e. e ≡ Refusal.OutOfMemory) }
 {
-    let list = kept(alloc, &query.filter, rows)?;
-    if query.is_aggregated() {
-        select_groups(alloc, query, list)
-    } else {
-        select_rows(alloc, query, list)
-    }
+    select_from(alloc, query, SliceRows::new(rows))
 }

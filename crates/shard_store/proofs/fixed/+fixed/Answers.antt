@@ -11,11 +11,11 @@ some_weaker : {X : Type 0} (o : Option X) (P Q : X → Type 0) → ((x : X) → 
 some_weaker None P Q f h = h
 some_weaker (Some x) P Q f h = f x h
 
-pub fixed_value-returns-in-And : goal.fixed_value-returns-in-And
-fixed_value-returns-in-And t c =
+pub fixed_values-returns-in-And : goal.fixed_values-returns-in-And
+fixed_values-returns-in-And t c =
     some_weaker c.fixed_by_one.result _ _
     (λ v h row e. h row (subst (λ (x : Truth). is_true x ≡ true)
-    (ap (truth_at row) c.in-And.is ∙ truth_at-And row c.in-And.members ∙ ap (λ l. Rattle.vt_value.specs.Values.all_true (Rattle.std.proofs.Common.map (truth_at row) l)) (sym c.as_slice.ensures)) e))
+    (ap (truth_at row) c.in-And.is ∙ truth_at-And row c.in-And.members ∙ ap (λ l. Rattle.vt_value.specs.Values.all_true (Rattle.std.proofs.Common.map (truth_at row) l)) (sym c.as_slice-in-And.ensures)) e))
     c.fixed_by_one.ensures
 
 pub fixed_by_one-returns-in-Some : goal.fixed_by_one-returns-in-Some

@@ -26,6 +26,6 @@ returns-clause-ok c =
     elim c.if-contains.branch [
       | then-contains w ↦ w.result-is ∙ w.if-contains.true ∙ sym (whole ∙ ap (λ b. b || list_any f ys) (sym here ∙ w.if-contains.true))
       | else-contains w ↦
-          w.result-is ∙ w.any_has_key-else-contains.ensures ∙ ap (list_any f) c.as_slice.ensures.value
+          w.result-is ∙ w.any_has_key-else-contains.ensures ∙ ap (list_any f) (c.new-beside.ensures ∙ c.as_slice.ensures.value)
           ∙ sym (whole ∙ ap (λ b. b || list_any f ys) (sym here ∙ w.if-contains.false))
     ]

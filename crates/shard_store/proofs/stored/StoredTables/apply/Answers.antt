@@ -1,9 +1,9 @@
-use Rattle.std.proofs.Common.{rules, ◌≡◌, ◌∙◌, List, [], refl, sym, subst}
+use Rattle.std.proofs.Common.{rules, ◌≡◌, ◌∙◌, List, [], refl, sym, ap, subst}
 use Rattle.std.specs.List.{AllByRecursion}
 use Rattle.std.specs.Vec.Iter.{into_iter_items}
-use Rattle.vschema.specs.Database.{all_applied}
+use Rattle.vschema.specs.Database.{SameRows, all_applied}
 use Rattle.shard_store.specs.declared.key.KeyedChange.{KeyedChange}
-use Rattle.shard_store.specs.Stores.{changes_in, HasItsKey, HasRoomFor}
+use Rattle.shard_store.specs.Stores.{StoreView, changes_in, HasItsKey, HasRoomFor}
 use Rattle.shard_store.proofs.Tabled.{Reached, reached_first, reached_next, reached_last, room-first, room-others, key_first, keys_others}
 use Rattle.shard_store.proofs.KeptRows.{nil_of}
 use Rattle.shard_store.proofs.stored.StoredTables.apply.Goals as goal
@@ -45,7 +45,8 @@ returns c =
     let none : into_iter_items c.loop-change.change-iterator ≡ [] =
     nil_of (into_iter_items c.loop-change.change-iterator) _ c.loop-change.change-iterator.rest.ok.0 c.in-None.ensures.steps.0 in
     record {
-      rows = reached_last c.loop-change.self.rows (into_iter_items c.loop-change.change-iterator) (all_applied (changes_in c.args.changes.items) c.args.self.now.rows) none
-          c.loop-change.invariant.reached;
-      places = c.loop-change.invariant.places;
+      rows = subst (λ (s : StoreView). SameRows s.rows (all_applied (changes_in c.args.changes.items) c.args.self.now.rows)) (sym c.sweep.ensures)
+          (reached_last c.loop-change.self.rows (into_iter_items c.loop-change.change-iterator) (all_applied (changes_in c.args.changes.items) c.args.self.now.rows) none
+          c.loop-change.invariant.reached);
+      places = ap (λ (s : StoreView). s.places) c.sweep.ensures ∙ c.loop-change.invariant.places;
     }

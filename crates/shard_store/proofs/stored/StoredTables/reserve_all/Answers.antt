@@ -8,13 +8,12 @@ use Rattle.shard_store.proofs.stored.StoredTables.reserve_all.Goals as goal
 
 pub loop-change-preserved : goal.loop-change-preserved
 loop-change-preserved c =
-    let enough = subst (λ n. length c.args.keyed.now ≤ room_of c.reserve.new.self n) c.place_in.ensures c.in_ok-reserve.ensures.ok in
     record {
-      rows = c.reserve.ensures.rows ∙ c.loop-change.invariant.rows;
-      places = c.reserve.ensures.places ∙ c.loop-change.invariant.places;
+      rows = c.reserve_for.ensures.rows ∙ c.loop-change.invariant.rows;
+      places = c.reserve_for.ensures.places ∙ c.loop-change.invariant.places;
       room =
-          room_next c.loop-change.self c.reserve.new.self c.args.keyed.now c.loop-change.change-index c.change-item.result
-          (omega (arith, c.loop-change-test.true)) c.change-item.is c.reserve.ensures.room enough c.loop-change.invariant.room;
+          room_next c.loop-change.self c.reserve_for.new.self c.args.keyed.now c.loop-change.change-index c.change-item.result
+          (omega (arith, c.loop-change-test.true)) c.change-item.is c.reserve_for.ensures.room c.in_ok-reserve_for.ensures.ok c.loop-change.invariant.room;
     }
 
 pub returns-clause-ok : goal.returns-clause-ok
