@@ -291,14 +291,15 @@ impl<W: World, J: Naming> ShardState<W, J> {
         ensures { (row : values.Row) → is_copied W.opening.schema self.now.seen self.now.shard.slot source table row
             ≡ (has_copied_all self.now.seen self.now.shard.slot source table || is_reached (table_at W.opening.schema table) (option_copied result) row) }
     {
-        let mut last = None;
-        for step in self.contents.steps.as_slice() {
-            last = match step.row_of(source, table) {
-                Some(row) => Some(row),
-                None => last,
-            };
+        let steps = self.contents.steps.as_slice();
+        let mut end = steps.len();
+        while end > 0 {
+            if let Some(row) = steps[end - 1].row_of(source, table) {
+                return Some(row);
+            }
+            end -= 1;
         }
-        last
+        None
     }
 
     /// Behind how many of a source's stored entries it stands, by the source's slot; none before its first Copy from there. Takes no memory.
@@ -449,8 +450,9 @@ impl<W: World, J: Naming> ShardState<W, J> {
         ensures err { IfErr result (λ e. e ≡ Refusal.OutOfMemory) }
     {
         let table = &schema.tables.as_slice()[next.table];
-        let rows = self.contents.store.all(next.table);
-        let first = first_wanted(alloc, place, table, next.after.as_ref(), rows)?;
+        let last = next.after.as_ref();
+        let rows = self.contents.store.behind(alloc, next.table, table, last)?;
+        let first = first_wanted(alloc, place, table, last, rows)?;
         Ok(Copied {
             source: self.slot(),
             table: next.table,

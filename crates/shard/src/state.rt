@@ -216,13 +216,16 @@ impl<W: World, J: Naming> ShardState<W, J> {
         requires lives { mode W.opening self.now.seen self.now.shard.slot ≡ Mode.Retired → ⊥ }
         ensures { MatchOption result (position self.now.seen self.now.shard.slot source ≡ None) (λ step. position self.now.seen self.now.shard.slot source ≡ Some (behind step.now)) }
     {
-        let mut last = None;
-        for step in self.contents.steps.as_slice() {
+        let steps = self.contents.steps.as_slice();
+        let mut end = steps.len();
+        while end > 0 {
+            let step = &steps[end - 1];
             if step.source() == source {
-                last = Some(step);
+                return Some(step);
             }
+            end -= 1;
         }
-        last
+        None
     }
 
     /// Whether it has copied the whole table from a source.

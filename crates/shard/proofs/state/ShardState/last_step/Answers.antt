@@ -1,4 +1,4 @@
-use Rattle.std.proofs.Common.{◌≡◌, ◌==◌, ◌+◌, ◌++◌, ◌∷◌, [], ℕ, Bool, true, false, Some, None, Option, take, MatchOption, sym, ap, subst, ◌∙◌}
+use Rattle.std.proofs.Common.{◌≡◌, ◌==◌, ◌+◌, ◌-◌, ◌<◌, ◌≤◌, ◌++◌, ◌∷◌, [], ℕ, Bool, true, false, Some, None, take, length, List, get_or, arith, sym, ap, ◌∙◌}
 use Rattle.std.specs.Prelude.{if◌then◌else◌}
 use Rattle.std.proofs.lemmas.Bool.{eq-eqb, ne_eqb}
 use Rattle.std.proofs.lemmas.List.{take_more}
@@ -6,42 +6,51 @@ use Rattle.shard.specs.declared.forward.Step.{Step}
 use Rattle.shard.specs.Progress.{source_of, behind}
 use Rattle.shard.proofs.Progress.{position_told, behind_last, behind_last-push, take_whole}
 use Rattle.shard.proofs.state.ShardState.last_step.Goals as goal
-use Rattle.shard.proofs.state.ShardState.last_step.Goals.{then-source, else-source}
 
-next : (g : _) (c : goal.Joined-source g)
-    → behind_last c.args.source None (take (c.loop-step.step-index + 1) c.as_slice-step-items.result.now)
-    ≡ (if source_of c.step-item.result == c.args.source then Some (behind c.step-item.result)
-    else behind_last c.args.source None (take c.loop-step.step-index c.as_slice-step-items.result.now))
-next g c =
-    ap (behind_last c.args.source None)
-    (take_more c.as_slice-step-items.result.now c.loop-step.step-index c.step-item.result c.loop-step-test.true
-    ∙ ap (λ (x : Step). take c.loop-step.step-index c.as_slice-step-items.result.now ++ x ∷ []) (sym c.step-item.is))
-    ∙ behind_last-push c.args.source None (take c.loop-step.step-index c.as_slice-step-items.result.now) c.step-item.result
+-- what the first `end` steps tell, of which this one is the last
+told : (source : ℕ) (steps : List Step) (end : ℕ) (x : Step) → 0 < end → end ≤ length steps → x ≡ get_or steps (end - 1) x
+    → behind_last source None (take end steps) ≡ (if source_of x == source then Some (behind x) else behind_last source None (take (end - 1) steps))
+told source steps end x some within is =
+    let on : end ≡ (end - 1) + 1 = omega (arith, some) in
+    ap (λ n. behind_last source None (take n steps)) on
+    ∙ ap (behind_last source None) (take_more steps (end - 1) x (omega (arith, some, within)) ∙ ap (λ (y : Step). take (end - 1) steps ++ y ∷ []) (sym is))
+    ∙ behind_last-push source None (take (end - 1) steps) x
 
--- the position that a step tells
-abbrev Tells : (g : _) → goal.Joined-source g → Option ℕ → Type 0
-Tells g c at = MatchOption c.if-source.last (at ≡ None) (λ step. at ≡ Some (behind step.now))
+pub loop-end-init : goal.loop-end-init
+loop-end-init g c =
+    let steps = c.as_slice-steps.result.now in
+    (omega arith, ap (behind_last c.args.source None) (take_whole (length steps) steps (omega arith)))
 
-pub loop-step-preserved : goal.loop-step-preserved
-loop-step-preserved g c =
-    let before = behind_last c.args.source None (take c.loop-step.step-index c.as_slice-step-items.result.now) in
-    subst (Tells g c) (sym (next g c)) (elim c.if-source.branch [
-      | then-source w ↦
-          let e : (source_of c.step-item.result == c.args.source) ≡ true =
-          eq-eqb (source_of c.step-item.result) c.args.source (sym c.source.ensures ∙ w.if-source.true) in
-          rw w.last-is (ap (λ (b : Bool). if b then Some (behind c.step-item.result) else before) e)
-      | else-source w ↦
-          let e : (source_of c.step-item.result == c.args.source) ≡ false =
-          ne_eqb (source_of c.step-item.result) c.args.source (λ same. w.if-source.false (c.source.ensures ∙ same)) in
-          subst (Tells g c) (sym (ap (λ (b : Bool). if b then Some (behind c.step-item.result) else before) e)) (rw w.last-is c.loop-step.invariant)
-    ])
+pub returns-then-source : goal.returns-then-source
+returns-then-source g c =
+    let steps = c.as_slice-steps.result.now in
+    let x = c.index-steps-end.result in
+    let e : (source_of x == c.args.source) ≡ true = eq-eqb (source_of x) c.args.source (sym c.source.ensures ∙ c.if-source.true) in
+    position_told g.W.World.opening g.W.World.limits c.self.inside.seat.seen c.self.inside.contents c.args.self.now c.self.invariant.0.keeps c.self.view_is c.requires.lives
+    c.args.source
+    ∙ ap (behind_last c.args.source None) (sym c.as_slice-steps.ensures.value)
+    ∙ sym c.loop-end.invariant.1
+    ∙ told c.args.source steps c.loop-end.end x c.loop-end-test.true c.loop-end.invariant.0 c.index-steps-end.is
+    ∙ ap (λ (b : Bool). if b then Some (behind x) else behind_last c.args.source None (take (c.loop-end.end - 1) steps)) e
+
+pub loop-end-preserved : goal.loop-end-preserved
+loop-end-preserved g c =
+    let steps = c.as_slice-steps.result.now in
+    let x = c.index-steps-end.result in
+    let within = c.loop-end.invariant.0 in
+    let e : (source_of x == c.args.source) ≡ false = ne_eqb (source_of x) c.args.source (λ same. c.if-source.false (c.source.ensures ∙ same)) in (
+      omega (arith, within),
+      sym (ap (λ (b : Bool). if b then Some (behind x) else behind_last c.args.source None (take (c.loop-end.end - 1) steps)) e)
+          ∙ sym (told c.args.source steps c.loop-end.end x c.loop-end-test.true within c.index-steps-end.is)
+          ∙ c.loop-end.invariant.1,
+    )
 
 pub returns : goal.returns
 returns g c =
-    let items = c.as_slice-step-items.result.now in
-    subst (λ (at : Option ℕ). MatchOption c.loop-step.last (at ≡ None) (λ step. at ≡ Some (behind step.now)))
-    (sym (position_told g.W.World.opening g.W.World.limits c.self.inside.seat.seen c.self.inside.contents c.args.self.now c.self.invariant.0.keeps c.self.view_is c.requires.lives
+    let steps = c.as_slice-steps.result.now in
+    let none : c.loop-end.end ≡ 0 = omega (arith, c.loop-end-test.false) in
+    position_told g.W.World.opening g.W.World.limits c.self.inside.seat.seen c.self.inside.contents c.args.self.now c.self.invariant.0.keeps c.self.view_is c.requires.lives
     c.args.source
-    ∙ ap (behind_last c.args.source None) (sym c.as_slice-step-items.ensures.value)
-    ∙ ap (behind_last c.args.source None) (sym (take_whole c.loop-step.step-index items c.loop-step-test.false))))
-    c.loop-step.invariant
+    ∙ ap (behind_last c.args.source None) (sym c.as_slice-steps.ensures.value)
+    ∙ sym c.loop-end.invariant.1
+    ∙ ap (λ n. behind_last c.args.source None (take n steps)) none

@@ -1,10 +1,10 @@
-use Rattle.std.proofs.Common.{◌≡◌, Some, None, take, MatchOption}
-use Rattle.shard.specs.Progress.{behind}
+use Rattle.std.proofs.Common.{◌≡◌, ◌≤◌, None, take, length}
 use Rattle.shard.proofs.Progress.{behind_last}
 use Rattle.shard.proofs.state.ShardState.last_step.Given as goal
 
--- the last step so far
-abbrev pub invariant-loop-step : goal.invariant-loop-step
-invariant-loop-step g l =
-    MatchOption l.last (behind_last l.source None (take l.step-index l.step-items) ≡ None)
-    (λ step. behind_last l.source None (take l.step-index l.step-items) ≡ Some (behind step.now))
+-- none of those from `end` on is with the source
+abbrev pub invariant-loop-end : goal.invariant-loop-end
+invariant-loop-end g l = (l.end ≤ length l.steps) × (behind_last l.source None (take l.end l.steps) ≡ behind_last l.source None l.steps)
+
+abbrev pub decreases-loop-end : goal.decreases-loop-end
+decreases-loop-end g l = l.end

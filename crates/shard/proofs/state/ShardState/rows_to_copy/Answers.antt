@@ -1,4 +1,4 @@
-use Rattle.std.proofs.Common.{◌≡◌, ◌<◌, true, length, refl, sym, ap, subst, ◌∙◌, arith}
+use Rattle.std.proofs.Common.{◌≡◌, ◌<◌, ◌++◌, true, length, refl, sym, ap, subst, ◌∙◌, arith}
 use Rattle.std.specs.Prelude.{option_copied}
 use Rattle.vschema.specs.declared.schema.VSchema.{VSchema}
 use Rattle.vschema.specs.Database.{rows_of}
@@ -9,11 +9,12 @@ use Rattle.shard.specs.Shards.{ShardView, MayFollow}
 use Rattle.shard.specs.Copying.{IsCopyFor}
 use Rattle.shard.proofs.Legality.{legal_is}
 use Rattle.shard.proofs.States.{holds_of, lives_if}
+use Rattle.shard.proofs.FirstRows.{first_of}
 use Rattle.shard.proofs.CopySteps.{copy_for, first_as, table_is}
 use Rattle.shard.proofs.state.ShardState.rows_to_copy.Goals as goal
 
-pub all-rows-requires : goal.all-rows-requires
-all-rows-requires g c =
+pub behind-requires : goal.behind-requires
+behind-requires g c =
     let o = g.W.World.opening in
     let seat = c.self.inside.seat in
     let had = c.self.inside.contents in
@@ -34,8 +35,10 @@ returns-clause-copy g c =
     let there : n < length c.as_slice.result.now = subst (λ l. n < length l) (sym c.as_slice.ensures) c.requires.there in
     let table = table_is c.args.schema.now c.as_slice.result.now c.as_slice.ensures n c.index-as_slice-next.result there c.index-as_slice-next.is
     ∙ ap (λ (s : VSchema). table_at s n) c.requires.schema in
-    let first = first_as c.args.place.now c.index-as_slice-next.result (table_at o.schema n) (option_copied c.as_ref.result) c.args.next.now.after c.all-rows.result
-    (rows_of had.store.rows n) c.in_ok-first.first.items table c.as_ref.ensures.value c.all-rows.ensures c.in_ok-first.ensures.ok in
+    let first = first_as c.args.place.now c.index-as_slice-next.result (table_at o.schema n) (option_copied c.as_ref-last.result) c.args.next.now.after (rows_of had.store.rows n)
+    (rows_of had.store.rows n) c.in_ok-first.first.items table c.as_ref-last.ensures.value refl
+    (first_of c.args.place.now c.index-as_slice-next.result (option_copied c.as_ref-last.result) (c.in_ok-rows.rows.slots ++ c.in_ok-rows.rows.beside)
+    (rows_of had.store.rows n) c.in_ok-first.first.items c.in_ok-rows.ensures.rows c.in_ok-first.ensures.ok) in
     let legal = legal_is o seat.seen (subst (λ (x : ShardView). IsLegal (MayFollow o) x.seen) (sym view) c.requires.legal) in
     let serves = subst (λ (x : ShardView). is_serving (mode o x.seen x.shard.slot) ≡ true) (sym view) c.requires.serves in (
       refl,
