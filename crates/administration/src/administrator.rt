@@ -113,6 +113,14 @@ impl<W: World, J: Naming> Administrator<W, J> {
         Administrator { workflow }
     }
 
+    /// Its workflow, which another may go on with.
+    pub fn into_workflow(self) -> Option<Workflow<W, J>>
+        ensures { result ≡ self }
+    {
+        let Administrator { workflow } = self;
+        workflow
+    }
+
     /// Reads the words of an admin line, does what they ask for, and tells what was done, or why it wasn't. Where there is no memory to
     /// read them, the workflow stands as it stood. The partitions are those of the sharded keyspace, where there is one.
     pub fn answer(

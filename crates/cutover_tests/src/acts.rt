@@ -4,10 +4,12 @@ ghost use Rattle.empty_opening.specs.Empty.{sharded_keyspace};
 ghost use Rattle.administration.specs.Told.{keyspace_of};
 
 use crate::gate::{HoldsFirst, Signals, give, wait_for};
+use crate::reopening::reopen;
 use crate::told::told;
 use administered_world::administer;
 use administration::Administrator;
 use journal::{Naming, Pass};
+use reshard::ReshardFault;
 use route_engine::Engine;
 use shard::{ShardLaw, World};
 use std::alloc::Global;
@@ -28,6 +30,8 @@ pub(crate) enum Act<'t> {
     One(&'t [u8], Result<u64, Refusal>),
     /// The same of the second session.
     Two(&'t [u8], Result<u64, Refusal>),
+    /// The controller stops, and another takes its workflow up from the shards, or is refused.
+    Reopen(Result<(), ReshardFault>),
     /// The gate is to hold the next read of the first shard.
     Arm,
     /// The second thread begins its statement.
@@ -106,6 +110,7 @@ fn is_right<W: World + Send + Sync, J: Naming + Send + Sync>(
         Act::Line(words, reply) => is_answered(rt, alloc, engine, cast, words, reply),
         Act::One(text, wanted) => told(rt, alloc, engine, &mut cast.one, text) == wanted,
         Act::Two(text, wanted) => told(rt, alloc, engine, &mut cast.two, text) == wanted,
+        Act::Reopen(wanted) => reopen(rt, alloc, engine, cast) == wanted,
         Act::Arm => {
             give(&signals.armed);
             true

@@ -12,6 +12,8 @@ mod lines;
 #[cfg(test)]
 mod reads;
 #[cfg(test)]
+mod reopening;
+#[cfg(test)]
 mod scenes;
 #[cfg(test)]
 mod stops;

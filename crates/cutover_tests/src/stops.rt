@@ -2,9 +2,10 @@
 use crate::acts::Act;
 use crate::common::{
     ALL, BEGUN, CANCELLED, COMPLETED, COPIED, EIGHT, EVEN, FOLLOWING, ODD, RESUMED, SPLIT,
-    SWITCHED, UNSPLIT,
+    SWITCHED, SWITCHING, UNSPLIT,
 };
 use crate::scenes::{SHOP, play_alone};
+use reshard::ReshardFault;
 use std::alloc::{AllocError, Global};
 use std::sync::Wait;
 use std::test::Fail;
@@ -73,6 +74,9 @@ const STEPS: [[Act<'static>; 4]; 8] = [
 /// So many steps come before the one that retires the source.
 const UNTIL_RETIRED: usize = 3;
 
+/// With so many the next partition is published.
+const PUBLISHED: usize = 7;
+
 // Once the cutover was resumed, the same INSERTs: those that were accepted are there, the others are not.
 const AGAIN: [[Act<'static>; 2]; 8] = [
     [
@@ -122,12 +126,20 @@ const ROWS: [(u64, u64); 9] = [
     (17, 23),
 ];
 
-// The cutover is undone before the source is retired, and finished from then on. Before its first step and after its last there is nothing
-// to resume.
-fn ending(steps: usize) -> [Act<'static>; 2] {
-    let resumed = match steps {
-        0 | 8 => Act::Line(b"resume", b"N4\n"),
-        _ => RESUMED,
+/// What becomes of the controller.
+#[derive(Clone, Copy, PartialEq, Eq)]
+enum Controller {
+    GoesOn,
+    Stops,
+}
+
+// The cutover is undone before the source is retired, and finished from then on. Before its first step there is nothing to resume, nor after
+// its last, which another controller can't tell from the one before.
+fn ending(steps: usize, controller: Controller) -> [Act<'static>; 2] {
+    let resumed = if steps == 0 || steps == 8 && controller == Controller::GoesOn {
+        Act::Line(b"resume", b"N4\n")
+    } else {
+        RESUMED
     };
     if steps <= UNTIL_RETIRED {
         [resumed, FOLLOWING]
@@ -144,16 +156,31 @@ fn ended(steps: usize) -> [Act<'static>; 2] {
     }
 }
 
+// What another controller finds.
+fn found(steps: usize) -> Act<'static> {
+    if steps == 0 {
+        FOLLOWING
+    } else if steps < PUBLISHED {
+        SWITCHING
+    } else {
+        Act::Line(b"status", b"serving -40 40-80 80- switching\n")
+    }
+}
+
 // Puts the first so many steps behind the beginning, and what is done with them then.
 fn put_stopped(
     acts: &mut Vec<Act<'static>>,
     steps: usize,
     accepted: u64,
+    controller: Controller,
 ) -> Result<(), AllocError> {
     for step in STEPS.iter().take(steps) {
         acts.extend_from_slice(step)?;
     }
-    acts.extend_from_slice(&ending(steps))?;
+    if controller == Controller::Stops {
+        acts.extend_from_slice(&[Act::Reopen(Ok(())), found(steps)])?;
+    }
+    acts.extend_from_slice(&ending(steps, controller))?;
     acts.push(Act::Two(ALL, Ok(accepted)))?;
     Ok(())
 }
@@ -174,9 +201,10 @@ fn stopped_after(
     steps: usize,
     accepted: u64,
     rows: u64,
+    controller: Controller,
 ) -> Result<Vec<Act<'static>>, AllocError> {
     let mut acts: Vec<Act<'static>> = Vec::from_slice(alloc, &BEGINNING)?;
-    put_stopped(&mut acts, steps, accepted)?;
+    put_stopped(&mut acts, steps, accepted, controller)?;
     put_again(&mut acts, steps, rows)?;
     Ok(acts)
 }
@@ -188,8 +216,9 @@ fn is_kept<R: Threads + Wait + Sync>(
     steps: usize,
     accepted: u64,
     rows: u64,
+    controller: Controller,
 ) -> Result<bool, Fail> {
-    let acts = stopped_after(alloc, steps, accepted, rows)?;
+    let acts = stopped_after(alloc, steps, accepted, rows, controller)?;
     play_alone(rt, alloc, SHOP, &acts)
 }
 
@@ -199,9 +228,42 @@ fn a_cutover_that_is_stopped_and_resumed_keeps_each_accepted_row_once(
 ) -> Result<(), Fail> {
     for (steps, (accepted, rows)) in ROWS.iter().enumerate() {
         assert!(rt;
-            is_kept(&rt, rt.alloc(), steps, *accepted, *rows)?,
+            is_kept(&rt, rt.alloc(), steps, *accepted, *rows, Controller::GoesOn)?,
             "after {steps} steps"
         );
     }
+    Ok(())
+}
+
+#[test]
+fn a_cutover_whose_controller_stopped_is_reopened_and_keeps_each_accepted_row_once(
+    rt: HostRuntime,
+) -> Result<(), Fail> {
+    for (steps, (accepted, rows)) in ROWS.iter().enumerate() {
+        assert!(rt;
+            is_kept(&rt, rt.alloc(), steps, *accepted, *rows, Controller::Stops)?,
+            "after {steps} steps"
+        );
+    }
+    Ok(())
+}
+
+// Once the split is complete there is nothing to reopen, nor before there is one.
+const NOTHING: [Act<'static>; 10] = [
+    Act::Reopen(Err(ReshardFault::WrongState)),
+    EVEN,
+    ODD,
+    BEGUN,
+    Act::Reopen(Ok(())),
+    FOLLOWING,
+    Act::Line(b"switch", b"ok\n"),
+    COMPLETED,
+    Act::Reopen(Err(ReshardFault::WrongState)),
+    SPLIT,
+];
+
+#[test]
+fn a_workflow_is_reopened_while_there_is_one(rt: HostRuntime) -> Result<(), Fail> {
+    assert!(rt; play_alone(&rt, rt.alloc(), SHOP, &NOTHING)?);
     Ok(())
 }

@@ -16,3 +16,8 @@ pub mod Through
 pub mod Switches
 pub mod Dropping
 pub mod Seats
+pub mod Those
+pub mod Courses
+pub mod Others
+pub mod Founds
+pub mod Refits

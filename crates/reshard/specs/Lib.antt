@@ -4,3 +4,4 @@ pub mod Steps
 pub mod Workflows
 pub mod Begun
 pub mod Cutover
+pub mod Reopened

@@ -1,1 +1,3 @@
 pub mod Created
+pub mod Leading
+pub mod Glances

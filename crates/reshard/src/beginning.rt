@@ -28,7 +28,7 @@ use vschema::VSchema;
 use vt_value::Refusal;
 
 // A partition has at most so many parts.
-const MOST_PARTS: usize = 64;
+pub(crate) const MOST_PARTS: usize = 64;
 
 /// Sources, the targets that take their place, and the parts that stay.
 #[derive(Drop)]

@@ -15,6 +15,7 @@ ghost use Rattle.follow.specs.Steps.{IsOnward};
 ghost use Rattle.reshard.specs.Choices.{AreNamed, AreApart, HoldTheSame};
 ghost use Rattle.reshard.specs.Steps.{TakesFrom};
 ghost use Rattle.reshard.specs.Workflows.{IsFree, IsGround, seat_of, placed};
+ghost use Rattle.reshard.specs.Reopened.{AreThose};
 ghost use Rattle.reshard.specs.inner.Created.{IsSight, IsAway, IsPicked, AreOverlapped, HasGrown, IsMade, IsMadeOf};
 
 use crate::ground::Ground;
@@ -58,11 +59,12 @@ pub(crate) fn copy_shard(
     })
 }
 
-fn copy_member<W: World, J: Naming>(
+pub(crate) fn copy_member<W: World, J: Naming>(
     alloc: Global,
     member: &Member<W, J>,
 ) -> Result<Member<W, J>, Refusal>
     ensures ok { IfOk result (λ copy. copy.which ≡ member.now.which) }
+    ensures shard { IfOk result (λ copy. copy.shard.value ≡ member.now.shard.value) }
     ensures err { IfErr result (λ e. e ≡ Refusal.OutOfMemory) }
 {
     let shard = Arc::try_clone(&member.shard)?;
@@ -166,9 +168,9 @@ pub(crate) fn source_of<W: World, J: Naming>(
 
 // Sources that a target takes from, and their slots.
 #[derive(Drop)]
-struct Own<W: World, J: Naming> {
-    slots: Items<usize>,
-    members: Vec<Member<W, J>>,
+pub(crate) struct Own<W: World, J: Naming> {
+    pub(crate) slots: Items<usize>,
+    pub(crate) members: Vec<Member<W, J>>,
 }
 
 impl<W: World, J: Naming> Own<W, J> {
@@ -205,13 +207,14 @@ impl<W: World, J: Naming> Own<W, J> {
 }
 
 // Those of the sources that overlap the range.
-fn own_of<W: World, J: Naming>(
+pub(crate) fn own_of<W: World, J: Naming>(
     alloc: Global,
     range: &KeyRange,
     sources: &[Source<W, J>],
 ) -> Result<Own<W, J>, Refusal>
     ensures slots { IfOk result (λ own. own.slots ≡ map (λ s. s.slot) (map (λ m. m.which) own.members.items)) }
     ensures own { IfOk result (λ own. AreOverlapped (map (λ s. s.member.which) sources.now) range.now (map (λ m. m.which) own.members.items)) }
+    ensures those { IfOk result (λ own. AreThose range.now (map (λ s. s.member.which) sources.now) (map (λ m. m.which) own.members.items)) }
     ensures err { IfErr result (λ e. e ≡ Refusal.OutOfMemory) }
 {
     let mut own = Own {

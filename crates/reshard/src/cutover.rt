@@ -45,7 +45,7 @@ pub enum CutoverStep {
 }
 
 // Notes how many entries a source had stored when it was frozen.
-fn note_stored<W: World, J: Naming>(sources: &mut [Source<W, J>], at: usize, stored: u64)
+pub(crate) fn note_stored<W: World, J: Naming>(sources: &mut [Source<W, J>], at: usize, stored: u64)
     requires there { at < length sources.old }
     ensures { map (λ s. s.member.which) sources.new ≡ map (λ s. s.member.which) sources.old }
 {

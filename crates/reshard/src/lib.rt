@@ -2,10 +2,12 @@
 #![tactic(auto)]
 
 mod beginning;
+mod beside;
 mod calls;
 mod choosing;
 mod completing;
 mod confirming;
+mod course;
 mod creating;
 mod cutover;
 mod ending;
@@ -14,8 +16,13 @@ mod finding;
 mod finishing;
 mod fitting;
 mod ground;
+mod looking;
 mod preparing;
+mod refitting;
+mod reopening;
 mod steps;
+mod stopping;
+mod stored;
 mod switching;
 mod thawing;
 mod undoing;
@@ -26,4 +33,5 @@ pub use fault::ReshardFault;
 pub use finishing::Resumed;
 pub use ground::Ground;
 pub use steps::{Source, freeze, retire, serve, thaw};
+pub use stopping::Stopped;
 pub use workflow::{Stage, Target, Workflow};

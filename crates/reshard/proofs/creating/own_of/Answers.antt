@@ -1,11 +1,20 @@
 use Rattle.std.proofs.Common.{map}
+use Rattle.std.proofs.Common.{subst}
+use Rattle.reshard.specs.Reopened.{AreThose}
 use Rattle.reshard.proofs.Making.{grown_so, all_so, map_at, map_short}
+use Rattle.reshard.proofs.Those.{grown_those}
 use Rattle.reshard.proofs.creating.own_of.Goals as goal
 
 pub returns-clause-own : goal.returns-clause-own
 returns-clause-own g c =
     all_so (map (λ s. s.member.which) c.args.sources.now) c.loop-source.source-index c.args.range.now (map (λ m. m.which) c.loop-source.own.members.items)
     (map_short (λ s. s.member.which) c.args.sources.now c.loop-source.source-index c.loop-source-test.false) c.loop-source.invariant.own
+
+pub returns-clause-those : goal.returns-clause-those
+returns-clause-those g c =
+    subst (λ l. AreThose c.args.range.now l (map (λ m. m.which) c.loop-source.own.members.items))
+    (Rattle.shard.proofs.Progress.take_whole c.loop-source.source-index (map (λ s. s.member.which) c.args.sources.now)
+    (map_short (λ s. s.member.which) c.args.sources.now c.loop-source.source-index c.loop-source-test.false)) c.loop-source.invariant.those
 
 pub loop-source-preserved : goal.loop-source-preserved
 loop-source-preserved g c =
@@ -15,4 +24,7 @@ loop-source-preserved g c =
       own =
           grown_so (map (λ s. s.member.which) c.args.sources.now) c.loop-source.source-index c.args.range.now (map (λ m. m.which) c.loop-source.own.members.items)
           (map (λ m. m.which) c.consider.new.self.members.items) c.source-item.result.member.which w.0 w.1 c.loop-source.invariant.own c.in_ok-consider.ensures.grown;
+      those =
+          grown_those c.args.range.now (map (λ s. s.member.which) c.args.sources.now) c.loop-source.source-index (map (λ m. m.which) c.loop-source.own.members.items)
+          (map (λ m. m.which) c.consider.new.self.members.items) c.source-item.result.member.which w.0 w.1 c.in_ok-consider.ensures.grown c.loop-source.invariant.those;
     }

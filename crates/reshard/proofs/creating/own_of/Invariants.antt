@@ -1,4 +1,5 @@
-use Rattle.std.proofs.Common.{◌≡◌, map}
+use Rattle.std.proofs.Common.{◌≡◌, map, take}
+use Rattle.reshard.specs.Reopened.{AreThose}
 use Rattle.reshard.proofs.Making.{SoFar}
 use Rattle.reshard.proofs.creating.own_of.Given as goal
 
@@ -7,4 +8,5 @@ abbrev pub invariant-loop-source : goal.invariant-loop-source
 invariant-loop-source g l = record {
   slots : l.own.slots ≡ map (λ s. s.slot) (map (λ m. m.which) l.own.members.items);
   own : SoFar (map (λ s. s.member.which) l.sources) l.source-index l.range (map (λ m. m.which) l.own.members.items);
+  those : AreThose l.range (take l.source-index (map (λ s. s.member.which) l.sources)) (map (λ m. m.which) l.own.members.items);
 }

@@ -1,0 +1,56 @@
+//! A controller stops, and leaves what another needs to take its workflow up.
+ghost use Rattle.std.specs.Prelude.{◌≡◌, map};
+ghost use Rattle.std.specs.List.{AllByRecursion};
+ghost use Rattle.shard_run.specs.Openings.{IsOpening};
+ghost use Rattle.reshard.specs.Workflows.{IsFree, IsGround, placed};
+
+use crate::ground::Ground;
+use crate::steps::Source;
+use crate::workflow::{Target, Workflow};
+use journal::{Naming, ShardSeat};
+use shard::{ShardLaw, World};
+
+/// What is left of a controller that stopped: the seats of the slots that no shard ever stood on, and the shards of its workflow. How far
+/// that was is forgotten.
+#[derive(Drop)]
+pub struct Stopped<W: World, J: Naming> {
+    pub ground: Ground,
+    pub free: Vec<ShardSeat<ShardLaw<W>, J>>,
+    pub sources: Vec<Source<W, J>>,
+    pub targets: Vec<Target<W, J>>,
+}
+
+impl<W: World, J: Naming> Workflow<W, J> {
+    /// Stops the controller. A new one over its free slots can take its workflow up from the shards. Takes no memory.
+    pub fn stop(self) -> Stopped<W, J>
+        ensures opens { IsOpening W.opening }
+        ensures ground { IsGround W.opening W.limits result.ground }
+        ensures keyspace { result.ground.keyspace ≡ self.keyspace }
+        ensures free { AllByRecursion (IsFree W.opening) result.free.items }
+        ensures slots { map (λ s. s.slot) result.free.items ≡ self.free }
+        ensures sources { map (λ s. s.member.which) result.sources.items ≡ self.sources }
+        ensures targets { map (λ t. (t.member.which, map (λ s. s.which) t.sources.items)) result.targets.items ≡ self.targets }
+        ensures seats { map (λ t. t.member.shard.value) result.targets.items ≡ placed self.targets }
+    {
+        let Workflow {
+            ground,
+            stage: _,
+            free,
+            sources,
+            targets,
+            rest: _,
+            frozen: _,
+            retired: _,
+            served: _,
+            prepared: _,
+            named: _,
+            next: _,
+        } = self;
+        Stopped {
+            ground,
+            free,
+            sources,
+            targets,
+        }
+    }
+}
