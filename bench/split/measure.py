@@ -22,6 +22,9 @@ BEGIN, END = "<!-- bench/split.sh begins -->", "<!-- bench/split.sh ends -->"
 FIRST_ID = 100000
 # how long the writer waits between two statements, in seconds, so that targets come level
 BETWEEN = 0.001
+# each takes two of a router's 64 slots, of which two are shards' and one is the unsharded keyspace's
+MOST_COPIES = 30
+KINDS = ("point", "insert", "update", "scatter", "mix", "transaction")
 HEAD = """## Splits
 
 Written by `bench/split.sh` on {day}, on a machine of {cores} processors, through sockets: one of two shards, with half the rows of a table, is split
@@ -141,13 +144,13 @@ def rate(router, words, kind):
 
 
 def beside(words, kind, rows=100000):
-    """Statements a second without a copy and beside one, which is begun again as often as it ends."""
+    """Statements a second without a copy and beside one, which is begun again as it ends while there are slots for its targets."""
     with Router(words, rows) as router:
         without = rate(router, words, kind)
         enough, copies = threading.Event(), [0]
 
         def copy():
-            while not enough.is_set():
+            while copies[0] < MOST_COPIES and not enough.is_set():
                 router.does("create -80 -40,40-80")
                 while not enough.is_set() and router.ask(*["step"] * 20) != "ok level":
                     pass
@@ -166,9 +169,9 @@ def section(words):
     lines = [HEAD.format(day=datetime.date.today(), cores=os.cpu_count(), rounds=words.rounds)]
     lines += ["| rows | copied a second | `switch`, µs | longest wait before, µs | longest wait meanwhile, µs | of all rounds |", "|---|---|---|---|---|---|"]
     lines += ["| " + " | ".join(f"{it:.0f}" for it in row) + " |" for row in splits(words)]
-    lines += ["", "Statements a second by 4 connections, without a copy and beside one of 50,000 rows that begins again once it has ended:", ""]
+    lines += ["", "Statements of `bench/serve.sh` a second by 4 connections, without a copy and beside one of 50,000 rows that begins again once it has ended:", ""]
     lines += ["| statements | without | beside | ratio | copies begun |", "|---|---|---|---|---|"]
-    for kind in ("point", "update"):
+    for kind in KINDS:
         rounds = [beside(words, kind) for _ in range(words.rounds)]
         without, during, copies = (statistics.median(it) for it in zip(*rounds))
         lines.append(f"| {kind} | {without:.0f} | {during:.0f} | {during / without:.2f} | {copies:.0f} |")
