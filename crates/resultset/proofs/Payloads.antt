@@ -3,7 +3,13 @@ use Rattle.std.proofs.Common.{append_assoc, ◌≡◌, ℕ, ◌+◌, ◌<◌, �
 use Rattle.std.specs.Prelude.{OnErr, OnOk, IfOk}
 use Rattle.std.proofs.Math.Seq.{take-append_seam}
 use Rattle.std.proofs.lemmas.List.{append-nil, take-append-drop, map_more}
+use Rattle.vt_value.specs.Values.{Row}
+use Rattle.mysql_packet.specs.Numbers.{length_encoded}
 use Rattle.mysql_packet.specs.Frames.{frame, frames_from, number_after, number_after_all}
+use Rattle.resultset.specs.declared.Column.{Column}
+use Rattle.resultset.specs.declared.SetEnd.{SetEnd}
+use Rattle.resultset.specs.Encoding.{row_payload, definition_payload, behind_definitions, behind_rows, set_payloads}
+use Rattle.resultset.specs.inner.Heads.{head_payloads}
 
 pub frames_from-append : (first : ℕ) (ps qs : List (List ℕ)) → frames_from first (ps ++ qs) ≡ frames_from first ps ++ frames_from (number_after_all first ps) qs
 frames_from-append first [] qs = refl
@@ -59,15 +65,25 @@ module _ {start : List ℕ} {first size : ℕ} where
       subst (λ (ps : List (List ℕ)). HasPut start first size ps items' spare' number') (sym all)
       (puts_one (map f (take i xs)) p items items' spare spare' number number' so_far is_new is_next le)
 
+  pub whole_more : (ps qs : List (List ℕ)) (items items' : List ℕ) (spare number : ℕ)
+      → HasPut start first size ps items spare number → items' ≡ items ++ frames_from number qs → items' ≡ start ++ frames_from first (ps ++ qs)
+  whole_more ps qs items items' spare number so_far is_new =
+      is_new ∙ ap (λ (l : List ℕ). l ++ frames_from number qs) so_far.whole ∙ append_assoc start _ _
+      ∙ ap (λ (n : ℕ). start ++ (frames_from first ps ++ frames_from n qs)) so_far.next
+      ∙ ap (λ (l : List ℕ). start ++ l) (sym (frames_from-append first ps qs))
+
+  pub next_more : (ps qs : List (List ℕ)) (items : List ℕ) (spare number number' : ℕ)
+      → HasPut start first size ps items spare number → number' ≡ number_after_all number qs → number' ≡ number_after_all first (ps ++ qs)
+  next_more ps qs items spare number number' so_far is_next =
+      is_next ∙ ap (λ (n : ℕ). number_after_all n qs) so_far.next ∙ sym (number_after_all-append first ps qs)
+
   pub puts_more : (ps qs : List (List ℕ)) (items items' : List ℕ) (spare spare' number number' : ℕ)
       → HasPut start first size ps items spare number
       → items' ≡ items ++ frames_from number qs → number' ≡ number_after_all number qs → length items + spare ≤ length items' + spare'
       → HasPut start first size (ps ++ qs) items' spare' number'
   puts_more ps qs items items' spare spare' number number' so_far is_new is_next le = record {
-    whole = is_new ∙ ap (λ (l : List ℕ). l ++ frames_from number qs) so_far.whole ∙ append_assoc start _ _
-        ∙ ap (λ (n : ℕ). start ++ (frames_from first ps ++ frames_from n qs)) so_far.next
-        ∙ ap (λ (l : List ℕ). start ++ l) (sym (frames_from-append first ps qs));
-    next = is_next ∙ ap (λ (n : ℕ). number_after_all n qs) so_far.next ∙ sym (number_after_all-append first ps qs);
+    whole = whole_more ps qs items items' spare number so_far is_new;
+    next = next_more ps qs items spare number number' so_far is_next;
     capacity = omega (arith, so_far.capacity, le);
   }
 
@@ -86,16 +102,37 @@ pub on_err : {T E P : Type 0} (r : Result T E) → P → OnErr r P
 on_err (Ok x) p = tt
 on_err (Err e) p = p
 
--- the payloads of a result set, as they are written
-pub set_shape : (p count last : List ℕ) (defs' defs behind rows' rows : List (List ℕ)) → p ≡ count → defs' ≡ defs → rows' ≡ rows
-    → (((p ∷ defs') ++ behind) ++ rows') ++ last ∷ [] ≡ ((count ∷ defs) ++ (behind ++ rows)) ++ last ∷ []
-set_shape p count last defs' defs behind rows' rows e1 e2 e3 =
-    ap (λ (l : List (List ℕ)). l ++ last ∷ [])
-    (append_assoc (p ∷ defs') behind rows' ∙ ap (λ (q : List ℕ). (q ∷ defs') ++ (behind ++ rows')) e1
-    ∙ ap (λ (d : List (List ℕ)). (count ∷ d) ++ (behind ++ rows')) e2 ∙ ap (λ (r : List (List ℕ)). (count ∷ defs) ++ (behind ++ r)) e3)
+-- what stands in front of the rows, as it is written
+pub head_shape : (end : SetEnd) (status : ℕ) (columns : List Column) (p : List ℕ) → p ≡ length_encoded (length columns)
+    → (p ∷ map definition_payload columns) ++ behind_definitions end status ≡ head_payloads end columns status
+head_shape end status columns p e = ap (λ (q : List ℕ). (q ∷ map definition_payload columns) ++ behind_definitions end status) e
 
--- What the last packet's result says of all of them.
+-- the payloads of a result set, as they are written
+pub set_shape : (end : SetEnd) (status : ℕ) (columns' columns : List Column) (rows' rows : List Row) → columns' ≡ columns → rows' ≡ rows
+    → (head_payloads end columns' status ++ map row_payload rows') ++ behind_rows end status ∷ []
+    ≡ set_payloads end (record { columns = columns; rows = rows }) status
+set_shape end status columns' columns rows' rows e1 e2 =
+    ap (λ (cs : List Column). (head_payloads end cs status ++ map row_payload rows') ++ behind_rows end status ∷ []) e1
+    ∙ ap (λ (rs : List Row). (head_payloads end columns status ++ map row_payload rs) ++ behind_rows end status ∷ []) e2
+    ∙ ap (λ (l : List (List ℕ)). l ++ behind_rows end status ∷ [])
+    (append_assoc (length_encoded (length columns) ∷ map definition_payload columns) (behind_definitions end status) (map row_payload rows))
+
+-- What the result for the last of them says of all of them.
 module _ {E : Type 0} {start : List ℕ} {first size : ℕ} where
+  pub more_ok : (r : Result ℕ E) (ps more qs : List (List ℕ)) (items items' : List ℕ) (spare number : ℕ)
+      → HasPut start first size ps items spare number → ps ++ more ≡ qs
+      → OnOk r (items' ≡ items ++ frames_from number more) → OnOk r (items' ≡ start ++ frames_from first qs)
+  more_ok (Ok n) ps more qs items items' spare number so_far e is_new =
+      whole_more ps more items items' spare number so_far is_new ∙ ap (λ (l : List (List ℕ)). start ++ frames_from first l) e
+  more_ok (Err x) ps more qs items items' spare number so_far e is_new = tt
+
+  pub more_next : (r : Result ℕ E) (ps more qs : List (List ℕ)) (items : List ℕ) (spare number : ℕ)
+      → HasPut start first size ps items spare number → ps ++ more ≡ qs
+      → IfOk r (λ n. n ≡ number_after_all number more) → IfOk r (λ n. n ≡ number_after_all first qs)
+  more_next (Ok n) ps more qs items spare number so_far e is_next =
+      next_more ps more items spare number n so_far is_next ∙ ap (number_after_all first) e
+  more_next (Err x) ps more qs items spare number so_far e is_next = tt
+
   pub last_ok : (r : Result ℕ E) (ps qs : List (List ℕ)) (p items items' : List ℕ) (spare number : ℕ)
       → HasPut start first size ps items spare number → ps ++ p ∷ [] ≡ qs
       → OnOk r (items' ≡ items ++ frame number p) → OnOk r (items' ≡ start ++ frames_from first qs)

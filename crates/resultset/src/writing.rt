@@ -4,6 +4,7 @@ ghost use Rattle.mysql_packet.specs.Frames.{frame, frames_from, number_after, nu
 ghost use Rattle.resultset.specs.Flags.{type_of, length_of};
 ghost use Rattle.resultset.specs.Encoding.{value_bytes, row_payload, definition_payload, name_fields};
 ghost use Rattle.resultset.specs.Encoding.{fixed_fields, behind_definitions, behind_rows, set_payloads, payloads_of, encoded, IsSmall};
+ghost use Rattle.resultset.specs.inner.Heads.{head_payloads};
 
 use crate::{Column, Kind, Outcome, ResultSet, SetEnd};
 use bytes::BytesMut;
@@ -15,7 +16,7 @@ use std::alloc::Global;
 use vt_value::{Refusal, Row, Value};
 
 /// The room for one payload that is made at first, in bytes: most definitions and rows have less.
-const PAYLOAD_ROOM: usize = 256;
+pub(crate) const PAYLOAD_ROOM: usize = 256;
 
 /// Appends the packets of a result, the first with this sequence number, and gives the number after the last. A count
 /// is an OK packet and a refusal an ERR packet. A result set is the number of its columns, a definition of each, EOF,
@@ -82,12 +83,32 @@ fn put_set(
     ensures capacity { length out.old.items + out.old.spare ≤ length out.new.items + out.new.spare }
 {
     let mut payload = Vec::with_capacity(alloc, PAYLOAD_ROOM)?;
-    put_length_encoded(set.columns.len() as u64, &mut payload)?;
-    let number = put_payload(number, &payload, out)?;
-    let number = put_definitions(set.columns.as_slice(), number, &mut payload, out)?;
-    let number = put_definitions_end(number, status, end, out)?;
+    let columns = set.columns.as_slice();
+    let number = put_head(columns, number, status, end, &mut payload, out)?;
     let number = put_rows(set.rows.as_slice(), number, &mut payload, out)?;
     put_rows_end(number, status, end, out)
+}
+
+/// Appends what stands in front of the rows. The payload is scratch, for its memory, and empty.
+pub(crate) fn put_head(
+    columns: &[Column],
+    number: u8,
+    status: u16,
+    end: SetEnd,
+    payload: &mut Vec<u8>,
+    out: &mut BytesMut,
+) -> Result<u8, Refusal>
+    requires { payload.old.items ≡ [] }
+    ensures ok { OnOk result (out.new.items ≡ out.old.items ++ frames_from number (head_payloads end columns.now status)) }
+    ensures next { IfOk result (λ n. n ≡ number_after_all number (head_payloads end columns.now status)) }
+    ensures err { OnErr result (take (length out.old.items) out.new.items ≡ out.old.items) }
+    ensures memory { IfErr result (λ e. e ≡ Refusal.OutOfMemory) }
+    ensures capacity { length out.old.items + out.old.spare ≤ length out.new.items + out.new.spare }
+{
+    put_length_encoded(columns.len() as u64, payload)?;
+    let number = put_payload(number, payload, out)?;
+    let number = put_definitions(columns, number, payload, out)?;
+    put_definitions_end(number, status, end, out)
 }
 
 /// Appends what stands behind the definitions.
@@ -110,7 +131,12 @@ fn put_definitions_end(
 }
 
 /// Appends what stands behind the rows.
-fn put_rows_end(number: u8, status: u16, end: SetEnd, out: &mut BytesMut) -> Result<u8, Refusal>
+pub(crate) fn put_rows_end(
+    number: u8,
+    status: u16,
+    end: SetEnd,
+    out: &mut BytesMut,
+) -> Result<u8, Refusal>
     ensures ok { OnOk result (out.new.items ≡ out.old.items ++ frame number (behind_rows end status)) }
     ensures next { IfOk result (λ n. n ≡ number_after number (behind_rows end status)) }
     ensures err { OnErr result (out.new.items ≡ out.old.items) }
@@ -235,7 +261,7 @@ fn length_of(kind: Kind) -> u8
     }
 }
 
-fn put_row(row: &[Value], payload: &mut Vec<u8>) -> Result<(), Refusal>
+pub(crate) fn put_row(row: &[Value], payload: &mut Vec<u8>) -> Result<(), Refusal>
     ensures ok { OnOk result (payload.new.items ≡ payload.old.items ++ row_payload row.now) }
     ensures memory { IfErr result (λ e. e ≡ Refusal.OutOfMemory) }
 {

@@ -1,5 +1,6 @@
 ghost use Rattle.std.specs.Prelude.{◌≡◌, ◌+◌, ◌≤◌, ℕ, List, [], None, length, IsSome, IfOk, OnOk, OnErr};
 ghost use Rattle.std.specs.Io.KnownBytes.{Appends};
+ghost use Rattle.std.specs.List.{concat};
 ghost use mathlib.Core.List.{IsPrefix};
 ghost use Rattle.mysql_packet.specs.declared.framer.Payload.{Payload};
 ghost use Rattle.mysql_packet.specs.Frames.{frame};
@@ -14,6 +15,7 @@ ghost use Rattle.session.specs.Packets.{refusal_bytes};
 ghost use Rattle.session.specs.Standings.{end_of};
 ghost use Rattle.session.specs.Talk.{Answers, Greets, Replies};
 ghost use Rattle.session.specs.Sessions.{AnswersFed};
+ghost use Rattle.session.specs.inner.Replies.{reply_bytes};
 
 use crate::devices::{DeviceFailed, Sink};
 use crate::end::End;
@@ -24,11 +26,41 @@ use bytes::BytesMut;
 use journal::{Naming, Pass};
 use mysql_handshake::put_greeting;
 use mysql_packet::{Fault, Fed, Payload};
+use resultset::Chunks;
 use route_engine::{Engine, Gate, Tx};
 use shard::{ShardLaw, World};
 use std::alloc::Global;
 use std::sync::Wait;
 use std::thread::Threads;
+use vt_value::Items;
+
+/// Writes the chunks, one after another.
+fn write_chunks<S: Sink>(chunks: &[Items<u8>], sink: &mut S) -> Result<(), DeviceFailed>
+    ensures bytes { OnOk result (Appends (S.taken sink.old) (S.taken sink.new) (concat chunks.now)) }
+    ensures front { OnErr result (AppendsFront (S.taken sink.old) (S.taken sink.new) (concat chunks.now)) }
+    ensures count { S.failures sink.new ≡ failures_after result (S.failures sink.old) }
+{
+    for chunk in chunks {
+        sink.write(chunk.as_slice())?;
+    }
+    Ok(())
+}
+
+/// Writes a reply: its rows in their chunks, or what lies in the buffer.
+fn write_reply<S: Sink>(
+    rows: Option<Chunks>,
+    reply: &[u8],
+    sink: &mut S,
+) -> Result<(), DeviceFailed>
+    ensures bytes { OnOk result (Appends (S.taken sink.old) (S.taken sink.new) (reply_bytes rows reply.now)) }
+    ensures front { OnErr result (AppendsFront (S.taken sink.old) (S.taken sink.new) (reply_bytes rows reply.now)) }
+    ensures count { S.failures sink.new ≡ failures_after result (S.failures sink.old) }
+{
+    match rows {
+        None => sink.write(reply),
+        Some(chunks) => write_chunks(chunks.as_slice(), sink),
+    }
+}
 
 /// Writes what is written for one payload, once it is known whole, and tells how the session then stands.
 fn answer<W: World + Send + Sync, J: Naming + Send + Sync, G: Gate, S: Sink>(
@@ -58,8 +90,8 @@ fn answer<W: World + Send + Sync, J: Naming + Send + Sync, G: Gate, S: Sink>(
     ensures session { pass.new.session ≡ pass.old.session }
 {
     reply.clear();
-    let standing = put_reply(rt, alloc, engine, pass, tx, hello, phase, payload, reply);
-    match sink.write(reply.as_slice()) {
+    let (standing, rows) = put_reply(rt, alloc, engine, pass, tx, hello, phase, payload, reply);
+    match write_reply(rows, reply.as_slice(), sink) {
         Ok(()) => Ok(standing),
         Err(failed) => Err(failed),
     }

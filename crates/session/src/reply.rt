@@ -1,4 +1,5 @@
 ghost use Rattle.std.specs.Prelude.{◌≡◌, ◌+◌, ◌≤◌, ◌⊎◌, true, false, [], length, IsSome, IfOk, IfErr, Option};
+ghost use Rattle.std.specs.List.{concat};
 ghost use Rattle.route_engine.specs.Pendings.{IsOf};
 ghost use Rattle.mysql_packet.specs.Frames.{frame};
 ghost use Rattle.mysql_message.specs.Messages.{ok_payload, err_payload};
@@ -9,6 +10,7 @@ ghost use Rattle.session.specs.Outcomes.{Leads, Means, Shows, HasRows, IsRows, s
 ghost use Rattle.session.specs.declared.hello.Hello.{Hello};
 ghost use Rattle.session.specs.Logins.{has_keyspace};
 ghost use Rattle.session.specs.Talk.{Answers, set_end_of};
+ghost use Rattle.session.specs.inner.Replies.{reply_bytes};
 
 use crate::columns::columns_of;
 use crate::end::End;
@@ -20,7 +22,8 @@ use journal::{Naming, Pass};
 use mysql_handshake::{DEPRECATE_EOF, is_set};
 use mysql_message::{Command, put_err, put_ok, read_command};
 use mysql_packet::Payload;
-use resultset::{Outcome, ResultSet, SetEnd, encode};
+use operators::Rows;
+use resultset::{Chunks, Outcome, ResultSet, SetEnd, encode_rows};
 use route_engine::{Answer, Engine, Gate, Selected, Tx};
 use shard::{ShardLaw, World};
 use std::alloc::Global;
@@ -133,44 +136,82 @@ fn set_end_of(capabilities: u32) -> SetEnd
     }
 }
 
+/// The packets of a result set, whose rows are dropped as they are encoded. Refuses only for want of memory.
+fn chunks_of(
+    alloc: Global,
+    set: ResultSet,
+    end: SetEnd,
+    number: u8,
+    status: u16,
+) -> Result<Chunks, Refusal>
+    ensures ok { IfOk result (λ chunks. concat chunks ≡ encoded end (Outcome.Rows set) number status) }
+    ensures err { IfErr result (λ e. e ≡ Refusal.OutOfMemory) }
+{
+    let ResultSet { columns, rows } = set;
+    let rows = Rows::new(alloc, rows)?;
+    let mut chunks = Chunks::new(alloc);
+    let _next = encode_rows(
+        alloc,
+        columns.as_slice(),
+        rows,
+        number,
+        status,
+        end,
+        &mut chunks,
+    )?;
+    Ok(chunks)
+}
+
+/// The reply of a result set, or, where there is no memory for it, the refusal that says so.
 fn put_rows(
     alloc: Global,
-    outcome: &Outcome,
+    set: ResultSet,
     end: SetEnd,
     number: u8,
     status: u16,
     reply: &mut BytesMut,
-)
+) -> Option<Chunks>
     requires empty { reply.old.items ≡ [] }
     requires room { REPLY_ROOM ≤ reply.old.spare }
-    ensures bytes { (reply.new.items ≡ encoded end outcome.now number status)
-        ⊎ (reply.new.items ≡ encoded end (Outcome.Refused Refusal.OutOfMemory) number status) }
+    ensures bytes { (reply_bytes result reply.new.items ≡ encoded end (Outcome.Rows set) number status)
+        ⊎ (reply_bytes result reply.new.items ≡ encoded end (Outcome.Refused Refusal.OutOfMemory) number status) }
     ensures room { REPLY_ROOM ≤ length reply.new.items + reply.new.spare }
 {
-    if encode(alloc, outcome, number, status, end, reply).is_err() {
-        put_refusal(number, Refusal::OutOfMemory, reply);
+    match chunks_of(alloc, set, end, number, status) {
+        Ok(chunks) => Some(chunks),
+        Err(_) => {
+            put_refusal(number, Refusal::OutOfMemory, reply);
+            None
+        }
     }
 }
 
-/// The reply to a statement. Where there is no memory for its rows, it is the refusal that says so; a count always has room.
+/// The reply to a statement, in chunks where it has rows. Where there is no memory for them, it is the refusal that says so; a count always
+/// has room.
 fn put_outcome(
     alloc: Global,
-    outcome: &Outcome,
+    outcome: Outcome,
     end: SetEnd,
     number: u8,
     status: u16,
     reply: &mut BytesMut,
-)
+) -> Option<Chunks>
     requires empty { reply.old.items ≡ [] }
     requires room { REPLY_ROOM ≤ reply.old.spare }
-    ensures bytes { (reply.new.items ≡ encoded end outcome.now number status)
-        ⊎ (IsRows outcome.now × (reply.new.items ≡ encoded end (Outcome.Refused Refusal.OutOfMemory) number status)) }
+    ensures bytes { (reply_bytes result reply.new.items ≡ encoded end outcome number status)
+        ⊎ (IsRows outcome × (reply_bytes result reply.new.items ≡ encoded end (Outcome.Refused Refusal.OutOfMemory) number status)) }
     ensures room { REPLY_ROOM ≤ length reply.new.items + reply.new.spare }
 {
     match outcome {
-        Outcome::Count(count) => put_count(number, *count, status, reply),
-        Outcome::Refused(refusal) => put_refusal(number, *refusal, reply),
-        Outcome::Rows(_) => put_rows(alloc, outcome, end, number, status, reply),
+        Outcome::Rows(set) => put_rows(alloc, set, end, number, status, reply),
+        Outcome::Count(count) => {
+            put_count(number, count, status, reply);
+            None
+        }
+        Outcome::Refused(refusal) => {
+            put_refusal(number, refusal, reply);
+            None
+        }
     }
 }
 
@@ -189,7 +230,7 @@ fn put_selected(schema: &VSchema, name: &[u8], number: u8, status: u16, reply: &
     }
 }
 
-/// The reply to a command whose numbers are right, and how the session then stands.
+/// The reply to a command whose numbers are right, and how the session then stands. A reply of rows lies in chunks, each other in the buffer.
 fn put_command<W: World + Send + Sync, J: Naming + Send + Sync, G: Gate>(
     rt: &(impl Threads + Wait + Sync),
     alloc: Global,
@@ -199,36 +240,44 @@ fn put_command<W: World + Send + Sync, J: Naming + Send + Sync, G: Gate>(
     capabilities: u32,
     payload: &Payload,
     reply: &mut BytesMut,
-) -> Standing
+) -> (Standing, Option<Chunks>)
     requires empty { reply.old.items ≡ [] }
     requires room { REPLY_ROOM ≤ reply.old.spare }
     requires session { IsSome pass.old.session }
     requires tx { IsOf W.opening tx.old pass.old }
     requires number { payload.now.first ≡ 0 }
     ensures answers { (hello : Hello) → Leads W.opening pass.old tx.old pass.new tx.new
-        (λ s now. Answers (terms_of W.opening hello) (Means W.opening W.limits) (Phase.Commands capabilities) s payload.now reply.new.items result now) }
+        (λ s now. Answers (terms_of W.opening hello) (Means W.opening W.limits) (Phase.Commands capabilities) s payload.now (reply_bytes result.1 reply.new.items) result.0 now) }
     ensures tx { IsOf W.opening tx.new pass.new }
     ensures room { REPLY_ROOM ≤ length reply.new.items + reply.new.spare }
     ensures session { pass.new.session ≡ pass.old.session }
 {
     let number = payload.last.wrapping_add(1);
+    let next = Standing::At(Phase::Commands(capabilities));
     match read_command(payload.bytes.as_slice()) {
-        Err(refusal) => put_refusal(number, refusal, reply),
-        Ok(Command::Quit) => return Standing::Ended(End::Quit),
-        Ok(Command::Ping) => put_pong(number, status_of(tx), reply),
+        Err(refusal) => {
+            put_refusal(number, refusal, reply);
+            (next, None)
+        }
+        Ok(Command::Quit) => (Standing::Ended(End::Quit), None),
+        Ok(Command::Ping) => {
+            put_pong(number, status_of(tx), reply);
+            (next, None)
+        }
         Ok(Command::InitDb(name)) => {
             put_selected(engine.schema(), name, number, status_of(tx), reply);
+            (next, None)
         }
         Ok(Command::Query(text)) => {
             let outcome = outcome_of(rt, alloc, engine, pass, tx, text);
             let end = set_end_of(capabilities);
-            put_outcome(alloc, &outcome, end, number, status_of(tx), reply);
+            let rows = put_outcome(alloc, outcome, end, number, status_of(tx), reply);
+            (next, rows)
         }
     }
-    Standing::At(Phase::Commands(capabilities))
 }
 
-/// What is written for one payload in the phase, and how the session then stands.
+/// What is written for one payload in the phase, and how the session then stands. A reply of rows lies in chunks, each other in the buffer.
 pub fn put_reply<W: World + Send + Sync, J: Naming + Send + Sync, G: Gate>(
     rt: &(impl Threads + Wait + Sync),
     alloc: Global,
@@ -239,13 +288,13 @@ pub fn put_reply<W: World + Send + Sync, J: Naming + Send + Sync, G: Gate>(
     phase: Phase,
     payload: &Payload,
     reply: &mut BytesMut,
-) -> Standing
+) -> (Standing, Option<Chunks>)
     requires empty { reply.old.items ≡ [] }
     requires room { REPLY_ROOM ≤ reply.old.spare }
     requires session { IsSome pass.old.session }
     requires tx { IsOf W.opening tx.old pass.old }
     ensures answers { Leads W.opening pass.old tx.old pass.new tx.new
-        (λ s now. Answers (terms_of W.opening hello.now) (Means W.opening W.limits) phase s payload.now reply.new.items result now) }
+        (λ s now. Answers (terms_of W.opening hello.now) (Means W.opening W.limits) phase s payload.now (reply_bytes result.1 reply.new.items) result.0 now) }
     ensures tx { IsOf W.opening tx.new pass.new }
     ensures room { REPLY_ROOM ≤ length reply.new.items + reply.new.spare }
     ensures session { pass.new.session ≡ pass.old.session }
@@ -256,11 +305,17 @@ pub fn put_reply<W: World + Send + Sync, J: Naming + Send + Sync, G: Gate>(
             Refusal::PacketsOutOfOrder,
             reply,
         );
-        return Standing::Ended(End::Broken);
+        return (Standing::Ended(End::Broken), None);
     }
     match phase {
-        Phase::Response => put_response(hello, engine.schema(), payload, status_of(tx), reply),
-        Phase::Switch(login) => put_answer(hello, login, payload, status_of(tx), reply),
+        Phase::Response => (
+            put_response(hello, engine.schema(), payload, status_of(tx), reply),
+            None,
+        ),
+        Phase::Switch(login) => (
+            put_answer(hello, login, payload, status_of(tx), reply),
+            None,
+        ),
         Phase::Commands(capabilities) => {
             put_command(rt, alloc, engine, pass, tx, capabilities, payload, reply)
         }

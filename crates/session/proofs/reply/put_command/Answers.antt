@@ -32,7 +32,7 @@ returns-in-Ok-Ping-clause-answers g c =
 pub returns-in-Ok-Query-clause-answers : goal.returns-in-Ok-Query-clause-answers
 returns-in-Ok-Query-clause-answers g c =
     let e = rw c.in-Ok-Query.field-0-is at c.in-Ok-Query.ensures.command in
-    let bytes = rw (c.set_end_of-end.ensures, c.status_of-in-Ok-Query.ensures) at c.put_outcome.ensures.bytes in
+    let bytes = rw (c.set_end_of-end.ensures, c.status_of-in-Ok-Query.ensures) at c.put_outcome-rows.ensures.bytes in
     λ hello. one_query_or_refusal _ _ hello _ _ _ _ _ c.args.payload.now _ _ _ c.requires.number (sym (e ∙ ap command_of c.as_slice.ensures))
     c.outcome_of-outcome.ensures.means bytes
 

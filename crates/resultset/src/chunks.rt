@@ -1,0 +1,128 @@
+//! Streams of bytes in chunks.
+ghost use Rattle.std.specs.Prelude.{◌≡◌, [], ◌++◌, IfErr, IfOk, OnErr, OnOk};
+ghost use Rattle.std.specs.List.{concat};
+ghost use Rattle.resultset.specs.Chunks.{AreChunks};
+
+use std::alloc::Global;
+use std::marker::Model;
+use std::mem;
+use vt_value::{Items, Refusal};
+
+/// The most bytes of a chunk.
+pub const CHUNK_LIMIT: usize = 1 << 14;
+
+/// The room that the first chunk has at first, in bytes: a short stream has less.
+const FIRST_ROOM: usize = 512;
+
+/// A stream of bytes in chunks, one after another. None is empty, and each has at most `CHUNK_LIMIT` bytes. Contracts see the chunks.
+#[derive(Debug, Drop)]
+pub struct Chunks {
+    chunks: Vec<Items<u8>>,
+}
+
+impl Model for Chunks {
+    ghost use Rattle.std.specs.Prelude.{ℕ, List};
+    ghost use Rattle.resultset.specs.Chunks.{AreChunks};
+
+    ghost Value = { List (List ℕ) };
+
+    ghost view = { λ c. c.chunks.items };
+
+    ghost invariant = { λ c. AreChunks c.chunks.items };
+}
+
+impl Chunks {
+    /// The stream without bytes.
+    pub fn new(alloc: Global) -> Chunks
+        ensures { result ≡ [] }
+    {
+        Chunks {
+            chunks: Vec::new(alloc),
+        }
+    }
+
+    /// The chunks, in order: none is empty, and each has at most `CHUNK_LIMIT` bytes.
+    pub fn as_slice(&self) -> &[Items<u8>]
+        ensures chunks { result.now ≡ self.now }
+        ensures each { AreChunks self.now }
+    {
+        self.chunks.as_slice()
+    }
+
+    /// Appends a stream. Refuses only for want of memory, and then leaves this one as it was.
+    pub(crate) fn append(&mut self, filling: Filling) -> Result<(), Refusal>
+        ensures ok { OnOk result (concat self.new ≡ concat self.old ++ filling) }
+        ensures each { OnOk result (AreChunks self.new) }
+        ensures err { OnErr result (self.new ≡ self.old) }
+        ensures memory { IfErr result (λ e. e ≡ Refusal.OutOfMemory) }
+    {
+        let Chunks { chunks: mut more } = filling.into_chunks()?;
+        self.chunks.append(&mut more)?;
+        Ok(())
+    }
+}
+
+/// A stream that is cut into chunks as it comes. Contracts see its bytes.
+#[derive(Drop)]
+pub(crate) struct Filling {
+    full: Vec<Items<u8>>,
+    /// The bytes behind those.
+    last: Vec<u8>,
+}
+
+impl Model for Filling {
+    ghost use Rattle.std.specs.Prelude.{ℕ, List, ◌++◌, ◌≤◌, length};
+    ghost use Rattle.std.specs.List.{concat};
+    ghost use Rattle.resultset.specs.Chunks.{AreChunks};
+
+    ghost Value = { List ℕ };
+
+    ghost view = { λ f. concat f.full.items ++ f.last.items };
+
+    ghost invariant = { λ f. AreChunks f.full.items × (length f.last.items ≤ 16384) };
+}
+
+impl Filling {
+    /// A stream that begins.
+    pub(crate) fn new(alloc: Global) -> Result<Filling, Refusal>
+        ensures none { IfOk result (λ filling. filling ≡ []) }
+        ensures err { IfErr result (λ e. e ≡ Refusal.OutOfMemory) }
+    {
+        Ok(Filling {
+            full: Vec::new(alloc),
+            last: Vec::with_capacity(alloc, FIRST_ROOM)?,
+        })
+    }
+
+    /// Appends bytes. Refuses only for want of memory.
+    pub(crate) fn append(&mut self, alloc: Global, bytes: &[u8]) -> Result<(), Refusal>
+        ensures ok { OnOk result (self.new ≡ self.old ++ bytes.now) }
+        ensures err { IfErr result (λ e. e ≡ Refusal.OutOfMemory) }
+    {
+        let mut rest = bytes;
+        while rest.len() > CHUNK_LIMIT - self.last.len() {
+            let (front, more) = rest.split_at(CHUNK_LIMIT - self.last.len());
+            self.last.extend_from_slice(front)?;
+            let next = Vec::with_capacity(alloc, CHUNK_LIMIT)?;
+            let full = mem::replace(&mut self.last, next);
+            self.full.push(Items::from_vec(full))?;
+            rest = more;
+        }
+        self.last.extend_from_slice(rest)?;
+        Ok(())
+    }
+
+    /// Its chunks. Refuses only for want of memory.
+    fn into_chunks(self) -> Result<Chunks, Refusal>
+        ensures ok { IfOk result (λ chunks. concat chunks ≡ self) }
+        ensures err { IfErr result (λ e. e ≡ Refusal.OutOfMemory) }
+    {
+        let Filling { full, last } = self;
+        if last.is_empty() {
+            return Ok(Chunks { chunks: full });
+        }
+        let mut chunks = full;
+        chunks.push(Items::from_vec(last))?;
+        Ok(Chunks { chunks })
+    }
+}
