@@ -1,5 +1,5 @@
 -- Each step keeps the rule.
-use Rattle.std.proofs.Common.{◌≤◌, ◌≡◌, ◌≢◌, ◌⊎◌, ℕ, zero, suc, ◌+◌, ◌<◌, ◌==◌, Bool, true, false, List, []}
+use Rattle.std.proofs.Common.{◌≤◌, ◌≡◌, ◌≢◌, ◌⊎◌, ℕ, zero, suc, ◌+◌, ◌<◌, ◌^◌, ◌==◌, Bool, true, false, List, []}
 use Rattle.std.proofs.Common.{◌∷◌, ◌++◌, length, set, get_or, Option, refl, ap, sym, ◌∙◌, subst, inl, inr, ⊎_elim, arith}
 use Rattle.std.specs.Prelude.{slice_index, slice_set}
 use Rattle.std.proofs.lemmas.List.{length-set, set-get_or, get_or-set_same, get_or-set_other}
@@ -14,9 +14,9 @@ use Rattle.atomic_table.specs.Table.{State, Me, step, keeps, Allows, Splits, Joi
 use Rattle.atomic_table.proofs.Lists.{at_set}
 use Rattle.journal.specs.declared.rule.View.{View}
 use Rattle.journal.specs.Runs.{IsLegal}
-use Rattle.journal.specs.Rules.{Key, slot, session, Owns, NoneLentIsOwn, knower, under, many, IsViewOf, IsRunOf, HasRun, Goes, Looks, Settles, Appends}
+use Rattle.journal.specs.Rules.{Key, slot, session, Owns, NoneLentIsOwn, knower, under, many, IsViewOf, IsRunOf, HasRun, Goes, Looks, Settles, Appends, IsCovered, Compares}
 use Rattle.journal.proofs.Fronts.{prefix_self, prefix_nil, prefix_more, prefix_either, legal_prefix, legal_snoc}
-use Rattle.journal.proofs.Counts.{bool_cases, count_between, count_yes, count_no}
+use Rattle.journal.proofs.Counts.{bool_cases, count_prefix, count_between, count_yes, count_no}
 
 at_end : {A : Type 0} (l : List A) (a b : A) (j : ℕ) → get_elem? (l ++ a ∷ []) j ≡ some b → (get_elem? l j ≡ some b) ⊎ ((j ≡ length l) × (a ≡ b))
 at_end [] a b zero e = inr (refl, some-injective a b e)
@@ -95,6 +95,7 @@ module _ {E : Type 0} (slot_of : E → ℕ) (commit_of : E → Option (ℕ × �
     counts = k.counts;
     fits = all_set (λ _ u. F run u) views id w fits (λ j u _ e. k.fits j u e);
     apart = apart_set views id v w at less k.apart;
+    unused = k.unused;
   }
 
   -- the view v, which has seen up to c
@@ -107,6 +108,7 @@ module _ {E : Type 0} (slot_of : E → ℕ) (commit_of : E → Option (ℕ × �
     told = prefix_nil run;
     covers = λ k o. count_between (U k) v.seen c run p q (f.covers k o);
     apart = f.apart;
+    below = f.below;
   }
 
   goes_up : (run c : List E) (v : View E) → IsLegal may run → F run v → IsPrefix v.seen c → IsPrefix v.told c → IsPrefix c run → Goes slot_of commit_of may v c
@@ -155,6 +157,37 @@ module _ {E : Type 0} (slot_of : E → ℕ) (commit_of : E → Option (ℕ × �
       (prefix_either me.0.seen me.0.told run f.seen f.told) in
       (a.0, keeps, tt, a.1, a.2)
 
+  -- the view v, which was told nothing
+  abbrev silent : View E → View E
+  silent v = record v { told = [] }
+
+  fits_silent : (run : List E) (v : View E) → F run v → F run (silent v)
+  fits_silent run v f = record { seen = f.seen; told = prefix_nil run; covers = f.covers; apart = f.apart; below = f.below }
+
+  unused_front : (xs run : List E) → IsPrefix xs run → ((n : ℕ) → 2 ^ 62 ≤ n → M (session n) run ≡ 0) → (n : ℕ) → 2 ^ 62 ≤ n → M (session n) xs ≡ 0
+  unused_front xs run p unused n high = omega (arith, unused n high, count_prefix (U (session n)) xs run p)
+
+  is_covered : (words : List ℕ) (views : List (View E)) (run : List E) (v : View E) → K words views run → F run v → IsCovered slot_of commit_of may v
+  is_covered words views run v k f = record {
+    either = prefix_either v.seen v.told run f.seen f.told;
+    covers = λ key o. omega (arith, f.covers key o, count_prefix (U key) v.told run f.told);
+    unused = unused_front v.told run f.told k.unused;
+  }
+
+  pub compares : (slots id : ℕ) (me : Me E (View E)) (i : ℕ) → i < 64 → Allows Holds slots id me i (λ n. n) (Compares slot_of commit_of may (step slots i 0 0 none) me)
+  compares slots id me i low s h len at fit =
+      let run = h.0 in
+      let k = h.1 in
+      let v = me.0 in
+      let f = k.fits id v at in
+      let w = silent v in (
+        w,
+        keeps,
+        tt,
+        (run, subst (λ (ws : List ℕ). K ws (set s.views id w) run) (sym (set-get_or s.words i 0)) (kept_set s.words s.views run id v w k at (λ _ o. o) (fits_silent run v f))),
+        (refl, is_covered s.words s.views run v k f),
+      )
+
   -- the entry's caller has the right to all that it is under
   abbrev pub Entitled : View E → E → Type 0
   Entitled v e = (k : Key) → U k e ≡ true → Owns v k
@@ -171,10 +204,12 @@ module _ {E : Type 0} (slot_of : E → ℕ) (commit_of : E → Option (ℕ × �
     told = prefix_more u.told run (e ∷ []) f.told;
     covers = λ k o. f.covers k o ∙ sym (count_no (U k) run e (free k o));
     apart = f.apart;
+    below = f.below;
   }
 
-  fits_whole : (run : List E) (v : View E) → NoneLentIsOwn v → F run (up_to v run)
-  fits_whole run v apart = record { seen = prefix_self run; told = prefix_nil run; covers = λ k o. refl; apart = apart }
+  fits_whole : (run : List E) (v : View E) → NoneLentIsOwn v → ((n : ℕ) → Owns v (session n) → n < 2 ^ 62) → F run (up_to v run)
+  fits_whole run v apart below =
+      record { seen = prefix_self run; told = prefix_nil run; covers = λ k o. refl; apart = apart; below = below }
 
   counts_more : (words : List ℕ) (run : List E) (i n : ℕ) (e : E) → length words ≡ 64 → i < 64 → slot_of e ≡ i → n ≡ M (slot i) run
       → ((j : ℕ) → j < 64 → slice_index words j ≡ M (slot j) run)
@@ -192,6 +227,17 @@ module _ {E : Type 0} (slot_of : E → ℕ) (commit_of : E → Option (ℕ × �
   -- the entry may follow each legal run that begins with what was seen and has no more entries that the seat has the right to
   abbrev pub MayCome : View E → E → Type 0
   MayCome v e = (run : List E) → Goes slot_of commit_of may v run → may run e
+
+  -- no entry is of a number that none can have
+  unused_more : (run : List E) (v : View E) (e : E) → Entitled v e → ((n : ℕ) → Owns v (session n) → n < 2 ^ 62)
+      → ((n : ℕ) → 2 ^ 62 ≤ n → M (session n) run ≡ 0)
+      → (n : ℕ) → 2 ^ 62 ≤ n → M (session n) (run ++ e ∷ []) ≡ 0
+  unused_more run v e mine below unused n high =
+      let other : U (session n) e ≡ false =
+      ⊎_elim (λ (y : U (session n) e ≡ true). let low = below n (mine (session n) y) in absurd (omega (arith, low, high)))
+      (λ (y : U (session n) e ≡ false). y)
+      (bool_cases (U (session n) e)) in
+      count_no (U (session n)) run e other ∙ unused n high
 
   appends_at : (slots id : ℕ) (me : Me E (View E)) (i n : ℕ) (e : E) → i < 64 → Owns me.0 (slot i) → slot_of e ≡ i → n ≡ M (slot i) me.0.seen
       → Entitled me.0 e → MayCome me.0 e
@@ -211,9 +257,10 @@ module _ {E : Type 0} (slot_of : E → ℕ) (commit_of : E → Option (ℕ × �
         legal = legal;
         long = length-set s.words i (n + 1) ∙ k.long;
         counts = counts_more s.words run i n e k.long low on n_is k.counts;
-        fits = all_set (λ _ u. F (run ++ e ∷ []) u) s.views id w (fits_whole (run ++ e ∷ []) v f.apart)
+        fits = all_set (λ _ u. F (run ++ e ∷ []) u) s.views id w (fits_whole (run ++ e ∷ []) v f.apart f.below)
             (λ j u other there. fits_more run e u (λ key o. not_theirs s.words s.views run id j v u e key k at there other mine o) (k.fits j u there));
         apart = apart_set s.views id v w at (λ _ o. o) k.apart;
+        unused = unused_more run v e mine f.below k.unused;
       } in
       (w, (run ++ e ∷ [], subst (λ (y : ℕ). K (slice_set s.words i y) (slice_set s.views id w) (run ++ e ∷ [])) (sym x_is) kept), (run, e, refl, refl, goes, legal))
 
@@ -240,12 +287,14 @@ module _ {E : Type 0} (slot_of : E → ℕ) (commit_of : E → Option (ℕ × �
         told = subst (λ (t : List E). IsPrefix t run) (sym l_told) f.told;
         covers = λ key o. ap (M key) l_seen ∙ f.covers key (l_less key o);
         apart = l_apart f.apart;
+        below = λ n o. f.below n (l_less (session n) o);
       } in
       let right : F run r = record {
         seen = subst (λ (t : List E). IsPrefix t run) (sym r_seen) f.seen;
         told = subst (λ (t : List E). IsPrefix t run) (sym r_told) (prefix_nil run);
         covers = λ key o. ap (M key) r_seen ∙ f.covers key (r_less key o);
         apart = r_apart;
+        below = λ n o. f.below n (r_less (session n) o);
       } in
       let first = kept_set s.words s.views run id v l k at l_less left in
       let apart_from : (j : ℕ) (u : View E) (key : Key) → get_elem? (set s.views id l) j ≡ some u → Owns u key → Owns r key → ⊥ =
@@ -261,6 +310,7 @@ module _ {E : Type 0} (slot_of : E → ℕ) (commit_of : E → Option (ℕ × �
               ⊎_elim (λ (e : get_elem? (set s.views id l) j ≡ some u). first.fits j u e)
               (λ (e : (j ≡ length (set s.views id l)) × (r ≡ u)). subst (F run) e.1 right) (at_end (set s.views id l) r u j there);
           apart = apart_end (set s.views id l) r apart_from first.apart;
+          unused = k.unused;
         },
       )
 
@@ -289,6 +339,7 @@ module _ {E : Type 0} (slot_of : E → ℕ) (commit_of : E → Option (ℕ × �
             ⊎_elim (λ (x : Owns v key). count_between (U key) v.seen b.seen run longer begins (f.covers key x))
             (λ (x : Owns w key × IsPrefix w.seen b.seen). count_between (U key) w.seen b.seen run x.1 begins (g.covers key x.0)) (rights key o);
         apart = b_apart f.apart (λ key o p. two (k.apart other id w v key was at p o));
+        below = λ n o. ⊎_elim (λ (x : Owns v (session n)). f.below n x) (λ (x : Owns w (session n) × IsPrefix w.seen b.seen). g.below n x.0) (rights (session n) o);
       } in
       let spent : F run nobody =
       record {
@@ -296,6 +347,7 @@ module _ {E : Type 0} (slot_of : E → ℕ) (commit_of : E → Option (ℕ × �
         told = prefix_nil run;
         covers = λ key o. absurd (knower_owns {E = E} [] [] key o);
         apart = knower_apart {E = E} [] [];
+        below = λ n o. absurd (knower_owns {E = E} [] [] (session n) o);
       } in
       let Origin : Key → ℕ → View E → Type 0 =
       λ key j u. Owns u key → (o : ℕ) × (x : View E) × (get_elem? s.views o ≡ some x) × Owns x key × ((o ≡ j) ⊎ ((j ≡ id) × (o ≡ other))) × (j ≢ other) in
@@ -319,5 +371,6 @@ module _ {E : Type 0} (slot_of : E → ℕ) (commit_of : E → Option (ℕ × �
               (λ (d : p.0 ≡ j). ⊎_elim (λ (z : q.0 ≡ m). sym d ∙ one ∙ z) (λ (z : (m ≡ id) × (q.0 ≡ other)). absurd (p.5 (sym d ∙ one ∙ z.1))) q.4)
               (λ (d : (j ≡ id) × (p.0 ≡ other)). ⊎_elim (λ (z : q.0 ≡ m). absurd (q.5 (sym z ∙ sym one ∙ d.1))) (λ (z : (m ≡ id) × (q.0 ≡ other)). d.0 ∙ sym z.0) q.4)
               p.4;
+          unused = k.unused;
         },
       )

@@ -6,17 +6,17 @@ use Rattle.std.specs.List.{All, filter, count_by}
 use Rattle.std.proofs.lemmas.List.{append-nil}
 use Rattle.std.proofs.lemmas.List.Elements.{filter-append, All-append, All-nil, All-cons}
 use Rattle.std.proofs.lemmas.List.Sums.{length-filter}
-use Rattle.std.proofs.lemmas.Bool.{eqb-true}
+use Rattle.std.proofs.lemmas.Bool.{eqb-true, cases_lt}
 use mathlib.Core.List.{IsPrefix}
 use Rattle.atomic_table.specs.Table.{Me}
 use Rattle.journal.specs.declared.rule.View.{View}
 use Rattle.journal.specs.Runs.{IsLegal, on_slot, of_session, number_of, by_session, NumbersBelow}
-use Rattle.journal.specs.Rules.{slot, session, Owns, first_session, seeing}
+use Rattle.journal.specs.Rules.{slot, session, Owns, first_session, seeing, hears, noted, IsCovered}
 use Rattle.journal.specs.inner.Steps.{Grows, looking}
-use Rattle.journal.specs.Held.{OfNumber, IsPass, IsSeat, pass_view, seat_view}
+use Rattle.journal.specs.Held.{OfNumber, IsPass, IsSeat, IsOpener, pass_view, seat_view}
 use Rattle.journal.specs.inner.Steps.{IsEntitled}
 use Rattle.journal.specs.Views.{PassView, SeatView, IsLater, IsLonger, fresh_seats}
-use Rattle.journal.proofs.Counts.{count-append}
+use Rattle.journal.proofs.Counts.{count-append, count_prefix}
 use Rattle.journal.proofs.Fronts.{prefix_trans}
 
 module _ {A : Type 0} where
@@ -127,6 +127,33 @@ module _ {E : Type 0} (slot_of : E → ℕ) (commit_of : E → Option (ℕ × �
       let owns : Owns (first_session v) (session next) = inl (omega (arith, from), omega (arith, from)) in
       let p : E → Bool = by_session commit_of next in
       filter_same p v.seen run grows.seen (grows.covers (session next) owns) ∙ ap (filter p) blank
+
+  -- nor is one of a session that isn't opened yet
+  pub unopened : (next : ℕ) (a : Me E (View E)) (w : View E) (seen : List E) → IsOpener next a → w.seen ≡ seen
+      → IsCovered slot_of commit_of may (hears a.0 (noted w)) → (n : ℕ) → next ≤ n → filter (by_session commit_of n) seen ≡ []
+  unopened next a w seen is same covered n from =
+      let p : E → Bool = by_session commit_of n in
+      let none : count_by p w.seen ≡ 0 =
+      ⊎_elim
+      (λ (low : n < 2 ^ 62).
+      let owns : Owns (hears a.0 (noted w)) (session n) = inl (omega (arith, is.sessions.0, from), omega (arith, is.sessions.1, low)) in
+      let few = covered.covers (session n) owns in
+      let blank : count_by p a.0.seen ≡ 0 = ap (count_by p) is.blank in omega (arith, few, blank))
+      (λ (high : 2 ^ 62 ≤ n). covered.unused n high) (cases_lt n (2 ^ 62)) in
+      nothing_left (filter p seen) (length-filter p seen ∙ ap (count_by p) (sym same) ∙ none)
+
+  -- a pass that was told of a longer run was told of no more commits of its session
+  pub own_confirmed : (statements : ℕ) (number : Option ℕ) (a : Me E (View E)) (w : View E) (mine theirs : List E) → IsPass commit_of may number statements a
+      → a.0.seen ≡ mine → w.seen ≡ theirs
+      → IsCovered slot_of commit_of may (hears a.0 (noted w)) → (n : ℕ) → number ≡ Some n → IsPrefix mine theirs
+      → filter (by_session commit_of n) theirs ≡ filter (by_session commit_of n) mine
+  own_confirmed statements number a w mine theirs is mine_is theirs_is covered n e longer =
+      let p : E → Bool = by_session commit_of n in
+      let owns : Owns (hears a.0 (noted w)) (session n) = owns_number number (hears a.0 (noted w)) n (same_number number a.0 (hears a.0 (noted w)) (refl, refl) is.session) e in
+      let few : count_by p w.seen ≤ count_by p a.0.seen = covered.covers (session n) owns in
+      let here : count_by p a.0.seen ≡ count_by p mine = ap (count_by p) mine_is in
+      let there : count_by p w.seen ≡ count_by p theirs = ap (count_by p) theirs_is in
+      filter_same p mine theirs longer (omega (arith, few, here, there, count_prefix p mine theirs longer))
 
   pub numbers_kept : (statements : ℕ) (number : Option ℕ) (b : Me E (View E)) (run : List E) → IsPass commit_of may number statements b
       → Grows slot_of commit_of may b.0 run → (n : ℕ) → number ≡ Some n → NumbersBelow commit_of n (statements + 1) run

@@ -1,5 +1,5 @@
 -- The rule of the words, and what its steps tell.
-use Rattle.std.specs.Prelude.{◌≡◌, ℕ, ◌+◌, ◌<◌, ◌≤◌, Bool, List, [], ◌∷◌, ◌++◌, ◌⊎◌, length, slice_index, Option}
+use Rattle.std.specs.Prelude.{◌≡◌, ℕ, ◌+◌, ◌<◌, ◌≤◌, ◌^◌, Bool, List, [], ◌∷◌, ◌++◌, ◌⊎◌, length, slice_index, Option}
 use Rattle.std.specs.List.{count_by}
 use mathlib.Core.Option.{some}
 use mathlib.Core.List.{IsPrefix}
@@ -116,14 +116,17 @@ module _ {E : Type 0} (slot_of : E → ℕ) (commit_of : E → Option (ℕ × �
   abbrev pub many : Key → List E → ℕ
   many k run = count_by (under k) run
 
-  -- what was seen begins the run, and all entries that the seat has the right to were seen
+  -- what was seen begins the run, and all entries that the seat has the right to were seen; session numbers are below
+  -- 2 ^ 62
   pub record IsViewOf (run : List E) (v : View E) : Type 0 where
     pub seen : IsPrefix v.seen run
     pub told : IsPrefix v.told run
     pub covers : (k : Key) → Owns v k → many k v.seen ≡ many k run
     pub apart : NoneLentIsOwn v
+    pub below : (n : ℕ) → Owns v (session n) → n < 2 ^ 62
 
-  -- one legal run, which each word counts on its slot and each view begins. No two seats have one right
+  -- one legal run, which each word counts on its slot and each view begins. No two seats have one right, and a number that
+  -- none can have has no commits
   pub record IsRunOf (words : List ℕ) (views : List (View E)) (run : List E) : Type 0 where
     pub legal : IsLegal may run
     pub long : length words ≡ 64
@@ -131,6 +134,7 @@ module _ {E : Type 0} (slot_of : E → ℕ) (commit_of : E → Option (ℕ × �
     pub fits : (j : ℕ) (v : View E) → get_elem? views j ≡ some v → IsViewOf run v
     pub apart : (j k : ℕ) (v w : View E) (key : Key) → get_elem? views j ≡ some v → get_elem? views k ≡ some w
         → Owns v key → Owns w key → j ≡ k
+    pub unused : (n : ℕ) → 2 ^ 62 ≤ n → many (session n) run ≡ 0
 
   abbrev pub HasRun : State E (View E) → Type 0
   HasRun s = (run : List E) × IsRunOf s.words s.views run
@@ -159,3 +163,14 @@ module _ {E : Type 0} (slot_of : E → ℕ) (commit_of : E → Option (ℕ × �
   Appends s m found n =
       (run : List E) × (e : E) × (s.said ≡ some e) × (n ≡ (seeing m.0 (run ++ e ∷ []), m.1)) × Goes m.0 run
       × IsLegal may (run ++ e ∷ [])
+
+  -- what was told has no more entries that the seat has the right to than what it has seen, and no commit of a number that
+  -- none can have; one begins the other
+  pub record IsCovered (v : View E) : Type 0 where
+    pub either : (IsPrefix v.seen v.told) ⊎ (IsPrefix v.told v.seen)
+    pub covers : (k : Key) → Owns v k → many k v.told ≤ many k v.seen
+    pub unused : (n : ℕ) → 2 ^ 62 ≤ n → many (session n) v.told ≡ 0
+
+  -- what was told was compared with what was seen, and put away
+  abbrev pub Compares : Step E → Me E (View E) → ℕ → Me E (View E) → Type 0
+  Compares s m found n = (n ≡ (record m.0 { told = [] }, m.1)) × IsCovered m.0

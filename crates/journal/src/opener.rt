@@ -33,6 +33,7 @@ impl<L: Law, J: Naming> Model for Opener<L, J> {
 }
 
 impl<L: Law, J: Naming> Opener<L, J> {
+    ghost use Rattle.std.specs.Prelude.{ℕ};
     ghost use Rattle.journal.specs.Runs.{by_session};
     ghost use Rattle.journal.specs.Views.{new_pass};
 
@@ -42,6 +43,15 @@ impl<L: Law, J: Naming> Opener<L, J> {
         ensures most { result ≤ 2 ^ 62 }
     {
         self.next
+    }
+
+    /// Nothing changes. Of the commits that the pass has seen none is of a session that isn't opened yet.
+    pub fn confirm(&mut self, pass: &mut Pass<L, J>)
+        ensures same { self.new ≡ self.old }
+        ensures pass { pass.new ≡ pass.old }
+        ensures unopened { (n : ℕ) → self.old ≤ n → filter (by_session L.commit_of n) pass.old.seen ≡ [] }
+    {
+        self.words.compare(&mut self.seat, &mut pass.seat);
     }
 
     /// A pass with the next session number, which has seen what `pass` has. No entry is of its session yet. It refuses

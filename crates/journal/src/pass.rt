@@ -1,4 +1,4 @@
-ghost use Rattle.std.specs.Prelude.{ℕ, Some, ◌≡◌, ◌≢◌, ◌+◌, ◌++◌, [], None, IfOk, IfErr, ◌≤◌, ◌<◌, ◌^◌};
+ghost use Rattle.std.specs.Prelude.{ℕ, Some, ◌≡◌, ◌≢◌, ◌⊎◌, ◌+◌, ◌++◌, [], None, IfOk, IfErr, ◌≤◌, ◌<◌, ◌^◌};
 ghost use Rattle.vt_value.specs.declared.refusal.Refusal.TheVariants.{OutOfMemory, ShardFull};
 
 use crate::law::{Law, Naming};
@@ -34,13 +34,17 @@ impl<L: Law, J: Naming> Model for Pass<L, J> {
 }
 
 impl<L: Law, J: Naming> Pass<L, J> {
-    ghost use Rattle.journal.specs.Runs.{IsLegal, NumbersBelow};
+    ghost use Rattle.std.specs.List.{filter};
+    ghost use mathlib.Core.List.{IsPrefix};
+    ghost use Rattle.journal.specs.Runs.{IsLegal, NumbersBelow, by_session};
     ghost use Rattle.journal.specs.Views.{IsLonger, new_pass};
 
-    /// The number of its session; none where it was split off or came first. What it has seen is legal.
+    /// The number of its session; none where it was split off or came first. What it has seen is legal, and the commits
+    /// of its session there have numbers that it has given out.
     pub fn session(&self) -> Option<u64>
         ensures number { result ≡ self.now.session }
         ensures legal { IsLegal L.may_follow self.now.seen }
+        ensures below { (n : ℕ) → self.now.session ≡ Some n → NumbersBelow L.commit_of n (self.now.statements + 1) self.now.seen }
     {
         self.number
     }
@@ -95,6 +99,17 @@ impl<L: Law, J: Naming> Pass<L, J> {
         ensures apart { (n : ℕ) → self.old.session ≡ Some n → other.old.session ≢ Some n }
     {
         self.words.meet(&mut self.seat, &mut other.seat);
+    }
+
+    /// Nothing changes. Of what the two have seen one begins the other, and the other has seen no commit of its session
+    /// that it hasn't.
+    pub fn confirm(&mut self, other: &mut Pass<L, J>)
+        ensures same { self.new ≡ self.old }
+        ensures theirs { other.new ≡ other.old }
+        ensures either { (IsPrefix self.old.seen other.old.seen) ⊎ (IsPrefix other.old.seen self.old.seen) }
+        ensures own { (n : ℕ) → self.old.session ≡ Some n → IsPrefix self.old.seen other.old.seen → filter (by_session L.commit_of n) other.old.seen ≡ filter (by_session L.commit_of n) self.old.seen }
+    {
+        self.words.compare(&mut self.seat, &mut other.seat);
     }
 
     /// It has then seen the longer of what both had seen, and has the looks of both, its own first.

@@ -54,6 +54,17 @@ impl<L: Law> Play<L::Entry, View<L::Entry>> for Settle<L> {
     ghost then = { Settles L.slot_of L.commit_of L.may_follow };
 }
 
+/// A load that compares what was told with what was seen, and keeps what was seen.
+pub struct Compare<L> {
+    law: PhantomData<L>,
+}
+
+impl<L: Law> Play<L::Entry, View<L::Entry>> for Compare<L> {
+    ghost use Rattle.journal.specs.Rules.{Compares};
+
+    ghost then = { Compares L.slot_of L.commit_of L.may_follow };
+}
+
 /// The exchange that appends an entry.
 pub struct Append<L> {
     law: PhantomData<L>,

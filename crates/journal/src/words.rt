@@ -4,7 +4,8 @@ ghost use mathlib.Core.List.{IsPrefix};
 
 use crate::law::{Law, Naming};
 use crate::rule::{
-    Append, Hold, Look, LookNote, NextSession, NextSlot, Note, Return, Rule, Sessions, Settle, View,
+    Append, Compare, Hold, Look, LookNote, NextSession, NextSlot, Note, Return, Rule, Sessions,
+    Settle, View,
 };
 use atomic_table::{Seat, Table};
 use std::alloc::Global;
@@ -27,7 +28,7 @@ impl<L: Law, J: Naming> Words<L, J> {
     ghost use Rattle.journal.specs.Rules.{noted, look_noted, seeing, hears, hears_looks, borrows, returns};
     ghost use Rattle.journal.specs.inner.Steps.{Grows};
     ghost use Rattle.journal.specs.Rules.{later_sessions, first_session, later_slots, first_slot};
-    ghost use Rattle.journal.specs.Rules.{without_sessions, sessions_of};
+    ghost use Rattle.journal.specs.Rules.{without_sessions, sessions_of, IsCovered};
     ghost use Rattle.journal.specs.inner.Steps.{settled, looked, Agrees, LooksBoth, AppendsBoth};
     ghost use Rattle.journal.specs.inner.Steps.{IsEntitled, MayPut, PutsEntry, IsPlain, NoneHeld, NoCommon};
 
@@ -161,6 +162,18 @@ impl<L: Law, J: Naming> Words<L, J> {
     {
         self.table.shared.join_seat::<LookNote>(seat, other);
         self.settle(seat, 0);
+    }
+
+    // `one` is told what `other` has seen, which has no more entries that `one` has the right to, and keeps what it had seen.
+    pub(crate) fn compare(&self, one: &mut Knower<L>, other: &mut Knower<L>)
+        requires table { (one.old.table_id ≡ J.table) × (other.old.table_id ≡ J.table) }
+        ensures table { (one.new.table_id ≡ J.table) × (other.new.table_id ≡ J.table) }
+        ensures one { one.new.me ≡ (record one.old.me.0 { told = [] }, one.old.me.1) }
+        ensures other { other.new.me ≡ other.old.me }
+        ensures covered { IsCovered L.slot_of L.commit_of L.may_follow (hears one.old.me.0 (noted other.old.me.0)) }
+    {
+        self.tell(other, one);
+        self.table.shared.load::<Compare<L>>(one, 0);
     }
 
     // Both have then seen the run as it is.

@@ -22,7 +22,7 @@ use Rattle.sql_eval.specs.Writes.{changes_of, change}
 use Rattle.planner.specs.Routes.{table_at}
 use Rattle.journal.specs.Runs.{LegalAfter, IsLegal}
 use Rattle.journal.specs.Views.{PassView}
-use Rattle.journal.proofs.Fronts.{prefix_self, prefix_trans, prefix_both, legal_front}
+use Rattle.journal.proofs.Fronts.{prefix_self, prefix_trans, legal_front}
 use Rattle.shard_run.specs.declared.Shard.{Shard}
 use Rattle.shard_run.specs.declared.Entry.{Entry}
 use Rattle.shard_run.specs.Runs.{Run, Opening, opening_rows, one, commit_changes}
@@ -42,10 +42,10 @@ use Rattle.route_engine.specs.Answers as a
 use Rattle.serving.specs.Partitions.{Seat, IsPartition}
 use Rattle.route_engine.specs.Answers.{counted, HasGone, IsSelected, Gives, IsReply, IsRefused, IsRefusal, MayReadRefuse, MayWriteRefuse, NeedsAlone, needed_by}
 use Rattle.route_engine.specs.Alone as over
-use Rattle.route_engine.specs.Alone.{NoOthers, GivesOver, AnswersOver, IsRefusedOver}
+use Rattle.route_engine.specs.Alone.{NoOthers, NoCommits, GivesOver, AnswersOver, IsRefusedOver}
 use Rattle.route_engine.proofs.Everywhere.{same_moment}
 use Rattle.sql_eval.proofs.SameAnswers.{same_answers}
-use Rattle.route_engine.proofs.NoOthers.{gone_unchanged, gone_same, looked_unchanged, committed_at, up_to, behind}
+use Rattle.route_engine.proofs.NoOthers.{one_still, still_self, still_trans, still_between, gone_unchanged, gone_same, looked_unchanged, committed_at, up_to, behind}
 use Rattle.route_engine.proofs.Sessions.{is_typed}
 use Rattle.route_engine.proofs.Theirs.{query_there}
 use Rattle.route_engine.proofs.Trying.{same_session}
@@ -141,10 +141,11 @@ count_is schema w db after exact count is changed =
     ap number_of e
 
 module _ (o : Opening) (opens : IsOpening o) (formed : is_vschema o.schema ≡ true) (l : Limits) (p now : PassView Entry) (alone : NoOthers p now) where
-  same_runs : (parts : List Part) → AllByRecursion (IsBetween p.seen now.seen) parts → now.seen ≡ p.seen → AllByRecursion (λ part. part.run ≡ p.seen) parts
+  same_runs : (parts : List Part) → AllByRecursion (IsBetween p.seen now.seen) parts → NoCommits p.seen now.seen
+      → AllByRecursion (λ part. one o part.run ≡ one o p.seen) parts
   same_runs parts all same =
-      all-weaker (IsBetween p.seen now.seen) (λ part. part.run ≡ p.seen)
-      (λ part h. sym (prefix_both p.seen part.run h.0 (subst (IsPrefix part.run) same h.1))) parts all
+      all-weaker (IsBetween p.seen now.seen) (λ part. one o part.run ≡ one o p.seen)
+      (λ part h. one_still o p.seen part.run (still_between p.seen part.run now.seen h.0 h.1 same)) parts all
 
   -- a query
   pub selected_over : (q : Query) (selected : Rattle.route_engine.specs.declared.reply.Selected.Selected) (reads : List Rattle.route_engine.specs.declared.reply.ShardRead.ShardRead)
@@ -155,7 +156,8 @@ module _ (o : Opening) (opens : IsOpening o) (formed : is_vschema o.schema ≡ t
       let rows = same_moment o q.table there p.seen is.parts (same_runs is.parts is.mix.between same) is.mix.named is.mix.whole in
       let answer : Allowed q (one o p.seen) selected.rows =
       same_answers q (rows_of (mixed_rows o (table_at o.schema q.table).keyspace is.parts) q.table) (rows_of (one o p.seen) q.table) selected.rows rows is.allowed in
-      subst (λ (r : Run). GivesOver o.schema (one o p.seen) (typed.Select q) (Rows selected) (one o r)) (sym same) (over.selects is.table is.items answer)
+      subst (λ (db : Database). GivesOver o.schema (one o p.seen) (typed.Select q) (Rows selected) db) (sym (one_still o p.seen now.seen same))
+      (over.selects is.table is.items answer)
 
   -- a write
   pub committed_over : (w : Write) (s : Shard) (count : ℕ) → NeedsAlone o w s → HasCommitted o l s p w count now
@@ -169,10 +171,10 @@ module _ (o : Opening) (opens : IsOpening o) (formed : is_vschema o.schema ≡ t
       let whole = whole_changes o opens formed c.before (legal_is o c.before (legal_front (MayFollow o) [] c.before (e ∷ []) legal)) w may_commit.typed.0 s needed in
       let counted' : length c.changes ≡ count =
       length_permutation first.0 c.changes first.2 ∙ count_is o.schema w (restrict o.schema s.place (one o c.before)) c.after first.0 count first.1 c.counted in
-      let there : c.before ≡ p.seen = committed_at p now alone o l s w count c in
+      let there : one o c.before ≡ one o p.seen = one_still o p.seen c.before (committed_at p now alone o l s w count c) in
       let left : one o now.seen ≡ all_applied c.changes (one o p.seen) =
-      ap (one o) c.seen ∙ one_push o c.before e ∙ ap (λ (r : Run). all_applied c.changes (one o r)) there in
-      let is : IsChangeOf o.schema w (one o p.seen) c.changes = subst (λ (r : Run). IsChangeOf o.schema w (one o r) c.changes) there (first.0, sym whole ∙ first.1, first.2) in
+      ap (one o) c.seen ∙ one_push o c.before e ∙ ap (λ (db : Database). all_applied c.changes db) there in
+      let is : IsChangeOf o.schema w (one o p.seen) c.changes = subst (λ (db : Database). IsChangeOf o.schema w db c.changes) there (first.0, sym whole ∙ first.1, first.2) in
       subst (λ (db : Database). GivesOver o.schema (one o p.seen) (typed.Write w) (Count count) db) (sym left)
       (subst (λ (n : ℕ). GivesOver o.schema (one o p.seen) (typed.Write w) (Count n) (all_applied c.changes (one o p.seen))) counted' (over.writes c.changes is))
 
@@ -188,15 +190,15 @@ module _ (o : Opening) (opens : IsOpening o) (formed : is_vschema o.schema ≡ t
       → GivesOver o.schema (one o p.seen) (typed.Write w) (Count count) (one o now.seen)
   wrote_over w s count since needed gone c =
       let after = committed_later o l s since now w count c in
-      let same : since.seen ≡ p.seen = gone_same p since (up_to p now alone since gone.1.later after) o gone in
+      let same : NoCommits p.seen since.seen = gone_same p since (up_to p now alone since gone.1.later after) o gone in
       let later : NoOthers since now = behind p now alone since gone.1.later after (same_session o p since gone) in
-      subst (λ (r : Run). GivesOver o.schema (one o r) (typed.Write w) (Count count) (one o now.seen)) same
+      subst (λ (db : Database). GivesOver o.schema db (typed.Write w) (Count count) (one o now.seen)) (one_still o p.seen since.seen same)
       (committed_over o opens formed l since now later w s count needed c)
 
   left_over : (w : Write) → IsTypedWrite o.schema w → IsLegal (MayFollow o) p.seen → (seats : List Seat) → IsPartition seats → needed_by o w seats ≡ [] → HasGone o p now
       → GivesOver o.schema (one o p.seen) (typed.Write w) (Count 0) (one o now.seen)
   left_over w is legal seats partition none gone =
-      subst (λ (r : Run). GivesOver o.schema (one o p.seen) (typed.Write w) (Count 0) (one o r)) (sym (gone_same p now alone o gone))
+      subst (λ (db : Database). GivesOver o.schema (one o p.seen) (typed.Write w) (Count 0) db) (sym (one_still o p.seen now.seen (gone_same p now alone o gone)))
       (nowhere_over o opens formed p.seen (legal_is o p.seen legal) w is seats partition none)
 
 module _ (o : Opening) (opens : IsOpening o) (formed : is_vschema o.schema ≡ true) (l : Limits) (text : List ℕ) (tree : Statement) (reads : Reads text tree) where
@@ -228,30 +230,30 @@ module _ (o : Opening) (opens : IsOpening o) (formed : is_vschema o.schema ≡ t
   -- a refusal leaves the database
   pub record Refuses (p : PassView Entry) (e : Refusal) (now : PassView Entry) : Type 0 where
     pub why : IsRefusedOver o.schema (one o p.seen) text e
-    pub same : now.seen ≡ p.seen
+    pub same : NoCommits p.seen now.seen
 
   commit_refused : (p now : PassView Entry) (tree : Statement) (w : Write) (s : Shard) (e : Refusal) → Reads text tree → typed_statement o.schema tree ≡ Ok (typed.Write w)
-      → NeedsAlone o w s → IsLegal (MayFollow o) now.seen → IsCommitRefusal o l s now.seen w e → now.seen ≡ p.seen → IsRefusedOver o.schema (one o p.seen) text e
+      → NeedsAlone o w s → IsLegal (MayFollow o) now.seen → IsCommitRefusal o l s now.seen w e → one o now.seen ≡ one o p.seen → IsRefusedOver o.schema (one o p.seen) text e
   commit_refused p now tree w s _ reads is needed legal commits.no_memory same = over.no_memory
   commit_refused p now tree w s _ reads is needed legal (commits.full changes of room) same = over.full
   commit_refused p now tree w s _ reads is needed legal (commits.duplicate twice) same =
       let whole = whole_changes o opens formed now.seen (legal_is o now.seen legal) w (is_typed o.schema tree w is) s needed in
-      over.duplicate tree w reads is (ap (λ (r : Run). changes_of o.schema w (one o r)) (sym same) ∙ sym whole ∙ twice)
+      over.duplicate tree w reads is (ap (λ (db : Database). changes_of o.schema w db) (sym same) ∙ sym whole ∙ twice)
 
   refused_later : (p now : PassView Entry) → NoOthers p now → (tree : Statement) (w : Write) (s : Shard) (e : Refusal) (since : PassView Entry) → Reads text tree
       → typed_statement o.schema tree ≡ Ok (typed.Write w) → NeedsAlone o w s → HasGone o p since → HasLooked o s.slot since now
       → IsCommitRefusal o l s now.seen w e → Refuses p e now
   refused_later p now h tree w s e since reads is needed gone looked why =
-      let same : since.seen ≡ p.seen = gone_same p since (up_to p now h since gone.1.later looked.later) o gone in
+      let same : NoCommits p.seen since.seen = gone_same p since (up_to p now h since gone.1.later looked.later) o gone in
       let later : NoOthers since now = behind p now h since gone.1.later looked.later (same_session o p since gone) in
-      let left : now.seen ≡ p.seen = looked_unchanged since now later o s.slot looked ∙ same in
-      record { why = commit_refused p now tree w s e reads is needed looked.legal why left; same = left }
+      let left : NoCommits p.seen now.seen = still_trans p.seen since.seen now.seen same (looked_unchanged since now later o s.slot looked) in
+      record { why = commit_refused p now tree w s e reads is needed looked.legal why (one_still o p.seen now.seen left); same = left }
 
   refused_over : (p : PassView Entry) (e : Refusal) (now : PassView Entry) → IsRefused o l p text e now → NoOthers p now → Refuses p e now
   refused_over p _ now (a.no_memory gone) h = record { why = over.no_memory; same = gone_same p now h o gone }
-  refused_over p _ _ (a.no_tree none) h = record { why = over.no_tree none; same = refl }
-  refused_over p _ _ (a.not_typed tree reads typed) h = record { why = over.not_typed tree reads typed; same = refl }
-  refused_over p _ _ (a.not_run tree t reads is none) h = record { why = over.not_run tree t reads is none; same = refl }
+  refused_over p _ _ (a.no_tree none) h = record { why = over.no_tree none; same = still_self p.seen }
+  refused_over p _ _ (a.not_typed tree reads typed) h = record { why = over.not_typed tree reads typed; same = still_self p.seen }
+  refused_over p _ _ (a.not_run tree t reads is none) h = record { why = over.not_run tree t reads is none; same = still_self p.seen }
   refused_over p _ now (a.not_read tree q reads is (a.no_memory gone)) h = record { why = over.no_memory; same = gone_same p now h o gone }
   refused_over p _ now (a.not_read tree q reads is (a.buffer_full gone held)) h = record { why = over.waits; same = gone_same p now h o gone }
   refused_over p _ now (a.not_written tree w reads is (a.no_memory gone)) h = record { why = over.no_memory; same = gone_same p now h o gone }
@@ -261,7 +263,7 @@ module _ (o : Opening) (opens : IsOpening o) (formed : is_vschema o.schema ≡ t
       refused_later p now h tree w s e since reads is needed gone looked why
 
   pub refusal_over : (p : PassView Entry) (e : Refusal) (now : PassView Entry) → IsRefusal o l p text e now → NoOthers p now → Refuses p e now
-  refusal_over p _ _ (a.used_up many) h = record { why = over.full; same = refl }
+  refusal_over p _ _ (a.used_up many) h = record { why = over.full; same = still_self p.seen }
   refusal_over p e now (a.numbered why) h =
       let r = refused_over (counted p) e now why (counted_alone p now h) in
       record { why = r.why; same = r.same }

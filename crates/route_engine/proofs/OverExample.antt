@@ -1,5 +1,5 @@
 -- Session 1 over the shards -80 and 80- with the rows (1, NULL) and (2, NULL) of t, beside what one database gives.
-use Rattle.std.proofs.Common.{◌≡◌, ℕ, true, ◌==◌, [], ◌∷◌, refl, sym, ap, subst, None, Some, Option, Err}
+use Rattle.std.proofs.Common.{◌≡◌, ℕ, [], ◌∷◌, refl, sym, ap, subst, ◌∙◌, None, Some, Option, Err, arith}
 use Rattle.std.specs.List.{AllByRecursion}
 use Rattle.std.proofs.lemmas.List.Sorted.{IsPermutation-refl}
 use Rattle.vt_value.specs.declared.refusal.Refusal.TheVariants.{DuplicateKey}
@@ -13,22 +13,47 @@ use Rattle.vschema.specs.declared.changes.RowChange.TheVariants.{Added}
 use Rattle.vschema.specs.Database.{Database}
 use Rattle.vschema.proofs.Example.{schema}
 use Rattle.sql_eval.specs.Writes.{changes_of}
-use Rattle.journal.specs.Runs.{by_session}
 use Rattle.journal.specs.Views.{PassView, new_pass}
+use Rattle.shard_run.specs.declared.Event.TheVariants.{Freeze}
 use Rattle.shard_run.specs.declared.Entry.{Entry}
 use Rattle.shard_run.specs.Runs.{Run, one}
 use Rattle.shard_run.proofs.Examples.{n, opening, seven, four}
-use Rattle.shard.specs.Shards.{commit_of}
 use Rattle.route_engine.specs.declared.reply.Answer.TheVariants.{Rows, Count}
 use Rattle.route_engine.specs.Alone as over
-use Rattle.route_engine.specs.Alone.{NoOthers, GivesOver}
+use Rattle.route_engine.specs.Alone.{IsNoOthers, NoOthers, GivesOver}
 
 abbrev pass : ℕ → Run → PassView Entry
 pass session run = new_pass run (Some session)
 
+-- the session that a commit's entry names
+session_in : Option (ℕ × ℕ) → ℕ
+session_in None = 0
+session_in (Some c) = c.0
+
 -- its commits on two shards, and none of another session
 alone : NoOthers (pass 1 []) (pass 1 (seven ∷ four ∷ []))
-alone = record { session = 1; of_session = refl; added = seven ∷ four ∷ []; seen = refl; own = (refl, (refl, tt)) }
+unfolding session_in
+alone = record {
+  session = 1;
+  of_session = refl;
+  added = seven ∷ four ∷ [];
+  seen = refl;
+  own = ((λ c is. sym (ap session_in is)), ((λ c is. sym (ap session_in is)), tt));
+}
+
+-- beside it a shard may freeze
+abbrev frozen : Entry
+frozen = record { shard = seven.shard; event = Freeze }
+
+beside : NoOthers (pass 1 []) (pass 1 (seven ∷ frozen ∷ []))
+unfolding session_in
+beside = record {
+  session = 1;
+  of_session = refl;
+  added = seven ∷ frozen ∷ [];
+  seen = refl;
+  own = ((λ c is. sym (ap session_in is)), ((λ c is. absurd (cc is)), tt));
+}
 
 number_in : Option ℕ → ℕ
 number_in None = 0
@@ -39,10 +64,10 @@ others : NoOthers (pass 2 []) (pass 2 (seven ∷ four ∷ [])) → ⊥
 unfolding number_in
 others h =
     let two : 2 ≡ h.session = ap number_in h.of_session in
-    let own = subst (AllByRecursion (λ e. by_session commit_of h.session e ≡ true)) (sym h.seen) h.own in
-    let first : (1 == h.session) ≡ true = own.0 in
-    let wrong : (1 == 2) ≡ true = subst (λ k. (1 == k) ≡ true) (sym two) first in
-    cc
+    let own = subst (AllByRecursion (IsNoOthers h.session)) (sym h.seen) h.own in
+    let first : 1 ≡ h.session = own.0 (1, 1) refl in
+    let wrong : 1 ≡ 2 = first ∙ sym two in
+    absurd (omega (arith, wrong))
 
 abbrev db : Database
 db = ((n 2 ∷ Null ∷ []) ∷ (n 1 ∷ Null ∷ []) ∷ []) ∷ [] ∷ [] ∷ []

@@ -21,23 +21,24 @@ use Rattle.journal.specs.Runs.{IsLegal}
 use Rattle.journal.specs.Views.{PassView}
 use Rattle.journal.proofs.Fronts.{prefix_trans}
 use Rattle.shard_run.specs.declared.Shard.{Shard}
+use Rattle.shard_run.specs.declared.Event.TheVariants.{Commit}
 use Rattle.shard_run.specs.declared.Entry.{Entry}
 use Rattle.shard_run.specs.Runs.{Run, Opening, one}
 use Rattle.shard_run.specs.Legal.{IsChangeOf}
 use Rattle.shard_run.specs.Openings.{IsOpening}
-use Rattle.shard_law.proofs.Lists.{In, In-from_Contains, all-append}
+use Rattle.shard_law.proofs.Lists.{In, In-from_Contains, all-append, all-weaker}
 use Rattle.shard.specs.declared.limits.Limits.{Limits}
-use Rattle.shard.specs.Shards.{MayFollow}
+use Rattle.shard.specs.Shards.{MayFollow, commit_of}
 use Rattle.shard.proofs.Legality.{legal_is}
 use Rattle.route_engine.specs.declared.reply.Answer.{Answer}
 use Rattle.route_engine.specs.declared.reply.Reply.{Reply}
 use Rattle.route_engine.specs.Answers as a
 use Rattle.route_engine.specs.Answers.{counted, IsReply, IsRefused}
 use Rattle.route_engine.specs.Alone as over
-use Rattle.route_engine.specs.Alone.{NoOthers, GivesOver, IsRefusedOver}
+use Rattle.route_engine.specs.Alone.{NoOthers, NoCommits, GivesOver, IsRefusedOver}
 use Rattle.route_engine.specs.Transactions as x
 use Rattle.route_engine.specs.Transactions.{Step, Transaction, Standing, GiveOver, AreOver, NeedsNone, used, if_any, writes_in, write_on, with_step, IsCommitted, GivesIn, GivesAt, IsAnswer, IsConflict, IsRefusedIn, IsRefusedBy, IsRefusedNow, IsRefusedAt}
-use Rattle.route_engine.proofs.NoOthers.{unchanged, gone_same, looked_unchanged, all_front, all_back}
+use Rattle.route_engine.proofs.NoOthers.{one_still, still_self, still_trans, unchanged, gone_same, looked_unchanged, all_front, all_back}
 use Rattle.route_engine.proofs.Over.{reply_over, refusal_over}
 use Rattle.route_engine.proofs.Sessions.{is_typed}
 use Rattle.route_engine.proofs.WholeWrites.{no_changes}
@@ -47,16 +48,16 @@ use Rattle.session.proofs.Steps.{committed_later}
 
 -- ---- lists
 
-map-push : (steps : List Step) (step : Step) → map told_of (steps ++ step ∷ []) ≡ map told_of steps ++ told_of step ∷ []
+pub map-push : (steps : List Step) (step : Step) → map told_of (steps ++ step ∷ []) ≡ map told_of steps ++ told_of step ∷ []
 map-push [] step = refl
 map-push (s ∷ steps) step = ap (λ (l : List Told). told_of s ∷ l) (map-push steps step)
 
 module _ {X : Type 0} where
-  none_left : (xs ys : List X) → xs ++ ys ≡ [] → xs ≡ []
+  pub none_left : (xs ys : List X) → xs ++ ys ≡ [] → xs ≡ []
   none_left [] ys e = refl
   none_left (x ∷ xs) ys e = absurd (cc e)
 
-  none_right : (xs ys : List X) → xs ++ ys ≡ [] → ys ≡ []
+  pub none_right : (xs ys : List X) → xs ++ ys ≡ [] → ys ≡ []
   none_right [] ys e = e
   none_right (x ∷ xs) ys e = absurd (cc e)
 
@@ -69,7 +70,7 @@ module _ {X : Type 0} where
   nothing_in x xs none h = subst (λ (l : List X). In x l) none (In-from_Contains x xs h)
 
 -- no shard was used, so no write used one
-writes_none : (steps : List Step) → used steps ≡ [] → writes_in steps ≡ []
+pub writes_none : (steps : List Step) → used steps ≡ [] → writes_in steps ≡ []
 writes_none [] e = refl
 writes_none (step ∷ steps) e =
     let first = none_left (if_any step.on) (used steps) e in
@@ -82,13 +83,13 @@ writes_none (step ∷ steps) e =
 
 -- ---- statements one after the other
 
-in_turn : (schema : VSchema) (db : Database) (steps : List Step) (after : Database) → GiveOver schema db steps after → InTurn schema db (map told_of steps) after
+pub in_turn : (schema : VSchema) (db : Database) (steps : List Step) (after : Database) → GiveOver schema db steps after → InTurn schema db (map told_of steps) after
 in_turn schema db _ _ x.none = alone.none
 in_turn schema db _ _ (x.next {steps} {mid} {after} step give gives) =
     subst (λ (l : List Told). InTurn schema db l after) (sym (map-push steps step)) (alone.next (told_of step) (in_turn schema db steps mid give) gives)
 
 -- without writes they leave the database
-all_stay : (schema : VSchema) (db : Database) (steps : List Step) (after : Database) → GiveOver schema db steps after → AllByRecursion (LeavesAll schema db) steps
+pub all_stay : (schema : VSchema) (db : Database) (steps : List Step) (after : Database) → GiveOver schema db steps after → AllByRecursion (LeavesAll schema db) steps
     → writes_in steps ≡ [] → after ≡ db
 all_stay schema db _ _ x.none all none = refl
 all_stay schema db _ _ (x.next {steps} {mid} {after} step give gives) all none =
@@ -107,12 +108,12 @@ module _ (o : Opening) (run : Run) (t : Transaction) (told : List Told) (h : IsO
   told_more : told ++ told_of step ∷ [] ≡ map told_of more
   told_more = ap (λ (l : List Told). l ++ told_of step ∷ []) h.same ∙ sym (map-push t.steps step)
 
-  pub opened_more : (at : Run) → at ≡ run → step.seen ≡ run → AreOver o run more → LeavesAll o.schema (one o run) step
+  pub opened_more : (at : Run) → NoCommits at run → NoCommits step.seen run → AreOver o run more → LeavesAll o.schema (one o run) step
       → IsOpenOver o run (record { at = at; steps = more }) (told ++ told_of step ∷ [])
   opened_more at is seen over leaves = record {
     at = is;
     same = told_more;
-    seen = all-append (λ (s : Step). s.seen ≡ run) t.steps (step ∷ []) h.seen (seen, tt);
+    seen = all-append (λ (s : Step). NoCommits s.seen run) t.steps (step ∷ []) h.seen (seen, tt);
     over = over;
     idle = all-append (LeavesAll o.schema (one o run)) t.steps (step ∷ []) h.idle (leaves, tt);
   }
@@ -132,7 +133,7 @@ module _ (o : Opening) (run : Run) (t : Transaction) (told : List Told) (h : IsO
       subst (λ (d : Database). InTurn o.schema (one o run) told d) same (all_given h.over.0 h.over.1)
 
 -- a statement that used a shard and didn't write leaves the database
-reads_leave : (schema : VSchema) (db : Database) (t : Typed) (answer : Answer) (seen : Run) (s : Shard)
+pub reads_leave : (schema : VSchema) (db : Database) (t : Typed) (answer : Answer) (seen : Run) (s : Shard)
     → LeavesAll schema db (record { typed = t; answer = answer; seen = seen; on = Some s })
 reads_leave schema db t answer seen s none after gives = by t answer after none gives
   where
@@ -151,7 +152,7 @@ ok_of (Err e) = []
 
 -- nor does one that needs no shard
 module _ (o : Opening) (opens : IsOpening o) (formed : is_vschema o.schema ≡ true) (run : Run) (legal : IsLegal (MayFollow o) run) where
-  nothing_written : (w : Write) → IsTypedWrite o.schema w → NeedsNone o (typed.Write w) → (changes : List RowChange) → IsChangeOf o.schema w (one o run) changes
+  pub nothing_written : (w : Write) → IsTypedWrite o.schema w → NeedsNone o (typed.Write w) → (changes : List RowChange) → IsChangeOf o.schema w (one o run) changes
       → all_applied changes (one o run) ≡ one o run
   unfolding ok_of
   nothing_written w is uses changes of =
@@ -169,6 +170,28 @@ module _ (o : Opening) (opens : IsOpening o) (formed : is_vschema o.schema ≡ t
       by _ _ _ is uses (over.selects table items rows) = refl
       by _ _ _ is uses (over.writes {w} changes of) = nothing_written w (is_typed o.schema tree w is) uses changes of
       by _ _ _ is uses over.sets_names = refl
+
+-- ---- over a run that goes on without commits
+
+module _ (o : Opening) (run now : Run) (still : NoCommits run now) where
+  pub same_rows : one o run ≡ one o now
+  same_rows = sym (one_still o run now still)
+
+  opened_still : (t : Transaction) (told : List Told) → IsOpenOver o run t told → IsOpenOver o now t told
+  opened_still t told h = record {
+    at = still_trans t.at run now h.at still;
+    same = h.same;
+    seen =
+        all-weaker (λ (s : Step). NoCommits s.seen run) (λ (s : Step). NoCommits s.seen now) (λ s x. still_trans s.seen run now x still) t.steps h.seen;
+    over = subst (λ (db : Database). (after : Database) × GiveOver o.schema db t.steps after) same_rows h.over;
+    idle = subst (λ (db : Database). AllByRecursion (LeavesAll o.schema db) t.steps) same_rows h.idle;
+  }
+
+  pub over_still : (tx : Option Transaction) (told : Option (List Told)) → IsOverAt o run tx told → IsOverAt o now tx told
+  over_still None None h = h
+  over_still None (Some told) h = absurd h
+  over_still (Some t) None h = absurd h
+  over_still (Some t) (Some told) h = opened_still t told h
 
 -- ---- a statement of a session that is alone
 
@@ -189,63 +212,65 @@ module _ (o : Opening) (opens : IsOpening o) (formed : is_vschema o.schema ≡ t
     abbrev Next : Typed → Answer → Option Transaction → Type 0
     Next typed answer tx = Goes o p (record { pass = now; tx = tx }) (λ y. GivesNext o.schema (one o p.seen) (Some told) typed answer y)
 
-    -- it goes on, where nothing was added
-    goes_on : (same : now.seen ≡ p.seen) (typed : Typed) (answer : Answer) (on : Option Shard) (at seen : Run) → at ≡ p.seen → seen ≡ p.seen
-        → AreOver o p.seen (with_step t.steps typed answer on seen)
-        → LeavesAll o.schema (one o p.seen) (record { typed = typed; answer = answer; seen = seen; on = on })
+    -- it goes on, where nothing was committed
+    goes_on : (still : NoCommits p.seen now.seen) (typed : Typed) (answer : Answer) (on : Option Shard) (at seen : Run) → NoCommits at now.seen → NoCommits seen now.seen
+        → AreOver o now.seen (with_step t.steps typed answer on seen)
+        → LeavesAll o.schema (one o now.seen) (record { typed = typed; answer = answer; seen = seen; on = on })
         → Next typed answer (Some (record { at = at; steps = with_step t.steps typed answer on seen }))
-    goes_on same typed answer on at seen is then over leaves =
-        let step : Step = record { typed = typed; answer = answer; seen = seen; on = on } in record {
+    goes_on still typed answer on at seen is then over leaves =
+        let step : Step = record { typed = typed; answer = answer; seen = seen; on = on } in
+        let same : one o now.seen ≡ one o p.seen = one_still o p.seen now.seen still in
+        let here = opened_still o p.seen now.seen still t told h in record {
           state = record { db = one o p.seen; open_one = Some (told ++ told_of step ∷ []) };
-          holds = alone.within (told_of step) (given_more o p.seen t told h step over.0 over.1);
-          rows = ap (one o) (sym same);
-          tx =
-              subst (λ (run : Run). IsOpenOver o run (record { at = at; steps = with_step t.steps typed answer on seen }) (told ++ told_of step ∷ [])) (sym same)
-              (opened_more o p.seen t told h step at is then over leaves);
+          holds =
+              alone.within (told_of step) (subst (λ (db : Database). InTurn o.schema db (told ++ told_of step ∷ []) over.0) same
+              (given_more o now.seen t told here step over.0 over.1));
+          rows = sym same;
+          tx = opened_more o now.seen t told here step at is then over leaves;
         }
 
     -- it has committed nothing
-    commits_nothing : now.seen ≡ p.seen → writes_in t.steps ≡ [] → Next typed.Commit (Rattle.route_engine.specs.declared.reply.Answer.TheVariants.Count 0) None
-    commits_nothing same none = record {
+    commits_nothing : NoCommits p.seen now.seen → writes_in t.steps ≡ []
+        → Next typed.Commit (Rattle.route_engine.specs.declared.reply.Answer.TheVariants.Count 0) None
+    commits_nothing still none = record {
       state = record { db = one o p.seen; open_one = None };
       holds = alone.commits (unwritten o p.seen t told h none);
-      rows = ap (one o) (sym same);
+      rows = same_rows o p.seen now.seen still;
       tx = tt;
     }
 
     commits_writes : (s : Shard) → IsCommitted o l s p t.steps now → Next typed.Commit (Rattle.route_engine.specs.declared.reply.Answer.TheVariants.Count 0) None
     commits_writes s c =
-        let before : c.before ≡ p.seen =
-        unchanged p now others c.before (prefix_trans p.seen c.looked.seen c.before c.look.later c.later) (committed_later o l s p t.steps now c)
-        (c.own others.session others.of_session) in record {
+        let before : one o c.before ≡ one o p.seen =
+        one_still o p.seen c.before (unchanged p now others c.before (prefix_trans p.seen c.looked.seen c.before c.look.later c.later) (committed_later o l s p t.steps now c)
+        (c.own others.session others.of_session)) in record {
           state = record { db = one o now.seen; open_one = None };
           holds =
               alone.commits (all_given o p.seen t told h (one o now.seen)
-              (subst (λ (run : Run). GiveOver o.schema (one o run) t.steps (one o now.seen)) before c.over));
+              (subst (λ (db : Database). GiveOver o.schema db t.steps (one o now.seen)) before c.over));
           rows = refl;
           tx = tt;
         }
 
-    rolls_back : now.seen ≡ p.seen → Next typed.Rollback (Rattle.route_engine.specs.declared.reply.Answer.TheVariants.Count 0) None
-    rolls_back same = record { state = record { db = one o p.seen; open_one = None }; holds = alone.rolls_back; rows = ap (one o) (sym same); tx = tt }
+    rolls_back : NoCommits p.seen now.seen → Next typed.Rollback (Rattle.route_engine.specs.declared.reply.Answer.TheVariants.Count 0) None
+    rolls_back still =
+        record { state = record { db = one o p.seen; open_one = None }; holds = alone.rolls_back; rows = same_rows o p.seen now.seen still; tx = tt }
 
   gives_in_over : (p : PassView Entry) (t : Transaction) (told : List Told) (typed : Typed) (reply : Reply) (now : Standing) (tree : Statement)
       → typed_statement o.schema tree ≡ Ok typed → IsLegal (MayFollow o) p.seen → NoOthers p now.pass → IsOpenOver o p.seen t told → GivesIn o l p t typed reply now
       → Goes o p now (λ y. GivesNext o.schema (one o p.seen) (Some told) typed reply.answer y)
   gives_in_over p t told _ _ _ tree is legal others h (x.nowhere {typed} {answer} none over) =
-      goes_on p p t told legal others h refl typed answer None t.at p.seen h.at refl
-      (subst (λ (run : Run). AreOver o run (with_step t.steps typed answer None p.seen)) h.at over)
+      goes_on p p t told legal others h (still_self p.seen) typed answer None t.at p.seen h.at (still_self p.seen)
+      (subst (λ (db : Database). (after : Database) × GiveOver o.schema db (with_step t.steps typed answer None p.seen) after) (same_rows o t.at p.seen h.at) over)
       (nowhere_leaves o opens formed p.seen legal tree typed answer p.seen is none)
   gives_in_over p t told _ _ _ tree is legal others h (x.on_shard {typed} {answer} {now} s needs all looked serves clear over) =
-      let same = looked_unchanged p now others o s.slot looked in
-      goes_on p now t told legal others h same typed answer (Some s) now.seen now.seen same same
-      (subst (λ (run : Run). AreOver o run (with_step t.steps typed answer (Some s) now.seen)) same over)
-      (reads_leave o.schema (one o p.seen) typed answer now.seen s)
-  gives_in_over p t told _ _ _ tree is legal others h (x.commits_nothing none) = commits_nothing p p t told legal others h refl (writes_none t.steps none)
+      goes_on p now t told legal others h (looked_unchanged p now others o s.slot looked) typed answer (Some s) now.seen now.seen (still_self now.seen) (still_self now.seen) over
+      (reads_leave o.schema (one o now.seen) typed answer now.seen s)
+  gives_in_over p t told _ _ _ tree is legal others h (x.commits_nothing none) = commits_nothing p p t told legal others h (still_self p.seen) (writes_none t.steps none)
   gives_in_over p t told _ _ _ tree is legal others h (x.commits_reads {now} s uses none looked serves clear over) =
       commits_nothing p now t told legal others h (looked_unchanged p now others o s.slot looked) none
   gives_in_over p t told _ _ _ tree is legal others h (x.commits_writes {now} s uses some c) = commits_writes p now t told legal others h s c
-  gives_in_over p t told _ _ _ tree is legal others h x.rolls_back = rolls_back p p t told legal others h refl
+  gives_in_over p t told _ _ _ tree is legal others h x.rolls_back = rolls_back p p t told legal others h (still_self p.seen)
 
   -- that it is done
   abbrev done : Reply
@@ -280,7 +305,7 @@ module _ (o : Opening) (opens : IsOpening o) (formed : is_vschema o.schema ≡ t
         state = record { db = one o p.seen; open_one = Some [] };
         holds = alone.begins;
         rows = refl;
-        tx = record { at = refl; same = refl; seen = tt; over = (one o p.seen, x.none); idle = tt };
+        tx = record { at = still_self p.seen; same = refl; seen = tt; over = (one o p.seen, x.none); idle = tt };
       })
   gives_at_over p _ (Some told) _ _ _ tree reads is legal others h x.begins = absurd h
   gives_at_over p _ None _ _ _ tree reads is legal others h x.commits =
@@ -313,28 +338,31 @@ module _ (o : Opening) (opens : IsOpening o) (formed : is_vschema o.schema ≡ t
   sees run (Some t) (Some told) h = (h.over.0, all_given o run t told h h.over.0 h.over.1)
 
   -- it leaves all
-  left : (p now : PassView Entry) (tx : Option Transaction) (told : Option (List Told)) (e : Refusal) (rows : Database) → now.seen ≡ p.seen → IsOverAt o p.seen tx told
+  left : (p now : PassView Entry) (tx : Option Transaction) (told : Option (List Told)) (e : Refusal) (rows : Database) → NoCommits p.seen now.seen → IsOverAt o p.seen tx told
       → Sees o.schema (one o p.seen) told rows → IsRefusedOver o.schema rows text e → Refused_next p told e (record { pass = now; tx = tx })
-  left p now tx told e rows same h seen why = record {
+  left p now tx told e rows still h seen why = record {
     state = record { db = one o p.seen; open_one = told };
     holds = alone.refused rows seen why;
-    rows = ap (one o) (sym same);
-    tx = subst (λ (run : Run). IsOverAt o run tx told) (sym same) h;
+    rows = same_rows o p.seen now.seen still;
+    tx = over_still o p.seen now.seen still tx told h;
   }
 
   -- it ends the transaction
-  ended : (p now : PassView Entry) (told : List Told) (e : Refusal) → now.seen ≡ p.seen → IsEnding e → Refused_next p (Some told) e (record { pass = now; tx = None })
-  ended p now told e same ends =
-      record { state = record { db = one o p.seen; open_one = None }; holds = alone.ends refl ends; rows = ap (one o) (sym same); tx = tt }
+  ended : (p now : PassView Entry) (told : List Told) (e : Refusal) → NoCommits p.seen now.seen → IsEnding e → Refused_next p (Some told) e (record { pass = now; tx = None })
+  ended p now told e still ends =
+      record { state = record { db = one o p.seen; open_one = None }; holds = alone.ends refl ends; rows = same_rows o p.seen now.seen still; tx = tt }
 
   -- no other session has changed a table
-  no_conflict : (p now : PassView Entry) (t : Transaction) (told : List Told) (s : Shard) → IsOpenOver o p.seen t told → now.seen ≡ p.seen
+  no_conflict : (p now : PassView Entry) (t : Transaction) (told : List Told) (s : Shard) → IsOpenOver o p.seen t told → NoCommits p.seen now.seen
       → IsConflict o s p.session now.seen t.steps → ⊥
-  no_conflict p now t told s h same c =
-      let seen : c.step.seen ≡ p.seen = all_in (λ (step : Step). step.seen ≡ p.seen) c.step t.steps h.seen (In-from_Contains c.step t.steps c.is) in
-      let whole : p.seen ++ c.behind ≡ p.seen ++ [] =
-      ap (λ (run : Run). run ++ c.behind) (sym seen) ∙ sym c.since ∙ same ∙ sym (append-nil p.seen) in
-      nothing_in _ c.behind (append_cancel_left p.seen c.behind [] whole) c.there
+  no_conflict p now t told s h still c =
+      let here : NoCommits c.step.seen now.seen =
+      still_trans c.step.seen p.seen now.seen (all_in (λ (step : Step). NoCommits step.seen p.seen) c.step t.steps h.seen (In-from_Contains c.step t.steps c.is)) still in
+      let same : here.added ≡ c.behind = append_cancel_left c.step.seen here.added c.behind (sym here.seen ∙ c.since) in
+      let none : AllByRecursion (λ e. commit_of e ≡ None) c.behind = subst (AllByRecursion (λ e. commit_of e ≡ None)) same here.none in
+      let x : Entry = record { shard = s; event = Commit c.commit } in
+      let wrong : Some (c.commit.session, c.commit.number) ≡ None = all_in (λ e. commit_of e ≡ None) x c.behind none (In-from_Contains x c.behind c.there) in
+      absurd (cc wrong)
 
   refused_in_over : (p : PassView Entry) (t : Transaction) (told : List Told) (typed : Typed) (e : Refusal) (now : Standing) (tree : Statement) → Reads text tree
       → typed_statement o.schema tree ≡ Ok typed → NoOthers p now.pass → IsOpenOver o p.seen t told → IsRefusedIn o l p t typed e now
@@ -344,13 +372,13 @@ module _ (o : Opening) (opens : IsOpening o) (formed : is_vschema o.schema ≡ t
   refused_in_over p t told _ _ _ tree reads is others h x.open_twice =
       record { state = record { db = one o p.seen; open_one = Some told }; holds = alone.begun_twice tree refl reads is; rows = refl; tx = h }
   refused_in_over p t told _ _ _ tree reads is others h (x.several seats partition two) =
-      left p p (Some t) (Some told) _ h.over.0 refl h (all_given o p.seen t told h h.over.0 h.over.1) over.several
+      left p p (Some t) (Some told) _ h.over.0 (still_self p.seen) h (all_given o p.seen t told h h.over.0 h.over.1) over.several
   refused_in_over p t told _ _ _ tree reads is others h (x.another seats seat u partition only used other) =
-      left p p (Some t) (Some told) _ h.over.0 refl h (all_given o p.seen t told h h.over.0 h.over.1) over.several
+      left p p (Some t) (Some told) _ h.over.0 (still_self p.seen) h (all_given o p.seen t told h h.over.0 h.over.1) over.several
   refused_in_over p t told _ _ _ tree reads is others h (x.duplicate {w} {now} s after needs looked give twice) =
-      let same = looked_unchanged p now others o s.slot looked in
-      left p now (Some t) (Some told) _ after same h
-      (all_given o p.seen t told h after (subst (λ (run : Run). GiveOver o.schema (one o run) t.steps after) same give)) (over.duplicate tree w reads is twice)
+      let still = looked_unchanged p now others o s.slot looked in
+      left p now (Some t) (Some told) _ after still h
+      (all_given o p.seen t told h after (subst (λ (db : Database). GiveOver o.schema db t.steps after) (one_still o p.seen now.seen still) give)) (over.duplicate tree w reads is twice)
   refused_in_over p t told _ _ _ tree reads is others h (x.moved {now} s of looked mode) =
       ended p now told _ (looked_unchanged p now others o s.slot looked) tt
   refused_in_over p t told _ _ _ tree reads is others h (x.conflict {now} s of looked conflict) =
@@ -378,7 +406,7 @@ module _ (o : Opening) (opens : IsOpening o) (formed : is_vschema o.schema ≡ t
   -- it leaves all, whatever the rows
   left_so : (s : Standing) (told : Option (List Told)) (e : Refusal) → IsOverAt o s.pass.seen s.tx told → ((rows : Database) → IsRefusedOver o.schema rows text e)
       → Refused_next s.pass told e (x.numbered s)
-  left_so s told e h why = let some = sees s.pass.seen s.tx told h in left s.pass (counted s.pass) s.tx told e some.0 refl h some.1 (why some.0)
+  left_so s told e h why = let some = sees s.pass.seen s.tx told h in left s.pass (counted s.pass) s.tx told e some.0 (still_self s.pass.seen) h some.1 (why some.0)
 
   refused_now_over : (s now : Standing) (told : Option (List Told)) (e : Refusal) → NoOthers s.pass now.pass → IsOverAt o s.pass.seen s.tx told
       → IsRefusedNow o l (x.numbered s) text e now → Refused_next s.pass told e now
@@ -390,10 +418,10 @@ module _ (o : Opening) (opens : IsOpening o) (formed : is_vschema o.schema ≡ t
   -- its session's numbers are used up
   used_up_over : (p : PassView Entry) (tx : Option Transaction) (told : Option (List Told)) → IsOverAt o p.seen tx told
       → Refused_next p told ShardFull (record { pass = p; tx = None })
-  used_up_over p None None h = left p p None None ShardFull (one o p.seen) refl tt refl over.full
+  used_up_over p None None h = left p p None None ShardFull (one o p.seen) (still_self p.seen) tt refl over.full
   used_up_over p None (Some told) h = absurd h
   used_up_over p (Some tx) None h = absurd h
-  used_up_over p (Some tx) (Some told) h = ended p p told ShardFull refl tt
+  used_up_over p (Some tx) (Some told) h = ended p p told ShardFull (still_self p.seen) tt
 
   pub refused_over : (s now : Standing) (told : Option (List Told)) (e : Refusal) → NoOthers s.pass now.pass → IsOverAt o s.pass.seen s.tx told
       → IsRefusedAt o l s text e now → Refused_next s.pass told e now

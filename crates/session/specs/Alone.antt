@@ -18,7 +18,7 @@ use Rattle.shard_run.specs.Runs.{Run, Opening, one}
 use Rattle.shard.specs.declared.limits.Limits.{Limits}
 use Rattle.route_engine.specs.declared.reply.Answer.{Answer}
 use Rattle.route_engine.specs.declared.reply.Answer.TheVariants.{Count}
-use Rattle.route_engine.specs.Alone.{GivesOver, IsRefusedOver}
+use Rattle.route_engine.specs.Alone.{NoCommits, GivesOver, IsRefusedOver}
 use Rattle.route_engine.specs.Transactions.{Step, Transaction, GiveOver, write_on}
 use Rattle.session.specs.declared.hello.Hello.{Hello}
 use Rattle.session.specs.Talk.{Terms}
@@ -95,11 +95,11 @@ told_of step = record { typed = step.typed; answer = step.answer }
 abbrev pub LeavesAll : VSchema → Database → Step → Type 0
 LeavesAll schema db step = write_on step.on step.typed ≡ [] → (after : Database) → GivesOver schema db step.typed step.answer after → after ≡ db
 
--- The transaction's statements were answered one after the other from what the run leaves, which the session has seen ever since.
+-- The transaction's statements were answered one after the other from what the run leaves, and since the first of them nothing was committed.
 pub record IsOpenOver (o : Opening) (run : Run) (t : Transaction) (told : List Told) : Type 0 where
-  pub at : t.at ≡ run
+  pub at : NoCommits t.at run
   pub same : told ≡ map told_of t.steps
-  pub seen : AllByRecursion (λ step. step.seen ≡ run) t.steps
+  pub seen : AllByRecursion (λ step. NoCommits step.seen run) t.steps
   pub over : (after : Database) × GiveOver o.schema (one o run) t.steps after
   pub idle : AllByRecursion (LeavesAll o.schema (one o run)) t.steps
 

@@ -8,3 +8,5 @@ pub mod Sessions
 pub mod Faults
 pub mod Alone
 pub mod Devices
+pub mod Among
+pub mod inner
