@@ -1,83 +1,60 @@
-ghost use Rattle.std.specs.Prelude.{◌≡◌};
+ghost use Rattle.std.specs.Prelude.{◌≡◌, Some};
 ghost use Rattle.vt_value.specs.Refusals.{refusal_number, code_of, state_of, message_of};
 
 use std::alloc::{AllocError, AllocFailed};
+use std::fmt;
 use thiserror::Error;
 
 /// Why a statement, a packet or a connection is refused.
 #[derive(Clone, Copy, Debug, PartialEq, Eq, Error)]
 pub enum Refusal {
     /// A growth was refused.
-    #[error("out of memory")]
     OutOfMemory,
     /// The text has no tree in the grammar, or passes one of its limits.
-    #[error("syntax error")]
     SyntaxError,
     /// A comparison or a value mixes numbers and texts, or a form is outside the profile.
-    #[error("not supported")]
     NotSupported,
     /// No table has this name.
-    #[error("no such table")]
     UnknownTable,
     /// The table has no column of this name.
-    #[error("no such column")]
     UnknownColumn,
     /// No keyspace has this name.
-    #[error("no such database")]
     UnknownKeyspace,
     /// The user or the response to the salt is wrong.
-    #[error("access denied")]
     AccessDenied,
     /// The payload is empty, or its first byte is no command of the profile.
-    #[error("unknown command")]
     UnknownCommand,
     /// The payload is longer than the limit.
-    #[error("packet too large")]
     PacketTooLarge,
     /// A sequence number is wrong.
-    #[error("packets out of order")]
     PacketsOutOfOrder,
     /// The handshake response can't be read, or a needed capability isn't set.
-    #[error("bad handshake")]
     BadHandshake,
     /// The primary key is there already, or twice in the INSERT.
-    #[error("duplicate key")]
     DuplicateKey,
     /// NULL for a NOT NULL column.
-    #[error("column cannot be null")]
     NullNotAllowed,
     /// A NOT NULL column that the INSERT doesn't name.
-    #[error("no default value")]
     NoDefaultValue,
     /// A number outside its column's type.
-    #[error("value out of range")]
     OutOfRange,
     /// A text longer than its column.
-    #[error("value too long")]
     TooLong,
     /// A row's values and the columns differ in number.
-    #[error("wrong value count")]
     WrongValueCount,
     /// A column is named twice in an INSERT's list or in SET.
-    #[error("column named twice")]
     ColumnNamedTwice,
     /// A column of an aggregated query is neither grouped nor aggregated.
-    #[error("column not grouped")]
     NotGrouped,
     /// The statement needs more than one shard.
-    #[error("more than one shard")]
     SeveralShards,
     /// Another session changed a table that the transaction touched.
-    #[error("conflict")]
     Conflict,
     /// As many statements as may wait for a cutover wait already.
-    #[error("buffer full")]
     BufferFull,
     /// The transaction's shard is frozen or no longer serves.
-    #[error("shard moved")]
     ShardMoved,
     /// A limit of a shard or of a session's numbers would be passed.
-    #[error("shard full")]
     ShardFull,
 }
 
@@ -236,6 +213,15 @@ impl Refusal {
             Refusal::ShardMoved => "shard moved",
             Refusal::ShardFull => "shard full",
         }
+    }
+}
+
+/// The message of the ERR packet.
+impl fmt::Display for Refusal {
+    ghost output = { λ refusal. Some (message_of refusal) };
+
+    fn fmt<W: fmt::Write>(&self, f: &mut fmt::Formatter<W>) -> fmt::Result {
+        f.write_str(self.message())
     }
 }
 
