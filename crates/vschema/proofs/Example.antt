@@ -1,5 +1,5 @@
 -- A VSchema with a sharded keyspace `shop` (tables t and b) and an unsharded one `base` (table u).
-use Rattle.std.proofs.Common.{ℕ, Bool, List, [], ◌∷◌, Some, None, true, false}
+use Rattle.std.proofs.Common.{ℕ, Bool, List, [], ◌∷◌, Some, None, true, false, refl}
 use Rattle.std.specs.Prelude.{codes}
 use Rattle.vindex.specs.declared.AnyVindex.TheVariants.{ReverseBits, BinaryMd5}
 use Rattle.vschema.specs.declared.schema.Column.{Column}
@@ -42,4 +42,5 @@ abbrev pub schema : VSchema
 schema = record {
   keyspaces = record { name = codes "shop"; sharded = true } ∷ record { name = codes "base"; sharded = false } ∷ [];
   tables = t ∷ b ∷ u ∷ [];
+  formed = refl;
 }

@@ -16,7 +16,7 @@ use Rattle.vschema.specs.declared.document.DeclaredKeyspace.{DeclaredKeyspace}
 use Rattle.vschema.specs.declared.fault.SchemaFault.{SchemaFault}
 use Rattle.vschema.specs.declared.fault.SchemaFault.TheVariants.{OutOfMemory, NotJson, IllFormed, UnknownVindex, MissingColumn, WrongKeyType, NullableKey, KeyWithoutVindex, NamedTwice, AboveLimit}
 use Rattle.vschema.specs.WriteChecks.{has_twice}
-use Rattle.vschema.specs.WellFormed.{is_vschema, is_table, is_in_keyspace, is_sharded_at, is_vindex_right, fits_vindex, takes_type, has_number_twice}
+use Rattle.vschema.specs.WellFormed.{is_formed, is_table, is_in_keyspace, is_sharded_at, is_vindex_right, fits_vindex, takes_type, has_number_twice}
 use Rattle.vschema.specs.Faults.{keys, vindex_of, column_of, lacks_column, is_nullable, mismatch, is_misplaced, table_has, keyspace_has, whole_has, all_tables, has, faults, first_fault, place_in, vindex_on, meant_table, meant_tables, meant_keyspace, meant}
 use Rattle.vschema.proofs.Formats.{good_column, good_table, good_keyspace}
 use Rattle.vschema.proofs.Options.{some_same, never, both, neither, join, turned, unturned, unfound, any_never}
@@ -170,8 +170,8 @@ keyspace_words (k ∷ ks) good =
     let g = both (good_keyspace k) (list_all good_keyspace ks) good in
     join (both (is_word k.name) (list_all good_table k.tables) g.0).0 (keyspace_words ks g.1)
 
-pub meant_is_vschema : (ks : List DeclaredKeyspace) → list_all good_keyspace ks ≡ true → has_twice (map (λ k. k.name) ks) ≡ false → first_fault ks ≡ None → is_vschema (meant ks) ≡ true
-meant_is_vschema ks good once none =
+pub meant_is_formed : (ks : List DeclaredKeyspace) → list_all good_keyspace ks ≡ true → has_twice (map (λ k. k.name) ks) ≡ false → first_fault ks ≡ None → is_formed (meant ks).keyspaces (meant ks).tables ≡ true
+meant_is_formed ks good once none =
     let parts = λ (f : SchemaFault). neither (whole_has f ks) (list_any (inside f) ks) (no_fault ks none f) in
     let two_sharded = nat_lt 1 (length (filter (λ k. k.sharded) ks)) in
     let two_unsharded = nat_lt 1 (length (filter (λ k. not k.sharded) ks)) in

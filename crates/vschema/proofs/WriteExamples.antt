@@ -14,7 +14,7 @@ use Rattle.vschema.specs.Resolved.{Name}
 use Rattle.vschema.specs.TypedWrites.{typed_insert, typed_update, typed_delete, IsTypedWrite}
 use Rattle.vschema.specs.TypedWrites as typed
 use Rattle.vschema.specs.Storable.{is_storable, has_unique_keys}
-use Rattle.vschema.specs.WellFormed.{is_vschema}
+use Rattle.vschema.specs.WellFormed.{is_vschema, is_formed}
 use Rattle.vschema.proofs.Example.{schema, t}
 
 abbrev n : ℕ → Value
@@ -155,5 +155,5 @@ well_formed = refl
 
 -- a table of a sharded keyspace has a vindex
 without_vindex :
-    is_vschema (record schema { tables = record t { vindex = None } ∷ [] }) ≡ false
+    is_formed schema.keyspaces (record t { vindex = None } ∷ []) ≡ false
 without_vindex = refl

@@ -18,6 +18,7 @@ use Rattle.vschema.specs.declared.schema.Table.{Table}
 use Rattle.vschema.specs.declared.schema.Query.{Query}
 use Rattle.vschema.specs.Schema.{column_place}
 use Rattle.vschema.specs.Resolved.{Name, place}
+pub use Rattle.vschema.specs.Twice.{has_number}
 
 -- a name that is no column of the table
 abbrev pub is_unknown : Table → Name → Bool
@@ -111,9 +112,6 @@ sums_text t (Items items) = list_any (is_text_sum t) items
 -- a comparison mixes kinds, or a text is summed
 abbrev pub select_is_not_supported : Table → Select → Bool
 select_is_not_supported t s = mixes_kinds t s || sums_text t s.list
-
-abbrev pub has_number : List ℕ → ℕ → Bool
-has_number ns n = list_any (λ m. m == n) ns
 
 abbrev pub is_aggregate : Item ℕ → Bool
 is_aggregate (item.Column n) = false

@@ -134,23 +134,31 @@ meant_tables n (k ∷ ks) = map (meant_table k n) k.tables ++ meant_tables (n + 
 abbrev pub meant_keyspace : DeclaredKeyspace → Keyspace
 meant_keyspace k = record { name = k.name; sharded = k.sharded }
 
-abbrev pub meant : List DeclaredKeyspace → VSchema
+-- what a VSchema has
+pub record Contents : Type 0 where
+  pub keyspaces : List Keyspace
+  pub tables : List Table
+
+abbrev pub contents : VSchema → Contents
+contents s = record { keyspaces = s.keyspaces; tables = s.tables }
+
+abbrev pub meant : List DeclaredKeyspace → Contents
 meant ks = record { keyspaces = map meant_keyspace ks; tables = meant_tables 0 ks }
 
 -- the whole reading
 
-abbrev pub unless_fault : Option SchemaFault → VSchema → Result VSchema SchemaFault
-unless_fault None schema = Ok schema
-unless_fault (Some fault) schema = Err fault
+abbrev pub unless_fault : Option SchemaFault → Contents → Result Contents SchemaFault
+unless_fault None c = Ok c
+unless_fault (Some fault) c = Err fault
 
-abbrev pub schema_declared : Option (List DeclaredKeyspace) → Result VSchema SchemaFault
+abbrev pub schema_declared : Option (List DeclaredKeyspace) → Result Contents SchemaFault
 schema_declared None = Err IllFormed
 schema_declared (Some ks) = unless_fault (first_fault ks) (meant ks)
 
-abbrev pub schema_of : Option Data → Result VSchema SchemaFault
+abbrev pub schema_of : Option Data → Result Contents SchemaFault
 schema_of None = Err NotJson
 schema_of (Some d) = schema_declared (document d)
 
--- the VSchema that a text is, or its fault with the least number
-abbrev pub schema_read : List ℕ → Result VSchema SchemaFault
+-- what the VSchema has that a text is, or its fault with the least number
+abbrev pub schema_read : List ℕ → Result Contents SchemaFault
 schema_read text = schema_of (json.read text)

@@ -6,6 +6,8 @@ pub mod TypedWrites
 pub mod TypedStatement
 pub mod Database
 pub mod Storable
+pub mod Twice
+pub mod Formed
 pub mod WellFormed
 pub mod Json
 pub mod Documents

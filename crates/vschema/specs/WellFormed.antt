@@ -1,74 +1,9 @@
--- What every VSchema keeps: names told apart, keys that may decide a shard, and the limits.
-use Rattle.std.specs.Prelude.{ℕ, Bool, true, false, not, ◌&&◌, ◌||◌, nat_le, List, [], ◌∷◌, length, map, filter, slice_get, option_map, Option, Some, None}
-use Rattle.std.specs.List.{list_all}
-use Rattle.sql_lexer.specs.Lexemes.{is_word}
-use Rattle.vindex.specs.declared.AnyVindex.{AnyVindex}
-use Rattle.vindex.specs.declared.AnyVindex.TheVariants.{Numeric, ReverseBits, Binary, BinaryMd5}
-use Rattle.vschema.specs.declared.schema.Column.{Column}
-use Rattle.vschema.specs.declared.schema.ColumnType.{ColumnType}
-use Rattle.vschema.specs.declared.schema.ColumnType.TheVariants.{BigInt, BigIntUnsigned, VarBinary}
-use Rattle.vschema.specs.declared.schema.ColumnVindex.{ColumnVindex}
-use Rattle.vschema.specs.declared.schema.Keyspace.{Keyspace}
-use Rattle.vschema.specs.declared.schema.Table.{Table}
+-- What every VSchema keeps.
+use Rattle.std.specs.Prelude.{Bool}
 use Rattle.vschema.specs.declared.schema.VSchema.{VSchema}
-use Rattle.vschema.specs.Checks.{has_number}
-use Rattle.vschema.specs.WriteChecks.{has_twice}
+pub use Rattle.vschema.specs.Twice.{has_number_twice}
+pub use Rattle.vschema.specs.Formed.{is_type, takes_type, is_needed, fits_vindex, is_vindex_right, is_sharded_at, is_in_keyspace, is_table, is_formed}
 
-abbrev pub has_number_twice : List ℕ → Bool
-has_number_twice [] = false
-has_number_twice (n ∷ ns) = has_number ns n || has_number_twice ns
-
--- a column of texts takes up to a number of bytes from 1 to 255
-abbrev pub is_type : ColumnType → Bool
-is_type BigInt = true
-is_type BigIntUnsigned = true
-is_type (VarBinary n) = nat_le 1 n && nat_le n 255
-
--- the columns that a vindex takes
-abbrev pub takes_type : AnyVindex → ColumnType → Bool
-takes_type Numeric BigIntUnsigned = true
-takes_type ReverseBits BigIntUnsigned = true
-takes_type Binary (VarBinary n) = true
-takes_type BinaryMd5 (VarBinary n) = true
-takes_type _ _ = false
-
--- a column of the table that is NOT NULL
-abbrev pub is_needed : Table → ℕ → Bool
-is_needed t n = holds (slice_get t.columns n)
-  where
-    holds : Option Column → Bool
-    holds None = false
-    holds (Some c) = not c.nullable
-
-abbrev pub fits_vindex : ColumnVindex → Option Column → Bool
-fits_vindex v None = false
-fits_vindex v (Some c) = takes_type v.vindex c.kind
-
--- The vindex column is NOT NULL, of the vindex's type, and in the primary key. A table has one exactly where its
--- keyspace is sharded.
-abbrev pub is_vindex_right : Table → Bool → Option ColumnVindex → Bool
-is_vindex_right t sharded None = not sharded
-is_vindex_right t sharded (Some v) =
-    sharded && fits_vindex v (slice_get t.columns v.column) && is_needed t v.column && has_number t.primary_key v.column
-
-abbrev pub is_sharded_at : List Keyspace → ℕ → Option Bool
-is_sharded_at keyspaces n = option_map (λ k. k.sharded) (slice_get keyspaces n)
-
-abbrev pub is_in_keyspace : Table → Option Bool → Bool
-is_in_keyspace t None = false
-is_in_keyspace t (Some sharded) = is_vindex_right t sharded t.vindex
-
-abbrev pub is_table : List Keyspace → Table → Bool
-is_table keyspaces t =
-    is_word t.name && nat_le 1 (length t.columns) && nat_le (length t.columns) 64
-    && not (has_twice (map (λ c. c.name) t.columns)) && list_all (λ c. is_word c.name && is_type c.kind) t.columns
-    && nat_le 1 (length t.primary_key) && not (has_number_twice t.primary_key) && list_all (is_needed t) t.primary_key
-    && is_in_keyspace t (is_sharded_at keyspaces t.keyspace)
-
--- at least one keyspace, and at most one of each sort; table names told apart over both
+-- true of each: its type says so
 abbrev pub is_vschema : VSchema → Bool
-is_vschema s =
-    nat_le 1 (length s.keyspaces) && nat_le (length (filter (λ k. k.sharded) s.keyspaces)) 1
-    && nat_le (length (filter (λ k. not k.sharded) s.keyspaces)) 1 && list_all (λ k. is_word k.name) s.keyspaces
-    && not (has_twice (map (λ k. k.name) s.keyspaces)) && nat_le (length s.tables) 256
-    && not (has_twice (map (λ t. t.name) s.tables)) && list_all (is_table s.keyspaces) s.tables
+is_vschema s = is_formed s.keyspaces s.tables

@@ -15,10 +15,7 @@ use Rattle.vschema.specs.declared.schema.ColumnVindex.{ColumnVindex}
 use Rattle.vschema.specs.declared.schema.Table.{Table}
 use Rattle.vschema.specs.Resolved.{Name, place, places_from}
 use Rattle.vschema.specs.Checks.{is_unknown, filter_has, condition_names_unknown, condition_mixes, is_text_type, value_is_text, differ, has_number}
-
-abbrev pub has_twice : List Name → Bool
-has_twice [] = false
-has_twice (n ∷ names) = list_any (bytes_eq n) names || has_twice names
+pub use Rattle.vschema.specs.Twice.{has_twice}
 
 -- SET names a column twice
 abbrev pub sets_twice : List (Assignment Name) → Bool

@@ -1,6 +1,7 @@
-ghost use Rattle.std.specs.Prelude.{◌≡◌, ◌++◌, ◌+◌, ◌≤◌, ◌<◌, ◌^◌, false, map, length, slice_get, option_and_then, IfOk, IfErr};
+ghost use Rattle.std.specs.Prelude.{◌≡◌, ◌++◌, ◌+◌, ◌≤◌, ◌<◌, ◌^◌, false, map, length, slice_get, option_and_then, IfOk, IfErr, IsTrue};
 ghost use Rattle.std.specs.List.{list_any};
-ghost use Rattle.vschema.specs.Faults.{keys, place_in, vindex_on, meant_table, meant_tables, meant_keyspace, meant, table_has, has};
+ghost use Rattle.vschema.specs.Faults.{keys, place_in, vindex_on, meant_table, meant_tables, meant_keyspace, meant, contents, table_has, has};
+ghost use Rattle.vschema.specs.Formed.{is_formed};
 ghost use Rattle.vschema.specs.WriteChecks.{has_twice};
 
 use crate::columns::Columns;
@@ -144,7 +145,8 @@ fn all_keyspaces(
 /// The VSchema that is meant, where no fault applies.
 pub fn meant(alloc: Global, declared: &[DeclaredKeyspace]) -> Result<VSchema, SchemaFault>
     requires once { has SchemaFault.NamedTwice declared.now ≡ false }
-    ensures ok { IfOk result (λ schema. schema ≡ meant declared.now) }
+    requires formed { IsTrue (is_formed (meant declared.now).keyspaces (meant declared.now).tables) }
+    ensures ok { IfOk result (λ schema. contents schema ≡ meant declared.now) }
     ensures err { IfErr result (λ e. e ≡ SchemaFault.OutOfMemory) }
 {
     let keyspaces = all_keyspaces(alloc, declared)?;

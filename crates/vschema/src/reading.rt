@@ -40,13 +40,13 @@ fn read_document(alloc: Global, value: &Value) -> Result<Items<DeclaredKeyspace>
 
 impl VSchema {
     ghost use Rattle.std.specs.Prelude.{◌≡◌, ◌⊎◌, Ok, Err, IfOk, IfErr, IsTrue};
-    ghost use Rattle.vschema.specs.Faults.{schema_read};
+    ghost use Rattle.vschema.specs.Faults.{contents, schema_read};
     ghost use Rattle.vschema.specs.WellFormed.{is_vschema};
 
     /// The VSchema that a JSON text declares, or the fault with the least number that applies. Beside these it refuses only
     /// for want of memory. Keyspaces, and the tables of each, are in the order of their names.
     pub fn read(alloc: Global, text: &str) -> Result<VSchema, SchemaFault>
-        ensures ok { IfOk result (λ schema. schema_read text.now ≡ Ok schema) }
+        ensures ok { IfOk result (λ schema. schema_read text.now ≡ Ok (contents schema)) }
         ensures err { IfErr result (λ e. (e ≡ SchemaFault.OutOfMemory) ⊎ (schema_read text.now ≡ Err e)) }
         ensures well_formed { IfOk result (λ schema. IsTrue (is_vschema schema)) }
     {

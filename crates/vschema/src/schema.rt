@@ -1,3 +1,6 @@
+ghost use Rattle.std.specs.Prelude.{IsTrue};
+ghost use Rattle.vschema.specs.Formed.{is_formed};
+
 use crate::changes::Write;
 use crate::columns::Columns;
 use keyrange::KeyRange;
@@ -47,11 +50,13 @@ pub struct Keyspace {
     pub sharded: bool,
 }
 
-/// What the router knows of its keyspaces and tables.
+/// What the router knows of its keyspaces and tables: at least one keyspace and at most one of each sort, names told apart, keys that may
+/// decide a shard, and the limits.
 #[derive(Drop)]
 pub struct VSchema {
     pub keyspaces: Items<Keyspace>,
     pub tables: Items<Table>,
+    pub ghost formed: { IsTrue (is_formed keyspaces tables) },
 }
 
 /// A keyspace, by its place, and a range of its ids.
