@@ -32,16 +32,17 @@ pub same_aggregated : (a b : Query) → list_any is_aggregate a.items ≡ list_a
 same_aggregated a b items groups = aggregated_is a ∙ (λ i. items i || has_any (groups i)) ∙ sym (aggregated_is b)
 
 abbrev pub rows_plan : Table → Query → Plan
-rows_plan t q = record { route = route_of t q.filter; piece = pushed_rows q; finish = rows_finish q }
+rows_plan t q = record { route = route_of t q.filter; piece = pushed_rows q; finish = rows_finish q; items = q.items }
 
 abbrev pub groups_plan : Table → Query → Plan
-groups_plan t q = record { route = route_of t q.filter; piece = pushed_groups q; finish = groups_finish q }
+groups_plan t q = record { route = route_of t q.filter; piece = pushed_groups q; finish = groups_finish q; items = q.items }
 
 pub planned_rows : (t : Table) (q : Query) → is_aggregated q ≡ false → planned t q ≡ rows_plan t q
 planned_rows t q e = λ i. record {
   route = route_of t q.filter;
   piece = cond (e i) (pushed_groups q) (pushed_rows q);
   finish = cond (e i) (groups_finish q) (rows_finish q);
+  items = q.items;
 }
 
 pub planned_groups : (t : Table) (q : Query) → is_aggregated q ≡ true → planned t q ≡ groups_plan t q
@@ -49,4 +50,5 @@ planned_groups t q e = λ i. record {
   route = route_of t q.filter;
   piece = cond (e i) (pushed_groups q) (pushed_rows q);
   finish = cond (e i) (groups_finish q) (rows_finish q);
+  items = q.items;
 }

@@ -70,7 +70,7 @@ abbrev pub finish_of : Query → Finish
 finish_of q = if is_aggregated q then groups_finish q else rows_finish q
 
 abbrev pub planned : Table → Query → Plan
-planned t q = record { route = route_of t q.filter; piece = pushed q; finish = finish_of q }
+planned t q = record { route = route_of t q.filter; piece = pushed q; finish = finish_of q; items = q.items }
 
 -- whether an IN on the column is one of the conjuncts
 abbrev pub has_among : ℕ → Condition ℕ → Bool

@@ -11,7 +11,6 @@ mod plans;
 mod routes;
 mod taking;
 
-pub use copies::copy_items;
 pub use members::{Member, Members};
 pub use planning::plan;
 pub use plans::{Finish, Plan};

@@ -6,6 +6,7 @@ ghost use Rattle.planner.specs.Routes.{table_at, route_of};
 ghost use Rattle.planner.specs.Plans.{pushed_limit, key_item, pushed_rows, pushed_groups, pushed, keys_from, rows_finish, groups_finish, finish_of, planned};
 ghost use Rattle.planner.specs.Right.{IsRightPlan, SkipsNothing, GivesInOrder};
 
+use crate::copies::copy_items;
 use crate::plans::{Finish, Plan};
 use crate::routes::{Route, route_of};
 use sql_eval::{Grouping, copy_item, group_columns, group_order};
@@ -229,6 +230,17 @@ fn route_and_finish(
     Ok((route, finish))
 }
 
+// What the answer shows, and the query that each shard answers.
+fn shown_and_pushed(alloc: Global, query: Query) -> Result<(Items<Item<usize>>, Query), Refusal>
+    ensures items { IfOk result (λ r. r.0 ≡ query.items) }
+    ensures piece { IfOk result (λ r. r.1 ≡ pushed query) }
+    ensures err { IfErr result (λ e. e ≡ Refusal.OutOfMemory) }
+{
+    let items = copy_items(alloc, query.items.as_slice())?;
+    let piece = pushed(alloc, query)?;
+    Ok((items, piece))
+}
+
 /// The plan of a query. Refuses only for want of memory.
 pub fn plan(alloc: Global, schema: &VSchema, query: Query) -> Result<Plan, Refusal>
     ensures exact { IfOk result (λ p. p ≡ planned (table_at schema.now query.table) query) }
@@ -238,10 +250,11 @@ pub fn plan(alloc: Global, schema: &VSchema, query: Query) -> Result<Plan, Refus
     ensures err { IfErr result (λ e. e ≡ Refusal.OutOfMemory) }
 {
     let (route, finish) = route_and_finish(alloc, schema, &query)?;
-    let piece = pushed(alloc, query)?;
+    let (items, piece) = shown_and_pushed(alloc, query)?;
     Ok(Plan {
         route,
         piece,
         finish,
+        items,
     })
 }

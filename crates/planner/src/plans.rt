@@ -1,6 +1,6 @@
 use crate::routes::Route;
 use sql_eval::Grouping;
-use sql_tree::{Key, Limit};
+use sql_tree::{Item, Key, Limit};
 use vschema::Query;
 use vt_value::Items;
 
@@ -25,4 +25,6 @@ pub struct Plan {
     /// The query as each shard gets it, but for the members of an IN that are cut to a shard's own (`piece_for`).
     pub piece: Query,
     pub finish: Finish,
+    /// What the answer shows.
+    pub items: Items<Item<usize>>,
 }
