@@ -13,7 +13,7 @@ use Rattle.administration.specs.declared.reply.AdminReply.{AdminReply}
 use Rattle.administration.specs.Told.{IsTold}
 use Rattle.administration.specs.Words.{reply_text}
 use Rattle.admin_talk.specs.Conversations as t
-use Rattle.admin_talk.specs.Conversations.{Controller, AreTold, AllTold, BreaksOff, HasTalked, HasBrokenOff}
+use Rattle.admin_talk.specs.Conversations.{Controller, AreAnswered, AllTold, BreaksOff, HasAnsweredAll, HasEndedEarly}
 
 -- neither has an end
 pub no_end : (front more : List ℕ) → HasNoEnd front → HasNoEnd more → HasNoEnd (front ++ more)
@@ -25,19 +25,19 @@ pub record IsUnderWay (o : Opening) (most : Limits) (from : Controller) (came fr
   pub told : List ℕ
   pub split : came ≡ lines ++ (front ++ rest)
   pub unended : HasNoEnd front
-  pub are : AreTold o most from lines told now
+  pub are : AreAnswered o most from lines told now
   pub written : Appends taken then told
 
 module _ (o : Opening) (most : Limits) where
   -- one conversation behind another
-  pub told_on : (from then now : Controller) (first said came told : List ℕ) → AreTold o most from first said then → AreTold o most then came told now
-      → AreTold o most from (first ++ came) (said ++ told) now
+  pub told_on : (from then now : Controller) (first said came told : List ℕ) → AreAnswered o most from first said then → AreAnswered o most then came told now
+      → AreAnswered o most from (first ++ came) (said ++ told) now
   told_on from then _ first said _ _ so t.none =
-      subst (λ (c : List ℕ). AreTold o most from c (said ++ []) then) (sym (append-nil first))
-      (subst (λ (w : List ℕ). AreTold o most from first w then) (sym (append-nil said)) so)
+      subst (λ (c : List ℕ). AreAnswered o most from c (said ++ []) then) (sym (append-nil first))
+      (subst (λ (w : List ℕ). AreAnswered o most from first w then) (sym (append-nil said)) so)
   told_on from then _ first said _ _ so (t.next {came} {told} {words} {mid} {now} {reply} is inner last) =
-      subst (λ (c : List ℕ). AreTold o most from c (said ++ (told ++ reply_text reply)) now) (append_assoc first came (line words))
-      (subst (λ (w : List ℕ). AreTold o most from ((first ++ came) ++ line words) w now) (append_assoc said told (reply_text reply))
+      subst (λ (c : List ℕ). AreAnswered o most from c (said ++ (told ++ reply_text reply)) now) (append_assoc first came (line words))
+      (subst (λ (w : List ℕ). AreAnswered o most from ((first ++ came) ++ line words) w now) (append_assoc said told (reply_text reply))
       (t.next (told_on from then mid first said came told so is) inner last))
 
   pub begins : (from : Controller) (front piece : List ℕ) (taken : Option (List ℕ)) → HasNoEnd front

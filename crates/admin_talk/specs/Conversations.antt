@@ -19,10 +19,10 @@ pub record Controller : Type 0 where
   pub workflow : Option WorkflowView
 
 -- Lines that were answered in turn, each over what the lines before it left: the bytes that came, and the lines that answer them.
-pub data AreTold (o : Opening) (most : Limits) (from : Controller) : List ℕ → List ℕ → Controller → Type 0 where
-  none : AreTold o most from [] [] from
-  next : {came told words : List ℕ} {mid now : Controller} {reply : AdminReply} → AreTold o most from came told mid → HasNoEnd words
-      → IsTold o most words mid.pass now.pass reply mid.workflow now.workflow → AreTold o most from (came ++ line words) (told ++ reply_text reply) now
+pub data AreAnswered (o : Opening) (most : Limits) (from : Controller) : List ℕ → List ℕ → Controller → Type 0 where
+  none : AreAnswered o most from [] [] from
+  next : {came told words : List ℕ} {mid now : Controller} {reply : AdminReply} → AreAnswered o most from came told mid → HasNoEnd words
+      → IsTold o most words mid.pass now.pass reply mid.workflow now.workflow → AreAnswered o most from (came ++ line words) (told ++ reply_text reply) now
 
 -- Of the bytes that came, each line is answered that has ended, and that was written. A rest that hasn't ended isn't a line.
 pub record AllTold (o : Opening) (most : Limits) (from : Controller) (came rest : List ℕ) (taken then : Option (List ℕ)) (now : Controller) : Type 0 where
@@ -30,11 +30,11 @@ pub record AllTold (o : Opening) (most : Limits) (from : Controller) (came rest 
   pub told : List ℕ
   pub split : came ≡ lines ++ rest
   pub unended : HasNoEnd rest
-  pub are : AreTold o most from lines told now
+  pub are : AreAnswered o most from lines told now
   pub written : Appends taken then told
 
 -- a conversation that ended with its input
-pub record HasTalked (o : Opening) (most : Limits) (from now : Controller) (unread left taken then : Option (List ℕ)) : Type 0 where
+pub record HasAnsweredAll (o : Opening) (most : Limits) (from now : Controller) (unread left taken then : Option (List ℕ)) : Type 0 where
   pub came : List ℕ
   pub rest : List ℕ
   pub consumed : Consumes unread left came
@@ -43,13 +43,13 @@ pub record HasTalked (o : Opening) (most : Limits) (from now : Controller) (unre
 
 -- A conversation that broke off: after a line that was told, or after one that was answered and not told whole. Nothing behind that was done.
 pub data BreaksOff (o : Opening) (most : Limits) (from : Controller) (came : List ℕ) (taken then : Option (List ℕ)) (now : Controller) : Type 0 where
-  unasked : (lines told rest : List ℕ) → came ≡ lines ++ rest → AreTold o most from lines told now → Appends taken then told
+  unasked : (lines told rest : List ℕ) → came ≡ lines ++ rest → AreAnswered o most from lines told now → Appends taken then told
       → BreaksOff o most from came taken then now
   untold : (lines told words rest : List ℕ) (mid : Controller) (reply : AdminReply) (between : Option (List ℕ)) → came ≡ lines ++ (line words ++ rest)
-      → AreTold o most from lines told mid → HasNoEnd words → IsTold o most words mid.pass now.pass reply mid.workflow now.workflow
+      → AreAnswered o most from lines told mid → HasNoEnd words → IsTold o most words mid.pass now.pass reply mid.workflow now.workflow
       → Appends taken between told → AppendsFront between then (reply_text reply) → BreaksOff o most from came taken then now
 
-pub record HasBrokenOff (o : Opening) (most : Limits) (from now : Controller) (unread left taken then : Option (List ℕ)) : Type 0 where
+pub record HasEndedEarly (o : Opening) (most : Limits) (from now : Controller) (unread left taken then : Option (List ℕ)) : Type 0 where
   pub came : List ℕ
   pub consumed : Consumes unread left came
   pub broke : BreaksOff o most from came taken then now

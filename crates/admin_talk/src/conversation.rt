@@ -7,7 +7,7 @@ ghost use Rattle.session.specs.Devices.{AppendsFront};
 ghost use Rattle.administration.specs.declared.reply.AdminReply.{AdminReply};
 ghost use Rattle.administration.specs.Told.{IsTold, keyspace_of};
 ghost use Rattle.administration.specs.Words.{reply_text};
-ghost use Rattle.admin_talk.specs.Conversations.{AllTold, BreaksOff, HasBrokenOff, HasTalked};
+ghost use Rattle.admin_talk.specs.Conversations.{AllTold, BreaksOff, HasEndedEarly, HasAnsweredAll};
 
 use crate::lines::ended_line;
 use administered_world::administer;
@@ -150,9 +150,9 @@ fn answer_all<W: World + Send + Sync, J: Naming + Send + Sync, G: Gate, I: Sourc
     requires home { keyspace_of administrator.old ≡ sharded_keyspace engine.now }
     requires none { front.old.items ≡ [] }
     ensures keyspace { keyspace_of administrator.new ≡ keyspace_of administrator.old }
-    ensures talked { OnOk result (HasTalked W.opening W.limits (record { pass = pass.old; workflow = administrator.old })
+    ensures talked { OnOk result (HasAnsweredAll W.opening W.limits (record { pass = pass.old; workflow = administrator.old })
         (record { pass = pass.new; workflow = administrator.new }) (I.unread source.old) (I.unread source.new) (O.taken sink.old) (O.taken sink.new)) }
-    ensures broke { OnErr result (HasBrokenOff W.opening W.limits (record { pass = pass.old; workflow = administrator.old })
+    ensures broke { OnErr result (HasEndedEarly W.opening W.limits (record { pass = pass.old; workflow = administrator.old })
         (record { pass = pass.new; workflow = administrator.new }) (I.unread source.old) (I.unread source.new) (O.taken sink.old) (O.taken sink.new)) }
 {
     let mut buffer = [0u8; PIECE];
@@ -188,9 +188,9 @@ pub fn talk<W: World + Send + Sync, J: Naming + Send + Sync, G: Gate, I: Source,
 ) -> Result<(), BrokenOff>
     requires home { keyspace_of administrator.old ≡ sharded_keyspace engine.now }
     ensures keyspace { keyspace_of administrator.new ≡ keyspace_of administrator.old }
-    ensures talked { OnOk result (HasTalked W.opening W.limits (record { pass = pass.old; workflow = administrator.old })
+    ensures talked { OnOk result (HasAnsweredAll W.opening W.limits (record { pass = pass.old; workflow = administrator.old })
         (record { pass = pass.new; workflow = administrator.new }) (I.unread source.old) (I.unread source.new) (O.taken sink.old) (O.taken sink.new)) }
-    ensures broke { OnErr result (HasBrokenOff W.opening W.limits (record { pass = pass.old; workflow = administrator.old })
+    ensures broke { OnErr result (HasEndedEarly W.opening W.limits (record { pass = pass.old; workflow = administrator.old })
         (record { pass = pass.new; workflow = administrator.new }) (I.unread source.old) (I.unread source.new) (O.taken sink.old) (O.taken sink.new)) }
 {
     let mut front = Vec::new(alloc);

@@ -11,7 +11,7 @@ use Rattle.reshard.specs.Workflows.{WorkflowView}
 use Rattle.reshard.specs.Cutover.{HasSwitched, IsResumed}
 use Rattle.reshard.specs.Cutover as cutover
 use Rattle.administration.specs.declared.reply.AdminReply.{AdminReply}
-use Rattle.administration.specs.Told.{IsAnswered, HasCreated, HasMoved, HasCutOver, HasAdvanced, HasResumed, HasCancelled, HasCompleted}
+use Rattle.administration.specs.Told.{IsAnswered, HasCreated, AnswersStep, HasCutOver, HasAdvanced, HasResumed, HasCancelled, HasCompleted}
 use Rattle.administration.specs.Told as told
 
 same : (w now : WorkflowView) → now ≡ w → now.keyspace ≡ w.keyspace
@@ -36,7 +36,7 @@ module _ (o : Opening) (most : Limits) (w now : WorkflowView) (p q : PassView En
   of_create from into reply (told.refused was why is) = same w now is
   of_create from into reply (told.wrong_state not is) = same w now is
 
-  of_move : (reply : AdminReply) → HasMoved o most w now p q reply → now.keyspace ≡ w.keyspace
+  of_move : (reply : AdminReply) → AnswersStep o most w now p q reply → now.keyspace ≡ w.keyspace
   of_move reply (told.done was moved is) = same w now is
   of_move reply (told.refused was why is) = same w now is
   of_move reply (told.wrong_state not is) = same w now is

@@ -14,7 +14,7 @@ use Rattle.reshard.specs.declared.workflow.Stage.{Stage}
 use Rattle.reshard.specs.declared.fault.ReshardFault.TheVariants as faults
 use Rattle.reshard.specs.Workflows.{WorkflowView}
 use Rattle.vtgate_lines.specs.Partitions.{IsListOf, last, more}
-use Rattle.vtgate_lines.specs.AdminLines.{IsCreate, Asks}
+use Rattle.vtgate_lines.specs.AdminLines.{IsCreate, AsksFor}
 use Rattle.vtgate_lines.specs.declared.admin_lines.AdminLine.TheVariants as lines
 use Rattle.administration.specs.declared.reply.AdminReply.{AdminReply}
 use Rattle.administration.specs.declared.reply.AdminReply.TheVariants.{Refused, Unknown}
@@ -48,7 +48,7 @@ module _ (words : List ℕ) (r r' : AdminReply) (is : r' ≡ r) where
   pub other_without : Contains workflow_words words → r ≡ Refused faults.WrongState → IsAnsweredWithout words r'
   other_without is_one h = subst (IsAnsweredWithout words) (sym (is ∙ h)) (told.other is_one)
 
-pub unknown_without : (words : List ℕ) (r : AdminReply) → r ≡ Unknown → Asks words lines.Unknown → IsAnsweredWithout words r
+pub unknown_without : (words : List ℕ) (r : AdminReply) → r ≡ Unknown → AsksFor words lines.Unknown → IsAnsweredWithout words r
 unknown_without words r is asks = subst (IsAnsweredWithout words) (sym is) (told.unknown asks)
 
 -- ---- over either

@@ -12,13 +12,13 @@ use Rattle.reshard.specs.Workflows.{WorkflowView}
 use Rattle.reshard.specs.Begun.{IsCreateRefusal, IsMoveRefusal}
 use Rattle.reshard.specs.Cutover.{MaySwitch, MayCancel, HasStopped, HasStoppedLater}
 use Rattle.administration.specs.declared.reply.AdminReply.TheVariants.{Refused}
-use Rattle.administration.specs.Told.{HasCreated, HasMoved, HasCutOver, HasAdvanced, HasResumed, HasCancelled, HasCompleted}
+use Rattle.administration.specs.Told.{HasCreated, AnswersStep, HasCutOver, HasAdvanced, HasResumed, HasCancelled, HasCompleted}
 use Rattle.administration.specs.Told as told
 
 module _ (o : Opening) (most : Limits) (w now : WorkflowView) (p q : PassView Entry) (e : ReshardFault) where
   pub move_refused : ((e ≡ faults.WrongState) × (w.stage ≡ stages.Following → ⊥)) ⊎ ((w.stage ≡ stages.Following) × IsMoveRefusal most w.targets q e)
-      → now ≡ w → HasMoved o most w now p q (Refused e)
-  move_refused (inl h) same = subst (λ x. HasMoved o most w now p q (Refused x)) (sym h.0) (told.wrong_state h.1 same)
+      → now ≡ w → AnswersStep o most w now p q (Refused e)
+  move_refused (inl h) same = subst (λ x. AnswersStep o most w now p q (Refused x)) (sym h.0) (told.wrong_state h.1 same)
   move_refused (inr h) same = told.refused h.0 h.1 same
 
   pub switch_refused : ((e ≡ faults.WrongState) × (w.stage ≡ stages.Following → ⊥) × (now ≡ w) × (q ≡ p))

@@ -19,7 +19,7 @@ use Rattle.reshard.specs.Workflows.{WorkflowView}
 use Rattle.reshard.specs.Begun.{HasBegun, IsCreateRefusal, HasMovedFirst, IsMoveRefusal}
 use Rattle.reshard.specs.Cutover.{MaySwitch, MayCancel, HasSwitched, HasStopped, HasStoppedLater, HasFinished, IsResumed, IsServingAgain, IsOutOfUse}
 use Rattle.vtgate_lines.specs.Partitions.{range_cmp}
-use Rattle.vtgate_lines.specs.AdminLines.{IsCreate, Asks}
+use Rattle.vtgate_lines.specs.AdminLines.{IsCreate, AsksFor}
 use Rattle.vtgate_lines.specs.declared.admin_lines.AdminLine.TheVariants as lines
 use Rattle.administration.specs.declared.reply.AdminReply.{AdminReply}
 use Rattle.administration.specs.declared.reply.AdminReply.TheVariants.{Done, Moved, Took, Refused, Status, Unknown}
@@ -53,10 +53,10 @@ pub data HasCreated (o : Opening) (from into : List KeyRange) (w now : WorkflowV
   wrong_state : (w.stage ≡ stages.None → ⊥) → now ≡ w → HasCreated o from into w now p q (Refused faults.WrongState)
 
 -- `step` moved the first target that isn't level.
-pub data HasMoved (o : Opening) (most : Limits) (w now : WorkflowView) (p q : PassView Entry) : AdminReply → Type 0 where
-  done : {step : moves.Step} → w.stage ≡ stages.Following → HasMovedFirst o w.targets p q step → now ≡ w → HasMoved o most w now p q (Moved step)
-  refused : {e : ReshardFault} → w.stage ≡ stages.Following → IsMoveRefusal most w.targets q e → now ≡ w → HasMoved o most w now p q (Refused e)
-  wrong_state : (w.stage ≡ stages.Following → ⊥) → now ≡ w → HasMoved o most w now p q (Refused faults.WrongState)
+pub data AnswersStep (o : Opening) (most : Limits) (w now : WorkflowView) (p q : PassView Entry) : AdminReply → Type 0 where
+  done : {step : moves.Step} → w.stage ≡ stages.Following → HasMovedFirst o w.targets p q step → now ≡ w → AnswersStep o most w now p q (Moved step)
+  refused : {e : ReshardFault} → w.stage ≡ stages.Following → IsMoveRefusal most w.targets q e → now ≡ w → AnswersStep o most w now p q (Refused e)
+  wrong_state : (w.stage ≡ stages.Following → ⊥) → now ≡ w → AnswersStep o most w now p q (Refused faults.WrongState)
 
 -- `switch` took all steps of the cutover, or gave it up.
 pub data HasCutOver (o : Opening) (most : Limits) (w now : WorkflowView) (p q : PassView Entry) : AdminReply → Type 0 where
@@ -91,13 +91,13 @@ pub data IsAnswered (o : Opening) (most : Limits) (words : List ℕ) (w now : Wo
   status : {reply : AdminReply} → words ≡ codes "status" → now ≡ w → q ≡ p → TellsStatus w.keyspace w.stage reply → IsAnswered o most words w now p q reply
   create : {reply : AdminReply} (from into : List KeyRange) → IsCreate words from into → HasCreated o from into w now p q reply
       → IsAnswered o most words w now p q reply
-  step : {reply : AdminReply} → words ≡ codes "step" → HasMoved o most w now p q reply → IsAnswered o most words w now p q reply
+  step : {reply : AdminReply} → words ≡ codes "step" → AnswersStep o most w now p q reply → IsAnswered o most words w now p q reply
   switch : {reply : AdminReply} → words ≡ codes "switch" → HasCutOver o most w now p q reply → IsAnswered o most words w now p q reply
   advance : {reply : AdminReply} → words ≡ codes "advance" → HasAdvanced o most w now p q reply → IsAnswered o most words w now p q reply
   resume : {reply : AdminReply} → words ≡ codes "resume" → HasResumed o w now p q reply → IsAnswered o most words w now p q reply
   cancel : {reply : AdminReply} → words ≡ codes "cancel" → HasCancelled o w now p q reply → IsAnswered o most words w now p q reply
   complete : {reply : AdminReply} → words ≡ codes "complete" → HasCompleted o w now p q reply → IsAnswered o most words w now p q reply
-  unknown : Asks words lines.Unknown → now ≡ w → q ≡ p → IsAnswered o most words w now p q Unknown
+  unknown : AsksFor words lines.Unknown → now ≡ w → q ≡ p → IsAnswered o most words w now p q Unknown
 
 -- the lines that a workflow is needed for
 abbrev pub workflow_words : List (List ℕ)
@@ -109,7 +109,7 @@ pub data IsAnsweredWithout (words : List ℕ) : AdminReply → Type 0 where
   status : words ≡ codes "status" → IsAnsweredWithout words (Status (status_text [] stages.None))
   create : (from into : List KeyRange) → IsCreate words from into → IsAnsweredWithout words (Refused faults.WrongSource)
   other : Contains workflow_words words → IsAnsweredWithout words (Refused faults.WrongState)
-  unknown : Asks words lines.Unknown → IsAnsweredWithout words Unknown
+  unknown : AsksFor words lines.Unknown → IsAnsweredWithout words Unknown
 
 -- what the words of a line did, over the workflow of the sharded keyspace, where there is one
 pub data IsTold (o : Opening) (most : Limits) (words : List ℕ) (p q : PassView Entry) (reply : AdminReply) : Option WorkflowView → Option WorkflowView → Type 0 where

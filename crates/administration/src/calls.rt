@@ -6,7 +6,7 @@ ghost use Rattle.vschema.specs.WellFormed.{is_vschema};
 ghost use Rattle.journal.specs.Runs.{IsLegal};
 ghost use Rattle.shard.specs.Shards.{MayFollow};
 ghost use Rattle.follow.specs.Steps.{IsOnward};
-ghost use Rattle.administration.specs.Told.{HasCreated, HasMoved, HasCutOver, HasAdvanced, HasResumed, HasCancelled, HasCompleted};
+ghost use Rattle.administration.specs.Told.{HasCreated, AnswersStep, HasCutOver, HasAdvanced, HasResumed, HasCancelled, HasCompleted};
 
 use crate::reply::AdminReply;
 use buffer::Buffer;
@@ -54,7 +54,7 @@ pub(crate) fn step<W: World, J: Naming>(
     requires schema { schema.now ≡ W.opening.schema }
     requires formed { IsTrue (is_vschema W.opening.schema) }
     requires legal { IsLegal (MayFollow W.opening) pass.old.seen }
-    ensures moved { HasMoved W.opening W.limits workflow.old workflow.new pass.old pass.new result }
+    ensures moved { AnswersStep W.opening W.limits workflow.old workflow.new pass.old pass.new result }
     ensures onward { IsOnward W.opening pass.old pass.new }
 {
     match workflow.step(rt, alloc, pass, schema) {

@@ -6,7 +6,7 @@ ghost use Rattle.shard_run.specs.declared.Shard as which;
 ghost use Rattle.shard_run.specs.Runs.{first_rows};
 ghost use Rattle.shard_run.specs.Openings.{IsOpening};
 ghost use Rattle.shard.specs.Shards.{most_limits, opening_shards};
-ghost use Rattle.route_engine.specs.Seats.{seat_of};
+ghost use Rattle.shard.specs.Seats.{seat_of};
 ghost use Rattle.empty_opening.specs.Empty.{opening_of, FitRanges};
 
 use buffer::Buffer;

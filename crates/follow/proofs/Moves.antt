@@ -19,7 +19,7 @@ use Rattle.shard_run.specs.Copies.{position, table_at, is_copied, change_is_copi
 use Rattle.shard_run.specs.Legal.{Legal, Had, is_left}
 use Rattle.shard_run.specs.Openings.{IsOpening}
 use Rattle.shard_law.proofs.Law.{beginnings}
-use Rattle.shard_law.proofs.Lists.{all-filter}
+use Rattle.shard_law.proofs.Lists.{all-filter, all-weaker, AllByRecursion-push}
 use Rattle.shard.specs.declared.copying.NextTable.{NextTable}
 use Rattle.shard.specs.declared.copying.SourceProgress.{SourceProgress}
 use Rattle.shard.specs.Shards.{IsNext}
@@ -32,10 +32,9 @@ use Rattle.follow.specs.declared.steps.Given.TheVariants as givens
 use Rattle.follow.specs.declared.steps.Step.{Step}
 use Rattle.follow.specs.inner.Given.{IsGiven, NoneLeft, IsNextEntry, AreNextRows, IsTakeable, HasTaken, entry, rows, nothing}
 use Rattle.follow.specs.inner.Given as given
-use Rattle.follow.specs.Steps.{IsOnward, IsBetween, IsLevel, HasMoved, copied, followed, level, HasMovedWith, one, all_level}
+use Rattle.follow.specs.Steps.{IsOnward, IsRunBetween, IsLevel, HasMoved, copied, followed, level, HasMovedWith, one, all_level}
 use Rattle.follow.specs.declared.steps.Step.TheVariants.{Level}
 use Rattle.shard.proofs.Progress.{take_whole}
-use Rattle.shard_law.proofs.Lists.{all-weaker, AllByRecursion-push}
 use Rattle.std.proofs.lemmas.List.{take_more, map-append}
 use Rattle.follow.proofs.Onward.{same_entries, onward_trans, stepped_after}
 
@@ -204,7 +203,7 @@ module _ (o : Opening) (run seen : Run) (later : IsPrefix run seen) (legal : Leg
 -- ---- rounds before
 
 module _ (o : Opening) (source target : Shard) (p q now : PassView Entry) (on : IsOnward o p q) where
-  widen : (run : Run) → IsBetween q now run → IsBetween p now run
+  widen : (run : Run) → IsRunBetween q now run → IsRunBetween p now run
   widen run b = record { since = prefix_trans p.seen q.seen run on.later b.since; until = b.until }
 
   -- what a round did after looks is what the step did

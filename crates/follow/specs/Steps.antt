@@ -32,7 +32,7 @@ pub record HasStepped (o : Opening) (s : Shard) (event : Event) (p now : PassVie
   pub seen : now.seen ≡ before ++ record { shard = s; event = event } ∷ []
 
 -- a run between what a pass had seen and what it has seen now
-pub record IsBetween (p now : PassView Entry) (run : Run) : Type 0 where
+pub record IsRunBetween (p now : PassView Entry) (run : Run) : Type 0 where
   pub since : IsPrefix p.seen run
   pub until : IsPrefix run now.seen
 
@@ -49,10 +49,10 @@ IsFull most slot run = (2 ^ 40 ≤ length (entries_on slot run)) ⊎ (most.store
 -- What a step of a target with a source does. Either its one entry ends what the pass has seen: a Copy, behind all entries that the source had
 -- stored at a look since the step began, or a Follow. Or there is none, and the target was level with what the source had stored at a look.
 pub data HasMoved (o : Opening) (source target : Shard) (p now : PassView Entry) : Step → Type 0 where
-  copied : (c : C.Copied) → c.source ≡ source.slot → (looked : Run) → IsBetween p now looked → c.place ≡ length (stored_on source.slot looked)
+  copied : (c : C.Copied) → c.source ≡ source.slot → (looked : Run) → IsRunBetween p now looked → c.place ≡ length (stored_on source.slot looked)
       → HasStepped o target (events.Copy c) p now → HasMoved o source target p now Copied
   followed : (f : F.Follow) → f.source ≡ source.slot → HasStepped o target (events.Follow f) p now → HasMoved o source target p now Followed
-  level : IsOnward o p now → (run looked : Run) → IsBetween p now run → IsBetween p now looked → IsLevel o source target run looked
+  level : IsOnward o p now → (run looked : Run) → IsRunBetween p now run → IsRunBetween p now looked → IsLevel o source target run looked
       → HasMoved o source target p now Level
 
 -- What a step with several sources does, in their order: what one with the first of them that the target isn't level with does, or none is

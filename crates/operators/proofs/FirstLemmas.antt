@@ -9,7 +9,7 @@ use Rattle.sql_tree.specs.declared.Key.{Key}
 use Rattle.vt_value.specs.Values.{Row}
 use Rattle.operators.specs.declared.merging.Head.{Head}
 use Rattle.operators.specs.Orders.{sort_values}
-use Rattle.operators.specs.inner.Merges.{row_lt, row_at, rows_from, head_rows, earlier, all_merged, IsFirst}
+use Rattle.operators.specs.inner.Merges.{row_lt, head_row, rows_from, head_rows, earlier, all_merged, IsFirst}
 use Rattle.operators.proofs.OrderLemmas.{keys_cmp-total}
 use Rattle.operators.proofs.MergeLemmas.{first_of, all_taken, all_ended, earlier_then, earlier_than}
 
@@ -22,11 +22,11 @@ begins (Some x) rows = refl
 
 module _ {O : Type 0} where
   -- the row of a head that was read
-  pub row_read : (heads : List (Head O)) (place : ℕ) (head : Head O) → place < length heads → row_at heads place ≡ (get_or heads place head).row
+  pub row_read : (heads : List (Head O)) (place : ℕ) (head : Head O) → place < length heads → head_row heads place ≡ (get_or heads place head).row
   row_read heads place head within = get_or-map (λ h. h.row) heads place head None within
 
   -- what the rows of a head begin with
-  pub rows_begin : (to_come : O → List Row) (heads : List (Head O)) (place : ℕ) → first_of (get_or (map (head_rows to_come) heads) place []) ≡ row_at heads place
+  pub rows_begin : (to_come : O → List Row) (heads : List (Head O)) (place : ℕ) → first_of (get_or (map (head_rows to_come) heads) place []) ≡ head_row heads place
   rows_begin to_come [] place = refl
   rows_begin to_come (head ∷ heads) zero = begins head.row (to_come head.input)
   rows_begin to_come (head ∷ heads) (suc place) = rows_begin to_come heads place
@@ -35,27 +35,27 @@ module _ {O : Type 0} (keys : List (Key ℕ)) (heads : List (Head O)) where
   abbrev pub FirstSoFar : ℕ → ℕ → Type 0
   FirstSoFar least place =
       (least < place)
-      × ((j : ℕ) → j < least → earlier (row_lt keys) (row_at heads least) (row_at heads j) ≡ true)
-      × ((j : ℕ) → least < j → j < place → earlier (row_lt keys) (row_at heads j) (row_at heads least) ≡ false)
+      × ((j : ℕ) → j < least → earlier (row_lt keys) (head_row heads least) (head_row heads j) ≡ true)
+      × ((j : ℕ) → least < j → j < place → earlier (row_lt keys) (head_row heads j) (head_row heads least) ≡ false)
 
-  pub stays : (least place : ℕ) → FirstSoFar least place → earlier (row_lt keys) (row_at heads place) (row_at heads least) ≡ false → FirstSoFar least (place + 1)
+  pub stays : (least place : ℕ) → FirstSoFar least place → earlier (row_lt keys) (head_row heads place) (head_row heads least) ≡ false → FirstSoFar least (place + 1)
   stays least place (less, before, behind) later = (
     omega (arith, less),
     before,
     λ j more within. ⊎_elim
-        (λ e. subst (λ (i : ℕ). earlier (row_lt keys) (row_at heads i) (row_at heads least) ≡ false) (sym e) later)
+        (λ e. subst (λ (i : ℕ). earlier (row_lt keys) (head_row heads i) (head_row heads least) ≡ false) (sym e) later)
         (⊎_elim (behind j more) (λ beyond. absurd (omega (arith, beyond, within))))
         (cases_order j place),
   )
 
-  pub turns : (least place : ℕ) → FirstSoFar least place → earlier (row_lt keys) (row_at heads place) (row_at heads least) ≡ true → FirstSoFar place (place + 1)
+  pub turns : (least place : ℕ) → FirstSoFar least place → earlier (row_lt keys) (head_row heads place) (head_row heads least) ≡ true → FirstSoFar place (place + 1)
   turns least place (less, before, behind) sooner = (
     omega arith,
     λ j below. ⊎_elim
-        (λ e. subst (λ (i : ℕ). earlier (row_lt keys) (row_at heads place) (row_at heads i) ≡ true) (sym e) sooner)
+        (λ e. subst (λ (i : ℕ). earlier (row_lt keys) (head_row heads place) (head_row heads i) ≡ true) (sym e) sooner)
         (⊎_elim
-        (λ lower. earlier_then (row_lt keys) (row_lt-order keys) (row_at heads place) (row_at heads least) (row_at heads j) sooner (before j lower))
-        (λ higher. earlier_than (row_lt keys) (row_lt-order keys) (row_at heads place) (row_at heads least) (row_at heads j) sooner (behind j higher below)))
+        (λ lower. earlier_then (row_lt keys) (row_lt-order keys) (head_row heads place) (head_row heads least) (head_row heads j) sooner (before j lower))
+        (λ higher. earlier_than (row_lt keys) (row_lt-order keys) (head_row heads place) (head_row heads least) (head_row heads j) sooner (behind j higher below)))
         (cases_order j least),
     λ j more within. absurd (omega (arith, more, within)),
   )
@@ -72,7 +72,7 @@ module _ {O : Type 0} (keys : List (Key ℕ)) (to_come : O → List Row) (heads 
       → all_merged (row_lt keys) rows ≡ row ∷ all_merged (row_lt keys) (map (head_rows to_come) (set heads place head'))
   row_taken head head' is row same =
       let here = at_place head is (row ∷ head_rows to_come head') same in
-      let begin : Some row ≡ row_at heads place = ap first_of (sym here) ∙ rows_begin to_come heads place in
+      let begin : Some row ≡ head_row heads place = ap first_of (sym here) ∙ rows_begin to_come heads place in
       all_taken (row_lt keys) rows place row (head_rows to_come head') here
       (λ j less. rw (begin, rows_begin to_come heads j) (first.before j less))
       (λ j more within. rw (begin, rows_begin to_come heads j) (first.behind j more (omega (arith, within, length-map heads (head_rows to_come)))))
@@ -82,7 +82,7 @@ module _ {O : Type 0} (keys : List (Key ℕ)) (to_come : O → List Row) (heads 
       → (all_merged (row_lt keys) rows ≡ []) × (all_merged (row_lt keys) (map (head_rows to_come) (set heads place head')) ≡ [])
   none_taken head head' is none still =
       let here = at_place head is [] none in
-      let begin : None ≡ row_at heads place = ap first_of (sym here) ∙ rows_begin to_come heads place in
+      let begin : None ≡ head_row heads place = ap first_of (sym here) ∙ rows_begin to_come heads place in
       let ended : all_merged (row_lt keys) rows ≡ [] =
       all_ended (row_lt keys) rows place here
       (λ j less. subst (λ (b : Option Row). earlier (row_lt keys) b (first_of (get_or rows j [])) ≡ true) (sym begin) (rw (rows_begin to_come heads j) (first.before j less)))

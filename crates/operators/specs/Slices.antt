@@ -1,5 +1,5 @@
 -- What LIMIT leaves of a list, and what a select list shows of a row.
-use Rattle.std.specs.Prelude.{ℕ, Bool, false, ◌==◌, List, [], ◌∷◌, map, take, drop, Option, Some, None}
+use Rattle.std.specs.Prelude.{ℕ, Bool, false, List, [], ◌∷◌, map, take, drop, Option, Some, None}
 use Rattle.vt_value.specs.Values.{Row, value_at}
 use Rattle.sql_tree.specs.declared.Limit.{Limit}
 
@@ -7,11 +7,6 @@ use Rattle.sql_tree.specs.declared.Limit.{Limit}
 abbrev pub sliced : {X : Type 0} → Option Limit → List X → List X
 sliced None xs = xs
 sliced (Some l) xs = take l.count (drop l.offset xs)
-
--- no row is left to be given
-abbrev pub is_spent : Option Limit → Bool
-is_spent None = false
-is_spent (Some l) = l.count == 0
 
 -- the values of a row in these places
 abbrev pub columns_of : List ℕ → Row → Row

@@ -12,7 +12,8 @@ use Rattle.shard_run.specs.declared.Shard.{Shard}
 use Rattle.shard_law.proofs.Lists.{In, In-from_Contains, Contains-from_In, In-map, In-from_map, In-all, all-from_In, all-weaker}
 use Rattle.reshard.specs.Choices.{AreNamed, holders, HoldTheSame}
 use Rattle.reshard.specs.Steps.{named_for, FitTargets, IsTargetOf, TakesFrom}
-use Rattle.reshard.specs.Workflows.{Taking, shards_of, seat_of, placed, IsSplit}
+use Rattle.shard.specs.Seats.{seat_of}
+use Rattle.reshard.specs.Workflows.{Taking, shards_of, target_seats, IsSplit}
 use Rattle.reshard.specs.Begun.{HasBegun}
 use Rattle.reshard.specs.inner.Created.{AreOverlapped, IsMadeOf, IsSurvey}
 use Rattle.reshard.proofs.Ranges.{counted-append, same_from_cover, at_most_one, held_too}
@@ -110,7 +111,7 @@ module _ (current taken rest : List Seat) (from into ordered : List KeyRange) (a
       takes = all-weaker (IsMadeOf sources k) (λ t. TakesFrom sources t.0) (λ t h. h.takes) targets made;
     }
 
-    pub next : (seats' : List Seat) → seats' ≡ placed targets → AllByRecursion IsNamed into → length rest + length into ≤ 64
+    pub next : (seats' : List Seat) → seats' ≡ target_seats targets → AllByRecursion IsNamed into → length rest + length into ≤ 64
         → IsPartition (rest ++ seats')
     next seats' are_placed names few =
         let of_placed : ranges seats' ≡ ordered =
@@ -148,7 +149,7 @@ of_taken k parts (x ∷ taken) among of =
     (In-all (λ (seat : Seat). seat.2 ≡ k) x parts of (In-from_Contains x parts among.0), of_taken k parts taken among.1 of)
 
 -- so are the parts that stay, with the targets
-pub homes_here : (k : ℕ) (parts rest seats : List Seat) (targets : List Taking) → AllByRecursion (Contains parts) rest → AreOf k parts → seats ≡ placed targets
+pub homes_here : (k : ℕ) (parts rest seats : List Seat) (targets : List Taking) → AllByRecursion (Contains parts) rest → AreOf k parts → seats ≡ target_seats targets
     → AllByRecursion (λ t. t.0.place.keyspace ≡ k) targets → AreOf k (rest ++ seats)
 homes_here k parts rest seats targets among of seated homes =
     all_both (λ (s : Seat). s.2 ≡ k) rest seats (of_taken k parts rest among of)
@@ -206,5 +207,5 @@ module _ (parts taken rest : List Seat) (from into ordered : List KeyRange) (k :
     pub begun_here : length taken ≡ length from → HasBegun sources (map f ts) k from into
     begun_here = begun parts taken rest from into ordered st.are st.among st.is k sources st.seats st.home st.cover st.order (map f ts) ranged made
 
-    pub next_here : (seats : List Seat) → seats ≡ placed (map f ts) → AllByRecursion IsNamed into → length rest + length into ≤ 64 → IsPartition (rest ++ seats)
+    pub next_here : (seats : List Seat) → seats ≡ target_seats (map f ts) → AllByRecursion IsNamed into → length rest + length into ≤ 64 → IsPartition (rest ++ seats)
     next_here = next parts taken rest from into ordered st.are st.among st.is k sources st.seats st.home st.cover st.order (map f ts) ranged made

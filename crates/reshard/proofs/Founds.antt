@@ -15,7 +15,7 @@ use Rattle.shard_run.specs.declared.Event.{Event}
 use Rattle.shard_run.specs.declared.Event.TheVariants.{Commit, Follow, Copy, Freeze, Thaw, Retire, Serve}
 use Rattle.shard_run.specs.Runs.{Run, Opening, mode, mode_after, mode_from, entries_on, is_opening}
 use Rattle.shard_law.proofs.Lists.{all-weaker, AllByRecursion-push}
-use Rattle.reshard.specs.Workflows.{seat_of}
+use Rattle.shard.specs.Seats.{seat_of}
 use Rattle.vt_value.specs.declared.refusal.Refusal.{Refusal}
 use Rattle.vt_value.specs.declared.refusal.Refusal.TheVariants.{OutOfMemory}
 use Rattle.keyrange.specs.Names.{IsNamed}

@@ -20,7 +20,8 @@ use mathlib.Core.List.{IsPrefix}
 use Rattle.journal.specs.Views.{PassView}
 use Rattle.journal.proofs.Fronts.{prefix_trans}
 use Rattle.serving.specs.Partitions.{Seat, AreOf}
-use Rattle.reshard.specs.Workflows.{Taking, seat_of}
+use Rattle.shard.specs.Seats.{seat_of}
+use Rattle.reshard.specs.Workflows.{Taking}
 
 -- of the first sources the ones that overlap the range
 pub record SoFar (sources : List Shard) (n : ℕ) (range : KeyRange) (own : List Shard) : Type 0 where

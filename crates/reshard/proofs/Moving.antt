@@ -12,7 +12,7 @@ use Rattle.shard_law.proofs.Lists.{all-weaker, AllByRecursion-push}
 use Rattle.shard.proofs.Progress.{take_whole}
 use Rattle.follow.specs.declared.steps.Step.{Step}
 use Rattle.follow.specs.declared.steps.Step.TheVariants.{Copied, Followed, Level}
-use Rattle.follow.specs.Steps.{IsOnward, IsBetween, HasMoved, copied, followed, level, HasMovedWith, IsFull}
+use Rattle.follow.specs.Steps.{IsOnward, IsRunBetween, HasMoved, copied, followed, level, HasMovedWith, IsFull}
 use Rattle.follow.specs.Steps as moves
 use Rattle.follow.proofs.Moves.{level_later}
 use Rattle.reshard.specs.Workflows.{Taking}
@@ -24,7 +24,7 @@ use Rattle.reshard.specs.Begun.{HasMovedFirst, IsMoveRefusal}
 use Rattle.reshard.specs.Begun as begun
 use Rattle.reshard.proofs.Onward.{onward_trans, stepped_after}
 
-between_after : (o : Opening) (p q now : PassView Entry) (run : Run) → IsOnward o p q → IsBetween q now run → IsBetween p now run
+between_after : (o : Opening) (p q now : PassView Entry) (run : Run) → IsOnward o p q → IsRunBetween q now run → IsRunBetween p now run
 between_after o p q now run on is = record { since = prefix_trans p.seen q.seen run on.later is.since; until = is.until }
 
 moved_after : (o : Opening) (source target : Shard) (p q now : PassView Entry) → IsOnward o p q → (step : Step) → HasMoved o source target q now step

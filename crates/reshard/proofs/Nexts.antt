@@ -12,10 +12,11 @@ use Rattle.shard_run.specs.declared.Entry.{Entry}
 use Rattle.shard_run.specs.Runs.{Opening, Run, entries_on}
 use Rattle.std.proofs.lemmas.List.{length-map}
 use Rattle.shard.specs.declared.limits.Limits.{Limits}
-use Rattle.follow.specs.Steps.{IsOnward, IsBetween}
+use Rattle.follow.specs.Steps.{IsOnward, IsRunBetween}
 use Rattle.reshard.specs.declared.fault.ReshardFault.{ReshardFault}
 use Rattle.reshard.specs.Steps.{named_for}
-use Rattle.reshard.specs.Workflows.{Taking, shards_of, IsPrepared}
+use Rattle.reshard.specs.Workflows.{Taking, shards_of}
+use Rattle.reshard.specs.inner.Workflows.{IsPrepared}
 use Rattle.reshard.specs.Begun.{IsMoveRefusal}
 use Rattle.reshard.specs.Begun as begun
 use Rattle.reshard.specs.Cutover.{IsSwitchRefusal, no_memory, no_room, stuck, overfull, HasNoRoom, IsServingAgain}
@@ -63,7 +64,7 @@ module _ {X Y : Type 0} (f : X → Y) (xs : List X) (i : ℕ) (x : X) (there : i
 
 -- ---- refusals, over a longer part of the pass's run
 
-between_within : (p p' now now' : PassView Entry) (run : Run) → IsPrefix p'.seen p.seen → IsPrefix now.seen now'.seen → IsBetween p now run → IsBetween p' now' run
+between_within : (p p' now now' : PassView Entry) (run : Run) → IsPrefix p'.seen p.seen → IsPrefix now.seen now'.seen → IsRunBetween p now run → IsRunBetween p' now' run
 between_within p p' now now' run early late is = record {
   since = prefix_trans p'.seen p.seen run early is.since;
   until = prefix_trans run now.seen now'.seen is.until late;

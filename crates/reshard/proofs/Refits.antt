@@ -12,7 +12,9 @@ use Rattle.shard_run.specs.declared.Shard.{Shard}
 use Rattle.shard_law.proofs.Lists.{In, In-from_Contains, Contains-from_In, In-map, In-from_filter, In-all, all-from_In, all-weaker}
 use Rattle.reshard.specs.Choices.{holders, HoldTheSame}
 use Rattle.reshard.specs.Steps.{named_for, FitTargets, IsTargetOf, TakesFrom}
-use Rattle.reshard.specs.Workflows.{Taking, shards_of, seat_of, placed, IsSplit, IsPrepared}
+use Rattle.shard.specs.Seats.{seat_of}
+use Rattle.reshard.specs.Workflows.{Taking, shards_of, target_seats, IsSplit}
+use Rattle.reshard.specs.inner.Workflows.{IsPrepared}
 use Rattle.shard_run.specs.declared.Mode.TheVariants.{Serving, Frozen, Retired}
 use Rattle.reshard.specs.Reopened.{Found, IsCourse, others, MayReplace}
 use Rattle.reshard.specs.inner.Glances.{IsTakenUp, IsRefitted}
@@ -49,7 +51,7 @@ stay P seats parts all =
     (λ x h. In-all P x parts all (In-from_filter (λ part. not (list_any (λ seat. seat.0 == part.0) seats)) x parts h).0)
 
 module _ (k : ℕ) (rest from into : List Seat) (is : MayReplace k rest from into) (sources : List Shard) (targets : List Taking)
-    (at : map seat_of sources ≡ from) (there : placed targets ≡ into) (taken : AllByRecursion (IsTakenUp sources) targets) where
+    (at : map seat_of sources ≡ from) (there : target_seats targets ≡ into) (taken : AllByRecursion (IsTakenUp sources) targets) where
   of_from : ranges from ≡ map (λ s. s.place.range) sources
   of_from = ap ranges (sym at) ∙ map_twice (λ (s : Seat). s.1) seat_of sources
 
@@ -146,7 +148,7 @@ module _ {F S T : Type 0} (found_which : F → Shard) (found_seat : F → Seat) 
       let own : AllByRecursion (IsTakenUp (map which ss)) (map taking ts) =
       subst (λ (l : List Shard). AllByRecursion (IsTakenUp l) (map taking ts)) (sym same_sources) taken in
       let sources_at : map seat_of (map which ss) ≡ from = ap (map seat_of) same_sources ∙ map_twice seat_of found_which fs ∙ at in
-      let targets_at : placed (map taking ts) ≡ into =
+      let targets_at : target_seats (map taking ts) ≡ into =
       map_twice (λ (t : Taking). seat_of t.0) taking ts ∙ sym (map_twice seat_of (λ t. (taking t).0) ts) ∙ ap (map seat_of) same_targets
       ∙ map_twice seat_of found_which gs ∙ there in
       refitted k rest from into is (map which ss) (map taking ts) sources_at targets_at own (map seat ts) (same_seats' ∙ seated)

@@ -18,7 +18,8 @@ use Rattle.shard_law.proofs.Lists.{In, In-from_Contains, In-map, In-from_map, In
 use Rattle.shard_law.proofs.Law.{slots}
 use Rattle.shard.proofs.States.{stored-same}
 use Rattle.shard.proofs.Modes.{retired_stays}
-use Rattle.reshard.specs.Steps.{Looked, has_source, IsUpTo, HasEntry, IsRetired, AreRetired, AreFollowed, IsTargetOf}
+use Rattle.reshard.specs.Steps.{Looked, has_source, HasEntry, IsRetired, AreRetired, IsTargetOf}
+use Rattle.reshard.specs.inner.Steps.{IsUpTo, AreFollowed}
 use Rattle.reshard.proofs.Onward.{legal_front, entry_later}
 
 -- ---- a retired source stays as it is

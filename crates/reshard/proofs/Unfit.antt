@@ -5,20 +5,17 @@ use Rattle.vt_value.specs.declared.refusal.Refusal.{Refusal}
 use Rattle.vt_value.specs.declared.refusal.Refusal.TheVariants.{OutOfMemory}
 use Rattle.keyrange.specs.declared.KeyRange.{KeyRange}
 use Rattle.keyrange.specs.Ranges.{Cover}
-use Rattle.serving.specs.Partitions.{Seat}
+use Rattle.serving.specs.Partitions.{Seat, IsPartition}
 use Rattle.journal.specs.Views.{PassView}
 use Rattle.shard_run.specs.declared.Entry.{Entry}
 use Rattle.shard_run.specs.Runs.{Opening}
 use Rattle.reshard.specs.declared.fault.ReshardFault.{ReshardFault}
-use Rattle.reshard.specs.declared.fault.ReshardFault.TheVariants.{Refused, Gap}
+use Rattle.reshard.specs.declared.fault.ReshardFault.TheVariants.{Refused, Gap, FewSlots}
 use Rattle.reshard.specs.declared.fault.ReshardFault.TheVariants as faults
-use Rattle.reshard.specs.Choices.{AreApart}
-use Rattle.reshard.specs.declared.fault.ReshardFault.TheVariants.{FewSlots}
+use Rattle.reshard.specs.Choices.{AreApart, AreNamed}
 use Rattle.reshard.specs.inner.Created.{IsUnfit, no_memory, overlap, gap}
 use Rattle.reshard.specs.Begun.{IsCreateRefusal}
 use Rattle.reshard.specs.Begun as begun
-use Rattle.serving.specs.Partitions.{IsPartition}
-use Rattle.reshard.specs.Choices.{AreNamed}
 
 pub no_items : {X : Type 0} (xs : List X) → length xs ≡ 0 → xs ≡ []
 no_items [] e = Rattle.std.proofs.Common.refl

@@ -10,7 +10,7 @@ use Rattle.shard_run.specs.declared.Mode.TheVariants as modes
 use Rattle.shard_run.specs.Runs.{Opening, Run, mode, held, entries_on}
 use Rattle.shard_run.specs.Openings.{row_count}
 use Rattle.shard.specs.declared.limits.Limits.{Limits}
-use Rattle.follow.specs.Steps.{IsOnward, IsBetween, HasStepped, IsFull}
+use Rattle.follow.specs.Steps.{IsOnward, IsRunBetween, HasStepped, IsFull}
 use Rattle.follow.specs.declared.steps.Step.TheVariants as moves
 use Rattle.reshard.specs.declared.fault.ReshardFault.{ReshardFault}
 use Rattle.reshard.specs.declared.fault.ReshardFault.TheVariants.{Refused}
@@ -26,13 +26,13 @@ use Rattle.reshard.specs.Begun.{HasMovedFirst}
 -- At a run that the pass came by the shard served and wasn't frozen: a Freeze of it before was followed by its Thaw.
 pub record IsServingAgain (o : Opening) (s : Shard) (p now : PassView Entry) : Type 0 where
   pub run : Run
-  pub between : IsBetween p now run
+  pub between : IsRunBetween p now run
   pub serving : mode o run s.slot ≡ modes.Serving
 
 -- At a run that the pass came by the shard was retired, so that no statement reads it from then on.
 pub record IsOutOfUse (o : Opening) (s : Shard) (p now : PassView Entry) : Type 0 where
   pub run : Run
-  pub between : IsBetween p now run
+  pub between : IsRunBetween p now run
   pub retired : mode o run s.slot ≡ modes.Retired
 
 -- a cutover goes on while targets follow, or it has begun
@@ -43,15 +43,15 @@ MaySwitch w = (w.stage ≡ stages.Following) ⊎ (w.stage ≡ stages.Switching)
 abbrev pub IsGone : Run → Shard → Type 0
 IsGone run s = (named : List Shard) × HasEntry run s (events.Retire named)
 
-abbrev pub HasServed : Run → Shard → Type 0
-HasServed run t = HasEntry run t events.Serve
+abbrev pub HasBegunToServe : Run → Shard → Type 0
+HasBegunToServe run t = HasEntry run t events.Serve
 
 -- a workflow may be given up that follows, or of which no source is retired
 abbrev pub MayCancel : WorkflowView → Type 0
 MayCancel w = (w.stage ≡ stages.Following) ⊎ ((w.stage ≡ stages.Switching) × (w.retired ≡ 0))
 
 abbrev pub HaveServed : Run → List Taking → Type 0
-HaveServed run targets = AllByRecursion (λ t. HasServed run t.0) targets
+HaveServed run targets = AllByRecursion (λ t. HasBegunToServe run t.0) targets
 
 -- all that a cutover is for
 pub record IsCutOver (run : Run) (sources : List Shard) (targets : List Taking) : Type 0 where
@@ -61,19 +61,19 @@ pub record IsCutOver (run : Run) (sources : List Shard) (targets : List Taking) 
 -- at a run that the pass came by a target had more rows than a shard that serves may have
 pub record IsOverfull (o : Opening) (most : Limits) (t : Shard) (p now : PassView Entry) : Type 0 where
   pub run : Run
-  pub between : IsBetween p now run
+  pub between : IsRunBetween p now run
   pub many : most.rows < row_count (held o run t)
 
 -- at a run that the pass came by a source had as many entries as a shard may have that is to be frozen
 pub record HasNoRoom (s : Shard) (p now : PassView Entry) : Type 0 where
   pub run : Run
-  pub between : IsBetween p now run
+  pub between : IsRunBetween p now run
   pub full : 2 ^ 40 ≤ length (entries_on s.slot run)
 
 -- at a run that the pass came by a target had as many entries as it may have, or stored as many
 pub record IsStuck (most : Limits) (t : Shard) (p now : PassView Entry) : Type 0 where
   pub run : Run
-  pub between : IsBetween p now run
+  pub between : IsRunBetween p now run
   pub full : IsFull most t.slot run
 
 -- Why a cutover gives up that hasn't retired a source: want of memory, or a limit of a shard would be passed.

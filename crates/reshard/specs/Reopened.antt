@@ -12,12 +12,13 @@ use Rattle.shard_run.specs.declared.Mode.{Mode}
 use Rattle.shard_run.specs.declared.Mode.TheVariants as modes
 use Rattle.shard_run.specs.Runs.{Run, Opening, mode}
 use Rattle.shard_run.specs.Legal.{IsOnItsSlot}
-use Rattle.follow.specs.Steps.{IsBetween}
+use Rattle.follow.specs.Steps.{IsRunBetween}
 use Rattle.reshard.specs.declared.fault.ReshardFault.{ReshardFault}
 use Rattle.reshard.specs.declared.fault.ReshardFault.TheVariants.{Refused, WrongState}
 use Rattle.reshard.specs.declared.workflow.Stage.{Stage}
 use Rattle.reshard.specs.declared.workflow.Stage.TheVariants as stages
-use Rattle.reshard.specs.Workflows.{WorkflowView, Taking, seat_of, shards_of}
+use Rattle.shard.specs.Seats.{seat_of}
+use Rattle.reshard.specs.Workflows.{WorkflowView, Taking, shards_of}
 
 -- a shard, and its mode
 abbrev pub Found : Type 0
@@ -26,7 +27,7 @@ Found = Shard × Mode
 -- at a run that the pass came by the shard stood on its slot, in this mode
 pub record IsFound (o : Opening) (p now : PassView Entry) (f : Found) : Type 0 where
   pub run : Run
-  pub between : IsBetween p now run
+  pub between : IsRunBetween p now run
   pub stands : IsOnItsSlot o run f.0
   pub mode : f.1 ≡ mode o run f.0.slot
 
@@ -73,7 +74,7 @@ pub record MayReplace (keyspace : ℕ) (rest from into : List Seat) : Type 0 whe
   pub few : length rest + length into ≤ 64
 
 -- The shards are the sources and the targets of one workflow, beside the other parts of a partition, and its cutover is so far.
-pub record IsStopped (keyspace : ℕ) (parts from into : List Seat) (sources targets : List Found) (frozen retired served : ℕ) : Type 0 where
+pub record IsWorkflowAt (keyspace : ℕ) (parts from into : List Seat) (sources targets : List Found) (frozen retired served : ℕ) : Type 0 where
   pub replace : MayReplace keyspace (others (from ++ into) parts) from into
   pub takes : AllByRecursion (λ t. TakesThose (map (λ f. f.0) sources) t.0) targets
   pub course : IsCourse (map (λ f. f.1) sources) (map (λ f. f.1) targets) frozen retired served
@@ -93,7 +94,7 @@ pub record AreMadeAgain (o : Opening) (p now : PassView Entry) (keyspace : ℕ) 
   pub found_targets : List Found
   pub of_sources : AreFound o p now from found_sources
   pub of_targets : AreFound o p now into found_targets
-  pub stopped : IsStopped keyspace parts from into found_sources found_targets frozen retired served
+  pub stopped : IsWorkflowAt keyspace parts from into found_sources found_targets frozen retired served
   pub same_sources : sources ≡ map (λ f. f.0) found_sources
   pub same_targets : shards_of targets ≡ map (λ f. f.0) found_targets
   pub own : AllByRecursion (λ t. AreThose t.0.place.range sources t.1) targets
@@ -116,8 +117,8 @@ pub record IsReopened (o : Opening) (p now : PassView Entry) (from into : List S
 pub data IsReopenRefusal (o : Opening) (p now : PassView Entry) (keyspace : ℕ) (from into : List Seat) : ReshardFault → Type 0 where
   no_memory : IsReopenRefusal o p now keyspace from into (Refused OutOfMemory)
   unlike : (parts : List Seat) (sources targets : List Found) → IsPartition parts → AreFound o p now from sources → AreFound o p now into targets
-      → ((frozen retired served : ℕ) → IsStopped keyspace parts from into sources targets frozen retired served → ⊥)
+      → ((frozen retired served : ℕ) → IsWorkflowAt keyspace parts from into sources targets frozen retired served → ⊥)
       → IsReopenRefusal o p now keyspace from into WrongState
   through : (parts : List Seat) (sources targets : List Found) (frozen retired : ℕ) → IsPartition parts → AreFound o p now from sources
-      → AreFound o p now into targets → IsStopped keyspace parts from into sources targets frozen retired (length targets)
+      → AreFound o p now into targets → IsWorkflowAt keyspace parts from into sources targets frozen retired (length targets)
       → IsReopenRefusal o p now keyspace from into WrongState

@@ -1,14 +1,12 @@
 -- What the steps of a cutover leave in what the controller's pass has seen. A target may have several sources.
-use Rattle.std.specs.Prelude.{◌≡◌, ℕ, Bool, ◌==◌, List, filter, map, length, AllPairs, Contains, Some, IsTrue}
+use Rattle.std.specs.Prelude.{◌≡◌, ℕ, Bool, ◌==◌, List, filter, map, length, AllPairs, Contains, IsTrue}
 use Rattle.std.specs.List.{AllByRecursion, list_any}
 use Rattle.keyrange.specs.Ranges.{Overlap}
 use Rattle.shard_run.specs.declared.Shard.{Shard}
 use Rattle.shard_run.specs.declared.Event.{Event}
 use Rattle.shard_run.specs.declared.Event.TheVariants.{Retire}
-use Rattle.shard_run.specs.Runs.{Run, Opening, stored_on}
-use Rattle.shard_run.specs.Copies.{position}
+use Rattle.shard_run.specs.Runs.{Run, stored_on}
 use Rattle.shard_run.specs.Legal.{Hold, PlacesOverlap}
-use Rattle.shard.specs.Copying.{HasCopiedAll}
 
 -- a source, and how many entries it has stored
 abbrev pub Looked : Type 0
@@ -21,11 +19,6 @@ has_source slot target = list_any (λ n. n == slot) target.sources
 -- those of the targets that have the shard as a source
 abbrev pub named_for : Shard → List Shard → List Shard
 named_for s targets = filter (has_source s.slot) targets
-
--- after the run the target has copied all of the source, and stands behind what it has stored
-pub record IsUpTo (o : Opening) (run : Run) (target : Shard) (source : Looked) : Type 0 where
-  pub copied : HasCopiedAll o run target source.0.slot
-  pub level : (n : ℕ) → position run target.slot source.0.slot ≡ Some n → n ≡ source.1
 
 -- the run has this entry of the shard
 abbrev pub HasEntry : Run → Shard → Event → Type 0
@@ -40,10 +33,6 @@ pub record IsRetired (run : Run) (source : Looked) (targets : List Shard) : Type
 abbrev pub AreRetired : Run → Shard → List Looked → Type 0
 AreRetired run target sources =
     AllByRecursion (λ s. IsTrue (has_source s.0.slot target) → (targets : List Shard) × IsRetired run s targets × Contains targets target) sources
-
--- and the target is level with them
-abbrev pub AreFollowed : Opening → Run → Shard → List Looked → Type 0
-AreFollowed o run target sources = AllByRecursion (λ s. IsTrue (has_source s.0.slot target) → IsUpTo o run target s) sources
 
 -- the target's sources are some of these, which together hold its place
 pub record IsTargetOf (sources : List Shard) (target : Shard) : Type 0 where

@@ -1,8 +1,9 @@
 -- What contracts see of a workflow, and what it keeps.
-use Rattle.std.specs.Prelude.{◌≡◌, ℕ, ◌<◌, ◌≤◌, ◌^◌, ◌++◌, Bool, true, false, List, [], map, drop, length, Contains}
+use Rattle.std.specs.Prelude.{◌≡◌, ℕ, ◌<◌, ◌≤◌, ◌^◌, ◌++◌, Bool, false, List, [], map, length, Contains}
 use Rattle.std.specs.List.{AllByRecursion}
 use Rattle.journal.specs.Views.{SeatView}
 use Rattle.serving.specs.Partitions.{Seat, IsPartition, AreOf}
+use Rattle.shard.specs.Seats.{seat_of}
 use Rattle.shard_run.specs.declared.Shard.{Shard}
 use Rattle.shard_run.specs.declared.Entry.{Entry}
 use Rattle.shard_run.specs.Runs.{Opening, entries_on, is_opening}
@@ -57,18 +58,8 @@ pub record IsSplit (sources : List Shard) (targets : List Taking) : Type 0 where
   pub of_sources : AllByRecursion (λ t. IsTargetOf sources t.0) targets
   pub own : TakeFromOwn targets
 
--- once the memory of a cutover is made, there is for each source that isn't retired the list of the targets that it names; before, none is
--- retired
-pub record IsPrepared (sources : List Shard) (targets : List Taking) (retired : ℕ) (prepared : Bool) (named : List (List Shard)) : Type 0 where
-  pub before : prepared ≡ false → retired ≡ 0
-  pub after : prepared ≡ true → named ≡ map (λ s. named_for s (shards_of targets)) (drop retired sources)
-
--- the seat of a shard in a partition
-abbrev pub seat_of : Shard → Seat
-seat_of s = (s.slot, s.place.range, s.place.keyspace)
-
-abbrev pub placed : List Taking → List Seat
-placed targets = map (λ t. seat_of t.0) targets
+abbrev pub target_seats : List Taking → List Seat
+target_seats targets = map (λ t. seat_of t.0) targets
 
 -- What it keeps: the targets may take the sources' place, and with the parts that stay they make a partition of the keyspace. The seats are
 -- those of the targets' shards.
@@ -78,6 +69,6 @@ pub record IsWorkflow (o : Opening) (most : Limits) (g : Ground) (stage : Stage)
   pub ground : IsGround o most g
   pub seats_free : AllByRecursion (IsFree o) free
   pub split : IsSplit sources targets
-  pub seated : seats ≡ placed targets
+  pub seated : seats ≡ target_seats targets
   pub next : (stage ≡ stages.None → ⊥) → IsPartition (rest ++ seats)
   pub home : AreOf g.keyspace (rest ++ seats)

@@ -1,3 +1,5 @@
 pub mod Created
 pub mod Leading
 pub mod Glances
+pub mod Steps
+pub mod Workflows

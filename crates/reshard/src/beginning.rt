@@ -7,7 +7,7 @@ ghost use Rattle.shard_run.specs.Openings.{IsOpening};
 ghost use Rattle.shard.specs.Shards.{MayFollow};
 ghost use Rattle.serving.specs.Partitions.{IsPartition, AreOf};
 ghost use Rattle.follow.specs.Steps.{IsOnward};
-ghost use Rattle.reshard.specs.Workflows.{IsFree, IsGround, IsSplit, placed};
+ghost use Rattle.reshard.specs.Workflows.{IsFree, IsGround, IsSplit, target_seats};
 ghost use Rattle.reshard.specs.Begun.{HasBegun, IsCreateRefusal};
 ghost use Rattle.reshard.specs.inner.Created.{IsSurvey};
 
@@ -116,7 +116,7 @@ pub(crate) fn begin<W: World, J: Naming>(
         ground.keyspace sources.now targets.now) }
     ensures split { IfOk result (λ b. IsSplit (map (λ s. s.member.which) b.sources.items) (map (λ t. (t.member.which, map (λ s. s.which) t.sources.items)) b.targets.items)) }
     ensures seated { IfOk result (λ b. map (λ t. t.member.shard.value) b.targets.items
-        ≡ placed (map (λ t. (t.member.which, map (λ s. s.which) t.sources.items)) b.targets.items)) }
+        ≡ target_seats (map (λ t. (t.member.which, map (λ s. s.which) t.sources.items)) b.targets.items)) }
     ensures next { IfOk result (λ b. IsPartition (b.rest.items ++ map (λ t. t.member.shard.value) b.targets.items)) }
     ensures at_home { IfOk result (λ b. AreOf ground.keyspace (b.rest.items ++ map (λ t. t.member.shard.value) b.targets.items)) }
     ensures free { AllByRecursion (IsFree W.opening) free.new.items }

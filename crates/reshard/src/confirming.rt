@@ -6,7 +6,7 @@ ghost use Rattle.shard_run.specs.Openings.{IsOpening};
 ghost use Rattle.shard.specs.Shards.{MayFollow};
 ghost use Rattle.follow.specs.Steps.{IsOnward};
 ghost use Rattle.reshard.specs.Steps.{has_source, IsRetired, AreRetired};
-ghost use Rattle.reshard.specs.Cutover.{IsGone, HasServed, HaveServed, IsCutOver};
+ghost use Rattle.reshard.specs.Cutover.{IsGone, HasBegunToServe, HaveServed, IsCutOver};
 
 use crate::creating::serves;
 use crate::steps::{Source, is_source_of};
@@ -125,7 +125,7 @@ fn try_served<W: World, J: Naming>(
 ) -> bool
     requires opens { IsOpening W.opening }
     requires legal { IsLegal (MayFollow W.opening) pass.old.seen }
-    ensures served { result ≡ true → HasServed pass.new.seen which.now }
+    ensures served { result ≡ true → HasBegunToServe pass.new.seen which.now }
     ensures onward { IsOnward W.opening pass.old pass.new }
 {
     let _ = state.look(pass);
@@ -146,7 +146,7 @@ fn confirm_served<W: World, J: Naming>(
 )
     requires opens { IsOpening W.opening }
     requires legal { IsLegal (MayFollow W.opening) pass.old.seen }
-    ensures served { HasServed pass.new.seen member.now.which }
+    ensures served { HasBegunToServe pass.new.seen member.now.which }
     ensures onward { IsOnward W.opening pass.old pass.new }
 {
     for _ in rt.forever() {

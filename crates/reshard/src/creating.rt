@@ -14,7 +14,8 @@ ghost use Rattle.shard.specs.Shards.{MayFollow};
 ghost use Rattle.follow.specs.Steps.{IsOnward};
 ghost use Rattle.reshard.specs.Choices.{AreNamed, AreApart, HoldTheSame};
 ghost use Rattle.reshard.specs.Steps.{TakesFrom};
-ghost use Rattle.reshard.specs.Workflows.{IsFree, IsGround, seat_of, placed};
+ghost use Rattle.shard.specs.Seats.{seat_of};
+ghost use Rattle.reshard.specs.Workflows.{IsFree, IsGround, target_seats};
 ghost use Rattle.reshard.specs.Reopened.{AreThose};
 ghost use Rattle.reshard.specs.inner.Created.{IsSight, IsAway, IsPicked, AreOverlapped, HasGrown, IsMade, IsMadeOf};
 
@@ -374,7 +375,7 @@ pub(crate) fn make_targets<W: World, J: Naming>(
     ensures targets { IfOk result (λ ts. (map (λ t. t.member.which.place.range) ts.items ≡ ranges.now)
         × AllByRecursion (IsMadeOf (map (λ s. s.member.which) sources.now) ground.keyspace) (map (λ t. (t.member.which, map (λ s. s.which) t.sources.items)) ts.items)) }
     ensures seats { IfOk result (λ ts. map (λ t. t.member.shard.value) ts.items
-        ≡ placed (map (λ t. (t.member.which, map (λ s. s.which) t.sources.items)) ts.items)) }
+        ≡ target_seats (map (λ t. (t.member.which, map (λ s. s.which) t.sources.items)) ts.items)) }
     ensures free { AllByRecursion (IsFree W.opening) free.new.items }
     ensures taken { IfOk result (λ ts. map (λ s. s.slot) free.old.items ≡ map (λ s. s.slot) free.new.items ++ reverse (map (λ t. t.member.which.slot) ts.items)) }
     ensures kept { OnErr result (map (λ s. s.slot) free.new.items ≡ map (λ s. s.slot) free.old.items) }

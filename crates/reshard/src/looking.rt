@@ -5,7 +5,7 @@ ghost use Rattle.journal.specs.Runs.{IsLegal};
 ghost use Rattle.shard_run.specs.Runs.{mode};
 ghost use Rattle.shard.specs.Shards.{MayFollow};
 ghost use Rattle.follow.specs.Steps.{IsOnward};
-ghost use Rattle.reshard.specs.Workflows.{seat_of};
+ghost use Rattle.shard.specs.Seats.{seat_of};
 ghost use Rattle.reshard.specs.Reopened.{IsFound, AreFound};
 ghost use Rattle.reshard.specs.inner.Glances.{IsGlance};
 

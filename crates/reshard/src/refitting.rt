@@ -3,8 +3,8 @@ ghost use Rattle.std.specs.Prelude.{◌≡◌, ◌++◌, ℕ, true, false, IfOk,
 ghost use Rattle.std.specs.List.{AllByRecursion};
 ghost use Rattle.keyrange.specs.Names.{IsNamed};
 ghost use Rattle.serving.specs.Partitions.{IsPartition, AreOf};
-ghost use Rattle.reshard.specs.Workflows.{seat_of};
-ghost use Rattle.reshard.specs.Reopened.{IsCourse, TakesThose, IsStopped, MayReplace, others};
+ghost use Rattle.shard.specs.Seats.{seat_of};
+ghost use Rattle.reshard.specs.Reopened.{IsCourse, TakesThose, IsWorkflowAt, MayReplace, others};
 ghost use Rattle.reshard.specs.inner.Glances.{IsTakenUp, IsRefitted};
 
 use crate::beside::{may_replace, others_of};
@@ -205,8 +205,8 @@ pub(crate) fn refit<W: World, J: Naming>(
     requires partition { IsPartition parts.now }
     requires home { AreOf keyspace parts.now }
     ensures stopped { IfOk result (λ r. MatchOption r ((frozen retired served : ℕ)
-        → IsStopped keyspace parts.now from.now into.now (map (λ f. (f.member.which, f.mode)) sources.now) (map (λ f. (f.member.which, f.mode)) targets.now) frozen retired served → ⊥)
-        (λ f. IsStopped keyspace parts.now from.now into.now (map (λ f. (f.member.which, f.mode)) sources.now) (map (λ f. (f.member.which, f.mode)) targets.now)
+        → IsWorkflowAt keyspace parts.now from.now into.now (map (λ f. (f.member.which, f.mode)) sources.now) (map (λ f. (f.member.which, f.mode)) targets.now) frozen retired served → ⊥)
+        (λ f. IsWorkflowAt keyspace parts.now from.now into.now (map (λ f. (f.member.which, f.mode)) sources.now) (map (λ f. (f.member.which, f.mode)) targets.now)
         f.course.frozen f.course.retired f.course.served)) }
     ensures sources { IfOk result (λ r. IfSome r (λ f. map (λ s. s.member.which) f.sources.items ≡ map (λ f. f.member.which) sources.now)) }
     ensures targets { IfOk result (λ r. IfSome r (λ f. map (λ t. t.member.which) f.targets.items ≡ map (λ f. f.member.which) targets.now)) }

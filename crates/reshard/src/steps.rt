@@ -7,7 +7,8 @@ ghost use Rattle.shard_run.specs.Runs.{mode, stored_on, entries_on};
 ghost use Rattle.shard_run.specs.Openings.{IsOpening};
 ghost use Rattle.shard.specs.Shards.{MayFollow};
 ghost use Rattle.follow.specs.Steps.{IsOnward, HasStepped};
-ghost use Rattle.reshard.specs.Steps.{has_source, IsUpTo, AreFollowed, AreRetired, IsTargetOf, FitTargets};
+ghost use Rattle.reshard.specs.Steps.{has_source, AreRetired, IsTargetOf, FitTargets};
+ghost use Rattle.reshard.specs.inner.Steps.{IsUpTo, AreFollowed};
 
 use follow::Member;
 use journal::{Naming, Pass};
@@ -95,6 +96,12 @@ pub fn thaw<W: World, J: Naming>(
     unreachable!()
 }
 
+fn is_frozen<W: World, J: Naming>(state: &ShardState<W, J>) -> bool
+    ensures { result ≡ true → mode W.opening state.now.seen state.now.shard.slot ≡ Mode.Frozen }
+{
+    state.mode() == Mode::Frozen
+}
+
 // Retires the shard, where it is this one, frozen, and has stored so many entries; else the targets come back.
 fn try_retire<W: World, J: Naming>(
     state: &mut ShardState<W, J>,
@@ -111,7 +118,7 @@ fn try_retire<W: World, J: Naming>(
     ensures back { IfErr result (λ t. t ≡ targets) }
 {
     let _ = state.look(pass);
-    if state.is(which) && state.mode() == Mode::Frozen {
+    if state.is(which) && is_frozen(state) {
         let now = state.stored();
         if now == stored {
             state.retire(pass, targets);

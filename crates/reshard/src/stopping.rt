@@ -2,7 +2,7 @@
 ghost use Rattle.std.specs.Prelude.{◌≡◌, map};
 ghost use Rattle.std.specs.List.{AllByRecursion};
 ghost use Rattle.shard_run.specs.Openings.{IsOpening};
-ghost use Rattle.reshard.specs.Workflows.{IsFree, IsGround, placed};
+ghost use Rattle.reshard.specs.Workflows.{IsFree, IsGround, target_seats};
 
 use crate::ground::Ground;
 use crate::steps::Source;
@@ -30,7 +30,7 @@ impl<W: World, J: Naming> Workflow<W, J> {
         ensures slots { map (λ s. s.slot) result.free.items ≡ self.free }
         ensures sources { map (λ s. s.member.which) result.sources.items ≡ self.sources }
         ensures targets { map (λ t. (t.member.which, map (λ s. s.which) t.sources.items)) result.targets.items ≡ self.targets }
-        ensures seats { map (λ t. t.member.shard.value) result.targets.items ≡ placed self.targets }
+        ensures seats { map (λ t. t.member.shard.value) result.targets.items ≡ target_seats self.targets }
     {
         let Workflow {
             ground,

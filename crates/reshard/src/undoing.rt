@@ -13,7 +13,7 @@ use std::sync::{Arc, Wait};
 
 // Whether it is the shard on this slot, and nothing has happened there.
 fn is_untouched_on<W: World, J: Naming>(state: &ShardState<W, J>, slot: usize) -> bool
-    ensures free { result ≡ true → IsFree W.opening (shards.seat_of state.now) }
+    ensures free { result ≡ true → IsFree W.opening (shards.seat_view state.now) }
     ensures slot { result ≡ true → state.now.shard.slot ≡ slot }
 {
     let shard = state.shard();

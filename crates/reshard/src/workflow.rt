@@ -54,7 +54,8 @@ impl<W: World, J: Naming> Model for Workflow<W, J> {
     ghost use Rattle.std.specs.Prelude.{map, IfSome};
     ghost use Rattle.serving.specs.Partitions.{AreOf};
     ghost use Rattle.std.specs.Vec.Iter.{into_iter_items};
-    ghost use Rattle.reshard.specs.Workflows.{WorkflowView, IsWorkflow, IsPrepared};
+    ghost use Rattle.reshard.specs.Workflows.{WorkflowView, IsWorkflow};
+    ghost use Rattle.reshard.specs.inner.Workflows.{IsPrepared};
 
     ghost Value = { WorkflowView };
 

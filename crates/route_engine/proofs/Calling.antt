@@ -19,8 +19,8 @@ use Rattle.shard.specs.Transactions.{PendingView, IsClear, IsStopped, HasReadIn,
 use Rattle.shard.specs.Transactions as tx
 use Rattle.route_engine.specs.declared.reply.ShardRead.{ShardRead}
 use Rattle.route_engine.specs.Pendings.{BoundView, bound_of}
-use Rattle.route_engine.specs.Within as w
-use Rattle.route_engine.specs.Within.{HasReadAt, IsNotReadAt, HasWrittenAt, IsNotWrittenAt, HasCommittedAt, IsNotCommittedAt}
+use Rattle.route_engine.specs.inner.Within as w
+use Rattle.route_engine.specs.inner.Within.{HasReadAt, IsNotReadAt, HasWrittenAt, IsNotWrittenAt, HasCommittedAt, IsNotCommittedAt}
 
 abbrev view_at : ℕ → ℕ → Place → BoundView
 view_at k n q = record { keyspace = k; seat = (n, q.range, q.keyspace) }

@@ -34,7 +34,7 @@ use Rattle.route_engine.specs.Transactions as t
 use Rattle.route_engine.specs.Transactions.{Transaction, Standing, GivesIn, IsRefusedIn}
 use Rattle.route_engine.specs.Pendings as stands
 use Rattle.route_engine.specs.Pendings.{BoundView, OpenView, Stands, IsOf, bound_of}
-use Rattle.route_engine.specs.Within.{GoesOnIn, IsRefusedStep, IsSeatOf, NeedsNoSeat, NeedsSeveral, NeedsOther, HasReadAt, IsNotReadAt, HasWrittenAt, IsNotWrittenAt, HasCommittedAt, IsNotCommittedAt}
+use Rattle.route_engine.specs.inner.Within.{GoesOnIn, IsRefusedStep, IsSeatOf, NeedsNoSeat, NeedsSeveral, NeedsOther, HasReadAt, IsNotReadAt, HasWrittenAt, IsNotWrittenAt, HasCommittedAt, IsNotCommittedAt}
 use Rattle.route_engine.proofs.Anywhere.{reads_nowhere, writes_nowhere, names_anywhere}
 use Rattle.route_engine.proofs.Gathers.{stays}
 use Rattle.route_engine.proofs.Stepping as s

@@ -12,7 +12,7 @@ use Rattle.shard_law.proofs.Lists.{In, In-all, In-from_filter}
 use Rattle.serving.specs.Partitions.{Seat, IsPartition, AreOf}
 use Rattle.route_engine.specs.Answers.{needed}
 use Rattle.route_engine.specs.Pendings.{BoundView}
-use Rattle.route_engine.specs.Within.{IsSeatOf, NeedsOther}
+use Rattle.route_engine.specs.inner.Within.{IsSeatOf, NeedsOther}
 
 -- ---- a part that is needed
 

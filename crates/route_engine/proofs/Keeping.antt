@@ -15,9 +15,10 @@ use Rattle.route_engine.specs.declared.reply.Reply.{Reply}
 use Rattle.route_engine.specs.Answers as a
 use Rattle.route_engine.specs.Answers.{counted, MayReadRefuse, MayWriteRefuse}
 use Rattle.route_engine.specs.Transactions as t
-use Rattle.route_engine.specs.Transactions.{Transaction, Standing, GivesIn, GivesAt, IsAnswerNow, IsAnswer, IsRefusedBy, IsRefusedNow, IsRefusedAt}
+use Rattle.route_engine.specs.Transactions.{Transaction, Standing, GivesIn, GivesAt, IsAnswerNow, IsReplyTo, IsRefusedBy, IsRefusedNow, IsRefusedAt}
 use Rattle.route_engine.specs.Pendings as stands
-use Rattle.route_engine.specs.Pendings.{OpenView, Stands, IsOf, Leads}
+use Rattle.route_engine.specs.Pendings.{OpenView, Stands, IsOf}
+use Rattle.route_engine.specs.inner.Pendings.{Leads}
 use Rattle.route_engine.proofs.Anywhere.{stands_met}
 use Rattle.route_engine.proofs.Sessions.{looked_session, gone_session, gives_session}
 use Rattle.route_engine.proofs.Stepping.{refused_session}
@@ -81,7 +82,7 @@ module _ (o : Opening) (l : Limits) (p q now : PassView Entry) (text : List ℕ)
 
   pub all_answered : (r : Result Reply Refusal) → IfOk r (Answered q)
       → IfOk r (λ reply. (tr : Option Transaction) → Stands o p v tr → (u : Option Transaction)
-      × IsAnswer o l (record { pass = p; tx = tr }) text reply (record { pass = now; tx = u }) × Stands o now w u)
+      × IsReplyTo o l (record { pass = p; tx = tr }) text reply (record { pass = now; tx = u }) × Stands o now w u)
   all_answered (Ok reply) leads = λ tr st. (subst (λ (x : PassView Entry). Answered x reply) count leads).from tr (stands_counted tr st)
   all_answered (Err e) leads = tt
 

@@ -26,8 +26,9 @@ use Rattle.route_engine.specs.Answers.{Gives, HasRead, HasWritten, MayReadRefuse
 use Rattle.route_engine.specs.Transactions as t
 use Rattle.route_engine.specs.Transactions.{Transaction, Standing, GivesAt, IsRefusedBy, IsAnswerNow, IsRefusedNow}
 use Rattle.route_engine.specs.Pendings as stands
-use Rattle.route_engine.specs.Pendings.{BoundView, OpenView, Stands, Leads}
-use Rattle.route_engine.specs.Within.{ends, closes, left_by, kept_by, stays_open, GoesOnIn, IsRefusedStep}
+use Rattle.route_engine.specs.Pendings.{BoundView, OpenView, Stands}
+use Rattle.route_engine.specs.inner.Pendings.{Leads}
+use Rattle.route_engine.specs.inner.Within.{ends, closes, left_by, kept_by, stays_open, GoesOnIn, IsRefusedStep}
 use Rattle.route_engine.proofs.Stepping.{stands_left}
 
 module _ (o : Opening) (limits : Limits) (p now : PassView Entry) where

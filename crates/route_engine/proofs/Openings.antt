@@ -17,7 +17,7 @@ use Rattle.keyrange.specs.declared.KeyRange.{KeyRange}
 use Rattle.keyrange.specs.Names.{IsNamed}
 use Rattle.keyrange.specs.Ranges.{Cover}
 use Rattle.serving.specs.Partitions.{IsPartition, AreOf, ranges}
-use Rattle.route_engine.specs.Seats.{seat_of}
+use Rattle.shard.specs.Seats.{seat_of}
 use Rattle.route_engine.proofs.Everywhere.{ranges_named}
 use Rattle.shard.specs.Shards.{opening_shards}
 

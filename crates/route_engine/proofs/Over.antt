@@ -37,12 +37,15 @@ use Rattle.shard.specs.Commits as commits
 use Rattle.shard.proofs.Legality.{legal_is}
 use Rattle.route_engine.specs.declared.reply.Answer.TheVariants.{Rows, Count}
 use Rattle.route_engine.specs.declared.reply.Reply.{Reply}
-use Rattle.route_engine.specs.Mix.{Part, IsBetween, mixed_rows}
+use Rattle.route_engine.specs.Mix.{Part, LiesBetween, mixed_rows}
 use Rattle.route_engine.specs.Answers as a
+use Rattle.route_engine.specs.inner.Answers as i
 use Rattle.serving.specs.Partitions.{Seat, IsPartition}
-use Rattle.route_engine.specs.Answers.{counted, HasGone, IsSelected, Gives, IsReply, IsRefused, IsRefusal, MayReadRefuse, MayWriteRefuse, NeedsAlone, needed_by}
+use Rattle.route_engine.specs.Answers.{counted, HasGone, IsSelected, Gives, MayReadRefuse, MayWriteRefuse, NeedsAlone, needed_by}
+use Rattle.route_engine.specs.inner.Answers.{IsReply, IsRefused, IsRefusal}
 use Rattle.route_engine.specs.Alone as over
-use Rattle.route_engine.specs.Alone.{NoOthers, NoCommits, GivesOver, AnswersOver, IsRefusedOver}
+use Rattle.route_engine.specs.Alone.{NoOthers, NoCommits, GivesOver, IsRefusedOver}
+use Rattle.route_engine.specs.inner.Alone.{AnswersOver}
 use Rattle.route_engine.proofs.Everywhere.{same_moment}
 use Rattle.sql_eval.proofs.SameAnswers.{same_answers}
 use Rattle.route_engine.proofs.NoOthers.{one_still, still_self, still_trans, still_between, gone_unchanged, gone_same, looked_unchanged, committed_at, up_to, behind}
@@ -90,12 +93,12 @@ not_written_on o l p w _ now (a.refused {since = since} s needed gone looked why
     record { later = prefix_trans p.seen since.seen now.seen gone.1.later looked.later; legal = λ h. looked.legal }
 
 refused_on : (o : Opening) (l : Limits) (p : PassView Entry) (text : List ℕ) (e : Refusal) (now : PassView Entry) → IsRefused o l p text e now → GoesOn o p now
-refused_on o l p text _ now (a.no_memory gone) = gone_on o p now gone
-refused_on o l p text _ _ (a.no_tree none) = stays o p
-refused_on o l p text _ _ (a.not_typed tree reads typed) = stays o p
-refused_on o l p text _ _ (a.not_run tree t reads is none) = stays o p
-refused_on o l p text e now (a.not_read tree q reads is why) = gone_on o p now (not_read_on o p q e now why)
-refused_on o l p text e now (a.not_written tree w reads is why) = not_written_on o l p w e now why
+refused_on o l p text _ now (i.no_memory gone) = gone_on o p now gone
+refused_on o l p text _ _ (i.no_tree none) = stays o p
+refused_on o l p text _ _ (i.not_typed tree reads typed) = stays o p
+refused_on o l p text _ _ (i.not_run tree t reads is none) = stays o p
+refused_on o l p text e now (i.not_read tree q reads is why) = gone_on o p now (not_read_on o p q e now why)
+refused_on o l p text e now (i.not_written tree w reads is why) = not_written_on o l p w e now why
 
 pub reply_on : (o : Opening) (l : Limits) (p now : PassView Entry) (text : List ℕ) (reply : Reply) → IsReply o l (counted p) text reply now → GoesOn o p now
 reply_on o l p now text reply is =
@@ -103,8 +106,8 @@ reply_on o l p now text reply is =
     record { later = on.later; legal = on.legal }
 
 pub refusal_on : (o : Opening) (l : Limits) (p : PassView Entry) (text : List ℕ) (e : Refusal) (now : PassView Entry) → IsRefusal o l p text e now → GoesOn o p now
-refusal_on o l p text _ _ (a.used_up many) = stays o p
-refusal_on o l p text e now (a.numbered why) =
+refusal_on o l p text _ _ (i.used_up many) = stays o p
+refusal_on o l p text e now (i.numbered why) =
     let on = refused_on o l (counted p) text e now why in
     record { later = on.later; legal = on.legal }
 
@@ -141,10 +144,10 @@ count_is schema w db after exact count is changed =
     ap number_of e
 
 module _ (o : Opening) (opens : IsOpening o) (formed : is_vschema o.schema ≡ true) (l : Limits) (p now : PassView Entry) (alone : NoOthers p now) where
-  same_runs : (parts : List Part) → AllByRecursion (IsBetween p.seen now.seen) parts → NoCommits p.seen now.seen
+  same_runs : (parts : List Part) → AllByRecursion (LiesBetween p.seen now.seen) parts → NoCommits p.seen now.seen
       → AllByRecursion (λ part. one o part.run ≡ one o p.seen) parts
   same_runs parts all same =
-      all-weaker (IsBetween p.seen now.seen) (λ part. one o part.run ≡ one o p.seen)
+      all-weaker (LiesBetween p.seen now.seen) (λ part. one o part.run ≡ one o p.seen)
       (λ part h. one_still o p.seen part.run (still_between p.seen part.run now.seen h.0 h.1 same)) parts all
 
   -- a query
@@ -250,20 +253,20 @@ module _ (o : Opening) (opens : IsOpening o) (formed : is_vschema o.schema ≡ t
       record { why = commit_refused p now tree w s e reads is needed looked.legal why (one_still o p.seen now.seen left); same = left }
 
   refused_over : (p : PassView Entry) (e : Refusal) (now : PassView Entry) → IsRefused o l p text e now → NoOthers p now → Refuses p e now
-  refused_over p _ now (a.no_memory gone) h = record { why = over.no_memory; same = gone_same p now h o gone }
-  refused_over p _ _ (a.no_tree none) h = record { why = over.no_tree none; same = still_self p.seen }
-  refused_over p _ _ (a.not_typed tree reads typed) h = record { why = over.not_typed tree reads typed; same = still_self p.seen }
-  refused_over p _ _ (a.not_run tree t reads is none) h = record { why = over.not_run tree t reads is none; same = still_self p.seen }
-  refused_over p _ now (a.not_read tree q reads is (a.no_memory gone)) h = record { why = over.no_memory; same = gone_same p now h o gone }
-  refused_over p _ now (a.not_read tree q reads is (a.buffer_full gone held)) h = record { why = over.waits; same = gone_same p now h o gone }
-  refused_over p _ now (a.not_written tree w reads is (a.no_memory gone)) h = record { why = over.no_memory; same = gone_same p now h o gone }
-  refused_over p _ now (a.not_written tree w reads is (a.several seats partition more gone)) h = record { why = over.several; same = gone_same p now h o gone }
-  refused_over p _ now (a.not_written tree w reads is (a.buffer_full gone held)) h = record { why = over.waits; same = gone_same p now h o gone }
-  refused_over p e now (a.not_written tree w reads is (a.refused {since = since} s needed gone looked why)) h =
+  refused_over p _ now (i.no_memory gone) h = record { why = over.no_memory; same = gone_same p now h o gone }
+  refused_over p _ _ (i.no_tree none) h = record { why = over.no_tree none; same = still_self p.seen }
+  refused_over p _ _ (i.not_typed tree reads typed) h = record { why = over.not_typed tree reads typed; same = still_self p.seen }
+  refused_over p _ _ (i.not_run tree t reads is none) h = record { why = over.not_run tree t reads is none; same = still_self p.seen }
+  refused_over p _ now (i.not_read tree q reads is (a.no_memory gone)) h = record { why = over.no_memory; same = gone_same p now h o gone }
+  refused_over p _ now (i.not_read tree q reads is (a.buffer_full gone held)) h = record { why = over.waits; same = gone_same p now h o gone }
+  refused_over p _ now (i.not_written tree w reads is (a.no_memory gone)) h = record { why = over.no_memory; same = gone_same p now h o gone }
+  refused_over p _ now (i.not_written tree w reads is (a.several seats partition more gone)) h = record { why = over.several; same = gone_same p now h o gone }
+  refused_over p _ now (i.not_written tree w reads is (a.buffer_full gone held)) h = record { why = over.waits; same = gone_same p now h o gone }
+  refused_over p e now (i.not_written tree w reads is (a.refused {since = since} s needed gone looked why)) h =
       refused_later p now h tree w s e since reads is needed gone looked why
 
   pub refusal_over : (p : PassView Entry) (e : Refusal) (now : PassView Entry) → IsRefusal o l p text e now → NoOthers p now → Refuses p e now
-  refusal_over p _ _ (a.used_up many) h = record { why = over.full; same = still_self p.seen }
-  refusal_over p e now (a.numbered why) h =
+  refusal_over p _ _ (i.used_up many) h = record { why = over.full; same = still_self p.seen }
+  refusal_over p e now (i.numbered why) h =
       let r = refused_over (counted p) e now why (counted_alone p now h) in
       record { why = r.why; same = r.same }

@@ -22,7 +22,7 @@ use Rattle.shard.specs.Transactions.{PendingView, IsStopped, IsReadRefusal, IsWr
 use Rattle.route_engine.specs.Answers.{NeedsAlone, HasGone}
 use Rattle.route_engine.specs.Transactions as t
 use Rattle.route_engine.specs.Transactions.{Transaction, Standing, IsFor, IsRefusedIn, used}
-use Rattle.route_engine.specs.Within.{left_by}
+use Rattle.route_engine.specs.inner.Within.{left_by}
 use Rattle.route_engine.proofs.Anywhere.{duplicate_in}
 use Rattle.route_engine.proofs.Causes.{cause}
 use Rattle.route_engine.proofs.Going as g

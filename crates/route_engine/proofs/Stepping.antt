@@ -40,14 +40,14 @@ use Rattle.route_engine.specs.declared.reply.Answer.{Answer}
 use Rattle.route_engine.specs.declared.reply.Answer.TheVariants.{Rows, Count}
 use Rattle.route_engine.specs.declared.reply.Reply.{Reply}
 use Rattle.route_engine.specs.declared.reply.ShardRead.{ShardRead}
-use Rattle.route_engine.specs.Seats.{seat_of}
+use Rattle.shard.specs.Seats.{seat_of}
 use Rattle.route_engine.specs.Answers.{HasGone, NeedsAlone}
 use Rattle.route_engine.specs.Transactions as t
-use Rattle.route_engine.specs.Transactions.{Step, Transaction, Standing, GiveOver, AreOver, GivesIn, IsRefusedIn, ReadsAlone, if_any, used, with_step, seats_for, keyspace_of}
+use Rattle.route_engine.specs.Transactions.{Step, Transaction, Standing, GiveOver, AreOver, GivesIn, IsRefusedIn, ReadsAlone, if_any, used, with_step, seats_for, statement_keyspace}
 use Rattle.route_engine.specs.Pendings as stands
 use Rattle.route_engine.specs.Pendings.{BoundView, OpenView, IsBound, IsTouchOf, HasTouched, IsAnywhere, Stands, bound_of}
-use Rattle.route_engine.specs.Within as w
-use Rattle.route_engine.specs.Within.{left_by, ends, IsSeatOf, NeedsNoSeat, NeedsSeveral, NeedsOther, HasReadAt, IsNotReadAt, HasWrittenAt, IsNotWrittenAt, HasCommittedAt, IsNotCommittedAt}
+use Rattle.route_engine.specs.inner.Within as w
+use Rattle.route_engine.specs.inner.Within.{left_by, ends, IsSeatOf, NeedsNoSeat, NeedsSeveral, NeedsOther, HasReadAt, IsNotReadAt, HasWrittenAt, IsNotWrittenAt, HasCommittedAt, IsNotCommittedAt}
 use Rattle.route_engine.proofs.Anywhere.{stands_met}
 use Rattle.route_engine.proofs.Gathers.{stays}
 use Rattle.route_engine.proofs.Going as g
@@ -237,7 +237,7 @@ module _ (o : Opening) (opens : IsOpening o) (formed : is_vschema o.schema ≡ t
 
   -- a statement that needs another shard than the transaction's
   pub other_shard : (v : OpenView) (tr : Transaction) → Stands o p (Some v) (Some tr) → (b : BoundView) → v.bound ≡ Some b → (typed : Typed)
-      (k : ℕ) → keyspace_of o typed ≡ Some k → (seats : List Seat) → IsPartition seats
+      (k : ℕ) → statement_keyspace o typed ≡ Some k → (seats : List Seat) → IsPartition seats
       → (2 ≤ length (seats_for o typed seats)) ⊎ ((seat : Seat) × (seats_for o typed seats ≡ seat ∷ []) × (b ≡ record { keyspace = k; seat = seat } → ⊥))
       → IsRefusedIn o limits p tr typed SeveralShards (record { pass = p; tx = Some tr })
   other_shard v tr st b at typed k of seats partition (inl more) = t.several seats partition more

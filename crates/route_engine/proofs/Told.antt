@@ -33,7 +33,7 @@ use Rattle.shard.proofs.Inside.{change_same}
 use Rattle.shard.proofs.Legality.{legal_is, part_held}
 use Rattle.shard.proofs.Pendings.{may_nothing, may_next, legal_then, stands_then, held_then, one_then, serves_then}
 use Rattle.route_engine.specs.declared.reply.Answer.TheVariants.{Rows, Count}
-use Rattle.route_engine.specs.Seats.{seat_of}
+use Rattle.shard.specs.Seats.{seat_of}
 use Rattle.route_engine.specs.Answers.{NeedsAlone}
 use Rattle.route_engine.specs.Alone as over
 use Rattle.route_engine.specs.Alone.{GivesOver}

@@ -38,7 +38,7 @@ use Rattle.shard.specs.Commits as c
 use Rattle.shard.specs.Commits.{IsPlaced, HasAnswered, IsCommitRefusal}
 use Rattle.route_engine.specs.Answers as a
 use Rattle.route_engine.specs.Answers.{needed, needed_by, NeedsAlone, HasGone, HasWritten, IsHeldUp, MayWriteRefuse, is_writable}
-use Rattle.route_engine.specs.Scatter.{IsTried, written, again, tried}
+use Rattle.route_engine.specs.inner.Scatter.{IsTried, written, again, tried}
 use Rattle.shard_law.proofs.Fitting.{fits-from_typed}
 use Rattle.route_engine.proofs.Everywhere.{everywhere}
 use Rattle.route_engine.proofs.Gathers.{stays}

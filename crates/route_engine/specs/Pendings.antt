@@ -23,7 +23,7 @@ use Rattle.shard.specs.Shards.{MayFollow, commit_of}
 use Rattle.shard.specs.Transactions.{PendingView, nothing_done, is_touched, IsPending}
 use Rattle.route_engine.specs.declared.reply.Selected.{Selected}
 use Rattle.route_engine.specs.declared.reply.Answer.TheVariants.{Rows, Count}
-use Rattle.route_engine.specs.Seats.{seat_of}
+use Rattle.shard.specs.Seats.{seat_of}
 use Rattle.route_engine.specs.Answers.{NeedsAlone}
 use Rattle.route_engine.specs.Alone.{GivesOver}
 use Rattle.route_engine.specs.Transactions.{Step, Transaction, ReadsAlone, NeedsNone, table_of, used}
@@ -110,9 +110,3 @@ pub data Stands (o : Opening) (p : PassView Entry) : Option OpenView → Option 
 -- it stands for some transaction of the pass
 abbrev pub IsOf : Opening → Option OpenView → PassView Entry → Type 0
 IsOf o v p = (t : Option Transaction) × Stands o p v t
-
--- From whatever transaction the program keeps by the first, as the one pass has it, a step leads to one that it keeps by the second, as the other
--- pass has it.
-pub record Leads (o : Opening) (p : PassView Entry) (v : Option OpenView) (now : PassView Entry) (w : Option OpenView)
-    (step : Option Transaction → Option Transaction → Type 0) : Type 0 where
-  pub from : (t : Option Transaction) → Stands o p v t → (u : Option Transaction) × step t u × Stands o now w u

@@ -34,7 +34,7 @@ use Rattle.route_engine.specs.declared.reply.Answer.{Answer}
 use Rattle.route_engine.specs.declared.reply.Answer.TheVariants.{Count}
 use Rattle.route_engine.specs.declared.reply.ShardRead.{ShardRead}
 use Rattle.route_engine.specs.declared.reply.Reply.{Reply}
-use Rattle.route_engine.specs.Seats.{seat_of}
+use Rattle.shard.specs.Seats.{seat_of}
 use Rattle.route_engine.specs.Answers.{counted, needed, needed_by, NeedsAlone, HasGone, Gives, MayReadRefuse, MayWriteRefuse}
 use Rattle.route_engine.specs.Alone.{GivesOver}
 
@@ -84,10 +84,10 @@ pub record ReadsAlone (o : Opening) (q : Query) (s : Shard) : Type 0 where
   pub only : needed_for o q seats ≡ seat_of s ∷ []
 
 -- the keyspace of a query or a write
-abbrev pub keyspace_of : Opening → Typed → Option ℕ
-keyspace_of o (typed.Select q) = Some (table_at o.schema q.table).keyspace
-keyspace_of o (typed.Write w) = Some (table_at o.schema (written_table w)).keyspace
-keyspace_of o _ = None
+abbrev pub statement_keyspace : Opening → Typed → Option ℕ
+statement_keyspace o (typed.Select q) = Some (table_at o.schema q.table).keyspace
+statement_keyspace o (typed.Write w) = Some (table_at o.schema (written_table w)).keyspace
+statement_keyspace o _ = None
 
 -- the seats of a partition that a statement needs
 abbrev pub seats_for : Opening → Typed → List Seat → List Seat
@@ -220,8 +220,8 @@ abbrev pub numbered : Standing → Standing
 numbered p = record p { pass = counted p.pass }
 
 -- the same of a text, under the session's next number
-abbrev pub IsAnswer : Opening → Limits → Standing → List ℕ → Reply → Standing → Type 0
-IsAnswer o limits p text reply now = IsAnswerNow o limits (numbered p) text reply now
+abbrev pub IsReplyTo : Opening → Limits → Standing → List ℕ → Reply → Standing → Type 0
+IsReplyTo o limits p text reply now = IsAnswerNow o limits (numbered p) text reply now
 
 -- ---- why it is refused
 
@@ -238,7 +238,7 @@ pub data IsRefusedIn (o : Opening) (limits : Limits) (p : PassView Entry) (t : T
   several : {typed : Typed} (seats : List Seat) → IsPartition seats → 2 ≤ length (seats_for o typed seats)
       → IsRefusedIn o limits p t typed SeveralShards (record { pass = p; tx = Some t })
   another : {typed : Typed} (seats : List Seat) (seat : Seat) (u : Shard) → IsPartition seats → seats_for o typed seats ≡ seat ∷ []
-      → Contains (used t.steps) u → (keyspace_of o typed ≡ Some u.place.keyspace → seat ≡ seat_of u → ⊥)
+      → Contains (used t.steps) u → (statement_keyspace o typed ≡ Some u.place.keyspace → seat ≡ seat_of u → ⊥)
       → IsRefusedIn o limits p t typed SeveralShards (record { pass = p; tx = Some t })
   duplicate : {w : Write} {now : PassView Entry} (s : Shard) (after : Database) → NeedsAlone o w s → HasLooked o s.slot p now
       → GiveOver o.schema (one o now.seen) t.steps after → changes_of o.schema w after ≡ Err DuplicateKey

@@ -14,7 +14,7 @@ ghost use Rattle.serving.specs.Partitions.{AreOf};
 ghost use Rattle.shard.specs.Shards.{MayFollow, commit_of};
 ghost use Rattle.shard.specs.Transactions.{IsPendingOf};
 ghost use Rattle.route_engine.specs.Pendings.{IsOf, bound_of};
-ghost use Rattle.route_engine.specs.Within.{ends, closes, stays_open, kept_by, NeedsNoSeat, IsSeatOf, NeedsOther, NeedsSeveral, HasReadAt, IsNotReadAt, HasWrittenAt, IsNotWrittenAt, HasCommittedAt, IsNotCommittedAt, GoesOnIn, IsRefusedStep};
+ghost use Rattle.route_engine.specs.inner.Within.{ends, closes, stays_open, kept_by, NeedsNoSeat, IsSeatOf, NeedsOther, NeedsSeveral, HasReadAt, IsNotReadAt, HasWrittenAt, IsNotWrittenAt, HasCommittedAt, IsNotCommittedAt, GoesOnIn, IsRefusedStep};
 
 use crate::engine::{Engine, counted};
 use crate::gate::Gate;
@@ -22,14 +22,23 @@ use crate::parts::only_needed;
 use crate::reply::{Answer, Reply, Selected, ShardRead};
 use crate::tx::Bound;
 use journal::{Naming, Pass};
-use planner::{Route, copy_items, route_of, write_route};
+use planner::{Route, route_of, write_route};
 use serving::Partition;
 use shard::{Pending, Reading, Shard, ShardLaw, World, written_table};
 use sql_eval::select_local;
+use sql_tree::Item;
 use std::alloc::Global;
 use std::sync::Wait;
 use vschema::{Query, Table, Typed, VSchema, Write};
 use vt_value::{Items, Refusal, Row};
+
+// What the query shows.
+fn items_of(query: Query) -> Items<Item<usize>>
+    ensures { result ≡ query.items }
+{
+    let Query { items, .. } = query;
+    items
+}
 
 /// Whether a refusal ends an open transaction.
 pub(crate) fn ends(refusal: Refusal) -> bool
@@ -348,29 +357,27 @@ impl<W: World + Send + Sync, J: Naming + Send + Sync, G: Gate> Engine<W, J, G> {
         pass: &mut Pass<ShardLaw<W>, J>,
         bound: &mut Option<Bound<W, J>>,
         pending: &mut Pending,
-        query: &Query,
+        query: Query,
     ) -> Result<Reply, Refusal>
-        requires there { query.now.table < length W.opening.schema.tables }
+        requires there { query.table < length W.opening.schema.tables }
         requires session { IsSome pass.old.session }
         requires opens { IsOpening W.opening }
         requires formed { is_vschema W.opening.schema ≡ true }
         requires legal { IsLegal (MayFollow W.opening) pass.old.seen }
         requires above { (n : ℕ) → pass.old.session ≡ Some n → NumbersBelow commit_of n pass.old.statements pass.old.seen }
         requires tx { IsOf W.opening (Some (record { bound = bound.old; pending = pending.old })) pass.old }
-        ensures ok { IfOk result (λ reply. GoesOnIn W.opening W.limits pass.old (record { bound = bound.old; pending = pending.old }) (Typed.Select query.now)
+        ensures ok { IfOk result (λ reply. GoesOnIn W.opening W.limits pass.old (record { bound = bound.old; pending = pending.old }) (Typed.Select query)
             reply pass.new (Some (record { bound = bound.new; pending = pending.new }))) }
-        ensures err { IfErr result (λ e. IsRefusedStep W.opening W.limits pass.old (record { bound = bound.old; pending = pending.old }) (Typed.Select query.now) e pass.new) }
+        ensures err { IfErr result (λ e. IsRefusedStep W.opening W.limits pass.old (record { bound = bound.old; pending = pending.old }) (Typed.Select query) e pass.new) }
         ensures bound { OnErr result (bound.new ≡ bound.old) }
         ensures pending { OnErr result (pending.new ≡ pending.old) }
     {
-        let items = copy_items(alloc, query.items.as_slice())?;
-        match self.rows_in(rt, alloc, pass, bound, pending, query) {
+        let given = self.rows_in(rt, alloc, pass, bound, pending, &query);
+        let table = query.table;
+        let items = items_of(query);
+        match given {
             Ok((rows, reads)) => Ok(Reply {
-                answer: Answer::Rows(Selected {
-                    table: query.table,
-                    items,
-                    rows,
-                }),
+                answer: Answer::Rows(Selected { table, items, rows }),
                 reads,
             }),
             Err(refusal) => {
@@ -528,11 +535,7 @@ impl<W: World + Send + Sync, J: Naming + Send + Sync, G: Gate> Engine<W, J, G> {
         ensures pending { OnErr result (pending.new ≡ pending.old) }
     {
         match statement {
-            Typed::Select(query) => {
-                let given = self.select_in(rt, alloc, pass, bound, pending, &query);
-                drop(query);
-                given
-            }
+            Typed::Select(query) => self.select_in(rt, alloc, pass, bound, pending, query),
             Typed::Write(write) => self.write_in(rt, alloc, pass, bound, pending, write),
             Typed::SetNames => Ok(counted(alloc, 0)),
             Typed::Begin => Err(Refusal::NotSupported),

@@ -35,7 +35,7 @@ use Rattle.session.specs.Outcomes.{PassAndTransaction, IsKept, Means, status_wit
 use Rattle.session.specs.Outcomes as means
 use Rattle.session.specs.Alone.{Alone, OneState, Told, MeansOver, MeansAlone, IsOverAt, alone_terms}
 use Rattle.session.specs.Alone as over
-use Rattle.session.specs.Talk.{Answers, Replies, Conversation, Talk, set_end_of}
+use Rattle.session.specs.Talk.{AnswersPayload, Replies, Conversation, Talk, set_end_of}
 use Rattle.session.specs.Talk as t
 use Rattle.session.proofs.Servings.{SoFar}
 use Rattle.session.proofs.Steps.{Follows, stays, answer_on, refusal_at_on}
@@ -64,7 +64,7 @@ module _ (o : Opening) (l : Limits) (hello : Hello) where
   means_on s text _ now (means.untold reply is rows) = answer_on o l text s now reply is
   means_on s text _ now (means.refused {r} why) = refusal_at_on o l text s now r why
 
-  answers_on : (at : Phase) (s now : PassAndTransaction) (p : Payload) (out : List ℕ) (b : Standing) → Answers (terms_of o hello) May at s p out b now
+  answers_on : (at : Phase) (s now : PassAndTransaction) (p : Payload) (out : List ℕ) (b : Standing) → AnswersPayload (terms_of o hello) May at s p out b now
       → Follows o s.pass now.pass
   answers_on _ s _ _ _ _ (t.out_of_order first) = stays o l s.pass
   answers_on _ s _ _ _ _ (t.logs_in is) = stays o l s.pass
@@ -144,7 +144,7 @@ module _ (o : Opening) (l : Limits) (hello : Hello) where
         (subst (λ (y : PassAndTransaction). NoOthers y.pass now.pass) (sym e) others))
 
     abbrev Answers_over : Phase → Alone o → Payload → List ℕ → Standing → Alone o → Type 0
-    Answers_over = Answers (alone_terms o hello) (MeansAlone o l)
+    Answers_over = AnswersPayload (alone_terms o hello) (MeansAlone o l)
 
     pong : (x : Alone o) (s : PassAndTransaction) → x.kept ≡ s → (bits : ℕ) (p : Payload)
         → Answers_over (Commands bits) x p (frame (reply_number p) (ok_payload 0 (status_with x.state.open_one))) (At (Commands bits)) x
@@ -156,7 +156,7 @@ module _ (o : Opening) (l : Limits) (hello : Hello) where
     )
 
     answers_alone : (x : Alone o) (at : Phase) (s now : PassAndTransaction) (p : Payload) (out : List ℕ) (b : Standing) → x.kept ≡ s
-        → Answers (terms_of o hello) May at s p out b now → IsLegal (MayFollow o) s.pass.seen → NoOthers s.pass now.pass
+        → AnswersPayload (terms_of o hello) May at s p out b now → IsLegal (MayFollow o) s.pass.seen → NoOthers s.pass now.pass
         → Over_it now (λ y. Answers_over at x p out b y)
     answers_alone x _ s _ _ _ _ e (t.out_of_order first) legal others = (x, e, t.out_of_order first)
     answers_alone x at s _ p _ _ e (t.logs_in {out} {standing} is) legal others = (

@@ -26,12 +26,13 @@ use Rattle.shard.specs.declared.touch.Touch.{Touch}
 use Rattle.shard.specs.Shards.{MayFollow}
 use Rattle.route_engine.specs.declared.reply.Answer.{Answer}
 use Rattle.route_engine.specs.declared.reply.Reply.{Reply}
-use Rattle.route_engine.specs.Answers as a
-use Rattle.route_engine.specs.Answers.{counted, IsRefused}
+use Rattle.route_engine.specs.inner.Answers as a
+use Rattle.route_engine.specs.Answers.{counted}
+use Rattle.route_engine.specs.inner.Answers.{IsRefused}
 use Rattle.route_engine.specs.Alone as over
 use Rattle.route_engine.specs.Alone.{NoOthers, NoCommits, GivesOver, IsRefusedOver}
 use Rattle.route_engine.specs.Transactions as x
-use Rattle.route_engine.specs.Transactions.{Step, Transaction, Standing, GiveOver, AreOver, used, if_any, writes_in, write_on, with_step, IsCommitted, GivesIn, GivesAt, IsAnswer, IsRefusedIn, IsRefusedBy, IsRefusedNow, IsRefusedAt}
+use Rattle.route_engine.specs.Transactions.{Step, Transaction, Standing, GiveOver, AreOver, used, if_any, writes_in, write_on, with_step, IsCommitted, GivesIn, GivesAt, IsReplyTo, IsRefusedIn, IsRefusedBy, IsRefusedNow, IsRefusedAt}
 use Rattle.route_engine.specs.Pendings as stands
 use Rattle.route_engine.specs.Pendings.{OpenView, Stands, IsAnywhere, AreTold}
 use Rattle.route_engine.proofs.NoOthers.{one_still, still_self, unchanged, gone_same, looked_unchanged}
@@ -208,7 +209,7 @@ module _ (o : Opening) (opens : IsOpening o) (formed : is_vschema o.schema ≡ t
       (gives_in (counted p) tx q v kept typed_all t reply now q' w legal (others_counted p now.pass others) after gives)
 
   pub answer_among : (st now : Standing) (reply : Reply) (q q' : PassView Entry) (v w : Option OpenView) → IsLegal (MayFollow o) st.pass.seen → NoOthers st.pass now.pass
-      → Stands o q v st.tx → Stands o q' w now.tx → AreTyped o st.tx → IsAnswer o l st text reply now → Answered st.pass st.tx reply now
+      → Stands o q v st.tx → Stands o q' w now.tx → AreTyped o st.tx → IsReplyTo o l st text reply now → Answered st.pass st.tx reply now
   answer_among st now reply q q' v w legal others kept after typed_all is =
       gives_at st.pass st.tx is.typed reply now is.statement q q' v w is.reads is.resolved legal others kept after typed_all is.gives
 

@@ -10,31 +10,31 @@ use Rattle.mysql_packet.specs.declared.framer.Payload.{Payload}
 use Rattle.mysql_packet.specs.declared.framer.Fault.{Fault}
 use Rattle.mysql_packet.specs.declared.framer.Fed.{Fed}
 use Rattle.mysql_packet.specs.Framing.{Framing, HasFramed}
-use Rattle.mysql_packet.specs.Frames.{Splits, IsRefusedAfter}
+use Rattle.mysql_packet.specs.Frames.{Splits, IsRefusedAfter, frame}
 use Rattle.resultset.specs.declared.Outcome.{Outcome}
 use Rattle.session.specs.declared.end.End.{End}
 use Rattle.session.specs.declared.end.SessionFault.{SessionFault}
 use Rattle.session.specs.declared.end.End.TheVariants.{Quit, Closed, Truncated, Broken, Denied}
 use Rattle.session.specs.declared.standing.Phase.{Phase}
 use Rattle.session.specs.declared.standing.Phase.TheVariants.{Response}
-use Rattle.mysql_packet.specs.Frames.{frame}
 use Rattle.mysql_handshake.specs.Handshakes.{greeting_payload}
 use Rattle.session.specs.declared.standing.Standing.{Standing}
 use Rattle.session.specs.declared.standing.Standing.TheVariants.{New, At, Ended}
 use Rattle.session.specs.Devices.{AppendsFront}
-use Rattle.session.specs.Faults.{IsFrontOf, IsCutOff, Holds, HasBrokenOff, IsUnfinished}
+use Rattle.session.specs.Faults.{IsFrontOf, IsCutOff, HoldsPayloads, HasBrokenOff, IsUnfinished}
 use Rattle.session.specs.Faults as f
 use Rattle.mysql_handshake.specs.Native.{is_right}
 use Rattle.vschema.specs.declared.schema.Keyspace.{Keyspace}
 use Rattle.session.specs.declared.hello.Hello.{Hello}
 use Rattle.session.specs.declared.standing.Login.{Login}
-use Rattle.session.specs.Standings.{end_of, HasBegun}
+use Rattle.session.specs.Standings.{end_of, HasGreeted}
 use Rattle.session.specs.Logins.{Admits, LogsIn, login_of}
 use Rattle.session.specs.Logins as l
 use Rattle.session.specs.Packets.{refusal_bytes, reply_number}
-use Rattle.session.specs.Talk.{Terms, Greets, Answers, Replies, Conversation, Talk, IsByCommand, IsByInput}
+use Rattle.session.specs.Talk.{Terms, Greets, AnswersPayload, Replies, Conversation, Talk, IsByCommand, IsByInput}
 use Rattle.session.specs.Talk as t
-use Rattle.session.specs.Sessions.{SessionState, HasTalked, HasTalkedOn, AnswersFed, FedBy}
+use Rattle.session.specs.Sessions.{SessionState, HasTalked, HasTalkedOn, AnswersFed}
+use Rattle.session.specs.inner.Sessions.{FedBy}
 use Rattle.session.specs.Sessions as s
 use Rattle.session.proofs.RepliesLemmas.{go_on, talk_on, not_new, one_reply, stay_ended}
 
@@ -84,19 +84,19 @@ module _ {S : Type 0} (terms : Terms S) (May : S → List ℕ → Outcome → S 
     front : take i ps ++ p ∷ [] ≡ take (i + 1) ps
     front = ap (λ (x : Payload). take i ps ++ x ∷ []) is ∙ sym (take_more ps i p lt)
 
-    both : (out : List ℕ) (s mid now : S) → Replies terms May begin s (take i ps) before.0 (At phase) mid → Answers terms May phase mid p out standing now
+    both : (out : List ℕ) (s mid now : S) → Replies terms May begin s (take i ps) before.0 (At phase) mid → AnswersPayload terms May phase mid p out standing now
         → Replies terms May begin s (take (i + 1) ps) (before.0 ++ out) standing now
     both out s mid now so answers =
         subst (λ (qs : List Payload). Replies terms May begin s qs (before.0 ++ out) standing now) front
         (go_on terms May begin phase s mid now (take i ps) (p ∷ []) before.0 out (At phase) standing refl so (one_reply terms May phase mid now p out standing answers))
 
-    with_next : (out : List ℕ) → Lead Mid Now (λ s now. Answers terms May phase s p out standing now)
+    with_next : (out : List ℕ) → Lead Mid Now (λ s now. AnswersPayload terms May phase s p out standing now)
         → Lead Old Now (λ s now. Replies terms May begin s (take (i + 1) ps) (before.0 ++ out) standing now)
     with_next out leads =
-        lead_on Old Mid Now (λ s now. Replies terms May begin s (take i ps) before.0 (At phase) now) (λ s now. Answers terms May phase s p out standing now)
+        lead_on Old Mid Now (λ s now. Replies terms May begin s (take i ps) before.0 (At phase) now) (λ s now. AnswersPayload terms May phase s p out standing now)
         (λ s now. Replies terms May begin s (take (i + 1) ps) (before.0 ++ out) standing now) (both out) before.2 leads
 
-    pub next_reply : Written b c (λ out. Lead Mid Now (λ s now. Answers terms May phase s p out standing now))
+    pub next_reply : Written b c (λ out. Lead Mid Now (λ s now. AnswersPayload terms May phase s p out standing now))
         → Written a c (λ out. Lead Old Now (λ s now. Replies terms May begin s (take (i + 1) ps) out standing now))
     next_reply q = (before.0 ++ q.0, Appends-trans a b c before.0 q.0 before.1 q.1, with_next q.0 q.2)
 
@@ -107,7 +107,7 @@ module _ {S : Type 0} (terms : Terms S) (May : S → List ℕ → Outcome → S 
   -- the sink failed at the reply to one payload
   pub cut_reply : (Old Mid Now : S → Type 0) (a b c : Known) (i : ℕ) (ps : List Payload) (p : Payload) (phase : Phase) → i < length ps → p ≡ get_or ps i p
       → Written a b (λ out. Lead Old Mid (λ s now. Replies terms May begin s (take i ps) out (At phase) now))
-      → (out : List ℕ) × (standing : Standing) × AppendsFront b c out × Lead Mid Now (λ s now. Answers terms May phase s p out standing now) → Front Old Now a c ps
+      → (out : List ℕ) × (standing : Standing) × AppendsFront b c out × Lead Mid Now (λ s now. AnswersPayload terms May phase s p out standing now) → Front Old Now a c ps
   cut_reply Old Mid Now a b c i ps p phase lt is before cut = (
     take (i + 1) ps,
     before.0 ++ cut.0,
@@ -310,7 +310,7 @@ module _ {S : Type 0} (terms : Terms S) (May : S → List ℕ → Outcome → S 
 
   -- ---- the sink failed
 
-  held : Holds old.framing.limit (stream ++ piece) (record { payloads = payloads; fault = fed.fault })
+  held : HoldsPayloads old.framing.limit (stream ++ piece) (record { payloads = payloads; fault = fed.fault })
   held = record {
     whole =
         λ no_fault. (
@@ -353,7 +353,7 @@ module _ {S : Type 0} (terms : Terms S) (May : S → List ℕ → Outcome → S 
 
 -- the end of the input, between two payloads or within one
 pub whole_end : {S : Type 0} (terms : Terms S) (May : S → List ℕ → Outcome → S → Type 0) (begin at : Standing) (s now : S) (limit : ℕ) (bytes out : List ℕ) (payloads : List Payload) (rest : List ℕ) (end : End)
-    → HasBegun at → end_of at ≡ None → Splits limit bytes payloads rest → Conversation terms May begin s payloads out at now → (rest ≡ [] → end ≡ Closed) → ((rest ≡ [] → ⊥) → end ≡ Truncated)
+    → HasGreeted at → end_of at ≡ None → Splits limit bytes payloads rest → Conversation terms May begin s payloads out at now → (rest ≡ [] → end ≡ Closed) → ((rest ≡ [] → ⊥) → end ≡ Truncated)
     → Talk limit terms May begin s bytes out end now
 whole_end {S} terms May begin New s now limit bytes out payloads rest end has goes splits replies closed truncated = absurd has
 whole_end {S} terms May begin (Ended e) s now limit bytes out payloads rest end has goes splits replies closed truncated = absurd cc
@@ -396,7 +396,7 @@ logs_in_ends hello keyspaces status _ p _ _ (l.answers {out} {standing} {login} 
     admits_ends status (reply_number p) login (is_right hello.access.stage2 hello.salt p.bytes) out standing a
 
 answers_end : {S : Type 0} (terms : Terms S) (May : S → List ℕ → Outcome → S → Type 0) (at : Phase) (s now : S) (p : Payload) (out : List ℕ) (b : Standing)
-    → Answers terms May at s p out b now → IfSome (end_of b) IsByCommand
+    → AnswersPayload terms May at s p out b now → IfSome (end_of b) IsByCommand
 answers_end terms May _ _ _ _ _ _ (t.out_of_order first) = tt
 answers_end terms May at s _ p _ _ (t.logs_in {out} {standing} l) = logs_in_ends terms.hello terms.keyspaces (terms.status s) at p out standing l
 answers_end terms May _ _ _ _ _ _ (t.quits first command) = tt

@@ -19,7 +19,7 @@ use Rattle.session.specs.declared.standing.Standing.TheVariants.{At, Ended}
 use Rattle.session.specs.Logins.{Admits, LogsIn, has_keyspace, is_known, is_other_plugin, login_of}
 use Rattle.session.specs.Logins as l
 use Rattle.session.specs.Packets.{reply_number}
-use Rattle.session.specs.Talk.{Terms, Answers}
+use Rattle.session.specs.Talk.{Terms, AnswersPayload}
 use Rattle.session.specs.Talk as t
 
 pub known_empty : (keyspaces : List Keyspace) (name : List ℕ) → name ≡ [] → is_known keyspaces (Some name) ≡ true
@@ -72,7 +72,7 @@ module _ (hello : Hello) (keyspaces : List Keyspace) (status : ℕ) (p : Payload
 
 -- what is written for a payload of the connection phase
 pub one_login : {S : Type 0} (terms : Terms S) (May : S → List ℕ → Outcome → S → Type 0) (at then : Phase) (keyspaces : List Keyspace) (s : S) (p : Payload) (out : List ℕ) (standing : Standing)
-    → at ≡ then → keyspaces ≡ terms.keyspaces → LogsIn terms.hello keyspaces (terms.status s) then p out standing → Answers terms May at s p out standing s
+    → at ≡ then → keyspaces ≡ terms.keyspaces → LogsIn terms.hello keyspaces (terms.status s) then p out standing → AnswersPayload terms May at s p out standing s
 one_login {S} terms May at then keyspaces s p out standing is served logs =
-    subst (λ (x : Phase). Answers terms May x s p out standing s) (sym is)
+    subst (λ (x : Phase). AnswersPayload terms May x s p out standing s) (sym is)
     (t.logs_in (subst (λ (ks : List Keyspace). LogsIn terms.hello ks (terms.status s) then p out standing) served logs))

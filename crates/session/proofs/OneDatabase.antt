@@ -32,12 +32,13 @@ use Rattle.shard.specs.Shards.{MayFollow, commit_of}
 use Rattle.shard.proofs.Legality.{legal_is}
 use Rattle.route_engine.specs.declared.reply.Answer.{Answer}
 use Rattle.route_engine.specs.declared.reply.Reply.{Reply}
-use Rattle.route_engine.specs.Answers as a
-use Rattle.route_engine.specs.Answers.{counted, IsReply, IsRefused}
+use Rattle.route_engine.specs.inner.Answers as a
+use Rattle.route_engine.specs.Answers.{counted}
+use Rattle.route_engine.specs.inner.Answers.{IsReply, IsRefused}
 use Rattle.route_engine.specs.Alone as over
 use Rattle.route_engine.specs.Alone.{NoOthers, NoCommits, GivesOver, IsRefusedOver}
 use Rattle.route_engine.specs.Transactions as x
-use Rattle.route_engine.specs.Transactions.{Step, Transaction, Standing, GiveOver, AreOver, NeedsNone, used, if_any, writes_in, write_on, with_step, IsCommitted, GivesIn, GivesAt, IsAnswer, IsConflict, IsRefusedIn, IsRefusedBy, IsRefusedNow, IsRefusedAt}
+use Rattle.route_engine.specs.Transactions.{Step, Transaction, Standing, GiveOver, AreOver, NeedsNone, used, if_any, writes_in, write_on, with_step, IsCommitted, GivesIn, GivesAt, IsReplyTo, IsConflict, IsRefusedIn, IsRefusedBy, IsRefusedNow, IsRefusedAt}
 use Rattle.route_engine.proofs.NoOthers.{one_still, still_self, still_trans, unchanged, gone_same, looked_unchanged, all_front, all_back}
 use Rattle.route_engine.proofs.Over.{reply_over, refusal_over}
 use Rattle.route_engine.proofs.Sessions.{is_typed}
@@ -320,7 +321,7 @@ module _ (o : Opening) (opens : IsOpening o) (formed : is_vschema o.schema ≡ t
       (gives_in_over (counted p) tx told t reply now tree is legal (others_counted p now.pass others) h gives)
 
   pub answer_over : (s now : Standing) (told : Option (List Told)) (reply : Reply) → IsLegal (MayFollow o) s.pass.seen → NoOthers s.pass now.pass
-      → IsOverAt o s.pass.seen s.tx told → IsAnswer o l s text reply now → Told_next s.pass told reply now
+      → IsOverAt o s.pass.seen s.tx told → IsReplyTo o l s text reply now → Told_next s.pass told reply now
   answer_over s now told reply legal others h is =
       gives_at_over s.pass s.tx told is.typed reply now is.statement is.reads is.resolved legal others h is.gives
 

@@ -19,7 +19,7 @@ use Rattle.route_engine.specs.declared.reply.Answer.{Answer}
 use Rattle.route_engine.specs.declared.reply.Answer.TheVariants as answer
 use Rattle.journal.specs.Views.{PassView}
 use Rattle.shard_run.specs.declared.Entry.{Entry}
-use Rattle.route_engine.specs.Transactions.{Transaction, IsAnswer}
+use Rattle.route_engine.specs.Transactions.{Transaction, IsReplyTo}
 use Rattle.route_engine.specs.Pendings.{OpenView, Stands}
 use Rattle.route_engine.specs.Pendings as stands
 use Rattle.vschema.specs.declared.schema.VSchema.{VSchema}
@@ -30,7 +30,8 @@ use Rattle.session.specs.declared.standing.Phase.TheVariants.{Commands}
 use Rattle.session.specs.declared.standing.Standing.{Standing}
 use Rattle.session.specs.declared.standing.Standing.TheVariants.{New, At, Ended}
 use Rattle.session.specs.Standings.{first_number}
-use Rattle.session.specs.Outcomes.{PassAndTransaction, IsKept, Leads, Means, Shows, HasRows, IsRows, status_with, terms_of}
+use Rattle.session.specs.Outcomes.{PassAndTransaction, IsKept, Means, Shows, HasRows, status_with, terms_of}
+use Rattle.session.specs.inner.Outcomes.{LeadsKept, IsRows}
 use Rattle.session.specs.Outcomes as q
 use Rattle.session.specs.Packets.{refusal_bytes, reply_number}
 use Rattle.std.specs.Io.KnownBytes.{Appends}
@@ -41,7 +42,7 @@ use Rattle.session.specs.Logins.{Admits, LogsIn, has_keyspace, login_of}
 use Rattle.session.specs.Logins as l
 use Rattle.session.specs.declared.hello.Hello.{Hello}
 use Rattle.session.proofs.LoginLemmas.{one_login}
-use Rattle.session.specs.Talk.{Terms, Answers, Replies, Conversation, set_end_of}
+use Rattle.session.specs.Talk.{Terms, AnswersPayload, Replies, Conversation, set_end_of}
 use Rattle.session.specs.Talk as t
 
 admits_goes : (status number : ℕ) (login : Login) (right : Bool) (out : List ℕ) (b : Standing) → Admits status number login right out b → b ≡ New → ⊥
@@ -61,39 +62,39 @@ logs_in_goes hello keyspaces status _ p _ _ (l.answers {out} {standing} {login} 
 module _ {S : Type 0} (terms : Terms S) (May : S → List ℕ → Outcome → S → Type 0) where
   module _ (bits : ℕ) where
     pub one_ping : (s : S) (p : Payload) (out : List ℕ) → p.first ≡ 0 → command_of p.bytes ≡ Some ping
-        → out ≡ frame (reply_number p) (ok_payload 0 (terms.status s)) → Answers terms May (Commands bits) s p out (At (Commands bits)) s
-    one_ping s p out first is e = subst (λ (bs : List ℕ). Answers terms May (Commands bits) s p bs (At (Commands bits)) s) (sym e) (t.pinged (eq-eqb p.first 0 first) is)
+        → out ≡ frame (reply_number p) (ok_payload 0 (terms.status s)) → AnswersPayload terms May (Commands bits) s p out (At (Commands bits)) s
+    one_ping s p out first is e = subst (λ (bs : List ℕ). AnswersPayload terms May (Commands bits) s p bs (At (Commands bits)) s) (sym e) (t.pinged (eq-eqb p.first 0 first) is)
 
     pub one_unknown : (s : S) (p : Payload) (out : List ℕ) → p.first ≡ 0 → command_of p.bytes ≡ None
-        → out ≡ frame (reply_number p) (err_payload UnknownCommand) → Answers terms May (Commands bits) s p out (At (Commands bits)) s
-    one_unknown s p out first is e = subst (λ (bs : List ℕ). Answers terms May (Commands bits) s p bs (At (Commands bits)) s) (sym e) (t.unknown (eq-eqb p.first 0 first) is)
+        → out ≡ frame (reply_number p) (err_payload UnknownCommand) → AnswersPayload terms May (Commands bits) s p out (At (Commands bits)) s
+    one_unknown s p out first is e = subst (λ (bs : List ℕ). AnswersPayload terms May (Commands bits) s p bs (At (Commands bits)) s) (sym e) (t.unknown (eq-eqb p.first 0 first) is)
 
     pub one_selected : (s : S) (p : Payload) (out name : List ℕ) → p.first ≡ 0 → command_of p.bytes ≡ Some (init_db name)
         → (has_keyspace terms.keyspaces name ≡ true → out ≡ frame (reply_number p) (ok_payload 0 (terms.status s)))
         → (has_keyspace terms.keyspaces name ≡ false → out ≡ frame (reply_number p) (err_payload UnknownKeyspace))
-        → Answers terms May (Commands bits) s p out (At (Commands bits)) s
+        → AnswersPayload terms May (Commands bits) s p out (At (Commands bits)) s
     one_selected s p out name first is known unknown = by_name (has_keyspace terms.keyspaces name) refl
       where
-        by_name : (b : Bool) → has_keyspace terms.keyspaces name ≡ b → Answers terms May (Commands bits) s p out (At (Commands bits)) s
-        by_name true e = subst (λ (bs : List ℕ). Answers terms May (Commands bits) s p bs (At (Commands bits)) s) (sym (known e)) (t.selected name (eq-eqb p.first 0 first) is e)
+        by_name : (b : Bool) → has_keyspace terms.keyspaces name ≡ b → AnswersPayload terms May (Commands bits) s p out (At (Commands bits)) s
+        by_name true e = subst (λ (bs : List ℕ). AnswersPayload terms May (Commands bits) s p bs (At (Commands bits)) s) (sym (known e)) (t.selected name (eq-eqb p.first 0 first) is e)
         by_name false e =
-            subst (λ (bs : List ℕ). Answers terms May (Commands bits) s p bs (At (Commands bits)) s) (sym (unknown e)) (t.unknown_keyspace name (eq-eqb p.first 0 first) is e)
+            subst (λ (bs : List ℕ). AnswersPayload terms May (Commands bits) s p bs (At (Commands bits)) s) (sym (unknown e)) (t.unknown_keyspace name (eq-eqb p.first 0 first) is e)
 
     pub one_query : (s now : S) (p : Payload) (out text : List ℕ) (outcome : Outcome) → p.first ≡ 0 → command_of p.bytes ≡ Some (query text)
-        → May s text outcome now → out ≡ encoded (set_end_of bits) outcome (reply_number p) (terms.status now) → Answers terms May (Commands bits) s p out (At (Commands bits)) now
+        → May s text outcome now → out ≡ encoded (set_end_of bits) outcome (reply_number p) (terms.status now) → AnswersPayload terms May (Commands bits) s p out (At (Commands bits)) now
     one_query s now p out text outcome first is may e =
-        subst (λ (bs : List ℕ). Answers terms May (Commands bits) s p bs (At (Commands bits)) now) (sym e) (t.queried text outcome (eq-eqb p.first 0 first) is may)
+        subst (λ (bs : List ℕ). AnswersPayload terms May (Commands bits) s p bs (At (Commands bits)) now) (sym e) (t.queried text outcome (eq-eqb p.first 0 first) is may)
 
     pub one_quit : (s : S) (p : Payload) (out : List ℕ) → p.first ≡ 0 → command_of p.bytes ≡ Some quit → out ≡ []
-        → Answers terms May (Commands bits) s p out (Ended Quit) s
-    one_quit s p out first is e = subst (λ (bs : List ℕ). Answers terms May (Commands bits) s p bs (Ended Quit) s) (sym e) (t.quits (eq-eqb p.first 0 first) is)
+        → AnswersPayload terms May (Commands bits) s p out (Ended Quit) s
+    one_quit s p out first is e = subst (λ (bs : List ℕ). AnswersPayload terms May (Commands bits) s p bs (Ended Quit) s) (sym e) (t.quits (eq-eqb p.first 0 first) is)
 
   pub one_out_of_order : (at : Phase) (s : S) (p : Payload) (out : List ℕ) → p.first == first_number at ≡ false → out ≡ refusal_bytes p.first PacketsOutOfOrder
-      → Answers terms May at s p out (Ended Broken) s
-  one_out_of_order at s p out first e = subst (λ (bs : List ℕ). Answers terms May at s p bs (Ended Broken) s) (sym e) (t.out_of_order first)
+      → AnswersPayload terms May at s p out (Ended Broken) s
+  one_out_of_order at s p out first e = subst (λ (bs : List ℕ). AnswersPayload terms May at s p bs (Ended Broken) s) (sym e) (t.out_of_order first)
 
   -- what is written leads to no new session
-  answers_go : (at : Phase) (s now : S) (p : Payload) (out : List ℕ) (b : Standing) → Answers terms May at s p out b now → b ≡ New → ⊥
+  answers_go : (at : Phase) (s now : S) (p : Payload) (out : List ℕ) (b : Standing) → AnswersPayload terms May at s p out b now → b ≡ New → ⊥
   answers_go _ _ _ _ _ _ (t.out_of_order first) is = cc
   answers_go at s _ p _ _ (t.logs_in {out} {standing} logs) is = logs_in_goes terms.hello terms.keyspaces (terms.status s) at p out standing logs is
   answers_go _ _ _ _ _ _ (t.quits first command) is = cc
@@ -104,11 +105,11 @@ module _ {S : Type 0} (terms : Terms S) (May : S → List ℕ → Outcome → S 
   answers_go _ _ _ _ _ _ (t.queried text outcome first command may) is = cc
 
   pub never_new : (at : Phase) (s now : S) (p : Payload) (b : Standing) (a c : Option (List ℕ)) → b ≡ New
-      → (out : List ℕ) × Appends a c out × Answers terms May at s p out b now → ⊥
+      → (out : List ℕ) × Appends a c out × AnswersPayload terms May at s p out b now → ⊥
   never_new at s now p b a c is said = answers_go at s now p said.0 b said.2 is
 
   -- what is written for one payload
-  pub one_reply : (at : Phase) (s now : S) (p : Payload) (out : List ℕ) (standing : Standing) → Answers terms May at s p out standing now
+  pub one_reply : (at : Phase) (s now : S) (p : Payload) (out : List ℕ) (standing : Standing) → AnswersPayload terms May at s p out standing now
       → Replies terms May at s (p ∷ []) out standing now
   one_reply at s now p out (At next) a =
       subst (λ (bs : List ℕ). Replies terms May at s (p ∷ []) bs (At next) now) (append-nil out) (t.goes a t.none)
@@ -179,7 +180,7 @@ kept_status o p kept s is = status_is o p kept s.tx is.1
 pub gives : (o : Opening) (p q : PassView Entry) (kept then : Option OpenView) (R : PassAndTransaction → PassAndTransaction → Type 0)
     → ((t : Option Transaction) → Stands o p kept t
     → (u : Option Transaction) × R (record { pass = p; tx = t }) (record { pass = q; tx = u }) × Stands o q then u)
-    → Leads o p kept q then R
+    → LeadsKept o p kept q then R
 gives o p q kept then R said = λ s is.
     let next = said s.tx is.1 in
     let whole : record { pass = p; tx = s.tx } ≡ s = ap (λ (x : PassView Entry). record s { pass = x }) (sym is.0) in (
@@ -191,10 +192,10 @@ gives o p q kept then R said = λ s is.
 -- a query's outcome, told under the status that is kept then
 pub one_query_or_refusal : (o : Opening) (l : Limits) (hello : Hello) (bits : ℕ) (p q : PassView Entry) (kept then : Option OpenView) (payload : Payload)
     (out text : List ℕ) (outcome : Outcome) → payload.first ≡ 0 → command_of payload.bytes ≡ Some (query text)
-    → Leads o p kept q then (λ s now. Means o l s text outcome now)
+    → LeadsKept o p kept q then (λ s now. Means o l s text outcome now)
     → (out ≡ encoded (set_end_of bits) outcome (reply_number payload) (status_with then))
     ⊎ (IsRows outcome × (out ≡ encoded (set_end_of bits) (Refused OutOfMemory) (reply_number payload) (status_with then)))
-    → Leads o p kept q then (λ s now. Answers (terms_of o hello) (Means o l) (Commands bits) s payload out (At (Commands bits)) now)
+    → LeadsKept o p kept q then (λ s now. AnswersPayload (terms_of o hello) (Means o l) (Commands bits) s payload out (At (Commands bits)) now)
 one_query_or_refusal o l hello bits p q kept then payload out text outcome first is may told = λ s held.
     let next = may s held in
     let now = next.0 in
@@ -204,7 +205,7 @@ one_query_or_refusal o l hello bits p q kept then payload out text outcome first
     by : (s now : PassAndTransaction) → status_with then ≡ status_with now.tx → Means o l s text outcome now
         → (out ≡ encoded (set_end_of bits) outcome (reply_number payload) (status_with then))
         ⊎ (IsRows outcome × (out ≡ encoded (set_end_of bits) (Refused OutOfMemory) (reply_number payload) (status_with then)))
-        → Answers (terms_of o hello) (Means o l) (Commands bits) s payload out (At (Commands bits)) now
+        → AnswersPayload (terms_of o hello) (Means o l) (Commands bits) s payload out (At (Commands bits)) now
     by s now same means (inl e) =
         one_query (terms_of o hello) (Means o l) bits s now payload out text outcome first is means
         (e ∙ ap (λ (n : ℕ). encoded (set_end_of bits) outcome (reply_number payload) n) same)
@@ -221,7 +222,7 @@ shows schema selected set columns rows =
 
 -- a reply as its client is told it
 pub replied : (o : Opening) (l : Limits) (s now : PassAndTransaction) (text : List ℕ) (reply : Reply) (outcome : Outcome) (schema : VSchema) → schema ≡ o.schema
-    → Shows schema reply.answer outcome ⊎ (HasRows reply.answer × (outcome ≡ Refused OutOfMemory)) → IsAnswer o l s text reply now → Means o l s text outcome now
+    → Shows schema reply.answer outcome ⊎ (HasRows reply.answer × (outcome ≡ Refused OutOfMemory)) → IsReplyTo o l s text reply now → Means o l s text outcome now
 replied o l s now text reply outcome schema served (inl shows) is =
     q.answered reply is (subst (λ (v : VSchema). Shows v reply.answer outcome) served shows)
 replied o l s now text reply outcome schema served (inr (rows, full)) is =
@@ -231,7 +232,7 @@ replied o l s now text reply outcome schema served (inr (rows, full)) is =
 pub login_kept : (o : Opening) (l : Limits) (hello : Hello) (keyspaces : List Keyspace) (p : PassView Entry) (kept : Option OpenView) (at then : Phase) (payload : Payload)
     (status : ℕ) (out : List ℕ) (standing : Standing) → at ≡ then → keyspaces ≡ o.schema.keyspaces → status ≡ status_with kept
     → LogsIn hello keyspaces status then payload out standing
-    → Leads o p kept p kept (λ s now. Answers (terms_of o hello) (Means o l) at s payload out standing now)
+    → LeadsKept o p kept p kept (λ s now. AnswersPayload (terms_of o hello) (Means o l) at s payload out standing now)
 login_kept o l hello keyspaces p kept at then payload status out standing is known told logs = λ s held.
     let status_now : status ≡ status_with s.tx = told ∙ kept_status o p kept s held in (
       s,

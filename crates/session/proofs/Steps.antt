@@ -15,10 +15,11 @@ use Rattle.shard_run.specs.Runs.{Opening}
 use Rattle.shard.specs.declared.limits.Limits.{Limits}
 use Rattle.shard.specs.Shards.{MayFollow, HasLooked}
 use Rattle.route_engine.specs.declared.reply.Reply.{Reply}
-use Rattle.route_engine.specs.Answers as a
-use Rattle.route_engine.specs.Answers.{counted, HasGone, Gives, IsReply, IsRefused}
+use Rattle.route_engine.specs.inner.Answers as a
+use Rattle.route_engine.specs.Answers.{counted, HasGone, Gives}
+use Rattle.route_engine.specs.inner.Answers.{IsReply, IsRefused}
 use Rattle.route_engine.specs.Transactions as x
-use Rattle.route_engine.specs.Transactions.{Step, Transaction, Standing, IsCommitted, GivesIn, GivesAt, IsAnswer, IsRefusedIn, IsRefusedBy, IsRefusedNow, IsRefusedAt}
+use Rattle.route_engine.specs.Transactions.{Step, Transaction, Standing, IsCommitted, GivesIn, GivesAt, IsReplyTo, IsRefusedIn, IsRefusedBy, IsRefusedNow, IsRefusedAt}
 use Rattle.route_engine.proofs.Over.{reply_on, refusal_on}
 use Rattle.route_engine.proofs.Sessions.{same_session}
 
@@ -81,7 +82,7 @@ module _ (o : Opening) (l : Limits) where
     gives_at_on p _ _ _ _ tree reads is x.rolls_back = numbered p (counted p) (stays (counted p))
     gives_at_on p _ _ _ _ tree reads is (x.within {tx} {t} {reply} {now} gives) = numbered p now.pass (gives_in_on (counted p) tx t reply now gives)
 
-    pub answer_on : (s now : Standing) (reply : Reply) → IsAnswer o l s text reply now → Follows o s.pass now.pass
+    pub answer_on : (s now : Standing) (reply : Reply) → IsReplyTo o l s text reply now → Follows o s.pass now.pass
     answer_on s now reply is = gives_at_on s.pass s.tx is.typed reply now is.statement is.reads is.resolved is.gives
 
     refused_in_on : (p : PassView Entry) (tx : Transaction) (t : Typed) (e : Refusal) (now : Standing) → IsRefusedIn o l p tx t e now → Follows o p now.pass

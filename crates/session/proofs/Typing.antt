@@ -14,7 +14,7 @@ use Rattle.shard.specs.declared.limits.Limits.{Limits}
 use Rattle.route_engine.specs.declared.reply.Answer.{Answer}
 use Rattle.route_engine.specs.declared.reply.Reply.{Reply}
 use Rattle.route_engine.specs.Transactions as x
-use Rattle.route_engine.specs.Transactions.{Transaction, Standing, with_step, GivesIn, GivesAt, IsAnswer, IsRefusedIn, IsRefusedBy, IsRefusedNow, IsRefusedAt}
+use Rattle.route_engine.specs.Transactions.{Transaction, Standing, with_step, GivesIn, GivesAt, IsReplyTo, IsRefusedIn, IsRefusedBy, IsRefusedNow, IsRefusedAt}
 use Rattle.route_engine.proofs.Sessions.{is_typed}
 use Rattle.session.specs.inner.TypedSteps.{IsTypedStep, AreTyped}
 
@@ -68,5 +68,5 @@ module _ (o : Opening) (l : Limits) where
   refused_at st _ text _ all (x.used_up many) = tt
   refused_at st now text e all (x.refused why) = refused_now (x.numbered st) now text e all why
 
-  pub answered_at : (st now : Standing) (text : List ℕ) (reply : Reply) → AreTyped o st.tx → IsAnswer o l st text reply now → AreTyped o now.tx
+  pub answered_at : (st now : Standing) (text : List ℕ) (reply : Reply) → AreTyped o st.tx → IsReplyTo o l st text reply now → AreTyped o now.tx
   answered_at st now text reply all is = gives_at (x.numbered st).pass st.tx is.typed reply now is.statement is.resolved all is.gives

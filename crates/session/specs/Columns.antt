@@ -15,10 +15,10 @@ use Rattle.resultset.specs.declared.Kind.{Kind}
 use Rattle.resultset.specs.declared.Kind.TheVariants.{BigInt, BigIntUnsigned, VarBinary, Count, Sum}
 use Rattle.resultset.specs.declared.Column as R
 
-abbrev pub kind_of : ColumnType → Kind
-kind_of type.BigInt = BigInt
-kind_of type.BigIntUnsigned = BigIntUnsigned
-kind_of (type.VarBinary most) = VarBinary most
+abbrev pub shown_kind : ColumnType → Kind
+shown_kind type.BigInt = BigInt
+shown_kind type.BigIntUnsigned = BigIntUnsigned
+shown_kind (type.VarBinary most) = VarBinary most
 
 -- BINARY_FLAG, and UNSIGNED_FLAG
 abbrev pub base_flags : ColumnType → ℕ
@@ -45,7 +45,7 @@ pub record Defines (schema : VSchema) (t : Table) (place : ℕ) (column : C.Colu
   pub table_name : defined.table ≡ t.name
   pub name : defined.name ≡ column.name
   pub org_name : defined.org_name ≡ column.name
-  pub kind : defined.kind ≡ kind_of column.kind
+  pub kind : defined.kind ≡ shown_kind column.kind
   pub flags : defined.flags ≡ flags_of t place column
 
 abbrev pub column_at : Table → ℕ → C.Column
@@ -65,12 +65,12 @@ named_item t (item.Max n) = item.Max (column_at t n).name
 
 -- a count is counted, a sum is summed, and the least and the greatest are of their column's type
 abbrev pub item_kind : Table → Item ℕ → Kind
-item_kind t (item.Column n) = kind_of (column_at t n).kind
+item_kind t (item.Column n) = shown_kind (column_at t n).kind
 item_kind t item.CountRows = Count
 item_kind t (item.Count n) = Count
 item_kind t (item.Sum n) = Sum
-item_kind t (item.Min n) = kind_of (column_at t n).kind
-item_kind t (item.Max n) = kind_of (column_at t n).kind
+item_kind t (item.Min n) = shown_kind (column_at t n).kind
+item_kind t (item.Max n) = shown_kind (column_at t n).kind
 
 -- a count is never NULL
 abbrev pub item_flags : Table → Item ℕ → ℕ

@@ -27,7 +27,7 @@ pub record IsCutOff {S : Type 0} (terms : Terms S) (May : S → List ℕ → Out
   pub taken : IsPrefix written told
 
 -- the payloads that the bytes hold, and the header behind them that is refused, if one is
-pub record Holds (limit : ℕ) (bytes : List ℕ) (fed : Fed) : Type 0 where
+pub record HoldsPayloads (limit : ℕ) (bytes : List ℕ) (fed : Fed) : Type 0 where
   pub whole : fed.fault ≡ None → (rest : List ℕ) × Splits limit bytes fed.payloads rest
   pub refused : (fault : Fault) → fed.fault ≡ Some fault → IsRefusedAfter limit bytes fed.payloads fault
 
@@ -35,7 +35,7 @@ pub record Holds (limit : ℕ) (bytes : List ℕ) (fed : Fed) : Type 0 where
 -- front of the replies.
 pub record HasBrokenOff (limit : ℕ) {S : Type 0} (terms : Terms S) (May : S → List ℕ → Outcome → S → Type 0) (begin : Standing) (first : S) (bytes written : List ℕ) (now : S) : Type 0 where
   pub fed : Fed
-  pub holds : Holds limit bytes fed
+  pub holds : HoldsPayloads limit bytes fed
   pub cut : IsCutOff terms May begin first fed written now
 
 -- A conversation that goes on: of the bytes so far each whole payload has its replies, and nothing else was written.

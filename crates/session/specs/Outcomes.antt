@@ -14,7 +14,7 @@ use Rattle.route_engine.specs.declared.reply.Answer.{Answer}
 use Rattle.route_engine.specs.declared.reply.Answer.TheVariants as a
 use Rattle.route_engine.specs.declared.reply.Reply.{Reply}
 use Rattle.route_engine.specs.Transactions as transactions
-use Rattle.route_engine.specs.Transactions.{IsAnswer, IsRefusedAt}
+use Rattle.route_engine.specs.Transactions.{IsReplyTo, IsRefusedAt}
 use Rattle.route_engine.specs.Pendings.{OpenView, Stands}
 use Rattle.shard.specs.declared.limits.Limits.{Limits}
 use Rattle.mysql_message.specs.Messages.{autocommit}
@@ -34,11 +34,6 @@ none_open p = record { pass = p; tx = None }
 abbrev pub IsKept : Opening → PassView Entry → Option OpenView → PassAndTransaction → Type 0
 IsKept o p kept s = (s.pass ≡ p) × Stands o p kept s.tx
 
--- From whatever pass and transaction were kept, this leads to some that are kept then.
-abbrev pub Leads : Opening → PassView Entry → Option OpenView → PassView Entry → Option OpenView
-    → (PassAndTransaction → PassAndTransaction → Type 0) → Type 0
-Leads o p kept q kept_then R = (s : PassAndTransaction) → IsKept o p kept s → (now : PassAndTransaction) × IsKept o q kept_then now × R s now
-
 -- how an answer is told: rows under the definitions of the columns that they show, or a count
 pub data Shows (schema : VSchema) : Answer → Outcome → Type 0 where
   rows : {columns : List Column} {selected : Selected} → AreColumns schema selected.table selected.items columns
@@ -49,17 +44,12 @@ abbrev pub HasRows : Answer → Type 0
 HasRows (a.Rows selected) = Unit {0}
 HasRows (a.Count n) = ⊥
 
-abbrev pub IsRows : Outcome → Type 0
-IsRows (Rows set) = Unit {0}
-IsRows (Count n) = ⊥
-IsRows (Refused r) = ⊥
-
 -- What the text of a statement may give its client: an answer that it may have, or a refusal for its cause; and how it leaves the pass and the
 -- transaction. Where there is no memory to tell the rows of an answer, that is told in their place: it leaves them as the answer does.
 pub data Means (o : Opening) (limits : Limits) (s : PassAndTransaction) (text : List ℕ) : Outcome → PassAndTransaction → Type 0 where
-  answered : {outcome : Outcome} {now : PassAndTransaction} (reply : Reply) → IsAnswer o limits s text reply now → Shows o.schema reply.answer outcome
+  answered : {outcome : Outcome} {now : PassAndTransaction} (reply : Reply) → IsReplyTo o limits s text reply now → Shows o.schema reply.answer outcome
       → Means o limits s text outcome now
-  untold : {now : PassAndTransaction} (reply : Reply) → IsAnswer o limits s text reply now → HasRows reply.answer
+  untold : {now : PassAndTransaction} (reply : Reply) → IsReplyTo o limits s text reply now → HasRows reply.answer
       → Means o limits s text (Refused OutOfMemory) now
   refused : {r : Refusal} {now : PassAndTransaction} → IsRefusedAt o limits s text r now → Means o limits s text (Refused r) now
 

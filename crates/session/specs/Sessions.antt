@@ -3,7 +3,6 @@ use Rattle.std.specs.Prelude.{◌≡◌, ℕ, List, ◌++◌, Option, Some, None
 use Rattle.mysql_packet.specs.declared.framer.Payload.{Payload}
 use Rattle.mysql_packet.specs.declared.framer.Fault.{Fault}
 use Rattle.mysql_packet.specs.declared.framer.Fed.{Fed}
-use Rattle.mysql_packet.specs.Frames.{IsRefusedAfter}
 use Rattle.mysql_packet.specs.Framing.{Framing, HasFramed}
 use Rattle.resultset.specs.declared.Outcome.{Outcome}
 use Rattle.route_engine.specs.Pendings.{OpenView}
@@ -47,13 +46,6 @@ HasTalkedOn terms May begin s first bytes out None now = HasTalked terms May beg
 HasTalkedOn terms May begin s first bytes out (Some end) now = Talk s.framing.limit terms May begin first bytes out end now
 
 -- the state after a piece: its framer has the same limit, and the connection is the same
-pub record IsNext (old new : SessionState) : Type 0 where
+pub record IsStateAfter (old new : SessionState) : Type 0 where
   pub hello : new.hello ≡ old.hello
   pub limit : new.framing.limit ≡ old.framing.limit
-
--- What its framer says of a piece: these payloads and the fault behind them, however the stream was cut before.
-pub record FedBy (old new : Framing) (piece : List ℕ) (fed : Fed) : Type 0 where
-  pub payloads : fed.fault ≡ None → (stream : List ℕ) (before : List Payload) → HasFramed old stream before → HasFramed new (stream ++ piece) (before ++ fed.payloads)
-  pub fault : (f : Fault) → fed.fault ≡ Some f → (stream : List ℕ) (before : List Payload) → HasFramed old stream before
-      → IsRefusedAfter old.limit (stream ++ piece) (before ++ fed.payloads) f
-  pub limit : new.limit ≡ old.limit

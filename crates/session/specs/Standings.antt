@@ -18,7 +18,7 @@ end_of (At phase) = None
 end_of (Ended end) = Some end
 
 -- the greeting is written, where the session has one
-abbrev pub HasBegun : Standing → Type 0
-HasBegun New = ⊥
-HasBegun (At phase) = Unit {0}
-HasBegun (Ended end) = Unit {0}
+abbrev pub HasGreeted : Standing → Type 0
+HasGreeted New = ⊥
+HasGreeted (At phase) = Unit {0}
+HasGreeted (Ended end) = Unit {0}

@@ -36,35 +36,35 @@ set_end_of bits = if is_set deprecate_eof bits then OkPacket else EofPackets
 -- What is written for one payload in a phase, and how the session then stands. A payload whose first number is another than the phase
 -- begins with is out of order, which ends the session, as COM_QUIT does. A client may use each keyspace, which changes nothing. A query has
 -- an outcome that its text may have, and that leads from what the session had seen to what it then has seen.
-pub data Answers {S : Type 0} (terms : Terms S) (May : S → List ℕ → Outcome → S → Type 0) : Phase → S → Payload → List ℕ → Standing → S → Type 0 where
+pub data AnswersPayload {S : Type 0} (terms : Terms S) (May : S → List ℕ → Outcome → S → Type 0) : Phase → S → Payload → List ℕ → Standing → S → Type 0 where
   out_of_order : {at : Phase} {s : S} {p : Payload} → p.first == first_number at ≡ false
-      → Answers terms May at s p (refusal_bytes p.first PacketsOutOfOrder) (Ended Broken) s
+      → AnswersPayload terms May at s p (refusal_bytes p.first PacketsOutOfOrder) (Ended Broken) s
   logs_in : {at : Phase} {s : S} {p : Payload} {out : List ℕ} {standing : Standing} → LogsIn terms.hello terms.keyspaces (terms.status s) at p out standing
-      → Answers terms May at s p out standing s
+      → AnswersPayload terms May at s p out standing s
   quits : {bits : ℕ} {s : S} {p : Payload} → p.first == 0 ≡ true → command_of p.bytes ≡ Some quit
-      → Answers terms May (Commands bits) s p [] (Ended Quit) s
+      → AnswersPayload terms May (Commands bits) s p [] (Ended Quit) s
   unknown : {bits : ℕ} {s : S} {p : Payload} → p.first == 0 ≡ true → command_of p.bytes ≡ None
-      → Answers terms May (Commands bits) s p (frame (reply_number p) (err_payload UnknownCommand)) (At (Commands bits)) s
+      → AnswersPayload terms May (Commands bits) s p (frame (reply_number p) (err_payload UnknownCommand)) (At (Commands bits)) s
   pinged : {bits : ℕ} {s : S} {p : Payload} → p.first == 0 ≡ true → command_of p.bytes ≡ Some ping
-      → Answers terms May (Commands bits) s p (frame (reply_number p) (ok_payload 0 (terms.status s))) (At (Commands bits)) s
+      → AnswersPayload terms May (Commands bits) s p (frame (reply_number p) (ok_payload 0 (terms.status s))) (At (Commands bits)) s
   selected : {bits : ℕ} {s : S} {p : Payload} (name : List ℕ) → p.first == 0 ≡ true → command_of p.bytes ≡ Some (init_db name)
       → has_keyspace terms.keyspaces name ≡ true
-      → Answers terms May (Commands bits) s p (frame (reply_number p) (ok_payload 0 (terms.status s))) (At (Commands bits)) s
+      → AnswersPayload terms May (Commands bits) s p (frame (reply_number p) (ok_payload 0 (terms.status s))) (At (Commands bits)) s
   unknown_keyspace : {bits : ℕ} {s : S} {p : Payload} (name : List ℕ) → p.first == 0 ≡ true → command_of p.bytes ≡ Some (init_db name)
       → has_keyspace terms.keyspaces name ≡ false
-      → Answers terms May (Commands bits) s p (frame (reply_number p) (err_payload UnknownKeyspace)) (At (Commands bits)) s
+      → AnswersPayload terms May (Commands bits) s p (frame (reply_number p) (err_payload UnknownKeyspace)) (At (Commands bits)) s
   queried : {bits : ℕ} {s now : S} {p : Payload} (text : List ℕ) (outcome : Outcome)
       → p.first == 0 ≡ true → command_of p.bytes ≡ Some (query text) → May s text outcome now
-      → Answers terms May (Commands bits) s p (encoded (set_end_of bits) outcome (reply_number p) (terms.status now)) (At (Commands bits)) now
+      → AnswersPayload terms May (Commands bits) s p (encoded (set_end_of bits) outcome (reply_number p) (terms.status now)) (At (Commands bits)) now
 
 -- What is written for payloads, one after another, from a phase on. Payloads behind the end are not answered.
 pub data Replies {S : Type 0} (terms : Terms S) (May : S → List ℕ → Outcome → S → Type 0) : Phase → S → List Payload → List ℕ → Standing → S → Type 0 where
   none : {at : Phase} {s : S} → Replies terms May at s [] [] (At at) s
   goes : {at next : Phase} {s mid t : S} {p : Payload} {more : List Payload} {out rest : List ℕ} {standing : Standing}
-      → Answers terms May at s p out (At next) mid → Replies terms May next mid more rest standing t
+      → AnswersPayload terms May at s p out (At next) mid → Replies terms May next mid more rest standing t
       → Replies terms May at s (p ∷ more) (out ++ rest) standing t
   ends : {at : Phase} {s t : S} {p : Payload} {more : List Payload} {out : List ℕ} {end : End}
-      → Answers terms May at s p out (Ended end) t → Replies terms May at s (p ∷ more) out (Ended end) t
+      → AnswersPayload terms May at s p out (Ended end) t → Replies terms May at s (p ∷ more) out (Ended end) t
 
 -- how a session begins: one that is new with the greeting
 pub data Greets (hello : Hello) : Standing → List ℕ → Phase → Type 0 where

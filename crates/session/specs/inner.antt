@@ -1,2 +1,4 @@
 pub mod Replies
 pub mod TypedSteps
+pub mod Outcomes
+pub mod Sessions

@@ -10,10 +10,11 @@ ghost use Rattle.session.specs.declared.standing.Standing.{Standing};
 ghost use Rattle.session.specs.Devices.{AppendsFront, failures_after};
 ghost use Rattle.session.specs.Faults.{IsCutOff};
 ghost use Rattle.route_engine.specs.Pendings.{IsOf};
-ghost use Rattle.session.specs.Outcomes.{Leads, Means, terms_of};
+ghost use Rattle.session.specs.Outcomes.{Means, terms_of};
+ghost use Rattle.session.specs.inner.Outcomes.{LeadsKept};
 ghost use Rattle.session.specs.Packets.{refusal_bytes};
 ghost use Rattle.session.specs.Standings.{end_of};
-ghost use Rattle.session.specs.Talk.{Answers, Greets, Replies};
+ghost use Rattle.session.specs.Talk.{AnswersPayload, Greets, Replies};
 ghost use Rattle.session.specs.Sessions.{AnswersFed};
 ghost use Rattle.session.specs.inner.Replies.{reply_bytes};
 
@@ -79,11 +80,11 @@ fn answer<W: World + Send + Sync, J: Naming + Send + Sync, G: Gate, S: Sink>(
     requires session { IsSome pass.old.session }
     requires tx { IsOf W.opening tx.old pass.old }
     ensures answers { IfOk result (λ standing. (out : List ℕ) × Appends (S.taken sink.old) (S.taken sink.new) out
-        × Leads W.opening pass.old tx.old pass.new tx.new
-        (λ s now. Answers (terms_of W.opening hello.now) (Means W.opening W.limits) phase s payload.now out standing now)) }
+        × LeadsKept W.opening pass.old tx.old pass.new tx.new
+        (λ s now. AnswersPayload (terms_of W.opening hello.now) (Means W.opening W.limits) phase s payload.now out standing now)) }
     ensures cut { OnErr result ((out : List ℕ) × (standing : Standing) × AppendsFront (S.taken sink.old) (S.taken sink.new) out
-        × Leads W.opening pass.old tx.old pass.new tx.new
-        (λ s now. Answers (terms_of W.opening hello.now) (Means W.opening W.limits) phase s payload.now out standing now)) }
+        × LeadsKept W.opening pass.old tx.old pass.new tx.new
+        (λ s now. AnswersPayload (terms_of W.opening hello.now) (Means W.opening W.limits) phase s payload.now out standing now)) }
     ensures count { S.failures sink.new ≡ failures_after result (S.failures sink.old) }
     ensures room { REPLY_ROOM ≤ length reply.new.items + reply.new.spare }
     ensures tx { IsOf W.opening tx.new pass.new }
@@ -114,11 +115,11 @@ fn answer_all<W: World + Send + Sync, J: Naming + Send + Sync, G: Gate, S: Sink>
     requires session { IsSome pass.old.session }
     requires tx { IsOf W.opening tx.old pass.old }
     ensures replies { IfOk result (λ standing. (out : List ℕ) × Appends (S.taken sink.old) (S.taken sink.new) out
-        × Leads W.opening pass.old tx.old pass.new tx.new
+        × LeadsKept W.opening pass.old tx.old pass.new tx.new
         (λ s now. Replies (terms_of W.opening hello.now) (Means W.opening W.limits) begin s payloads.now out standing now)) }
     ensures cut { OnErr result ((done : List Payload) × (out : List ℕ) × (standing : Standing) × IsPrefix done payloads.now
         × AppendsFront (S.taken sink.old) (S.taken sink.new) out
-        × Leads W.opening pass.old tx.old pass.new tx.new
+        × LeadsKept W.opening pass.old tx.old pass.new tx.new
         (λ s now. Replies (terms_of W.opening hello.now) (Means W.opening W.limits) begin s done out standing now)) }
     ensures count { S.failures sink.new ≡ failures_after result (S.failures sink.old) }
     ensures room { REPLY_ROOM ≤ length reply.new.items + reply.new.spare }
@@ -211,10 +212,10 @@ pub fn answer_fed<W: World + Send + Sync, J: Naming + Send + Sync, G: Gate, S: S
     requires tx { IsOf W.opening tx.old pass.old }
     requires open_session { end_of begin ≡ None }
     ensures answers { IfOk result (λ standing. (out : List ℕ) × Appends (S.taken sink.old) (S.taken sink.new) out
-        × Leads W.opening pass.old tx.old pass.new tx.new
+        × LeadsKept W.opening pass.old tx.old pass.new tx.new
         (λ s now. AnswersFed (terms_of W.opening hello.now) (Means W.opening W.limits) begin s fed.now out standing now)) }
     ensures cut { OnErr result ((written : List ℕ) × Appends (S.taken sink.old) (S.taken sink.new) written
-        × Leads W.opening pass.old tx.old pass.new tx.new
+        × LeadsKept W.opening pass.old tx.old pass.new tx.new
         (λ s now. IsCutOff (terms_of W.opening hello.now) (Means W.opening W.limits) begin s fed.now written now)) }
     ensures count { S.failures sink.new ≡ failures_after result (S.failures sink.old) }
     ensures room { REPLY_ROOM ≤ length reply.new.items + reply.new.spare }

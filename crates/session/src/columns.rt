@@ -1,7 +1,7 @@
 ghost use Rattle.std.specs.Prelude.{◌≡◌, ◌==◌, IfOk, IfErr, slice_index_or};
 ghost use Rattle.std.specs.List.{list_any};
 ghost use Rattle.vschema.specs.Schema.{no_table};
-ghost use Rattle.session.specs.Columns.{kind_of, base_flags, flags_of, no_keyspace, no_column, column_at, Defines, DefinesAt, named_item, item_kind, item_flags, DefinesAggregate, DefinesItem, AllDefined, AreColumns};
+ghost use Rattle.session.specs.Columns.{shown_kind, base_flags, flags_of, no_keyspace, no_column, column_at, Defines, DefinesAt, named_item, item_kind, item_flags, DefinesAggregate, DefinesItem, AllDefined, AreColumns};
 
 use resultset::{Column as ResultColumn, Kind};
 use sql_tree::{Item, Name, print_item};
@@ -10,7 +10,7 @@ use vschema::{Column, ColumnType, Columns, Table, VSchema};
 use vt_value::{Items, Refusal};
 
 fn kind_of(kind: ColumnType) -> Kind
-    ensures { result ≡ kind_of kind }
+    ensures { result ≡ shown_kind kind }
 {
     match kind {
         ColumnType::BigInt => Kind::BigInt,

@@ -9,7 +9,7 @@ ghost use Rattle.session.specs.Alone.{Alone, MeansAlone, alone_terms, alone_firs
 ghost use Rattle.session.specs.Devices.{read_failures_after, write_failures_after};
 ghost use Rattle.session.specs.Faults.{IsUnfinished, HasBrokenOff};
 ghost use Rattle.session.specs.Outcomes.{IsKept, Means, PassAndTransaction, none_open, terms_of};
-ghost use Rattle.session.specs.Sessions.{HasTalked, HasTalkedOn, IsNext};
+ghost use Rattle.session.specs.Sessions.{HasTalked, HasTalkedOn, IsStateAfter};
 ghost use Rattle.session.specs.Standings.{end_of};
 ghost use Rattle.session.specs.Talk.{Talk, IsByInput};
 
@@ -88,7 +88,7 @@ fn serve_piece<W: World + Send + Sync, J: Naming + Send + Sync, G: Gate, R: Sour
     ensures tx { IsOf W.opening core.new.tx pass.new }
     ensures source_count { R.failures source.new ≡ read_failures_after result (R.failures source.old) }
     ensures sink_count { S.failures sink.new ≡ write_failures_after result (S.failures sink.old) }
-    ensures next { IsNext core.old core.new }
+    ensures next { IsStateAfter core.old core.new }
     ensures session { pass.new.session ≡ pass.old.session }
 {
     if is_new(core.standing()) {

@@ -6,10 +6,11 @@ ghost use Rattle.mysql_message.specs.Messages.{ok_payload, err_payload};
 ghost use Rattle.resultset.specs.declared.Outcome.{Outcome};
 ghost use Rattle.resultset.specs.Encoding.{encoded};
 ghost use Rattle.session.specs.Columns.{AreColumns};
-ghost use Rattle.session.specs.Outcomes.{Leads, Means, Shows, HasRows, IsRows, status_with, terms_of};
+ghost use Rattle.session.specs.Outcomes.{Means, Shows, HasRows, status_with, terms_of};
+ghost use Rattle.session.specs.inner.Outcomes.{LeadsKept, IsRows};
 ghost use Rattle.session.specs.declared.hello.Hello.{Hello};
 ghost use Rattle.session.specs.Logins.{has_keyspace};
-ghost use Rattle.session.specs.Talk.{Answers, set_end_of};
+ghost use Rattle.session.specs.Talk.{AnswersPayload, set_end_of};
 ghost use Rattle.session.specs.inner.Replies.{reply_bytes};
 
 use crate::columns::columns_of;
@@ -107,7 +108,7 @@ fn outcome_of<W: World + Send + Sync, J: Naming + Send + Sync, G: Gate>(
 ) -> Outcome
     requires session { IsSome pass.old.session }
     requires tx { IsOf W.opening tx.old pass.old }
-    ensures means { Leads W.opening pass.old tx.old pass.new tx.new (λ s now. Means W.opening W.limits s text.now result now) }
+    ensures means { LeadsKept W.opening pass.old tx.old pass.new tx.new (λ s now. Means W.opening W.limits s text.now result now) }
     ensures tx { IsOf W.opening tx.new pass.new }
     ensures session { pass.new.session ≡ pass.old.session }
 {
@@ -246,8 +247,8 @@ fn put_command<W: World + Send + Sync, J: Naming + Send + Sync, G: Gate>(
     requires session { IsSome pass.old.session }
     requires tx { IsOf W.opening tx.old pass.old }
     requires number { payload.now.first ≡ 0 }
-    ensures answers { (hello : Hello) → Leads W.opening pass.old tx.old pass.new tx.new
-        (λ s now. Answers (terms_of W.opening hello) (Means W.opening W.limits) (Phase.Commands capabilities) s payload.now (reply_bytes result.1 reply.new.items) result.0 now) }
+    ensures answers { (hello : Hello) → LeadsKept W.opening pass.old tx.old pass.new tx.new
+        (λ s now. AnswersPayload (terms_of W.opening hello) (Means W.opening W.limits) (Phase.Commands capabilities) s payload.now (reply_bytes result.1 reply.new.items) result.0 now) }
     ensures tx { IsOf W.opening tx.new pass.new }
     ensures room { REPLY_ROOM ≤ length reply.new.items + reply.new.spare }
     ensures session { pass.new.session ≡ pass.old.session }
@@ -293,8 +294,8 @@ pub fn put_reply<W: World + Send + Sync, J: Naming + Send + Sync, G: Gate>(
     requires room { REPLY_ROOM ≤ reply.old.spare }
     requires session { IsSome pass.old.session }
     requires tx { IsOf W.opening tx.old pass.old }
-    ensures answers { Leads W.opening pass.old tx.old pass.new tx.new
-        (λ s now. Answers (terms_of W.opening hello.now) (Means W.opening W.limits) phase s payload.now (reply_bytes result.1 reply.new.items) result.0 now) }
+    ensures answers { LeadsKept W.opening pass.old tx.old pass.new tx.new
+        (λ s now. AnswersPayload (terms_of W.opening hello.now) (Means W.opening W.limits) phase s payload.now (reply_bytes result.1 reply.new.items) result.0 now) }
     ensures tx { IsOf W.opening tx.new pass.new }
     ensures room { REPLY_ROOM ≤ length reply.new.items + reply.new.spare }
     ensures session { pass.new.session ≡ pass.old.session }

@@ -8,9 +8,11 @@ ghost use Rattle.shard.specs.Shards.{MayFollow};
 ghost use Rattle.session.specs.Devices.{write_failures_after};
 ghost use Rattle.session.specs.Faults.{IsCutOff};
 ghost use Rattle.route_engine.specs.Pendings.{IsOf};
-ghost use Rattle.session.specs.Outcomes.{Leads, Means, terms_of};
+ghost use Rattle.session.specs.Outcomes.{Means, terms_of};
+ghost use Rattle.session.specs.inner.Outcomes.{LeadsKept};
 ghost use Rattle.session.specs.Standings.{end_of};
-ghost use Rattle.session.specs.Sessions.{AnswersFed, FedBy};
+ghost use Rattle.session.specs.Sessions.{AnswersFed};
+ghost use Rattle.session.specs.inner.Sessions.{FedBy};
 
 use crate::answers::answer_fed;
 use crate::devices::Sink;
@@ -64,10 +66,10 @@ fn feed_parts<W: World + Send + Sync, J: Naming + Send + Sync, G: Gate, S: Sink>
     requires tx { IsOf W.opening tx.old pass.old }
     requires open_session { end_of begin ≡ None }
     ensures answers { IfOk result (λ standing. (fed : Fed) × FedBy framer.old framer.new piece.now fed × ((out : List ℕ)
-        × Appends (S.taken sink.old) (S.taken sink.new) out × Leads W.opening pass.old tx.old pass.new tx.new
+        × Appends (S.taken sink.old) (S.taken sink.new) out × LeadsKept W.opening pass.old tx.old pass.new tx.new
         (λ s now. AnswersFed (terms_of W.opening hello.now) (Means W.opening W.limits) begin s fed out standing now))) }
     ensures write { result ≡ Err SessionFault.Write → (fed : Fed) × FedBy framer.old framer.new piece.now fed × ((written : List ℕ)
-        × Appends (S.taken sink.old) (S.taken sink.new) written × Leads W.opening pass.old tx.old pass.new tx.new
+        × Appends (S.taken sink.old) (S.taken sink.new) written × LeadsKept W.opening pass.old tx.old pass.new tx.new
         (λ s now. IsCutOff (terms_of W.opening hello.now) (Means W.opening W.limits) begin s fed written now)) }
     ensures memory { result ≡ Err SessionFault.Memory → (pass.new ≡ pass.old) × (tx.new ≡ tx.old) × (sink.new ≡ sink.old) × (framer.new ≡ framer.old) }
     ensures count { S.failures sink.new ≡ write_failures_after result (S.failures sink.old) }
@@ -130,7 +132,7 @@ impl<W: World, J: Naming> Core<W, J> {
     ghost use Rattle.shard_run.specs.Runs.{Opening};
     ghost use Rattle.shard.specs.declared.limits.Limits.{Limits};
     ghost use Rattle.session.specs.Outcomes.{Means, PassAndTransaction, terms_of};
-    ghost use Rattle.session.specs.Standings.{HasBegun, end_of};
+    ghost use Rattle.session.specs.Standings.{HasGreeted, end_of};
     ghost use Rattle.session.specs.Talk.{Talk};
     ghost use Rattle.session.specs.Sessions.{HasTalked};
 
@@ -217,7 +219,7 @@ impl<W: World, J: Naming> Core<W, J> {
     pub fn end_of_input(&self) -> End
         ensures ended { IfSome (end_of self.now.standing) (λ end. result ≡ end) }
         // The conversation is then whole, where the client has been greeted.
-        ensures whole { HasBegun self.now.standing → (o : Opening) (l : Limits) (begin : Standing) (first now : PassAndTransaction) (bytes out : List ℕ)
+        ensures whole { HasGreeted self.now.standing → (o : Opening) (l : Limits) (begin : Standing) (first now : PassAndTransaction) (bytes out : List ℕ)
             → HasTalked (terms_of o self.now.hello) (Means o l) begin self.now first bytes out now
             → Talk self.now.framing.limit (terms_of o self.now.hello) (Means o l) begin first bytes out result now }
     {
@@ -237,9 +239,9 @@ impl<W: World + Send + Sync, J: Naming + Send + Sync> Core<W, J> {
     ghost use Rattle.session.specs.Devices.{write_failures_after};
     ghost use Rattle.session.specs.Faults.{HasBrokenOff};
     ghost use Rattle.session.specs.Outcomes.{IsKept, Means, PassAndTransaction, terms_of};
-    ghost use Rattle.session.specs.Standings.{HasBegun, end_of};
+    ghost use Rattle.session.specs.Standings.{HasGreeted, end_of};
     ghost use Rattle.session.specs.Talk.{IsByCommand};
-    ghost use Rattle.session.specs.Sessions.{HasTalked, HasTalkedOn, IsNext};
+    ghost use Rattle.session.specs.Sessions.{HasTalked, HasTalkedOn, IsStateAfter};
 
     /// Takes the next piece of the input, and writes the replies to the payloads that it completes, each once it is known
     /// whole; the first piece, also an empty one, writes the greeting of a session that is new. `None` says that the session goes on. A session that has ended takes nothing and writes nothing, and tells
@@ -271,7 +273,7 @@ impl<W: World + Send + Sync, J: Naming + Send + Sync> Core<W, J> {
         ensures tx { IsOf W.opening self.new.tx pass.new }
         ensures ended { IfOk result (λ end. end_of self.new.standing ≡ end) }
         // The client has been greeted, also by an empty piece.
-        ensures begun { IfOk result (λ end. HasBegun self.new.standing) }
+        ensures begun { IfOk result (λ end. HasGreeted self.new.standing) }
         // A piece ends no session as the end of the input does.
         ensures by_command { end_of self.old.standing ≡ None → IfOk result (λ end. IfSome end IsByCommand) }
         ensures fault { OnErr result (self.new.standing ≡ Standing.Ended End.Broken) }
@@ -286,7 +288,7 @@ impl<W: World + Send + Sync, J: Naming + Send + Sync> Core<W, J> {
         // That the sink failed is told exactly where it did, in this call.
         ensures count { S.failures sink.new ≡ write_failures_after result (S.failures sink.old) }
         ensures again { IfSome (end_of self.old.standing) (λ end. (result ≡ Ok (Some end)) × (self.new ≡ self.old) × (sink.new ≡ sink.old) × (pass.new ≡ pass.old)) }
-        ensures next { IsNext self.old self.new }
+        ensures next { IsStateAfter self.old self.new }
         ensures session { pass.new.session ≡ pass.old.session }
     {
         let begin = self.standing;

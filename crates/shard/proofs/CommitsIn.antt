@@ -19,8 +19,10 @@ use Rattle.shard.specs.declared.limits.Limits.{Limits}
 use Rattle.shard.specs.declared.contents.Contents.{Contents}
 use Rattle.shard.specs.Shards.{IsAfter, MayFollow, commit_of}
 use Rattle.shard.specs.Commits.{HasRoom}
-use Rattle.shard.specs.Transactions.{PendingView, IsClear, is_conflict, IsPending, IsPendingOf, entry_of, has_room_for, IsAllUnprepared, IsCommitAllRefusal}
-use Rattle.shard.specs.Transactions as t
+use Rattle.shard.specs.Transactions.{PendingView, IsClear, is_conflict, IsPending, IsPendingOf, entry_of, IsCommitAllRefusal}
+use Rattle.shard.specs.inner.Transactions.{has_room_for, IsAllUnprepared}
+use Rattle.shard.specs.inner.Transactions as t
+use Rattle.shard.specs.Transactions as refusals
 use Rattle.shard.proofs.Bags.{length-same}
 use Rattle.shard.proofs.Commits as commits
 use Rattle.shard.proofs.Moves.{pending_later, pending_may}
@@ -85,7 +87,7 @@ module _ (o : Opening) (most : Limits) (seat : SeatView Entry) (c : Contents) (i
 
     pub refused : (entries stored' : ℕ) (e : Refusal) → entries ≡ length (entries_on s.slot seat.seen) → stored' ≡ length c.stored.items
         → IsAllUnprepared c.limits entries stored' (row_count c.store.rows) tx.changes e → IsCommitAllRefusal o most s run tx e
-    refused entries stored' _ es ss (t.no_memory) = t.no_memory
+    refused entries stored' _ es ss (t.no_memory) = refusals.no_memory
     refused entries stored' _ es ss (t.full h) =
-        t.full clear_here
+        refusals.full clear_here
         (no_room_for o.schema most o s run tx.writes tx.changes pending_here.made written_there (sym (tested entries stored' es ss) ∙ h))

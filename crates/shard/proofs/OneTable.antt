@@ -9,7 +9,7 @@ use Rattle.vschema.specs.declared.changes.RowChange.{RowChange}
 use Rattle.vschema.specs.declared.changes.RowChange.TheVariants.{Added, Replaced, Removed}
 use Rattle.vschema.specs.Database.{Database, rows_of, without, applied, all_applied, changed_table}
 use Rattle.shard_law.proofs.Databases.{length-applied, length-all_applied}
-use Rattle.shard.specs.Stores.{row_after}
+use Rattle.shard.specs.inner.Stores.{row_after}
 use Rattle.shard.proofs.Commits.{applied-append}
 use Rattle.shard.proofs.Counts.{one_applied}
 

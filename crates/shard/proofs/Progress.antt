@@ -12,8 +12,10 @@ use Rattle.shard_law.proofs.Lists.{flat_map-push}
 use Rattle.shard.specs.declared.forward.Step.{Step}
 use Rattle.shard.specs.declared.limits.Limits.{Limits}
 use Rattle.shard.specs.declared.contents.Contents.{Contents}
-use Rattle.shard.specs.Shards.{ShardView, Holds, Keeps, is_plain}
-use Rattle.shard.specs.Progress.{steps_of, steps_on, source_of, behind, is_last_copy_of}
+use Rattle.shard.specs.Shards.{ShardView, Holds, Keeps}
+use Rattle.shard.specs.inner.Shards.{is_plain}
+use Rattle.shard.specs.Progress.{steps_of, steps_on, behind}
+use Rattle.shard.specs.inner.Progress.{source_of, is_last_copy_of}
 use Rattle.shard.proofs.Positions.{any_both}
 use Rattle.shard.proofs.States.{entries-on, holds_of}
 

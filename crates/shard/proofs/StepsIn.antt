@@ -16,7 +16,8 @@ use Rattle.shard_run.specs.Openings.{row_count}
 use Rattle.shard.specs.declared.limits.Limits.{Limits}
 use Rattle.shard.specs.declared.contents.Contents.{Contents}
 use Rattle.shard.specs.Shards.{IsAfter, MayFollow, HasLooked, ShardView, slot_of, commit_of}
-use Rattle.shard.specs.Transactions.{PendingView, IsClear, IsPendingOf, entry_of, has_room_for, IsAllUnprepared, IsCommitAllRefusal, HasCommittedAll}
+use Rattle.shard.specs.Transactions.{PendingView, IsClear, IsPendingOf, entry_of, IsCommitAllRefusal, HasCommittedAll}
+use Rattle.shard.specs.inner.Transactions.{has_room_for, IsAllUnprepared}
 use Rattle.shard.proofs.Commits as commits
 use Rattle.shard.proofs.CommitsIn as k
 use Rattle.shard.proofs.Looks as looks

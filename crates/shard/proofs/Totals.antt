@@ -30,7 +30,7 @@ use Rattle.shard_run.specs.Legal.{AreChangesOf}
 use Rattle.shard_run.specs.Openings.{row_count}
 use Rattle.shard.specs.declared.limits.Limits.{Limits}
 use Rattle.shard.specs.Commits.{HasRoom}
-use Rattle.shard.specs.Transactions.{is_added, is_removed, has_room_for}
+use Rattle.shard.specs.inner.Transactions.{is_added, is_removed, has_room_for}
 use Rattle.shard.proofs.Changes.{AreOf, of_table}
 use Rattle.shard.proofs.Commits.{applied-append}
 use Rattle.shard.proofs.Counts.{rows_after, count_after}

@@ -1,5 +1,5 @@
 -- How far a target has come with its sources, as its state keeps it: a step for each of its Follow and Copy entries.
-use Rattle.std.specs.Prelude.{ℕ, ◌+◌, Bool, false, ◌&&◌, ◌==◌, List, [], ◌∷◌, flat_map, Option, Some, None}
+use Rattle.std.specs.Prelude.{ℕ, ◌+◌, List, [], ◌∷◌, flat_map, Option, Some, None}
 use Rattle.vt_value.specs.Values.{Row}
 use Rattle.shard_run.specs.declared.Event.{Event}
 use Rattle.shard_run.specs.declared.Event.TheVariants.{Follow, Copy}
@@ -22,16 +22,7 @@ steps_of _ = []
 abbrev pub steps_on : ℕ → Run → List Step
 steps_on slot run = flat_map (λ e. steps_of e.event) (entries_on slot run)
 
-abbrev pub source_of : Step → ℕ
-source_of (Followed source place) = source
-source_of (Copied source table place last row) = source
-
 -- how many of the source's stored entries the target stands behind after the step
 abbrev pub behind : Step → ℕ
 behind (Followed source place) = place + 1
 behind (Copied source table place last row) = place
-
--- the step has all that was left of the table from the source
-abbrev pub is_last_copy_of : ℕ → ℕ → Step → Bool
-is_last_copy_of source table (Followed from place) = false
-is_last_copy_of source table (Copied from of place last row) = ((from == source) && (of == table)) && last

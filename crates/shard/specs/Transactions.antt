@@ -1,6 +1,6 @@
 -- A transaction on its one shard before it is committed: what it has touched and written, when another session has changed a table that it
 -- touched, and what its commit does.
-use Rattle.std.specs.Prelude.{◌≡◌, ℕ, ◌+◌, ◌^◌, ◌≤◌, ◌&&◌, nat_lt, nat_le, count_by, Bool, true, false, ◌==◌, IsTrue, List, [], ◌∷◌, ◌++◌, length, drop, Some, Err, if◌then◌else◌}
+use Rattle.std.specs.Prelude.{◌≡◌, ℕ, ◌+◌, ◌≤◌, Bool, true, false, ◌==◌, IsTrue, List, [], ◌∷◌, ◌++◌, length, drop, Some, Err, if◌then◌else◌}
 use Rattle.std.specs.List.{AllByRecursion, filter, list_any}
 use mathlib.Core.List.{IsPrefix}
 use Rattle.vt_value.specs.declared.refusal.Refusal.{Refusal}
@@ -9,7 +9,6 @@ use Rattle.vt_value.specs.Values.{Row}
 use Rattle.vschema.specs.declared.schema.Query.{Query}
 use Rattle.vschema.specs.declared.changes.Write.{Write}
 use Rattle.vschema.specs.declared.changes.RowChange.{RowChange}
-use Rattle.vschema.specs.declared.changes.RowChange.TheVariants.{Added, Replaced, Removed}
 use Rattle.vschema.specs.Database.{all_applied, changed_table}
 use Rattle.vschema.specs.TypedWrites.{IsTypedWrite}
 use Rattle.sql_eval.specs.Queries.{Allowed}
@@ -156,24 +155,3 @@ pub data IsCommitAllRefusal (o : Opening) (limits : Limits) (s : Shard) (run : R
   full : IsClear o s run tx → (HasRoom o limits s run tx.changes → ⊥) → IsCommitAllRefusal o limits s run tx ShardFull
 
 -- ---- over the rows that the shard holds
-
-abbrev pub is_added : RowChange → Bool
-is_added (Added n row) = true
-is_added (Replaced n old new) = false
-is_added (Removed n row) = false
-
-abbrev pub is_removed : RowChange → Bool
-is_removed (Added n row) = false
-is_removed (Replaced n old new) = false
-is_removed (Removed n row) = true
-
--- the limits by counts alone: entries of all kinds, stored entries, and rows before the changes
-abbrev pub has_room_for : Limits → ℕ → ℕ → ℕ → List RowChange → Bool
-has_room_for limits entries stored rows changes =
-    nat_lt entries (2 ^ 40) && nat_lt stored limits.stored
-    && nat_le (rows + count_by is_added changes) (limits.rows + count_by is_removed changes)
-
--- why the memory of a commit is not made
-pub data IsAllUnprepared (limits : Limits) (entries stored rows : ℕ) (changes : List RowChange) : Refusal → Type 0 where
-  no_memory : IsAllUnprepared limits entries stored rows changes OutOfMemory
-  full : has_room_for limits entries stored rows changes ≡ false → IsAllUnprepared limits entries stored rows changes ShardFull

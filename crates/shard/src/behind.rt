@@ -6,7 +6,7 @@ ghost use Rattle.vschema.specs.Database.{rows_of, all_applied, changed_table};
 ghost use Rattle.sql_eval.specs.Groups.{CanBeSummed};
 ghost use Rattle.sql_eval.specs.Queries.{IsAnswer};
 ghost use Rattle.sql_eval.specs.Writes.{written_table, changes_of};
-ghost use Rattle.shard.specs.Stores.{row_after};
+ghost use Rattle.shard.specs.inner.Stores.{row_after};
 
 use crate::contents::{Contents, written_table};
 use crate::store::{TableRows, changed_table};

@@ -14,7 +14,7 @@ ghost use Rattle.shard_run.specs.Runs.{mode, is_serving, entries_on, stored_on, 
 ghost use Rattle.shard_run.specs.Copies.{position, table_at, is_last, has_copied_all, is_copied, change_is_copied};
 ghost use Rattle.shard_store.specs.Stores.{IsReadyFor};
 ghost use Rattle.shard.specs.Progress.{behind, last_row};
-ghost use Rattle.shard.specs.Shards.{slot_of, commit_of, MayFollow, HasLooked, HasAppended, seat_of};
+ghost use Rattle.shard.specs.Shards.{slot_of, commit_of, MayFollow, HasLooked, HasAppended, seat_view};
 ghost use Rattle.shard.specs.Copying.{HasCopiedAll, IsNextTable, IsProgress, IsEntryFor, IsCopyFor, IsNextCopy, is_reached};
 ghost use Rattle.shard.specs.inner.Rowed.{row_of, first_named};
 

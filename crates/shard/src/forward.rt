@@ -1,5 +1,5 @@
 ghost use Rattle.std.specs.Prelude.{◌≡◌, ◌&&◌, ◌==◌};
-ghost use Rattle.shard.specs.Progress.{source_of, is_last_copy_of};
+ghost use Rattle.shard.specs.inner.Progress.{source_of, is_last_copy_of};
 
 use vt_value::Row;
 

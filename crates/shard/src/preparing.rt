@@ -5,7 +5,8 @@ ghost use Rattle.vschema.specs.Database.{changed_table};
 ghost use Rattle.shard_run.specs.Openings.{row_count};
 ghost use Rattle.shard_run.specs.Runs.{held_changes};
 ghost use Rattle.shard_store.specs.Stores.{IsReadyFor};
-ghost use Rattle.shard.specs.Transactions.{is_added, is_removed, has_room_for, entry_of, IsAllUnprepared};
+ghost use Rattle.shard.specs.Transactions.{entry_of};
+ghost use Rattle.shard.specs.inner.Transactions.{is_added, is_removed, has_room_for, IsAllUnprepared};
 
 use crate::contents::{Author, Contents, Prepared};
 use crate::copies::copy_shard;

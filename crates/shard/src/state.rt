@@ -8,7 +8,8 @@ ghost use Rattle.shard_run.specs.Runs.{mode, mode_after, is_serving, entries_on,
 ghost use Rattle.shard_run.specs.Legal.{May};
 ghost use Rattle.shard_run.specs.Openings.{row_count};
 ghost use Rattle.journal.specs.Runs.{IsLegal};
-ghost use Rattle.shard.specs.Shards.{beyond, is_plain, IsAfter, MayFollow, slot_of, commit_of};
+ghost use Rattle.shard.specs.Shards.{beyond, IsAfter, MayFollow, slot_of, commit_of};
+ghost use Rattle.shard.specs.inner.Shards.{is_plain};
 
 use crate::contents::{Author, Contents};
 use crate::forward::Step;
@@ -127,7 +128,7 @@ impl<W: World, J: Naming> ShardState<W, J> {
     ghost use Rattle.shard.specs.Progress.{behind};
     ghost use Rattle.shard_run.specs.Legal.{IsOnItsSlot, MayRetire, MayServe};
     ghost use Rattle.journal.specs.Views.{PassView};
-    ghost use Rattle.shard.specs.Shards.{HasLooked, HasAppended, Answers, opening_shards, seat_of, IsNext};
+    ghost use Rattle.shard.specs.Shards.{HasLooked, HasAppended, Answers, opening_shards, seat_view, IsNext};
     ghost use Rattle.shard.specs.Commits.{IsPlaced, HasCommitted, IsCommitRefusal, HasAnswered};
 
     /// A shard with its first rows, of each table of the VSchema: an opening one, or a target on a slot of its own. Nothing has happened
@@ -251,7 +252,7 @@ impl<W: World, J: Naming> ShardState<W, J> {
 
     /// One look, which the pass keeps. Answers how many entries the shard has.
     pub fn look(&mut self, pass: &mut Pass<ShardLaw<W>, J>) -> u64
-        ensures seen { IsLater slot_of commit_of (MayFollow W.opening) (seat_of self.old) pass.old self.new.seen }
+        ensures seen { IsLater slot_of commit_of (MayFollow W.opening) (seat_view self.old) pass.old self.new.seen }
         ensures count { result ≡ length (entries_on self.old.shard.slot self.new.seen) }
         ensures shard { self.new.shard ≡ self.old.shard }
         ensures stands { IsOnItsSlot W.opening self.new.seen self.old.shard }
@@ -269,7 +270,7 @@ impl<W: World, J: Naming> ShardState<W, J> {
         query: &Query,
     ) -> Result<Reading, Refusal>
         requires serves { is_serving (mode W.opening self.old.seen self.old.shard.slot) ≡ true }
-        ensures seen { IsLater slot_of commit_of (MayFollow W.opening) (seat_of self.old) pass.old self.new.seen }
+        ensures seen { IsLater slot_of commit_of (MayFollow W.opening) (seat_view self.old) pass.old self.new.seen }
         ensures rows { IfOk result (λ r. Allowed query.now (held W.opening self.new.seen self.old.shard) r.rows) }
         ensures entries { IfOk result (λ r. r.entries ≡ length (entries_on self.old.shard.slot self.new.seen)) }
         ensures serves { is_serving (mode W.opening self.new.seen self.old.shard.slot) ≡ true }
@@ -292,7 +293,7 @@ impl<W: World, J: Naming> ShardState<W, J> {
         pass: &mut Pass<ShardLaw<W>, J>,
         query: &Query,
     ) -> Result<Read, Refusal>
-        ensures seen { IsLater slot_of commit_of (MayFollow W.opening) (seat_of self.old) pass.old self.new.seen }
+        ensures seen { IsLater slot_of commit_of (MayFollow W.opening) (seat_view self.old) pass.old self.new.seen }
         ensures read { IfOk result (Answers W.opening self.new.seen self.old.shard query.now) }
         ensures err { IfErr result (λ e. e ≡ Refusal.OutOfMemory) }
         ensures shard { self.new.shard ≡ self.old.shard }

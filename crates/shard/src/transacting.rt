@@ -28,14 +28,14 @@ impl<W: World, J: Naming> ShardState<W, J> {
     ghost use Rattle.journal.specs.Views.{IsLater};
     ghost use Rattle.shard_run.specs.Runs.{entries_on};
     ghost use Rattle.shard_run.specs.Legal.{IsOnItsSlot};
-    ghost use Rattle.shard.specs.Shards.{slot_of, commit_of, MayFollow, HasLooked, seat_of};
+    ghost use Rattle.shard.specs.Shards.{slot_of, commit_of, MayFollow, HasLooked, seat_view};
     ghost use Rattle.shard.specs.Commits.{IsPlaced};
     ghost use Rattle.shard.specs.Transactions.{IsClear, IsPendingOf, HasReadIn, HasWrittenIn, IsStopped, IsReadRefusal, IsWriteRefusal, HasCommittedAll, IsCommitAllRefusal};
 
     /// One look, which the pass keeps. Answers how many entries the shard has then. It refuses where the shard is frozen or doesn't serve;
     /// else where an entry of the shard has changed a table that the transaction touched before it. Takes no memory.
     pub fn check(&mut self, pass: &mut Pass<ShardLaw<W>, J>, tx: &Pending) -> Result<u64, Refusal>
-        ensures seen { IsLater slot_of commit_of (MayFollow W.opening) (seat_of self.old) pass.old self.new.seen }
+        ensures seen { IsLater slot_of commit_of (MayFollow W.opening) (seat_view self.old) pass.old self.new.seen }
         ensures entries { IfOk result (λ n. n ≡ length (entries_on self.old.shard.slot self.new.seen)) }
         ensures clear { OnOk result (IsClear W.opening self.old.shard self.new.seen tx.now) }
         ensures err { IfErr result (IsStopped W.opening self.old.shard self.new.seen tx.now) }
@@ -67,7 +67,7 @@ impl<W: World, J: Naming> ShardState<W, J> {
         requires tied { IsPendingOf W.opening self.old.shard tx.old pass.old }
         requires session { IsSome pass.old.session }
         requires above { (n : ℕ) → pass.old.session ≡ Some n → NumbersBelow commit_of n pass.old.statements pass.old.seen }
-        ensures seen { IsLater slot_of commit_of (MayFollow W.opening) (seat_of self.old) pass.old self.new.seen }
+        ensures seen { IsLater slot_of commit_of (MayFollow W.opening) (seat_view self.old) pass.old self.new.seen }
         ensures read { IfOk result (λ r. HasReadIn W.opening self.old.shard tx.old self.new.seen query.now r.rows r.entries tx.new) }
         ensures unchanged { OnErr result (tx.new ≡ tx.old) }
         ensures err { IfErr result (IsReadRefusal W.opening self.old.shard self.new.seen tx.old) }
@@ -101,7 +101,7 @@ impl<W: World, J: Naming> ShardState<W, J> {
     ) -> Result<u64, Refusal>
         requires schema { schema.now ≡ W.opening.schema }
         requires there { written_table write < length W.opening.schema.tables }
-        ensures seen { IsLater slot_of commit_of (MayFollow W.opening) (seat_of self.old) pass.old self.new.seen }
+        ensures seen { IsLater slot_of commit_of (MayFollow W.opening) (seat_view self.old) pass.old self.new.seen }
         ensures written { IfOk result (λ count. HasWrittenIn W.opening self.old.shard tx.old self.new.seen write count tx.new) }
         ensures unchanged { OnErr result (tx.new ≡ tx.old) }
         ensures err { IfErr result (IsWriteRefusal W.opening self.old.shard self.new.seen tx.old write) }

@@ -1,7 +1,7 @@
 //! A shard on which nothing happened gives its seat back.
 ghost use Rattle.std.specs.Prelude.{◌≡◌, [], true, false};
 ghost use Rattle.shard_run.specs.Runs.{entries_on, is_opening};
-ghost use Rattle.shard.specs.Shards.{seat_of};
+ghost use Rattle.shard.specs.Shards.{seat_view};
 
 use crate::contents::Contents;
 use crate::locked::Shard;
@@ -48,7 +48,7 @@ impl<W: World, J: Naming> ShardState<W, J> {
 
     /// Its seat. What the shard held is gone.
     pub fn into_seat(self) -> ShardSeat<ShardLaw<W>, J>
-        ensures { result ≡ seat_of self }
+        ensures { result ≡ seat_view self }
     {
         let ShardState {
             seat,

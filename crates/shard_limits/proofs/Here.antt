@@ -18,7 +18,8 @@ use Rattle.shard.specs.Shards.{MayFollow, HasLooked}
 use Rattle.shard.specs.Commits.{IsPlaced}
 use Rattle.shard.specs.Transactions.{PendingView, nothing_done, IsPending, HasReadIn, HasWrittenIn, IsReadRefusal, IsWriteRefusal}
 use Rattle.shard.proofs.Moves.{pending_nothing, pending_read, pending_written, pending_same}
-use Rattle.shard_limits.specs.SmallWorld.{small_schema, small_shard, small_opening, IsHere}
+use Rattle.shard_limits.specs.SmallWorld.{small_schema, small_shard, small_opening}
+use Rattle.shard_limits.specs.inner.SmallWorld.{IsHere}
 
 pub here_begins : (p : PassView Entry) → IsLegal (MayFollow small_opening) p.seen → IsHere nothing_done p
 here_begins p legal s slot place = (p.seen, prefix_self p.seen, pending_nothing small_opening s p.seen legal)

@@ -1,1 +1,2 @@
 pub mod SmallWorld
+pub mod inner

@@ -2,7 +2,8 @@
 ghost use Rattle.std.specs.Prelude.{◌≡◌, ◌<◌, IsSome};
 ghost use Rattle.vschema.specs.TypedWrites.{IsTypedWrite};
 ghost use Rattle.shard.specs.Commits.{IsPlaced};
-ghost use Rattle.shard_limits.specs.SmallWorld.{small_schema, small_seat, small_shard, IsHere};
+ghost use Rattle.shard_limits.specs.SmallWorld.{small_schema, small_shard};
+ghost use Rattle.shard_limits.specs.inner.SmallWorld.{small_seat, IsHere};
 
 use crate::writing::{Small, counts, first_seat, insert, insert_row, query, schema, state};
 use journal::{Naming, Opened, Pass};

@@ -3,7 +3,8 @@ ghost use Rattle.std.specs.Prelude.{◌≡◌, ◌<◌, ◌∷◌, [], IsSome, I
 ghost use Rattle.vschema.specs.TypedWrites.{IsTypedWrite};
 ghost use Rattle.journal.specs.Views.{fresh_seats};
 ghost use Rattle.shard.specs.Commits.{IsPlaced};
-ghost use Rattle.shard_limits.specs.SmallWorld.{small_schema, small_seat, small_shard, insert_of, update_all, delete_all};
+ghost use Rattle.shard_limits.specs.SmallWorld.{small_schema, small_shard};
+ghost use Rattle.shard_limits.specs.inner.SmallWorld.{small_seat, insert_of, update_all, delete_all};
 
 use journal::{Naming, Opened, Pass, ShardSeat};
 use keyrange::KeyRange;

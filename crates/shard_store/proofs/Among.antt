@@ -20,7 +20,8 @@ use Rattle.vt_value.specs.Values.{Row, value_cmp}
 use Rattle.operators.proofs.OrderLemmas.{value_cmp-total, value_cmp-same}
 use Rattle.shard_store.specs.Keys.{key_cmp}
 use Rattle.shard_store.specs.Slots.{Slot, rows_in, begins, slots_with}
-use Rattle.shard_store.specs.Chosen.{is_among, Climbs, risen, slots_among}
+use Rattle.shard_store.specs.Chosen.{is_among, Climbs, slots_among}
+use Rattle.shard_store.specs.inner.Chosen.{risen}
 use Rattle.shard_store.proofs.Prefix.{Ascend, ascend, none_with, none_behind}
 use Rattle.shard_store.proofs.KeptRows.{none_any}
 

@@ -9,7 +9,8 @@ use Rattle.vschema.specs.declared.changes.RowChange.TheVariants.{Added, Replaced
 use Rattle.vschema.specs.Database.{Database, without, changed_table, applied, all_applied}
 use Rattle.shard_store.specs.declared.key.KeyedChange.{KeyedChange}
 use Rattle.shard_store.specs.declared.key.KeyedChange.TheVariants.{Put, Take}
-use Rattle.shard_store.specs.Stores.{StoreView, room_of, change_in, changes_in, split, all_split, HasItsKey, puts_into, HasRoomFor}
+use Rattle.shard_store.specs.Stores.{StoreView, room_of, change_in, changes_in, HasItsKey, puts_into, HasRoomFor}
+use Rattle.shard_store.specs.inner.Stores.{split, all_split}
 
 -- a row is taken from a table, and another put in
 taken-put : (db : Database) (n : ℕ) (f g : List Row → List Row)

@@ -1,5 +1,5 @@
 -- The rows that a condition chooses to be looked at.
-use Rattle.std.specs.Prelude.{◌≡◌, Bool, false, List, [], ◌∷◌, ◌++◌, ⊤, filter, Option, Some, None, if◌then◌else◌}
+use Rattle.std.specs.Prelude.{◌≡◌, Bool, false, List, [], ◌∷◌, ◌++◌, ⊤, filter}
 use Rattle.std.specs.List.{list_any}
 use Rattle.std.specs.Ordering.{is_eq, is_lt}
 use Rattle.vt_value.specs.declared.value.Value.{Value}
@@ -24,12 +24,6 @@ abbrev pub Climbs : List Value → Type 0
 Climbs [] = ⊤
 Climbs (v ∷ []) = ⊤
 Climbs (v ∷ w ∷ values) = (is_lt (value_cmp w v) ≡ false) × Climbs (w ∷ values)
-
--- those that are above the last one that was taken, of which the first may be given
-abbrev pub risen : Option Value → List Value → List Value
-risen last [] = []
-risen None (v ∷ values) = v ∷ risen (Some v) values
-risen (Some l) (v ∷ values) = if is_lt (value_cmp l v) then v ∷ risen (Some v) values else risen (Some l) values
 
 -- the slots whose keys begin with one of the values
 abbrev pub slots_among : List Value → List Slot → List Slot

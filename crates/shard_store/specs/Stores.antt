@@ -1,11 +1,9 @@
 -- What contracts see of a store of rows, and of the changes that it does.
-use Rattle.std.specs.Prelude.{◌≡◌, ℕ, Bool, false, ◌==◌, ◌≤◌, List, [], ◌∷◌, map, flat_map, slice_index, slice_index_or, count_by}
+use Rattle.std.specs.Prelude.{◌≡◌, ℕ, Bool, false, ◌==◌, ◌≤◌, List, [], map, slice_index, slice_index_or, count_by}
 use Rattle.std.specs.List.{AllByRecursion}
 use Rattle.vt_value.specs.Values.{Row}
 use Rattle.vschema.specs.declared.changes.RowChange.{RowChange}
-use Rattle.vschema.specs.declared.changes.RowChange.TheVariants.{Added, Replaced, Removed}
-use Rattle.vschema.specs.declared.changes.Write.{Write}
-use Rattle.vschema.specs.declared.changes.Write.TheVariants.{Insert}
+use Rattle.vschema.specs.declared.changes.RowChange.TheVariants.{Added, Removed}
 use Rattle.vschema.specs.Database.{Database, all_applied}
 use Rattle.shard_store.specs.declared.key.KeyedChange.{KeyedChange}
 use Rattle.shard_store.specs.declared.key.KeyedChange.TheVariants.{Put, Take}
@@ -38,15 +36,6 @@ change_in (Take n k) = Removed n k.row
 abbrev pub changes_in : List KeyedChange → List RowChange
 changes_in changes = map change_in changes
 
--- a row in another's place is its removal, and then the other's addition
-abbrev pub split : RowChange → List RowChange
-split (Added n row) = Added n row ∷ []
-split (Replaced n old new) = Removed n old ∷ Added n new ∷ []
-split (Removed n row) = Removed n row ∷ []
-
-abbrev pub all_split : List RowChange → List RowChange
-all_split changes = flat_map split changes
-
 -- the key is that of the row
 abbrev pub HasItsKey : StoreView → KeyedChange → Type 0
 HasItsKey s (Put n k) = k.key.values ≡ key_at (places_of s n) k.row
@@ -66,7 +55,3 @@ pub record IsReadyFor (s : StoreView) (changes : List RowChange) (keyed : List K
   pub same : (db : Database) → all_applied (changes_in keyed) db ≡ all_applied changes db
   pub keys : AllByRecursion (HasItsKey s) keyed
   pub room : HasRoomFor s keyed
-
--- a write that adds these rows
-abbrev pub IsInsertOf : ℕ → List Row → Write → Type 0
-IsInsertOf n new w = w ≡ Insert n new

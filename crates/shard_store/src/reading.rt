@@ -13,7 +13,7 @@ ghost use Rattle.sql_eval.specs.Queries.{IsAnswer};
 ghost use Rattle.sql_eval.specs.Writes.{written_table, changes_over};
 ghost use Rattle.shard_store.specs.Slots.{rows_in};
 ghost use Rattle.shard_store.specs.Tables.{key_at};
-ghost use Rattle.shard_store.specs.Stores.{IsInsertOf};
+ghost use Rattle.shard_store.specs.inner.Stores.{IsInsertOf};
 ghost use Rattle.shard_store.specs.Chosen.{fits, slots_chosen, rows_chosen};
 
 use crate::beside::TableRows;

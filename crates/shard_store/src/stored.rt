@@ -3,7 +3,8 @@ ghost use Rattle.std.specs.List.{AllByRecursion};
 ghost use Rattle.vschema.specs.declared.changes.RowChange.TheVariants.{Added, Removed};
 ghost use Rattle.vschema.specs.Database.{SameRows, rows_of, without, changed_table, applied, all_applied};
 ghost use Rattle.shard_store.specs.Tables.{key_at};
-ghost use Rattle.shard_store.specs.Stores.{places_of, room_of, change_in, changes_in, split, all_split, HasItsKey, puts_into, HasRoomFor, IsReadyFor};
+ghost use Rattle.shard_store.specs.Stores.{places_of, room_of, change_in, changes_in, HasItsKey, puts_into, HasRoomFor, IsReadyFor};
+ghost use Rattle.shard_store.specs.inner.Stores.{split, all_split};
 
 use crate::beside::TableRows;
 use crate::key::{KeyedChange, KeyedRow, RowKey};

@@ -13,14 +13,14 @@ use denote.Param.Members.{Mut}
 use denote.Ref.{Bor}
 use Rattle.keyrange.specs.declared.KeyRange.{KeyRange}
 use Rattle.keyrange.specs.Ranges.{Cover, has_id}
-use Rattle.vtgate_lines.specs.Partitions.{IsListOf, IsPartition, range_cmp}
+use Rattle.vtgate_lines.specs.Partitions.{IsListOf, NamesPartition, range_cmp}
 
 cover_again : (xs ys : List KeyRange) → IsPermutation xs ys → Cover xs → Cover ys
 cover_again xs ys same cover id bytes = sum_by-IsPermutation (λ r. cond (has_id r id) 1 0) xs ys same ∙ cover id bytes
 
 pub not_partition : (text : List ℕ) (read arranged : List KeyRange) → IsPermutation read arranged
     → ((all : List KeyRange) → IsListOf text all → read ≡ all) → (length arranged ≤ 64 → Cover arranged → ⊥)
-    → (ranges : List KeyRange) → IsPartition text ranges → ⊥
+    → (ranges : List KeyRange) → NamesPartition text ranges → ⊥
 not_partition text read arranged same only bad ranges p =
     let back : IsPermutation ranges arranged =
     IsPermutation-trans ranges p.written arranged (IsPermutation-sym p.written ranges p.same)

@@ -20,14 +20,14 @@ single_words =
     codes "status" ∷ codes "step" ∷ codes "switch" ∷ codes "advance" ∷ codes "resume" ∷ codes "cancel" ∷ codes "complete" ∷ []
 
 -- what the words of a line ask for
-abbrev pub Asks : List ℕ → AdminLine → Type 0
-Asks words Status = words ≡ codes "status"
-Asks words (Create sources targets) = IsCreate words sources.items targets.items
-Asks words Step = words ≡ codes "step"
-Asks words Switch = words ≡ codes "switch"
-Asks words Advance = words ≡ codes "advance"
-Asks words Resume = words ≡ codes "resume"
-Asks words Cancel = words ≡ codes "cancel"
-Asks words Complete = words ≡ codes "complete"
-Asks words Unknown =
+abbrev pub AsksFor : List ℕ → AdminLine → Type 0
+AsksFor words Status = words ≡ codes "status"
+AsksFor words (Create sources targets) = IsCreate words sources.items targets.items
+AsksFor words Step = words ≡ codes "step"
+AsksFor words Switch = words ≡ codes "switch"
+AsksFor words Advance = words ≡ codes "advance"
+AsksFor words Resume = words ≡ codes "resume"
+AsksFor words Cancel = words ≡ codes "cancel"
+AsksFor words Complete = words ≡ codes "complete"
+AsksFor words Unknown =
     AllByRecursion (λ word. words ≢ word) single_words × ((sources targets : List KeyRange) → IsCreate words sources targets → ⊥)

@@ -19,7 +19,7 @@ range_cmp a b = slice_cmp nat_cmp a.begin b.begin
 
 -- The text names these ranges, in some order. They are at most 64, stand in the order of their begins, and each id lies in exactly
 -- one of them.
-pub record IsPartition (text : List ℕ) (ranges : List KeyRange) : Type 0 where
+pub record NamesPartition (text : List ℕ) (ranges : List KeyRange) : Type 0 where
   pub written : List KeyRange
   pub named : IsListOf text written
   pub same : IsPermutation written ranges

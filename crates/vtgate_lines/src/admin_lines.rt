@@ -3,7 +3,7 @@ ghost use Rattle.std.specs.Prelude.{◌≡◌, ◌≢◌, ◌∷◌, ◌++◌, �
 ghost use Rattle.std.specs.List.{AllByRecursion};
 ghost use Rattle.keyrange.specs.declared.KeyRange.{KeyRange};
 ghost use Rattle.vtgate_lines.specs.Partitions.{IsListOf};
-ghost use Rattle.vtgate_lines.specs.AdminLines.{single_words, IsCreate, Asks};
+ghost use Rattle.vtgate_lines.specs.AdminLines.{single_words, IsCreate, AsksFor};
 
 use crate::lines::behind;
 use crate::ranges::named_ranges;
@@ -73,7 +73,7 @@ fn read_create(
 
 // What a line of one word asks for.
 fn single_word(words: &[u8]) -> Option<AdminLine>
-    ensures found { IfSome result (Asks words.now) }
+    ensures found { IfSome result (AsksFor words.now) }
     ensures none { IfNone result (AllByRecursion (λ word. words.now ≢ word) single_words) }
 {
     if words == b"status".as_slice() {
@@ -102,7 +102,7 @@ fn single_word(words: &[u8]) -> Option<AdminLine>
 
 /// What the words of a line ask for. Refuses for want of memory for the ranges.
 pub fn read_admin_line(alloc: Global, words: &[u8]) -> Result<AdminLine, Refusal>
-    ensures ok { IfOk result (Asks words.now) }
+    ensures ok { IfOk result (AsksFor words.now) }
     ensures err { IfErr result (λ e. e ≡ Refusal.OutOfMemory) }
 {
     if let Some(line) = single_word(words) {

@@ -2,7 +2,7 @@
 ghost use Rattle.std.specs.Prelude.{◌≡◌, ◌∷◌, [], ◌++◌, false, List, IsTrue, IfOk, IfErr, IfSome, IfNone, IsSomeAnd};
 ghost use Rattle.keyrange.specs.Names.{IsNameOf};
 ghost use Rattle.keyrange.specs.declared.KeyRange.{KeyRange};
-ghost use Rattle.vtgate_lines.specs.Partitions.{IsListOf, IsPartition};
+ghost use Rattle.vtgate_lines.specs.Partitions.{IsListOf, NamesPartition};
 
 use keyrange::{KeyRange, covers_once};
 use std::alloc::Global;
@@ -51,8 +51,8 @@ pub(crate) fn named_ranges(alloc: Global, text: &str) -> Result<Option<Vec<KeyRa
 /// The ranges that a comma list of names tells, as `-80,80-`, in the order of their begins. `None` where some part is no
 /// range's name, where there are more than 64, or where some id lies in none of them or in several.
 pub fn read_ranges(alloc: Global, text: &str) -> Result<Option<Vec<KeyRange>>, Refusal>
-    ensures found { IfOk result (λ o. IfSome o (λ v. IsPartition text.now v.items)) }
-    ensures none { IfOk result (λ o. IfNone o ((ranges : List KeyRange) → IsPartition text.now ranges → ⊥)) }
+    ensures found { IfOk result (λ o. IfSome o (λ v. NamesPartition text.now v.items)) }
+    ensures none { IfOk result (λ o. IfNone o ((ranges : List KeyRange) → NamesPartition text.now ranges → ⊥)) }
     ensures err { IfErr result (λ e. e ≡ Refusal.OutOfMemory) }
 {
     let Some(mut ranges) = named_ranges(alloc, text)? else {

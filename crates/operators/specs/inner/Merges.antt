@@ -38,11 +38,11 @@ rows_from (Some row) rows = row ∷ rows
 abbrev pub head_rows : {O : Type 0} → (O → List Row) → Head O → List Row
 head_rows to_come head = rows_from head.row (to_come head.input)
 
-abbrev pub row_at : {O : Type 0} → List (Head O) → ℕ → Option Row
-row_at heads place = slice_index_or (map (λ h. h.row) heads) place None
+abbrev pub head_row : {O : Type 0} → List (Head O) → ℕ → Option Row
+head_row heads place = slice_index_or (map (λ h. h.row) heads) place None
 
 -- the first of the least rows
 pub record IsFirst {O : Type 0} (lt : Row → Row → Bool) (heads : List (Head O)) (place : ℕ) : Type 0 where
   pub within : place < length heads
-  pub before : (j : ℕ) → j < place → earlier lt (row_at heads place) (row_at heads j) ≡ true
-  pub behind : (j : ℕ) → place < j → j < length heads → earlier lt (row_at heads j) (row_at heads place) ≡ false
+  pub before : (j : ℕ) → j < place → earlier lt (head_row heads place) (head_row heads j) ≡ true
+  pub behind : (j : ℕ) → place < j → j < length heads → earlier lt (head_row heads j) (head_row heads place) ≡ false

@@ -18,7 +18,8 @@ use Rattle.reshard.specs.declared.fault.ReshardFault.TheVariants.{Refused, Gap, 
 use Rattle.reshard.specs.declared.fault.ReshardFault.TheVariants as faults
 use Rattle.reshard.specs.Choices.{AreNamed, AreApart}
 use Rattle.reshard.specs.Steps.{TakesFrom}
-use Rattle.reshard.specs.Workflows.{Taking, seat_of}
+use Rattle.shard.specs.Seats.{seat_of}
+use Rattle.reshard.specs.Workflows.{Taking}
 use Rattle.reshard.specs.declared.creating.Sight.{Sight}
 use Rattle.reshard.specs.declared.creating.Sight.TheVariants.{Serves, DoesNot, Another}
 

@@ -9,7 +9,7 @@ use Rattle.shard_run.specs.Legal.{IsOnItsSlot}
 use Rattle.journal.specs.Views.{PassView}
 use Rattle.shard_run.specs.declared.Entry.{Entry}
 use Rattle.reshard.specs.Reopened.{AreThose, Found, AreFound}
-use Rattle.reshard.specs.Workflows.{Taking, IsSplit, placed}
+use Rattle.reshard.specs.Workflows.{Taking, IsSplit, target_seats}
 
 -- after the run this shard stands on the slot, at the place, in this mode
 pub record IsGlance (o : Opening) (run : Run) (slot : ℕ) (place : Place) (s : S.Shard) (m : Mode) : Type 0 where
@@ -26,7 +26,7 @@ pub record IsTakenUp (sources : List S.Shard) (t : Taking) : Type 0 where
 -- the targets may take the sources' place, and with the parts that stay their shards make a partition of the keyspace
 pub record IsRefitted (keyspace : ℕ) (rest : List Seat) (sources : List S.Shard) (targets : List Taking) (seats : List Seat) : Type 0 where
   pub split : IsSplit sources targets
-  pub seated : seats ≡ placed targets
+  pub seated : seats ≡ target_seats targets
   pub next : IsPartition (rest ++ seats)
   pub home : AreOf keyspace (rest ++ seats)
 

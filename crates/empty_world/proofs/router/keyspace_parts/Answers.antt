@@ -1,7 +1,7 @@
 use Rattle.std.proofs.Common.{◌==◌, ap, sym, ◌∙◌}
 use Rattle.std.proofs.lemmas.Bool.{eq-eqb, ne_eqb}
 use Rattle.shard_run.specs.declared.Shard.{Shard}
-use Rattle.route_engine.specs.Seats.{seat_of}
+use Rattle.shard.specs.Seats.{seat_of}
 use Rattle.empty_world.proofs.Empty.{kept_more, kept_same, same_at}
 use Rattle.empty_world.proofs.router.keyspace_parts.Goals as goal
 use Rattle.empty_world.proofs.router.keyspace_parts.Goals.{then-shard-keyspace+in_ok-try_clone+in_ok-push, else-shard-keyspace}

@@ -1,5 +1,5 @@
 use Rattle.std.proofs.Common.{◌≡◌, map, filter, take, ◌==◌}
-use Rattle.route_engine.specs.Seats.{seat_of}
+use Rattle.shard.specs.Seats.{seat_of}
 use Rattle.empty_world.proofs.router.keyspace_parts.Given as goal
 
 -- the parts of the shards so far

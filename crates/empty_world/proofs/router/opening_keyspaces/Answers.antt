@@ -2,7 +2,7 @@ use Rattle.std.proofs.Common.{ℕ, ◌==◌, ◌<◌, ◌++◌, ◌∷◌, [], L
 use Rattle.std.specs.List.{range_with_len}
 use Rattle.shard_run.specs.declared.Shard.{Shard}
 use Rattle.serving.specs.Partitions.{IsPartition}
-use Rattle.route_engine.specs.Seats.{seat_of}
+use Rattle.shard.specs.Seats.{seat_of}
 use Rattle.route_engine.proofs.Openings.{partition_at, of_keyspace}
 use Rattle.empty_world.proofs.Empty.{one_number_more}
 use Rattle.empty_world.proofs.router.opening_keyspaces.Goals as goal

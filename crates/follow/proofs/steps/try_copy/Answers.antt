@@ -4,7 +4,7 @@ use Rattle.shard_run.specs.declared.Shard.{Shard}
 use Rattle.shard_run.specs.declared.Entry.{Entry}
 use Rattle.shard_run.specs.declared.Event.TheVariants.{Copy}
 use Rattle.shard_run.specs.Runs.{Run, entries_on}
-use Rattle.shard.specs.Shards.{seat_of}
+use Rattle.shard.specs.Shards.{seat_view}
 use Rattle.shard.specs.Copying.{IsNextCopy}
 use Rattle.shard.proofs.Legality.{legal_is}
 use Rattle.follow.proofs.Onward.{still, looked, has_looked, stepped}
@@ -33,6 +33,6 @@ returns-in_ok-copy-clause-copied g c e =
     let target = c.args.target.now in
     let same : st.shard ≡ target = c.is.ensures c.if-is.true in
     let w = c.in_ok-copy.ensures.copied in
-    let first = looked o c.args.pass.now c.args.pass.now c.look-now.new.pass (seat_of c.args.state.now) st.seen _ (still o c.args.pass.now c.requires.legal) l.seen l.pass in
+    let first = looked o c.args.pass.now c.args.pass.now c.look-now.new.pass (seat_view c.args.state.now) st.seen _ (still o c.args.pass.now c.requires.legal) l.seen l.pass in
     stepped o c.args.pass.now w.0 c.copy.new.pass (record { seen = w.0.seen; shard = st.shard }) target (Copy c.args.taken)
     (has_looked o c.args.pass.now c.look-now.new.pass w.0 st.shard.slot first w.1) w.2 same

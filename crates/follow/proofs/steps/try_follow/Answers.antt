@@ -10,7 +10,7 @@ use Rattle.shard_run.specs.declared.Entry.{Entry}
 use Rattle.shard_run.specs.declared.Event.TheVariants.{Follow}
 use Rattle.shard_run.specs.Runs.{Run, entries_on}
 use Rattle.shard_run.specs.Copies.{change_is_copied}
-use Rattle.shard.specs.Shards.{IsNext, seat_of}
+use Rattle.shard.specs.Shards.{IsNext, seat_view}
 use Rattle.shard.proofs.Legality.{legal_is}
 use Rattle.follow.proofs.Onward.{still, looked, has_looked, stepped}
 use Rattle.follow.proofs.Moves.{entry_there, follow_next}
@@ -49,7 +49,7 @@ returns-in_ok-follow-clause-followed g c e =
     let target = c.args.target.now in
     let same : st.shard ≡ target = c.is.ensures c.if-is.true in
     let w = c.in_ok-follow.ensures.followed in
-    let first = looked o c.args.pass.now c.args.pass.now c.look-now.new.pass (seat_of c.args.state.now) st.seen _ (still o c.args.pass.now c.requires.legal) l.seen l.pass in (
+    let first = looked o c.args.pass.now c.args.pass.now c.look-now.new.pass (seat_view c.args.state.now) st.seen _ (still o c.args.pass.now c.requires.legal) l.seen l.pass in (
       c.in_ok-taken.taken,
       ap (λ (x : F.Follow). x.source) c.in_ok-taken.ensures.ok,
       stepped o c.args.pass.now w.0 c.follow.new.pass (record { seen = w.0.seen; shard = st.shard }) target (Follow c.in_ok-taken.taken)

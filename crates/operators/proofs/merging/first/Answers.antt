@@ -1,5 +1,5 @@
 use Rattle.std.proofs.Common.{◌≡◌, ◌<◌, length, sym, ◌∙◌, arith}
-use Rattle.operators.specs.inner.Merges.{row_lt, row_at, earlier}
+use Rattle.operators.specs.inner.Merges.{row_lt, head_row, earlier}
 use Rattle.operators.proofs.FirstLemmas.{row_read, stays, turns}
 use Rattle.operators.proofs.merging.first.Goals as goal
 use Rattle.operators.proofs.merging.first.Goals.{then-comes_before, else-comes_before}
@@ -13,7 +13,7 @@ loop-place-preserved g c =
     let within : place < length heads = omega (arith, c.loop-place-test.true) in
     let here = row_read heads place c.index-heads-place.result within in
     let there = row_read heads least c.index-heads-least.result (omega (arith, within, c.loop-place.invariant.0)) in
-    let test : earlier (row_lt keys) (row_at heads place) (row_at heads least) ≡ c.comes_before.result =
+    let test : earlier (row_lt keys) (head_row heads place) (head_row heads least) ≡ c.comes_before.result =
     rw (here, there) (sym c.comes_before.ensures)
     in
     elim c.if-comes_before.branch [

@@ -1,7 +1,7 @@
 use Rattle.std.proofs.Common.{map, take}
 use Rattle.shard_law.proofs.Lists.{all-weaker}
 use Rattle.shard_run.specs.declared.Event.TheVariants.{Serve}
-use Rattle.reshard.specs.Cutover.{HasServed}
+use Rattle.reshard.specs.Cutover.{HasBegunToServe}
 use Rattle.reshard.specs.Workflows.{Taking}
 use Rattle.reshard.proofs.Onward.{onward_trans, entry_later}
 use Rattle.reshard.proofs.Retiring.{all_map_next}
@@ -14,9 +14,9 @@ loop-target-preserved g c =
     record {
       onward = onward_trans g.W.World.opening c.args.pass.now q now c.loop-target.invariant.onward c.confirm_served.ensures.onward;
       served =
-          all_map_next (λ (t : Taking). HasServed now.seen t.0) (λ t. (t.member.which, map (λ s. s.which) t.sources.items)) c.args.targets.now
+          all_map_next (λ (t : Taking). HasBegunToServe now.seen t.0) (λ t. (t.member.which, map (λ s. s.which) t.sources.items)) c.args.targets.now
           c.loop-target.target-index c.target-item.result c.loop-target-test.true c.target-item.is
-          (all-weaker (λ (t : Taking). HasServed q.seen t.0) (λ (t : Taking). HasServed now.seen t.0)
+          (all-weaker (λ (t : Taking). HasBegunToServe q.seen t.0) (λ (t : Taking). HasBegunToServe now.seen t.0)
           (λ t h. entry_later q.seen now.seen t.0 Serve c.confirm_served.ensures.onward.later h)
           (map (λ t. (t.member.which, map (λ s. s.which) t.sources.items)) (take c.loop-target.target-index c.args.targets.now)) c.loop-target.invariant.served)
           c.confirm_served.ensures.served;

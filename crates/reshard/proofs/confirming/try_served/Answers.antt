@@ -6,7 +6,7 @@ use Rattle.shard_run.specs.declared.Entry.{Entry}
 use Rattle.shard_run.specs.Runs.{Run, mode}
 use Rattle.shard_run.specs.Legal.{IsOnItsSlot}
 use Rattle.shard.proofs.Legality.{legal_is}
-use Rattle.reshard.specs.Cutover.{HasServed}
+use Rattle.reshard.specs.Cutover.{HasBegunToServe}
 use Rattle.reshard.proofs.Served.{has_served}
 use Rattle.reshard.proofs.confirming.try_served.Goals as goal
 
@@ -17,7 +17,7 @@ returns-clause-served g c e =
     let which = c.args.which.now in
     let same : st.shard ≡ which = c.is.ensures c.if-not-is.false in
     let seen : st.seen ≡ c.look.new.pass.seen = sym (ap (λ (x : PassView Entry). x.seen) c.look.ensures.pass) in
-    subst (λ (r : Run). HasServed r which) seen
+    subst (λ (r : Run). HasBegunToServe r which) seen
     (has_served o c.requires.opens st.seen (legal_is o st.seen c.look.ensures.seen.legal) which
     (subst (IsOnItsSlot o st.seen) (sym c.look.ensures.shard ∙ same) c.look.ensures.stands)
     (λ none. false≢true (sym c.if-is_empty.false ∙ c.is_empty.ensures ∙ ap (λ (l : List ℕ). length l == 0) (c.as_slice.ensures ∙ none)))

@@ -1,7 +1,7 @@
 use Rattle.std.proofs.Common.{◌≡◌, ◌≤◌, ◌++◌, length, map, reverse, take}
 use Rattle.std.specs.Prelude.{vec_len, vec_capacity}
 use Rattle.std.specs.List.{AllByRecursion}
-use Rattle.reshard.specs.Workflows.{IsFree, placed}
+use Rattle.reshard.specs.Workflows.{IsFree, target_seats}
 use Rattle.reshard.specs.inner.Created.{IsMadeOf}
 use Rattle.reshard.proofs.creating.make_targets.Given as goal
 
@@ -14,7 +14,7 @@ invariant-loop-range g l = record {
   count : vec_len l.made ≡ l.range-index;
   space : length l.ranges ≤ vec_capacity l.made;
   ranges : map (λ t. t.member.which.place.range) l.made.items ≡ take l.range-index l.ranges;
-  seats : map (λ t. t.member.shard.value) l.made.items ≡ placed (map (λ t. (t.member.which, map (λ s. s.which) t.sources.items)) l.made.items);
+  seats : map (λ t. t.member.shard.value) l.made.items ≡ target_seats (map (λ t. (t.member.which, map (λ s. s.which) t.sources.items)) l.made.items);
   made : AllByRecursion (IsMadeOf (map (λ s. s.member.which) l.sources) l.ground.keyspace)
       (map (λ t. (t.member.which, map (λ s. s.which) t.sources.items)) l.made.items);
 }

@@ -1,5 +1,4 @@
-use Rattle.std.proofs.Common.{map}
-use Rattle.std.proofs.Common.{subst}
+use Rattle.std.proofs.Common.{map, subst}
 use Rattle.reshard.specs.Reopened.{AreThose}
 use Rattle.reshard.proofs.Making.{grown_so, all_so, map_at, map_short}
 use Rattle.reshard.proofs.Those.{grown_those}

@@ -1,7 +1,7 @@
 use Rattle.std.proofs.Common.{◌≡◌, length, map, ◌∙◌}
 use Rattle.serving.specs.Partitions.{Seat}
 use Rattle.shard.proofs.Progress.{take_whole}
-use Rattle.reshard.specs.Workflows.{seat_of}
+use Rattle.shard.specs.Seats.{seat_of}
 use Rattle.reshard.specs.Reopened.{Found}
 use Rattle.reshard.proofs.Onward.{onward_trans}
 use Rattle.reshard.proofs.Begins.{map_twice}

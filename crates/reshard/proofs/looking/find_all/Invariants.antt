@@ -1,7 +1,7 @@
 use Rattle.std.proofs.Common.{◌≡◌, map, take}
 use Rattle.std.specs.List.{AllByRecursion}
 use Rattle.follow.specs.Steps.{IsOnward}
-use Rattle.reshard.specs.Workflows.{seat_of}
+use Rattle.shard.specs.Seats.{seat_of}
 use Rattle.reshard.specs.Reopened.{IsFound}
 use Rattle.reshard.proofs.looking.find_all.Given as goal
 

@@ -5,7 +5,8 @@ use Rattle.keyrange.specs.Names.{IsNamed}
 use Rattle.serving.specs.Partitions.{Seat, ranges}
 use Rattle.follow.proofs.Moves.{at_not_some, at_some}
 use Rattle.shard_run.specs.declared.Shard.{Shard}
-use Rattle.reshard.specs.Workflows.{Taking, seat_of}
+use Rattle.shard.specs.Seats.{seat_of}
+use Rattle.reshard.specs.Workflows.{Taking}
 use Rattle.reshard.specs.Reopened.{Found, others}
 use Rattle.reshard.specs.inner.Glances.{IsTakenUp}
 use Rattle.reshard.proofs.Begins.{map_twice}

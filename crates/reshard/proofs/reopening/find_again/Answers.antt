@@ -5,8 +5,9 @@ use Rattle.std.proofs.lemmas.List.{length-map}
 use Rattle.keyrange.specs.Names.{IsNamed}
 use Rattle.follow.proofs.Moves.{at_not_some, at_some}
 use Rattle.shard_run.specs.declared.Shard.{Shard}
-use Rattle.reshard.specs.Workflows.{Taking, seat_of}
-use Rattle.reshard.specs.Reopened.{Found, AreFound, AreThose, IsStopped, unlike, through}
+use Rattle.shard.specs.Seats.{seat_of}
+use Rattle.reshard.specs.Workflows.{Taking}
+use Rattle.reshard.specs.Reopened.{Found, AreFound, AreThose, IsWorkflowAt, unlike, through}
 use Rattle.reshard.specs.inner.Glances.{IsTakenUp}
 use Rattle.reshard.proofs.Begins.{map_twice}
 use Rattle.reshard.proofs.Unfit.{residual}
@@ -67,7 +68,7 @@ returns-then-any_dropped-clause-refused g c =
     c.in_ok-both.ensures.found.of_sources)
     (subst (λ l. AreFound o c.args.pass.now c.find_both.new.pass c.args.into.now (map (λ f. (f.member.which, f.mode)) l)) (sym c.as_slice-2.ensures.value)
     c.in_ok-both.ensures.found.of_targets)
-    (subst (IsStopped c.args.keyspace c.args.parts.now c.args.from.now c.args.into.now sources targets again.course.frozen again.course.retired) all
+    (subst (IsWorkflowAt c.args.keyspace c.args.parts.now c.args.from.now c.args.into.now sources targets again.course.frozen again.course.retired) all
     (at_some _ _ c.in_ok-again.field-0 again c.in-Some.is c.in_ok-again.ensures.stopped))
 
 pub returns-clause-made : goal.returns-clause-made

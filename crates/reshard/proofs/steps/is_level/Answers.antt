@@ -1,5 +1,6 @@
 use Rattle.std.specs.Prelude.{IsTrue}
-use Rattle.reshard.specs.Steps.{Looked, has_source, IsUpTo}
+use Rattle.reshard.specs.Steps.{Looked, has_source}
+use Rattle.reshard.specs.inner.Steps.{IsUpTo}
 use Rattle.reshard.proofs.Retiring.{all_map_next}
 use Rattle.reshard.proofs.steps.is_level.Goals as goal
 

@@ -1,5 +1,5 @@
 use Rattle.std.proofs.Common.{map, take}
-use Rattle.reshard.specs.Steps.{AreFollowed}
+use Rattle.reshard.specs.inner.Steps.{AreFollowed}
 use Rattle.reshard.proofs.steps.is_level.Given as goal
 
 -- level with the sources so far

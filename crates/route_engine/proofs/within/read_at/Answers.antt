@@ -1,6 +1,6 @@
 use Rattle.std.proofs.Common.{◌∙◌}
 use Rattle.std.proofs.lemmas.Result.{err_from_is_err_and}
-use Rattle.route_engine.specs.Within as w
+use Rattle.route_engine.specs.inner.Within as w
 use Rattle.route_engine.proofs.Calling.{was_not_read}
 use Rattle.route_engine.proofs.within.read_at.Goals as goal
 

@@ -3,7 +3,8 @@ use Rattle.std.specs.Io.KnownBytes.{Appends}
 use Rattle.route_engine.specs.Pendings.{IsOf}
 use Rattle.session.specs.declared.reply.TheConstants.{REPLY_ROOM}
 use Rattle.session.specs.declared.standing.Standing.TheVariants.{At}
-use Rattle.session.specs.Outcomes.{Leads, Means, terms_of}
+use Rattle.session.specs.Outcomes.{Means, terms_of}
+use Rattle.session.specs.inner.Outcomes.{LeadsKept}
 use Rattle.session.specs.Talk.{Replies}
 use Rattle.session.proofs.answers.answer_all.Given as goal
 
@@ -14,6 +15,6 @@ invariant-loop-payload g l = record {
   room : REPLY_ROOM ≤ length l.reply.items + l.reply.spare;
   count : g.S.Sink.failures l.sink ≡ g.S.Sink.failures l.initial.sink;
   replies : (out : List ℕ) × Appends (g.S.Sink.taken l.initial.sink) (g.S.Sink.taken l.sink) out
-      × Leads g.W.World.opening l.initial.pass l.initial.tx l.pass l.tx
+      × LeadsKept g.W.World.opening l.initial.pass l.initial.tx l.pass l.tx
       (λ s now. Replies (terms_of g.W.World.opening l.fn.hello) (Means g.W.World.opening g.W.World.limits) l.fn.begin s (take l.payload-index l.payloads) out (At l.phase) now);
 }

@@ -6,7 +6,7 @@ use Rattle.vschema.specs.Schema.{no_table}
 use Rattle.vschema.specs.Database.{rows_of, changed_table}
 use Rattle.sql_eval.specs.Writes.{written_table}
 use Rattle.shard_store.specs.Stores.{IsReadyFor}
-use Rattle.shard.specs.Commits.{no_memory}
+use Rattle.shard.specs.inner.Commits.{no_memory}
 use Rattle.shard.proofs.Changes.{of_table, there_all}
 use Rattle.shard.proofs.contents.Contents.changes_twice.Goals as goal
 

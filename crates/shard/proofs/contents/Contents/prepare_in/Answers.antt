@@ -2,7 +2,8 @@ use Rattle.std.proofs.Common.{◌≡◌, List, vec_len, ap, sym, ◌∙◌}
 use Rattle.std.proofs.lemmas.Result.{err_from_is_err_and}
 use Rattle.vschema.specs.declared.changes.RowChange.{RowChange}
 use Rattle.shard_run.specs.Openings.{row_count}
-use Rattle.shard.specs.Transactions.{PendingView, has_room_for, no_memory, full}
+use Rattle.shard.specs.Transactions.{PendingView}
+use Rattle.shard.specs.inner.Transactions.{has_room_for, no_memory, full}
 use Rattle.shard.proofs.contents.Contents.prepare_in.Goals as goal
 
 pub returns-in_err-keyed-clause-err : goal.returns-in_err-keyed-clause-err

@@ -7,7 +7,7 @@ use Rattle.vschema.specs.Database.{Database, SameRows, all_applied}
 use Rattle.shard_run.specs.declared.Entry.{Entry}
 use Rattle.shard_run.specs.Runs.{mode, is_serving}
 use Rattle.shard.specs.declared.limits.Limits.{Limits}
-use Rattle.shard.specs.Shards.{commit_of, seat_of}
+use Rattle.shard.specs.Shards.{commit_of, seat_view}
 use Rattle.shard.specs.Transactions as t
 use Rattle.shard.proofs.States.{same_contents, names_none, lives_if}
 use Rattle.shard.proofs.StepsIn as steps
@@ -26,13 +26,13 @@ pub prepare_in-requires-clause-there : goal.prepare_in-requires-clause-there
 prepare_in-requires-clause-there g c =
     let l = c.in_ok-entries.ensures in
     steps.there g.W.World.opening g.W.World.limits c.self.inside.seat c.self.inside.contents c.self.invariant.0 _ c.self.view_is c.args.self.now.shard l.shard
-    (seat_of c.args.self.now) c.args.pass.now c.check.new.pass c.args.tx.now l.seen l.pass c.requires.tied l.clear
+    (seat_view c.args.self.now) c.args.pass.now c.check.new.pass c.args.tx.now l.seen l.pass c.requires.tied l.clear
 
 pub prepare_in-requires-clause-within : goal.prepare_in-requires-clause-within
 prepare_in-requires-clause-within g c =
     let l = c.in_ok-entries.ensures in
     let h = steps.within g.W.World.opening g.W.World.limits c.self.inside.seat c.self.inside.contents c.self.invariant.0 _ c.self.view_is c.args.self.now.shard l.shard
-    (seat_of c.args.self.now) c.args.pass.now c.check.new.pass c.args.tx.now l.seen l.pass c.requires.tied l.clear in
+    (seat_view c.args.self.now) c.args.pass.now c.check.new.pass c.args.tx.now l.seen l.pass c.requires.tied l.clear in
     let k = ap (λ (x : Limits). x.rows) c.self.invariant.0.limits in
     omega (arith, h, k)
 
@@ -42,7 +42,7 @@ returns-in_err-prepared-clause-refused g c =
     let l = c.in_ok-entries.ensures in
     rw (p.1, p.2)
     (steps.refused g.W.World.opening g.W.World.limits c.self.inside.seat c.self.inside.contents c.self.invariant.0 _ c.self.view_is c.args.self.now.shard l.shard
-    (seat_of c.args.self.now) c.args.pass.now c.check.new.pass c.args.tx.now l.seen l.pass c.requires.tied l.clear c.in_ok-entries.entries
+    (seat_view c.args.self.now) c.args.pass.now c.check.new.pass c.args.tx.now l.seen l.pass c.requires.tied l.clear c.in_ok-entries.entries
     c.in_err-prepared.field-0.0 l.entries c.in_err-prepared.ensures.err)
 
 pub append-requires-clause-lawful : goal.append-requires-clause-lawful
@@ -51,7 +51,7 @@ append-requires-clause-lawful g c κs within run next =
     let mine : c.args.pass.now.session ≡ Some c.unwrap.result = sym c.session.ensures.number ∙ c.unwrap.ensures in
     let low = subst (λ (n : ℕ). NumbersBelow commit_of c.unwrap.result n c.args.pass.now.seen) (sym c.statements.ensures) (c.requires.above c.unwrap.result mine) in
     steps.lawful g.W.World.opening g.W.World.limits c.self.inside.seat c.self.inside.contents c.self.invariant.0 _ c.self.view_is c.args.self.now.shard l.shard
-    (seat_of c.args.self.now) c.args.pass.now c.check.new.pass c.args.tx.now l.seen l.pass c.requires.tied l.clear c.unwrap.result c.statements.result mine low
+    (seat_view c.args.self.now) c.args.pass.now c.check.new.pass c.args.tx.now l.seen l.pass c.requires.tied l.clear c.unwrap.result c.statements.result mine low
     run next c.in_ok-prepared.prepared.entry c.in_ok-prepared.ensures.entry
 
 left : (g : _) (c : goal.After-take g)
@@ -65,7 +65,7 @@ left g c =
     let mine : c.args.pass.now.session ≡ Some c.unwrap.result = sym c.session.ensures.number ∙ c.unwrap.ensures in
     let low = subst (λ (n : ℕ). NumbersBelow commit_of c.unwrap.result n c.args.pass.now.seen) (sym c.statements.ensures) (c.requires.above c.unwrap.result mine) in
     steps.left g.W.World.opening g.W.World.limits c.self.inside.seat c.self.inside.contents c.self.invariant.0 _ c.self.view_is c.args.self.now.shard l.shard
-    (seat_of c.args.self.now) c.args.pass.now c.check.new.pass c.args.tx.now l.seen l.pass c.requires.tied l.clear c.unwrap.result c.statements.result mine low
+    (seat_view c.args.self.now) c.args.pass.now c.check.new.pass c.args.tx.now l.seen l.pass c.requires.tied l.clear c.unwrap.result c.statements.result mine low
     a.seen.0 a.seen.1 c.args.self.now.seen l.seen.seat c.in_ok-prepared.prepared.entry ok.entry c.statements.ensures c.append.new.self c.append.new.pass c.take.new.self
     a.seen.2 a.seat a.pass a.legal c.in_ok-entries.entries l.entries ok.limits (t.shard ∙ ok.shard)
     (subst (λ (db : Database). SameRows c.take.new.self.store.rows (all_applied c.args.tx.now.changes db)) ok.rows

@@ -5,7 +5,7 @@ use Rattle.vschema.specs.Database.{rows_of, all_applied}
 use Rattle.sql_eval.specs.Groups.{CanBeSummed}
 use Rattle.sql_eval.specs.Queries.{IsAnswer}
 use Rattle.shard_run.specs.Runs.{stored_on}
-use Rattle.shard.specs.Shards.{seat_of}
+use Rattle.shard.specs.Shards.{seat_view}
 use Rattle.shard.specs.Transactions.{touched_with, PendingView}
 use Rattle.shard.specs.Transactions as t
 use Rattle.shard.proofs.HeldRows.{length-of_table}
@@ -51,7 +51,7 @@ select_behind-requires-clause-summed g c aggregated few =
     let n = c.args.query.now.table in
     subst (λ (changes : List RowChange). CanBeSummed (rows_of (all_applied changes rows) n)) (sym own)
     (l.summed g.W.World.opening g.W.World.limits c.self.inside.seat c.self.inside.contents c.self.invariant.0 _ c.self.view_is c.args.self.now.shard e.shard
-    c.args.tx.now e.clear e.seen.legal (seat_of c.args.self.now) c.args.pass.now e.seen c.requires.tied c.requires.session c.requires.above n
+    c.args.tx.now e.clear e.seen.legal (seat_view c.args.self.now) c.args.pass.now e.seen c.requires.tied c.requires.session c.requires.above n
     (subst (λ (changes : List RowChange). length (rows_of (all_applied changes rows) n) ≤ 2 ^ 60) own few))
 
 pub returns-clause-read : goal.returns-clause-read

@@ -1,6 +1,6 @@
 use Rattle.std.proofs.Common.{◌≡◌, ◌++◌, map, drop, flat_map, None, option_copied}
 use Rattle.shard_store.specs.Slots.{rows_in, slots_with}
-use Rattle.shard_store.specs.Chosen.{risen}
+use Rattle.shard_store.specs.inner.Chosen.{risen}
 use Rattle.shard_store.proofs.slots.Slots.walks.Given as goal
 
 -- the walks so far, and those of the values that are left, are all

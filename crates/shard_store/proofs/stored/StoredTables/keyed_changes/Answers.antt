@@ -1,6 +1,6 @@
 use Rattle.std.proofs.Common.{◌≡◌, ◌∙◌, ◌++◌, List, sym, ap, length, take, arith}
 use Rattle.vschema.specs.declared.changes.RowChange.{RowChange}
-use Rattle.shard_store.specs.Stores.{all_split, split}
+use Rattle.shard_store.specs.inner.Stores.{all_split, split}
 use Rattle.shard_store.proofs.Splits.{split_next, take_all}
 use Rattle.shard_store.proofs.stored.StoredTables.keyed_changes.Goals as goal
 

@@ -1,6 +1,7 @@
 use Rattle.std.proofs.Common.{◌≡◌, take}
 use Rattle.std.specs.List.{AllByRecursion}
-use Rattle.shard_store.specs.Stores.{changes_in, all_split, HasItsKey}
+use Rattle.shard_store.specs.Stores.{changes_in, HasItsKey}
+use Rattle.shard_store.specs.inner.Stores.{all_split}
 use Rattle.shard_store.proofs.stored.StoredTables.keyed_changes.Given as goal
 
 abbrev pub invariant-loop-change : goal.invariant-loop-change

@@ -1,6 +1,0 @@
--- The seat of a shard in a partition: the slot that it stands on, its range and its keyspace.
-use Rattle.serving.specs.Partitions.{Seat}
-use Rattle.shard_run.specs.declared.Shard.{Shard}
-
-abbrev pub seat_of : Shard → Seat
-seat_of s = (s.slot, s.place.range, s.place.keyspace)

@@ -1,0 +1,5 @@
+pub mod Alone
+pub mod Answers
+pub mod Pendings
+pub mod Scatter
+pub mod Within
