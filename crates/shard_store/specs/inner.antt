@@ -1,3 +1,4 @@
 pub mod Chosen
+pub mod Listings
 pub mod Slots
 pub mod Stores

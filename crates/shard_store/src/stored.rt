@@ -8,6 +8,7 @@ ghost use Rattle.shard_store.specs.inner.Stores.{split, all_split};
 
 use crate::beside::TableRows;
 use crate::key::{KeyedChange, KeyedRow, RowKey};
+use crate::key_values::KeyValues;
 use crate::places::key_places;
 use std::alloc::Global;
 use std::marker::Model;
@@ -114,7 +115,7 @@ impl StoredTables {
         match self.tables.get(place) {
             Some(table) => table.key_of(alloc, row),
             None => Ok(RowKey {
-                values: Items::new(alloc),
+                values: KeyValues::new(Items::new(alloc)),
             }),
         }
     }

@@ -8,6 +8,7 @@ ghost use Rattle.shard_store.specs.Chosen.{is_among};
 ghost use Rattle.shard_store.specs.Behind.{is_behind, IsInOrder};
 
 use crate::key::RowKey;
+use crate::key_values::KeyValues;
 use crate::slots::Slots;
 use crate::sorted::sorted;
 use crate::walk::{RowsAmong, RowsInOrder, RowsWith};
@@ -45,7 +46,7 @@ fn copy_at(alloc: Global, row: &Row, place: usize) -> Result<Value, Refusal>
     }
 }
 
-fn key_values(alloc: Global, places: &[usize], row: &Row) -> Result<Row, Refusal>
+fn values_at(alloc: Global, places: &[usize], row: &Row) -> Result<Row, Refusal>
     ensures ok { IfOk result (λ values. values ≡ key_at places.now row.now) }
     ensures err { IfErr result (λ e. e ≡ Refusal.OutOfMemory) }
 {
@@ -54,6 +55,16 @@ fn key_values(alloc: Global, places: &[usize], row: &Row) -> Result<Row, Refusal
         values.push(copy_at(alloc, row, *place)?)?;
     }
     Ok(values)
+}
+
+fn key_values(alloc: Global, places: &[usize], row: &Row) -> Result<KeyValues, Refusal>
+    ensures ok { IfOk result (λ values. values ≡ key_at places.now row.now) }
+    ensures err { IfErr result (λ e. e ≡ Refusal.OutOfMemory) }
+{
+    match places {
+        [place] => KeyValues::of_one(alloc, copy_at(alloc, row, *place)?),
+        _ => Ok(KeyValues::new(values_at(alloc, places, row)?)),
+    }
 }
 
 impl StoredTable {

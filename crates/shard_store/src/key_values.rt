@@ -1,0 +1,123 @@
+//! The values of a key.
+ghost use Rattle.std.specs.Prelude.{◌≡◌, ◌∷◌, [], IfOk, IfErr};
+ghost use Rattle.std.specs.Cmp.Lexicographic.{slice_cmp};
+ghost use Rattle.vt_value.specs.Values.{value_cmp};
+ghost use Rattle.shard_store.specs.Slots.{begins};
+ghost use Rattle.shard_store.specs.inner.Listings.{listed};
+
+use std::alloc::Global;
+use std::cmp::Ordering;
+use std::marker::Model;
+use vt_value::{Items, Refusal, Row, Value, copy_row, sort_order};
+
+// One number stands here itself, so that such keys are made and compared without memory of their own.
+#[derive(Drop)]
+enum Listing {
+    Number(i128),
+    Values(Row),
+}
+
+/// The values of a key, of which most are one number. Contracts see their list.
+#[derive(Drop)]
+pub struct KeyValues {
+    listing: Listing,
+}
+
+impl Model for KeyValues {
+    ghost use Rattle.std.specs.Prelude.{List};
+    ghost use Rattle.vt_value.specs.declared.value.Value.{Value as V};
+    ghost use Rattle.shard_store.specs.inner.Listings.{listed};
+
+    ghost Value = { List V };
+
+    ghost view = { λ k. listed k.listing };
+}
+
+// A proper beginning comes before the longer list.
+fn compare_values(a: &[Value], b: &[Value]) -> Ordering
+    ensures { result ≡ slice_cmp value_cmp a.now b.now }
+{
+    match (a.split_first(), b.split_first()) {
+        (None, None) => Ordering::Equal,
+        (None, Some(_)) => Ordering::Less,
+        (Some(_), None) => Ordering::Greater,
+        (Some((x, a)), Some((y, b))) => match sort_order(x, y) {
+            Ordering::Equal => compare_values(a, b),
+            order => order,
+        },
+    }
+}
+
+fn compare_listings(a: &Listing, b: &Listing) -> Ordering
+    ensures { result ≡ slice_cmp value_cmp (listed a.now) (listed b.now) }
+{
+    match (a, b) {
+        (Listing::Number(m), Listing::Number(n)) => m.cmp(n),
+        (Listing::Number(m), Listing::Values(b)) => {
+            compare_values(&[Value::Int(*m)], b.as_slice())
+        }
+        (Listing::Values(a), Listing::Number(n)) => {
+            compare_values(a.as_slice(), &[Value::Int(*n)])
+        }
+        (Listing::Values(a), Listing::Values(b)) => compare_values(a.as_slice(), b.as_slice()),
+    }
+}
+
+impl KeyValues {
+    /// These values.
+    pub fn new(values: Row) -> KeyValues
+        ensures { result ≡ values }
+    {
+        KeyValues {
+            listing: Listing::Values(values),
+        }
+    }
+
+    /// One value alone. Refuses for want of memory.
+    pub fn of_one(alloc: Global, value: Value) -> Result<KeyValues, Refusal>
+        ensures ok { IfOk result (λ values. values ≡ value ∷ []) }
+        ensures err { IfErr result (λ e. e ≡ Refusal.OutOfMemory) }
+    {
+        let listing = match value {
+            Value::Int(number) => Listing::Number(number),
+            other => {
+                let mut values = Items::new(alloc);
+                values.push(other)?;
+                Listing::Values(values)
+            }
+        };
+        Ok(KeyValues { listing })
+    }
+
+    /// Equal values. Refuses for want of memory.
+    pub fn copy(&self, alloc: Global) -> Result<KeyValues, Refusal>
+        ensures ok { IfOk result (λ values. values ≡ self.now) }
+        ensures err { IfErr result (λ e. e ≡ Refusal.OutOfMemory) }
+    {
+        let listing = match &self.listing {
+            Listing::Number(number) => Listing::Number(*number),
+            Listing::Values(values) => Listing::Values(copy_row(alloc, values)?),
+        };
+        Ok(KeyValues { listing })
+    }
+
+    /// Compares them in the order of values, one after the other.
+    pub fn compare(&self, other: &KeyValues) -> Ordering
+        ensures { result ≡ slice_cmp value_cmp self.now other.now }
+    {
+        compare_listings(&self.listing, &other.listing)
+    }
+
+    /// Whether they begin with a value.
+    pub fn begin_with(&self, value: &Value) -> bool
+        ensures { result ≡ begins value.now self.now }
+    {
+        match &self.listing {
+            Listing::Number(number) => sort_order(value, &Value::Int(*number)).is_eq(),
+            Listing::Values(values) => match values.as_slice().first() {
+                Some(first) => sort_order(value, first).is_eq(),
+                None => false,
+            },
+        }
+    }
+}
