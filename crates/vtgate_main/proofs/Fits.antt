@@ -10,7 +10,7 @@ use Rattle.vschema.specs.declared.schema.VSchema.{VSchema}
 use Rattle.vschema.specs.Schema.{place_from}
 use Rattle.empty_opening.specs.Empty.{unsharded_keyspace, sharded_keyspace, full_range, shards_from, keyspace_shards, empty_shards, FitRanges}
 use Rattle.empty_opening.proofs.Opens.{fit_from}
-use Rattle.vtgate_lines.specs.Partitions.{IsListOf, IsPartition}
+use Rattle.vtgate_lines.specs.Partitions.{IsListOf, NamesPartition}
 use Rattle.vtgate_lines.specs.Partitions as p
 
 named_list : (text : List ℕ) (ranges : List KeyRange) → IsListOf text ranges → AllByRecursion IsNamed ranges
@@ -66,7 +66,7 @@ module _ {X : Type 0} (P : X → Type 0) where
   from_all [] h = tt
   from_all (x ∷ xs) h = (h zero x (omega arith), from_all xs (λ k d l. h (suc k) d (omega (arith, l))))
 
-pub fits : (schema : VSchema) (word : List ℕ) (ranges : List KeyRange) → IsPartition word ranges → length (empty_shards schema ranges) ≤ 64
+pub fits : (schema : VSchema) (word : List ℕ) (ranges : List KeyRange) → NamesPartition word ranges → length (empty_shards schema ranges) ≤ 64
     → FitRanges schema ranges
 fits schema word ranges told slots =
     fit_from schema ranges

@@ -9,7 +9,7 @@ use Rattle.shard_run.specs.declared.Entry.{Entry}
 use Rattle.shard_run.specs.Runs.{Opening}
 use Rattle.shard.specs.declared.limits.Limits.{Limits}
 use Rattle.route_engine.specs.declared.reply.Reply.{Reply}
-use Rattle.route_engine.specs.Transactions.{Transaction, IsAnswer, IsRefusedAt}
+use Rattle.route_engine.specs.Transactions.{Transaction, IsReplyTo, IsRefusedAt}
 use Rattle.route_engine.specs.Pendings.{OpenView, Stands, IsOf}
 use Rattle.session.proofs.Steps.{answer_on, refusal_at_on}
 
@@ -19,7 +19,7 @@ use Rattle.session.proofs.Steps.{answer_on, refusal_at_on}
 module _ (o : Opening) (l : Limits) (p now : PassView Entry) (v w : Option OpenView) (text : List ℕ) where
   abbrev pub Answered : Reply → Type 0
   Answered r = (t : Option Transaction) → Stands o p v t
-      → (u : Option Transaction) × IsAnswer o l (record { pass = p; tx = t }) text r (record { pass = now; tx = u }) × Stands o now w u
+      → (u : Option Transaction) × IsReplyTo o l (record { pass = p; tx = t }) text r (record { pass = now; tx = u }) × Stands o now w u
 
   abbrev pub Refused : Refusal → Type 0
   Refused e = (t : Option Transaction) → Stands o p v t

@@ -15,9 +15,10 @@ use Rattle.route_engine.specs.Pendings as stands
 use Rattle.route_engine.specs.Pendings.{OpenView, IsOf}
 use Rattle.session.specs.Outcomes.{PassAndTransaction, none_open}
 use Rattle.vtgate_main.specs.Scripted as s
-use Rattle.vtgate_main.specs.Scripted.{Session, Progress, Prints, Runs, met}
+use Rattle.vtgate_main.specs.Scripted.{Session, Progress, PrintsAt, Runs, met}
+use Rattle.vtgate_main.proofs.Knowing.{known_opened}
 use Rattle.vtgate_main.specs.inner.UnderWay as u
-use Rattle.vtgate_main.specs.inner.UnderWay.{Kept, KeptSession, KeptProgress, IsKeptOf, AreKept, IsProgressOf, PrintsFrom, HasOpened, IsBehind}
+use Rattle.vtgate_main.specs.inner.UnderWay.{Kept, KeptSession, KeptProgress, IsKeptOf, AreKept, IsProgressOf, PrintsHere, HasOpened, IsBehind, IsKnown}
 
 module _ {X : Type 0} where
   parted : (xs : List X) (k : ℕ) (d : X) → k < length xs → xs ≡ take k xs ++ get_or xs k d ∷ drop (suc k) xs
@@ -98,7 +99,7 @@ nobody = record { name = []; state = none_open (new_pass [] (Some 0)) }
 -- the session was there
 module _ (o : Opening) (old : KeptProgress) (name sql text : List ℕ) (place : ℕ) (now : Kept) (below : place < length old.sessions)
     (named : (d : KeptSession) → (get_or old.sessions place d).name ≡ name)
-    (prints : PrintsFrom o old.seen (get_or old.sessions place no_kept).kept sql text now) (p : Progress) (held : IsProgressOf o old p) where
+    (prints : PrintsHere o old.seen (get_or old.sessions place no_kept).kept sql text now) (p : Progress) (held : IsProgressOf o old p) where
   abbrev mine : KeptSession
   mine = get_or old.sessions place no_kept
 
@@ -109,7 +110,7 @@ module _ (o : Opening) (old : KeptProgress) (name sql text : List ℕ) (place : 
   one_there = are_at o old.sessions p.sessions place no_kept nobody held.sessions below
 
   abbrev Then : Type 0
-  Then = (s : PassAndTransaction) × IsKeptOf o now s × Prints o (met old.seen theirs.state) sql text s
+  Then = (s : PassAndTransaction) × IsKeptOf o now s × PrintsAt o (met old.seen theirs.state) sql text s
 
   theirs_named : theirs.name ≡ name
   theirs_named = sym one_there.name ∙ named no_kept
@@ -127,7 +128,7 @@ module _ (o : Opening) (old : KeptProgress) (name sql text : List ℕ) (place : 
 
   runs_there : Then → (q : Progress) × IsProgressOf o (after_run old place no_kept now) q × Runs o p name sql text q
   runs_there then =
-      let printed = subst (λ (r : Run). Prints o (met r theirs.state) sql text then.0) held.seen then.2 in
+      let printed = subst (λ (r : Run). PrintsAt o (met r theirs.state) sql text then.0) held.seen then.2 in
       let kept =
       are_set o old.sessions p.sessions place (record { name = mine.name; kept = now }) (record { name = name; state = then.0 }) held.sessions
       (record { name = named no_kept; kept = then.1 }) in (
@@ -136,36 +137,36 @@ module _ (o : Opening) (old : KeptProgress) (name sql text : List ℕ) (place : 
           sessions =
               subst (λ (ss : List Session). AreKept o (set old.sessions place (record { name = mine.name; kept = now })) ss)
               (set_parted p.sessions place (record { name = name; state = then.0 }) there_below) kept;
-          seen = ap (λ (q : PassView Entry). q.seen) (sym then.1.0);
+          seen = ap (λ (q : PassView Entry). q.seen) (sym then.1.0.0);
         },
         s.again (take place p.sessions) (drop (suc place) p.sessions) theirs.state whole_there printed,
       )
 
 -- it was opened
 module _ (o : Opening) (old : KeptProgress) (name sql text : List ℕ) (now : Kept) (none : AllByRecursion (λ x. x.name ≢ name) old.sessions)
-    (prints : PrintsFrom o old.seen (new_kept old (length old.sessions)) sql text now) (p : Progress) (held : IsProgressOf o old p) where
+    (prints : PrintsHere o old.seen (new_kept old (length old.sessions)) sql text now) (p : Progress) (held : IsProgressOf o old p) where
   abbrev opened_at : Run → ℕ → PassAndTransaction
   opened_at seen n = none_open (new_pass seen (Some n))
 
   runs_first : (q : Progress) × IsProgressOf o (record { sessions = old.sessions ++ record { name = name; kept = now } ∷ []; seen = now.pass.seen }) q
       × Runs o p name sql text q
   runs_first =
-      let then = prints (opened_at old.seen (length old.sessions)) (refl, stands.closed) in
+      let then = prints (opened_at old.seen (length old.sessions)) ((refl, stands.closed), tt) in
       let same = are_length o old.sessions p.sessions held.sessions in
-      let numbered = subst (λ (n : ℕ). Prints o (opened_at old.seen n) sql text then.0) same then.2 in
-      let printed = subst (λ (r : Run). Prints o (opened_at r (length p.sessions)) sql text then.0) held.seen numbered in (
+      let numbered = subst (λ (n : ℕ). PrintsAt o (opened_at old.seen n) sql text then.0) same then.2 in
+      let printed = subst (λ (r : Run). PrintsAt o (opened_at r (length p.sessions)) sql text then.0) held.seen numbered in (
         record { sessions = p.sessions ++ record { name = name; state = then.0 } ∷ []; seen = then.0.pass.seen },
         record {
           sessions =
               are_push o old.sessions p.sessions (record { name = name; kept = now }) (record { name = name; state = then.0 }) held.sessions
               (record { name = refl; kept = then.1 });
-          seen = ap (λ (q : PassView Entry). q.seen) (sym then.1.0);
+          seen = ap (λ (q : PassView Entry). q.seen) (sym then.1.0.0);
         },
         s.first (are_unnamed o name old.sessions p.sessions held.sessions none) printed,
       )
 
 pub has_run : (o : Opening) (old mid after : KeptProgress) (name sql text : List ℕ) (place : ℕ) (now : Kept) → HasOpened old name place mid
-    → ((d : KeptSession) → PrintsFrom o mid.seen (get_or mid.sessions place d).kept sql text now)
+    → ((d : KeptSession) → PrintsHere o mid.seen (get_or mid.sessions place d).kept sql text now)
     → ((d : KeptSession) → after ≡ after_run mid place d now)
     → (p : Progress) → IsProgressOf o old p → (q : Progress) × IsProgressOf o after q × Runs o p name sql text q
 has_run o old mid after name sql text place now (u.was below named) prints is p held =
@@ -177,9 +178,9 @@ has_run o old mid after name sql text place now (u.opened none at_end) prints is
     let ks = old.sessions in
     let opened : KeptSession = record { name = name; kept = new_kept old place } in
     let at : get_or (ks ++ opened ∷ []) place no_kept ≡ opened = ap (λ n. get_or (ks ++ opened ∷ []) n no_kept) at_end ∙ last_of ks opened no_kept in
-    let began : PrintsFrom o old.seen (new_kept old place) sql text now =
-    subst (λ (x : KeptSession). PrintsFrom o old.seen x.kept sql text now) at (prints no_kept) in
-    let numbered = subst (λ n. PrintsFrom o old.seen (new_kept old n) sql text now) at_end began in
+    let began : PrintsHere o old.seen (new_kept old place) sql text now =
+    subst (λ (x : KeptSession). PrintsHere o old.seen x.kept sql text now) at (prints no_kept) in
+    let numbered = subst (λ n. PrintsHere o old.seen (new_kept old n) sql text now) at_end began in
     let then : after ≡ record { sessions = ks ++ record { name = name; kept = now } ∷ []; seen = now.pass.seen } =
     is no_kept
     ∙ (ap (λ (x : KeptSession). record { sessions = set (ks ++ opened ∷ []) place (record { name = x.name; kept = now }); seen = now.pass.seen }) at
@@ -278,8 +279,9 @@ opened_behind o seen [] name number h = ((refl, prefix_self seen, (None, stands.
 opened_behind o seen (x ∷ xs) name number h = (h.0, opened_behind o seen xs name number h.1)
 
 pub keeps_opened : (o : Opening) (seen then : Run) (xs mid all : List KeptSession) (name : List ℕ) (pass : PassView Entry) (tx : Option OpenView) (opened next : ℕ)
-    → (opened ≡ length xs) × AllByRecursion (IsBehind o seen) xs → pass ≡ new_pass seen (Some opened) → tx ≡ None → then ≡ seen → next ≡ opened + 1 → mid ≡ xs
-    → all ≡ mid ++ record { name = name; kept = record { pass = pass; tx = tx } } ∷ [] → (next ≡ length all) × AllByRecursion (IsBehind o then) all
+    → (opened ≡ length xs) × AllByRecursion (IsBehind o seen) xs × IsKnown opened seen xs → pass ≡ new_pass seen (Some opened) → tx ≡ None → then ≡ seen
+    → next ≡ opened + 1 → mid ≡ xs → all ≡ mid ++ record { name = name; kept = record { pass = pass; tx = tx } } ∷ []
+    → (next ≡ length all) × AllByRecursion (IsBehind o then) all × IsKnown next then all
 keeps_opened o seen then xs mid all name pass tx opened next kept is_pass is_tx later is_next same is =
     let one : KeptSession = record { name = name; kept = record { pass = pass; tx = tx } } in
     let fresh : KeptSession = record { name = name; kept = record { pass = new_pass seen (Some opened); tx = None } } in
@@ -291,8 +293,11 @@ keeps_opened o seen then xs mid all name pass tx opened next kept is_pass is_tx 
     let longer = length-append xs (fresh ∷ []) in
     let many = kept.0 in
     let counted : next ≡ length (xs ++ fresh ∷ []) = omega (arith, longer, many, is_next) in
-    subst (λ (ys : List KeptSession). (next ≡ length ys) × AllByRecursion (IsBehind o then) ys) (sym whole)
-    (counted, subst (λ (r : Run). AllByRecursion (IsBehind o r) (xs ++ fresh ∷ [])) (sym later) (opened_behind o seen xs name opened kept.1))
+    let known : IsKnown next then (xs ++ fresh ∷ []) =
+    subst (λ (n : ℕ). IsKnown n then (xs ++ fresh ∷ [])) (sym is_next)
+    (subst (λ (r : Run). IsKnown (opened + 1) r (xs ++ fresh ∷ [])) (sym later) (known_opened opened seen xs name kept.0 kept.2)) in
+    subst (λ (ys : List KeptSession). (next ≡ length ys) × AllByRecursion (IsBehind o then) ys × IsKnown next then ys) (sym whole)
+    (counted, subst (λ (r : Run). AllByRecursion (IsBehind o r) (xs ++ fresh ∷ [])) (sym later) (opened_behind o seen xs name opened kept.1), known)
 
 -- The session at a place has run a statement.
 module _ (o : Opening) (xs : List KeptSession) (k : ℕ) (below : k < length xs) (name : List ℕ) (p now : Kept) (x : KeptSession) (value : x ≡ get_or xs k x)
@@ -314,10 +319,10 @@ module _ (o : Opening) (xs : List KeptSession) (k : ℕ) (below : k < length xs)
       )
 
   module _ (s : KeptProgress) (is : record { sessions = xs; seen = seen } ≡ s) where
-    pub prints_at : (sql text : List ℕ) → PrintsFrom o seen p sql text now → (d : KeptSession) → PrintsFrom o s.seen (get_or s.sessions k d).kept sql text now
+    pub prints_at : (sql text : List ℕ) → PrintsHere o seen p sql text now → (d : KeptSession) → PrintsHere o s.seen (get_or s.sessions k d).kept sql text now
     prints_at sql text h d =
-        subst (λ (s : KeptProgress). PrintsFrom o s.seen (get_or s.sessions k d).kept sql text now) is
-        (subst (λ (y : KeptSession). PrintsFrom o seen y.kept sql text now) (sym (at_place d)) h)
+        subst (λ (s : KeptProgress). PrintsHere o s.seen (get_or s.sessions k d).kept sql text now) is
+        (subst (λ (y : KeptSession). PrintsHere o seen y.kept sql text now) (sym (at_place d)) h)
 
     pub after_is : (d : KeptSession) → record { sessions = set xs k (record { name = name; kept = now }); seen = then } ≡ after_run s k d now
     after_is d =

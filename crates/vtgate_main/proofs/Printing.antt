@@ -16,7 +16,9 @@ use Rattle.session.specs.Outcomes.{PassAndTransaction}
 use Rattle.route_engine.proofs.Anywhere.{stands_met}
 use Rattle.vtgate_main.specs.Scripted as s
 use Rattle.vtgate_main.specs.Scripted.{Prints, met}
-use Rattle.vtgate_main.specs.inner.UnderWay.{PrintsFrom, IsTold}
+use Rattle.session.specs.inner.TypedSteps.{AreTyped}
+use Rattle.vtgate_main.specs.inner.UnderWay.{PrintsFrom, IsOutcomeShown}
+use Rattle.vtgate_main.proofs.Typing.{typed_then}
 use Rattle.vtgate_main.proofs.Passes.{Answered, Refused, goes_on, sees_all}
 
 pub on_ok : {X E P Q : Type 0} (r : Result X E) → OnOk r P → (P → Q) → OnOk r Q
@@ -29,7 +31,7 @@ module _ (o : Opening) (p now : PassView Entry) (v w : Option OpenView) (sql tex
       → (u : Option Transaction) × Prints o (record { pass = p; tx = t }) sql text (record { pass = now; tx = u }) × Stands o now w u
 
   told : (outcome : Result Reply Refusal) → IfOk outcome (Answered o most_limits p now v w sql) → IfErr outcome (Refused o most_limits p now v w sql)
-      → IsTold outcome text → Printed
+      → IsOutcomeShown outcome text → Printed
   told (Ok reply) is why (inl e) t stands =
       let said = is t stands in
       (said.0, subst (λ (x : List ℕ). Prints o (record { pass = p; tx = t }) sql x (record { pass = now; tx = said.0 })) (sym e) (s.answered reply said.1), said.2)
@@ -41,7 +43,7 @@ module _ (o : Opening) (p now : PassView Entry) (v w : Option OpenView) (sql tex
       (said.0, subst (λ (x : List ℕ). Prints o (record { pass = p; tx = t }) sql x (record { pass = now; tx = said.0 })) (sym e) (s.refused said.1), said.2)
 
   is_printed : (l : Limits) → l ≡ most_limits → (outcome : Result Reply Refusal) → IfOk outcome (Answered o l p now v w sql)
-      → IfErr outcome (Refused o l p now v w sql) → IsTold outcome text → Printed
+      → IfErr outcome (Refused o l p now v w sql) → IsOutcomeShown outcome text → Printed
   is_printed l e outcome is why t =
       told outcome (subst (λ (m : Limits). IfOk outcome (Answered o m p now v w sql)) e is)
       (subst (λ (m : Limits). IfErr outcome (Refused o m p now v w sql)) e why) t
@@ -78,12 +80,13 @@ module _ (o : Opening) (l : Limits) (sql text : List ℕ) (outcome : Result Repl
   ended : p3 ≡ p2
   ended = then ∙ ap (λ run. seen_by run p2) (sees_all slot_of commit_of (MayFollow o) all1 p2 all2.seen second later)
 
-  pub prints_behind : l ≡ most_limits → IsTold outcome text → PrintsFrom o all.seen (record { pass = p; tx = v }) sql text (record { pass = p3; tx = w })
+  pub prints_behind : l ≡ most_limits → IsOutcomeShown outcome text → PrintsFrom o all.seen (record { pass = p; tx = v }) sql text (record { pass = p3; tx = w })
   prints_behind e t = λ s held.
-      let said = is_printed o p1 p2 v w sql text l e outcome is why t s.tx (still s.tx held.1) in
+      let said = is_printed o p1 p2 v w sql text l e outcome is why t s.tx (still s.tx held.0.1) in
       let here : record { pass = p1; tx = s.tx } ≡ met all.seen s =
-      ap (λ (q : PassView Entry). record { pass = q; tx = s.tx }) (begun ∙ ap (λ (q : PassView Entry). seen_by all.seen q) (sym held.0)) in (
+      ap (λ (q : PassView Entry). record { pass = q; tx = s.tx }) (begun ∙ ap (λ (q : PassView Entry). seen_by all.seen q) (sym held.0.0)) in
+      let typed : AreTyped o said.0 = typed_then o (record { pass = p1; tx = s.tx }) (record { pass = p2; tx = said.0 }) sql text held.1 said.1 in (
         record { pass = p2; tx = said.0 },
-        (sym ended, subst (λ (q : PassView Entry). Stands o q w said.0) (sym ended) said.2),
+        ((sym ended, subst (λ (q : PassView Entry). Stands o q w said.0) (sym ended) said.2), typed),
         subst (λ (x : PassAndTransaction). Prints o x sql text (record { pass = p2; tx = said.0 })) here said.1,
       )

@@ -5,7 +5,8 @@ use Rattle.std.specs.Io.KnownBytes.{Appends}
 use Rattle.std.proofs.KnownBytes.{Appends-nil, Appends-trans}
 use Rattle.journal.specs.Views.{PassView}
 use Rattle.shard_run.specs.declared.Entry.{Entry}
-use Rattle.shard_run.specs.Runs.{Opening}
+use Rattle.shard_run.specs.Runs.{Run, Opening}
+use Rattle.route_engine.specs.Alone.{NoCommits}
 use Rattle.shard.specs.Shards.{most_limits}
 use Rattle.reshard.specs.Workflows.{WorkflowView}
 use Rattle.administration.specs.declared.reply.AdminReply.{AdminReply}
@@ -16,7 +17,7 @@ use Rattle.vtgate_lines.specs.Lines as l
 use Rattle.vtgate_main.specs.Planned.{Known}
 use Rattle.vtgate_main.specs.Scripted as s
 use Rattle.vtgate_main.specs.inner.UnderWay.{KeptProgress, IsProgressOf, nothing_kept}
-use Rattle.vtgate_main.specs.Scripted.{Progress, Gives, AllGive, HasGiven, at_first}
+use Rattle.vtgate_main.specs.Scripted.{Progress, PrintsLine, AllGive, HasGiven, at_first}
 
 -- What was written so far, over the lines that are run: whatever the rest gives stands behind it.
 pub record IsUnderWay (o : Opening) (first : Progress) (workflow : Option WorkflowView) (lines : List ℕ) (taken : Known) (now : Progress)
@@ -32,7 +33,7 @@ begins o first workflow lines taken = record { written = []; appended = Appends-
 
 module _ (o : Opening) (first now mid : Progress) (workflow then amid : Option WorkflowView) (lines rest line more text : List ℕ)
     (taken taken_now taken_then : Known) where
-  pub one_more : IsUnderWay o first workflow lines taken now then rest taken_now → IsNextLine rest line more → Gives o now then line text mid amid
+  pub one_more : IsUnderWay o first workflow lines taken now then rest taken_now → IsNextLine rest line more → PrintsLine o now then line text mid amid
       → Appends taken_now taken_then text → IsUnderWay o first workflow lines taken mid amid more taken_then
   one_more so next gives appends = record {
     written = so.written ++ text;
@@ -72,7 +73,7 @@ none_run o workflow lines taken kept none = (
 
 pub one_run : (o : Opening) (workflow was then : Option WorkflowView) (kept after : KeptProgress) (lines rest line more : List ℕ) (taken : Known) (text : List ℕ)
     (taken_now taken_then : Known) → AreRun o workflow lines taken kept was rest taken_now → IsNextLine rest line more → Appends taken_now taken_then text
-    → ((p : Progress) → IsProgressOf o kept p → (q : Progress) × IsProgressOf o after q × Gives o p was line text q then)
+    → ((p : Progress) → IsProgressOf o kept p → (q : Progress) × IsProgressOf o after q × PrintsLine o p was line text q then)
     → AreRun o workflow lines taken after then more taken_then
 one_run o workflow was then kept after lines rest line more taken text taken_now taken_then so next appends gives =
     let mid = gives so.0 so.1 in
@@ -84,12 +85,12 @@ all_run o workflow then lines taken kept rest taken_now so none = ends o workflo
 
 -- what an admin line leaves of what is kept
 pub admin_run : (o : Opening) (kept after : KeptProgress) (was then : Option WorkflowView) (line words : List ℕ) (p q : PassView Entry) (reply : AdminReply)
-    → IsAdminLine line words → p.seen ≡ kept.seen → after ≡ record kept { seen = q.seen } → IsTold o most_limits words p q reply was then
-    → (from : Progress) → IsProgressOf o kept from → (t : Progress) × IsProgressOf o after t × Gives o from was line (reply_text reply) t then
-admin_run o kept after was then line words p q reply asks seen left told from held = (
+    → IsAdminLine line words → p.seen ≡ kept.seen → NoCommits kept.seen q.seen → after ≡ record kept { seen = q.seen } → IsTold o most_limits words p q reply was then
+    → (from : Progress) → IsProgressOf o kept from → (t : Progress) × IsProgressOf o after t × PrintsLine o from was line (reply_text reply) t then
+admin_run o kept after was then line words p q reply asks seen still left told from held = (
   record from { seen = q.seen },
   subst (λ (k : KeptProgress). IsProgressOf o k (record from { seen = q.seen })) (sym left) (record { sessions = held.sessions; seen = refl }),
-  s.admin words p q asks (seen ∙ held.seen) told,
+  s.admin words p q asks (seen ∙ held.seen) (subst (λ (r : Run). NoCommits r q.seen) held.seen still) told,
 )
 
 -- a line is behind it

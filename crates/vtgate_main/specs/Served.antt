@@ -4,9 +4,9 @@ use Rattle.std.specs.Io.KnownBytes.{Appends}
 use Rattle.keyrange.specs.declared.KeyRange.{KeyRange}
 use Rattle.vschema.specs.declared.schema.VSchema.{VSchema}
 use Rattle.empty_opening.specs.Empty.{FitRanges}
-use Rattle.vtgate_lines.specs.Partitions.{IsPartition}
+use Rattle.vtgate_lines.specs.Partitions.{NamesPartition}
 use Rattle.vtgate_lines.specs.Printed.{line}
-use Rattle.vtgate_main.specs.Planned.{Known, HasRead}
+use Rattle.vtgate_main.specs.Planned.{Known, HasDeclared}
 
 abbrev pub listening_text : List ℕ
 listening_text = line (codes "listening")
@@ -16,7 +16,7 @@ listening_text = line (codes "listening")
 pub record HasServed (shards : List ℕ) (unread rest taken now : Known) : Type 0 where
   pub schema : VSchema
   pub ranges : List KeyRange
-  pub read : HasRead unread rest schema
-  pub partition : IsPartition shards ranges
+  pub read : HasDeclared unread rest schema
+  pub partition : NamesPartition shards ranges
   pub fit : FitRanges schema ranges
   pub printed : Appends taken now listening_text

@@ -1,8 +1,8 @@
 //! `vtgate plan`: the route of a statement, and its shards.
 ghost use Rattle.std.specs.Prelude.{◌≡◌, List, IfOk};
 ghost use Rattle.keyrange.specs.declared.KeyRange.{KeyRange};
-ghost use Rattle.vtgate_lines.specs.Partitions.{IsPartition};
-ghost use Rattle.vtgate_main.specs.Planned.{HasRead, IsPlanned, HasPlanned};
+ghost use Rattle.vtgate_lines.specs.Partitions.{NamesPartition};
+ghost use Rattle.vtgate_main.specs.Planned.{HasDeclared, IsPlanned, HasPlanned};
 
 use crate::fault::{Fault, refuse};
 use crate::input::read_all;
@@ -14,7 +14,7 @@ use vschema::VSchema;
 use vtgate_lines::plan_line;
 
 fn read_schema<I: Source>(alloc: Global, input: &mut I) -> Result<VSchema, Fault>
-    ensures { IfOk result (λ schema. HasRead (I.unread input.old) (I.unread input.new) schema) }
+    ensures { IfOk result (λ schema. HasDeclared (I.unread input.old) (I.unread input.new) schema) }
 {
     let bytes = read_all(alloc, input)?;
     schema_of(alloc, &bytes)
@@ -27,7 +27,7 @@ fn planned<I: Source>(
     input: &mut I,
 ) -> Result<Vec<u8>, Fault>
     ensures ok { IfOk result (λ line. IsPlanned shards.now sql.now (I.unread input.old) (I.unread input.new) line.items) }
-    ensures untouched { ((ranges : List KeyRange) → IsPartition shards.now ranges → ⊥) → input.new ≡ input.old }
+    ensures untouched { ((ranges : List KeyRange) → NamesPartition shards.now ranges → ⊥) → input.new ≡ input.old }
 {
     let ranges = ranges_of(alloc, shards)?;
     let schema = read_schema(alloc, input)?;
@@ -54,7 +54,7 @@ pub fn run_plan<I: Source, O: Sink, E: Sink>(
 ) -> u8
     ensures planned { result ≡ SUCCESS → HasPlanned shards.now sql.now (I.unread input.old) (I.unread input.new) (O.taken output.old) (O.taken output.new) }
     // A wrong word is refused before anything is read.
-    ensures untouched { ((ranges : List KeyRange) → IsPartition shards.now ranges → ⊥) → input.new ≡ input.old }
+    ensures untouched { ((ranges : List KeyRange) → NamesPartition shards.now ranges → ⊥) → input.new ≡ input.old }
 {
     match planned(alloc, shards, sql, input) {
         Ok(line) => match output.write(&line) {

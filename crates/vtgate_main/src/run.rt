@@ -3,7 +3,7 @@ ghost use Rattle.std.specs.Prelude.{◌≡◌, ◌≢◌, ℕ, List, [], ◌∷�
 ghost use Rattle.std.specs.String.{string_bytes};
 ghost use Rattle.keyrange.specs.declared.KeyRange.{KeyRange};
 ghost use Rattle.serve_lines.specs.Asking.{Asking, Asks};
-ghost use Rattle.vtgate_lines.specs.Partitions.{IsPartition};
+ghost use Rattle.vtgate_lines.specs.Partitions.{NamesPartition};
 ghost use Rattle.vtgate_main.specs.Words.{is_plan, is_script};
 ghost use Rattle.vtgate_main.specs.Planned.{HasPlanned};
 ghost use Rattle.vtgate_main.specs.Scripted.{HasScripted};
@@ -86,15 +86,15 @@ pub fn run<
         → HasPlanned shards sql (I.unread input.old) (I.unread input.new) (O.taken output.old) (O.taken output.new) }
     // The word of the shards is tested before the input is read.
     ensures untouched { (shards sql : List ℕ) → map string_bytes words.now ≡ codes "plan" ∷ shards ∷ sql ∷ []
-        → ((ranges : List KeyRange) → IsPartition shards ranges → ⊥) → (result ≢ SUCCESS) × (input.new ≡ input.old) }
+        → ((ranges : List KeyRange) → NamesPartition shards ranges → ⊥) → (result ≢ SUCCESS) × (input.new ≡ input.old) }
     ensures script { (shards : List ℕ) → map string_bytes words.now ≡ codes "script" ∷ shards ∷ [] → result ≡ SUCCESS
         → HasScripted shards (I.unread input.old) (I.unread input.new) (O.taken output.old) (O.taken output.new) }
     ensures unread { (shards : List ℕ) → map string_bytes words.now ≡ codes "script" ∷ shards ∷ []
-        → ((ranges : List KeyRange) → IsPartition shards ranges → ⊥) → (result ≢ SUCCESS) × (input.new ≡ input.old) }
+        → ((ranges : List KeyRange) → NamesPartition shards ranges → ⊥) → (result ≢ SUCCESS) × (input.new ≡ input.old) }
     ensures serve { (asking : Asking) → Asks (map string_bytes words.now) asking → result ≡ SUCCESS
         → HasServed asking.shards (I.unread input.old) (I.unread input.new) (O.taken output.old) (O.taken output.new) }
     ensures unserved { (asking : Asking) → Asks (map string_bytes words.now) asking
-        → ((ranges : List KeyRange) → IsPartition asking.shards ranges → ⊥) → (result ≢ SUCCESS) × (input.new ≡ input.old) }
+        → ((ranges : List KeyRange) → NamesPartition asking.shards ranges → ⊥) → (result ≢ SUCCESS) × (input.new ≡ input.old) }
     ensures wrong { is_plan (map string_bytes words.now) ≡ false → is_script (map string_bytes words.now) ≡ false
         → ((asking : Asking) → Asks (map string_bytes words.now) asking → ⊥)
         → (result ≡ WRONG_WORDS) × (input.new ≡ input.old) × (output.new ≡ output.old) }

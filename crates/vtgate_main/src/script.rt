@@ -1,7 +1,7 @@
 //! `vtgate script`: lines that are run in order, on one thread.
 ghost use Rattle.std.specs.Prelude.{◌≡◌, ℕ, List, [], None, IsTrue, IfOk, OnOk, Ok};
 ghost use Rattle.keyrange.specs.declared.KeyRange.{KeyRange};
-ghost use Rattle.vschema.specs.Faults.{schema_read};
+ghost use Rattle.vschema.specs.Faults.{contents, schema_read};
 ghost use Rattle.vschema.specs.WellFormed.{is_vschema};
 ghost use Rattle.shard.specs.Shards.{most_limits};
 ghost use Rattle.journal.specs.Views.{new_pass};
@@ -9,7 +9,7 @@ ghost use Rattle.empty_opening.specs.Empty.{opening_of, sharded_keyspace, FitRan
 ghost use Rattle.administration.specs.Told.{keyspace_of};
 ghost use Rattle.administered_world.specs.Idle.{opening_workflow};
 ghost use Rattle.vtgate_lines.specs.Lines.{IsNextLine};
-ghost use Rattle.vtgate_lines.specs.Partitions.{IsPartition};
+ghost use Rattle.vtgate_lines.specs.Partitions.{NamesPartition};
 ghost use Rattle.vtgate_main.specs.Scripted.{HasGiven, HasScripted};
 
 use crate::fault::{Fault, refuse};
@@ -119,8 +119,8 @@ fn begin<'l>(
     ranges: &[KeyRange],
     text: &'l [u8],
 ) -> Result<(VSchema, &'l [u8]), Fault>
-    requires { (word : List ℕ) × IsPartition word ranges.now }
-    ensures first { IfOk result (λ x. (first : List ℕ) × IsNextLine text.now first x.1.now × (schema_read first ≡ Ok x.0)) }
+    requires { (word : List ℕ) × NamesPartition word ranges.now }
+    ensures first { IfOk result (λ x. (first : List ℕ) × IsNextLine text.now first x.1.now × (schema_read first ≡ Ok (contents x.0))) }
     ensures formed { IfOk result (λ x. IsTrue (is_vschema x.0)) }
     ensures fit { IfOk result (λ x. FitRanges x.0 ranges.now) }
 {
@@ -158,7 +158,7 @@ fn scripted<R: Threads + Wait + Sync, I: Source, O: Sink>(
     output: &mut O,
 ) -> Result<(), Fault>
     ensures ok { OnOk result (HasScripted shards.now (I.unread input.old) (I.unread input.new) (O.taken output.old) (O.taken output.new)) }
-    ensures untouched { ((ranges : List KeyRange) → IsPartition shards.now ranges → ⊥) → (input.new ≡ input.old) × (output.new ≡ output.old) }
+    ensures untouched { ((ranges : List KeyRange) → NamesPartition shards.now ranges → ⊥) → (input.new ≡ input.old) × (output.new ≡ output.old) }
 {
     let ranges = ranges_of(alloc, shards)?;
     let text = read_all(alloc, input)?;
@@ -180,7 +180,7 @@ pub fn run_script<R: Threads + Wait + Sync, I: Source, O: Sink, E: Sink>(
 ) -> u8
     ensures scripted { result ≡ SUCCESS → HasScripted shards.now (I.unread input.old) (I.unread input.new) (O.taken output.old) (O.taken output.new) }
     // A wrong word is refused before anything is read.
-    ensures untouched { ((ranges : List KeyRange) → IsPartition shards.now ranges → ⊥) → input.new ≡ input.old }
+    ensures untouched { ((ranges : List KeyRange) → NamesPartition shards.now ranges → ⊥) → input.new ≡ input.old }
 {
     match scripted(rt, alloc, shards, input, output) {
         Ok(()) => SUCCESS,

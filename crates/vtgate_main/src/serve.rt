@@ -7,15 +7,16 @@ mod entrance;
 mod loopback_tests;
 mod ports;
 
-ghost use Rattle.std.specs.Prelude.{◌≡◌, ℕ, List, IsTrue, IfOk, OnOk};
+ghost use Rattle.std.specs.Prelude.{◌≡◌, ℕ, List, [], None, IsTrue, IfOk, OnOk};
 ghost use Rattle.std.specs.Io.KnownBytes.{Appends};
 ghost use Rattle.keyrange.specs.declared.KeyRange.{KeyRange};
 ghost use Rattle.vschema.specs.WellFormed.{is_vschema};
+ghost use Rattle.journal.specs.Views.{new_pass};
 ghost use Rattle.shard.specs.Shards.{most_limits};
 ghost use Rattle.empty_opening.specs.Empty.{opening_of, sharded_keyspace, FitRanges};
 ghost use Rattle.administration.specs.Told.{keyspace_of};
-ghost use Rattle.vtgate_lines.specs.Partitions.{IsPartition};
-ghost use Rattle.vtgate_main.specs.Planned.{HasRead};
+ghost use Rattle.vtgate_lines.specs.Partitions.{NamesPartition};
+ghost use Rattle.vtgate_main.specs.Planned.{HasDeclared};
 ghost use Rattle.vtgate_main.specs.Served.{HasServed, listening_text};
 
 use crate::fault::{Fault, refuse};
@@ -103,7 +104,52 @@ pub fn setting_of<'s>(
     }
 }
 
-// Tells that it listens, and serves by the engine. The administrator is that of its sharded keyspace.
+// Tells that it listens.
+fn tell_listening<O: Sink>(output: &mut O) -> Result<(), Fault>
+    ensures { OnOk result (Appends (O.taken output.old) (O.taken output.new) listening_text) }
+{
+    match output.write(LISTENING) {
+        Ok(()) => Ok(()),
+        Err(_) => Err(Fault::Failed),
+    }
+}
+
+// Serves by the engine. The administrator is that of its sharded keyspace. No session was opened before.
+fn serve_controlled<
+    W: World + Send + Sync,
+    J: Naming + Send + Sync,
+    G: Gate,
+    R: Threads + Wait + Sync + Clock,
+>(
+    rt: &R,
+    alloc: Global,
+    engine: &Engine<W, J, G>,
+    administrator: &mut Administrator<W, J>,
+    opener: Opener<ShardLaw<W>, J>,
+    pass: Pass<ShardLaw<W>, J>,
+    controller: &mut Pass<ShardLaw<W>, J>,
+    setting: &Setting<'_>,
+) -> Result<(), Fault>
+    requires home { keyspace_of administrator.old ≡ sharded_keyspace engine.now }
+    requires unopened { opener ≡ 0 }
+    requires unseen { pass.seen ≡ [] }
+{
+    let asked = setting.asked;
+    let last = last_connection(asked);
+    serve_beside_admin(
+        rt,
+        alloc,
+        engine,
+        &setting.welcome,
+        asked.workers,
+        Acceptor::new(&setting.ports.clients, opener, pass, last),
+        &setting.ports.admin,
+        administrator,
+        controller,
+    )
+}
+
+// The same, once it has told that it listens.
 fn serve_router<
     W: World + Send + Sync,
     J: Naming + Send + Sync,
@@ -121,26 +167,59 @@ fn serve_router<
     output: &mut O,
 ) -> Result<(), Fault>
     requires home { keyspace_of administrator.old ≡ sharded_keyspace engine.now }
+    requires unopened { opener ≡ 0 }
+    requires unseen { pass ≡ new_pass [] None }
     ensures { OnOk result (Appends (O.taken output.old) (O.taken output.new) listening_text) }
 {
-    let Ok(mut controller) = pass.split() else {
-        return Err(Fault::Failed);
-    };
-    if output.write(LISTENING).is_err() {
-        return Err(Fault::Failed);
+    match pass.split() {
+        Ok(mut controller) => match tell_listening(output) {
+            Ok(()) => serve_controlled(
+                rt,
+                alloc,
+                engine,
+                administrator,
+                opener,
+                pass,
+                &mut controller,
+                setting,
+            ),
+            Err(fault) => Err(fault),
+        },
+        Err(_) => Err(Fault::Failed),
     }
-    let asked = setting.asked;
-    let last = last_connection(asked);
-    serve_beside_admin(
+}
+
+// The same by an engine and an administrator of its own.
+fn serve_owned<
+    W: World + Send + Sync,
+    J: Naming + Send + Sync,
+    G: Gate,
+    R: Threads + Wait + Sync + Clock,
+    O: Sink,
+>(
+    rt: &R,
+    alloc: Global,
+    engine: Engine<W, J, G>,
+    mut administrator: Administrator<W, J>,
+    opener: Opener<ShardLaw<W>, J>,
+    pass: Pass<ShardLaw<W>, J>,
+    setting: &Setting<'_>,
+    output: &mut O,
+) -> Result<(), Fault>
+    requires home { keyspace_of administrator ≡ sharded_keyspace engine }
+    requires unopened { opener ≡ 0 }
+    requires unseen { pass ≡ new_pass [] None }
+    ensures { OnOk result (Appends (O.taken output.old) (O.taken output.new) listening_text) }
+{
+    serve_router(
         rt,
         alloc,
-        engine,
-        &setting.welcome,
-        asked.workers,
-        Acceptor::new(&setting.ports.clients, opener, pass, last),
-        &setting.ports.admin,
-        administrator,
-        &mut controller,
+        &engine,
+        &mut administrator,
+        opener,
+        pass,
+        setting,
+        output,
     )
 }
 
@@ -170,21 +249,19 @@ pub fn serve_opened<
 {
     let asked = setting.asked;
     let waiting = u64::from(asked.buffer);
-    let Ok((engine, mut administrator, opener, pass)) = administered_router::<W, J, G>(
-        alloc, schema, ranges, opened, waiting, gate,
-    ) else {
-        return Err(Fault::Failed);
-    };
-    serve_router(
-        rt,
-        alloc,
-        &engine,
-        &mut administrator,
-        opener,
-        pass,
-        setting,
-        output,
-    )
+    match administered_router::<W, J, G>(alloc, schema, ranges, opened, waiting, gate) {
+        Ok((engine, administrator, opener, pass)) => serve_owned(
+            rt,
+            alloc,
+            engine,
+            administrator,
+            opener,
+            pass,
+            setting,
+            output,
+        ),
+        Err(_) => Err(Fault::Failed),
+    }
 }
 
 // The same in the world that begins with this VSchema and these ranges, and no rows.
@@ -237,8 +314,8 @@ fn read_schema<I: Source>(
     ranges: &[KeyRange],
     input: &mut I,
 ) -> Result<VSchema, Fault>
-    requires { (word : List ℕ) × IsPartition word ranges.now }
-    ensures read { IfOk result (λ schema. HasRead (I.unread input.old) (I.unread input.new) schema) }
+    requires { (word : List ℕ) × NamesPartition word ranges.now }
+    ensures read { IfOk result (λ schema. HasDeclared (I.unread input.old) (I.unread input.new) schema) }
     ensures formed { IfOk result (λ schema. IsTrue (is_vschema schema)) }
     ensures fit { IfOk result (λ schema. FitRanges schema ranges.now) }
 {
@@ -256,7 +333,7 @@ fn served<
     O: Sink,
 >(rt: &R, alloc: Global, asked: &Asked<'_>, input: &mut I, output: &mut O) -> Result<(), Fault>
     ensures ok { OnOk result (HasServed asked.now.shards (I.unread input.old) (I.unread input.new) (O.taken output.old) (O.taken output.new)) }
-    ensures untouched { ((ranges : List KeyRange) → IsPartition asked.now.shards ranges → ⊥) → (input.new ≡ input.old) × (output.new ≡ output.old) }
+    ensures untouched { ((ranges : List KeyRange) → NamesPartition asked.now.shards ranges → ⊥) → (input.new ≡ input.old) × (output.new ≡ output.old) }
 {
     let ranges = ranges_of(alloc, asked.shards)?;
     let schema = read_schema(alloc, &ranges, input)?;
@@ -275,7 +352,7 @@ pub fn run_serve<
 >(rt: &R, alloc: Global, asked: &Asked<'_>, input: &mut I, output: &mut O, errors: &mut E) -> u8
     ensures served { result ≡ SUCCESS → HasServed asked.now.shards (I.unread input.old) (I.unread input.new) (O.taken output.old) (O.taken output.new) }
     // A wrong word is refused before anything is read.
-    ensures untouched { ((ranges : List KeyRange) → IsPartition asked.now.shards ranges → ⊥) → input.new ≡ input.old }
+    ensures untouched { ((ranges : List KeyRange) → NamesPartition asked.now.shards ranges → ⊥) → input.new ≡ input.old }
 {
     match served(rt, alloc, asked, input, output) {
         Ok(()) => SUCCESS,

@@ -1,14 +1,18 @@
 //! The sessions of a script, and its lines.
-ghost use Rattle.std.specs.Prelude.{◌≡◌, ◌⊎◌, ℕ, List, IsSome, OnOk};
+ghost use Rattle.std.specs.Prelude.{◌≡◌, ◌⊎◌, ◌≤◌, ◌<◌, ℕ, true, List, [], length, filter, slice_index_or, IsSome, OnOk};
+ghost use Rattle.std.specs.List.{AllByRecursion};
 ghost use Rattle.std.specs.Io.KnownBytes.{Appends};
 ghost use mathlib.Core.List.{IsPrefix};
-ghost use Rattle.shard.specs.Shards.{most_limits};
+ghost use Rattle.vschema.specs.WellFormed.{is_vschema};
+ghost use Rattle.journal.specs.Runs.{IsLegal, by_session};
+ghost use Rattle.shard_run.specs.Openings.{IsOpening};
+ghost use Rattle.shard.specs.Shards.{MayFollow, commit_of, most_limits};
 ghost use Rattle.vtgate_lines.specs.Printed.{rows_text, refusal_text};
 ghost use Rattle.route_engine.specs.Pendings.{IsOf};
 ghost use Rattle.empty_opening.specs.Empty.{sharded_keyspace};
 ghost use Rattle.administration.specs.Told.{keyspace_of};
 ghost use Rattle.vtgate_main.specs.Scripted.{HasGiven, unknown_text};
-ghost use Rattle.vtgate_main.specs.inner.UnderWay.{IsShown, IsTold, PrintsFrom, nothing_kept};
+ghost use Rattle.vtgate_main.specs.inner.UnderWay.{KeptSession, IsBehind, IsShown, IsOutcomeShown, KnowsOwn, PrintsFrom, nothing_kept};
 
 use crate::fault::Fault;
 use administered_world::administer;
@@ -50,7 +54,7 @@ fn write_outcome<O: Sink>(
     outcome: Result<Reply, Refusal>,
     output: &mut O,
 ) -> Result<(), DeviceFailed>
-    ensures { OnOk result ((text : List ℕ) × Appends (O.taken output.old) (O.taken output.new) text × IsTold outcome text) }
+    ensures { OnOk result ((text : List ℕ) × Appends (O.taken output.old) (O.taken output.new) text × IsOutcomeShown outcome text) }
 {
     match outcome {
         Ok(reply) => write_answer(alloc, &reply.answer, output),
@@ -75,11 +79,16 @@ fn run_behind<W: World + Send + Sync, J: Naming + Send + Sync, R: Threads + Wait
     requires tx { IsOf W.opening tx.old pass.old }
     ensures prints { OnOk result ((text : List ℕ) × Appends (O.taken output.old) (O.taken output.new) text
         × PrintsFrom W.opening all.old.seen (record { pass = pass.old; tx = tx.old }) sql.now text (record { pass = pass.new; tx = tx.new })) }
+    ensures opens { IsOpening W.opening }
+    ensures formed { is_vschema W.opening.schema ≡ true }
+    ensures legal { IsLegal (MayFollow W.opening) all.old.seen }
     ensures tx { IsOf W.opening tx.new pass.new }
     ensures seen { all.new.seen ≡ pass.new.seen }
     ensures later { IsPrefix all.old.seen all.new.seen }
     ensures session { pass.new.session ≡ pass.old.session }
 {
+    let _ = engine.schema();
+    let _ = all.session();
     pass.meet(all);
     let outcome = engine.execute(rt, alloc, pass, tx, sql);
     all.meet(pass);
@@ -109,12 +118,43 @@ impl<W: World, J: Naming> Model for ScriptSession<W, J> {
 
 impl<W: World, J: Naming> ScriptSession<W, J> {
     ghost use Rattle.std.specs.Prelude.{◌≡◌, bytes_eq};
+    ghost use mathlib.Core.List.{IsPrefix};
+    ghost use Rattle.vtgate_main.specs.inner.UnderWay.{KnowsOwn};
 
     fn is_named(&self, name: &[u8]) -> bool
         ensures { result ≡ bytes_eq self.now.name name.now }
     {
         self.name.as_slice() == name
     }
+
+    // Its pass confirms that all lines have seen no commit of it that it hasn't seen.
+    fn confirm(&mut self, all: &mut Pass<ShardLaw<W>, J>)
+        requires behind { IsPrefix self.old.kept.pass.seen all.old.seen }
+        ensures same { self.new ≡ self.old }
+        ensures all { all.new ≡ all.old }
+        ensures own { KnowsOwn all.old.seen self.old }
+    {
+        self.pass.confirm(all);
+    }
+}
+
+// Each session and the opener confirm that all lines have seen no commit that isn't of a session of the script, whose pass has seen it.
+fn confirm_all<W: World, J: Naming>(
+    opener: &mut Opener<ShardLaw<W>, J>,
+    sessions: &mut Vec<ScriptSession<W, J>>,
+    all: &mut Pass<ShardLaw<W>, J>,
+)
+    requires behind { AllByRecursion (IsBehind W.opening all.old.seen) sessions.old.items }
+    ensures opener { opener.new ≡ opener.old }
+    ensures sessions { sessions.new.items ≡ sessions.old.items }
+    ensures all { all.new ≡ all.old }
+    ensures own { (k : ℕ) (d : KeptSession) → k < length sessions.old.items → KnowsOwn all.old.seen (slice_index_or sessions.old.items k d) }
+    ensures unopened { (n : ℕ) → opener.old ≤ n → filter (by_session commit_of n) all.old.seen ≡ [] }
+{
+    for i in 0..sessions.len() {
+        sessions[i].confirm(all);
+    }
+    opener.confirm(all);
 }
 
 /// The sessions of a script, in the order of their first lines, the opener of the next one, and a pass that has seen what all lines
@@ -130,7 +170,7 @@ impl<W: World, J: Naming> Model for Sessions<W, J> {
     ghost use Rattle.std.specs.Prelude.{◌≡◌, length};
     ghost use Rattle.std.specs.List.{AllByRecursion};
     ghost use Rattle.vschema.specs.contracts.changes.Write as write;
-    ghost use Rattle.vtgate_main.specs.inner.UnderWay.{KeptProgress, IsBehind};
+    ghost use Rattle.vtgate_main.specs.inner.UnderWay.{KeptProgress, IsBehind, IsKnown};
     ghost use Rattle.std.specs.Coded.{codes};
     ghost use Rattle.shard_run.specs.contracts.Entry as entry;
 
@@ -140,7 +180,7 @@ impl<W: World, J: Naming> Model for Sessions<W, J> {
 
     ghost view = { λ s. record { sessions = s.sessions.items; seen = s.all.seen } };
 
-    ghost invariant = { λ s. (s.opener ≡ length s.sessions.items) × AllByRecursion (IsBehind W.opening s.all.seen) s.sessions.items };
+    ghost invariant = { λ s. (s.opener ≡ length s.sessions.items) × AllByRecursion (IsBehind W.opening s.all.seen) s.sessions.items × IsKnown s.opener s.all.seen s.sessions.items };
 }
 
 impl<W: World + Send + Sync, J: Naming + Send + Sync> Sessions<W, J> {
@@ -155,8 +195,9 @@ impl<W: World + Send + Sync, J: Naming + Send + Sync> Sessions<W, J> {
     ghost use Rattle.administration.specs.Told as told;
     ghost use Rattle.administration.specs.Told.{keyspace_of};
     ghost use Rattle.administration.specs.Words.{reply_text};
-    ghost use Rattle.vtgate_main.specs.Scripted.{Progress, Runs, Gives};
-    ghost use Rattle.vtgate_main.specs.inner.UnderWay.{Kept, KeptSession, IsProgressOf, PrintsFrom, HasOpened, nothing_kept};
+    ghost use Rattle.route_engine.specs.Alone.{NoCommits};
+    ghost use Rattle.vtgate_main.specs.Scripted.{Progress, Runs, PrintsLine};
+    ghost use Rattle.vtgate_main.specs.inner.UnderWay.{Kept, KeptSession, IsProgressOf, PrintsHere, HasOpened, nothing_kept};
 
     /// No session yet.
     pub fn new(
@@ -230,11 +271,11 @@ impl<W: World + Send + Sync, J: Naming + Send + Sync> Sessions<W, J> {
         requires limits { W.limits ≡ most_limits }
         requires place { place < length self.old.sessions }
         ensures { OnOk result ((text : List ℕ) × (now : Kept) × Appends (O.taken output.old) (O.taken output.new) text
-            × ((d : KeptSession) → PrintsFrom W.opening self.old.seen (slice_index_or self.old.sessions place d).kept sql.now text now)
+            × ((d : KeptSession) → PrintsHere W.opening self.old.seen (slice_index_or self.old.sessions place d).kept sql.now text now)
             × ((d : KeptSession) → self.new ≡ record { sessions = slice_set self.old.sessions place (record { name = (slice_index_or self.old.sessions place d).name; kept = now }); seen = now.pass.seen })) }
     {
         let session = &mut self.sessions[place];
-        run_behind(
+        let result = run_behind(
             rt,
             alloc,
             engine,
@@ -243,7 +284,9 @@ impl<W: World + Send + Sync, J: Naming + Send + Sync> Sessions<W, J> {
             &mut session.tx,
             sql,
             output,
-        )
+        );
+        confirm_all(&mut self.opener, &mut self.sessions, &mut self.all);
+        result
     }
 
     // Runs a statement of the session of this name.
@@ -283,10 +326,11 @@ impl<W: World + Send + Sync, J: Naming + Send + Sync> Sessions<W, J> {
         requires home { keyspace_of administrator.old ≡ sharded_keyspace engine.now }
         ensures keyspace { keyspace_of administrator.new ≡ keyspace_of administrator.old }
         ensures told { OnOk result ((reply : AdminReply) × (p : PassView Entry) × (q : PassView Entry) × Appends (O.taken output.old) (O.taken output.new) (reply_text reply)
-            × (p.seen ≡ self.old.seen) × (self.new ≡ record self.old { seen = q.seen })
+            × (p.seen ≡ self.old.seen) × NoCommits self.old.seen q.seen × (self.new ≡ record self.old { seen = q.seen })
             × told.IsTold W.opening most_limits words.now p q reply administrator.old administrator.new) }
     {
         let reply = administer(rt, alloc, engine, administrator, &mut self.all, words);
+        confirm_all(&mut self.opener, &mut self.sessions, &mut self.all);
         write_all(reply.line(), output)
     }
 
@@ -304,7 +348,7 @@ impl<W: World + Send + Sync, J: Naming + Send + Sync> Sessions<W, J> {
         requires home { keyspace_of administrator.old ≡ sharded_keyspace engine.now }
         ensures keyspace { keyspace_of administrator.new ≡ keyspace_of administrator.old }
         ensures gives { OnOk result ((text : List ℕ) × Appends (O.taken output.old) (O.taken output.new) text
-            × ((p : Progress) → IsProgressOf W.opening self.old p → (q : Progress) × IsProgressOf W.opening self.new q × Gives W.opening p administrator.old line.now text q administrator.new)) }
+            × ((p : Progress) → IsProgressOf W.opening self.old p → (q : Progress) × IsProgressOf W.opening self.new q × PrintsLine W.opening p administrator.old line.now text q administrator.new)) }
     {
         match read_line(line) {
             Line::Statement(name, sql) => self.run_statement(rt, alloc, engine, name, sql, output),

@@ -1,10 +1,10 @@
 //! What a run stands on: the ranges that its words tell, and the VSchema that its input declares.
 ghost use Rattle.std.specs.Prelude.{◌≡◌, ◌≤◌, false, not, length, Ok, IsTrue, IfOk};
 ghost use Rattle.std.specs.List.{list_any};
-ghost use Rattle.vschema.specs.Faults.{schema_read};
+ghost use Rattle.vschema.specs.Faults.{contents, schema_read};
 ghost use Rattle.vschema.specs.WellFormed.{is_vschema};
 ghost use Rattle.empty_opening.specs.Empty.{empty_shards};
-ghost use Rattle.vtgate_lines.specs.Partitions.{IsPartition};
+ghost use Rattle.vtgate_lines.specs.Partitions.{NamesPartition};
 
 use crate::fault::Fault;
 use keyrange::KeyRange;
@@ -15,7 +15,7 @@ use vtgate_lines::{MOST_RANGES, read_ranges};
 
 /// The ranges that the word of the shards tells.
 pub fn ranges_of(alloc: Global, shards: &str) -> Result<Vec<KeyRange>, Fault>
-    ensures { IfOk result (λ ranges. IsPartition shards.now ranges.items) }
+    ensures { IfOk result (λ ranges. NamesPartition shards.now ranges.items) }
 {
     match read_ranges(alloc, shards) {
         Ok(Some(ranges)) => Ok(ranges),
@@ -26,7 +26,7 @@ pub fn ranges_of(alloc: Global, shards: &str) -> Result<Vec<KeyRange>, Fault>
 
 /// The VSchema that a text declares. One that isn't UTF-8 is no JSON.
 pub fn schema_of(alloc: Global, bytes: &[u8]) -> Result<VSchema, Fault>
-    ensures declared { IfOk result (λ schema. schema_read bytes.now ≡ Ok schema) }
+    ensures declared { IfOk result (λ schema. schema_read bytes.now ≡ Ok (contents schema)) }
     ensures formed { IfOk result (λ schema. IsTrue (is_vschema schema)) }
 {
     let Ok(text) = str::from_utf8(bytes) else {

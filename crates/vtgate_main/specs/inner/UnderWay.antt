@@ -1,18 +1,21 @@
 -- What a script keeps of its sessions between two lines. Private: no public clause cites it.
-use Rattle.std.specs.Prelude.{◌≡◌, ◌≢◌, ◌⊎◌, ℕ, ◌<◌, List, [], ◌∷◌, ◌++◌, length, slice_index_or, Option, Some, None, IsSome, Result, Ok, Err}
+use Rattle.std.specs.Prelude.{◌≡◌, ◌≢◌, ◌⊎◌, ℕ, ◌<◌, ◌≤◌, List, [], ◌∷◌, ◌++◌, length, filter, slice_index_or, Option, Some, None, IsSome, Result, Ok, Err}
 use Rattle.std.specs.List.{AllByRecursion}
 use mathlib.Core.List.{IsPrefix}
 use Rattle.vt_value.specs.declared.refusal.Refusal.{Refusal}
 use Rattle.vt_value.specs.declared.refusal.Refusal.TheVariants.{OutOfMemory}
+use Rattle.journal.specs.Runs.{by_session}
 use Rattle.journal.specs.Views.{PassView, new_pass}
 use Rattle.shard_run.specs.declared.Entry.{Entry}
 use Rattle.shard_run.specs.Runs.{Run, Opening}
 use Rattle.route_engine.specs.declared.reply.Answer.{Answer}
 use Rattle.route_engine.specs.declared.reply.Reply.{Reply}
+use Rattle.shard.specs.Shards.{commit_of}
 use Rattle.route_engine.specs.Pendings.{OpenView, IsOf}
 use Rattle.session.specs.Outcomes.{PassAndTransaction, IsKept, HasRows}
+use Rattle.session.specs.inner.TypedSteps.{AreTyped}
 use Rattle.vtgate_lines.specs.Printed.{refusal_text}
-use Rattle.vtgate_main.specs.Scripted.{Session, Progress, Prints, met, answer_text}
+use Rattle.vtgate_main.specs.Scripted.{Session, Progress, Prints, PrintsAt, met, answer_text}
 
 -- a session's pass, and what is kept of its open transaction
 pub record Kept : Type 0 where
@@ -33,7 +36,7 @@ abbrev pub nothing_kept : KeptProgress
 nothing_kept = record { sessions = []; seen = [] }
 
 abbrev pub IsKeptOf : Opening → Kept → PassAndTransaction → Type 0
-IsKeptOf o k s = IsKept o k.pass k.tx s
+IsKeptOf o k s = IsKept o k.pass k.tx s × AreTyped o s.tx
 
 -- it is kept of these sessions, in their order
 abbrev pub AreKept : Opening → List KeptSession → List Session → Type 0
@@ -55,6 +58,22 @@ abbrev pub PrintsFrom : Opening → Run → Kept → List ℕ → List ℕ → K
 PrintsFrom o seen k sql text then =
     (s : PassAndTransaction) → IsKeptOf o k s → (now : PassAndTransaction) × IsKeptOf o then now × Prints o (met seen s) sql text now
 
+-- the same, while no other session commits
+abbrev pub PrintsHere : Opening → Run → Kept → List ℕ → List ℕ → Kept → Type 0
+PrintsHere o seen k sql text then =
+    (s : PassAndTransaction) → IsKeptOf o k s → (now : PassAndTransaction) × IsKeptOf o then now × PrintsAt o (met seen s) sql text now
+
+-- the run has no commit of the session that its pass hasn't seen
+abbrev pub KnowsOwn : Run → KeptSession → Type 0
+KnowsOwn seen s =
+    (n : ℕ) → s.kept.pass.session ≡ Some n → filter (by_session commit_of n) seen ≡ filter (by_session commit_of n) s.kept.pass.seen
+
+-- So many sessions are opened, each with the number of its place. Of the commits in the run each is of one of them, whose pass has seen it.
+pub record IsKnown (opened : ℕ) (seen : Run) (sessions : List KeptSession) : Type 0 where
+  pub numbered : (k : ℕ) (d : KeptSession) → k < length sessions → (slice_index_or sessions k d).kept.pass.session ≡ Some k
+  pub own : (k : ℕ) (d : KeptSession) → k < length sessions → KnowsOwn seen (slice_index_or sessions k d)
+  pub unopened : (n : ℕ) → opened ≤ n → filter (by_session commit_of n) seen ≡ []
+
 -- the session of the name is at the place; where there was none, it was opened there
 pub data HasOpened (s : KeptProgress) (name : List ℕ) (place : ℕ) : KeptProgress → Type 0 where
   was : place < length s.sessions → ((d : KeptSession) → (slice_index_or s.sessions place d).name ≡ name) → HasOpened s name place s
@@ -67,6 +86,6 @@ abbrev pub IsShown : Answer → List ℕ → Type 0
 IsShown answer text = (text ≡ answer_text answer) ⊎ (HasRows answer × (text ≡ refusal_text OutOfMemory))
 
 -- what is printed of what a statement gave
-abbrev pub IsTold : Result Reply Refusal → List ℕ → Type 0
-IsTold (Ok reply) text = IsShown reply.answer text
-IsTold (Err r) text = text ≡ refusal_text r
+abbrev pub IsOutcomeShown : Result Reply Refusal → List ℕ → Type 0
+IsOutcomeShown (Ok reply) text = IsShown reply.answer text
+IsOutcomeShown (Err r) text = text ≡ refusal_text r

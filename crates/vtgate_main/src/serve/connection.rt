@@ -1,6 +1,8 @@
 //! One connection.
 ghost use Rattle.std.specs.Prelude.{◌≡◌, ℕ, List, IsSome, IfOk, Err};
 ghost use Rattle.std.specs.Io.KnownBytes.{Appends, Consumes, IsAtEnd};
+ghost use Rattle.route_engine.specs.Alone.{NoOthers};
+ghost use Rattle.session.specs.Alone.{Alone, MeansAlone, alone_terms, alone_first};
 ghost use Rattle.session.specs.Outcomes.{Means, PassAndTransaction, none_open, terms_of};
 ghost use Rattle.session.specs.Talk.{Talk, IsByInput};
 ghost use Rattle.serve_lines.specs.Salts.{salt_of};
@@ -59,6 +61,11 @@ pub fn serve_numbered<W: World + Send + Sync, J: Naming + Send + Sync, G: Gate, 
         × Consumes (I.unread source.old) (I.unread source.new) read × Appends (O.taken sink.old) (O.taken sink.new) written
         × ((now : PassAndTransaction) × (now.pass ≡ pass.new)
         × Talk COMMAND_LIMIT (terms_of W.opening (record { access = access.now; salt = salt_of nonce.now number; id = number })) (Means W.opening W.limits) Standing.New (none_open pass.old) read written end now)) }
+    // With no other session's commit between, it is a conversation with one database.
+    ensures alone { IfOk result (λ end. NoOthers pass.old pass.new → (read : List ℕ) × (written : List ℕ)
+        × Consumes (I.unread source.old) (I.unread source.new) read × Appends (O.taken sink.old) (O.taken sink.new) written
+        × ((now : Alone W.opening) × (now.kept.pass ≡ pass.new)
+        × Talk COMMAND_LIMIT (alone_terms W.opening (record { access = access.now; salt = salt_of nonce.now number; id = number })) (MeansAlone W.opening W.limits) Standing.New (alone_first W.opening pass.old) read written end now)) }
     ensures at_end { IfOk result (λ end. IsByInput end → IsAtEnd (I.unread source.new)) }
 {
     let salt = salt_of(nonce, u64::from(number));

@@ -1,5 +1,5 @@
 //! The connections that clients open.
-ghost use Rattle.std.specs.Prelude.{◌≤◌, IfNone};
+ghost use Rattle.std.specs.Prelude.{◌≡◌, ◌≤◌, ◌<◌, [], IfNone};
 
 use crate::serve::connection::Connection;
 use connection_workers::Entrance;
@@ -13,7 +13,7 @@ use std::time::{Clock, Duration};
 /// How long it sleeps after a client could not be accepted, in milliseconds.
 const AFTER_FAILURE: u64 = 20;
 
-/// Accepts clients, numbers their connections from 1, and opens a session for each.
+/// Accepts clients, numbers their connections from 1, and opens a session for each and no other.
 #[derive(Drop)]
 pub struct Acceptor<'l, W: World, J: Naming> {
     listener: &'l TcpListener,
@@ -21,16 +21,20 @@ pub struct Acceptor<'l, W: World, J: Naming> {
     pass: Pass<ShardLaw<W>, J>,
     accepted: u32,
     last: u32,
+    ghost opened: { opener ≤ accepted },
 }
 
 impl<'l, W: World, J: Naming> Acceptor<'l, W, J> {
-    /// None is accepted yet, and `last` will be.
+    /// None is accepted yet, and `last` will be. No session was opened, and nobody has committed.
     pub fn new(
         listener: &'l TcpListener,
         opener: Opener<ShardLaw<W>, J>,
         pass: Pass<ShardLaw<W>, J>,
         last: u32,
-    ) -> Acceptor<'l, W, J> {
+    ) -> Acceptor<'l, W, J>
+        requires unopened { opener ≡ 0 }
+        requires unseen { pass.seen ≡ [] }
+    {
         Acceptor {
             listener,
             opener,
@@ -41,7 +45,9 @@ impl<'l, W: World, J: Naming> Acceptor<'l, W, J> {
     }
 
     // The next connection, unless it can have no session: then it is closed.
-    fn connection(&mut self, stream: TcpStream) -> Option<Connection<W, J>> {
+    fn connection(&mut self, stream: TcpStream) -> Option<Connection<W, J>>
+        requires room { self.old.accepted < 4294967295 }
+    {
         self.accepted = self.accepted.saturating_add(1);
         let pass = self.opener.open(&mut self.pass).ok()?;
         Some(Connection::new(self.accepted, stream, pass))

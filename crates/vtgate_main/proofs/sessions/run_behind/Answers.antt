@@ -3,6 +3,9 @@ use Rattle.shard_run.proofs.Sent.{entry_send}
 use Rattle.vtgate_main.proofs.Printing.{on_ok, prints_behind, kept_met}
 use Rattle.vtgate_main.proofs.sessions.run_behind.Goals as goal
 
+pub session-requires-send-L-Entry : goal.session-requires-send-L-Entry
+session-requires-send-L-Entry g c κs within = search (entry_send, sendable)
+
 pub meet-requires-send-L-Entry : goal.meet-requires-send-L-Entry
 meet-requires-send-L-Entry g c κs within = search (entry_send, sendable)
 

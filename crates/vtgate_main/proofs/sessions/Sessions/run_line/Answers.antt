@@ -18,7 +18,7 @@ returns-in-Admin-clause-gives g c =
       _,
       h.3,
       admin_run g.W.World.opening c.args.self.now c.run_admin.new.self c.args.administrator.now c.run_admin.new.administrator c.args.line.now
-          c.in-Admin.words.now h.1 h.2 h.0 says h.4 h.5 h.6,
+          c.in-Admin.words.now h.1 h.2 h.0 says h.4 h.5 h.6 h.7,
     ))
 
 pub returns-in-Unknown-clause-gives : goal.returns-in-Unknown-clause-gives

@@ -30,7 +30,7 @@ spawn-requires-send-F g c κs within =
     let gate : IsSync (param 2 g.row.G) = c.requires.1 in
     let captures : List RattleType =
     (shr_ref_field _ (param 3 g.row.R) tt).row ∷ heap.the_row ∷ (shr_ref_field _ E tt).row ∷ (shr_ref_field _ welcome.the_row tt).row ∷ UInt w32
-    ∷ acceptor.the_row _ W J g.W.World g.J.Naming ∷ (shr_ref_field _ atomic.the_row tt).row ∷ [] in
+    ∷ acceptor.the_row _ W J g.J.Naming g.W.World ∷ (shr_ref_field _ atomic.the_row tt).row ∷ [] in
     param_send 1 _ (arg_send _ no (TupleAt _ captures) (captures_send _ captures (
       shr_send _ _ (param 3 g.row.R) r,
       (
