@@ -3,7 +3,7 @@ use crate::rates::{each_second, refused};
 use crate::router::{named, schema};
 use crate::tables::{put, put_number};
 use keyrange::KeyRange;
-use planner::{plan, shards};
+use planner::{Plan, plan, shards};
 use sql_parser::parse;
 use std::alloc::Global;
 use std::io;
@@ -84,6 +84,20 @@ fn text_of(alloc: Global, costly: Costly, size: u32) -> Result<Vec<u8>, Refusal>
     Ok(text)
 }
 
+// How many of the ranges a query of the table at a place needs by its plan.
+fn needed(
+    alloc: Global,
+    schema: &VSchema,
+    ranges: &[KeyRange],
+    place: usize,
+    plan: &Plan,
+) -> Result<usize, Refusal> {
+    match schema.tables.as_slice().get(place) {
+        Some(table) => Ok(shards(alloc, table, &plan.route, ranges)?.len()),
+        None => Ok(0),
+    }
+}
+
 // How many of the ranges the query needs.
 fn places_of(
     alloc: Global,
@@ -92,24 +106,38 @@ fn places_of(
     query: Query,
 ) -> Result<usize, Refusal> {
     let place = query.table;
-    let plan = plan(alloc, schema, query)?;
-    match schema.tables.as_slice().get(place) {
-        Some(table) => Ok(shards(alloc, table, &plan.route, ranges)?.len()),
-        None => Ok(0),
+    match plan(alloc, schema, query) {
+        Ok(plan) => needed(alloc, schema, ranges, place, &plan),
+        Err(refusal) => Err(refusal),
     }
 }
 
-// How many of the ranges a text needs: none where it is refused, or writes.
+// A text as a statement with its names resolved.
+fn typed(alloc: Global, schema: &VSchema, text: &[u8]) -> Result<Typed, Refusal> {
+    schema.resolve(alloc, parse(alloc, text)?)
+}
+
+// The query of a statement, if it is one.
+fn query_in(statement: Typed) -> Option<Query> {
+    match statement {
+        Typed::Select(query) => Some(query),
+        _ => None,
+    }
+}
+
+// How many of the ranges a text needs: none where it writes.
 fn read(
     alloc: Global,
     schema: &VSchema,
     ranges: &[KeyRange],
     text: &[u8],
 ) -> Result<usize, Refusal> {
-    let statement = parse(alloc, text)?;
-    match schema.resolve(alloc, statement)? {
-        Typed::Select(query) => places_of(alloc, schema, ranges, query),
-        _ => Ok(0),
+    match typed(alloc, schema, text) {
+        Ok(statement) => match query_in(statement) {
+            Some(query) => places_of(alloc, schema, ranges, query),
+            None => Ok(0),
+        },
+        Err(refusal) => Err(refusal),
     }
 }
 

@@ -1,5 +1,5 @@
 //! A router over empty shards, and what a statement told there.
-ghost use Rattle.std.specs.Prelude.{◌≡◌, IsSome, IsTrue, IfOk};
+ghost use Rattle.std.specs.Prelude.{◌≡◌, None, IsSome, IsTrue, IfOk};
 ghost use Rattle.std.specs.List.{AllByRecursion};
 ghost use Rattle.keyrange.specs.Names.{IsNamed};
 ghost use Rattle.vschema.specs.WellFormed.{is_vschema};
@@ -10,7 +10,7 @@ use crate::tables::SCHEMA;
 use empty_opening::opening_shards;
 use journal::{Naming, Pass};
 use keyrange::{KeyRange, covers_once};
-use route_engine::{Answer, Engine, Open, Reply, Tx};
+use route_engine::{Answer, Engine, Open, Tx};
 use shard::{ShardLaw, World};
 use std::alloc::Global;
 use std::io;
@@ -18,6 +18,14 @@ use std::sync::Wait;
 use std::thread::Threads;
 use vschema::VSchema;
 use vt_value::Refusal;
+
+/// How many rows an answer gives or tells of.
+fn amount(answer: &Answer) -> u64 {
+    match answer {
+        Answer::Rows(selected) => selected.rows.len() as u64,
+        Answer::Count(count) => *count,
+    }
+}
 
 /// How many rows a statement gave or changed.
 pub fn told<W: World + Send + Sync, J: Naming + Send + Sync>(
@@ -31,10 +39,25 @@ pub fn told<W: World + Send + Sync, J: Naming + Send + Sync>(
     ensures { pass.new.session ≡ pass.old.session }
 {
     let mut tx = Tx::new();
-    let Reply { answer, .. } = engine.execute(rt, alloc, pass, &mut tx, text)?;
-    match answer {
-        Answer::Rows(selected) => Ok(selected.rows.len() as u64),
-        Answer::Count(count) => Ok(count),
+    told_in(rt, alloc, engine, pass, &mut tx, text)
+}
+
+// The same by a transaction's place, in which none is open.
+fn told_in<W: World + Send + Sync, J: Naming + Send + Sync>(
+    rt: &(impl Threads + Wait + Sync),
+    alloc: Global,
+    engine: &Engine<W, J, Open>,
+    pass: &mut Pass<ShardLaw<W>, J>,
+    tx: &mut Tx<W, J>,
+    text: &[u8],
+) -> Result<u64, Refusal>
+    requires session { IsSome pass.old.session }
+    requires closed { tx.old ≡ None }
+    ensures { pass.new.session ≡ pass.old.session }
+{
+    match engine.execute(rt, alloc, pass, tx, text) {
+        Ok(reply) => Ok(amount(&reply.answer)),
+        Err(refusal) => Err(refusal),
     }
 }
 

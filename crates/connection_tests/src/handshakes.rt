@@ -31,19 +31,32 @@ pub(crate) fn payload(alloc: Global, capabilities: &[u8; 4], rest: &[u8]) -> Res
     Ok(payload)
 }
 
-#[test]
-fn server_messages(rt: HostRuntime) -> Result<(), Fail> {
-    let alloc = rt.alloc();
-    let mut out = BytesMut::new(alloc);
-    assert_eq!(rt; put_greeting(1, &[0x41; 20], &mut out)?, 1);
-    let mut want = Vec::from_slice(
+/// The greeting of connection 1 by the salt of twenty A.
+fn greeting(alloc: Global) -> Result<Vec<u8>, Fail> {
+    let mut greeting = Vec::from_slice(
         alloc,
         b"\x50\x00\x00\x00\x0A8.0.0-router\x00\x01\x00\x00\x00AAAAAAAA\x00",
     )?;
-    want.extend_from_slice(b"\x0D\xA2\x3F\x02\x00\x08\x01\x15\0\0\0\0\0\0\0\0\0\0AAAAAAAAAAAA\0")?;
-    want.extend_from_slice(b"mysql_native_password\0")?;
+    greeting.extend_from_slice(
+        b"\x0D\xA2\x3F\x02\x00\x08\x01\x15\0\0\0\0\0\0\0\0\0\0AAAAAAAAAAAA\0",
+    )?;
+    greeting.extend_from_slice(b"mysql_native_password\0")?;
+    Ok(greeting)
+}
+
+#[test]
+fn a_server_greets(rt: HostRuntime) -> Result<(), Fail> {
+    let alloc = rt.alloc();
+    let want = greeting(alloc)?;
+    let mut out = BytesMut::new(alloc);
+    assert_eq!(rt; put_greeting(1, &[0x41; 20], &mut out)?, 1);
     assert_eq!(rt; out.as_slice(), want.as_slice());
-    out.clear();
+    Ok(())
+}
+
+#[test]
+fn a_server_asks_to_switch(rt: HostRuntime) -> Result<(), Fail> {
+    let mut out = BytesMut::new(rt.alloc());
     assert_eq!(rt; put_auth_switch(2, &[0x41; 20], &mut out)?, 3);
     assert!(rt;
         out.as_slice()
@@ -52,37 +65,66 @@ fn server_messages(rt: HostRuntime) -> Result<(), Fail> {
     Ok(())
 }
 
+/// Whether it is read as the answer of u, without more than is needed.
+fn is_least(payload: &[u8]) -> bool {
+    matches!(
+        read_response(payload),
+        Ok(Response {
+            capabilities: 0x8200,
+            user: b"u",
+            answer: b"",
+            database: None,
+            plugin: None
+        })
+    )
+}
+
 #[test]
-fn answers_are_read(rt: HostRuntime) -> Result<(), Fail> {
-    let alloc = rt.alloc();
-    let least = payload(alloc, b"\x00\x82\x00\x00", b"u\0\0")?;
-    assert!(rt;
-        matches!(
-            read_response(&least),
-            Ok(Response {
-                capabilities: 0x8200,
-                user: b"u",
-                answer: b"",
-                database: None,
-                plugin: None
-            })
-        )
-    );
+fn a_least_answer_is_read(rt: HostRuntime) -> Result<(), Fail> {
+    let least = payload(rt.alloc(), b"\x00\x82\x00\x00", b"u\0\0")?;
+    assert!(rt; is_least(&least));
+    Ok(())
+}
+
+/// An answer with all that one may have, and more behind it.
+fn whole_answer(alloc: Global) -> Result<Vec<u8>, Fail> {
     let mut whole = payload(alloc, b"\x08\x82\x08\x01", b"root\0\x02ab")?;
     whole.extend_from_slice(b"shop\0mysql_native_password\0more")?;
-    assert!(rt;
-        matches!(
-            read_response(&whole),
-            Ok(Response {
-                capabilities: 0x0108_8208,
-                user: b"root",
-                answer: b"ab",
-                database: Some(b"shop"),
-                plugin: Some(b"mysql_native_password")
-            })
-        )
-    );
-    // each beginning is cut short, up to the last zero
+    Ok(whole)
+}
+
+/// Whether it is the answer of root.
+fn is_of_root(response: &Response<'_>) -> bool {
+    response.capabilities == 0x0108_8208
+        && response.user == b"root".as_slice()
+        && response.answer == b"ab".as_slice()
+}
+
+/// Whether it names the database and the plugin.
+fn names_both(response: &Response<'_>) -> bool {
+    response.database == Some(b"shop".as_slice())
+        && response.plugin == Some(b"mysql_native_password".as_slice())
+}
+
+/// Whether it is read as the whole answer.
+fn is_whole(payload: &[u8]) -> bool {
+    match read_response(payload) {
+        Ok(response) => is_of_root(&response) && names_both(&response),
+        Err(_) => false,
+    }
+}
+
+#[test]
+fn a_whole_answer_is_read(rt: HostRuntime) -> Result<(), Fail> {
+    let whole = whole_answer(rt.alloc())?;
+    assert!(rt; is_whole(&whole));
+    Ok(())
+}
+
+#[test]
+fn each_beginning_of_an_answer_is_refused(rt: HostRuntime) -> Result<(), Fail> {
+    let whole = whole_answer(rt.alloc())?;
+    // up to the last zero
     for len in 0..whole.len().saturating_sub(4) {
         if let Some(front) = whole.as_slice().get(..len) {
             assert!(rt;

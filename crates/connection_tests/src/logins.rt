@@ -1,7 +1,7 @@
 //! The connection phase of sessions, by their bytes.
 use crate::handshakes::{RIGHT, SALT, STAGE2, payload};
 use crate::replies::{PING, PONG, query};
-use crate::sessions::{Ended, Told, Way, talk};
+use crate::sessions::{Ended, Feeding, Told, Way, talk};
 use session::{End, SessionFault};
 use std::alloc::Global;
 use std::process::Abort;
@@ -88,7 +88,7 @@ fn a_right_answer_lets_in(rt: HostRuntime) -> Result<(), Fail> {
 }
 
 #[test]
-fn a_wrong_user_or_answer_is_denied(rt: HostRuntime) -> Result<(), Fail> {
+fn a_wrong_user_is_denied(rt: HostRuntime) -> Result<(), Fail> {
     let alloc = rt.alloc();
     for user in [b"".as_slice(), b"v".as_slice(), b"uu".as_slice()] {
         let mut input = response(alloc, PLAIN, user, &RIGHT, b"")?;
@@ -96,6 +96,12 @@ fn a_wrong_user_or_answer_is_denied(rt: HostRuntime) -> Result<(), Fail> {
         input.extend_from_slice(PING)?;
         logs_in(&rt, alloc, &input, DENIED, End::Denied)?;
     }
+    Ok(())
+}
+
+#[test]
+fn a_wrong_answer_is_denied(rt: HostRuntime) -> Result<(), Fail> {
+    let alloc = rt.alloc();
     for answer in [b"".as_slice(), STAGE2.as_slice()] {
         let input = response(alloc, PLAIN, b"u", answer, b"")?;
         logs_in(&rt, alloc, &input, DENIED, End::Denied)?;
@@ -117,35 +123,56 @@ fn a_database_is_a_keyspace(rt: HostRuntime) -> Result<(), Fail> {
     logs_in(&rt, alloc, &input, DENIED, End::Denied)
 }
 
-/// The request to answer the salt by `mysql_native_password`.
-fn switch(alloc: Global) -> Result<Vec<u8>, Fail> {
-    let mut request = b"\x2c\x00\x00\x02\xfemysql_native_password\0".to_vec(alloc)?;
-    request.extend_from_slice(&SALT)?;
-    request.push(0)?;
-    Ok(request)
-}
-
-#[test]
-fn another_plugin_is_asked_to_switch(rt: HostRuntime) -> Result<(), Fail> {
-    let alloc = rt.alloc();
-    let other = response(
+/// A response by another plugin, and then these bytes.
+fn by_other_plugin(alloc: Global, behind: &[u8]) -> Result<Vec<u8>, Fail> {
+    let mut input = response(
         alloc,
         WITH_PLUGIN,
         b"u",
         b"1234",
         b"caching_sha2_password\0",
     )?;
-    logs_in(&rt, alloc, &other, &switch(alloc)?, End::Closed)?;
-    let mut right = other.as_slice().to_vec(alloc)?;
-    right.extend_from_slice(&packet(alloc, 3, &RIGHT)?)?;
-    let mut replies = switch(alloc)?;
-    replies.extend_from_slice(OK_AFTER_SWITCH)?;
-    logs_in(&rt, alloc, &right, &replies, End::Closed)?;
-    let mut wrong = other;
-    wrong.extend_from_slice(&packet(alloc, 3, b"")?)?;
-    let mut replies = switch(alloc)?;
-    replies.extend_from_slice(DENIED_AFTER_SWITCH)?;
-    logs_in(&rt, alloc, &wrong, &replies, End::Denied)
+    input.extend_from_slice(behind)?;
+    Ok(input)
+}
+
+/// The request to answer the salt by `mysql_native_password`, and then these bytes.
+fn switch(alloc: Global, behind: &[u8]) -> Result<Vec<u8>, Fail> {
+    let mut request = b"\x2c\x00\x00\x02\xfemysql_native_password\0".to_vec(alloc)?;
+    request.extend_from_slice(&SALT)?;
+    request.push(0)?;
+    request.extend_from_slice(behind)?;
+    Ok(request)
+}
+
+/// Sends a response by another plugin and then these bytes, and expects the request to switch and then these replies.
+fn switches<R: Threads + Wait + Sync + Abort>(
+    rt: &R,
+    alloc: Global,
+    behind: &[u8],
+    replies: &[u8],
+    end: End,
+) -> Result<(), Fail> {
+    let input = by_other_plugin(alloc, behind)?;
+    let request = switch(alloc, replies)?;
+    logs_in(rt, alloc, &input, &request, end)
+}
+
+#[test]
+fn another_plugin_is_asked_to_switch(rt: HostRuntime) -> Result<(), Fail> {
+    switches(&rt, rt.alloc(), b"", b"", End::Closed)
+}
+
+#[test]
+fn a_right_answer_after_a_switch_lets_in(rt: HostRuntime) -> Result<(), Fail> {
+    let answer = packet(rt.alloc(), 3, &RIGHT)?;
+    switches(&rt, rt.alloc(), &answer, OK_AFTER_SWITCH, End::Closed)
+}
+
+#[test]
+fn a_wrong_answer_after_a_switch_is_denied(rt: HostRuntime) -> Result<(), Fail> {
+    let answer = packet(rt.alloc(), 3, b"")?;
+    switches(&rt, rt.alloc(), &answer, DENIED_AFTER_SWITCH, End::Denied)
 }
 
 #[test]
@@ -182,12 +209,20 @@ fn a_failing_source_ends_a_session(rt: HostRuntime) -> Result<(), Fail> {
     Ok(())
 }
 
+/// A response, and then queries of these texts.
+fn response_and_queries(alloc: Global, texts: &[&[u8]]) -> Result<Vec<u8>, Fail> {
+    let mut input = response(alloc, PLAIN, b"u", b"", b"")?;
+    for text in texts {
+        let packet = query(alloc, text)?;
+        input.extend_from_slice(&packet)?;
+    }
+    Ok(input)
+}
+
 #[test]
 fn a_session_that_fails_drops_its_transaction(rt: HostRuntime) -> Result<(), Fail> {
     let alloc = rt.alloc();
-    let mut input = response(alloc, PLAIN, b"u", b"", b"")?;
-    input.extend_from_slice(query(alloc, b"BEGIN")?.as_slice())?;
-    input.extend_from_slice(query(alloc, b"DELETE FROM t WHERE id = 1")?.as_slice())?;
+    let input = response_and_queries(alloc, &[b"BEGIN", b"DELETE FROM t WHERE id = 1"])?;
     let told = talk(&rt, alloc, Way::FailingSource(SALT), &input)?;
     assert_eq!(rt; told.end, Err(SessionFault::Read));
     assert_eq!(rt; told.rows, 6);
@@ -198,7 +233,7 @@ fn a_session_that_fails_drops_its_transaction(rt: HostRuntime) -> Result<(), Fai
 fn a_commit_whose_reply_is_not_written_stands(rt: HostRuntime) -> Result<(), Fail> {
     let alloc = rt.alloc();
     let input = query(alloc, b"DELETE FROM t WHERE id = 1")?;
-    let told = talk(&rt, alloc, Way::BrokenSink, &input)?;
+    let told = talk(&rt, alloc, Way::Commands(Feeding::BrokenSink), &input)?;
     assert_eq!(rt; told.end, Err(SessionFault::Write));
     assert_eq!(rt; told.rows, 5);
     Ok(())

@@ -1,5 +1,5 @@
 //! What sessions write for what they read, and how they end.
-use crate::sessions::{Way, talk};
+use crate::sessions::{Feeding, Told, Way, talk};
 use session::{End, SessionFault};
 use std::alloc::Global;
 use std::process::Abort;
@@ -85,7 +85,7 @@ fn tells<R: Threads + Wait + Sync + Abort>(
     replies: &[u8],
     end: End,
 ) -> Result<(), Fail> {
-    let told = talk(rt, alloc, Way::Whole, input)?;
+    let told = talk(rt, alloc, Way::Commands(Feeding::Whole), input)?;
     assert_eq!(rt; told.written.as_slice(), replies);
     assert_eq!(rt; told.end, Ok(end));
     Ok(())
@@ -320,24 +320,35 @@ fn a_padded_text_is_read(rt: HostRuntime) -> Result<(), Fail> {
     tells(&rt, alloc, &packet, ONE_COLUMN, End::Closed)
 }
 
-#[test]
-fn pieces_of_one_byte_give_the_same_replies(rt: HostRuntime) -> Result<(), Fail> {
-    let alloc = rt.alloc();
+/// A query, and then a PING, a QUIT and a PING.
+fn query_and_quit(alloc: Global) -> Result<Vec<u8>, Fail> {
     let mut input = query(alloc, b"SELECT * FROM t WHERE id = 5")?;
     input.extend_from_slice(PING)?;
     input.extend_from_slice(QUIT)?;
     input.extend_from_slice(PING)?;
-    let whole = talk(&rt, alloc, Way::Whole, &input)?;
-    let pieces = talk(&rt, alloc, Way::Bytes, &input)?;
+    Ok(input)
+}
+
+/// Both have quit, and wrote the same.
+fn quit_alike<R: Abort>(rt: &R, pieces: &Told, whole: &Told) {
     assert_eq!(rt; pieces.written.as_slice(), whole.written.as_slice());
     assert_eq!(rt; pieces.end, Ok(End::Quit));
     assert_eq!(rt; whole.end, Ok(End::Quit));
+}
+
+#[test]
+fn pieces_of_one_byte_give_the_same_replies(rt: HostRuntime) -> Result<(), Fail> {
+    let alloc = rt.alloc();
+    let input = query_and_quit(alloc)?;
+    let whole = talk(&rt, alloc, Way::Commands(Feeding::Whole), &input)?;
+    let pieces = talk(&rt, alloc, Way::Commands(Feeding::Bytes), &input)?;
+    quit_alike(&rt, &pieces, &whole);
     Ok(())
 }
 
 #[test]
 fn a_failing_sink_ends_a_session(rt: HostRuntime) -> Result<(), Fail> {
-    let told = talk(&rt, rt.alloc(), Way::FailingSink, PING)?;
+    let told = talk(&rt, rt.alloc(), Way::Commands(Feeding::FailingSink), PING)?;
     assert_eq!(rt; told.end, Err(SessionFault::Write));
     Ok(())
 }

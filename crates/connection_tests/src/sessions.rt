@@ -1,5 +1,5 @@
 //! Sessions over one table of six rows, whose bytes come from a buffer and go to another.
-ghost use Rattle.std.specs.Prelude.{◌≡◌, IsSome, IsTrue, IfOk};
+ghost use Rattle.std.specs.Prelude.{◌≡◌, None, IsSome, IsTrue, IfOk};
 ghost use Rattle.std.specs.List.{AllByRecursion};
 ghost use Rattle.keyrange.specs.Names.{IsNamed};
 ghost use Rattle.vschema.specs.WellFormed.{is_vschema};
@@ -10,9 +10,9 @@ ghost use Rattle.empty_opening.specs.Empty.{opening_of, FitRanges};
 use crate::devices::{FailingSink, FailingSource, InterruptedReader};
 use empty_opening::opening_shards;
 use empty_world::empty_router;
-use journal::{Naming, Opened, Pass};
+use journal::{Naming, Opened, Opener, Pass};
 use keyrange::{KeyRange, covers_once};
-use route_engine::{Answer, Engine, Open, Reply, Tx};
+use route_engine::{Answer, Engine, Open, Tx};
 use session::{Access, Core, End, Reader, SessionFault, Sink, Writer, serve};
 use shard::{ShardLaw, World};
 use std::alloc::Global;
@@ -31,23 +31,30 @@ const SHOP: &str =
 const ROWS: &[u8] =
     b"INSERT INTO t (id, c) VALUES (1, NULL), (2, NULL), (3, 7), (4, 7), (5, 9), (6, 1)";
 
+/// How a session in its command phase is given its input, and where its replies go.
+#[derive(Clone, Copy)]
+pub(crate) enum Feeding {
+    /// In one piece.
+    Whole,
+    /// Byte by byte.
+    Bytes,
+    /// Twice in one piece, to a sink that fails at its second write.
+    FailingSink,
+    /// In one piece, to a sink that fails at once.
+    BrokenSink,
+}
+
 /// How a session is given its input, and where its replies go.
 #[derive(Clone, Copy)]
 pub(crate) enum Way {
-    /// In one piece, in the command phase.
-    Whole,
-    /// Byte by byte, in the command phase.
-    Bytes,
+    /// In its command phase.
+    Commands(Feeding),
     /// With the handshake: of the user u, with this SHA1(SHA1(password)), who is greeted by this salt.
     Served(Option<[u8; 20]>, [u8; 20]),
     /// The same, from a source that fails once its bytes are read.
     FailingSource([u8; 20]),
     /// The same, from a reader that is interrupted before each byte.
     Interrupted([u8; 20]),
-    /// Twice in one piece, to a sink that fails at its second write.
-    FailingSink,
-    /// In one piece, to a sink that fails at once.
-    BrokenSink,
 }
 
 /// How a session ends.
@@ -149,6 +156,45 @@ fn break_sink<W: World + Send + Sync, J: Naming + Send + Sync, R: Threads + Wait
     feed(rt, alloc, engine, pass, core, input, &mut sink)
 }
 
+// Feeds the input to a session by what it keeps.
+fn feed_by<W: World + Send + Sync, J: Naming + Send + Sync, R: Threads + Wait + Sync>(
+    rt: &R,
+    alloc: Global,
+    engine: &Engine<W, J, Open>,
+    pass: &mut Pass<ShardLaw<W>, J>,
+    core: &mut Core<W, J>,
+    feeding: Feeding,
+    input: &[u8],
+    sink: &mut Writer<Vec<u8>>,
+) -> Ended
+    requires session { IsSome pass.old.session }
+    requires tx { IsOf W.opening core.old.tx pass.old }
+{
+    match feeding {
+        Feeding::Whole => feed(rt, alloc, engine, pass, core, input, sink),
+        Feeding::Bytes => feed_bytes(rt, alloc, engine, pass, core, input, sink),
+        Feeding::FailingSink => fail_sink(rt, alloc, engine, pass, core, input),
+        Feeding::BrokenSink => break_sink(rt, alloc, engine, pass, core, input),
+    }
+}
+
+fn command<W: World + Send + Sync, J: Naming + Send + Sync, R: Threads + Wait + Sync>(
+    rt: &R,
+    alloc: Global,
+    engine: &Engine<W, J, Open>,
+    pass: &mut Pass<ShardLaw<W>, J>,
+    feeding: Feeding,
+    input: &[u8],
+    sink: &mut Writer<Vec<u8>>,
+) -> Ended
+    requires { IsSome pass.old.session }
+{
+    match Core::commands(alloc, 7, 0) {
+        Ok(mut core) => feed_by(rt, alloc, engine, pass, &mut core, feeding, input, sink),
+        Err(_) => Err(SessionFault::Memory),
+    }
+}
+
 fn talk_by<W: World + Send + Sync, J: Naming + Send + Sync, R: Threads + Wait + Sync>(
     rt: &R,
     alloc: Global,
@@ -160,14 +206,8 @@ fn talk_by<W: World + Send + Sync, J: Naming + Send + Sync, R: Threads + Wait + 
 ) -> Ended
     requires { IsSome pass.old.session }
 {
-    let Ok(mut core) = Core::commands(alloc, 7, 0) else {
-        return Err(SessionFault::Memory);
-    };
     match way {
-        Way::Whole => feed(rt, alloc, engine, pass, &mut core, input, sink),
-        Way::Bytes => feed_bytes(rt, alloc, engine, pass, &mut core, input, sink),
-        Way::FailingSink => fail_sink(rt, alloc, engine, pass, &mut core, input),
-        Way::BrokenSink => break_sink(rt, alloc, engine, pass, &mut core, input),
+        Way::Commands(feeding) => command(rt, alloc, engine, pass, feeding, input, sink),
         Way::Served(stage2, salt) => {
             serve_from(rt, alloc, engine, pass, stage2, &salt, input, sink)
         }
@@ -238,42 +278,109 @@ fn interrupt<W: World + Send + Sync, J: Naming + Send + Sync, R: Threads + Wait 
     serve(rt, alloc, engine, pass, &access, salt, 1, &mut source, sink)
 }
 
-// Puts the six rows into the table.
-fn put_rows<W: World + Send + Sync, J: Naming + Send + Sync, R: Threads + Wait + Sync>(
+// How many rows an answer gives.
+fn rows_of(answer: &Answer) -> usize {
+    match answer {
+        Answer::Rows(selected) => selected.rows.len(),
+        Answer::Count(_) => 0,
+    }
+}
+
+// How many rows a statement gives, by a transaction's place in which none is open.
+fn run_in<W: World + Send + Sync, J: Naming + Send + Sync, R: Threads + Wait + Sync>(
     rt: &R,
     alloc: Global,
     engine: &Engine<W, J, Open>,
     pass: &mut Pass<ShardLaw<W>, J>,
-) -> Result<(), Refusal>
-    requires { IsSome pass.old.session }
+    tx: &mut Tx<W, J>,
+    text: &[u8],
+) -> Result<usize, Refusal>
+    requires session { IsSome pass.old.session }
+    requires closed { tx.old ≡ None }
     ensures { IsSome pass.new.session }
 {
-    match engine.execute(rt, alloc, pass, &mut Tx::new(), ROWS) {
-        Ok(_) => Ok(()),
+    match engine.execute(rt, alloc, pass, tx, text) {
+        Ok(reply) => Ok(rows_of(&reply.answer)),
         Err(refusal) => Err(refusal),
     }
 }
 
-// How many rows the table has.
-fn count_rows<W: World + Send + Sync, J: Naming + Send + Sync, R: Threads + Wait + Sync>(
+// How many rows a statement gives.
+fn run<W: World + Send + Sync, J: Naming + Send + Sync, R: Threads + Wait + Sync>(
     rt: &R,
     alloc: Global,
     engine: &Engine<W, J, Open>,
     pass: &mut Pass<ShardLaw<W>, J>,
+    text: &[u8],
 ) -> Result<usize, Refusal>
     requires { IsSome pass.old.session }
+    ensures { IsSome pass.new.session }
 {
-    let Reply { answer, .. } = engine.execute(
-        rt,
-        alloc,
-        pass,
-        &mut Tx::new(),
-        b"SELECT id FROM t",
-    )?;
-    match answer {
-        Answer::Rows(selected) => Ok(selected.rows.len()),
-        Answer::Count(_) => Err(Refusal::NotSupported),
+    let mut tx = Tx::new();
+    run_in(rt, alloc, engine, pass, &mut tx, text)
+}
+
+// Talks over the six rows, which are put into the table first.
+fn talk_over<W: World + Send + Sync, J: Naming + Send + Sync, R: Threads + Wait + Sync>(
+    rt: &R,
+    alloc: Global,
+    engine: &Engine<W, J, Open>,
+    pass: &mut Pass<ShardLaw<W>, J>,
+    way: Way,
+    input: &[u8],
+    sink: &mut Writer<Vec<u8>>,
+) -> Result<Ended, Refusal>
+    requires { IsSome pass.old.session }
+{
+    run(rt, alloc, engine, pass, ROWS)?;
+    Ok(talk_by(rt, alloc, engine, pass, way, input, sink))
+}
+
+// A session that talks.
+fn talk_first<W: World + Send + Sync, J: Naming + Send + Sync, R: Threads + Wait + Sync>(
+    rt: &R,
+    alloc: Global,
+    engine: &Engine<W, J, Open>,
+    opener: &mut Opener<ShardLaw<W>, J>,
+    seen: &mut Pass<ShardLaw<W>, J>,
+    way: Way,
+    input: &[u8],
+    sink: &mut Writer<Vec<u8>>,
+) -> Result<Ended, Refusal> {
+    match opener.open(seen) {
+        Ok(mut pass) => talk_over(rt, alloc, engine, &mut pass, way, input, sink),
+        Err(refusal) => Err(refusal),
     }
+}
+
+// Another session that counts the rows of the table.
+fn count_rows<W: World + Send + Sync, J: Naming + Send + Sync, R: Threads + Wait + Sync>(
+    rt: &R,
+    alloc: Global,
+    engine: &Engine<W, J, Open>,
+    opener: &mut Opener<ShardLaw<W>, J>,
+    seen: &mut Pass<ShardLaw<W>, J>,
+) -> Result<usize, Refusal> {
+    match opener.open(seen) {
+        Ok(mut pass) => run(rt, alloc, engine, &mut pass, b"SELECT id FROM t"),
+        Err(refusal) => Err(refusal),
+    }
+}
+
+// How a session ends, and how many rows another one finds then.
+fn talk_and_count<W: World + Send + Sync, J: Naming + Send + Sync, R: Threads + Wait + Sync>(
+    rt: &R,
+    alloc: Global,
+    engine: &Engine<W, J, Open>,
+    opener: &mut Opener<ShardLaw<W>, J>,
+    seen: &mut Pass<ShardLaw<W>, J>,
+    way: Way,
+    input: &[u8],
+    sink: &mut Writer<Vec<u8>>,
+) -> Result<(Ended, usize), Refusal> {
+    let ended = talk_first(rt, alloc, engine, opener, seen, way, input, sink)?;
+    let rows = count_rows(rt, alloc, engine, opener, seen)?;
+    Ok((ended, rows))
 }
 
 fn talk_opened<W: World + Send + Sync, J: Naming + Send + Sync, R: Threads + Wait + Sync>(
@@ -295,12 +402,16 @@ fn talk_opened<W: World + Send + Sync, J: Naming + Send + Sync, R: Threads + Wai
     let (engine, mut opener, mut first) = empty_router::<W, J, Open>(
         alloc, schema, ranges, opened, 0, Open,
     )?;
-    let mut pass = opener.open(&mut first)?;
-    put_rows(rt, alloc, &engine, &mut pass)?;
-    let ended = talk_by(rt, alloc, &engine, &mut pass, way, input, sink);
-    let mut other = opener.open(&mut first)?;
-    let rows = count_rows(rt, alloc, &engine, &mut other)?;
-    Ok((ended, rows))
+    talk_and_count(
+        rt,
+        alloc,
+        &engine,
+        &mut opener,
+        &mut first,
+        way,
+        input,
+        sink,
+    )
 }
 
 // The same in the world that has this VSchema and these ranges.

@@ -113,65 +113,100 @@ fn counted<'a>(alloc: Global, calls: &'a Cell<u64>) -> Result<Vec<Counting<'a>>,
     Ok(inputs)
 }
 
-#[test]
-fn a_merge_pulls_a_row_of_each_input_and_one_for_each_that_it_gave(
-    rt: HostRuntime,
-) -> Result<(), Fail> {
-    let alloc = rt.alloc();
-    let calls = Cell::new(0);
+/// The number of each row that a merge gives, -1 once it gives none, and how often its inputs were called until then; 0 before the first.
+fn merged(alloc: Global, calls: &Cell<u64>) -> Result<Vec<(i128, u64)>, Fail> {
     let keys = [Key {
         column: 0,
         descending: false,
     }];
-    let mut merge = MergeSort::new(alloc, counted(alloc, &calls)?, &keys)?;
-    assert!(rt; calls.get() <= 4);
-    for (wanted, most) in [(1, 5), (2, 6), (2, 7), (3, 8), (4, 9), (5, 10), (9, 11)] {
-        let row = merge.next(alloc)?;
-        assert!(rt; row.as_ref().map(number_in) == Some(wanted));
-        assert!(rt; calls.get() <= most);
+    let mut merge = MergeSort::new(alloc, counted(alloc, calls)?, &keys)?;
+    let mut told = Vec::new(alloc);
+    told.push((0, calls.get()))?;
+    put_calls(alloc, &mut merge, calls, &mut told)?;
+    Ok(told)
+}
+
+fn put_calls<O: Operator>(
+    alloc: Global,
+    input: &mut O,
+    calls: &Cell<u64>,
+    told: &mut Vec<(i128, u64)>,
+) -> Result<(), Fail> {
+    for _ in 0..8 {
+        let number = input.next(alloc)?.as_ref().map_or(-1, number_in);
+        told.push((number, calls.get()))?;
     }
-    assert!(rt; matches!(merge.next(alloc), Ok(None)));
     Ok(())
+}
+
+#[test]
+fn a_merge_pulls_a_row_of_each_input_and_one_for_each_that_it_gave(
+    rt: HostRuntime,
+) -> Result<(), Fail> {
+    let calls = Cell::new(0);
+    let told = merged(rt.alloc(), &calls)?;
+    let wanted = [
+        (0, 4),
+        (1, 5),
+        (2, 6),
+        (2, 7),
+        (3, 8),
+        (4, 9),
+        (5, 10),
+        (9, 11),
+        (-1, 11),
+    ];
+    assert!(rt; told.len() == wanted.len());
+    for ((number, called), (wanted, most)) in told.as_slice().iter().zip(wanted) {
+        assert!(rt; *number == wanted);
+        assert!(rt; *called <= most);
+    }
+    Ok(())
+}
+
+/// What calls of `next` give: `r` for a row, `e` at the end, and `f` where they fail.
+fn outcomes<O: Operator>(alloc: Global, mut input: O, calls: u32) -> Result<Vec<u8>, Fail> {
+    let mut told = Vec::new(alloc);
+    for _ in 0..calls {
+        told.push(match input.next(alloc) {
+            Ok(Some(_)) => b'r',
+            Ok(None) => b'e',
+            Err(_) => b'f',
+        })?;
+    }
+    Ok(told)
+}
+
+/// Inputs that fail after so many rows.
+fn inputs_of(alloc: Global, rows: &[u32]) -> Result<Vec<Failing>, Fail> {
+    let mut inputs = Vec::new(alloc);
+    for left in rows {
+        inputs.push(Failing {
+            left: *left,
+            failed: false,
+        })?;
+    }
+    Ok(inputs)
 }
 
 #[test]
 fn a_merge_stays_failed_where_an_input_does(rt: HostRuntime) -> Result<(), Fail> {
     let alloc = rt.alloc();
-    let mut inputs = Vec::new(alloc);
-    for left in [3, 2] {
-        inputs.push(Failing {
-            left,
-            failed: false,
-        })?;
-    }
-    let mut merge = MergeSort::new(alloc, inputs, &[])?;
-    for _ in 0..2 {
-        assert!(rt; matches!(merge.next(alloc), Ok(Some(_))));
-    }
-    for _ in 0..3 {
-        assert!(rt; matches!(merge.next(alloc), Err(Refusal::OutOfMemory)));
-    }
+    let merge = MergeSort::new(alloc, inputs_of(alloc, &[3, 2])?, &[])?;
+    assert!(rt; outcomes(alloc, merge, 5)?.as_slice() == b"rrfff".as_slice());
     Ok(())
 }
 
 #[test]
 fn a_failed_input_stays_failed(rt: HostRuntime) -> Result<(), Fail> {
     let alloc = rt.alloc();
-    let mut inputs = Vec::new(alloc);
-    inputs.push(Failing {
-        left: 1,
-        failed: false,
-    })?;
     let limit = sql_tree::Limit {
         count: 5,
         offset: 0,
     };
-    let limited = Limit::new(Concat::new(inputs), Some(limit));
-    let mut project = Project::new(limited, Items::new(alloc));
-    assert!(rt; matches!(project.next(alloc), Ok(Some(_))));
-    for _ in 0..3 {
-        assert!(rt; matches!(project.next(alloc), Err(Refusal::OutOfMemory)));
-    }
+    let limited = Limit::new(Concat::new(inputs_of(alloc, &[1])?), Some(limit));
+    let project = Project::new(limited, Items::new(alloc));
+    assert!(rt; outcomes(alloc, project, 4)?.as_slice() == b"rfff".as_slice());
     Ok(())
 }
 

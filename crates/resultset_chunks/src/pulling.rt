@@ -90,9 +90,20 @@ fn joined(alloc: Global, chunks: &Chunks) -> Result<Vec<u8>, Fail> {
     Ok(bytes)
 }
 
+fn are_joined(alloc: Global, chunks: &Chunks, bytes: &[u8]) -> Result<bool, Fail> {
+    Ok(joined(alloc, chunks)?.as_slice() == bytes)
+}
+
+/// Whether both ways give the same bytes and number, and how many chunks there are.
+fn compared(alloc: Global, lengths: &[usize], end: SetEnd) -> Result<(bool, usize), Fail> {
+    let (chunks, next) = pulled(alloc, lengths, end)?;
+    let (bytes, wanted) = whole(alloc, lengths, end)?;
+    let same = are_joined(alloc, &chunks, bytes.as_slice())?;
+    Ok((same && next == wanted, chunks.as_slice().len()))
+}
+
 #[test]
 fn rows_in_chunks_are_the_same_bytes(rt: HostRuntime) -> Result<(), Fail> {
-    let alloc = rt.alloc();
     // how long the texts are, and how many chunks there are
     let cases: [(&[usize], usize); 5] = [
         (&[], 1),
@@ -103,11 +114,9 @@ fn rows_in_chunks_are_the_same_bytes(rt: HostRuntime) -> Result<(), Fail> {
     ];
     for (lengths, count) in &cases {
         for end in [SetEnd::EofPackets, SetEnd::OkPacket] {
-            let (chunks, next) = pulled(alloc, lengths, end)?;
-            let (bytes, wanted) = whole(alloc, lengths, end)?;
-            assert_eq!(rt; next, wanted);
-            assert!(rt; joined(alloc, &chunks)?.as_slice() == bytes.as_slice());
-            assert_eq!(rt; chunks.as_slice().len(), *count);
+            let (same, chunks) = compared(rt.alloc(), lengths, end)?;
+            assert!(rt; same);
+            assert_eq!(rt; chunks, *count);
         }
     }
     Ok(())
@@ -123,28 +132,31 @@ fn all_chunks_but_the_last_are_full(rt: HostRuntime) -> Result<(), Fail> {
     Ok(())
 }
 
+/// Whether rows that fail are told so.
+fn is_refused(alloc: Global, rows: Failing, chunks: &mut Chunks) -> Result<bool, Fail> {
+    let columns = columns(alloc)?;
+    let end = SetEnd::OkPacket;
+    let done = encode_rows(alloc, columns.as_slice(), rows, 1, STATUS, end, chunks);
+    Ok(done == Err(Refusal::OutOfMemory))
+}
+
+/// Whether rows that fail are told so, and leave the chunks as they were.
+fn leave(alloc: Global, rows: Failing, chunks: &mut Chunks) -> Result<bool, Fail> {
+    let before = joined(alloc, chunks)?;
+    let refused = is_refused(alloc, rows, chunks)?;
+    Ok(refused && are_joined(alloc, chunks, before.as_slice())?)
+}
+
 #[test]
 fn rows_that_fail_leave_the_stream_as_it_was(rt: HostRuntime) -> Result<(), Fail> {
     let alloc = rt.alloc();
     let (mut chunks, _next) = pulled(alloc, &[3], SetEnd::OkPacket)?;
-    let before = joined(alloc, &chunks)?;
     for left in [0, 9, 5_000] {
         let rows = Failing {
             left,
             failed: false,
         };
-        let columns = columns(alloc)?;
-        let done = encode_rows(
-            alloc,
-            columns.as_slice(),
-            rows,
-            1,
-            STATUS,
-            SetEnd::OkPacket,
-            &mut chunks,
-        );
-        assert_eq!(rt; done, Err(Refusal::OutOfMemory));
-        assert!(rt; joined(alloc, &chunks)?.as_slice() == before.as_slice());
+        assert!(rt; leave(alloc, rows, &mut chunks)?);
     }
     Ok(())
 }

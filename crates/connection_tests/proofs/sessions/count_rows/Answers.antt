@@ -1,5 +1,6 @@
-use Rattle.session.proofs.Keeping.{none_of}
+use denote.Param.Send.{sendable}
+use Rattle.shard_run.proofs.Sent.{entry_send}
 use Rattle.connection_tests.proofs.sessions.count_rows.Goals as goal
 
-pub execute-requires-clause-tx : goal.execute-requires-clause-tx
-execute-requires-clause-tx g c κs within = none_of g.W.World.opening c.args.pass.now c.new.result c.new.ensures
+pub open-requires-send-L-Entry : goal.open-requires-send-L-Entry
+open-requires-send-L-Entry g c κs within = search (entry_send, sendable)
