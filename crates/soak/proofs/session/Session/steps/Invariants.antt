@@ -1,0 +1,6 @@
+use Rattle.route_engine.specs.Pendings.{IsOf}
+use Rattle.soak.proofs.session.Session.steps.Given as goal
+
+-- the transaction is still the pass's
+abbrev pub invariant-loop : goal.invariant-loop
+invariant-loop g l = IsOf g.W.World.opening l.tx l.self.pass
