@@ -1,5 +1,6 @@
 """What crates.txt says of the workspace, and which crates a change touches. For the scripts beside it."""
 
+import functools
 import pathlib
 import re
 import subprocess
@@ -10,6 +11,7 @@ PROVED = ("src", "specs", "proofs")
 CONTRACT = re.compile(r"^[+-]\s*(pub\b|ensures\b|requires\b|law\b|invariant\b|trait\b|impl\b|ghost\b|type\b|///)", re.M)
 
 
+@functools.cache
 def crates():
     """Returns the libraries of the workspace that each crate names, the crates lowest first."""
     named = {}
@@ -29,6 +31,18 @@ def crates():
     for name in below:
         visit(name)
     return {name: below[name] for name in ordered}
+
+
+def layers():
+    """Returns the crates of each section of crates.txt, in its order."""
+    found, ordered = {}, list(crates())
+    for line in (TOP / "crates.txt").read_text().splitlines():
+        head, colon, _ = line.partition("#")[0].partition(":")
+        if line.startswith("# == "):
+            found[line.removeprefix("# == ")] = []
+        elif colon:
+            next(reversed(found.values())).append(head.split()[0])
+    return {layer: sorted(names, key=ordered.index) for layer, names in found.items()}
 
 
 def above(names, below):

@@ -174,6 +174,11 @@ fn answer_all<W: World + Send + Sync, J: Naming + Send + Sync, G: Gate, I: Sourc
     unreachable!()
 }
 
+// Promise: Of the bytes that a client of the admin port sends, each line that has ended is answered, over what the lines before it left,
+// and that is written, in order; a rest that hasn't ended is no line. The conversation ends where its input does. Where it breaks off (a
+// device failed, a line is too long, or there is no memory for one) it does so behind a line that was told, or one that was answered and of
+// which a front was written, and nothing is done behind it
+// Refuses: unended_line_is_given_up, conversation_ends_unread, each_line_is_told_ok, line_is_kept_for_the_next
 /// Answers the lines of a client, each over what the lines before it left, until its input ends. The administrator is that of the engine's
 /// sharded keyspace. It breaks off where a device fails, where a line has more than `LONGEST_LINE` bytes, and where there is no memory for one;
 /// nothing more is done then. What the line before that asked for is done, even where its reply couldn't be written.

@@ -106,6 +106,12 @@ impl<W: World, J: Naming> Administrator<W, J> {
     ghost use Rattle.vschema.specs.WellFormed.{is_vschema};
     ghost use Rattle.administration.specs.Told.{IsTold, keyspace_of};
 
+    // Promise: An admin line does exactly what its words ask for over the workflow of the sharded keyspace, and its answer tells it: what
+    // was done, which step was taken, or why not, by its number; other words are unknown and do nothing, and neither does a line that can't
+    // be read for want of memory. `status` tells the ranges of some partition of the keyspace, in their order, and how far the workflow is.
+    // Without a sharded keyspace there is no workflow. The answer's line takes no memory, so that what was done can be told
+    // With: Administrator::answer, AdminReply::line
+    // Refuses: advance_takes_two_steps, cancel_answers_alone, create_is_told_unbegun, status_forgets_the_stage
     /// Over the workflow of the sharded keyspace, or, without such a keyspace, none.
     pub fn new(workflow: Option<Workflow<W, J>>) -> Administrator<W, J>
         ensures { result ≡ workflow }

@@ -26,6 +26,11 @@ pub trait Aggregate {
     // what the aggregate gives over a bag of values
     ghost meaning: { List Value → Value };
 
+    // Promise: Each aggregate keeps a part of a bag of values: parts are joined in any order and grouping, that of no values is the unit,
+    // that of two bags together is the join of theirs, and a part gives what the aggregate means over the bag
+    // With: Aggregate::{add, join, finish, laws, holds}, evaluate, Count::{empty, add, join, finish}, CountStar::{empty, add, join,
+    // finish}, Sum::{empty, add, join, finish}, Min::{empty, add, join, finish}, Max::{empty, add, join, finish}
+    // Refuses: sum_in_64_bits, min_joins_as_max, null_part_counts_as_0
     /// The part of no values.
     fn empty() -> Self::Part
         ensures { result ≡ part_of [] };

@@ -104,6 +104,10 @@ pub type ConnectionQueue<T> = RuledArrayQueue<T, Hand<T>, Order>;
 /// What a thread knows of it. It has no bytes.
 pub type Known<T> = Pass<T, Hand<T>>;
 
+// Promise: What is put into the queue of connections stands behind what was put before, or is handed back where the queue is full; what is
+// taken is, in the order of taking, a beginning of what was put, and no connection is taken twice; passes that ended are compared in one
+// order
+// With: new_taker, put, take, absorb
 /// An empty queue, and the pass of the thread that puts. Refuses only for want of memory.
 pub fn open<T: Drop>(
     alloc: Global,

@@ -59,6 +59,9 @@ fn push_shards(
     Ok(())
 }
 
+// Promise: The shards without rows: slot 0 for the unsharded keyspace, where there is one, and on the next slots one for each range of the
+// sharded one; a well-formed VSchema with ranges that fit makes them an opening
+// With: empty_tables
 /// The shards of the opening that has no rows: one on slot 0 for the unsharded keyspace, where there is one, and on the
 /// next slots one for each range of the sharded keyspace, where there is one. Ranges that have names, hold each keyspace
 /// id once and fit into 64 slots make it an opening. It refuses only for want of memory.

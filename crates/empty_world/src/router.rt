@@ -342,6 +342,9 @@ pub fn seated_router<W: World + Send + Sync, J: Naming + Send + Sync, G: Gate>(
     Ok((engine, opener, pass, free))
 }
 
+// Promise: The engine over a well-formed VSchema and ranges that fit, with no rows: each opening shard on the seat of its slot; the opener
+// of its sessions, and a pass that has seen nothing
+// Refuses: half_of_the_shards, seats_in_another_order, a_table_more, every_part_has_the_first_shard
 /// The engine over a VSchema and the ranges of its sharded keyspace, whose tables are empty, in the journal that was opened; the opener
 /// of its sessions, and a first pass, which has seen nothing. So many statements may wait in its buffer. It refuses only for want of
 /// memory.

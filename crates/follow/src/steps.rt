@@ -306,6 +306,12 @@ fn round<W: World, J: Naming>(
     take(rt, alloc, pass, schema, target, entries, given)
 }
 
+// Promise: A step of a target with one of its sources, or with the first of several that it isn't level with, appends exactly one entry, a
+// Copy behind all that the source had stored at a look of the step, or a Follow; or none, and then the target was level with what the
+// source had stored at a look. It is refused for want of memory, or where the target has as many entries as it may; that nothing was
+// appended then has no clause
+// With: bring_forward_with
+// Refuses: step_answers_level_at_once, copied_without_an_entry, followed_without_an_entry, copies_beyond_an_entry_that_is_left
 /// Brings a target forward with a source of it: it takes over the entry that is next, where one is left, else it copies the next rows, at
 /// most 100 of them, else it is level. At most one entry is appended. Refuses for want of memory, and what would pass a limit of entries of
 /// the target.

@@ -45,6 +45,10 @@ impl<L: Law, J: Naming> Opener<L, J> {
         self.next
     }
 
+    // Promise: Of the commits that a pass has seen none is of a number that wasn't given out; of a session none that its own pass hasn't
+    // seen, once the two were compared, and their statement numbers were given out
+    // With: Pass::{confirm, session}
+    // Clauses: unopened, same, pass, own, either, theirs, below
     /// Nothing changes. Of the commits that the pass has seen none is of a session that isn't opened yet.
     pub fn confirm(&mut self, pass: &mut Pass<L, J>)
         ensures same { self.new ≡ self.old }
@@ -54,6 +58,9 @@ impl<L: Law, J: Naming> Opener<L, J> {
         self.words.compare(&mut self.seat, &mut pass.seat);
     }
 
+    // Promise: The opener gives each session number once, to a pass that has seen what its parent had, and refuses only where the numbers
+    // are used up (F24) or for want of memory
+    // With: Opener::next
     /// A pass with the next session number, which has seen what `pass` has. No entry is of its session yet. It refuses
     /// `ShardFull` once 2^62 numbers are used up, and before that `OutOfMemory` where there are too many handles; then
     /// nothing has changed.

@@ -56,6 +56,10 @@ impl<L: Law, J: Naming> Pass<L, J> {
         self.statements
     }
 
+    // Promise: A pass numbers its session's statements from 1, each above all commits of the session that it has seen, which is legal
+    // With: Pass::session
+    // Clauses: number, counted, above, legal, full, unchanged
+    // Refuses: session_answers_none
     /// The number of the session's next statement, from 1 on. It is above those of all commits of its session that the
     /// pass has seen. It refuses `ShardFull` once 2^62 statements were numbered; then nothing has changed.
     pub fn next_statement(&mut self) -> Result<u64, Refusal>
@@ -73,6 +77,9 @@ impl<L: Law, J: Naming> Pass<L, J> {
         Ok(self.statements)
     }
 
+    // Promise: A pass that is split off has seen as much and has no number; passes that met have seen the longer of what they had seen; a
+    // pass that joined another has its looks too; no two passes have one session number
+    // With: Pass::{meet, join}
     /// A pass without a session number or looks, which has seen as much: a worker's, to be joined back. It refuses
     /// `OutOfMemory` where there are too many handles.
     pub fn split(&mut self) -> Result<Pass<L, J>, Refusal>

@@ -33,6 +33,7 @@ impl<L: Law, J: Naming> ShardSeat<L, J> {
     ghost use Rattle.journal.specs.Runs.{IsLegal, on_slot};
     ghost use Rattle.journal.specs.Views.{IsLater};
 
+    // Promise: A seat tells its slot; what it has seen is legal
     /// Its slot, from 0 on. What it has seen is legal.
     pub fn slot(&self) -> usize
         ensures slot { result ≡ self.now.slot }
@@ -42,6 +43,8 @@ impl<L: Law, J: Naming> ShardSeat<L, J> {
         self.slot
     }
 
+    // Promise: After a look seat and pass have seen one legal run, which begins with what either had seen and has no more entries on the
+    // slot or of the session; the count is that of the slot; the look is kept, with its slot and the run's length
     /// Seat and pass see the run as it is, and the pass keeps the look. The answer is the number of the run's entries
     /// on the slot.
     pub fn look(&mut self, pass: &mut Pass<L, J>) -> u64
@@ -53,6 +56,8 @@ impl<L: Law, J: Naming> ShardSeat<L, J> {
         self.words.look(&mut self.seat, &mut pass.seat, self.slot)
     }
 
+    // Promise: An append adds exactly its entry, after any such run, where the entry is lawful
+    // Refuses: append_does_nothing, append_leaves_pass_behind
     /// Adds the entry to the run, and this entry alone; seat and pass have then seen the run up to it. A commit is of
     /// the pass's session, and has a number that the pass has given out. The entry is lawful after any legal run that
     /// begins with what was seen and has no more entries on the slot or of the session.

@@ -17,6 +17,8 @@ fn later<'e>(a: &'e [u8], b: &'e [u8]) -> &'e [u8]
 }
 
 impl KeyRange {
+    // Promise: A range holds the ids from its begin to before its end; two overlap exactly where some id lies in both
+    // With: KeyRange::overlaps
     /// Whether a keyspace id lies in the range.
     pub fn contains(&self, id: &[u8]) -> bool
         ensures { result ≡ has_id self.now id.now }
@@ -60,6 +62,8 @@ fn is_in_one(ranges: &[KeyRange], id: &[u8]) -> bool
     ranges.iter().filter(|range| range.contains(id)).count() == 1
 }
 
+// Promise: Ranges cover, in any order, exactly where each id lies in just one
+// Refuses: covers_once_looks_at_union
 /// Whether each keyspace id lies in exactly one of the ranges, in whatever order they are. It takes no memory, and
 /// compares each edge with each range.
 pub fn covers_once(ranges: &[KeyRange]) -> bool

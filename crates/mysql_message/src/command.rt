@@ -25,6 +25,7 @@ const COM_QUERY: u8 = 0x03;
 
 const COM_PING: u8 = 0x0E;
 
+// Promise: A payload is the command that it is, or an unknown one
 /// The command that a payload asks for. Its first byte tells which; the bytes after that of COM_INIT_DB are the name of
 /// the keyspace, those after that of COM_QUERY the text of the query, and those after the others aren't looked at. An empty payload and any other first byte are refused.
 pub fn read_command(payload: &[u8]) -> Result<Command<'_>, Refusal>

@@ -40,6 +40,8 @@ fn marked(marker: u8, low: &[u8]) -> ArrayVec<u8, 9>
     bytes
 }
 
+// Promise: Length-encoded numbers and texts have their shortest form, and only that is read
+// With: put_length_encoded, put_length_encoded_string, read_length_encoded, read_length_encoded_string, little_endian
 /// A number in its shortest length-encoded form: below 251 one byte, else a marker and its two, three or eight low
 /// bytes.
 pub fn length_encoded(n: u64) -> ArrayVec<u8, 9>

@@ -4,6 +4,8 @@ ghost use Rattle.mysql_packet.specs.Frames.{full, stream_of, IsRefusedAfter, IsT
 ghost use Rattle.mysql_packet.specs.declared.framer.Fault.{Fault};
 ghost use Rattle.mysql_packet.specs.declared.framer.Payload.{Payload};
 
+// Promise: A stream has these payloads and no others, and less than a payload is bounded by the limit
+// With: bounded_rest
 /// A stream is these payloads and no others, and ends in this way alone, so it doesn't matter how it was cut.
 pub fn one_framing()
     ensures split { (limit : ℕ) (bytes : List ℕ) (ps qs : List Payload) (r s : List ℕ) →
@@ -20,6 +22,7 @@ pub fn bounded_rest()
         Splits limit bytes ps rest → length rest < limit + 4 * (limit / full + 1) }
 {}
 
+// Promise: The packets of payloads are read back as these payloads
 /// The frames of payloads are a stream that is these payloads: what is written is read back.
 pub fn read_back()
     ensures { (limit : ℕ) (ps : List Payload) → AllByRecursion (IsTaken limit) ps → Splits limit (stream_of ps) ps [] }

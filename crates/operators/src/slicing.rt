@@ -34,6 +34,11 @@ impl<O: Operator> Limit<O> {
     ghost use Rattle.operators.specs.declared.slicing.Limit.{Limit};
     ghost use Rattle.operators.specs.inner.Limits.{input_of, LimitCall};
 
+    // Promise: LIMIT calls its input's `next` at most offset plus count times however often it is called itself, never for no rows and
+    // never again once the input failed; without LIMIT once a call
+    // With: Limit::next
+    // Clauses: calls, call
+    // Refuses: limit_pulls_one_row_more, limit_forgets_that_its_input_failed
     /// What `limit` leaves of the input's rows, all of them where it is `None`.
     pub fn new(input: O, limit: Option<sql_tree::Limit>) -> Limit<O>
         ensures rows { ⟦<Limit<O> as Operator>⟧.to_come result ≡ sliced limit (O.to_come input) }

@@ -58,6 +58,13 @@ pub(crate) fn move_first<W: World, J: Naming>(
 }
 
 impl<W: World, J: Naming> Workflow<W, J> {
+    // Promise: A workflow begins exactly with the shards that its first ranges name, which served and weren't frozen when they were looked
+    // at, and with targets of the other ranges on free slots, which hold the same ids; each target takes from the sources that overlap it,
+    // and with the parts that stay the targets make a partition. It is refused only for its cause: one is there already (N4), a source that
+    // isn't a part of the partition, is named twice or doesn't serve (N5), targets that overlap (N2) or don't hold what the sources do
+    // (N1), too few slots (N3), or memory; then nothing changed, and no slot is taken: targets that were made give theirs back
+    // With: Workflow::{stage, create}
+    // Refuses: create_takes_any_targets, create_refused_takes_a_slot, shard_refused_takes_its_slot
     /// A controller of a keyspace and these free slots, which has no workflow.
     pub fn new(
         alloc: Global,
@@ -154,6 +161,9 @@ impl<W: World, J: Naming> Workflow<W, J> {
         Ok(())
     }
 
+    // Promise: A step of a workflow brings the first target forward, in the order of their ranges, that isn't level with its sources, by at
+    // most one entry; or all are level. It is refused only where no targets follow (N4), a target has as many entries as it may have (F24),
+    // or for memory
     /// Brings the first target forward, in their order, that isn't level with its sources: it takes over the entry that is next, else it
     /// copies the next rows; where all are level, nothing. Refuses where no targets follow; where a target has as many entries as it may
     /// have; and for want of memory.

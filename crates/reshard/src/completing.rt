@@ -84,6 +84,9 @@ impl<W: World, J: Naming> Workflow<W, J> {
         }
     }
 
+    // Promise: A workflow is completed exactly where its targets serve (else N4): each of its sources is retired, so that no statement
+    // reads it, and there is none. That the sources' rows are given up is a clause of the shard's own call alone
+    // Refuses: completed_before_its_end
     /// Ends the workflow, whose targets serve: its sources' rows are dropped, and their slots are used up. Refuses where the targets don't
     /// serve. Takes no memory.
     pub fn complete(

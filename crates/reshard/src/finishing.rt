@@ -55,6 +55,8 @@ impl<W: World, J: Naming> Workflow<W, J> {
         unreachable!()
     }
 
+    // Promise: A whole cutover, begun while targets follow, ends with each source retired and each target serving in what the pass has
+    // seen; else it stopped as a step does, with nothing retired, and was given up
     /// Takes all steps of the cutover that are left: the targets serve then, in the place of the sources. Refuses where no targets follow, or a
     /// cutover has begun. For want of memory, and where a shard would have more rows or entries than it may, the cutover is given up, of which
     /// no source is retired: each source serves again, the statements that waited go on, and the targets follow.
@@ -100,6 +102,9 @@ impl<W: World, J: Naming> Workflow<W, J> {
         }
     }
 
+    // Promise: A cutover that had begun is thawed, of which no source was retired: each source serves again, and the targets follow; else
+    // it is finished: each source is retired, and each target serves. Refused exactly where none had begun (N4). It takes no memory
+    // Refuses: resume_forgets_a_source
     /// Ends a cutover that has begun: where no source is retired, each is thawed that is frozen, the statements that waited go on, and the
     /// targets follow; else the cutover is finished. Refuses where none has begun. Takes no memory.
     pub fn resume(

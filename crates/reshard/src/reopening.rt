@@ -186,6 +186,13 @@ fn unless_published<W: World, J: Naming>(
 }
 
 impl<W: World, J: Naming> Workflow<W, J> {
+    // Promise: A workflow that another controller stopped is made again from the shards of its sources and targets: with one look under
+    // each lock, the first so many sources are retired, the next frozen and the others serve, the first so many targets serve and the
+    // others follow, and so far it is; each target takes from the sources that overlap it; the memory of the cutover is made. Refused only
+    // where there is a workflow already, where the shards found aren't those of one beside the other parts of some partition, or each
+    // source is retired and each target serves (N4), and for want of memory; then it stands as it stood. That N4 is answered of the last
+    // only where a source's rows were dropped is for tests
+    // Refuses: frozen_is_found_serving, reopened_forgets_a_source, reopened_with_a_source_unfrozen
     /// Takes up a workflow that another controller stopped, from the shards that are its sources and its targets, each in their order: each
     /// is looked at under its lock. Where a source is frozen or retired its cutover has begun, which `resume` ends and `switch_step` goes
     /// on with; else its targets follow. All memory of the cutover is made. Refuses where there is a workflow already; where the shards aren't

@@ -52,6 +52,13 @@ fn try_freeze<W: World, J: Naming>(
     Ok(Some(stored))
 }
 
+// Promise: A step of a cutover is exactly one entry of its shard, made behind a look under its lock: a freeze (refused only at 2^40
+// entries), a thaw, a retirement for targets that together hold the shard's place, when it has stored just so many entries, and a target
+// that serves once its sources, of which there may be several, are retired for it and it has copied all tables and followed all that they
+// stored
+// With: thaw, retire, serve
+// Refuses: source_serves_beside_target, target_serves_before_level, freeze_appends_nothing, retires_with_an_entry_left,
+// serves_with_a_table_left, serves_with_one_source_followed
 /// Freezes the shard, and answers how many entries it has stored. Refuses where it has too many entries; then nothing was appended. Takes no
 /// memory.
 pub fn freeze<W: World, J: Naming>(

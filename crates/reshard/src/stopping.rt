@@ -21,6 +21,7 @@ pub struct Stopped<W: World, J: Naming> {
 }
 
 impl<W: World, J: Naming> Workflow<W, J> {
+    // Promise: A controller that stops leaves its free slots and the shards of its workflow
     /// Stops the controller. A new one over its free slots can take its workflow up from the shards. Takes no memory.
     pub fn stop(self) -> Stopped<W, J>
         ensures opens { IsOpening W.opening }

@@ -265,6 +265,18 @@ fn serve_by<W: World + Send + Sync, J: Naming + Send + Sync, G: Gate, R: Source,
     serve_whole(rt, alloc, engine, pass, core, buffer, source, sink)
 }
 
+// Promise: The bytes that a connection's sink takes are the conversation over the bytes that its source gave, and the session ends as it
+// says
+// Clauses: talk, at_end, session
+// Refuses: serve_closes_a_truncated_input, serve_answers_only_half_a_piece, chunk_is_not_written, buffer_is_written_for_rows,
+// rows_are_given_up
+// Headline.
+// Promise: With no other session's commit between (shards may copy, follow and change places), the bytes are a conversation with one
+// database that knows no shards: each query's rows are an answer over what the commands before it left, each write makes and counts its
+// changes of that, and a refusal leaves it; in a transaction each statement gives what it means behind those before it, which COMMIT does
+// all at once, and nothing else does
+// With: Core::feed
+// Clauses: alone
 /// Serves one connection, the one with this id, until it ends: greets its client by the salt, lets in whom `access` tells, reads commands
 /// from the source, and writes their replies to the sink.
 pub fn serve<W: World + Send + Sync, J: Naming + Send + Sync, G: Gate, R: Source, S: Sink>(

@@ -243,6 +243,27 @@ impl<W: World + Send + Sync, J: Naming + Send + Sync> Core<W, J> {
     ghost use Rattle.session.specs.Talk.{IsByCommand};
     ghost use Rattle.session.specs.Sessions.{HasTalked, HasTalkedOn, IsStateAfter};
 
+    // Promise: However a client's bytes are cut, exactly the conversation over them is written, from the greeting on: a client is let in by
+    // its user and its answer to the salt, and then by its database, or told why not; each statement has an outcome that its text may have,
+    // in the session's open transaction if one is, each from what the session had seen to what it then has seen; a reply's status tells
+    // whether a transaction is open then; a client may name each keyspace; result sets end as the client's capabilities ask; the reply to a
+    // write always has room
+    // With: Core::{new, commands, standing, end_of_input}
+    // Clauses: begins, hello, standing, limit, none_open, err, talk, tx, begun, ended, by_command, fault, cause, again, next, session,
+    // whole, id
+    // Refuses: each_statement_by_itself, transaction_is_forgotten, open_transaction_is_not_told, ping_tells_no_transaction,
+    // keyspace_tells_no_transaction, status_before_the_statement, answers_before_the_handshake, another_user_is_taken, salt_is_forgotten,
+    // unknown_keyspace_is_used, feed_forgets_the_end, id_is_another, reply_number_by_the_first_packet, ping_tells_a_row,
+    // query_is_refused_for_syntax, query_gives_no_rows, count_is_told_halved, fault_has_the_refused_number, fault_is_not_told,
+    // key_columns_may_be_null
+    // Headline.
+    // Promise: After a fault: without memory for a piece, it counts as not fed, and pass and sink are as before it; where the sink failed,
+    // a front of the payloads is answered, each once, and the sink took a front of the replies; where the source failed, each payload that
+    // was read whole is answered, and nothing else was written. A device's failure is told exactly where it failed in the call
+    // With: serve
+    // Clauses: memory, write, count, fault, read, source_count, sink_count
+    // Refuses: answer_runs_the_command_again, piece_without_memory_is_written_raw, read_fault_is_told_at_the_end,
+    // write_fault_is_told_for_memory
     /// Takes the next piece of the input, and writes the replies to the payloads that it completes, each once it is known
     /// whole; the first piece, also an empty one, writes the greeting of a session that is new. `None` says that the session goes on. A session that has ended takes nothing and writes nothing, and tells
     /// again how it ended: after a fault as `End::Broken`.

@@ -335,6 +335,14 @@ impl<W: World, J: Naming> ShardState<W, J> {
         Ok(Some(NextTable { table, after }))
     }
 
+    // Promise: A target tells how far it has come with a source, and where it copies on; a source tells what it has for it next: its entry
+    // at a place, cut to the target's place, or that none is left; else at most 100 rows of a table of that place, in the order of their
+    // keys, behind the last that was copied, and whether they are the last. What is followed is cut to what is copied, and a Copy is
+    // exactly one entry, refused for want of memory or for the limit of entries alone
+    // With: ShardState::{copied_changes, entry_for, rows_to_copy, copy}
+    // Refuses: follows_without_range_filter, copies_one_row_too_few, copies_rows_out_of_order, copies_beyond_the_place,
+    // walk_ends_at_a_row_with_a_place, walk_ends_out_of_order, last_copy_is_forgotten, position_of_an_entry_before, all_tables_are_copied,
+    // copies_a_row_again, copy_adds_no_rows, tables_in_any_order
     /// How far a target that follows has come with a source, by its slot. Refuses for want of memory.
     pub fn progress(
         &self,

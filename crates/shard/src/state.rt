@@ -131,6 +131,10 @@ impl<W: World, J: Naming> ShardState<W, J> {
     ghost use Rattle.shard.specs.Shards.{HasLooked, HasAppended, Answers, opening_shards, seat_view, IsNext};
     ghost use Rattle.shard.specs.Commits.{IsPlaced, HasCommitted, IsCommitRefusal, HasAnswered};
 
+    // Promise: A shard's rows (as bags), mode, stored entries, targets and how far it has come with each source are those that the run
+    // which its seat has seen leaves on it, within its limits where it serves: the invariant of the type. It is an opening shard or a
+    // target
+    // With: ShardState::{shard, slot, stands_at, is, stored, mode, last_step, has_copied, look, invariant}
     /// A shard with its first rows, of each table of the VSchema: an opening one, or a target on a slot of its own. Nothing has happened
     /// on its slot.
     pub fn new(
@@ -285,6 +289,10 @@ impl<W: World, J: Naming> ShardState<W, J> {
         Ok(Reading { rows, entries })
     }
 
+    // Promise: A read makes one look, which the pass keeps; its answer is one of the query's over what the run leaves on the shard at that
+    // look, where it serves and has at most 2^20 rows, with the number of the shard's entries then; else it says that the shard doesn't
+    // serve
+    // Refuses: read_gives_another_table, read_gives_no_rows, read_gives_no_groups, read_gives_opening_rows, read_tells_an_entry_more
     /// What the query gives over the rows that the run, as it is, leaves on the shard, where it serves: one look, which the pass keeps.
     /// Refuses only for want of memory; then too the look was made.
     pub fn read(
@@ -345,6 +353,17 @@ impl<W: World, J: Naming> ShardState<W, J> {
         Ok(self.contents.take(prepared))
     }
 
+    // Promise: A commit of a write on a serving shard is one look and exactly one entry, with the pass's session, the statement's number,
+    // the write and its changes; its count is what the write gives over the one database before the entry, in the shard's place. Where the
+    // shard is frozen or doesn't serve, the write comes back after one look
+    // Clauses: answered, seen, later, shard, stands
+    // Refuses: write_appends_nothing, write_appends_another_change, commit_leaves_out_a_write, number_of_another_statement,
+    // rows_forget_the_commit
+    // Promise: It is refused only for its cause at the look's run, and then nothing is appended: a primary key that is there (F12), a limit
+    // of rows, stored entries or entries (F24), or memory
+    // Clauses: refused, looked
+    // Refuses: duplicate_is_not_tested, always_full, full_one_row_too_late, full_one_entry_too_late, shard_store::rows_are_counted_short,
+    // full_one_stored_entry_too_late
     /// Commits one write of the pass's session, under the number of its statement, where the shard serves and isn't frozen: one look,
     /// which the pass keeps, and then one entry. Answers how many rows it added, removed or really changed; else the look was made, and
     /// the write comes back. It refuses a primary key that is there already, what would pass a limit of the shard, and for want of
@@ -419,6 +438,9 @@ impl<W: World, J: Naming> ShardState<W, J> {
         Ok(())
     }
 
+    // Promise: Freeze, thaw, retire and serve are exactly one entry each, and take no memory; a following step takes over the source's next
+    // entry as one entry, and is refused for want of memory or for a limit alone
+    // With: ShardState::{thaw, retire, serve, follow}
     /// From now on it takes no commits. Takes no memory.
     pub fn freeze(&mut self, pass: &mut Pass<ShardLaw<W>, J>)
         requires serving { mode W.opening self.old.seen self.old.shard.slot ≡ Mode.Serving }

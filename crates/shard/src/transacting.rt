@@ -32,6 +32,15 @@ impl<W: World, J: Naming> ShardState<W, J> {
     ghost use Rattle.shard.specs.Commits.{IsPlaced};
     ghost use Rattle.shard.specs.Transactions.{IsClear, IsPendingOf, HasReadIn, HasWrittenIn, IsStopped, IsReadRefusal, IsWriteRefusal, HasCommittedAll, IsCommitAllRefusal};
 
+    // Promise: A transaction on one shard, before its commit: each statement of it makes one look, where the shard serves, isn't frozen and
+    // no table that it touched was changed since, and gives what it means over the rows that the run leaves on the shard with the
+    // transaction's own changes; then nothing is appended. Its commit is one look and exactly one entry with its writes in order and their
+    // changes. It is refused for its cause alone: the shard doesn't serve or is frozen (F23), a touched table was changed since (F21,
+    // exactly then), a primary key (F12), a limit at the commit (F24), or memory; where it is refused, the transaction is as it was
+    // With: ShardState::{read_in, write_in, commit_in}, Shard::{check, read_in, write_in, commit_in}
+    // Refuses: commit_without_conflict_test, conflict_for_every_commit, commit_leaves_out_a_write_2, conflict_looks_one_entry_too_late,
+    // frozen_shard_takes_a_transaction, own_removal_is_not_seen, query_sees_no_own_writes, refused_commit_loses_its_writes,
+    // transaction_commits_no_changes, transaction_counts_removed_as_added, transaction_keeps_no_write, write_sees_no_own_writes
     /// One look, which the pass keeps. Answers how many entries the shard has then. It refuses where the shard is frozen or doesn't serve;
     /// else where an entry of the shard has changed a table that the transaction touched before it. Takes no memory.
     pub fn check(&mut self, pass: &mut Pass<ShardLaw<W>, J>, tx: &Pending) -> Result<u64, Refusal>

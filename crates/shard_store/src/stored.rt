@@ -60,6 +60,13 @@ fn sweep_tables(tables: &mut Vec<TableRows>)
 }
 
 impl StoredTables {
+    // Promise: A shard's store (`shard::Store`) does any changes, whatever keys their rows have: all memory is made before, together with
+    // the changes by their keys, and leaves the rows as they are, also where it is refused; the changes are then done without memory, and
+    // leave, as bags, the rows that they should. What a query gives, what a write changes or is refused for, and which rows a condition
+    // keeps are those over all rows of the table
+    // With: StoredTables::{push_table, row_count, has_at_most, prepare, apply, select, changes, kept, all}
+    // Refuses: applied_row_is_in_the_first_table, removal_is_forgotten, apply_makes_half_the_room, replaced_row_stays,
+    // rows_beside_are_not_read, key_beside_is_not_tested, point_read_over_another_column, places_are_not_compared
     /// No tables.
     pub fn new(alloc: Global) -> StoredTables
         ensures { result.rows ≡ [] }

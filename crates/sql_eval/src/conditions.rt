@@ -53,6 +53,9 @@ fn operand<'a>(o: &'a Operand<usize>, row: &'a Row, null: &'a Value) -> &'a Valu
     }
 }
 
+// Promise: The truth of a condition at a row is SQL's; WHERE keeps the rows where it is true
+// With: keeps
+// Refuses: in_forgets_null_members
 /// The truth of a condition at a row, by SQL's three-valued logic. A row has NULL behind its last value. Takes no memory.
 #[cycle(truth)]
 pub fn truth(condition: &Condition<usize>, row: &Row) -> Truth

@@ -147,6 +147,7 @@ pub fn keyword_of(word: &[u8]) -> Option<Keyword>
     among(word, of_length(word.len()))
 }
 
+// Promise: A word is a keyword exactly where it is one in some case
 /// Whether the word is a keyword in some case, so that as an identifier it stands in backquotes.
 pub fn is_keyword(word: &[u8]) -> bool
     ensures { result ≡ is_keyword word.now }

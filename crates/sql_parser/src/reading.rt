@@ -226,6 +226,11 @@ fn whole(alloc: Global, text: &[u8], tokens: &[Token]) -> Result<Statement, Refu
         .ok_or(Refusal::SyntaxError)
 }
 
+// Promise: The tree of a text is given exactly where the whole grammar has one, within its limits, and a syntax error comes only where it
+// has none
+// Refuses: chained_comparison_parses, second_semicolon_parses, keyword_is_an_identifier, depth_of_65_taken, literal_4097_taken,
+// too_large_number_taken, sign_of_a_number_lost, not_of_an_in_lost, descending_key_ascends, escaped_quote_lost, last_column_dropped,
+// where_reads_as_unequal, any_name_is_a_setting
 /// The tree of a text, which is one statement of the grammar with at most one semicolon behind it. Any other text is a
 /// syntax error, and so is one that passes a limit: 64 open parentheses and NOTs on one path of a condition, 4096
 /// literals, numbers from -2^63 to 2^64 - 1.
@@ -241,6 +246,8 @@ pub fn parse(alloc: Global, text: &[u8]) -> Result<Statement, Refusal>
     whole(alloc, text, &tokens)
 }
 
+// Promise: A text has one tree at most; the printed form of a text's tree is a text of that tree
+// With: print_reads
 /// A text has one tree at most.
 pub fn one_tree()
     ensures { (text : List ℕ) (x y : Statement) → Reads text x → Reads text y → x ≡ y }

@@ -24,6 +24,8 @@ pub trait Vindex {
     /// What Vitess says that a look-up by this vindex costs. Nothing depends on it.
     const COST: u8;
 
+    // Promise: A vindex maps a key to its keyspace id, without memory
+    // With: Numeric::{map, id_of}, ReverseBits::{map, id_of}, Binary::map, BinaryMd5::map, Ksid::as_slice
     /// The keyspace id of a key. It takes no memory.
     fn map<'k>(key: &'k Self::Key) -> Ksid<'k>
         ensures id { ksid_bytes result ≡ keyspace_id key.now }
@@ -34,6 +36,9 @@ pub trait Vindex {
 pub trait Reversible: Vindex {
     ghost key_of: { List ℕ → Option Self.Key };
 
+    // Promise: The id of a number gives the number back, and no other id gives it
+    // With: Reversible::back, Numeric::reverse, ReverseBits::reverse, map_and_reverse
+    // Refuses: reverse_answers_none
     /// The key that has this keyspace id, or `None` where no key has it.
     fn reverse(id: &Ksid) -> Option<Self::Key>
         ensures key { result ≡ key_of (ksid_bytes id.now) }

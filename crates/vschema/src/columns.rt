@@ -89,6 +89,9 @@ impl Model for Columns {
 }
 
 impl Columns {
+    // Promise: The columns of a table are kept in their order and found by name; one whose name is there isn't added; only memory refuses
+    // one
+    // With: Columns::{insert, as_slice, len, place_of}
     /// No columns.
     pub fn new(alloc: Global) -> Columns
         ensures { result ≡ [] }

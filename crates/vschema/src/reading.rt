@@ -43,6 +43,11 @@ impl VSchema {
     ghost use Rattle.vschema.specs.Faults.{contents, schema_read};
     ghost use Rattle.vschema.specs.WellFormed.{is_vschema};
 
+    // Promise: A text is the VSchema that it declares, or the fault with the least number that applies; every VSchema is well-formed, as
+    // its type keeps
+    // With: VSchema::formed, SchemaFault::number
+    // Refuses: read_faults_in_another_order, read_gives_no_tables, read_takes_no_json_for_ill_formed, read_takes_nullable_keys,
+    // read_takes_unknown_members
     /// The VSchema that a JSON text declares, or the fault with the least number that applies. Beside these it refuses only
     /// for want of memory. Keyspaces, and the tables of each, are in the order of their names.
     pub fn read(alloc: Global, text: &str) -> Result<VSchema, SchemaFault>

@@ -42,6 +42,8 @@ pub fn sets_unknown(table: &Table, assignments: &[Assignment<Name>]) -> bool
     assignments.iter().any(|a| is_unknown(table, &a.column))
 }
 
+// Promise: A number lies outside its column's type, and a text is longer than its column, as written
+// With: is_too_long
 /// Whether a number lies outside its column's type.
 pub fn is_out_of_range(kind: ColumnType, value: &Value) -> bool
     ensures { result ≡ is_out_of_range kind value.now }

@@ -87,6 +87,8 @@ pub const REFUSALS: [Refusal; 24] = [
 ];
 
 impl Refusal {
+    // Promise: Each refusal has its number, code, state and message, and shows its message
+    // With: Refusal::{code, state, message, fmt}
     /// The number by which the documents and the admin port name the refusal, 1 to 24.
     pub fn number(self) -> u8
         ensures { result ≡ refusal_number self }

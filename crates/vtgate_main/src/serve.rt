@@ -55,6 +55,8 @@ fn last_connection(asked: &Asked<'_>) -> u32 {
     }
 }
 
+// Promise: The server lets in the user and the password that its words tell, and greets by their nonce
+// Refuses: serve_takes_another_user, serve_wants_no_password
 fn welcome_of(alloc: Global, asked: &Asked<'_>) -> Result<Welcome, Fault>
     ensures user { IfOk result (λ w. w.access.user ≡ asked.now.user) }
     ensures stage2 { IfOk result (λ w. w.access.stage2 ≡ asked.now.stage2) }

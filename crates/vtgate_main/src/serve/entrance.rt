@@ -21,6 +21,8 @@ pub struct Acceptor<'l, W: World, J: Naming> {
     pass: Pass<ShardLaw<W>, J>,
     accepted: u32,
     last: u32,
+    // Promise: The server has opened at most as many sessions as it has accepted connections, from none on
+    // Refuses: connection_opens_two_sessions, serve_deletes_before_it_listens
     ghost opened: { opener ≤ accepted },
 }
 
