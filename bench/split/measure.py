@@ -144,9 +144,11 @@ def rate(router, words, kind):
 
 
 def beside(words, kind, rows=100000):
-    """Statements a second without a copy and beside one, which is begun again as it ends while there are slots for its targets."""
+    """Statements a second without a copy and beside one, which is begun again as it ends while there are slots for its targets. Each has
+    a router of its own, since both insert the same rows."""
     with Router(words, rows) as router:
         without = rate(router, words, kind)
+    with Router(words, rows) as router:
         enough, copies = threading.Event(), [0]
 
         def copy():
