@@ -70,7 +70,9 @@ fn halves() -> Result<[KeyRange; 2], Fault>
     }
 }
 
-// Whether the ranges hold each keyspace id once and the shards fit into 64 slots.
+// Promise: Ranges that the soak tests and takes make an opening of at most 64 shards
+// Refuses: ranges_need_not_fit
+/// Whether the ranges hold each keyspace id once and the shards fit into 64 slots.
 fn fits(alloc: Global, schema: &VSchema, ranges: &[KeyRange]) -> Result<bool, Refusal>
     requires { AllByRecursion IsNamed ranges.now }
     ensures { IfOk result (λ b. IsTrue b → FitRanges schema.now ranges.now) }
