@@ -10,7 +10,7 @@ ghost use Rattle.administration.specs.Words.{reply_text};
 ghost use Rattle.admin_talk.specs.Conversations.{AllTold, BreaksOff, HasEndedEarly, HasAnsweredAll};
 
 use crate::lines::ended_line;
-use administered_world::administer;
+use administered_opening::administer;
 use administration::Administrator;
 use journal::{Naming, Pass};
 use route_engine::{Engine, Gate};

@@ -9,10 +9,10 @@ ghost use Rattle.empty_opening.specs.Empty.{opening_of, FitRanges};
 
 use crate::devices::{FailingSink, FailingSource, InterruptedReader};
 use empty_opening::opening_shards;
-use empty_world::empty_router;
 use journal::{Naming, Opened, Opener, Pass};
 use keyrange::{KeyRange, covers_once};
 use route_engine::{Answer, Engine, Open, Tx};
+use router_opening::empty_router;
 use session::{Access, Core, End, Reader, SessionFault, Sink, Writer, serve};
 use shard::{ShardLaw, World};
 use std::alloc::Global;

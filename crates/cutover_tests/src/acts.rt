@@ -6,7 +6,7 @@ ghost use Rattle.administration.specs.Told.{keyspace_of};
 use crate::gate::{HoldsFirst, Signals, give, wait_for};
 use crate::reopening::reopen;
 use crate::told::told;
-use administered_world::administer;
+use administered_opening::administer;
 use administration::Administrator;
 use journal::{Naming, Pass};
 use reshard::ReshardFault;

@@ -12,7 +12,7 @@ use crate::acts::{Act, Cast, play};
 use crate::common::{ALL, EIGHT};
 use crate::gate::{HoldsFirst, Signals, give, is_given, no_signals, wait_for};
 use crate::told::told;
-use administered_world::administered_router;
+use administered_opening::administered_router;
 use administration::Administrator;
 use empty_opening::opening_shards;
 use journal::{Naming, Opened, Opener, Pass};

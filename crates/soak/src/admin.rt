@@ -3,7 +3,7 @@ ghost use Rattle.std.specs.Prelude.{◌≡◌};
 ghost use Rattle.empty_opening.specs.Empty.{sharded_keyspace};
 ghost use Rattle.administration.specs.Told.{keyspace_of};
 
-use administered_world::administer;
+use administered_opening::administer;
 use administration::{AdminReply, Administrator};
 use journal::{Naming, Pass};
 use route_engine::{Engine, Open};

@@ -16,7 +16,7 @@ use crate::random::Choices;
 use crate::session::{SESSIONS, Session, Worked, work};
 use crate::tally::Tally;
 use crate::watch::Watch;
-use administered_world::administered_router;
+use administered_opening::administered_router;
 use administration::Administrator;
 use empty_opening::opening_shards;
 use journal::{Naming, Opened, Opener, Pass};

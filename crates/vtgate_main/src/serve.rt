@@ -26,7 +26,7 @@ use crate::serve::connection::Welcome;
 use crate::serve::entrance::Acceptor;
 use crate::serve::ports::{Ports, bind, serve_beside_admin};
 use crate::setup::{has_too_many, ranges_of, schema_of};
-use administered_world::administered_router;
+use administered_opening::administered_router;
 use administration::Administrator;
 use journal::{Naming, Opened, Opener, Pass};
 use keyrange::KeyRange;

@@ -15,7 +15,7 @@ ghost use Rattle.vtgate_main.specs.Scripted.{HasGiven, unknown_text};
 ghost use Rattle.vtgate_main.specs.inner.UnderWay.{KeptSession, IsBehind, IsShown, IsOutcomeShown, KnowsOwn, PrintsFrom, nothing_kept};
 
 use crate::fault::Fault;
-use administered_world::administer;
+use administered_opening::administer;
 use administration::Administrator;
 use journal::{Naming, Opener, Pass};
 use route_engine::{Answer, Engine, Open, Reply, Tx};

@@ -1,5 +1,0 @@
-use Rattle.empty_world.proofs.tests.gates.scatter_in_empty_world.Given as goal
-
--- the journal that was just opened
-abbrev pub ghosts-scatter : goal.ghosts-scatter
-ghosts-scatter g a = record { table = a.opened }
