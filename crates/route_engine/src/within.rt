@@ -142,7 +142,7 @@ fn read_nothing(alloc: Global, query: &Query) -> Result<(Items<Row>, Items<Shard
 }
 
 // How many rows a write changes on a transaction's shard, which keeps it.
-fn write_at<W: World, J: Naming>(
+pub(crate) fn write_at<W: World, J: Naming>(
     rt: &impl Wait,
     alloc: Global,
     pass: &mut Pass<ShardLaw<W>, J>,
@@ -162,7 +162,7 @@ fn write_at<W: World, J: Naming>(
 }
 
 // The same of a transaction that is bound to the shard then.
-fn write_first<W: World, J: Naming>(
+pub(crate) fn write_first<W: World, J: Naming>(
     rt: &impl Wait,
     alloc: Global,
     pass: &mut Pass<ShardLaw<W>, J>,
@@ -193,7 +193,7 @@ fn write_first<W: World, J: Naming>(
 }
 
 // Commits a transaction on its shard: one entry, where it has written, and else a look alone.
-fn commit_at<W: World, J: Naming>(
+pub(crate) fn commit_at<W: World, J: Naming>(
     rt: &impl Wait,
     alloc: Global,
     pass: &mut Pass<ShardLaw<W>, J>,
@@ -235,7 +235,12 @@ impl<W: World + Send + Sync, J: Naming + Send + Sync, G: Gate> Engine<W, J, G> {
     }
 
     // Whether a statement on the table with this route needs the shard that its transaction is bound to, or none. Refuses where it needs another shard, or several.
-    fn needs_bound(&self, here: &Bound<W, J>, table: &Table, route: &Route) -> Result<bool, Refusal>
+    pub(crate) fn needs_bound(
+        &self,
+        here: &Bound<W, J>,
+        table: &Table,
+        route: &Route,
+    ) -> Result<bool, Refusal>
         requires keyspace { table.now.keyspace < length self.now.keyspaces }
         ensures bound { IfOk result (λ b. b ≡ true → IsSeatOf table.now route.now here.now) }
         ensures none { IfOk result (λ b. b ≡ false → NeedsNoSeat table.now route.now) }
@@ -256,7 +261,7 @@ impl<W: World + Send + Sync, J: Naming + Send + Sync, G: Gate> Engine<W, J, G> {
 
     // What a transaction is bound to by its first statement that needs a shard: by the present partition, if this one needs one. Refuses
     // where it needs several, and for want of memory.
-    fn first_bound(
+    pub(crate) fn first_bound(
         &self,
         alloc: Global,
         table: &Table,
@@ -384,130 +389,6 @@ impl<W: World + Send + Sync, J: Naming + Send + Sync, G: Gate> Engine<W, J, G> {
                 drop(items);
                 Err(refusal)
             }
-        }
-    }
-
-    // How many rows a write on the table with this route changes.
-    fn count_by(
-        &self,
-        rt: &impl Wait,
-        alloc: Global,
-        pass: &mut Pass<ShardLaw<W>, J>,
-        bound: &mut Option<Bound<W, J>>,
-        pending: &mut Pending,
-        write: Write,
-        table: &Table,
-        route: &Route,
-    ) -> Result<u64, Refusal>
-        requires typed { IsTypedWrite W.opening.schema write }
-        requires there { written_table write < length W.opening.schema.tables }
-        requires keyspace { table.now.keyspace < length self.now.keyspaces }
-        requires table { table.now ≡ table_at W.opening.schema (written_table write) }
-        requires route { route.now ≡ write_route W.opening.schema write }
-        requires session { IsSome pass.old.session }
-        requires opens { IsOpening W.opening }
-        requires formed { is_vschema W.opening.schema ≡ true }
-        requires legal { IsLegal (MayFollow W.opening) pass.old.seen }
-        requires above { (n : ℕ) → pass.old.session ≡ Some n → NumbersBelow commit_of n pass.old.statements pass.old.seen }
-        requires tx { IsOf W.opening (Some (record { bound = bound.old; pending = pending.old })) pass.old }
-        ensures ok { IfOk result (λ count. GoesOnIn W.opening W.limits pass.old (record { bound = bound.old; pending = pending.old }) (Typed.Write write)
-            (record { answer = Answer.Count count; reads = [] }) pass.new (Some (record { bound = bound.new; pending = pending.new }))) }
-        ensures err { IfErr result (λ e. IsRefusedStep W.opening W.limits pass.old (record { bound = bound.old; pending = pending.old }) (Typed.Write write) e pass.new) }
-        ensures bound { OnErr result (bound.new ≡ bound.old) }
-        ensures pending { OnErr result (pending.new ≡ pending.old) }
-    {
-        match bound {
-            Some(here) => match self.needs_bound(here, table, route) {
-                Ok(true) => write_at(rt, alloc, pass, here, pending, &self.schema, write),
-                Ok(false) => {
-                    drop(write);
-                    Ok(0)
-                }
-                Err(refusal) => {
-                    drop(write);
-                    Err(refusal)
-                }
-            },
-            None => match self.first_bound(alloc, table, route) {
-                Ok(Some(new)) => {
-                    let schema = &self.schema;
-                    write_first(rt, alloc, pass, bound, new, pending, schema, write)
-                }
-                Ok(None) => {
-                    drop(write);
-                    Ok(0)
-                }
-                Err(refusal) => {
-                    drop(write);
-                    Err(refusal)
-                }
-            },
-        }
-    }
-
-    /// Makes a write in an open transaction.
-    fn write_in(
-        &self,
-        rt: &impl Wait,
-        alloc: Global,
-        pass: &mut Pass<ShardLaw<W>, J>,
-        bound: &mut Option<Bound<W, J>>,
-        pending: &mut Pending,
-        write: Write,
-    ) -> Result<Reply, Refusal>
-        requires typed { IsTypedWrite W.opening.schema write }
-        requires there { written_table write < length W.opening.schema.tables }
-        requires session { IsSome pass.old.session }
-        requires opens { IsOpening W.opening }
-        requires formed { is_vschema W.opening.schema ≡ true }
-        requires legal { IsLegal (MayFollow W.opening) pass.old.seen }
-        requires above { (n : ℕ) → pass.old.session ≡ Some n → NumbersBelow commit_of n pass.old.statements pass.old.seen }
-        requires tx { IsOf W.opening (Some (record { bound = bound.old; pending = pending.old })) pass.old }
-        ensures ok { IfOk result (λ reply. GoesOnIn W.opening W.limits pass.old (record { bound = bound.old; pending = pending.old }) (Typed.Write write)
-            reply pass.new (Some (record { bound = bound.new; pending = pending.new }))) }
-        ensures err { IfErr result (λ e. IsRefusedStep W.opening W.limits pass.old (record { bound = bound.old; pending = pending.old }) (Typed.Write write) e pass.new) }
-        ensures bound { OnErr result (bound.new ≡ bound.old) }
-        ensures pending { OnErr result (pending.new ≡ pending.old) }
-    {
-        let table = &self.schema.tables.as_slice()[written_table(&write)];
-        match write_route(alloc, &self.schema, &write) {
-            Ok(route) => {
-                let count = self.count_by(rt, alloc, pass, bound, pending, write, table, &route);
-                drop(route);
-                Ok(counted(alloc, count?))
-            }
-            Err(refusal) => {
-                drop(write);
-                Err(refusal)
-            }
-        }
-    }
-
-    /// Commits an open transaction.
-    fn commit_in(
-        &self,
-        rt: &impl Wait,
-        alloc: Global,
-        pass: &mut Pass<ShardLaw<W>, J>,
-        bound: &Option<Bound<W, J>>,
-        pending: &mut Pending,
-    ) -> Result<Reply, Refusal>
-        requires session { IsSome pass.old.session }
-        requires opens { IsOpening W.opening }
-        requires formed { is_vschema W.opening.schema ≡ true }
-        requires legal { IsLegal (MayFollow W.opening) pass.old.seen }
-        requires above { (n : ℕ) → pass.old.session ≡ Some n → NumbersBelow commit_of n pass.old.statements pass.old.seen }
-        requires tx { IsOf W.opening (Some (record { bound = bound.now; pending = pending.old })) pass.old }
-        ensures ok { IfOk result (λ reply. GoesOnIn W.opening W.limits pass.old (record { bound = bound.now; pending = pending.old }) Typed.Commit reply pass.new None) }
-        ensures err { IfErr result (λ e. IsRefusedStep W.opening W.limits pass.old (record { bound = bound.now; pending = pending.old }) Typed.Commit e pass.new) }
-        ensures pending { OnErr result (pending.new ≡ pending.old) }
-    {
-        match bound {
-            Some(here) => {
-                commit_at(rt, alloc, pass, here, pending)?;
-                Ok(counted(alloc, 0))
-            }
-            None => Ok(counted(alloc, 0)),
         }
     }
 

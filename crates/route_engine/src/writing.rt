@@ -1,0 +1,142 @@
+//! Writes outside a transaction, each as one entry on the one shard that it needs.
+ghost use Rattle.std.specs.Prelude.{◌≡◌, [], ℕ, ◌<◌, Some, IsSome, IfOk, IfErr, length};
+ghost use Rattle.vschema.specs.TypedWrites.{IsTypedWrite};
+ghost use Rattle.sql_eval.specs.Writes.{written_table};
+ghost use Rattle.planner.specs.Routes.{table_at, write_route};
+ghost use Rattle.journal.specs.Runs.{IsLegal, NumbersBelow};
+ghost use Rattle.shard.specs.Shards.{MayFollow, commit_of};
+ghost use Rattle.route_engine.specs.Answers.{HasWritten, MayWriteRefuse};
+ghost use Rattle.route_engine.specs.inner.Scatter.{tried, IsTried};
+
+use crate::engine::{Engine, counted};
+use crate::gate::Gate;
+use crate::parts::{only_needed, shard_of};
+use crate::reply::{Answer, Reply};
+use journal::{Naming, Pass};
+use planner::{Route, write_route};
+use shard::{Committed, ShardLaw, World, written_table};
+use std::alloc::Global;
+use std::sync::Wait;
+use vschema::{Table, Write};
+use vt_value::Refusal;
+
+// The count, or the write again where its shard took no commits.
+fn tried(committed: Committed) -> Result<u64, Write>
+    ensures { result ≡ tried committed }
+{
+    match committed {
+        Committed::Count(count) => Ok(count),
+        Committed::Frozen(write) => Err(write),
+        Committed::NotServing(write) => Err(write),
+    }
+}
+
+impl<W: World + Send + Sync, J: Naming + Send + Sync, G: Gate> Engine<W, J, G> {
+    // Commits the write on the one shard that it needs by the present partition: the count, or the write again where that shard takes no
+    // commits.
+    fn commit(
+        &self,
+        rt: &impl Wait,
+        alloc: Global,
+        pass: &mut Pass<ShardLaw<W>, J>,
+        table: &Table,
+        route: &Route,
+        write: Write,
+    ) -> Result<Result<u64, Write>, Refusal>
+        requires keyspace { table.now.keyspace < length self.now.keyspaces }
+        requires table { table.now ≡ table_at W.opening.schema (written_table write) }
+        requires route { route.now ≡ write_route W.opening.schema write }
+        requires typed { IsTypedWrite W.opening.schema write }
+        requires session { IsSome pass.old.session }
+        requires legal { IsLegal (MayFollow W.opening) pass.old.seen }
+        requires above { (n : ℕ) → pass.old.session ≡ Some n → NumbersBelow commit_of n pass.old.statements pass.old.seen }
+        ensures ok { IfOk result (λ c. IsTried W.opening W.limits pass.old write c pass.new) }
+        ensures err { IfErr result (λ r. MayWriteRefuse W.opening W.limits pass.old write r pass.new) }
+    {
+        let partition = self.current(table.keyspace);
+        match only_needed(partition.parts(), table, route) {
+            Ok(Some(part)) => {
+                let shard = shard_of(part);
+                match shard.commit(rt, alloc, pass, &self.schema, write) {
+                    Ok(committed) => Ok(tried(committed)),
+                    Err(refusal) => Err(refusal),
+                }
+            }
+            Ok(None) => {
+                drop(write);
+                Ok(Ok(0))
+            }
+            Err(refusal) => {
+                drop(write);
+                Err(refusal)
+            }
+        }
+    }
+
+    // The same, until it is committed: while that shard takes no commits it waits in the buffer, and begins again with the present partition.
+    fn commit_until(
+        &self,
+        rt: &impl Wait,
+        alloc: Global,
+        pass: &mut Pass<ShardLaw<W>, J>,
+        table: &Table,
+        route: &Route,
+        write: Write,
+    ) -> Result<u64, Refusal>
+        requires keyspace { table.now.keyspace < length self.now.keyspaces }
+        requires table { table.now ≡ table_at W.opening.schema (written_table write) }
+        requires route { route.now ≡ write_route W.opening.schema write }
+        requires typed { IsTypedWrite W.opening.schema write }
+        requires session { IsSome pass.old.session }
+        requires legal { IsLegal (MayFollow W.opening) pass.old.seen }
+        requires above { (n : ℕ) → pass.old.session ≡ Some n → NumbersBelow commit_of n pass.old.statements pass.old.seen }
+        ensures ok { IfOk result (λ count. HasWritten W.opening W.limits pass.old write (record { answer = Answer.Count count; reads = [] }) pass.new) }
+        ensures err { IfErr result (λ r. MayWriteRefuse W.opening W.limits pass.old write r pass.new) }
+    {
+        let mut write = write;
+        for _ in rt.forever() {
+            let turn = self.buffer.turn(rt);
+            match self.commit(rt, alloc, pass, table, route, write) {
+                Ok(Ok(count)) => return Ok(count),
+                Ok(Err(again)) => write = again,
+                Err(refusal) => return Err(refusal),
+            }
+            if let Err(refusal) = self.buffer.wait(rt, turn) {
+                drop(write);
+                return Err(refusal);
+            }
+        }
+        unreachable!()
+    }
+
+    /// Commits the write on the one shard that it needs, as one entry. While that shard takes no commits it waits in the buffer, and begins
+    /// again with the present partition.
+    pub(crate) fn write(
+        &self,
+        rt: &impl Wait,
+        alloc: Global,
+        pass: &mut Pass<ShardLaw<W>, J>,
+        write: Write,
+    ) -> Result<Reply, Refusal>
+        requires typed { IsTypedWrite W.opening.schema write }
+        requires there { written_table write < length self.now.tables }
+        requires session { IsSome pass.old.session }
+        requires legal { IsLegal (MayFollow W.opening) pass.old.seen }
+        requires above { (n : ℕ) → pass.old.session ≡ Some n → NumbersBelow commit_of n pass.old.statements pass.old.seen }
+        ensures ok { IfOk result (λ reply. HasWritten W.opening W.limits pass.old write reply pass.new) }
+        ensures err { IfErr result (λ r. MayWriteRefuse W.opening W.limits pass.old write r pass.new) }
+    {
+        let table = &self.schema.tables.as_slice()[written_table(&write)];
+        match write_route(alloc, &self.schema, &write) {
+            Ok(route) => {
+                let count = self.commit_until(rt, alloc, pass, table, &route, write);
+                drop(route);
+                Ok(counted(alloc, count?))
+            }
+            Err(refusal) => {
+                drop(write);
+                Err(refusal)
+            }
+        }
+    }
+}

@@ -1,0 +1,91 @@
+//! How a shard comes to take no commits, to take them again, to be retired, and to serve.
+ghost use Rattle.std.specs.Prelude.{◌≡◌, ◌<◌, ◌≤◌, ◌^◌, ℕ, length};
+ghost use Rattle.shard_run.specs.declared.Event.{Event};
+ghost use Rattle.shard_run.specs.Runs.{mode, entries_on, held};
+ghost use Rattle.shard_run.specs.Openings.{row_count};
+ghost use Rattle.shard_run.specs.Legal.{MayRetire, MayServe};
+ghost use Rattle.shard.specs.Shards.{HasAppended};
+
+use crate::state::{ShardState, append_event};
+use crate::world::{ShardLaw, World};
+use journal::{Naming, Pass};
+use shard_run::{Event, Mode, Shard};
+use std::mem::replace;
+use vt_value::Items;
+
+impl<W: World, J: Naming> ShardState<W, J> {
+    // Promise: Freeze, thaw, retire and serve are exactly one entry each, and take no memory; a following step takes over the source's next
+    // entry as one entry, and is refused for want of memory or for a limit alone
+    // With: ShardState::{thaw, retire, serve, follow}
+    /// From now on it takes no commits. Takes no memory.
+    pub fn freeze(&mut self, pass: &mut Pass<ShardLaw<W>, J>)
+        requires serving { mode W.opening self.old.seen self.old.shard.slot ≡ Mode.Serving }
+        requires room { length (entries_on self.old.shard.slot self.old.seen) < 2 ^ 40 }
+        ensures appended { HasAppended W.opening self.old Event.Freeze pass.old pass.new }
+        ensures seen { self.new.seen ≡ pass.new.seen }
+        ensures shard { self.new.shard ≡ self.old.shard }
+    {
+        let _ = append_event(
+            &mut self.seat,
+            &mut self.contents,
+            pass,
+            Event::Freeze,
+            Mode::Frozen,
+        );
+    }
+
+    /// From now on it takes commits again. Takes no memory.
+    pub fn thaw(&mut self, pass: &mut Pass<ShardLaw<W>, J>)
+        requires frozen { mode W.opening self.old.seen self.old.shard.slot ≡ Mode.Frozen }
+        ensures appended { HasAppended W.opening self.old Event.Thaw pass.old pass.new }
+        ensures seen { self.new.seen ≡ pass.new.seen }
+        ensures shard { self.new.shard ≡ self.old.shard }
+    {
+        let _ = append_event(
+            &mut self.seat,
+            &mut self.contents,
+            pass,
+            Event::Thaw,
+            Mode::Serving,
+        );
+    }
+
+    /// It gives its rows to the targets, which have it as a source, don't overlap, and together hold its place. Takes no memory.
+    pub fn retire(&mut self, pass: &mut Pass<ShardLaw<W>, J>, targets: Items<Shard>)
+        requires may { MayRetire W.opening self.old.seen self.old.shard targets }
+        ensures appended { HasAppended W.opening self.old (Event.Retire targets) pass.old pass.new }
+        ensures seen { self.new.seen ≡ pass.new.seen }
+        ensures shard { self.new.shard ≡ self.old.shard }
+    {
+        let event = append_event(
+            &mut self.seat,
+            &mut self.contents,
+            pass,
+            Event::Retire(targets),
+            Mode::Retired,
+        );
+        if let Event::Retire(targets) = event {
+            self.targets = targets;
+        }
+    }
+
+    /// A target that follows serves from now on: by what the pass has seen it is level with each source, which is retired for it. Takes
+    /// no memory.
+    pub fn serve(&mut self, pass: &mut Pass<ShardLaw<W>, J>)
+        requires following { mode W.opening self.old.seen self.old.shard.slot ≡ Mode.Following }
+        requires looked { entries_on self.old.shard.slot pass.old.seen ≡ entries_on self.old.shard.slot self.old.seen }
+        requires may { MayServe W.opening pass.old.seen self.old.shard }
+        requires within { row_count (held W.opening self.old.seen self.old.shard) ≤ W.limits.rows }
+        ensures appended { HasAppended W.opening self.old Event.Serve pass.old pass.new }
+        ensures seen { self.new.seen ≡ pass.new.seen }
+        ensures shard { self.new.shard ≡ self.old.shard }
+    {
+        let _ = append_event(
+            &mut self.seat,
+            &mut self.contents,
+            pass,
+            Event::Serve,
+            Mode::Serving,
+        );
+    }
+}
