@@ -148,6 +148,16 @@ impl StoredTables {
         self.tables.get(place)
     }
 
+    /// How many rows the table at a place has: none behind the last table.
+    pub fn row_count_of(&self, place: usize) -> usize
+        ensures { result ≡ length (rows_of self.now.rows place) }
+    {
+        match self.table(place) {
+            Some(table) => table.row_count(),
+            None => 0,
+        }
+    }
+
     /// Copies of the rows of the table at a place whose condition is true: none behind the last table. Refuses for want of memory.
     pub fn kept(
         &self,

@@ -84,6 +84,11 @@ impl Gate for HoldsFirst {
             give(&self.signals.let_go);
         }
     }
+
+    // Each read is made in a thread of its own.
+    fn few_rows(&self) -> usize {
+        0
+    }
 }
 
 fn no_signals(alloc: Global) -> Result<Arc<Signals, Global>, Fail> {
