@@ -12,15 +12,17 @@ mod transactions;
 mod waiting;
 
 use crate::empty_router;
+use crate::router::opened_shards;
+use buffer::Buffer;
 use empty_opening::opening_shards;
 use gates::told;
-use journal::{Naming, Opened, Pass};
+use journal::{Naming, Opened, Opener, Pass};
 use keyrange::{KeyRange, covers_once};
 use route_engine::{Engine, Open};
-use shard::{ShardLaw, World};
+use shard::{Shard, ShardLaw, World};
 use std::alloc::Global;
 use std::marker::Brand;
-use std::sync::Wait;
+use std::sync::{Arc, Wait};
 use std::test::Fail;
 use std::thread::Threads;
 use vschema::VSchema;
@@ -45,6 +47,64 @@ fn fits(alloc: Global, schema: &VSchema, ranges: &[KeyRange]) -> Result<bool, Re
 {
     let shards = opening_shards(alloc, schema, ranges)?;
     Ok(shards.len() <= 64 && covers_once(ranges))
+}
+
+// The keyspace and its two halves.
+fn shop(alloc: Global) -> Result<(VSchema, [KeyRange; 2]), Fail>
+    ensures formed { IfOk result (λ r. IsTrue (is_vschema r.0)) }
+    ensures fit { IfOk result (λ r. FitRanges r.0 r.1) }
+{
+    let ranges = halves()?;
+    let schema = VSchema::read(alloc, SHOP)?;
+    if !fits(alloc, &schema, &ranges)? {
+        return Err(Fail::new("no opening"));
+    }
+    Ok((schema, ranges))
+}
+
+// The shards of an opening without rows, the engine over them, the opener of its sessions, and a first pass. So many statements may wait.
+fn opened_engine<W: World + Send + Sync, J: Naming + Send + Sync>(
+    alloc: Global,
+    schema: VSchema,
+    ranges: &[KeyRange],
+    opened: Opened<ShardLaw<W>>,
+    buffer_size: u64,
+) -> Result<
+    (
+        Vec<Arc<Shard<W, J>, Global>>,
+        Engine<W, J, Open>,
+        Opener<ShardLaw<W>, J>,
+        Pass<ShardLaw<W>, J>,
+    ),
+    Refusal,
+>
+    requires name { opened ≡ J.table }
+    requires opening { W.opening ≡ opening_of schema ranges.now }
+    requires limits { W.limits ≡ most_limits }
+    requires schema { IsTrue (is_vschema schema) }
+    requires ranges { FitRanges schema ranges.now }
+{
+    let (held, keyspaces, opener, first) = opened_shards::<W, J>(alloc, &schema, ranges, opened)?;
+    let engine = Engine::new(schema, keyspaces, Buffer::new(buffer_size), Open);
+    Ok((held, engine, opener, first))
+}
+
+// Two sessions.
+fn open_two<W: World + Send + Sync, J: Naming + Send + Sync>(
+    opener: &mut Opener<ShardLaw<W>, J>,
+    first: &mut Pass<ShardLaw<W>, J>,
+) -> Result<(Pass<ShardLaw<W>, J>, Pass<ShardLaw<W>, J>), Refusal>
+    ensures one { IfOk result (λ r. IsSome r.0.session) }
+    ensures other { IfOk result (λ r. IsSome r.1.session) }
+{
+    let one = opener.open(first)?;
+    match opener.open(first) {
+        Ok(other) => Ok((one, other)),
+        Err(refusal) => {
+            drop(one);
+            Err(refusal)
+        }
+    }
 }
 
 // How many rows an INSERT adds, and whether a query gives its row then.
@@ -104,8 +164,8 @@ fn insert_and_select<W: World + Send + Sync, J: Naming + Send + Sync>(
     given
 }
 
-// The same in the world that has this VSchema and these ranges, and no rows.
-fn in_empty_world<W: World + Send + Sync>(
+// The same in a new journal.
+fn in_new_journal<W: World + Send + Sync>(
     rt: &(impl Threads + Wait + Sync),
     alloc: Global,
     schema: VSchema,
@@ -123,12 +183,8 @@ fn in_empty_world<W: World + Send + Sync>(
 #[test]
 fn always_out_of_memory_would_find_no_row(rt: HostRuntime) -> Result<(), Fail> {
     let alloc = rt.alloc();
-    let schema = VSchema::read(alloc, SHOP)?;
-    let ranges = halves()?;
-    if !fits(alloc, &schema, &ranges)? {
-        return Err(Fail::new("no opening"));
-    }
-    let (count, is_there) = in_empty_world::<Brand>(&rt, alloc, schema, &ranges)?;
+    let (schema, ranges) = shop(alloc)?;
+    let (count, is_there) = in_new_journal::<Brand>(&rt, alloc, schema, &ranges)?;
     assert_eq!(rt; count, 1);
     assert_eq!(rt; is_there, true);
     Ok(())

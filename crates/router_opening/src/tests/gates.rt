@@ -6,9 +6,9 @@ ghost use Rattle.shard.specs.Shards.{most_limits};
 ghost use Rattle.empty_opening.specs.Empty.{opening_of, FitRanges};
 ghost use Rattle.route_engine.specs.Pendings.{IsOf};
 
-use super::{SHOP, fits, halves};
+use super::{open_two, shop};
 use crate::empty_router;
-use journal::{Naming, Opened, Pass};
+use journal::{Naming, Opened, Opener, Pass};
 use keyrange::KeyRange;
 use route_engine::{Answer, Engine, Gate, Reply, Tx};
 use shard::{ShardLaw, World};
@@ -91,6 +91,11 @@ impl Gate for HoldsFirst {
     }
 }
 
+// Whether a read was held, and let go in time.
+fn was_held(signals: &Signals) -> bool {
+    is_given(&signals.held) && !is_given(&signals.in_vain)
+}
+
 fn no_signals(alloc: Global) -> Result<Arc<Signals, Global>, Fail> {
     Ok(Arc::new(
         alloc,
@@ -140,31 +145,75 @@ pub(super) fn told_in<W: World + Send + Sync, J: Naming + Send + Sync, G: Gate>(
     }
 }
 
-// The engine over the two halves, with the six rows, and two sessions.
+// Puts the six rows into the table.
+fn load<W: World + Send + Sync, J: Naming + Send + Sync, G: Gate>(
+    rt: &(impl Threads + Wait + Sync),
+    alloc: Global,
+    engine: &Engine<W, J, G>,
+    pass: &mut Pass<ShardLaw<W>, J>,
+) -> Result<(), Refusal>
+    requires { IsSome pass.old.session }
+    ensures { pass.new.session ≡ pass.old.session }
+{
+    told(rt, alloc, engine, pass, EVEN_ROWS)?;
+    told(rt, alloc, engine, pass, ODD_ROWS)?;
+    Ok(())
+}
+
+// Two sessions, of which the first has put the six rows into the table.
 fn loaded<W: World + Send + Sync, J: Naming + Send + Sync, G: Gate>(
     rt: &(impl Threads + Wait + Sync),
     alloc: Global,
-    schema: VSchema,
-    ranges: &[KeyRange],
-    opened: Opened<ShardLaw<W>>,
-    gate: G,
-) -> Result<(Engine<W, J, G>, Pass<ShardLaw<W>, J>, Pass<ShardLaw<W>, J>), Refusal>
-    requires opened { opened ≡ J.table }
-    requires opening { W.opening ≡ opening_of schema ranges.now }
-    requires limits { W.limits ≡ most_limits }
-    requires formed { IsTrue (is_vschema schema) }
-    requires fit { FitRanges schema ranges.now }
-    ensures one { IfOk result (λ r. IsSome r.1.session) }
-    ensures other { IfOk result (λ r. IsSome r.2.session) }
+    engine: &Engine<W, J, G>,
+    opener: &mut Opener<ShardLaw<W>, J>,
+    first: &mut Pass<ShardLaw<W>, J>,
+) -> Result<(Pass<ShardLaw<W>, J>, Pass<ShardLaw<W>, J>), Refusal>
+    ensures one { IfOk result (λ r. IsSome r.0.session) }
+    ensures other { IfOk result (λ r. IsSome r.1.session) }
 {
-    let (engine, mut opener, mut first) = empty_router::<W, J, G>(
-        alloc, schema, ranges, opened, 0, gate,
-    )?;
-    let mut one = opener.open(&mut first)?;
-    let other = opener.open(&mut first)?;
-    told(rt, alloc, &engine, &mut one, EVEN_ROWS)?;
-    told(rt, alloc, &engine, &mut one, ODD_ROWS)?;
-    Ok((engine, one, other))
+    let (mut one, other) = open_two(opener, first)?;
+    match load(rt, alloc, engine, &mut one) {
+        Ok(_) => Ok((one, other)),
+        Err(refusal) => {
+            drop(one);
+            drop(other);
+            Err(refusal)
+        }
+    }
+}
+
+// A gate that gives these signals.
+fn holding(signals: &Arc<Signals, Global>, by_place_1: bool) -> Result<HoldsFirst, Refusal> {
+    Ok(HoldsFirst {
+        signals: Arc::try_clone(signals)?,
+        by_place_1,
+    })
+}
+
+// A session's query of all rows.
+fn read_rows<W: World + Send + Sync, J: Naming + Send + Sync>(
+    rt: &(impl Threads + Wait + Sync),
+    alloc: Global,
+    engine: &Engine<W, J, HoldsFirst>,
+    mut pass: Pass<ShardLaw<W>, J>,
+) -> Result<u64, Refusal>
+    requires { IsSome pass.session }
+{
+    told(rt, alloc, engine, &mut pass, b"SELECT id FROM t")
+}
+
+// The same by the session that put the rows there.
+fn load_and_read<W: World + Send + Sync, J: Naming + Send + Sync>(
+    rt: &(impl Threads + Wait + Sync),
+    alloc: Global,
+    engine: &Engine<W, J, HoldsFirst>,
+    opener: &mut Opener<ShardLaw<W>, J>,
+    first: &mut Pass<ShardLaw<W>, J>,
+) -> Result<u64, Refusal> {
+    let (one, other) = loaded(rt, alloc, engine, opener, first)?;
+    let rows = read_rows(rt, alloc, engine, one);
+    drop(other);
+    rows
 }
 
 // A query of all rows, of which the read of the first shard is held until that of the second was answered.
@@ -174,7 +223,7 @@ fn scatter<W: World + Send + Sync, J: Naming + Send + Sync>(
     schema: VSchema,
     ranges: &[KeyRange],
     opened: Opened<ShardLaw<W>>,
-    signals: &Arc<Signals, Global>,
+    gate: HoldsFirst,
 ) -> Result<u64, Refusal>
     requires opened { opened ≡ J.table }
     requires opening { W.opening ≡ opening_of schema ranges.now }
@@ -182,23 +231,23 @@ fn scatter<W: World + Send + Sync, J: Naming + Send + Sync>(
     requires formed { IsTrue (is_vschema schema) }
     requires fit { FitRanges schema ranges.now }
 {
-    let gate = HoldsFirst {
-        signals: Arc::try_clone(signals)?,
-        by_place_1: true,
-    };
-    let (engine, mut one, _other) = loaded::<W, J, HoldsFirst>(
-        rt, alloc, schema, ranges, opened, gate,
+    let (engine, mut opener, mut first) = empty_router::<W, J, HoldsFirst>(
+        alloc, schema, ranges, opened, 0, gate,
     )?;
-    told(rt, alloc, &engine, &mut one, b"SELECT id FROM t")
+    let rows = load_and_read(rt, alloc, &engine, &mut opener, &mut first);
+    drop(engine);
+    drop(opener);
+    drop(first);
+    rows
 }
 
-// The same in the world that has this VSchema and these ranges, and no rows.
-fn scatter_in_empty_world<W: World + Send + Sync>(
+// The same in a new journal.
+fn scatter_in_new_journal<W: World + Send + Sync>(
     rt: &(impl Threads + Wait + Sync),
     alloc: Global,
     schema: VSchema,
     ranges: &[KeyRange],
-    signals: &Arc<Signals, Global>,
+    gate: HoldsFirst,
 ) -> Result<u64, Refusal>
     requires opening { W.opening ≡ opening_of schema ranges.now }
     requires limits { W.limits ≡ most_limits }
@@ -206,22 +255,32 @@ fn scatter_in_empty_world<W: World + Send + Sync>(
     requires fit { FitRanges schema ranges.now }
 {
     let opened = Opened::<ShardLaw<W>>::new(alloc)?;
-    scatter::<W, Brand>(rt, alloc, schema, ranges, opened, signals)
+    scatter::<W, Brand>(rt, alloc, schema, ranges, opened, gate)
+}
+
+// The same over the shop.
+fn scatter_over_shop(
+    rt: &(impl Threads + Wait + Sync),
+    alloc: Global,
+    gate: HoldsFirst,
+) -> Result<u64, Fail> {
+    let (schema, ranges) = shop(alloc)?;
+    Ok(scatter_in_new_journal::<Brand>(rt, alloc, schema, &ranges, gate)?)
+}
+
+// The same, and whether the read was held until then.
+fn scattered(rt: &(impl Threads + Wait + Sync), alloc: Global) -> Result<(u64, bool), Fail> {
+    let signals = no_signals(alloc)?;
+    let gate = holding(&signals, true)?;
+    let rows = scatter_over_shop(rt, alloc, gate)?;
+    Ok((rows, was_held(&signals)))
 }
 
 #[test]
 fn scatter_reads_in_turn_would_wait(rt: HostRuntime) -> Result<(), Fail> {
-    let alloc = rt.alloc();
-    let schema = VSchema::read(alloc, SHOP)?;
-    let ranges = halves()?;
-    if !fits(alloc, &schema, &ranges)? {
-        return Err(Fail::new("no opening"));
-    }
-    let signals = no_signals(alloc)?;
-    let rows = scatter_in_empty_world::<Brand>(&rt, alloc, schema, &ranges, &signals)?;
+    let (rows, held) = scattered(&rt, rt.alloc())?;
     assert_eq!(rt; rows, 6);
-    assert_eq!(rt; is_given(&signals.held), true);
-    assert_eq!(rt; is_given(&signals.in_vain), false);
+    assert_eq!(rt; held, true);
     Ok(())
 }
 
@@ -254,16 +313,42 @@ fn work_meanwhile<W: World + Send + Sync, J: Naming + Send + Sync>(
     Ok([read, written])
 }
 
-// A session's query of all rows.
-fn read_rows<W: World + Send + Sync, J: Naming + Send + Sync>(
-    rt: &(impl Threads + Wait + Sync),
+// A session's query of all rows, and beside it another session's work, in a thread of its own.
+fn read_beside<W: World + Send + Sync, J: Naming + Send + Sync, R: Threads + Wait + Sync>(
+    rt: &R,
     alloc: Global,
     engine: &Engine<W, J, HoldsFirst>,
-    mut pass: Pass<ShardLaw<W>, J>,
-) -> Result<u64, Refusal>
-    requires { IsSome pass.session }
+    one: Pass<ShardLaw<W>, J>,
+    other: Pass<ShardLaw<W>, J>,
+    signals: &Signals,
+) -> (Result<u64, Refusal>, Result<[u64; 2], Refusal>)
+    requires one { IsSome one.session }
+    requires other { IsSome other.session }
 {
-    told(rt, alloc, engine, &mut pass, b"SELECT id FROM t")
+    let (held, told) = join(
+        rt,
+        move || -> Result<u64, Refusal>
+            requires { IsSync R.row × IsSend W.row × IsSync W.row × IsSend J.row × IsSync J.row × IsSome one.session }
+        { read_rows(rt, alloc, engine, one) },
+        move || -> Result<[u64; 2], Refusal>
+            requires { IsSync R.row × IsSend W.row × IsSync W.row × IsSend J.row × IsSync J.row × IsSome other.session }
+        { work_meanwhile(rt, alloc, engine, other, signals) },
+    );
+    (held, told)
+}
+
+// The same by two new sessions.
+fn load_and_work<W: World + Send + Sync, J: Naming + Send + Sync, R: Threads + Wait + Sync>(
+    rt: &R,
+    alloc: Global,
+    engine: &Engine<W, J, HoldsFirst>,
+    opener: &mut Opener<ShardLaw<W>, J>,
+    first: &mut Pass<ShardLaw<W>, J>,
+    signals: &Signals,
+) -> Result<(u64, [u64; 2]), Refusal> {
+    let (one, other) = loaded(rt, alloc, engine, opener, first)?;
+    let (held, told) = read_beside(rt, alloc, engine, one, other, signals);
+    Ok((held?, told?))
 }
 
 // While one session's query of all rows is held at the first shard, another session reads and writes the second, in a thread of its
@@ -274,7 +359,8 @@ fn beside<W: World + Send + Sync, J: Naming + Send + Sync, R: Threads + Wait + S
     schema: VSchema,
     ranges: &[KeyRange],
     opened: Opened<ShardLaw<W>>,
-    signals: &Arc<Signals, Global>,
+    gate: HoldsFirst,
+    signals: &Signals,
 ) -> Result<(u64, [u64; 2]), Refusal>
     requires opened { opened ≡ J.table }
     requires opening { W.opening ≡ opening_of schema ranges.now }
@@ -282,32 +368,24 @@ fn beside<W: World + Send + Sync, J: Naming + Send + Sync, R: Threads + Wait + S
     requires formed { IsTrue (is_vschema schema) }
     requires fit { FitRanges schema ranges.now }
 {
-    let gate = HoldsFirst {
-        signals: Arc::try_clone(signals)?,
-        by_place_1: false,
-    };
-    let (engine, one, other) = loaded::<W, J, HoldsFirst>(rt, alloc, schema, ranges, opened, gate)?;
-    let shared = &engine;
-    let given: &Signals = signals;
-    let (held, told) = join(
-        rt,
-        move || -> Result<u64, Refusal>
-            requires { IsSync R.row × IsSend W.row × IsSync W.row × IsSend J.row × IsSync J.row × IsSome one.session }
-        { read_rows(rt, alloc, shared, one) },
-        move || -> Result<[u64; 2], Refusal>
-            requires { IsSync R.row × IsSend W.row × IsSync W.row × IsSend J.row × IsSync J.row × IsSome other.session }
-        { work_meanwhile(rt, alloc, shared, other, given) },
-    );
-    Ok((held?, told?))
+    let (engine, mut opener, mut first) = empty_router::<W, J, HoldsFirst>(
+        alloc, schema, ranges, opened, 0, gate,
+    )?;
+    let told = load_and_work(rt, alloc, &engine, &mut opener, &mut first, signals);
+    drop(engine);
+    drop(opener);
+    drop(first);
+    told
 }
 
-// The same in the world that has this VSchema and these ranges, and no rows.
-fn beside_in_empty_world<W: World + Send + Sync, R: Threads + Wait + Sync>(
+// The same in a new journal.
+fn beside_in_new_journal<W: World + Send + Sync, R: Threads + Wait + Sync>(
     rt: &R,
     alloc: Global,
     schema: VSchema,
     ranges: &[KeyRange],
-    signals: &Arc<Signals, Global>,
+    gate: HoldsFirst,
+    signals: &Signals,
 ) -> Result<(u64, [u64; 2]), Refusal>
     requires opening { W.opening ≡ opening_of schema ranges.now }
     requires limits { W.limits ≡ most_limits }
@@ -315,25 +393,37 @@ fn beside_in_empty_world<W: World + Send + Sync, R: Threads + Wait + Sync>(
     requires fit { FitRanges schema ranges.now }
 {
     let opened = Opened::<ShardLaw<W>>::new(alloc)?;
-    beside::<W, Brand, R>(rt, alloc, schema, ranges, opened, signals)
+    beside::<W, Brand, R>(rt, alloc, schema, ranges, opened, gate, signals)
+}
+
+// The same over the shop.
+fn beside_over_shop<R: Threads + Wait + Sync>(
+    rt: &R,
+    alloc: Global,
+    gate: HoldsFirst,
+    signals: &Signals,
+) -> Result<(u64, [u64; 2]), Fail> {
+    let (schema, ranges) = shop(alloc)?;
+    Ok(beside_in_new_journal::<Brand, R>(rt, alloc, schema, &ranges, gate, signals)?)
+}
+
+// The same, and whether the query was held until then.
+fn told_beside<R: Threads + Wait + Sync>(
+    rt: &R,
+    alloc: Global,
+) -> Result<(u64, [u64; 2], bool), Fail> {
+    let signals = no_signals(alloc)?;
+    let gate = holding(&signals, false)?;
+    let (rows, told) = beside_over_shop(rt, alloc, gate, &signals)?;
+    Ok((rows, told, was_held(&signals)))
 }
 
 #[test]
 fn one_mutex_round_all_shards_would_hold_up_a_read(rt: HostRuntime) -> Result<(), Fail> {
-    let alloc = rt.alloc();
-    let schema = VSchema::read(alloc, SHOP)?;
-    let ranges = halves()?;
-    if !fits(alloc, &schema, &ranges)? {
-        return Err(Fail::new("no opening"));
-    }
-    let signals = no_signals(alloc)?;
-    let (rows, told) = beside_in_empty_world::<Brand, HostRuntime>(
-        &rt, alloc, schema, &ranges, &signals,
-    )?;
+    let (rows, told, held) = told_beside(&rt, rt.alloc())?;
     // the query meets the other session's row or misses it
     assert_eq!(rt; rows == 6 || rows == 7, true);
     assert_eq!(rt; told, [1, 1]);
-    assert_eq!(rt; is_given(&signals.held), true);
-    assert_eq!(rt; is_given(&signals.in_vain), false);
+    assert_eq!(rt; held, true);
     Ok(())
 }

@@ -6,9 +6,7 @@ ghost use Rattle.shard.specs.Shards.{most_limits};
 ghost use Rattle.empty_opening.specs.Empty.{opening_of, FitRanges};
 
 use super::gates::{give, is_given, told, wait_for};
-use super::{SHOP, fits, halves};
-use crate::router::opened_shards;
-use buffer::Buffer;
+use super::{open_two, opened_engine, shop};
 use journal::{Naming, Opened, Opener, Pass};
 use keyrange::KeyRange;
 use route_engine::{Engine, Open};
@@ -87,17 +85,18 @@ fn insert_elsewhere<W: World + Send + Sync, J: Naming + Send + Sync>(
     Ok(count)
 }
 
-// Both, by two sessions in threads of their own.
-fn insert_both<W: World + Send + Sync, J: Naming + Send + Sync, R: Threads + Wait + Sync>(
+// Both, in threads of their own.
+fn insert_by<W: World + Send + Sync, J: Naming + Send + Sync, R: Threads + Wait + Sync>(
     rt: &R,
     alloc: Global,
     engine: &Engine<W, J, Open>,
-    mut opener: Opener<ShardLaw<W>, J>,
-    mut first: Pass<ShardLaw<W>, J>,
+    one: Pass<ShardLaw<W>, J>,
+    other: Pass<ShardLaw<W>, J>,
     steps: &Steps,
-) -> Result<[u64; 2], Refusal> {
-    let one = opener.open(&mut first)?;
-    let other = opener.open(&mut first)?;
+) -> (Result<u64, Refusal>, Result<u64, Refusal>)
+    requires one { IsSome one.session }
+    requires other { IsSome other.session }
+{
     let (there, elsewhere) = join(
         rt,
         move || -> Result<u64, Refusal>
@@ -107,10 +106,66 @@ fn insert_both<W: World + Send + Sync, J: Naming + Send + Sync, R: Threads + Wai
             requires { IsSync R.row × IsSend W.row × IsSync W.row × IsSend J.row × IsSync J.row × IsSome other.session }
         { insert_elsewhere(rt, alloc, engine, other, steps) },
     );
+    (there, elsewhere)
+}
+
+// Both, by two new sessions.
+fn insert_both<W: World + Send + Sync, J: Naming + Send + Sync, R: Threads + Wait + Sync>(
+    rt: &R,
+    alloc: Global,
+    engine: &Engine<W, J, Open>,
+    opener: &mut Opener<ShardLaw<W>, J>,
+    first: &mut Pass<ShardLaw<W>, J>,
+    steps: &Steps,
+) -> Result<[u64; 2], Refusal> {
+    let (one, other) = open_two(opener, first)?;
+    let (there, elsewhere) = insert_by(rt, alloc, engine, one, other, steps);
     Ok([there?, elsewhere?])
 }
 
 // Both, while a third thread holds the first shard's lock; and whether the INSERT into the other shard was answered meanwhile.
+fn hold_and_insert<W: World + Send + Sync, J: Naming + Send + Sync, R: Threads + Wait + Sync>(
+    rt: &R,
+    alloc: Global,
+    engine: &Engine<W, J, Open>,
+    shard: &Shard<W, J>,
+    opener: &mut Opener<ShardLaw<W>, J>,
+    first: &mut Pass<ShardLaw<W>, J>,
+) -> Result<(bool, [u64; 2]), Refusal> {
+    let steps = Steps {
+        held: AtomicU64::new(0),
+        begun: AtomicU64::new(0),
+        answered: AtomicU64::new(0),
+    };
+    let given = &steps;
+    let (answered, counts) = join(
+        rt,
+        move || -> bool
+            requires { IsSync R.row × IsSend W.row × IsSync W.row × IsSend J.row × IsSync J.row }
+        { hold(rt, shard, given) },
+        move || -> Result<[u64; 2], Refusal>
+            requires { IsSync R.row × IsSend W.row × IsSync W.row × IsSend J.row × IsSync J.row }
+        { insert_both(rt, alloc, engine, opener, first, given) },
+    );
+    Ok((answered, counts?))
+}
+
+// The same of the shards that are held.
+fn hold_first<W: World + Send + Sync, J: Naming + Send + Sync, R: Threads + Wait + Sync>(
+    rt: &R,
+    alloc: Global,
+    engine: &Engine<W, J, Open>,
+    held: &[Arc<Shard<W, J>, Global>],
+    opener: &mut Opener<ShardLaw<W>, J>,
+    first: &mut Pass<ShardLaw<W>, J>,
+) -> Result<(bool, [u64; 2]), Refusal> {
+    let [low, ..] = held else {
+        return Ok((false, [0, 0]));
+    };
+    hold_and_insert(rt, alloc, engine, low, opener, first)
+}
+
+// The same of an engine without rows.
 fn insert_beside<W: World + Send + Sync, J: Naming + Send + Sync, R: Threads + Wait + Sync>(
     rt: &R,
     alloc: Global,
@@ -124,32 +179,19 @@ fn insert_beside<W: World + Send + Sync, J: Naming + Send + Sync, R: Threads + W
     requires formed { IsTrue (is_vschema schema) }
     requires fit { FitRanges schema ranges.now }
 {
-    let (held, keyspaces, opener, first) = opened_shards::<W, J>(alloc, &schema, ranges, opened)?;
-    let [low, ..] = held.as_slice() else {
-        return Ok((false, [0, 0]));
-    };
-    let low = Arc::try_clone(low)?;
-    let engine = Engine::new(schema, keyspaces, Buffer::new(0), Open);
-    let steps = Steps {
-        held: AtomicU64::new(0),
-        begun: AtomicU64::new(0),
-        answered: AtomicU64::new(0),
-    };
-    let (shard, shared, given): (&Shard<W, J>, _, _) = (&low, &engine, &steps);
-    let (answered, counts) = join(
-        rt,
-        move || -> bool
-            requires { IsSync R.row × IsSend W.row × IsSync W.row × IsSend J.row × IsSync J.row }
-        { hold(rt, shard, given) },
-        move || -> Result<[u64; 2], Refusal>
-            requires { IsSync R.row × IsSend W.row × IsSync W.row × IsSend J.row × IsSync J.row }
-        { insert_both(rt, alloc, shared, opener, first, given) },
-    );
-    Ok((answered, counts?))
+    let (held, engine, mut opener, mut first) = opened_engine::<W, J>(
+        alloc, schema, ranges, opened, 0,
+    )?;
+    let told = hold_first(rt, alloc, &engine, held.as_slice(), &mut opener, &mut first);
+    drop(engine);
+    drop(held);
+    drop(opener);
+    drop(first);
+    told
 }
 
-// The same in the world that has this VSchema and these ranges, and no rows.
-fn insert_in_empty_world<W: World + Send + Sync, R: Threads + Wait + Sync>(
+// The same in a new journal.
+fn insert_in_new_journal<W: World + Send + Sync, R: Threads + Wait + Sync>(
     rt: &R,
     alloc: Global,
     schema: VSchema,
@@ -164,17 +206,15 @@ fn insert_in_empty_world<W: World + Send + Sync, R: Threads + Wait + Sync>(
     insert_beside::<W, Brand, R>(rt, alloc, schema, ranges, opened)
 }
 
+// The same over the shop.
+fn inserted<R: Threads + Wait + Sync>(rt: &R, alloc: Global) -> Result<(bool, [u64; 2]), Fail> {
+    let (schema, ranges) = shop(alloc)?;
+    Ok(insert_in_new_journal::<Brand, R>(rt, alloc, schema, &ranges)?)
+}
+
 #[test]
 fn one_mutex_round_all_shards_would_hold_up_a_write(rt: HostRuntime) -> Result<(), Fail> {
-    let alloc = rt.alloc();
-    let schema = VSchema::read(alloc, SHOP)?;
-    let ranges = halves()?;
-    if !fits(alloc, &schema, &ranges)? {
-        return Err(Fail::new("no opening"));
-    }
-    let (answered, counts) = insert_in_empty_world::<Brand, HostRuntime>(
-        &rt, alloc, schema, &ranges,
-    )?;
+    let (answered, counts) = inserted(&rt, rt.alloc())?;
     assert_eq!(rt; answered, true);
     assert_eq!(rt; counts, [1, 1]);
     Ok(())

@@ -7,17 +7,15 @@ ghost use Rattle.empty_opening.specs.Empty.{opening_of, FitRanges};
 
 use super::gates::told;
 use super::waiting::freeze;
-use super::{SHOP, fits, halves};
-use crate::router::opened_shards;
-use buffer::Buffer;
-use journal::{Naming, Opened, Pass};
+use super::{opened_engine, shop};
+use journal::{Naming, Opened, Opener, Pass};
 use keyrange::KeyRange;
 use route_engine::{Engine, Open};
 use shard::{Shard, ShardLaw, ShardState, World};
 use shard_run::Mode;
 use std::alloc::Global;
 use std::marker::Brand;
-use std::sync::Wait;
+use std::sync::{Arc, Wait};
 use std::test::Fail;
 use std::thread::Threads;
 use vschema::{Place, VSchema};
@@ -81,17 +79,26 @@ fn retire<W: World, J: Naming>(
     Ok(false)
 }
 
-/// What is answered where nobody may wait.
-#[derive(Drop)]
-struct Told {
-    /// The rows before the first shard is frozen, while it is, and once it is retired.
-    before: Result<u64, Refusal>,
-    frozen: Result<u64, Refusal>,
-    retired: Result<u64, Refusal>,
-    /// A write to it while it is frozen.
-    written: Result<u64, Refusal>,
-    /// A row of the other shard, once the first is retired.
-    other: Result<u64, Refusal>,
+/// What is answered where nobody may wait: the rows before the first shard is frozen, and while it is; a write to it meanwhile; the rows
+/// once it is retired, and a row of the other shard then.
+type Told = [Result<u64, Refusal>; 5];
+
+// The rows once the shard is retired, and a row of the other shard then.
+fn once_retired<W: World + Send + Sync, J: Naming + Send + Sync>(
+    rt: &(impl Threads + Wait + Sync),
+    alloc: Global,
+    engine: &Engine<W, J, Open>,
+    low: &Shard<W, J>,
+    pass: &mut Pass<ShardLaw<W>, J>,
+) -> Result<[Result<u64, Refusal>; 2], Refusal>
+    requires { IsSome pass.old.session }
+{
+    if !retire(rt, alloc, low, pass)? {
+        return Err(Refusal::NotSupported);
+    }
+    let retired = told(rt, alloc, engine, pass, ALL);
+    let other = told(rt, alloc, engine, pass, OTHER);
+    Ok([retired, other])
 }
 
 fn by_modes<W: World + Send + Sync, J: Naming + Send + Sync>(
@@ -111,18 +118,31 @@ fn by_modes<W: World + Send + Sync, J: Naming + Send + Sync>(
     }
     let frozen = told(rt, alloc, engine, pass, ALL);
     let written = told(rt, alloc, engine, pass, EVEN);
-    if !retire(rt, alloc, low, pass)? {
+    let [retired, other] = once_retired(rt, alloc, engine, low, pass)?;
+    Ok([before, frozen, written, retired, other])
+}
+
+// The same by a session of its own.
+fn by_session<W: World + Send + Sync, J: Naming + Send + Sync>(
+    rt: &(impl Threads + Wait + Sync),
+    alloc: Global,
+    engine: &Engine<W, J, Open>,
+    held: &[Arc<Shard<W, J>, Global>],
+    opener: &mut Opener<ShardLaw<W>, J>,
+    first: &mut Pass<ShardLaw<W>, J>,
+) -> Result<Told, Refusal> {
+    let [low, ..] = held else {
         return Err(Refusal::NotSupported);
+    };
+    match opener.open(first) {
+        Ok(pass) => {
+            let mut pass = pass;
+            let told = by_modes(rt, alloc, engine, low, &mut pass);
+            drop(pass);
+            told
+        }
+        Err(refusal) => Err(refusal),
     }
-    let retired = told(rt, alloc, engine, pass, ALL);
-    let other = told(rt, alloc, engine, pass, OTHER);
-    Ok(Told {
-        before,
-        frozen,
-        retired,
-        written,
-        other,
-    })
 }
 
 // The same of an engine without rows.
@@ -139,19 +159,19 @@ fn of_two_shards<W: World + Send + Sync, J: Naming + Send + Sync>(
     requires formed { IsTrue (is_vschema schema) }
     requires fit { FitRanges schema ranges.now }
 {
-    let (held, keyspaces, mut opener, mut first) = opened_shards::<W, J>(
-        alloc, &schema, ranges, opened,
+    let (held, engine, mut opener, mut first) = opened_engine::<W, J>(
+        alloc, schema, ranges, opened, 0,
     )?;
-    let engine = Engine::new(schema, keyspaces, Buffer::new(0), Open);
-    let mut pass = opener.open(&mut first)?;
-    let [low, ..] = held.as_slice() else {
-        return Err(Refusal::NotSupported);
-    };
-    by_modes(rt, alloc, &engine, low, &mut pass)
+    let told = by_session(rt, alloc, &engine, held.as_slice(), &mut opener, &mut first);
+    drop(engine);
+    drop(held);
+    drop(opener);
+    drop(first);
+    told
 }
 
-// The same in the world that has this VSchema and these ranges, and no rows.
-fn in_empty_world<W: World + Send + Sync>(
+// The same in a new journal.
+fn in_new_journal<W: World + Send + Sync>(
     rt: &(impl Threads + Wait + Sync),
     alloc: Global,
     schema: VSchema,
@@ -169,16 +189,15 @@ fn in_empty_world<W: World + Send + Sync>(
 #[test]
 fn a_retired_shard_would_be_read(rt: HostRuntime) -> Result<(), Fail> {
     let alloc = rt.alloc();
-    let schema = VSchema::read(alloc, SHOP)?;
-    let ranges = halves()?;
-    if !fits(alloc, &schema, &ranges)? {
-        return Err(Fail::new("no opening"));
-    }
-    let told = in_empty_world::<Brand>(&rt, alloc, schema, &ranges)?;
-    assert_eq!(rt; told.before, Ok(6));
-    assert_eq!(rt; told.frozen, Ok(6));
-    assert_eq!(rt; told.written, Err(Refusal::BufferFull));
-    assert_eq!(rt; told.retired, Err(Refusal::BufferFull));
-    assert_eq!(rt; told.other, Ok(1));
+    let (schema, ranges) = shop(alloc)?;
+    let told = in_new_journal::<Brand>(&rt, alloc, schema, &ranges)?;
+    let wanted = [
+        Ok(6),
+        Ok(6),
+        Err(Refusal::BufferFull),
+        Err(Refusal::BufferFull),
+        Ok(1),
+    ];
+    assert_eq!(rt; &told[..], &wanted[..]);
     Ok(())
 }

@@ -7,16 +7,14 @@ ghost use Rattle.route_engine.specs.Pendings.{IsOf};
 
 use super::gates::told_in;
 use super::waiting::freeze;
-use super::{SHOP, fits, halves};
-use crate::router::opened_shards;
-use buffer::Buffer;
-use journal::{Naming, Opened, Pass};
+use super::{opened_engine, shop};
+use journal::{Naming, Opened, Opener, Pass};
 use keyrange::KeyRange;
 use route_engine::{Engine, Open, Tx};
 use shard::{Shard, ShardLaw, World};
 use std::alloc::Global;
 use std::marker::Brand;
-use std::sync::Wait;
+use std::sync::{Arc, Wait};
 use std::test::Fail;
 use std::thread::Threads;
 use vschema::VSchema;
@@ -128,6 +126,55 @@ fn play<W: World + Send + Sync, J: Naming + Send + Sync>(
     Ok(all)
 }
 
+// The same with the other session.
+fn play_beside<W: World + Send + Sync, J: Naming + Send + Sync>(
+    rt: &(impl Threads + Wait + Sync),
+    alloc: Global,
+    engine: &Engine<W, J, Open>,
+    low: &Shard<W, J>,
+    mine: &mut Seat<W, J>,
+    opener: &mut Opener<ShardLaw<W>, J>,
+    admin: &mut Pass<ShardLaw<W>, J>,
+    acts: &[Act<'_>],
+) -> Result<Vec<Told>, Refusal>
+    requires { IsOf W.opening mine.old.tx mine.old.pass }
+{
+    match opener.open(admin) {
+        Ok(pass) => {
+            let mut theirs = seated(pass);
+            let told = play(rt, alloc, engine, low, mine, &mut theirs, admin, acts);
+            drop(theirs);
+            told
+        }
+        Err(refusal) => Err(refusal),
+    }
+}
+
+// The same with both sessions.
+fn play_by_two<W: World + Send + Sync, J: Naming + Send + Sync>(
+    rt: &(impl Threads + Wait + Sync),
+    alloc: Global,
+    engine: &Engine<W, J, Open>,
+    held: &[Arc<Shard<W, J>, Global>],
+    opener: &mut Opener<ShardLaw<W>, J>,
+    admin: &mut Pass<ShardLaw<W>, J>,
+    acts: &[Act<'_>],
+) -> Result<Vec<Told>, Refusal> {
+    let [low, ..] = held else {
+        return Err(Refusal::NotSupported);
+    };
+    match opener.open(admin) {
+        Ok(pass) => {
+            let mut mine = seated(pass);
+            let told = play_beside(rt, alloc, engine, low, &mut mine, opener, admin, acts);
+            drop(mine);
+            told
+        }
+        Err(refusal) => Err(refusal),
+    }
+}
+
+// The same of an engine without rows.
 fn of_two_sessions<W: World + Send + Sync, J: Naming + Send + Sync>(
     rt: &(impl Threads + Wait + Sync),
     alloc: Global,
@@ -142,29 +189,27 @@ fn of_two_sessions<W: World + Send + Sync, J: Naming + Send + Sync>(
     requires formed { IsTrue (is_vschema schema) }
     requires fit { FitRanges schema ranges.now }
 {
-    let (held, keyspaces, mut opener, mut admin) = opened_shards::<W, J>(
-        alloc, &schema, ranges, opened,
+    let (held, engine, mut opener, mut admin) = opened_engine::<W, J>(
+        alloc, schema, ranges, opened, 0,
     )?;
-    let engine = Engine::new(schema, keyspaces, Buffer::new(0), Open);
-    let mut mine = seated(opener.open(&mut admin)?);
-    let mut theirs = seated(opener.open(&mut admin)?);
-    let [low, ..] = held.as_slice() else {
-        return Err(Refusal::NotSupported);
-    };
-    play(
+    let told = play_by_two(
         rt,
         alloc,
         &engine,
-        low,
-        &mut mine,
-        &mut theirs,
+        held.as_slice(),
+        &mut opener,
         &mut admin,
         acts,
-    )
+    );
+    drop(engine);
+    drop(held);
+    drop(opener);
+    drop(admin);
+    told
 }
 
-// The same in the world that has this VSchema and these ranges, and no rows.
-fn in_empty_world<W: World + Send + Sync>(
+// The same in a new journal.
+fn in_new_journal<W: World + Send + Sync>(
     rt: &(impl Threads + Wait + Sync),
     alloc: Global,
     schema: VSchema,
@@ -186,12 +231,8 @@ fn given(
     alloc: Global,
     acts: &[Act<'_>],
 ) -> Result<Vec<Told>, Fail> {
-    let schema = VSchema::read(alloc, SHOP)?;
-    let ranges = halves()?;
-    if !fits(alloc, &schema, &ranges)? {
-        return Err(Fail::new("no opening"));
-    }
-    Ok(in_empty_world::<Brand>(rt, alloc, schema, &ranges, acts)?)
+    let (schema, ranges) = shop(alloc)?;
+    Ok(in_new_journal::<Brand>(rt, alloc, schema, &ranges, acts)?)
 }
 
 #[test]

@@ -6,10 +6,8 @@ ghost use Rattle.shard.specs.Shards.{most_limits};
 ghost use Rattle.empty_opening.specs.Empty.{opening_of, FitRanges};
 
 use super::gates::told;
-use super::{SHOP, fits, halves};
-use crate::router::opened_shards;
-use buffer::Buffer;
-use journal::{Naming, Opened, Pass};
+use super::{open_two, opened_engine, shop};
+use journal::{Naming, Opened, Opener, Pass};
 use keyrange::KeyRange;
 use route_engine::{Engine, Open};
 use shard::{MOST_ENTRIES, Shard, ShardLaw, World};
@@ -66,49 +64,89 @@ pub(super) fn thaw<W: World, J: Naming>(
     false
 }
 
+/// What is answered where nobody may wait: the rows, while the first shard is frozen; a write to it, and one to the other shard; and the first
+/// write again, once the shard is thawed.
+type Told = [Result<u64, Refusal>; 4];
+
 // What a frozen shard's statements give where nobody may wait: a query of all rows, a write to it, one to the other shard, and once it is
 // thawed the write again.
+fn write_frozen<W: World + Send + Sync, J: Naming + Send + Sync>(
+    rt: &(impl Threads + Wait + Sync),
+    alloc: Global,
+    engine: &Engine<W, J, Open>,
+    low: &Shard<W, J>,
+    pass: &mut Pass<ShardLaw<W>, J>,
+) -> Result<Told, Refusal>
+    requires { IsSome pass.old.session }
+{
+    if !freeze(rt, low, pass) {
+        return Err(Refusal::NotSupported);
+    }
+    let rows = told(rt, alloc, engine, pass, ALL);
+    let refused = told(rt, alloc, engine, pass, FIRST);
+    let other = told(rt, alloc, engine, pass, OTHER);
+    if !thaw(rt, low, pass) {
+        return Err(Refusal::NotSupported);
+    }
+    let again = told(rt, alloc, engine, pass, FIRST);
+    Ok([rows, refused, other, again])
+}
+
+// The same by a session of its own.
+fn write_by_session<W: World + Send + Sync, J: Naming + Send + Sync>(
+    rt: &(impl Threads + Wait + Sync),
+    alloc: Global,
+    engine: &Engine<W, J, Open>,
+    held: &[Arc<Shard<W, J>, Global>],
+    opener: &mut Opener<ShardLaw<W>, J>,
+    first: &mut Pass<ShardLaw<W>, J>,
+) -> Result<Told, Refusal> {
+    let [low, ..] = held else {
+        return Err(Refusal::NotSupported);
+    };
+    match opener.open(first) {
+        Ok(pass) => {
+            let mut pass = pass;
+            let told = write_frozen(rt, alloc, engine, low, &mut pass);
+            drop(pass);
+            told
+        }
+        Err(refusal) => Err(refusal),
+    }
+}
+
+// The same of an engine without rows.
 fn without_room<W: World + Send + Sync, J: Naming + Send + Sync>(
     rt: &(impl Threads + Wait + Sync),
     alloc: Global,
     schema: VSchema,
     ranges: &[KeyRange],
     opened: Opened<ShardLaw<W>>,
-) -> Result<(Option<u64>, Result<u64, Refusal>, u64, u64), Refusal>
+) -> Result<Told, Refusal>
     requires opened { opened ≡ J.table }
     requires opening { W.opening ≡ opening_of schema ranges.now }
     requires limits { W.limits ≡ most_limits }
     requires formed { IsTrue (is_vschema schema) }
     requires fit { FitRanges schema ranges.now }
 {
-    let (held, keyspaces, mut opener, mut first) = opened_shards::<W, J>(
-        alloc, &schema, ranges, opened,
+    let (held, engine, mut opener, mut first) = opened_engine::<W, J>(
+        alloc, schema, ranges, opened, 0,
     )?;
-    let engine = Engine::new(schema, keyspaces, Buffer::new(0), Open);
-    let mut pass = opener.open(&mut first)?;
-    let [low, ..] = held.as_slice() else {
-        return Err(Refusal::NotSupported);
-    };
-    if !freeze(rt, low, &mut pass) {
-        return Err(Refusal::NotSupported);
-    }
-    let rows = told(rt, alloc, &engine, &mut pass, ALL).ok();
-    let refused = told(rt, alloc, &engine, &mut pass, FIRST);
-    let other = told(rt, alloc, &engine, &mut pass, OTHER)?;
-    if !thaw(rt, low, &mut pass) {
-        return Err(Refusal::NotSupported);
-    }
-    let again = told(rt, alloc, &engine, &mut pass, FIRST)?;
-    Ok((rows, refused, other, again))
+    let told = write_by_session(rt, alloc, &engine, held.as_slice(), &mut opener, &mut first);
+    drop(engine);
+    drop(held);
+    drop(opener);
+    drop(first);
+    told
 }
 
-// The same in the world that has this VSchema and these ranges, and no rows.
-fn without_room_in_empty_world<W: World + Send + Sync, R: Threads + Wait + Sync>(
-    rt: &R,
+// The same in a new journal.
+fn without_room_in_new_journal<W: World + Send + Sync>(
+    rt: &(impl Threads + Wait + Sync),
     alloc: Global,
     schema: VSchema,
     ranges: &[KeyRange],
-) -> Result<(Option<u64>, Result<u64, Refusal>, u64, u64), Refusal>
+) -> Result<Told, Refusal>
     requires opening { W.opening ≡ opening_of schema ranges.now }
     requires limits { W.limits ≡ most_limits }
     requires formed { IsTrue (is_vschema schema) }
@@ -121,18 +159,10 @@ fn without_room_in_empty_world<W: World + Send + Sync, R: Threads + Wait + Sync>
 #[test]
 fn always_buffer_full_would_refuse_what_is_not_frozen(rt: HostRuntime) -> Result<(), Fail> {
     let alloc = rt.alloc();
-    let schema = VSchema::read(alloc, SHOP)?;
-    let ranges = halves()?;
-    if !fits(alloc, &schema, &ranges)? {
-        return Err(Fail::new("no opening"));
-    }
-    let (rows, refused, other, again) = without_room_in_empty_world::<Brand, HostRuntime>(
-        &rt, alloc, schema, &ranges,
-    )?;
-    assert_eq!(rt; rows, Some(0));
-    assert_eq!(rt; refused, Err(Refusal::BufferFull));
-    assert_eq!(rt; other, 1);
-    assert_eq!(rt; again, 1);
+    let (schema, ranges) = shop(alloc)?;
+    let told = without_room_in_new_journal::<Brand>(&rt, alloc, schema, &ranges)?;
+    let wanted = [Ok(0), Err(Refusal::BufferFull), Ok(1), Ok(1)];
+    assert_eq!(rt; &told[..], &wanted[..]);
     Ok(())
 }
 
@@ -195,6 +225,50 @@ fn write_both<W: World + Send + Sync, J: Naming + Send + Sync, R: Threads + Wait
 }
 
 // What both give, and how many rows there are then.
+fn write_and_count<W: World + Send + Sync, J: Naming + Send + Sync, R: Threads + Wait + Sync>(
+    rt: &R,
+    alloc: Global,
+    engine: &Engine<W, J, Open>,
+    low: &Shard<W, J>,
+    opener: &mut Opener<ShardLaw<W>, J>,
+    seen: &mut Pass<ShardLaw<W>, J>,
+    last: &mut Pass<ShardLaw<W>, J>,
+) -> Result<(u64, Result<u64, Refusal>, u64), Refusal>
+    requires { IsSome last.old.session }
+{
+    if !freeze(rt, low, last) {
+        return Err(Refusal::NotSupported);
+    }
+    let (one, other) = open_two(opener, seen)?;
+    let (waited, second) = write_both(rt, alloc, engine, low, one, other);
+    let rows = told(rt, alloc, engine, last, ALL)?;
+    Ok((waited?, second, rows))
+}
+
+// The same, where a session of its own freezes the shard and counts the rows.
+fn write_by_three<W: World + Send + Sync, J: Naming + Send + Sync, R: Threads + Wait + Sync>(
+    rt: &R,
+    alloc: Global,
+    engine: &Engine<W, J, Open>,
+    held: &[Arc<Shard<W, J>, Global>],
+    opener: &mut Opener<ShardLaw<W>, J>,
+    seen: &mut Pass<ShardLaw<W>, J>,
+) -> Result<(u64, Result<u64, Refusal>, u64), Refusal> {
+    let [low, ..] = held else {
+        return Err(Refusal::NotSupported);
+    };
+    match opener.open(seen) {
+        Ok(pass) => {
+            let mut last = pass;
+            let told = write_and_count(rt, alloc, engine, low, opener, seen, &mut last);
+            drop(last);
+            told
+        }
+        Err(refusal) => Err(refusal),
+    }
+}
+
+// The same of an engine without rows.
 fn with_room_for_one<W: World + Send + Sync, J: Naming + Send + Sync, R: Threads + Wait + Sync>(
     rt: &R,
     alloc: Global,
@@ -208,26 +282,19 @@ fn with_room_for_one<W: World + Send + Sync, J: Naming + Send + Sync, R: Threads
     requires formed { IsTrue (is_vschema schema) }
     requires fit { FitRanges schema ranges.now }
 {
-    let (held, keyspaces, mut opener, mut seen) = opened_shards::<W, J>(
-        alloc, &schema, ranges, opened,
+    let (held, engine, mut opener, mut seen) = opened_engine::<W, J>(
+        alloc, schema, ranges, opened, 1,
     )?;
-    let engine = Engine::new(schema, keyspaces, Buffer::new(1), Open);
-    let one = opener.open(&mut seen)?;
-    let other = opener.open(&mut seen)?;
-    let mut last = opener.open(&mut seen)?;
-    let [low, ..] = held.as_slice() else {
-        return Err(Refusal::NotSupported);
-    };
-    if !freeze(rt, low, &mut last) {
-        return Err(Refusal::NotSupported);
-    }
-    let (waited, second) = write_both(rt, alloc, &engine, low, one, other);
-    let rows = told(rt, alloc, &engine, &mut last, ALL)?;
-    Ok((waited?, second, rows))
+    let told = write_by_three(rt, alloc, &engine, held.as_slice(), &mut opener, &mut seen);
+    drop(engine);
+    drop(held);
+    drop(opener);
+    drop(seen);
+    told
 }
 
-// The same in the world that has this VSchema and these ranges, and no rows.
-fn with_room_in_empty_world<W: World + Send + Sync, R: Threads + Wait + Sync>(
+// The same in a new journal.
+fn with_room_in_new_journal<W: World + Send + Sync, R: Threads + Wait + Sync>(
     rt: &R,
     alloc: Global,
     schema: VSchema,
@@ -245,12 +312,8 @@ fn with_room_in_empty_world<W: World + Send + Sync, R: Threads + Wait + Sync>(
 #[test]
 fn buffered_statement_commits_twice_would_add_two_rows(rt: HostRuntime) -> Result<(), Fail> {
     let alloc = rt.alloc();
-    let schema = VSchema::read(alloc, SHOP)?;
-    let ranges = halves()?;
-    if !fits(alloc, &schema, &ranges)? {
-        return Err(Fail::new("no opening"));
-    }
-    let (waited, second, rows) = with_room_in_empty_world::<Brand, HostRuntime>(
+    let (schema, ranges) = shop(alloc)?;
+    let (waited, second, rows) = with_room_in_new_journal::<Brand, HostRuntime>(
         &rt, alloc, schema, &ranges,
     )?;
     assert_eq!(rt; waited, 1);
