@@ -13,6 +13,7 @@ trap 'rm -rf "$work"' EXIT
 "$program" costly "${COSTLY:-100000}" rates > "$work/costly"
 "$program" entries "${ENTRIES:-1000000}" rates > "$work/entries"
 "$program" queries "${ROWS:-1000}" rates > "$work/queries"
+"$program" queries 1 rates > "$work/few"
 "$program" store "${STORE:-1000000}" rates > "$work/store"
 "$program" writes "${WRITES:-4000}" rates > "$work/writes"
 python3 "$top/bench/tables.py" "$work" > "$work/page"

@@ -79,6 +79,16 @@ def queries(lines):
     print(f"\n{planning[:1].upper()}{planning[1:]}.")
 
 
+def few(lines):
+    print("\n## Queries over one row a shard\n\nThe same over one row in each shard, read by the session's own thread. The ratio is to a point query over as many shards.")
+    rows, point = [], 0
+    for shards, _, name, nanos in filter(None, map(query_line, lines)):
+        point = nanos if name == "point" else point
+        if name in ("point", "scatter"):
+            rows.append((name, shards, f"{nanos / 1000:.1f}", ratio(nanos, point)))
+    table(("query", "shards", "microseconds", "ratio"), rows)
+
+
 def store(lines):
     print("\n## A store of rows\n\nMicroseconds a statement on one shard of few rows and on one of many, and a row of its loading by INSERTs of 1,000 rows. A SELECT")
     print("and an UPDATE by the whole primary key, and an INSERT of one row, look the key up; LIMIT 1 ends with its row, COUNT(*) walks all rows.")
@@ -100,7 +110,7 @@ def writes(lines):
 def main():
     folder = pathlib.Path(sys.argv[1])
     print(HEAD.format(day=datetime.date.today(), cores=os.cpu_count()), end="")
-    for name, write in (("texts", texts), ("costly", costly), ("entries", entries), ("queries", queries), ("store", store), ("writes", writes)):
+    for name, write in (("texts", texts), ("costly", costly), ("entries", entries), ("queries", queries), ("few", few), ("store", store), ("writes", writes)):
         write((folder / name).read_text().splitlines())
 
 
