@@ -196,7 +196,7 @@ fn run_in<T: Send + Drop, R: Threads + Wait + Sync, F: Fn(T) + Sync, E: Entrance
 }
 
 // Promise: Threads that serve return only once the entrance has no more connections
-// Refuses: run_lets_nothing_in, vtgate_main::serve_lets_in_one_too_few
+// Refuses: run_lets_nothing_in, vtgate_serve::serve_lets_in_one_too_few
 /// Lets in the connections of the entrance, in order, and has `serve` serve each, in one of so many threads. Each waits in a queue of this
 /// capacity for a thread that is free; where it is full, the next one is let in once a thread took one. Returns once the entrance has
 /// no more and all are served, and refuses only where there is no memory for the queue, or where no thread could be started.

@@ -104,7 +104,7 @@ fn is_word(word: &String, bytes: &[u8]) -> bool
 // With: vtgate_main::run
 // Clauses: found, none, serve, unserved, wrong
 // Refuses: leading_zeros_are_read, upper_case_digits_are_read, vtgate_main::wrong_words_succeed, vtgate_main::another_word_is_taken,
-// vtgate_main::serve_says_nothing
+// vtgate_serve::serve_says_nothing
 /// What the words ask for, where they are the words of `serve`.
 pub fn read_words(words: &[String]) -> Option<Asked<'_>>
     ensures found { IfSome result (λ a. Asks (map string_bytes words.now) a) }

@@ -1,10 +1,1 @@
 pub mod PlanWords
-pub mod Passes
-pub mod Typing
-pub mod Printing
-pub mod Among
-pub mod Places
-pub mod Knowing
-pub mod Scripts
-pub mod Fits
-pub mod Sent

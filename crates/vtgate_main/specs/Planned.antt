@@ -1,22 +1,11 @@
 -- What `vtgate plan` reads and prints.
-use Rattle.std.specs.Prelude.{◌≡◌, ℕ, List, Option, Ok}
-use Rattle.std.specs.Io.KnownBytes.{Appends, Consumes, IsAtEnd}
+use Rattle.std.specs.Prelude.{ℕ, List}
+use Rattle.std.specs.Io.KnownBytes.{Appends}
 use Rattle.keyrange.specs.declared.KeyRange.{KeyRange}
 use Rattle.vschema.specs.declared.schema.VSchema.{VSchema}
-use Rattle.vschema.specs.Faults.{contents, schema_read}
 use Rattle.vtgate_lines.specs.Partitions.{NamesPartition}
 use Rattle.vtgate_lines.specs.Plans.{IsPlanLine}
-
--- the bytes that a device has left or has taken, where they are known
-abbrev pub Known : Type 0
-Known = Option (List ℕ)
-
--- the input was read to its end, and declares the VSchema
-pub record HasDeclared (unread rest : Known) (schema : VSchema) : Type 0 where
-  pub text : List ℕ
-  pub consumed : Consumes unread rest text
-  pub end : IsAtEnd rest
-  pub declared : schema_read text ≡ Ok (contents schema)
+use Rattle.vtgate_input.specs.Inputs.{Known, HasDeclared}
 
 -- the line of the statement's plan, under the VSchema of the input and over the ranges that the word of the shards tells
 pub record IsPlanned (shards sql : List ℕ) (unread rest : Known) (line : List ℕ) : Type 0 where

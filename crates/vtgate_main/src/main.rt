@@ -3,23 +3,18 @@
 
 #[cfg(test)]
 mod failing_devices;
-mod fault;
-mod input;
 mod plan;
 mod run;
-mod script;
-mod serve;
-mod sessions;
-mod setup;
 #[cfg(test)]
 mod status_tests;
 
-use run::{FAILED, FAILURE, run};
+use run::run;
 use session::{Reader, Sink, Writer};
 use std::alloc::Global;
 use std::process::ExitCode;
 use std::rt::Env;
 use std::{env, io};
+use vtgate_input::{FAILED, FAILURE};
 
 fn words<R: Env + AllocGlobal>(rt: &R, alloc: Global) -> io::Result<Vec<String>> {
     let mut words = Vec::new(alloc);

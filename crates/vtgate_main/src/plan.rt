@@ -2,15 +2,13 @@
 ghost use Rattle.std.specs.Prelude.{◌≡◌, List, IfOk};
 ghost use Rattle.keyrange.specs.declared.KeyRange.{KeyRange};
 ghost use Rattle.vtgate_lines.specs.Partitions.{NamesPartition};
-ghost use Rattle.vtgate_main.specs.Planned.{HasDeclared, IsPlanned, HasPlanned};
+ghost use Rattle.vtgate_input.specs.Inputs.{HasDeclared};
+ghost use Rattle.vtgate_main.specs.Planned.{IsPlanned, HasPlanned};
 
-use crate::fault::{Fault, refuse};
-use crate::input::read_all;
-use crate::run::SUCCESS;
-use crate::setup::{has_too_many, ranges_of, schema_of};
 use session::{Sink, Source};
 use std::alloc::Global;
 use vschema::VSchema;
+use vtgate_input::{Fault, SUCCESS, has_too_many, ranges_of, read_all, refuse, schema_of};
 use vtgate_lines::plan_line;
 
 fn read_schema<I: Source>(alloc: Global, input: &mut I) -> Result<VSchema, Fault>

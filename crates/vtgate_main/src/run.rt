@@ -6,12 +6,10 @@ ghost use Rattle.serve_lines.specs.Asking.{Asking, Asks};
 ghost use Rattle.vtgate_lines.specs.Partitions.{NamesPartition};
 ghost use Rattle.vtgate_main.specs.Words.{is_plan, is_script};
 ghost use Rattle.vtgate_main.specs.Planned.{HasPlanned};
-ghost use Rattle.vtgate_main.specs.Scripted.{HasScripted};
-ghost use Rattle.vtgate_main.specs.Served.{HasServed};
+ghost use Rattle.vtgate_script.specs.Scripted.{HasScripted};
+ghost use Rattle.vtgate_serve.specs.Served.{HasServed};
 
 use crate::plan::run_plan;
-use crate::script::run_script;
-use crate::serve::run_serve;
 use serve_lines::read_words;
 use session::{Sink, Source};
 use std::alloc::Global;
@@ -19,27 +17,9 @@ use std::net::{Net, TcpListener, TcpStream};
 use std::sync::Wait;
 use std::thread::Threads;
 use std::time::Clock;
-
-/// The status of a run that did its work.
-pub const SUCCESS: u8 = 0;
-
-/// The status of a run that failed.
-pub const FAILURE: u8 = 1;
-
-/// The status of a run whose words are wrong.
-pub const WRONG_WORDS: u8 = 2;
-
-/// How to call the program.
-pub const USAGE: &[u8] = b"usage: vtgate serve|plan|script\n";
-
-/// What a run says that can't bind a port.
-pub const CANNOT_BIND: &[u8] = b"cannot bind\n";
-
-/// What a run says that failed.
-pub const FAILED: &[u8] = b"failed\n";
-
-/// What a script says that has no memory.
-pub const OUT_OF_MEMORY: &[u8] = b"out of memory\n";
+use vtgate_input::{SUCCESS, USAGE, WRONG_WORDS};
+use vtgate_script::run_script;
+use vtgate_serve::run_serve;
 
 fn is_word(word: &String, bytes: &[u8]) -> bool
     ensures { result ≡ bytes_eq (string_bytes word.now) bytes.now }
@@ -71,19 +51,20 @@ fn script_words(words: &[String]) -> Option<&str>
 
 // Promise: `vtgate plan` reads its whole input and writes exactly that line; wrong ranges are refused before anything is read
 // Clauses: plan, untouched, wrong
-// Refuses: plan_of_the_shards, plan_under_half_the_input, refused_plan_succeeds
+// Refuses: plan_of_the_shards, vtgate_input::plan_under_half_the_input, refused_plan_succeeds
 // Promise: `vtgate script` reads its whole input; its first line is the VSchema, and for each line behind it exactly what it gives is
 // written, in order: for a statement what its text may give its session, behind all that the lines before it have seen and in its open
 // transaction; for an admin line what it did to the workflow of the sharded keyspace, by the controller's pass, which has seen what all
 // lines before it have; `unknown` for any other line
 // Clauses: script, unread, wrong
-// Refuses: script_runs_empty_lines, admin_line_is_ok, script_halves_counts, names_of_one_length_are_one, sessions_meet_too_late,
-// script_forgets_transactions, sixty_four_ranges_beside_another_shard, vschema_line_is_run, unwritten_script_succeeds
+// Refuses: vtgate_script::script_runs_empty_lines, vtgate_script::admin_line_is_ok, vtgate_script::script_halves_counts,
+// vtgate_script::names_of_one_length_are_one, vtgate_script::sessions_meet_too_late, vtgate_script::script_forgets_transactions,
+// vtgate_input::sixty_four_ranges_beside_another_shard, vtgate_script::vschema_line_is_run, vtgate_script::unwritten_script_succeeds
 // Promise: A script's lines are over one database, from the opening rows on: what a statement prints is what its text gives over the
 // database that the lines before it left, in its session's open transaction if one is; nobody but a line's session commits in it, and an
 // admin line commits nothing
 // Clauses: script
-// Refuses: script_forgets_a_line, first_session_confirms_nothing
+// Refuses: vtgate_script::script_forgets_a_line, vtgate_script::first_session_confirms_nothing
 /// Runs the program with the words of its command line, and gives its exit status. `plan`, with the word of the shards and a statement,
 /// prints the line of the statement's plan under the VSchema that the whole input declares: 0, or 1 where the statement is refused, whose
 /// line is printed, where a device fails or there is no memory. `script`, with the word of the shards, runs the lines behind the first,

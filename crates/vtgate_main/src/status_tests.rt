@@ -22,12 +22,42 @@ const USAGE: &[u8] = b"usage: vtgate serve|plan|script\n";
 /// A run's status, its output, and what is told of an error.
 type Left<'l> = (u8, &'l [u8], &'l [u8]);
 
-fn words_of(alloc: Global, words: &[&str]) -> Result<Vec<String>, Fail> {
-    let mut given = Vec::new(alloc);
+/// The words of a run, its input, and what it leaves.
+type Case<'c> = (&'c [&'c str], &'c [u8], Left<'c>);
+
+fn put_words(alloc: Global, words: &[&str], given: &mut Vec<String>) -> Result<(), Fail> {
     for word in words {
         given.push(String::from_str(alloc, word)?)?;
     }
-    Ok(given)
+    Ok(())
+}
+
+fn words_of(alloc: Global, words: &[&str]) -> Result<Vec<String>, Fail> {
+    let mut given = Vec::new(alloc);
+    match put_words(alloc, words, &mut given) {
+        Ok(()) => Ok(given),
+        Err(fail) => Err(fail),
+    }
+}
+
+fn is_left(status: u8, output: &[u8], errors: &[u8], wanted: Left) -> bool {
+    let (wanted_status, wanted_output, told) = wanted;
+    status == wanted_status && output == wanted_output && errors == told
+}
+
+// Whether a run with these words leaves this.
+fn runs_to<R: Threads + Wait + Sync + Clock + Net<Listener = TcpListener, Stream = TcpStream>>(
+    rt: &R,
+    alloc: Global,
+    words: &[String],
+    input: &[u8],
+    wanted: Left,
+) -> bool {
+    let mut input = Reader::new(input);
+    let mut output = Writer::new(Vec::new(alloc));
+    let mut errors = Writer::new(Vec::new(alloc));
+    let status = run(rt, alloc, words, &mut input, &mut output, &mut errors);
+    is_left(status, &output.writer, &errors.writer, wanted)
 }
 
 /// Whether the program leaves this where it is run with these words.
@@ -39,26 +69,52 @@ fn leaves<R: Threads + Wait + Sync + Clock + Net<Listener = TcpListener, Stream 
     wanted: Left,
 ) -> Result<bool, Fail> {
     let given = words_of(alloc, words)?;
-    let mut input = Reader::new(input);
-    let mut output = Writer::new(Vec::new(alloc));
-    let mut errors = Writer::new(Vec::new(alloc));
-    let status = run(rt, alloc, &given, &mut input, &mut output, &mut errors);
-    let (wanted_status, wanted_output, told) = wanted;
-    Ok(
-        status == wanted_status
-            && output.writer.as_slice() == wanted_output
-            && errors.writer.as_slice() == told,
-    )
+    Ok(runs_to(rt, alloc, &given, input, wanted))
 }
+
+/// Whether each run leaves what it should.
+fn all_leave<R: Threads + Wait + Sync + Clock + Net<Listener = TcpListener, Stream = TcpStream>>(
+    rt: &R,
+    alloc: Global,
+    cases: &[Case],
+) -> Result<bool, Fail> {
+    for (words, input, wanted) in cases {
+        if !leaves(rt, alloc, words, input, *wanted)? {
+            return Ok(false);
+        }
+    }
+    Ok(true)
+}
+
+/// Whether `plan` of the statement and `script` leave this, over the shards that the word tells.
+fn both_leave<R: Threads + Wait + Sync + Clock + Net<Listener = TcpListener, Stream = TcpStream>>(
+    rt: &R,
+    alloc: Global,
+    shards: &str,
+    sql: &str,
+    input: &[u8],
+    planned: Left,
+    scripted: Left,
+) -> Result<bool, Fail> {
+    if !leaves(rt, alloc, &["plan", shards, sql], input, planned)? {
+        return Ok(false);
+    }
+    leaves(rt, alloc, &["script", shards], input, scripted)
+}
+
+/// A plan, and one that is refused.
+const PLANS: [Case; 2] = [
+    (&["plan", "-", "BEGIN"], BOTH, (0, b"None:\n", b"")),
+    (
+        &["plan", "-", "SELEC"],
+        BOTH,
+        (1, b"ERROR 1064 (42000): syntax error\n", b""),
+    ),
+];
 
 #[test]
 fn a_plan_succeeds_where_it_is_not_refused(rt: HostRuntime) -> Result<(), Fail> {
-    let alloc = rt.alloc();
-    let words = ["plan", "-", "BEGIN"];
-    assert!(rt; leaves(&rt, alloc, &words, BOTH, (0, b"None:\n", b""))?);
-    let words = ["plan", "-", "SELEC"];
-    let refused = b"ERROR 1064 (42000): syntax error\n";
-    assert!(rt; leaves(&rt, alloc, &words, BOTH, (1, refused, b""))?);
+    assert!(rt; all_leave(&rt, rt.alloc(), &PLANS)?);
     Ok(())
 }
 
@@ -71,12 +127,9 @@ fn a_script_may_have_no_lines(rt: HostRuntime) -> Result<(), Fail> {
 
 #[test]
 fn wrong_words_come_before_the_input(rt: HostRuntime) -> Result<(), Fail> {
-    let alloc = rt.alloc();
     for shards in ["", "-80", "-80,40-", "x", "-80,80-,"] {
-        let words = ["plan", shards, "BEGIN"];
-        assert!(rt; leaves(&rt, alloc, &words, b"no VSchema", (2, b"", USAGE))?);
-        let words = ["script", shards];
-        assert!(rt; leaves(&rt, alloc, &words, b"no VSchema", (2, b"", USAGE))?);
+        let input = b"no VSchema";
+        assert!(rt; take(&rt, rt.alloc(), shards, &[input], false)?, "{shards}");
     }
     Ok(())
 }
@@ -106,58 +159,83 @@ const WRONG: [(usize, &str); 17] = [
     (8, "2470c0c06dee42fd1618bb99005adca2ec9d1e1g"),
 ];
 
+/// Whether `serve` tells its usage where the word at the place is this.
+fn refuses_word<R: Threads + Wait + Sync + Clock + Net<Listener = TcpListener, Stream = TcpStream>>(
+    rt: &R,
+    alloc: Global,
+    place: usize,
+    wrong: &str,
+) -> Result<bool, Fail> {
+    let mut words = SERVE;
+    if let Some(word) = words.get_mut(place) {
+        *word = wrong;
+    }
+    leaves(rt, alloc, &words, b"no VSchema", (2, b"", USAGE))
+}
+
 #[test]
 fn each_wrong_word_of_serve_is_refused(rt: HostRuntime) -> Result<(), Fail> {
-    let alloc = rt.alloc();
     for (place, wrong) in &WRONG {
-        let mut words = SERVE;
-        if let Some(word) = words.get_mut(*place) {
-            *word = wrong;
-        }
-        assert!(rt;
-            leaves(&rt, alloc, &words, b"no VSchema", (2, b"", USAGE))?,
-            "{wrong}"
-        );
+        assert!(rt; refuses_word(&rt, rt.alloc(), *place, wrong)?, "{wrong}");
     }
-    assert!(rt; leaves(&rt, alloc, &SERVE[..9], b"no VSchema", (2, b"", USAGE))?);
     Ok(())
 }
+
+/// Ports that can't be bound, and a VSchema that is none, which comes first.
+const UNBOUND: [Case; 2] = [
+    (&SERVE, BOTH, (1, b"", b"cannot bind\n")),
+    (&SERVE, b"{", (2, b"", b"VSchema V1\n")),
+];
 
 #[test]
 fn a_port_that_cannot_be_bound_ends_serve(rt: HostRuntime) -> Result<(), Fail> {
-    let alloc = rt.alloc();
-    assert!(rt; leaves(&rt, alloc, &SERVE, BOTH, (1, b"", b"cannot bind\n"))?);
-    assert!(rt; leaves(&rt, alloc, &SERVE, b"{", (2, b"", b"VSchema V1\n"))?);
+    assert!(rt; all_leave(&rt, rt.alloc(), &UNBOUND)?);
     Ok(())
 }
+
+/// Admin lines, of which one is none.
+const BOTH_WITH_LINES: &[u8] =
+    b"{\"keyspaces\":{\"shop\":{\"sharded\":true,\"vindexes\":{},\"tables\":{}},\"base\":{\"sharded\":false,\"tables\":{}}}}\n! status\n! status \n! step\n";
+
+const UNSHARDED_WITH_LINE: &[u8] =
+    b"{\"keyspaces\":{\"base\":{\"sharded\":false,\"tables\":{}}}}\n! status";
+
+const STATUSES: [Case; 2] = [
+    (
+        &["script", "80-,-80"],
+        BOTH_WITH_LINES,
+        (0, b"serving -80 80- none\nunknown\nN4\n", b""),
+    ),
+    (
+        &["script", "-"],
+        UNSHARDED_WITH_LINE,
+        (0, b"serving none\n", b""),
+    ),
+];
 
 #[test]
 fn a_script_tells_its_status(rt: HostRuntime) -> Result<(), Fail> {
-    let alloc = rt.alloc();
-    let mut input = BOTH.to_vec(alloc)?;
-    input.extend_from_slice(b"\n! status\n! status \n! step\n")?;
-    let told = b"serving -80 80- none\nunknown\nN4\n";
-    assert!(rt; leaves(&rt, alloc, &["script", "80-,-80"], &input, (0, told, b""))?);
-    let mut input = UNSHARDED.to_vec(alloc)?;
-    input.extend_from_slice(b"\n! status")?;
-    assert!(rt;
-        leaves(
-            &rt,
-            alloc,
-            &["script", "-"],
-            &input,
-            (0, b"serving none\n", b"")
-        )?
-    );
+    assert!(rt; all_leave(&rt, rt.alloc(), &STATUSES)?);
     Ok(())
 }
 
+/// Words of no run, the last of which lack the nonce.
+const NO_WORDS: [Case; 4] = [
+    (&[], b"", (2, b"", USAGE)),
+    (&["x"], b"", (2, b"", USAGE)),
+    (&["first"], b"", (2, b"", USAGE)),
+    (
+        &[
+            "serve", "-80,80-", "nowhere", "nowhere", "1", "1", "1", "u", "-",
+        ],
+        b"no VSchema",
+        (2, b"", USAGE),
+    ),
+];
+
 #[test]
 fn the_program_tells_its_usage(rt: HostRuntime) -> Result<(), Fail> {
-    let alloc = rt.alloc();
-    assert!(rt; leaves(&rt, alloc, &[], b"", (2, b"", USAGE))?);
-    assert!(rt; leaves(&rt, alloc, &["x"], b"", (2, b"", USAGE))?);
-    assert!(rt; leaves(&rt, alloc, &["first"], b"", (2, b"", USAGE))?);
+    assert!(rt; all_leave(&rt, rt.alloc(), &NO_WORDS)?);
     Ok(())
 }
 
@@ -172,12 +250,17 @@ const FAULTS: [(&[u8], &[u8]); 5] = [
 
 #[test]
 fn faults_of_a_vschema_are_told(rt: HostRuntime) -> Result<(), Fail> {
-    let alloc = rt.alloc();
     for (input, told) in &FAULTS {
-        let words = ["plan", "-", "SELEC"];
-        assert!(rt; leaves(&rt, alloc, &words, input, (2, b"", told))?);
-        let words = ["script", "-"];
-        assert!(rt; leaves(&rt, alloc, &words, input, (2, b"", told))?);
+        let left: Left = (2, b"", told);
+        assert!(rt; both_leave(&rt, rt.alloc(), "-", "SELEC", input, left, left)?);
+    }
+    Ok(())
+}
+
+fn put_ranges(alloc: Global, count: u8, word: &mut String) -> Result<(), Fail> {
+    for edge in 1..count {
+        let part = format!(in alloc; "{edge:02x},{edge:02x}-")?;
+        word.push_str(part.as_str())?;
     }
     Ok(())
 }
@@ -185,14 +268,13 @@ fn faults_of_a_vschema_are_told(rt: HostRuntime) -> Result<(), Fail> {
 /// So many ranges: `-01,01-02,..`.
 fn many(alloc: Global, count: u8) -> Result<String, Fail> {
     let mut word = String::from_str(alloc, "-")?;
-    for edge in 1..count {
-        let part = format!(in alloc; "{edge:02x},{edge:02x}-")?;
-        word.push_str(part.as_str())?;
+    match put_ranges(alloc, count, &mut word) {
+        Ok(()) => Ok(word),
+        Err(fail) => Err(fail),
     }
-    Ok(word)
 }
 
-/// Whether `plan` and `script` take so many ranges under each of the inputs, or tell their usage.
+/// Whether `plan` and `script` take these ranges under each of the inputs, or tell their usage.
 fn take<R: Threads + Wait + Sync + Clock + Net<Listener = TcpListener, Stream = TcpStream>>(
     rt: &R,
     alloc: Global,
@@ -206,33 +288,40 @@ fn take<R: Threads + Wait + Sync + Clock + Net<Listener = TcpListener, Stream = 
         ((2, b"", USAGE), (2, b"", USAGE))
     };
     for input in inputs {
-        if !leaves(rt, alloc, &["plan", shards, "BEGIN"], input, planned)?
-            || !leaves(rt, alloc, &["script", shards], input, scripted)?
-        {
+        if !both_leave(rt, alloc, shards, "BEGIN", input, planned, scripted)? {
             return Ok(false);
         }
     }
     Ok(true)
 }
 
+/// Whether they take so many ranges.
+fn take_many<R: Threads + Wait + Sync + Clock + Net<Listener = TcpListener, Stream = TcpStream>>(
+    rt: &R,
+    alloc: Global,
+    count: u8,
+    inputs: &[&[u8]],
+    taken: bool,
+) -> Result<bool, Fail> {
+    let shards = many(alloc, count)?;
+    take(rt, alloc, shards.as_str(), inputs, taken)
+}
+
 #[test]
 fn a_sharded_keyspace_may_have_64_ranges(rt: HostRuntime) -> Result<(), Fail> {
-    let most = many(rt.alloc(), 64)?;
-    assert!(rt; take(&rt, rt.alloc(), most.as_str(), &[SHARDED], true)?);
+    assert!(rt; take_many(&rt, rt.alloc(), 64, &[SHARDED], true)?);
     Ok(())
 }
 
 #[test]
 fn an_unsharded_keyspace_leaves_room_for_63_ranges(rt: HostRuntime) -> Result<(), Fail> {
-    let fewer = many(rt.alloc(), 63)?;
-    assert!(rt; take(&rt, rt.alloc(), fewer.as_str(), &[UNSHARDED, BOTH], true)?);
+    assert!(rt; take_many(&rt, rt.alloc(), 63, &[UNSHARDED, BOTH], true)?);
     Ok(())
 }
 
 #[test]
 fn an_unsharded_keyspace_leaves_no_room_for_64_ranges(rt: HostRuntime) -> Result<(), Fail> {
-    let most = many(rt.alloc(), 64)?;
-    assert!(rt; take(&rt, rt.alloc(), most.as_str(), &[UNSHARDED, BOTH], false)?);
+    assert!(rt; take_many(&rt, rt.alloc(), 64, &[UNSHARDED, BOTH], false)?);
     Ok(())
 }
 

@@ -1,0 +1,87 @@
+//! Why a run has failed, and its status.
+ghost use Rattle.std.specs.Prelude.{◌≢◌};
+
+use itoa::Buffer;
+use session::Sink;
+use vschema::SchemaFault;
+use vt_value::Refusal;
+use vtgate_lines::refusal_line;
+
+/// The status of a run that did its work.
+pub const SUCCESS: u8 = 0;
+
+/// The status of a run that failed.
+pub const FAILURE: u8 = 1;
+
+/// The status of a run whose words are wrong.
+pub const WRONG_WORDS: u8 = 2;
+
+/// How to call the program.
+pub const USAGE: &[u8] = b"usage: vtgate serve|plan|script\n";
+
+/// What a run says that can't bind a port.
+pub const CANNOT_BIND: &[u8] = b"cannot bind\n";
+
+/// What a run says that failed.
+pub const FAILED: &[u8] = b"failed\n";
+
+/// What a script says that has no memory.
+pub const OUT_OF_MEMORY: &[u8] = b"out of memory\n";
+
+/// Why a run has failed.
+#[derive(Clone, Copy, Debug)]
+pub enum Fault {
+    /// The words of the command line are wrong.
+    WrongWords,
+    /// The input declares no VSchema.
+    Schema(SchemaFault),
+    /// The statement of a plan is refused.
+    Refused(Refusal),
+    /// There is no memory.
+    OutOfMemory,
+    /// A port can't be bound.
+    CannotBind,
+    /// A device failed.
+    Failed,
+}
+
+fn put_schema_fault<E: Sink>(errors: &mut E, fault: SchemaFault) {
+    if let Some(number) = fault.number() {
+        let mut buffer = Buffer::new();
+        let _ = errors.write(b"VSchema V");
+        let _ = errors.write(buffer.format(number).as_bytes());
+        let _ = errors.write(b"\n");
+    }
+}
+
+/// Tells why a run has failed, and gives its status.
+pub fn refuse<O: Sink, E: Sink>(fault: Fault, output: &mut O, errors: &mut E) -> u8
+    ensures { result ≢ SUCCESS }
+{
+    match fault {
+        Fault::WrongWords => {
+            let _ = errors.write(USAGE);
+            WRONG_WORDS
+        }
+        Fault::Schema(fault) => {
+            put_schema_fault(errors, fault);
+            WRONG_WORDS
+        }
+        Fault::Refused(refusal) => {
+            let _ = output.write(refusal_line(refusal).as_slice());
+            FAILURE
+        }
+        Fault::OutOfMemory => {
+            let _ = errors.write(OUT_OF_MEMORY);
+            FAILURE
+        }
+        Fault::CannotBind => {
+            let _ = errors.write(CANNOT_BIND);
+            FAILURE
+        }
+        Fault::Failed => {
+            let _ = errors.write(FAILED);
+            FAILURE
+        }
+    }
+}

@@ -1,8 +1,0 @@
-use Rattle.std.proofs.Common.{◌≡◌}
-use Rattle.empty_opening.specs.Empty.{sharded_keyspace}
-use Rattle.administration.specs.Told.{keyspace_of}
-use Rattle.vtgate_main.proofs.serve.admin_port.serve_admin.Given as goal
-
--- the administrator stays that of the engine's sharded keyspace
-abbrev pub invariant-loop : goal.invariant-loop
-invariant-loop g l = keyspace_of l.administrator ≡ sharded_keyspace l.engine

@@ -1,7 +1,0 @@
-use Rattle.shard.specs.Shards.{most_limits}
-use Rattle.empty_opening.specs.Empty.{opening_of}
-use Rattle.vtgate_main.proofs.serve.serve_over.Given as goal
-
--- the world of this VSchema and these ranges, without rows
-abbrev pub ghosts-serve_in_world : goal.ghosts-serve_in_world
-ghosts-serve_in_world g a = record { opening = opening_of a.schema a.ranges.now; limits = most_limits }

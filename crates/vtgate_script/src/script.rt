@@ -1,0 +1,186 @@
+//! `vtgate script`: lines that are run in order, on one thread.
+ghost use Rattle.std.specs.Prelude.{◌≡◌, ℕ, List, [], None, IsTrue, IfOk, OnOk, Ok};
+ghost use Rattle.keyrange.specs.declared.KeyRange.{KeyRange};
+ghost use Rattle.vschema.specs.Faults.{contents, schema_read};
+ghost use Rattle.vschema.specs.WellFormed.{is_vschema};
+ghost use Rattle.shard.specs.Shards.{most_limits};
+ghost use Rattle.journal.specs.Views.{new_pass};
+ghost use Rattle.empty_opening.specs.Empty.{opening_of, sharded_keyspace, FitRanges};
+ghost use Rattle.administration.specs.Told.{keyspace_of};
+ghost use Rattle.administered_opening.specs.Idle.{opening_workflow};
+ghost use Rattle.vtgate_lines.specs.Lines.{IsNextLine};
+ghost use Rattle.vtgate_lines.specs.Partitions.{NamesPartition};
+ghost use Rattle.vtgate_script.specs.Scripted.{HasGiven, HasScripted};
+
+use crate::sessions::{Sessions, run_lines};
+use administered_opening::administered_router;
+use administration::Administrator;
+use journal::{Naming, Opened, Opener, Pass};
+use keyrange::KeyRange;
+use route_engine::{Engine, Open};
+use session::{Sink, Source};
+use shard::{ShardLaw, World};
+use std::alloc::Global;
+use std::marker::Brand;
+use std::sync::Wait;
+use std::thread::Threads;
+use vschema::{SchemaFault, VSchema};
+use vtgate_input::{Fault, SUCCESS, has_too_many, ranges_of, read_all, refuse, schema_of};
+use vtgate_lines::next_line;
+
+// The lines, run by the engine and the administrator of its sharded keyspace.
+fn run_router<W: World + Send + Sync, J: Naming + Send + Sync, R: Threads + Wait + Sync, O: Sink>(
+    rt: &R,
+    alloc: Global,
+    engine: &Engine<W, J, Open>,
+    mut administrator: Administrator<W, J>,
+    opener: Opener<ShardLaw<W>, J>,
+    pass: Pass<ShardLaw<W>, J>,
+    lines: &[u8],
+    output: &mut O,
+) -> Result<(), Fault>
+    requires home { keyspace_of administrator ≡ sharded_keyspace engine.now }
+    requires limits { W.limits ≡ most_limits }
+    requires opener { opener ≡ 0 }
+    requires pass { pass ≡ new_pass [] None }
+    ensures { OnOk result (HasGiven W.opening administrator lines.now (O.taken output.old) (O.taken output.new)) }
+{
+    let mut sessions = Sessions::new(alloc, opener, pass);
+    run_lines(
+        rt,
+        alloc,
+        engine,
+        &mut administrator,
+        &mut sessions,
+        lines,
+        output,
+    )
+}
+
+// The lines, run over the VSchema and the ranges in the journal that was opened.
+fn run_opened<W: World + Send + Sync, J: Naming + Send + Sync, R: Threads + Wait + Sync, O: Sink>(
+    rt: &R,
+    alloc: Global,
+    schema: VSchema,
+    ranges: &[KeyRange],
+    opened: Opened<ShardLaw<W>>,
+    lines: &[u8],
+    output: &mut O,
+) -> Result<(), Fault>
+    requires name { opened ≡ J.table }
+    requires opening { W.opening ≡ opening_of schema ranges.now }
+    requires limits { W.limits ≡ most_limits }
+    requires schema { IsTrue (is_vschema schema) }
+    requires ranges { FitRanges schema ranges.now }
+    ensures { OnOk result (HasGiven (opening_of schema ranges.now) (opening_workflow schema ranges.now) lines.now (O.taken output.old) (O.taken output.new)) }
+{
+    match administered_router::<W, J, Open>(alloc, schema, ranges, opened, 0, Open) {
+        Err(_) => Err(Fault::OutOfMemory),
+        Ok((engine, administrator, opener, pass)) => run_router(
+            rt,
+            alloc,
+            &engine,
+            administrator,
+            opener,
+            pass,
+            lines,
+            output,
+        ),
+    }
+}
+
+// The same in the world that begins with this VSchema and these ranges, and no rows.
+fn run_in_world<W: World + Send + Sync, R: Threads + Wait + Sync, O: Sink>(
+    rt: &R,
+    alloc: Global,
+    schema: VSchema,
+    ranges: &[KeyRange],
+    lines: &[u8],
+    output: &mut O,
+) -> Result<(), Fault>
+    requires opening { W.opening ≡ opening_of schema ranges.now }
+    requires limits { W.limits ≡ most_limits }
+    requires schema { IsTrue (is_vschema schema) }
+    requires ranges { FitRanges schema ranges.now }
+    ensures { OnOk result (HasGiven (opening_of schema ranges.now) (opening_workflow schema ranges.now) lines.now (O.taken output.old) (O.taken output.new)) }
+{
+    let Ok(opened) = Opened::<ShardLaw<W>>::new(alloc) else {
+        return Err(Fault::OutOfMemory);
+    };
+    run_opened::<W, Brand, R, O>(rt, alloc, schema, ranges, opened, lines, output)
+}
+
+// The VSchema of the first line, over the ranges, and the other lines.
+fn begin<'l>(
+    alloc: Global,
+    ranges: &[KeyRange],
+    text: &'l [u8],
+) -> Result<(VSchema, &'l [u8]), Fault>
+    requires { (word : List ℕ) × NamesPartition word ranges.now }
+    ensures first { IfOk result (λ x. (first : List ℕ) × IsNextLine text.now first x.1.now × (schema_read first ≡ Ok (contents x.0))) }
+    ensures formed { IfOk result (λ x. IsTrue (is_vschema x.0)) }
+    ensures fit { IfOk result (λ x. FitRanges x.0 ranges.now) }
+{
+    let Some((first, lines)) = next_line(text) else {
+        return Err(Fault::Schema(SchemaFault::NotJson));
+    };
+    let schema = schema_of(alloc, first)?;
+    if has_too_many(&schema, ranges) {
+        return Err(Fault::WrongWords);
+    }
+    Ok((schema, lines))
+}
+
+// The lines, run over the VSchema and the ranges.
+fn run_over<R: Threads + Wait + Sync, O: Sink>(
+    rt: &R,
+    alloc: Global,
+    schema: VSchema,
+    ranges: &[KeyRange],
+    lines: &[u8],
+    output: &mut O,
+) -> Result<(), Fault>
+    requires schema { IsTrue (is_vschema schema) }
+    requires ranges { FitRanges schema ranges.now }
+    ensures { OnOk result (HasGiven (opening_of schema ranges.now) (opening_workflow schema ranges.now) lines.now (O.taken output.old) (O.taken output.new)) }
+{
+    run_in_world::<Brand, R, O>(rt, alloc, schema, ranges, lines, output)
+}
+
+fn scripted<R: Threads + Wait + Sync, I: Source, O: Sink>(
+    rt: &R,
+    alloc: Global,
+    shards: &str,
+    input: &mut I,
+    output: &mut O,
+) -> Result<(), Fault>
+    ensures ok { OnOk result (HasScripted shards.now (I.unread input.old) (I.unread input.new) (O.taken output.old) (O.taken output.new)) }
+    ensures untouched { ((ranges : List KeyRange) → NamesPartition shards.now ranges → ⊥) → (input.new ≡ input.old) × (output.new ≡ output.old) }
+{
+    let ranges = ranges_of(alloc, shards)?;
+    let text = read_all(alloc, input)?;
+    let (schema, lines) = begin(alloc, &ranges, &text)?;
+    run_over(rt, alloc, schema, &ranges, lines, output)
+}
+
+/// Runs the lines of an input, of which the first declares the VSchema, over the ranges that the word of the shards tells, and gives the
+/// status 0. What is printed for a line is written before the next is run. The status is 1 where a device fails or there is no memory for
+/// the input, for what it runs over or for a session; and 2 where the word tells no ranges, or more than 63 beside an unsharded keyspace,
+/// and where the first line declares no VSchema. The word is tested before the input is read.
+pub fn run_script<R: Threads + Wait + Sync, I: Source, O: Sink, E: Sink>(
+    rt: &R,
+    alloc: Global,
+    shards: &str,
+    input: &mut I,
+    output: &mut O,
+    errors: &mut E,
+) -> u8
+    ensures scripted { result ≡ SUCCESS → HasScripted shards.now (I.unread input.old) (I.unread input.new) (O.taken output.old) (O.taken output.new) }
+    // A wrong word is refused before anything is read.
+    ensures untouched { ((ranges : List KeyRange) → NamesPartition shards.now ranges → ⊥) → input.new ≡ input.old }
+{
+    match scripted(rt, alloc, shards, input, output) {
+        Ok(()) => SUCCESS,
+        Err(fault) => refuse(fault, output, errors),
+    }
+}

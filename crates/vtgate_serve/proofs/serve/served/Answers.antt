@@ -1,0 +1,27 @@
+use Rattle.std.proofs.Common.{◌≡◌, ℕ, List, ap, subst, sym}
+use Rattle.std.proofs.lemmas.Result.{on_ok_weaker}
+use Rattle.serve_lines.specs.Asking.{Asking}
+use Rattle.vtgate_lines.specs.Partitions.{NamesPartition}
+use Rattle.vtgate_serve.proofs.serve.served.Goals as goal
+
+pub returns-in_err-schema-clause-untouched : goal.returns-in_err-schema-clause-untouched
+returns-in_err-schema-clause-untouched g c none =
+    let is : c.asked.inside.shards.now ≡ c.args.asked.now.shards = ap (λ (a : Asking). a.shards) c.asked.view_is in
+    absurd (none c.in_ok-ranges.ranges.items (subst (λ (s : List ℕ). NamesPartition s c.in_ok-ranges.ranges.items) is c.in_ok-ranges.ensures))
+
+pub returns-clause-untouched : goal.returns-clause-untouched
+returns-clause-untouched g c none =
+    let is : c.asked.inside.shards.now ≡ c.args.asked.now.shards = ap (λ (a : Asking). a.shards) c.asked.view_is in
+    absurd (none c.in_ok-ranges.ranges.items (subst (λ (s : List ℕ). NamesPartition s c.in_ok-ranges.ranges.items) is c.in_ok-ranges.ensures))
+
+pub returns-clause-ok : goal.returns-clause-ok
+returns-clause-ok g c =
+    let is : c.asked.inside.shards.now ≡ c.args.asked.now.shards = ap (λ (a : Asking). a.shards) c.asked.view_is in
+    on_ok_weaker c.serve_over.result (λ printed. record {
+      schema = c.in_ok-schema.schema;
+      ranges = c.in_ok-ranges.ranges.items;
+      read = c.in_ok-schema.ensures.read;
+      partition = subst (λ (s : List ℕ). NamesPartition s c.in_ok-ranges.ranges.items) is c.in_ok-ranges.ensures;
+      fit = rw (sym c.deref.ensures.value) c.in_ok-schema.ensures.fit;
+      printed = printed;
+    }) c.serve_over.ensures
