@@ -11,7 +11,7 @@ use Rattle.shard_run.specs.Runs.{is_opening, entries_on}
 use Rattle.keyrange.specs.declared.KeyRange.{KeyRange}
 use Rattle.vschema.specs.declared.schema.VSchema.{VSchema}
 use Rattle.empty_opening.specs.Empty.{empty_shards, no_rows, opening_of}
-use Rattle.reshard.specs.Workflows.{IsFree}
+use Rattle.reshard_beginning.specs.Grounds.{IsFree}
 use Rattle.vschema.specs.Schema.{place_from}
 use Rattle.router_opening.proofs.Empty.{on_own_slots, seats_from}
 

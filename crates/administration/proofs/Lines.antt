@@ -11,7 +11,7 @@ use Rattle.shard_run.specs.declared.Entry.{Entry}
 use Rattle.shard_run.specs.Runs.{Opening}
 use Rattle.shard.specs.declared.limits.Limits.{Limits}
 use Rattle.reshard.specs.declared.workflow.Stage.{Stage}
-use Rattle.reshard.specs.declared.fault.ReshardFault.TheVariants as faults
+use Rattle.reshard_beginning.specs.declared.fault.ReshardFault.TheVariants as faults
 use Rattle.reshard.specs.Workflows.{WorkflowView}
 use Rattle.vtgate_lines.specs.Partitions.{IsListOf, last, more}
 use Rattle.vtgate_lines.specs.AdminLines.{IsCreate, AsksFor}

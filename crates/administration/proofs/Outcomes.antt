@@ -6,10 +6,10 @@ use Rattle.shard_run.specs.declared.Entry.{Entry}
 use Rattle.shard_run.specs.Runs.{Opening}
 use Rattle.shard.specs.declared.limits.Limits.{Limits}
 use Rattle.reshard.specs.declared.workflow.Stage.TheVariants as stages
-use Rattle.reshard.specs.declared.fault.ReshardFault.{ReshardFault}
-use Rattle.reshard.specs.declared.fault.ReshardFault.TheVariants as faults
+use Rattle.reshard_beginning.specs.declared.fault.ReshardFault.{ReshardFault}
+use Rattle.reshard_beginning.specs.declared.fault.ReshardFault.TheVariants as faults
 use Rattle.reshard.specs.Workflows.{WorkflowView}
-use Rattle.reshard.specs.Begun.{IsCreateRefusal, IsMoveRefusal}
+use Rattle.reshard_beginning.specs.Begun.{IsCreateRefusal, IsMoveRefusal}
 use Rattle.reshard.specs.Cutover.{MaySwitch, MayCancel, HasStopped, HasStoppedLater}
 use Rattle.administration.specs.declared.reply.AdminReply.TheVariants.{Refused}
 use Rattle.administration.specs.Told.{HasCreated, AnswersStep, HasCutOver, HasAdvanced, HasResumed, HasCancelled, HasCompleted}

@@ -13,11 +13,12 @@ use Rattle.reshard.specs.declared.workflow.Stage.{Stage}
 use Rattle.reshard.specs.declared.workflow.Stage.TheVariants as stages
 use Rattle.reshard.specs.declared.cutover.CutoverStep.{CutoverStep}
 use Rattle.reshard.specs.declared.finishing.Resumed.{Resumed}
-use Rattle.reshard.specs.declared.fault.ReshardFault.{ReshardFault}
-use Rattle.reshard.specs.declared.fault.ReshardFault.TheVariants as faults
+use Rattle.reshard_beginning.specs.declared.fault.ReshardFault.{ReshardFault}
+use Rattle.reshard_beginning.specs.declared.fault.ReshardFault.TheVariants as faults
 use Rattle.reshard.specs.Workflows.{WorkflowView}
-use Rattle.reshard.specs.Begun.{HasBegun, IsCreateRefusal, HasMovedFirst, IsMoveRefusal}
-use Rattle.reshard.specs.Cutover.{MaySwitch, MayCancel, HasSwitched, HasStopped, HasStoppedLater, HasFinished, IsResumed, IsServingAgain, IsOutOfUse}
+use Rattle.reshard_beginning.specs.Begun.{HasBegun, IsCreateRefusal, HasMovedFirst, IsMoveRefusal}
+use Rattle.reshard.specs.Cutover.{MaySwitch, MayCancel, HasSwitched, HasStopped, HasStoppedLater, HasFinished, IsResumed}
+use Rattle.cutover_steps.specs.Looks.{IsServingAgain, IsOutOfUse}
 use Rattle.vtgate_lines.specs.Partitions.{range_cmp}
 use Rattle.vtgate_lines.specs.AdminLines.{IsCreate, AsksFor}
 use Rattle.vtgate_lines.specs.declared.admin_lines.AdminLine.TheVariants as lines

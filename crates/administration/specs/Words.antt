@@ -11,8 +11,8 @@ use Rattle.reshard.specs.declared.workflow.Stage.{Stage}
 use Rattle.reshard.specs.declared.workflow.Stage.TheVariants as stages
 use Rattle.reshard.specs.declared.cutover.CutoverStep.{CutoverStep}
 use Rattle.reshard.specs.declared.cutover.CutoverStep.TheVariants.{Freeze, Copy, Follow, Retire, Serve, Publish, Release}
-use Rattle.reshard.specs.declared.fault.ReshardFault.{ReshardFault}
-use Rattle.reshard.specs.declared.fault.ReshardFault.TheVariants as faults
+use Rattle.reshard_beginning.specs.declared.fault.ReshardFault.{ReshardFault}
+use Rattle.reshard_beginning.specs.declared.fault.ReshardFault.TheVariants as faults
 use Rattle.administration.specs.declared.reply.AdminReply.{AdminReply}
 use Rattle.administration.specs.declared.reply.AdminReply.TheVariants.{Done, Moved, Took, Refused, Status, Unknown}
 

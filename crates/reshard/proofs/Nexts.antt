@@ -13,15 +13,16 @@ use Rattle.shard_run.specs.Runs.{Opening, Run, entries_on}
 use Rattle.std.proofs.lemmas.List.{length-map}
 use Rattle.shard.specs.declared.limits.Limits.{Limits}
 use Rattle.follow.specs.Steps.{IsOnward, IsRunBetween}
-use Rattle.reshard.specs.declared.fault.ReshardFault.{ReshardFault}
-use Rattle.reshard.specs.Steps.{named_for}
-use Rattle.reshard.specs.Workflows.{Taking, shards_of}
+use Rattle.reshard_beginning.specs.declared.fault.ReshardFault.{ReshardFault}
+use Rattle.cutover_steps.specs.Steps.{named_for}
+use Rattle.cutover_steps.specs.Takings.{Taking, shards_of}
 use Rattle.reshard.specs.inner.Workflows.{IsPrepared}
-use Rattle.reshard.specs.Begun.{IsMoveRefusal}
-use Rattle.reshard.specs.Begun as begun
-use Rattle.reshard.specs.Cutover.{IsSwitchRefusal, no_memory, no_room, stuck, overfull, HasNoRoom, IsServingAgain}
-use Rattle.reshard.proofs.Begins.{map_twice}
-use Rattle.reshard.proofs.Making.{map_at}
+use Rattle.reshard_beginning.specs.Begun.{IsMoveRefusal}
+use Rattle.reshard_beginning.specs.Begun as begun
+use Rattle.reshard.specs.Cutover.{IsSwitchRefusal, no_memory, no_room, stuck, overfull, HasNoRoom}
+use Rattle.cutover_steps.specs.Looks.{IsServingAgain}
+use Rattle.reshard_beginning.proofs.Begins.{map_twice}
+use Rattle.cutover_steps.proofs.Retiring.{map_at}
 
 -- ---- the memory of a cutover
 

@@ -14,19 +14,21 @@ use Rattle.shard.specs.declared.limits.Limits.{Limits}
 use Rattle.follow.specs.Steps.{IsOnward, HasStepped, HasMovedWith}
 use Rattle.follow.specs.declared.steps.Step.{Step}
 use Rattle.follow.specs.declared.steps.Step.TheVariants.{Copied, Followed, Level}
-use Rattle.reshard.specs.declared.fault.ReshardFault.{ReshardFault}
-use Rattle.reshard.specs.declared.fault.ReshardFault.TheVariants.{Refused}
+use Rattle.reshard_beginning.specs.declared.fault.ReshardFault.{ReshardFault}
+use Rattle.reshard_beginning.specs.declared.fault.ReshardFault.TheVariants.{Refused}
 use Rattle.reshard.specs.declared.workflow.Stage.TheVariants.{Following, Switching}
 use Rattle.reshard.specs.declared.cutover.CutoverStep.{CutoverStep}
 use Rattle.reshard.specs.declared.cutover.CutoverStep.TheVariants as steps
-use Rattle.reshard.specs.Begun.{HasMovedFirst}
-use Rattle.reshard.specs.Begun as begun
-use Rattle.reshard.specs.Steps.{named_for}
-use Rattle.reshard.specs.Workflows.{WorkflowView, Taking, shards_of}
-use Rattle.reshard.specs.Cutover.{HasSwitched, HasStopped, HasNoRoom, IsSwitchRefusal, IsServingAgain}
+use Rattle.reshard_beginning.specs.Begun.{HasMovedFirst}
+use Rattle.reshard_beginning.specs.Begun as begun
+use Rattle.cutover_steps.specs.Steps.{named_for}
+use Rattle.reshard.specs.Workflows.{WorkflowView}
+use Rattle.cutover_steps.specs.Takings.{Taking, shards_of}
+use Rattle.reshard.specs.Cutover.{HasSwitched, HasStopped, HasNoRoom, IsSwitchRefusal}
+use Rattle.cutover_steps.specs.Looks.{IsServingAgain}
 use Rattle.reshard.specs.Cutover as cut
-use Rattle.reshard.proofs.Onward.{stepped_after}
-use Rattle.reshard.proofs.Moving.{with_after}
+use Rattle.cutover_steps.proofs.Onward.{stepped_after}
+use Rattle.reshard_beginning.proofs.Moving.{with_after}
 
 module _ (o : Opening) (targets : List Taking) (p q now : PassView Entry) (on : IsOnward o p q) where
   levels : (ts : List Taking) → AllByRecursion (λ t. HasMovedWith o t.1 t.0 q now Level) ts → AllByRecursion (λ t. HasMovedWith o t.1 t.0 p now Level) ts

@@ -6,13 +6,15 @@ use Rattle.shard_run.specs.declared.Entry.{Entry}
 use Rattle.shard_run.specs.Runs.{Opening}
 use Rattle.shard.specs.declared.limits.Limits.{Limits}
 use Rattle.follow.specs.Steps.{IsOnward}
-use Rattle.reshard.specs.declared.fault.ReshardFault.{ReshardFault}
-use Rattle.reshard.specs.declared.fault.ReshardFault.TheVariants.{WrongState}
+use Rattle.reshard_beginning.specs.declared.fault.ReshardFault.{ReshardFault}
+use Rattle.reshard_beginning.specs.declared.fault.ReshardFault.TheVariants.{WrongState}
 use Rattle.reshard.specs.declared.workflow.Stage.TheVariants.{None, Switching, Switched}
 use Rattle.reshard.specs.declared.cutover.CutoverStep.{CutoverStep}
 use Rattle.reshard.specs.declared.cutover.CutoverStep.TheVariants.{Release}
-use Rattle.reshard.specs.Workflows.{WorkflowView, Taking}
-use Rattle.reshard.specs.Cutover.{IsFurther, IsCutOver, HasFinished, HasSwitched, HasStopped, HasStoppedLater, MaySwitch}
+use Rattle.reshard.specs.Workflows.{WorkflowView}
+use Rattle.cutover_steps.specs.Takings.{Taking}
+use Rattle.reshard.specs.Cutover.{IsFurther, HasFinished, HasSwitched, HasStopped, HasStoppedLater, MaySwitch}
+use Rattle.cutover_steps.specs.Looks.{IsCutOver}
 use Rattle.reshard.specs.Cutover as cut
 
 pub further_still : (w : WorkflowView) → IsFurther w w

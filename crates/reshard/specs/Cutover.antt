@@ -6,63 +6,30 @@ use Rattle.journal.specs.Views.{PassView}
 use Rattle.shard_run.specs.declared.Shard.{Shard}
 use Rattle.shard_run.specs.declared.Entry.{Entry}
 use Rattle.shard_run.specs.declared.Event.TheVariants as events
-use Rattle.shard_run.specs.declared.Mode.TheVariants as modes
-use Rattle.shard_run.specs.Runs.{Opening, Run, mode, held, entries_on}
-use Rattle.shard_run.specs.Openings.{row_count}
+use Rattle.shard_run.specs.Runs.{Opening, Run, entries_on}
 use Rattle.shard.specs.declared.limits.Limits.{Limits}
 use Rattle.follow.specs.Steps.{IsOnward, IsRunBetween, HasStepped, IsFull}
 use Rattle.follow.specs.declared.steps.Step.TheVariants as moves
-use Rattle.reshard.specs.declared.fault.ReshardFault.{ReshardFault}
-use Rattle.reshard.specs.declared.fault.ReshardFault.TheVariants.{Refused}
+use Rattle.reshard_beginning.specs.declared.fault.ReshardFault.{ReshardFault}
+use Rattle.reshard_beginning.specs.declared.fault.ReshardFault.TheVariants.{Refused}
 use Rattle.reshard.specs.declared.workflow.Stage.TheVariants as stages
 use Rattle.reshard.specs.declared.cutover.CutoverStep.{CutoverStep}
 use Rattle.reshard.specs.declared.finishing.Resumed.{Resumed}
 use Rattle.reshard.specs.declared.finishing.Resumed.TheVariants.{Thawed, Finished}
 use Rattle.reshard.specs.declared.cutover.CutoverStep.TheVariants.{Freeze, Copy, Follow, Retire, Serve, Publish, Release}
-use Rattle.reshard.specs.Steps.{HasEntry, named_for}
-use Rattle.reshard.specs.Workflows.{WorkflowView, Taking, shards_of}
-use Rattle.reshard.specs.Begun.{HasMovedFirst}
-
--- At a run that the pass came by the shard served and wasn't frozen: a Freeze of it before was followed by its Thaw.
-pub record IsServingAgain (o : Opening) (s : Shard) (p now : PassView Entry) : Type 0 where
-  pub run : Run
-  pub between : IsRunBetween p now run
-  pub serving : mode o run s.slot ≡ modes.Serving
-
--- At a run that the pass came by the shard was retired, so that no statement reads it from then on.
-pub record IsOutOfUse (o : Opening) (s : Shard) (p now : PassView Entry) : Type 0 where
-  pub run : Run
-  pub between : IsRunBetween p now run
-  pub retired : mode o run s.slot ≡ modes.Retired
+use Rattle.cutover_steps.specs.Steps.{named_for}
+use Rattle.cutover_steps.specs.Looks.{IsServingAgain, IsCutOver, IsOverfull}
+use Rattle.reshard.specs.Workflows.{WorkflowView}
+use Rattle.cutover_steps.specs.Takings.{Taking, shards_of}
+use Rattle.reshard_beginning.specs.Begun.{HasMovedFirst}
 
 -- a cutover goes on while targets follow, or it has begun
 abbrev pub MaySwitch : WorkflowView → Type 0
 MaySwitch w = (w.stage ≡ stages.Following) ⊎ (w.stage ≡ stages.Switching)
 
--- the pass has seen that the source retired, and that the target serves
-abbrev pub IsGone : Run → Shard → Type 0
-IsGone run s = (named : List Shard) × HasEntry run s (events.Retire named)
-
-abbrev pub HasBegunToServe : Run → Shard → Type 0
-HasBegunToServe run t = HasEntry run t events.Serve
-
 -- a workflow may be given up that follows, or of which no source is retired
 abbrev pub MayCancel : WorkflowView → Type 0
 MayCancel w = (w.stage ≡ stages.Following) ⊎ ((w.stage ≡ stages.Switching) × (w.retired ≡ 0))
-
-abbrev pub HaveServed : Run → List Taking → Type 0
-HaveServed run targets = AllByRecursion (λ t. HasBegunToServe run t.0) targets
-
--- all that a cutover is for
-pub record IsCutOver (run : Run) (sources : List Shard) (targets : List Taking) : Type 0 where
-  pub gone : AllByRecursion (IsGone run) sources
-  pub served : HaveServed run targets
-
--- at a run that the pass came by a target had more rows than a shard that serves may have
-pub record IsOverfull (o : Opening) (most : Limits) (t : Shard) (p now : PassView Entry) : Type 0 where
-  pub run : Run
-  pub between : IsRunBetween p now run
-  pub many : most.rows < row_count (held o run t)
 
 -- at a run that the pass came by a source had as many entries as a shard may have that is to be frozen
 pub record HasNoRoom (s : Shard) (p now : PassView Entry) : Type 0 where

@@ -1,103 +1,18 @@
--- What a workflow is that is made again from its shards, and why it isn't.
-use Rattle.std.specs.Prelude.{◌≡◌, ◌⊎◌, ℕ, zero, suc, ◌+◌, ◌≤◌, true, not, ◌==◌, List, [], ◌∷◌, ◌++◌, length, map, filter, replicate}
-use Rattle.std.specs.List.{AllByRecursion, list_any}
-use Rattle.vt_value.specs.declared.refusal.Refusal.TheVariants.{OutOfMemory}
-use Rattle.keyrange.specs.declared.KeyRange.{KeyRange}
-use Rattle.keyrange.specs.Ranges.{Overlap, Cover}
-use Rattle.serving.specs.Partitions.{Seat, IsPartition, AreOf, ranges}
+-- What a workflow is once it is made again from its shards.
+use Rattle.std.specs.Prelude.{◌≡◌, ℕ, zero, suc, true, List}
+use Rattle.serving.specs.Partitions.{Seat}
 use Rattle.journal.specs.Views.{PassView}
-use Rattle.shard_run.specs.declared.Shard.{Shard}
 use Rattle.shard_run.specs.declared.Entry.{Entry}
-use Rattle.shard_run.specs.declared.Mode.{Mode}
-use Rattle.shard_run.specs.declared.Mode.TheVariants as modes
-use Rattle.shard_run.specs.Runs.{Run, Opening, mode}
-use Rattle.shard_run.specs.Legal.{IsOnItsSlot}
-use Rattle.follow.specs.Steps.{IsRunBetween}
-use Rattle.reshard.specs.declared.fault.ReshardFault.{ReshardFault}
-use Rattle.reshard.specs.declared.fault.ReshardFault.TheVariants.{Refused, WrongState}
+use Rattle.shard_run.specs.Runs.{Opening}
 use Rattle.reshard.specs.declared.workflow.Stage.{Stage}
 use Rattle.reshard.specs.declared.workflow.Stage.TheVariants as stages
-use Rattle.shard.specs.Seats.{seat_of}
-use Rattle.reshard.specs.Workflows.{WorkflowView, Taking, shards_of}
-
--- a shard, and its mode
-abbrev pub Found : Type 0
-Found = Shard × Mode
-
--- at a run that the pass came by the shard stood on its slot, in this mode
-pub record IsFound (o : Opening) (p now : PassView Entry) (f : Found) : Type 0 where
-  pub run : Run
-  pub between : IsRunBetween p now run
-  pub stands : IsOnItsSlot o run f.0
-  pub mode : f.1 ≡ mode o run f.0.slot
-
--- the shards of these seats, and the modes that a look at each found
-pub record AreFound (o : Opening) (p now : PassView Entry) (at : List Seat) (found : List Found) : Type 0 where
-  pub seats : map (λ f. seat_of f.0) found ≡ at
-  pub each : AllByRecursion (IsFound o p now) found
-
--- How far a cutover is, by the modes of its shards: of the sources, in their order, the first are retired, the next frozen, and the others serve;
--- of the targets the first serve, and the others follow. All sources are frozen before one is retired, and retired before a target serves.
-pub record IsCourse (sources targets : List Mode) (frozen retired served : ℕ) : Type 0 where
-  pub held : ℕ
-  pub serving : ℕ
-  pub following : ℕ
-  pub of_sources : sources ≡ replicate retired modes.Retired ++ (replicate held modes.Frozen ++ replicate serving modes.Serving)
-  pub of_targets : targets ≡ replicate served modes.Serving ++ replicate following modes.Following
-  pub all_frozen : frozen ≡ retired + held
-  pub frozen_first : (retired ≡ 0) ⊎ (serving ≡ 0)
-  pub retired_first : (served ≡ 0) ⊎ (held + serving ≡ 0)
-
--- of these shards the ones whose ranges overlap this one, in their order
-abbrev pub AreThose : KeyRange → List Shard → List Shard → Type 0
-AreThose range [] own = own ≡ []
-AreThose range (s ∷ shards) own =
-    (Overlap s.place.range range × (rest : List Shard) × (own ≡ s ∷ rest) × AreThose range shards rest)
-    ⊎ ((Overlap s.place.range range → ⊥) × AreThose range shards own)
-
--- the target takes from those of the sources that overlap it
-pub record TakesThose (sources : List Shard) (target : Shard) : Type 0 where
-  pub own : List Shard
-  pub those : AreThose target.place.range sources own
-  pub are : target.sources ≡ map (λ s. s.slot) own
-
--- of the parts those that stand on none of the seats' slots
-abbrev pub others : List Seat → List Seat → List Seat
-others seats parts = filter (λ part. not (list_any (λ seat. seat.0 == part.0) seats)) parts
-
--- Beside the rest the ones make up the keyspace, and so do those that take their place, with at most 64 parts.
-pub record MayReplace (keyspace : ℕ) (rest from into : List Seat) : Type 0 where
-  pub some : from ≡ [] → ⊥
-  pub home : AreOf keyspace (from ++ into)
-  pub before : Cover (ranges rest ++ ranges from)
-  pub after : Cover (ranges rest ++ ranges into)
-  pub few : length rest + length into ≤ 64
-
--- The shards are the sources and the targets of one workflow, beside the other parts of a partition, and its cutover is so far.
-pub record IsWorkflowAt (keyspace : ℕ) (parts from into : List Seat) (sources targets : List Found) (frozen retired served : ℕ) : Type 0 where
-  pub replace : MayReplace keyspace (others (from ++ into) parts) from into
-  pub takes : AllByRecursion (λ t. TakesThose (map (λ f. f.0) sources) t.0) targets
-  pub course : IsCourse (map (λ f. f.1) sources) (map (λ f. f.1) targets) frozen retired served
+use Rattle.reshard_reopening.specs.MadeAgain.{AreMadeAgain}
+use Rattle.reshard.specs.Workflows.{WorkflowView}
 
 -- a cutover has begun once a source is frozen
 abbrev pub stage_at : ℕ → Stage
 stage_at zero = stages.Following
 stage_at (suc n) = stages.Switching
-
--- Sources and targets are those of these seats, each target with those of the sources that overlap it, and the cutover is so far as the modes
--- tell that a look at each of them found.
-pub record AreMadeAgain (o : Opening) (p now : PassView Entry) (keyspace : ℕ) (from into : List Seat) (sources : List Shard) (targets : List Taking)
-    (frozen retired served : ℕ) : Type 0 where
-  pub parts : List Seat
-  pub partition : IsPartition parts
-  pub found_sources : List Found
-  pub found_targets : List Found
-  pub of_sources : AreFound o p now from found_sources
-  pub of_targets : AreFound o p now into found_targets
-  pub stopped : IsWorkflowAt keyspace parts from into found_sources found_targets frozen retired served
-  pub same_sources : sources ≡ map (λ f. f.0) found_sources
-  pub same_targets : shards_of targets ≡ map (λ f. f.0) found_targets
-  pub own : AllByRecursion (λ t. AreThose t.0.place.range sources t.1) targets
 
 -- The workflow is made again from the shards of these seats. The memory of its cutover is made.
 pub record IsReopened (o : Opening) (p now : PassView Entry) (from into : List Seat) (w next : WorkflowView) : Type 0 where
@@ -111,14 +26,3 @@ pub record IsReopened (o : Opening) (p now : PassView Entry) (from into : List S
     served = next.served;
     prepared = true;
   }
-
--- Why no workflow is made again of the shards of these seats, where there is none yet: want of memory; or by a look at each of them they aren't
--- those of one workflow, beside the other parts of some partition; or its cutover is through, so that the sources' rows may be gone.
-pub data IsReopenRefusal (o : Opening) (p now : PassView Entry) (keyspace : ℕ) (from into : List Seat) : ReshardFault → Type 0 where
-  no_memory : IsReopenRefusal o p now keyspace from into (Refused OutOfMemory)
-  unlike : (parts : List Seat) (sources targets : List Found) → IsPartition parts → AreFound o p now from sources → AreFound o p now into targets
-      → ((frozen retired served : ℕ) → IsWorkflowAt keyspace parts from into sources targets frozen retired served → ⊥)
-      → IsReopenRefusal o p now keyspace from into WrongState
-  through : (parts : List Seat) (sources targets : List Found) (frozen retired : ℕ) → IsPartition parts → AreFound o p now from sources
-      → AreFound o p now into targets → IsWorkflowAt keyspace parts from into sources targets frozen retired (length targets)
-      → IsReopenRefusal o p now keyspace from into WrongState

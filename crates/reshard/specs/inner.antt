@@ -1,5 +1,1 @@
-pub mod Created
-pub mod Leading
-pub mod Glances
-pub mod Steps
 pub mod Workflows

@@ -7,55 +7,19 @@ ghost use Rattle.journal.specs.Runs.{IsLegal};
 ghost use Rattle.shard_run.specs.Openings.{IsOpening};
 ghost use Rattle.shard.specs.Shards.{MayFollow};
 ghost use Rattle.follow.specs.Steps.{IsOnward};
-ghost use Rattle.reshard.specs.Workflows.{IsFree, IsGround, TakeFromOwn};
-ghost use Rattle.reshard.specs.Begun.{HasBegun, IsCreateRefusal, HasMovedFirst, IsMoveRefusal};
+ghost use Rattle.reshard_beginning.specs.Grounds.{IsFree, IsGround};
+ghost use Rattle.reshard_beginning.specs.Begun.{HasBegun, IsCreateRefusal, HasMovedFirst, IsMoveRefusal};
 
-use crate::beginning::begin;
-use crate::fault::ReshardFault;
-use crate::ground::Ground;
-use crate::workflow::{Stage, Target, Workflow};
-use follow::{Step, bring_forward_with};
+use crate::workflow::{Stage, Workflow};
+use follow::Step;
 use journal::{Naming, Pass, ShardSeat};
 use keyrange::KeyRange;
+use reshard_beginning::{Ground, ReshardFault, begin, move_first};
 use serving::Serving;
 use shard::{Shard, ShardLaw, World};
 use std::alloc::Global;
 use std::sync::Wait;
 use vschema::VSchema;
-use vt_value::Refusal;
-
-// Brings the first of the targets forward that isn't level.
-pub(crate) fn move_first<W: World, J: Naming>(
-    rt: &impl Wait,
-    alloc: Global,
-    pass: &mut Pass<ShardLaw<W>, J>,
-    schema: &VSchema,
-    targets: &[Target<W, J>],
-) -> Result<Step, Refusal>
-    requires opens { IsOpening W.opening }
-    requires schema { schema.now ≡ W.opening.schema }
-    requires formed { IsTrue (is_vschema W.opening.schema) }
-    requires own { TakeFromOwn (map (λ t. (t.member.which, map (λ s. s.which) t.sources.items)) targets.now) }
-    requires legal { IsLegal (MayFollow W.opening) pass.old.seen }
-    ensures moved { IfOk result (HasMovedFirst W.opening (map (λ t. (t.member.which, map (λ s. s.which) t.sources.items)) targets.now) pass.old pass.new) }
-    ensures refused { IfErr result (λ e. IsMoveRefusal W.limits (map (λ t. (t.member.which, map (λ s. s.which) t.sources.items)) targets.now) pass.new (ReshardFault.Refused e)) }
-    ensures onward { IsOnward W.opening pass.old pass.new }
-{
-    for target in targets {
-        let step = bring_forward_with(
-            rt,
-            alloc,
-            pass,
-            schema,
-            target.sources.as_slice(),
-            &target.member,
-        )?;
-        if step != Step::Level {
-            return Ok(step);
-        }
-    }
-    Ok(Step::Level)
-}
 
 impl<W: World, J: Naming> Workflow<W, J> {
     // Promise: A workflow begins exactly with the shards that its first ranges name, which served and weren't frozen when they were looked
@@ -64,7 +28,8 @@ impl<W: World, J: Naming> Workflow<W, J> {
     // isn't a part of the partition, is named twice or doesn't serve (N5), targets that overlap (N2) or don't hold what the sources do
     // (N1), too few slots (N3), or memory; then nothing changed, and no slot is taken: targets that were made give theirs back
     // With: Workflow::{stage, create}
-    // Refuses: create_takes_any_targets, create_refused_takes_a_slot, shard_refused_takes_its_slot
+    // Refuses: reshard_beginning::create_takes_any_targets, reshard_beginning::create_refused_takes_a_slot,
+    // reshard_beginning::shard_refused_takes_its_slot
     /// A controller of a keyspace and these free slots, which has no workflow.
     pub fn new(
         alloc: Global,

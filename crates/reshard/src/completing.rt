@@ -1,77 +1,17 @@
 //! The end of a workflow that is through: its sources give up their rows.
-ghost use Rattle.std.specs.Prelude.{◌≡◌, true, false, [], OnOk, IfErr, map};
+ghost use Rattle.std.specs.Prelude.{◌≡◌, true, false, [], OnOk, IfErr};
 ghost use Rattle.std.specs.List.{AllByRecursion};
 ghost use Rattle.journal.specs.Runs.{IsLegal};
-ghost use Rattle.shard_run.specs.Runs.{mode};
 ghost use Rattle.shard.specs.Shards.{MayFollow};
 ghost use Rattle.follow.specs.Steps.{IsOnward};
-ghost use Rattle.reshard.specs.Cutover.{IsOutOfUse};
+ghost use Rattle.cutover_steps.specs.Looks.{IsOutOfUse};
 
-use crate::fault::ReshardFault;
-use crate::steps::Source;
 use crate::workflow::{Stage, Workflow};
-use follow::Member;
+use cutover_steps::drop_all;
 use journal::{Naming, Pass};
-use shard::{ShardLaw, ShardState, World};
-use shard_run::{Mode, Shard};
+use reshard_beginning::ReshardFault;
+use shard::{ShardLaw, World};
 use std::sync::Wait;
-
-// Drops the shard's rows, where it is this one and retired. Whether it is out of use.
-fn try_drop<W: World, J: Naming>(
-    state: &mut ShardState<W, J>,
-    which: &Shard,
-    pass: &mut Pass<ShardLaw<W>, J>,
-) -> bool
-    requires legal { IsLegal (MayFollow W.opening) pass.old.seen }
-    ensures out { result ≡ true → mode W.opening pass.new.seen which.now.slot ≡ Mode.Retired }
-    ensures onward { IsOnward W.opening pass.old pass.new }
-{
-    let _ = state.look(pass);
-    if !state.is(which) {
-        return false;
-    }
-    match state.mode() {
-        Mode::Retired => {
-            state.drop_rows();
-            true
-        }
-        Mode::Dropped => true,
-        _ => false,
-    }
-}
-
-// The same under its lock, until it is out of use.
-fn drop_rows<W: World, J: Naming>(
-    rt: &impl Wait,
-    member: &Member<W, J>,
-    pass: &mut Pass<ShardLaw<W>, J>,
-)
-    requires legal { IsLegal (MayFollow W.opening) pass.old.seen }
-    ensures out { mode W.opening pass.new.seen member.now.which.slot ≡ Mode.Retired }
-    ensures onward { IsOnward W.opening pass.old pass.new }
-{
-    for _ in rt.forever() {
-        if try_drop(&mut member.shard.lock(rt), &member.which, pass) {
-            return;
-        }
-    }
-    unreachable!()
-}
-
-// Drops the rows of each of the sources. Takes no memory.
-fn drop_all<W: World, J: Naming>(
-    rt: &impl Wait,
-    sources: &[Source<W, J>],
-    pass: &mut Pass<ShardLaw<W>, J>,
-)
-    requires legal { IsLegal (MayFollow W.opening) pass.old.seen }
-    ensures out { AllByRecursion (λ s. IsOutOfUse W.opening s pass.old pass.new) (map (λ s. s.member.which) sources.now) }
-    ensures onward { IsOnward W.opening pass.old pass.new }
-{
-    for source in sources {
-        drop_rows(rt, &source.member, pass);
-    }
-}
 
 impl<W: World, J: Naming> Workflow<W, J> {
     fn is_switched(&self) -> bool

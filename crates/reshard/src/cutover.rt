@@ -2,22 +2,21 @@
 //! published.
 ghost use Rattle.shard_run.specs.declared.Shard as which;
 ghost use Rattle.shard_run.specs.declared.Event.{Event};
-ghost use Rattle.std.specs.Prelude.{◌≡◌, ◌+◌, ◌<◌, true, Some, IfErr, OnOk, OnErr, Contains, map, length, slice_get};
+ghost use Rattle.std.specs.Prelude.{◌≡◌, ◌+◌, ◌<◌, true, Some, IfErr, OnOk, OnErr, Contains, length, slice_get};
 ghost use Rattle.std.specs.List.{AllByRecursion};
 ghost use Rattle.journal.specs.Runs.{IsLegal};
 ghost use Rattle.shard.specs.Shards.{MayFollow};
 ghost use Rattle.follow.specs.Steps.{IsOnward, HasStepped};
-ghost use Rattle.reshard.specs.Steps.{named_for};
-ghost use Rattle.reshard.specs.Workflows.{Taking, shards_of};
-ghost use Rattle.reshard.specs.Cutover.{HasNoRoom, IsServingAgain};
+ghost use Rattle.cutover_steps.specs.Steps.{named_for};
+ghost use Rattle.cutover_steps.specs.Takings.{Taking, shards_of};
+ghost use Rattle.reshard.specs.Cutover.{HasNoRoom};
+ghost use Rattle.cutover_steps.specs.Looks.{IsServingAgain};
 
-use crate::confirming::confirm_retired;
-use crate::preparing::{named_of_all, next_partition};
-use crate::steps::{Source, freeze, retire, serve};
-use crate::thawing::unfreeze_all;
 use crate::workflow::{Stage, Workflow};
 use buffer::Buffer;
+use cutover_steps::{confirm_retired, freeze, note_stored, retire, serve, unfreeze_all};
 use journal::{Naming, Pass};
+use reshard_reopening::{named_of_all, next_partition};
 use serving::Serving;
 use shard::{Shard, ShardLaw, World};
 use std::alloc::Global;
@@ -42,14 +41,6 @@ pub enum CutoverStep {
     Publish,
     /// The statements that waited go on.
     Release,
-}
-
-// Notes how many entries a source had stored when it was frozen.
-pub(crate) fn note_stored<W: World, J: Naming>(sources: &mut [Source<W, J>], at: usize, stored: u64)
-    requires there { at < length sources.old }
-    ensures { map (λ s. s.member.which) sources.new ≡ map (λ s. s.member.which) sources.old }
-{
-    sources[at].stored = stored;
 }
 
 impl<W: World, J: Naming> Workflow<W, J> {

@@ -4,13 +4,14 @@ ghost use Rattle.std.specs.List.{AllByRecursion};
 ghost use Rattle.journal.specs.Runs.{IsLegal};
 ghost use Rattle.shard.specs.Shards.{MayFollow};
 ghost use Rattle.follow.specs.Steps.{IsOnward};
-ghost use Rattle.reshard.specs.Cutover.{MayCancel, IsServingAgain};
+ghost use Rattle.reshard.specs.Cutover.{MayCancel};
+ghost use Rattle.cutover_steps.specs.Looks.{IsServingAgain};
 
-use crate::fault::ReshardFault;
-use crate::thawing::unfreeze_all;
 use crate::workflow::{Stage, Workflow};
 use buffer::Buffer;
+use cutover_steps::unfreeze_all;
 use journal::{Naming, Pass};
+use reshard_beginning::ReshardFault;
 use shard::{ShardLaw, World};
 use std::sync::Wait;
 
@@ -43,7 +44,7 @@ impl<W: World, J: Naming> Workflow<W, J> {
 
     // Promise: A workflow is given up exactly while its targets follow or no source is retired (else N4): each source that it froze serves
     // again, the statements that wait go on, and it is none
-    // Refuses: cancelled_target_serves, cancel_leaves_frozen, cancelled_targets_are_kept
+    // Refuses: cancelled_target_serves, cutover_steps::cancel_leaves_frozen, cancelled_targets_are_kept
     /// Gives the workflow up, of which no source is retired: each source that is frozen is thawed, and the statements that wait go on. Its
     /// targets' slots are used up. Refuses where there is none, or a source is retired. Takes no memory.
     pub fn cancel(

@@ -4,14 +4,14 @@ ghost use Rattle.vschema.specs.WellFormed.{is_vschema};
 ghost use Rattle.journal.specs.Runs.{IsLegal};
 ghost use Rattle.shard.specs.Shards.{MayFollow};
 ghost use Rattle.follow.specs.Steps.{IsOnward};
-ghost use Rattle.reshard.specs.Cutover.{MaySwitch, HasFinished, IsResumed, HasStoppedLater};
+ghost use Rattle.reshard.specs.Cutover.{HasFinished, IsResumed, HasStoppedLater};
 
-use crate::confirming::confirm_cutover;
 use crate::cutover::CutoverStep;
-use crate::fault::ReshardFault;
 use crate::workflow::{Stage, Workflow};
 use buffer::Buffer;
+use cutover_steps::confirm_cutover;
 use journal::{Naming, Pass};
+use reshard_beginning::ReshardFault;
 use serving::Serving;
 use shard::{Shard, ShardLaw, World};
 use std::alloc::Global;

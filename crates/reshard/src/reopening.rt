@@ -1,126 +1,28 @@
 //! A workflow whose controller stopped is made again from its shards.
-ghost use Rattle.std.specs.Prelude.{◌≡◌, ◌⊎◌, ◌≤◌, ◌++◌, IfOk, IfErr, IfSome, OnOk, OnErr, drop, length, map};
+ghost use Rattle.std.specs.Prelude.{◌≡◌, ◌⊎◌, IfErr, IfSome, OnOk, OnErr};
 ghost use Rattle.journal.specs.Runs.{IsLegal};
-ghost use Rattle.serving.specs.Partitions.{IsPartition, AreOf};
 ghost use Rattle.shard.specs.Shards.{MayFollow};
 ghost use Rattle.follow.specs.Steps.{IsOnward};
-ghost use Rattle.reshard.specs.Steps.{named_for};
-ghost use Rattle.reshard.specs.Reopened.{AreMadeAgain, IsReopened, IsReopenRefusal};
-ghost use Rattle.reshard.specs.inner.Glances.{IsRefitted, IsBoth};
+ghost use Rattle.reshard.specs.Reopened.{IsReopened, stage_at};
+ghost use Rattle.reshard_reopening.specs.MadeAgain.{IsReopenRefusal};
 
-use crate::beside::stands_on;
-use crate::course::stage_of;
-use crate::fault::ReshardFault;
-use crate::looking::{Found, any_dropped, find_all};
-use crate::preparing::{named_of_all, next_partition};
-use crate::refitting::{Refitted, refit};
-use crate::steps::Source;
-use crate::workflow::{Stage, Target, Workflow};
+use crate::workflow::{Stage, Workflow};
 use journal::{Naming, Pass};
+use reshard_beginning::ReshardFault;
+use reshard_reopening::{stands_on, take_up};
 use serving::{Part, Partition, Serving};
 use shard::{Shard, ShardLaw, World};
 use std::alloc::Global;
 use std::sync::Wait;
-use vt_value::{Items, Refusal};
 
-// The sources and the targets, as looks found them.
-#[derive(Drop)]
-struct Both<W: World, J: Naming> {
-    sources: Vec<Found<W, J>>,
-    targets: Vec<Found<W, J>>,
-}
-
-fn find_both<W: World, J: Naming>(
-    rt: &impl Wait,
-    alloc: Global,
-    pass: &mut Pass<ShardLaw<W>, J>,
-    from: &[Part<Shard<W, J>>],
-    into: &[Part<Shard<W, J>>],
-) -> Result<Both<W, J>, Refusal>
-    requires legal { IsLegal (MayFollow W.opening) pass.old.seen }
-    ensures found { IfOk result (λ b. IsBoth W.opening pass.old pass.new from.now into.now (map (λ f. (f.member.which, f.mode)) b.sources.items)
-        (map (λ f. (f.member.which, f.mode)) b.targets.items)) }
-    ensures shards { IfOk result (λ b. map (λ f. f.member.shard.value) b.targets.items ≡ into.now) }
-    ensures onward { IsOnward W.opening pass.old pass.new }
-    ensures err { IfErr result (λ e. e ≡ Refusal.OutOfMemory) }
+// How far a workflow is of which so many sources are frozen or retired.
+fn stage_of(frozen: usize) -> Stage
+    ensures { result ≡ stage_at frozen }
 {
-    let sources = find_all(rt, alloc, pass, from)?;
-    let targets = find_all(rt, alloc, pass, into)?;
-    Ok(Both { sources, targets })
-}
-
-// The workflow of the shards of these parts.
-fn find_again<W: World, J: Naming>(
-    rt: &impl Wait,
-    alloc: Global,
-    pass: &mut Pass<ShardLaw<W>, J>,
-    keyspace: usize,
-    parts: &[Part<Shard<W, J>>],
-    from: &[Part<Shard<W, J>>],
-    into: &[Part<Shard<W, J>>],
-) -> Result<Refitted<W, J>, ReshardFault>
-    requires legal { IsLegal (MayFollow W.opening) pass.old.seen }
-    requires partition { IsPartition parts.now }
-    requires home { AreOf keyspace parts.now }
-    ensures made { IfOk result (λ a. AreMadeAgain W.opening pass.old pass.new keyspace from.now into.now (map (λ s. s.member.which) a.sources.items)
-        (map (λ t. (t.member.which, map (λ s. s.which) t.sources.items)) a.targets.items) a.course.frozen a.course.retired a.course.served) }
-    ensures fit { IfOk result (λ a. IsRefitted keyspace a.rest.items (map (λ s. s.member.which) a.sources.items)
-        (map (λ t. (t.member.which, map (λ s. s.which) t.sources.items)) a.targets.items) (map (λ t. t.member.shard.value) a.targets.items)) }
-    ensures refused { IfErr result (IsReopenRefusal W.opening pass.old pass.new keyspace from.now into.now) }
-    ensures onward { IsOnward W.opening pass.old pass.new }
-{
-    let both = find_both(rt, alloc, pass, from, into)?;
-    let Some(again) = refit(
-        rt,
-        alloc,
-        keyspace,
-        parts,
-        from,
-        into,
-        both.sources.as_slice(),
-        both.targets.as_slice(),
-    )?
-    else {
-        return Err(ReshardFault::WrongState);
-    };
-    if again.course.served == both.targets.len() && any_dropped(both.sources.as_slice()) {
-        return Err(ReshardFault::WrongState);
+    match frozen {
+        0 => Stage::Following,
+        _ => Stage::Switching,
     }
-    Ok(again)
-}
-
-// The memory of the steps that are left.
-#[derive(Drop)]
-struct Memory<W: World, J: Naming> {
-    named: Vec<Items<shard_run::Shard>>,
-    next: Box<Partition<Shard<W, J>>>,
-}
-
-fn unretired<W: World, J: Naming>(sources: &[Source<W, J>], retired: usize) -> &[Source<W, J>]
-    requires { retired ≤ length sources.now }
-    ensures { result.now ≡ drop retired sources.now }
-{
-    &sources[retired..]
-}
-
-fn memory_of<W: World, J: Naming>(
-    alloc: Global,
-    keyspace: usize,
-    retired: usize,
-    rest: &[Part<Shard<W, J>>],
-    sources: &[Source<W, J>],
-    targets: &[Target<W, J>],
-) -> Result<Memory<W, J>, Refusal>
-    requires few { retired ≤ length sources.now }
-    requires next { IsPartition (rest.now ++ map (λ t. t.member.shard.value) targets.now) }
-    requires home { AreOf keyspace (rest.now ++ map (λ t. t.member.shard.value) targets.now) }
-    ensures named { IfOk result (λ m. m.named.items ≡ map (λ s. named_for s.member.which (map (λ t. t.member.which) targets.now)) (drop retired sources.now)) }
-    ensures next { IfOk result (λ m. AreOf keyspace m.next.value) }
-    ensures err { IfErr result (λ e. e ≡ Refusal.OutOfMemory) }
-{
-    let next = next_partition(alloc, keyspace, rest, targets)?;
-    let named = named_of_all(alloc, unretired(sources, retired), targets)?;
-    Ok(Memory { named, next })
 }
 
 // Whether the partition has one of the shards.
@@ -131,48 +33,6 @@ fn has_any<W: World, J: Naming>(parts: &[Part<Shard<W, J>>], into: &[Part<Shard<
         }
     }
     false
-}
-
-// What a workflow is made again of, and its memory.
-#[derive(Drop)]
-struct TakenUp<W: World, J: Naming> {
-    again: Refitted<W, J>,
-    memory: Memory<W, J>,
-}
-
-// The workflow of the shards of these parts, and the memory of the steps that are left.
-fn take_up<W: World, J: Naming>(
-    rt: &impl Wait,
-    alloc: Global,
-    pass: &mut Pass<ShardLaw<W>, J>,
-    keyspace: usize,
-    parts: &[Part<Shard<W, J>>],
-    from: &[Part<Shard<W, J>>],
-    into: &[Part<Shard<W, J>>],
-) -> Result<TakenUp<W, J>, ReshardFault>
-    requires legal { IsLegal (MayFollow W.opening) pass.old.seen }
-    requires partition { IsPartition parts.now }
-    requires home { AreOf keyspace parts.now }
-    ensures made { IfOk result (λ t. AreMadeAgain W.opening pass.old pass.new keyspace from.now into.now (map (λ s. s.member.which) t.again.sources.items)
-        (map (λ t. (t.member.which, map (λ s. s.which) t.sources.items)) t.again.targets.items) t.again.course.frozen t.again.course.retired t.again.course.served) }
-    ensures fit { IfOk result (λ t. IsRefitted keyspace t.again.rest.items (map (λ s. s.member.which) t.again.sources.items)
-        (map (λ t. (t.member.which, map (λ s. s.which) t.sources.items)) t.again.targets.items) (map (λ t. t.member.shard.value) t.again.targets.items)) }
-    ensures named { IfOk result (λ t. t.memory.named.items
-        ≡ map (λ s. named_for s.member.which (map (λ t. t.member.which) t.again.targets.items)) (drop t.again.course.retired t.again.sources.items)) }
-    ensures next { IfOk result (λ t. AreOf keyspace t.memory.next.value) }
-    ensures refused { IfErr result (IsReopenRefusal W.opening pass.old pass.new keyspace from.now into.now) }
-    ensures onward { IsOnward W.opening pass.old pass.new }
-{
-    let again = find_again(rt, alloc, pass, keyspace, parts, from, into)?;
-    let memory = memory_of(
-        alloc,
-        keyspace,
-        again.course.retired,
-        again.rest.as_slice(),
-        again.sources.as_slice(),
-        again.targets.as_slice(),
-    )?;
-    Ok(TakenUp { again, memory })
 }
 
 // The next partition, unless it was published.
@@ -192,7 +52,8 @@ impl<W: World, J: Naming> Workflow<W, J> {
     // where there is a workflow already, where the shards found aren't those of one beside the other parts of some partition, or each
     // source is retired and each target serves (N4), and for want of memory; then it stands as it stood. That N4 is answered of the last
     // only where a source's rows were dropped is for tests
-    // Refuses: frozen_is_found_serving, reopened_forgets_a_source, reopened_with_a_source_unfrozen
+    // Refuses: reshard_reopening::frozen_is_found_serving, reshard_reopening::reopened_forgets_a_source,
+    // reshard_reopening::reopened_with_a_source_unfrozen
     /// Takes up a workflow that another controller stopped, from the shards that are its sources and its targets, each in their order: each
     /// is looked at under its lock. Where a source is frozen or retired its cutover has begun, which `resume` ends and `switch_step` goes
     /// on with; else its targets follow. All memory of the cutover is made. Refuses where there is a workflow already; where the shards aren't

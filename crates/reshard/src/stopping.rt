@@ -2,12 +2,13 @@
 ghost use Rattle.std.specs.Prelude.{◌≡◌, map};
 ghost use Rattle.std.specs.List.{AllByRecursion};
 ghost use Rattle.shard_run.specs.Openings.{IsOpening};
-ghost use Rattle.reshard.specs.Workflows.{IsFree, IsGround, target_seats};
+ghost use Rattle.reshard_beginning.specs.Grounds.{IsFree, IsGround};
+ghost use Rattle.reshard_beginning.specs.Splits.{target_seats};
 
-use crate::ground::Ground;
-use crate::steps::Source;
-use crate::workflow::{Target, Workflow};
+use crate::workflow::Workflow;
+use cutover_steps::{Source, Target};
 use journal::{Naming, ShardSeat};
+use reshard_beginning::Ground;
 use shard::{ShardLaw, World};
 
 /// What is left of a controller that stopped: the seats of the slots that no shard ever stood on, and the shards of its workflow. How far

@@ -6,14 +6,13 @@ ghost use Rattle.shard.specs.Shards.{MayFollow};
 ghost use Rattle.follow.specs.Steps.{IsOnward};
 ghost use Rattle.reshard.specs.Cutover.{HasSwitched, HasStopped, IsSwitchRefusal, MaySwitch};
 
-use crate::calls::move_first;
 use crate::cutover::CutoverStep;
-use crate::fault::ReshardFault;
-use crate::fitting::all_fit;
 use crate::workflow::{Stage, Workflow};
 use buffer::Buffer;
+use cutover_steps::all_fit;
 use follow::Step;
 use journal::{Naming, Pass};
+use reshard_beginning::{ReshardFault, move_first};
 use serving::Serving;
 use shard::{Shard, ShardLaw, World};
 use std::alloc::Global;

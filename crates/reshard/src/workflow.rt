@@ -1,8 +1,7 @@
 //! A workflow that replaces some shards of a keyspace by others, which hold the same ids.
-use crate::ground::Ground;
-use crate::steps::Source;
-use follow::Member;
+use cutover_steps::{Source, Target};
 use journal::{Naming, ShardSeat};
+use reshard_beginning::Ground;
 use serving::{Part, Partition};
 use shard::{Shard, ShardLaw, World};
 use std::marker::Model;
@@ -20,13 +19,6 @@ pub enum Stage {
     Switching,
     /// The targets serve.
     Switched,
-}
-
-/// A target, and those of the workflow's sources that overlap it.
-#[derive(Drop)]
-pub struct Target<W: World, J: Naming> {
-    pub member: Member<W, J>,
-    pub sources: Vec<Member<W, J>>,
 }
 
 /// A controller of splits and merges in one keyspace, one at a time. It has the seats of the slots that no shard ever stood on. Contracts see

@@ -1,8 +1,8 @@
 -- The memory that a cutover has made.
 use Rattle.std.specs.Prelude.{◌≡◌, ℕ, Bool, true, false, List, map, drop}
 use Rattle.shard_run.specs.declared.Shard.{Shard}
-use Rattle.reshard.specs.Steps.{named_for}
-use Rattle.reshard.specs.Workflows.{Taking, shards_of}
+use Rattle.cutover_steps.specs.Steps.{named_for}
+use Rattle.cutover_steps.specs.Takings.{Taking, shards_of}
 
 -- once the memory of a cutover is made, there is for each source that isn't retired the list of the targets that it names; before, none is
 -- retired

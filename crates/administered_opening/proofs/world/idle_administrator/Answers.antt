@@ -4,7 +4,8 @@ use Rattle.journal.specs.Views.{SeatView}
 use Rattle.shard.specs.declared.limits.Limits.{Limits}
 use Rattle.shard_run.specs.declared.Entry.{Entry}
 use Rattle.shard_run.specs.Runs.{Opening}
-use Rattle.reshard.specs.Workflows.{WorkflowView, IsFree}
+use Rattle.reshard.specs.Workflows.{WorkflowView}
+use Rattle.reshard_beginning.specs.Grounds.{IsFree}
 use Rattle.empty_opening.specs.Empty.{empty_shards, opening_of}
 use Rattle.administered_opening.specs.Idle.{idle, idle_in, free_slots}
 use Rattle.administered_opening.proofs.Free.{free_behind, place_below, their_slots}

@@ -1,6 +1,7 @@
 use Rattle.std.proofs.Common.{ℕ, List, ◌++◌, map, reverse, sym, ap, ◌∙◌}
-use Rattle.reshard.specs.Workflows.{WorkflowView, Taking}
-use Rattle.reshard.proofs.Begins.{map_twice}
+use Rattle.reshard.specs.Workflows.{WorkflowView}
+use Rattle.cutover_steps.specs.Takings.{Taking}
+use Rattle.reshard_beginning.proofs.Begins.{map_twice}
 use Rattle.reshard.proofs.workflow.Workflow.create.Goals as goal
 
 pub returns-clause-taken : goal.returns-clause-taken

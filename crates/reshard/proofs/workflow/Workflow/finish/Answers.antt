@@ -1,7 +1,8 @@
 use Rattle.std.proofs.Common.{rules, ◌≡◌, map, ap, ◌∙◌}
 use Rattle.reshard.specs.declared.cutover.CutoverStep.TheVariants.{Release}
-use Rattle.reshard.specs.Workflows.{WorkflowView, Taking}
-use Rattle.reshard.proofs.Onward.{onward_trans}
+use Rattle.reshard.specs.Workflows.{WorkflowView}
+use Rattle.cutover_steps.specs.Takings.{Taking}
+use Rattle.cutover_steps.proofs.Onward.{onward_trans}
 use Rattle.reshard.proofs.Through.{further_trans, further_switched, switched_at_end, begun_still, finished}
 use Rattle.reshard.proofs.workflow.Workflow.finish.Goals as goal
 

@@ -1,7 +1,7 @@
 use Rattle.std.proofs.Common.{sym, ap}
 use Rattle.reshard.specs.Workflows.{WorkflowView}
 use Rattle.reshard.proofs.Nexts.{view_there, view_among, no_room_at}
-use Rattle.reshard.proofs.Unfit.{residual_same}
+use Rattle.reshard_beginning.proofs.Unfit.{residual_same}
 use Rattle.reshard.proofs.workflow.Workflow.freeze_next.Goals as goal
 
 pub returns-in_err-stored-clause-err : goal.returns-in_err-stored-clause-err

@@ -1,7 +1,7 @@
 use Rattle.std.proofs.Common.{map, ◌∙◌}
 use Rattle.std.specs.Vec.Iter.{into_iter_items}
 use Rattle.serving.specs.Partitions.{AreOf}
-use Rattle.reshard.proofs.Refits.{prepared_rest, some_same}
+use Rattle.reshard.proofs.Reopens.{prepared_rest, some_same}
 use Rattle.reshard.proofs.workflow.Workflow.reopen.Goals as goal
 
 pub invariant_of-self : goal.invariant_of-self

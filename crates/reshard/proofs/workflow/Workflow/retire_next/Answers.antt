@@ -4,10 +4,10 @@ use Rattle.std.specs.Option.{option_to_list}
 use Rattle.std.specs.Vec.Iter.{into_iter_items}
 use Rattle.shard_run.specs.declared.Event.TheVariants.{Retire}
 use Rattle.follow.specs.Steps.{HasStepped}
-use Rattle.reshard.specs.Steps.{FitTargets, named_for}
-use Rattle.reshard.specs.Workflows.{WorkflowView, shards_of}
-use Rattle.reshard.proofs.Making.{map_at}
-use Rattle.reshard.proofs.Retiring.{item_of}
+use Rattle.cutover_steps.specs.Steps.{FitTargets, named_for}
+use Rattle.reshard.specs.Workflows.{WorkflowView}
+use Rattle.cutover_steps.specs.Takings.{shards_of}
+use Rattle.cutover_steps.proofs.Retiring.{map_at, item_of}
 use Rattle.reshard.proofs.Nexts.{view_within, view_there, next_list}
 use Rattle.reshard.proofs.workflow.Workflow.retire_next.Goals as goal
 

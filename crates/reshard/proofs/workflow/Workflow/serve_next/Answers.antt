@@ -1,10 +1,9 @@
 use Rattle.std.proofs.Common.{map, sym, ap, subst}
 use Rattle.shard_run.specs.declared.Event.TheVariants.{Serve}
-use Rattle.reshard.specs.Steps.{IsTargetOf}
+use Rattle.cutover_steps.specs.Steps.{IsTargetOf}
 use Rattle.reshard.specs.Workflows.{WorkflowView}
-use Rattle.reshard.proofs.Making.{map_at}
-use Rattle.reshard.proofs.Onward.{stepped_after}
-use Rattle.reshard.proofs.Retiring.{item_of}
+use Rattle.cutover_steps.proofs.Retiring.{map_at, item_of}
+use Rattle.cutover_steps.proofs.Onward.{stepped_after}
 use Rattle.reshard.proofs.Nexts.{view_within, view_there}
 use Rattle.reshard.proofs.workflow.Workflow.serve_next.Goals as goal
 

@@ -1,7 +1,8 @@
-use Rattle.std.proofs.Common.{◌≡◌, ◌+◌, ◌≤◌, true, Bool, length, sym, ap, ◌∙◌, arith}
+use Rattle.std.proofs.Common.{◌≡◌, ◌+◌, ◌≤◌, Bool, length, ap, ◌∙◌, arith}
 use Rattle.std.proofs.lemmas.List.{length-map}
 use Rattle.reshard.specs.declared.workflow.Stage.TheVariants.{Switched}
-use Rattle.reshard.specs.Workflows.{WorkflowView, Taking}
+use Rattle.reshard.specs.Workflows.{WorkflowView}
+use Rattle.cutover_steps.specs.Takings.{Taking}
 use Rattle.reshard.specs.Cutover.{retired, served, published, released}
 use Rattle.reshard.proofs.workflow.Workflow.switch_after.Goals as goal
 

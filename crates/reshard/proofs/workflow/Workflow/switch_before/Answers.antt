@@ -5,12 +5,13 @@ use Rattle.journal.proofs.Fronts.{prefix_self}
 use Rattle.vt_value.specs.declared.refusal.Refusal.{Refusal}
 use Rattle.vt_value.specs.declared.refusal.Refusal.TheVariants.{ShardFull}
 use Rattle.follow.specs.declared.steps.Step.{Step}
-use Rattle.reshard.specs.declared.fault.ReshardFault.TheVariants.{Refused}
-use Rattle.reshard.specs.Begun.{HasMovedFirst, IsMoveRefusal}
-use Rattle.reshard.specs.Workflows.{WorkflowView, Taking}
+use Rattle.reshard_beginning.specs.declared.fault.ReshardFault.TheVariants.{Refused}
+use Rattle.reshard_beginning.specs.Begun.{HasMovedFirst, IsMoveRefusal}
+use Rattle.reshard.specs.Workflows.{WorkflowView}
+use Rattle.cutover_steps.specs.Takings.{Taking}
 use Rattle.reshard.specs.Cutover.{IsSwitchRefusal, overfull}
 use Rattle.reshard.proofs.Nexts.{from_move, refusal_within}
-use Rattle.reshard.proofs.Unfit.{residual_same}
+use Rattle.reshard_beginning.proofs.Unfit.{residual_same}
 use Rattle.reshard.proofs.Switches.{froze_after, copied_after, followed_after, memory_refused, room_refused, refused_as}
 use Rattle.reshard.proofs.workflow.Workflow.switch_before.Goals.{then-all_fit, else-all_fit}
 use Rattle.reshard.proofs.workflow.Workflow.switch_before.Goals as goal

@@ -1,9 +1,10 @@
 use Rattle.std.proofs.Common.{rules, ◌≡◌, inr, map, ap, ◌∙◌}
 use Rattle.reshard.specs.declared.cutover.CutoverStep.TheVariants.{Release}
 use Rattle.reshard.specs.declared.workflow.Stage.TheVariants.{Following}
-use Rattle.reshard.specs.Workflows.{WorkflowView, Taking}
-use Rattle.reshard.proofs.Onward.{onward_trans}
-use Rattle.reshard.proofs.Unfit.{residual_same}
+use Rattle.reshard.specs.Workflows.{WorkflowView}
+use Rattle.cutover_steps.specs.Takings.{Taking}
+use Rattle.cutover_steps.proofs.Onward.{onward_trans}
+use Rattle.reshard_beginning.proofs.Unfit.{residual_same}
 use Rattle.reshard.proofs.Through.{further_trans, further_switched, switched_at_end, may_still, finished, refused_later}
 use Rattle.reshard.proofs.workflow.Workflow.switch_traffic.Goals as goal
 

@@ -1,0 +1,5 @@
+pub mod Onward
+pub mod Retiring
+pub mod Thaws
+pub mod Served
+pub mod Modes

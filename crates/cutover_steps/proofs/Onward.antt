@@ -1,0 +1,57 @@
+-- A controller's pass goes on, look by look and entry by entry.
+use Rattle.std.proofs.Common.{◌≡◌, ℕ, Bool, true, false, cond, ◌&&◌, filter, List, [], ◌∷◌, ◌++◌, refl, sym, ap, ◌∙◌, subst}
+use Rattle.std.proofs.lemmas.List.{append-nil}
+use mathlib.Core.List.{IsPrefix}
+use Rattle.journal.specs.Runs.{IsLegal}
+use Rattle.journal.specs.Views.{SeatView, PassView, IsLater}
+use Rattle.shard_run.specs.declared.Shard.{Shard}
+use Rattle.shard_run.specs.declared.Event.{Event}
+use Rattle.shard_run.specs.declared.Entry.{Entry}
+use Rattle.shard_run.specs.Runs.{Run, Opening, stored_on, is_on, is_stored}
+use Rattle.shard_run.specs.Legal.{Legal}
+use Rattle.shard_law.proofs.Law.{beginnings}
+use Rattle.shard_law.proofs.Runs.{stored_on-push}
+use Rattle.shard.specs.Shards.{slot_of, commit_of, MayFollow, HasAppended, ShardView}
+use Rattle.shard.proofs.States.{stored-same, contains_later}
+use Rattle.follow.specs.Steps.{IsOnward, HasStepped}
+use Rattle.follow.proofs.Onward as follows
+use Rattle.cutover_steps.specs.Steps.{HasEntry}
+
+pub still : (o : Opening) (p : PassView Entry) → IsLegal (MayFollow o) p.seen → IsOnward o p p
+still o p legal = follows.still o p legal
+
+pub onward_trans : (o : Opening) (p q r : PassView Entry) → IsOnward o p q → IsOnward o q r → IsOnward o p r
+onward_trans o p q r a b = follows.onward_trans o p q r a b
+
+pub looked : (o : Opening) (p q now : PassView Entry) (seat : SeatView Entry) (run : Run) (looks : List (ℕ × ℕ)) → IsOnward o p q
+    → IsLater slot_of commit_of (MayFollow o) seat q run → now ≡ record q { seen = run; looks = looks } → IsOnward o p now
+looked o p q now seat run looks on later is = follows.looked o p q now seat run looks on later is
+
+pub stepped : (o : Opening) (p q now : PassView Entry) (v : ShardView) (which : Shard) (ev : Event) → IsOnward o p q → HasAppended o v ev q now
+    → v.shard ≡ which → HasStepped o which ev p now
+stepped o p q now v which ev on is same = follows.stepped o p q now v which ev on is same
+
+pub stepped_after : (o : Opening) (p q now : PassView Entry) (which : Shard) (ev : Event) → IsOnward o p q → HasStepped o which ev q now → HasStepped o which ev p now
+stepped_after o p q now which ev on is = follows.stepped_after o p q now which ev on is
+
+-- an entry that isn't stored leaves what is stored
+pub stored_stays : (o : Opening) (v : ShardView) (ev : Event) (p now : PassView Entry) → HasAppended o v ev p now → is_stored ev ≡ false
+    → stored_on v.shard.slot now.seen ≡ stored_on v.shard.slot v.seen
+stored_stays o v ev p now is plain =
+    let slot = v.shard.slot in
+    let e : Entry = record { shard = v.shard; event = ev } in
+    let none : filter (λ (x : Entry). is_on slot x && is_stored x.event) (e ∷ []) ≡ [] = by (is_on slot e) in
+    ap (stored_on slot) is.seen ∙ stored_on-push is.before e slot ∙ ap (λ (l : Run). stored_on slot is.before ++ l) none ∙ append-nil (stored_on slot is.before)
+    ∙ stored-same o v.seen is.before v.shard is.later.alone
+  where
+    by : (b : Bool) → cond {A = Run} (b && is_stored ev) (record { shard = v.shard; event = ev } ∷ []) [] ≡ []
+    by true = ap (λ c. cond {A = Run} c (record { shard = v.shard; event = ev } ∷ []) []) plain
+    by false = refl
+
+pub legal_front : (o : Opening) (early run : Run) → IsPrefix early run → Legal o run → Legal o early
+legal_front o early run (rest, is) legal = beginnings o early rest (subst (Legal o) (sym is) legal)
+
+-- ---- entries that the pass has seen
+
+pub entry_later : (old new : Run) (s : Shard) (ev : Event) → IsPrefix old new → HasEntry old s ev → HasEntry new s ev
+entry_later old new s ev later h = contains_later (record { shard = s; event = ev }) old new later h

@@ -1,0 +1,11 @@
+use Rattle.std.proofs.Common.{map, take}
+use Rattle.follow.specs.Steps.{IsOnward}
+use Rattle.cutover_steps.specs.Steps.{AreRetired}
+use Rattle.cutover_steps.proofs.confirming.confirm_retired.Given as goal
+
+-- the sources so far are retired
+abbrev pub invariant-loop-source : goal.invariant-loop-source
+invariant-loop-source g l = record {
+  onward : IsOnward g.W.World.opening l.fn.pass l.pass;
+  retired : AreRetired l.pass.seen l.target (map (λ s. (s.member.which, s.stored)) (take l.source-index l.sources));
+}

@@ -1,0 +1,13 @@
+use Rattle.std.proofs.Common.{◌≡◌}
+use Rattle.follow.specs.Steps.{IsOnward}
+use Rattle.cutover_steps.proofs.steps.retire.Given as goal
+
+-- so far there were looks alone
+abbrev pub invariant-loop : goal.invariant-loop
+invariant-loop g l =
+    record {
+      next : (goal.iterator-loop g).can_next l.iterator';
+      finite : (goal.iterator-loop g).is_finite l.iterator';
+      onward : IsOnward g.W.World.opening l.fn.pass l.pass;
+      same : l.targets ≡ l.fn.targets;
+    }

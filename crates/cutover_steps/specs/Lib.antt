@@ -1,0 +1,4 @@
+pub mod inner
+pub mod Steps
+pub mod Takings
+pub mod Looks

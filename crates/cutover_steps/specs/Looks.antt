@@ -1,0 +1,47 @@
+-- What looks at the shards of a cutover show, at a run that the controller's pass came by.
+use Rattle.std.specs.Prelude.{◌≡◌, ◌<◌, List}
+use Rattle.std.specs.List.{AllByRecursion}
+use Rattle.journal.specs.Views.{PassView}
+use Rattle.shard_run.specs.declared.Shard.{Shard}
+use Rattle.shard_run.specs.declared.Entry.{Entry}
+use Rattle.shard_run.specs.declared.Event.TheVariants as events
+use Rattle.shard_run.specs.declared.Mode.TheVariants as modes
+use Rattle.shard_run.specs.Runs.{Opening, Run, mode, held}
+use Rattle.shard_run.specs.Openings.{row_count}
+use Rattle.shard.specs.declared.limits.Limits.{Limits}
+use Rattle.follow.specs.Steps.{IsRunBetween}
+use Rattle.cutover_steps.specs.Steps.{HasEntry}
+use Rattle.cutover_steps.specs.Takings.{Taking}
+
+-- At a run that the pass came by the shard served and wasn't frozen: a Freeze of it before was followed by its Thaw.
+pub record IsServingAgain (o : Opening) (s : Shard) (p now : PassView Entry) : Type 0 where
+  pub run : Run
+  pub between : IsRunBetween p now run
+  pub serving : mode o run s.slot ≡ modes.Serving
+
+-- At a run that the pass came by the shard was retired, so that no statement reads it from then on.
+pub record IsOutOfUse (o : Opening) (s : Shard) (p now : PassView Entry) : Type 0 where
+  pub run : Run
+  pub between : IsRunBetween p now run
+  pub retired : mode o run s.slot ≡ modes.Retired
+
+-- the pass has seen that the source retired, and that the target serves
+abbrev pub IsGone : Run → Shard → Type 0
+IsGone run s = (named : List Shard) × HasEntry run s (events.Retire named)
+
+abbrev pub HasBegunToServe : Run → Shard → Type 0
+HasBegunToServe run t = HasEntry run t events.Serve
+
+abbrev pub HaveServed : Run → List Taking → Type 0
+HaveServed run targets = AllByRecursion (λ t. HasBegunToServe run t.0) targets
+
+-- all that a cutover is for
+pub record IsCutOver (run : Run) (sources : List Shard) (targets : List Taking) : Type 0 where
+  pub gone : AllByRecursion (IsGone run) sources
+  pub served : HaveServed run targets
+
+-- at a run that the pass came by a target had more rows than a shard that serves may have
+pub record IsOverfull (o : Opening) (most : Limits) (t : Shard) (p now : PassView Entry) : Type 0 where
+  pub run : Run
+  pub between : IsRunBetween p now run
+  pub many : most.rows < row_count (held o run t)

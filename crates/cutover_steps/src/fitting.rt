@@ -1,0 +1,71 @@
+//! Whether the targets have no more rows than shards that serve may have.
+ghost use Rattle.std.specs.Prelude.{◌≡◌, ◌<◌, false, Some, Contains, map};
+ghost use Rattle.journal.specs.Runs.{IsLegal};
+ghost use Rattle.shard_run.specs.Runs.{held};
+ghost use Rattle.shard_run.specs.Openings.{row_count};
+ghost use Rattle.shard.specs.Shards.{MayFollow};
+ghost use Rattle.follow.specs.Steps.{IsOnward};
+ghost use Rattle.cutover_steps.specs.Takings.{Taking};
+ghost use Rattle.cutover_steps.specs.Looks.{IsOverfull};
+
+use crate::steps::follows;
+use crate::target::Target;
+use follow::Member;
+use journal::{Naming, Pass};
+use shard::{ShardLaw, ShardState, World};
+use shard_run::Shard;
+use std::sync::Wait;
+
+// Whether the target fits, where the state is its own and it follows.
+fn try_fits<W: World, J: Naming>(
+    state: &mut ShardState<W, J>,
+    which: &Shard,
+    pass: &mut Pass<ShardLaw<W>, J>,
+) -> Option<bool>
+    requires legal { IsLegal (MayFollow W.opening) pass.old.seen }
+    ensures many { result ≡ Some false → W.limits.rows < row_count (held W.opening pass.new.seen which.now) }
+    ensures onward { IsOnward W.opening pass.old pass.new }
+{
+    let _ = state.look(pass);
+    if state.is(which) && follows(state) {
+        Some(state.fits())
+    } else {
+        None
+    }
+}
+
+// The same under its lock, until it follows.
+fn fits<W: World, J: Naming>(
+    rt: &impl Wait,
+    member: &Member<W, J>,
+    pass: &mut Pass<ShardLaw<W>, J>,
+) -> bool
+    requires legal { IsLegal (MayFollow W.opening) pass.old.seen }
+    ensures many { result ≡ false → W.limits.rows < row_count (held W.opening pass.new.seen member.now.which) }
+    ensures onward { IsOnward W.opening pass.old pass.new }
+{
+    for _ in rt.forever() {
+        if let Some(fits) = try_fits(&mut member.shard.lock(rt), &member.which, pass) {
+            return fits;
+        }
+    }
+    unreachable!()
+}
+
+/// Whether each of the targets has no more rows than a shard that serves may have. Takes no memory.
+pub fn all_fit<W: World, J: Naming>(
+    rt: &impl Wait,
+    targets: &[Target<W, J>],
+    pass: &mut Pass<ShardLaw<W>, J>,
+) -> bool
+    requires legal { IsLegal (MayFollow W.opening) pass.old.seen }
+    ensures many { result ≡ false → (t : Taking) × Contains (map (λ t. (t.member.which, map (λ s. s.which) t.sources.items)) targets.now) t × IsOverfull W.opening W.limits t.0 pass.old pass.new }
+    ensures onward { IsOnward W.opening pass.old pass.new }
+{
+    for target in targets {
+        if !fits(rt, &target.member, pass) {
+            return false;
+        }
+    }
+    true
+}

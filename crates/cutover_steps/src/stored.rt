@@ -1,0 +1,61 @@
+//! How many entries a source has stored that is frozen, or retired already.
+ghost use Rattle.std.specs.Prelude.{◌≡◌, ◌<◌, length, map};
+
+use crate::steps::{Source, is_source_of};
+use crate::target::Target;
+use journal::Naming;
+use shard::{ShardState, World};
+use shard_run::Mode;
+use std::sync::Wait;
+
+/// Notes how many entries a source had stored when it was frozen.
+pub fn note_stored<W: World, J: Naming>(sources: &mut [Source<W, J>], at: usize, stored: u64)
+    requires there { at < length sources.old }
+    ensures { map (λ s. s.member.which) sources.new ≡ map (λ s. s.member.which) sources.old }
+{
+    sources[at].stored = stored;
+}
+
+// How many of the source's entries the target stands behind, where it lives.
+fn behind_in<W: World, J: Naming>(state: &ShardState<W, J>, slot: usize) -> u64 {
+    let lives = match state.mode() {
+        Mode::Following => true,
+        Mode::Serving => true,
+        _ => false,
+    };
+    if !lives {
+        return 0;
+    }
+    match state.behind(slot) {
+        Some(behind) => u64::try_from(behind).unwrap_or(0),
+        None => 0,
+    }
+}
+
+// How many entries a retired source has stored: its targets were level with it.
+fn stored_by<W: World, J: Naming>(rt: &impl Wait, slot: usize, targets: &[Target<W, J>]) -> u64 {
+    for target in targets {
+        if is_source_of(&target.member.which, slot) {
+            return behind_in(&target.member.shard.lock(rt), slot);
+        }
+    }
+    0
+}
+
+/// Notes how many entries the retired ones, which are the first, have stored.
+pub fn note_retired<W: World, J: Naming>(
+    rt: &impl Wait,
+    sources: &mut [Source<W, J>],
+    retired: usize,
+    targets: &[Target<W, J>],
+)
+    ensures { map (λ s. s.member.which) sources.new ≡ map (λ s. s.member.which) sources.old }
+{
+    for at in 0..sources.len() {
+        if at >= retired {
+            return;
+        }
+        let stored = stored_by(rt, sources[at].member.which.slot, targets);
+        note_stored(sources, at, stored);
+    }
+}

@@ -1,0 +1,25 @@
+-- The lists of targets for the sources that aren't retired, of a workflow that is made again.
+use Rattle.std.proofs.Common.{◌≡◌, ℕ, ◌+◌, ◌≤◌, true, drop, List, [], ◌∷◌, ◌++◌, map, sym, ap, ◌∙◌, subst}
+use Rattle.std.specs.Prelude.{◌==◌, Option, Some, None, IfSome}
+use Rattle.std.proofs.lemmas.Bool.{false≢true}
+use Rattle.std.proofs.lemmas.List.{drop-map}
+use Rattle.shard_run.specs.declared.Shard.{Shard}
+use Rattle.cutover_steps.specs.Steps.{named_for}
+use Rattle.cutover_steps.specs.Takings.{Taking, shards_of}
+use Rattle.reshard.specs.inner.Workflows.{IsPrepared}
+use Rattle.reshard_beginning.proofs.Begins.{map_twice}
+
+module _ {S T : Type 0} (which : S → Shard) (f : T → Taking) (sources : List S) (targets : List T) where
+  pub prepared_rest : (retired : ℕ) (named : List (List Shard)) → named ≡ map (λ s. named_for (which s) (map (λ t. (f t).0) targets)) (drop retired sources)
+      → IsPrepared (map which sources) (map f targets) retired true named
+  prepared_rest retired named is = record {
+    before = λ e. absurd (false≢true (sym e));
+    after = λ e.
+        is ∙ ap (λ (l : List Shard). map (λ s. named_for (which s) l) (drop retired sources)) (sym (map_twice (λ (t : Taking). t.0) f targets))
+        ∙ sym (map_twice (λ (s : Shard). named_for s (shards_of (map f targets))) which (drop retired sources))
+        ∙ ap (map (λ (s : Shard). named_for s (shards_of (map f targets)))) (sym (drop-map which retired sources));
+  }
+
+pub some_same : {X Y : Type 0} (v : X → Y) (y : Y) (P : Y → Type 0) (r : Option X) → IfSome r (λ x. v x ≡ y) → P y → IfSome r (λ x. P (v x))
+some_same v y P (Some x) e is = subst P (sym e) is
+some_same v y P None e is = tt

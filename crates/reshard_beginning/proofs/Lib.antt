@@ -1,0 +1,10 @@
+pub mod Ranges
+pub mod Named
+pub mod Splits
+pub mod Blank
+pub mod Making
+pub mod Begins
+pub mod Moving
+pub mod Unfit
+pub mod Seats
+pub mod Those

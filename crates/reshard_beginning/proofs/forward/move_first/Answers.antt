@@ -1,0 +1,64 @@
+use Rattle.std.proofs.Common.{◌≡◌, map, rules, subst}
+use Rattle.std.specs.Prelude.{Contains}
+use Rattle.std.specs.List.{AllByRecursion}
+use Rattle.shard_run.specs.declared.Shard.{Shard}
+use Rattle.follow.specs.declared.steps.Step.{Step}
+use Rattle.follow.specs.declared.steps.Step.TheVariants.{Level}
+use Rattle.follow.specs.Steps.{HasMovedWith}
+use Rattle.cutover_steps.specs.Takings.{Taking}
+use Rattle.cutover_steps.proofs.Onward.{onward_trans}
+use Rattle.cutover_steps.proofs.Retiring.{item_of, map_at}
+use Rattle.reshard_beginning.proofs.Unfit.{residual_same}
+use Rattle.reshard_beginning.proofs.Moving.{first_moved, level_next, all_moved, unmapped, move_refusal}
+use Rattle.reshard_beginning.proofs.forward.move_first.Goals as goal
+
+pub bring_forward_with-requires-clause-of_source : goal.bring_forward_with-requires-clause-of_source
+bring_forward_with-requires-clause-of_source g c =
+    let t = c.target-item.result in
+    let m =
+    map_at (λ t. (t.member.which, map (λ s. s.which) t.sources.items)) c.args.targets.now c.loop-target.target-index t c.loop-target-test.true c.target-item.is in
+    let own =
+    item_of (λ (t : Taking). AllByRecursion (λ s. Contains t.0.sources s.slot) t.1) (map (λ t. (t.member.which, map (λ s. s.which) t.sources.items)) c.args.targets.now)
+    c.loop-target.target-index (t.member.which, map (λ s. s.which) t.sources.items) m.0 m.1 c.requires.own in
+    subst (AllByRecursion (λ s. Contains t.member.which.sources s.which.slot)) (Rattle.std.proofs.Common.sym c.as_slice.ensures.value)
+    (unmapped (λ (s : Shard). Contains t.member.which.sources s.slot) (λ s. s.which) t.sources.items own)
+
+pub returns-in_err-step-clause-refused : goal.returns-in_err-step-clause-refused
+returns-in_err-step-clause-refused g c =
+    let t = c.target-item.result in
+    let m =
+    map_at (λ t. (t.member.which, map (λ s. s.which) t.sources.items)) c.args.targets.now c.loop-target.target-index t c.loop-target-test.true c.target-item.is in
+    residual_same c.from_residual.result c.in_err-step.field-0.0 _ c.from_residual.ensures.1
+    (move_refusal g.W.World.limits (map (λ t. (t.member.which, map (λ s. s.which) t.sources.items)) c.args.targets.now) c.loop-target.target-index
+    (t.member.which, map (λ s. s.which) t.sources.items) m.0 m.1 c.bring_forward_with.new.pass c.in_err-step.field-0.0 c.in_err-step.ensures.err)
+
+pub returns-then-ne-clause-moved : goal.returns-then-ne-clause-moved
+returns-then-ne-clause-moved g c =
+    let t = c.target-item.result in
+    let o = g.W.World.opening in
+    first_moved (λ t. (t.member.which, map (λ s. s.which) t.sources.items)) o c.args.pass.now c.loop-target.pass c.bring_forward_with.new.pass c.args.targets.now
+    c.loop-target.target-index t c.loop-target-test.true c.target-item.is c.loop-target.invariant.onward c.bring_forward_with.ensures.onward
+    c.loop-target.invariant.level c.in_ok-step.step
+    (subst (λ l. HasMovedWith o (map (λ s. s.which) l) t.member.which c.loop-target.pass c.bring_forward_with.new.pass c.in_ok-step.step) c.as_slice.ensures.value
+    c.in_ok-step.ensures.moved)
+
+pub loop-target-preserved : goal.loop-target-preserved
+loop-target-preserved g c =
+    let t = c.target-item.result in
+    let o = g.W.World.opening in
+    let same : c.in_ok-step.step ≡ Level = search rules in
+    record {
+      onward = onward_trans o c.args.pass.now c.loop-target.pass c.bring_forward_with.new.pass c.loop-target.invariant.onward c.bring_forward_with.ensures.onward;
+      level =
+          level_next (λ t. (t.member.which, map (λ s. s.which) t.sources.items)) o c.args.pass.now c.loop-target.pass c.bring_forward_with.new.pass
+          c.args.targets.now c.loop-target.target-index t c.loop-target-test.true c.target-item.is c.loop-target.invariant.onward
+          c.bring_forward_with.ensures.onward c.loop-target.invariant.level
+          (subst (λ (s : Step). HasMovedWith o (map (λ s. s.which) t.sources.items) t.member.which c.loop-target.pass c.bring_forward_with.new.pass s) same
+          (subst (λ l. HasMovedWith o (map (λ s. s.which) l) t.member.which c.loop-target.pass c.bring_forward_with.new.pass c.in_ok-step.step)
+          c.as_slice.ensures.value c.in_ok-step.ensures.moved));
+    }
+
+pub returns-clause-moved : goal.returns-clause-moved
+returns-clause-moved g c =
+    all_moved (λ t. (t.member.which, map (λ s. s.which) t.sources.items)) g.W.World.opening c.args.pass.now c.loop-target.pass c.args.targets.now
+    c.loop-target.target-index c.loop-target-test.false c.loop-target.invariant.level

@@ -1,0 +1,14 @@
+use Rattle.std.proofs.Common.{map, take}
+use Rattle.std.specs.List.{AllByRecursion}
+use Rattle.follow.specs.Steps.{IsOnward}
+use Rattle.reshard_beginning.proofs.Moving.{IsLevelWith}
+use Rattle.reshard_beginning.proofs.forward.move_first.Given as goal
+
+-- the targets so far are level
+abbrev pub invariant-loop-target : goal.invariant-loop-target
+invariant-loop-target g l = record {
+  onward : IsOnward g.W.World.opening l.fn.pass l.pass;
+  level :
+      AllByRecursion (IsLevelWith g.W.World.opening l.fn.pass l.pass)
+      (map (λ t. (t.member.which, map (λ s. s.which) t.sources.items)) (take l.target-index l.targets));
+}

@@ -1,0 +1,155 @@
+//! What a workflow begins with: its sources, its targets, and the parts of the partition that stay.
+ghost use Rattle.std.specs.Prelude.{◌≡◌, ◌≤◌, ◌++◌, ◌⊎◌, ◌<◌, ◌+◌, true, false, IfOk, IfErr, OnOk, OnErr, IsPermutation, map, reverse, length};
+ghost use Rattle.std.specs.List.{AllByRecursion};
+ghost use Rattle.keyrange.specs.Names.{IsNamed};
+ghost use Rattle.journal.specs.Runs.{IsLegal};
+ghost use Rattle.shard_run.specs.Openings.{IsOpening};
+ghost use Rattle.shard.specs.Shards.{MayFollow};
+ghost use Rattle.serving.specs.Partitions.{IsPartition, AreOf};
+ghost use Rattle.follow.specs.Steps.{IsOnward};
+ghost use Rattle.reshard_beginning.specs.Grounds.{IsFree, IsGround};
+ghost use Rattle.reshard_beginning.specs.Splits.{IsSplit, target_seats};
+ghost use Rattle.reshard_beginning.specs.Begun.{HasBegun, IsCreateRefusal};
+ghost use Rattle.reshard_beginning.specs.inner.Created.{IsSurvey};
+
+use crate::choosing::choose;
+use crate::creating::make_targets;
+use crate::fault::ReshardFault;
+use crate::finding::find_sources;
+use crate::ground::Ground;
+use cutover_steps::{Source, Target};
+use journal::{Naming, Pass, ShardSeat};
+use keyrange::KeyRange;
+use serving::{Part, Partition};
+use shard::{Shard, ShardLaw, World};
+use std::alloc::Global;
+use std::sync::Wait;
+use vschema::VSchema;
+use vt_value::Refusal;
+
+/// A partition has at most so many parts.
+pub const MOST_PARTS: usize = 64;
+
+/// Sources, the targets that take their place, and the parts that stay.
+#[derive(Drop)]
+pub struct Begun<W: World, J: Naming> {
+    pub sources: Vec<Source<W, J>>,
+    pub targets: Vec<Target<W, J>>,
+    pub rest: Vec<Part<Shard<W, J>>>,
+}
+
+// The ranges in the order of their begins.
+fn in_order(alloc: Global, ranges: &[KeyRange]) -> Result<Vec<KeyRange>, Refusal>
+    ensures ok { IfOk result (λ r. IsPermutation ranges.now r.items) }
+    ensures err { IfErr result (λ e. e ≡ Refusal.OutOfMemory) }
+{
+    let mut ordered = Vec::from_slice(alloc, ranges)?;
+    ordered.sort_unstable_by(|a, b| a.begin.as_slice().cmp(b.begin.as_slice()));
+    Ok(ordered)
+}
+
+// Whether there are too few slots, or too many parts, for so many targets.
+fn lack_slots(free: usize, rest: usize, targets: usize) -> bool
+    ensures few { result ≡ true → (free < targets) ⊎ (64 < rest + targets) }
+    ensures enough { result ≡ false → (targets ≤ free) × (rest + targets ≤ 64) }
+{
+    free < targets || rest > MOST_PARTS || targets > MOST_PARTS - rest
+}
+
+// The sources of a workflow, and the parts that stay.
+#[derive(Drop)]
+struct Surveyed<W: World, J: Naming> {
+    sources: Vec<Source<W, J>>,
+    rest: Vec<Part<Shard<W, J>>>,
+}
+
+// The sources of these ranges, where targets of those may take their place, for which so many slots are free.
+fn survey<W: World, J: Naming>(
+    rt: &impl Wait,
+    alloc: Global,
+    pass: &mut Pass<ShardLaw<W>, J>,
+    keyspace: usize,
+    free: usize,
+    current: &Partition<Shard<W, J>>,
+    sources: &[KeyRange],
+    targets: &[KeyRange],
+) -> Result<Surveyed<W, J>, ReshardFault>
+    requires legal { IsLegal (MayFollow W.opening) pass.old.seen }
+    requires home { AreOf keyspace current.now }
+    ensures found { IfOk result (λ f. IsSurvey keyspace sources.now targets.now current.now (map (λ s. s.member.which) f.sources.items) f.rest.items) }
+    ensures partition { IsPartition current.now }
+    ensures enough { OnOk result (length targets.now ≤ free) }
+    ensures onward { IsOnward W.opening pass.old pass.new }
+    ensures err { IfErr result (IsCreateRefusal W.opening pass.old pass.new keyspace free sources.now targets.now) }
+{
+    let chosen = choose(alloc, current.parts(), sources)?;
+    let found = find_sources(rt, alloc, pass, keyspace, &chosen, sources, targets)?;
+    if lack_slots(free, chosen.rest.len(), targets.len()) {
+        return Err(ReshardFault::FewSlots);
+    }
+    Ok(Surveyed {
+        sources: found,
+        rest: chosen.rest,
+    })
+}
+
+/// The sources of these ranges, and targets of those, on the last of the free slots. Refuses where no source is named, one is named twice or
+/// isn't a range of the partition, or its shard doesn't serve or is frozen; where two targets overlap; where they don't hold what the sources
+/// do; where too few slots are free; and for want of memory. Then no slot is taken.
+pub fn begin<W: World, J: Naming>(
+    rt: &impl Wait,
+    alloc: Global,
+    pass: &mut Pass<ShardLaw<W>, J>,
+    schema: &VSchema,
+    free: &mut Vec<ShardSeat<ShardLaw<W>, J>>,
+    ground: Ground,
+    current: &Partition<Shard<W, J>>,
+    sources: &[KeyRange],
+    targets: &[KeyRange],
+) -> Result<Begun<W, J>, ReshardFault>
+    requires opens { IsOpening W.opening }
+    requires schema { schema.now ≡ W.opening.schema }
+    requires ground { IsGround W.opening W.limits ground }
+    requires legal { IsLegal (MayFollow W.opening) pass.old.seen }
+    requires free { AllByRecursion (IsFree W.opening) free.old.items }
+    requires home { AreOf ground.keyspace current.now }
+    requires named { AllByRecursion IsNamed targets.now }
+    ensures begun { IfOk result (λ b. HasBegun (map (λ s. s.member.which) b.sources.items) (map (λ t. (t.member.which, map (λ s. s.which) t.sources.items)) b.targets.items)
+        ground.keyspace sources.now targets.now) }
+    ensures split { IfOk result (λ b. IsSplit (map (λ s. s.member.which) b.sources.items) (map (λ t. (t.member.which, map (λ s. s.which) t.sources.items)) b.targets.items)) }
+    ensures seated { IfOk result (λ b. map (λ t. t.member.shard.value) b.targets.items
+        ≡ target_seats (map (λ t. (t.member.which, map (λ s. s.which) t.sources.items)) b.targets.items)) }
+    ensures next { IfOk result (λ b. IsPartition (b.rest.items ++ map (λ t. t.member.shard.value) b.targets.items)) }
+    ensures at_home { IfOk result (λ b. AreOf ground.keyspace (b.rest.items ++ map (λ t. t.member.shard.value) b.targets.items)) }
+    ensures free { AllByRecursion (IsFree W.opening) free.new.items }
+    ensures onward { IsOnward W.opening pass.old pass.new }
+    ensures err { IfErr result (IsCreateRefusal W.opening pass.old pass.new ground.keyspace (length free.old.items) sources.now targets.now) }
+    ensures taken { IfOk result (λ b. map (λ s. s.slot) free.old.items ≡ map (λ s. s.slot) free.new.items ++ reverse (map (λ t. t.member.which.slot) b.targets.items)) }
+    ensures kept { OnErr result (map (λ s. s.slot) free.new.items ≡ map (λ s. s.slot) free.old.items) }
+{
+    let found = survey(
+        rt,
+        alloc,
+        pass,
+        ground.keyspace,
+        free.len(),
+        current,
+        sources,
+        targets,
+    )?;
+    let ranges = in_order(alloc, targets)?;
+    let made = make_targets(
+        rt,
+        alloc,
+        free,
+        schema,
+        ground,
+        found.sources.as_slice(),
+        ranges.as_slice(),
+    )?;
+    Ok(Begun {
+        sources: found.sources,
+        targets: made,
+        rest: found.rest,
+    })
+}

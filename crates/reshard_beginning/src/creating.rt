@@ -1,0 +1,376 @@
+//! A workflow begins: the shards that it replaces, and its targets.
+ghost use Rattle.shard_run.specs.declared.Shard as which;
+ghost use Rattle.std.specs.Prelude.{◌≡◌, ◌-◌, ◌+◌, ◌≤◌, ◌<◌, ◌^◌, ◌++◌, ◌∷◌, ◌⊎◌, [], ℕ, List, IfOk, IfErr, OnOk, OnErr, MatchOption, map, reverse, length, replicate, vec_len, vec_capacity};
+ghost use Rattle.std.specs.List.{AllByRecursion};
+ghost use Rattle.keyrange.specs.Names.{IsNamed};
+ghost use Rattle.journal.specs.Runs.{IsLegal};
+ghost use Rattle.shard_run.specs.Openings.{IsOpening};
+ghost use Rattle.shard.specs.Shards.{MayFollow};
+ghost use Rattle.follow.specs.Steps.{IsOnward};
+ghost use Rattle.reshard_beginning.specs.Splits.{target_seats, AreThose, AreOverlapped};
+ghost use Rattle.shard.specs.Seats.{seat_of};
+ghost use Rattle.reshard_beginning.specs.Grounds.{IsFree, IsGround};
+ghost use Rattle.reshard_beginning.specs.inner.Created.{IsSight, IsAway, IsPicked, HasGrown, IsMade, IsMadeOf};
+
+use crate::ground::Ground;
+use crate::undoing::{give_back, put, seat_back};
+use cutover_steps::{Source, Target, serves};
+use follow::Member;
+use journal::{Naming, Pass, ShardSeat};
+use keyrange::KeyRange;
+use serving::Part;
+use shard::{Limits, Shard, ShardLaw, ShardState, Store, World};
+use shard_run::Mode;
+use std::alloc::Global;
+use std::sync::{Arc, Wait};
+use vschema::{Place, VSchema};
+use vt_value::{Items, Refusal};
+
+// What a look at the shard of a slot and place shows.
+#[derive(Drop)]
+enum Sight {
+    Serves(shard_run::Shard),
+    DoesNot,
+    Another,
+}
+
+/// A copy of what names a shard.
+pub fn copy_shard(alloc: Global, shard: &shard_run::Shard) -> Result<shard_run::Shard, Refusal>
+    ensures ok { IfOk result (λ copy. copy ≡ shard.now) }
+    ensures err { IfErr result (λ e. e ≡ Refusal.OutOfMemory) }
+{
+    let sources = Items::from_slice(alloc, shard.sources.as_slice())?;
+    Ok(shard_run::Shard {
+        slot: shard.slot,
+        place: Place {
+            keyspace: shard.place.keyspace,
+            range: shard.place.range,
+        },
+        sources,
+    })
+}
+
+/// The same shard once more, which is shared.
+pub fn copy_member<W: World, J: Naming>(
+    alloc: Global,
+    member: &Member<W, J>,
+) -> Result<Member<W, J>, Refusal>
+    ensures ok { IfOk result (λ copy. copy.which ≡ member.now.which) }
+    ensures shard { IfOk result (λ copy. copy.shard.value ≡ member.now.shard.value) }
+    ensures err { IfErr result (λ e. e ≡ Refusal.OutOfMemory) }
+{
+    let shard = Arc::try_clone(&member.shard)?;
+    let which = copy_shard(alloc, &member.which)?;
+    Ok(Member { which, shard })
+}
+
+// One look at the shard of a part.
+fn try_source<W: World, J: Naming>(
+    state: &mut ShardState<W, J>,
+    alloc: Global,
+    pass: &mut Pass<ShardLaw<W>, J>,
+    slot: usize,
+    place: &Place,
+) -> Result<Sight, Refusal>
+    requires legal { IsLegal (MayFollow W.opening) pass.old.seen }
+    ensures sight { IfOk result (IsSight W.opening pass.new.seen slot place.now) }
+    ensures onward { IsOnward W.opening pass.old pass.new }
+    ensures err { IfErr result (λ e. e ≡ Refusal.OutOfMemory) }
+{
+    let _ = state.look(pass);
+    if !state.stands_at(slot, place) {
+        return Ok(Sight::Another);
+    }
+    if !serves(state) {
+        return Ok(Sight::DoesNot);
+    }
+    let which = copy_shard(alloc, state.shard())?;
+    Ok(Sight::Serves(which))
+}
+
+// The same under its lock.
+fn look_once<W: World, J: Naming>(
+    rt: &impl Wait,
+    alloc: Global,
+    pass: &mut Pass<ShardLaw<W>, J>,
+    part: &Part<Shard<W, J>>,
+    slot: usize,
+    place: &Place,
+) -> Result<Sight, Refusal>
+    requires legal { IsLegal (MayFollow W.opening) pass.old.seen }
+    ensures sight { IfOk result (IsSight W.opening pass.new.seen slot place.now) }
+    ensures onward { IsOnward W.opening pass.old pass.new }
+    ensures err { IfErr result (λ e. e ≡ Refusal.OutOfMemory) }
+{
+    try_source(&mut part.shard().lock(rt), alloc, pass, slot, place)
+}
+
+fn member_of<W: World, J: Naming>(
+    part: &Part<Shard<W, J>>,
+    which: shard_run::Shard,
+) -> Result<Member<W, J>, Refusal>
+    ensures ok { IfOk result (λ m. m.which ≡ which) }
+    ensures err { IfErr result (λ e. e ≡ Refusal.OutOfMemory) }
+{
+    let shard = Arc::try_clone(part.shard())?;
+    Ok(Member { which, shard })
+}
+
+// The shard of a part, where it serves and isn't frozen.
+pub(crate) fn source_of<W: World, J: Naming>(
+    rt: &impl Wait,
+    alloc: Global,
+    pass: &mut Pass<ShardLaw<W>, J>,
+    keyspace: usize,
+    part: &Part<Shard<W, J>>,
+) -> Result<Option<Member<W, J>>, Refusal>
+    requires legal { IsLegal (MayFollow W.opening) pass.old.seen }
+    ensures found { IfOk result (λ r. MatchOption r (IsAway W.opening pass.old pass.new keyspace part.now)
+        (λ m. IsPicked W.opening pass.old pass.new keyspace part.now m.which)) }
+    ensures onward { IsOnward W.opening pass.old pass.new }
+    ensures err { IfErr result (λ e. e ≡ Refusal.OutOfMemory) }
+{
+    let place = Place {
+        keyspace,
+        range: part.range(),
+    };
+    let slot = part.slot();
+    for _ in rt.forever() {
+        match look_once(rt, alloc, pass, part, slot, &place)? {
+            Sight::Serves(which) => {
+                let member = member_of(part, which)?;
+                return Ok(Some(member));
+            }
+            Sight::DoesNot => return Ok(None),
+            Sight::Another => {}
+        }
+    }
+    unreachable!()
+}
+
+/// Sources that a target takes from, and their slots.
+#[derive(Drop)]
+pub struct Own<W: World, J: Naming> {
+    pub slots: Items<usize>,
+    pub members: Vec<Member<W, J>>,
+}
+
+impl<W: World, J: Naming> Own<W, J> {
+    fn add(&mut self, alloc: Global, member: &Member<W, J>) -> Result<(), Refusal>
+        ensures slots { OnOk result (self.new.slots ≡ self.old.slots ++ member.now.which.slot ∷ []) }
+        ensures members { OnOk result (map (λ m. m.which) self.new.members.items ≡ map (λ m. m.which) self.old.members.items ++ member.now.which ∷ []) }
+        ensures err { IfErr result (λ e. e ≡ Refusal.OutOfMemory) }
+    {
+        self.slots.push(member.which.slot)?;
+        self.members.push(copy_member(alloc, member)?)?;
+        Ok(())
+    }
+}
+
+impl<W: World, J: Naming> Own<W, J> {
+    // Adds the source where it overlaps the range.
+    fn consider(
+        &mut self,
+        alloc: Global,
+        range: &KeyRange,
+        member: &Member<W, J>,
+    ) -> Result<(), Refusal>
+        requires { self.old.slots ≡ map (λ s. s.slot) (map (λ m. m.which) self.old.members.items) }
+        ensures slots { OnOk result (self.new.slots ≡ map (λ s. s.slot) (map (λ m. m.which) self.new.members.items)) }
+        ensures grown { OnOk result (HasGrown range.now member.now.which (map (λ m. m.which) self.old.members.items) (map (λ m. m.which) self.new.members.items)) }
+        ensures err { IfErr result (λ e. e ≡ Refusal.OutOfMemory) }
+    {
+        if !member.which.place.range.overlaps(range) {
+            return Ok(());
+        }
+        self.add(alloc, member)?;
+        Ok(())
+    }
+}
+
+/// Those of the sources that overlap the range.
+pub fn own_of<W: World, J: Naming>(
+    alloc: Global,
+    range: &KeyRange,
+    sources: &[Source<W, J>],
+) -> Result<Own<W, J>, Refusal>
+    ensures slots { IfOk result (λ own. own.slots ≡ map (λ s. s.slot) (map (λ m. m.which) own.members.items)) }
+    ensures own { IfOk result (λ own. AreOverlapped (map (λ s. s.member.which) sources.now) range.now (map (λ m. m.which) own.members.items)) }
+    ensures those { IfOk result (λ own. AreThose range.now (map (λ s. s.member.which) sources.now) (map (λ m. m.which) own.members.items)) }
+    ensures err { IfErr result (λ e. e ≡ Refusal.OutOfMemory) }
+{
+    let mut own = Own {
+        slots: Items::new(alloc),
+        members: Vec::new(alloc),
+    };
+    for source in sources {
+        own.consider(alloc, range, &source.member)?;
+    }
+    Ok(own)
+}
+
+// A store of the tables, which are empty.
+fn empty_store(alloc: Global, schema: &VSchema) -> Result<Store, Refusal>
+    ensures ok { IfOk result (λ store. store.rows ≡ replicate (length schema.now.tables) []) }
+    ensures err { IfErr result (λ e. e ≡ Refusal.OutOfMemory) }
+{
+    let mut store = Store::new(alloc);
+    for table in schema.tables.as_slice() {
+        store.push_table(alloc, table)?;
+    }
+    Ok(store)
+}
+
+// The state of a target's shard behind its lock, or its seat again.
+fn shared<W: World, J: Naming>(
+    rt: &impl Wait,
+    alloc: Global,
+    state: ShardState<W, J>,
+) -> Result<Arc<Shard<W, J>, Global>, ShardSeat<ShardLaw<W>, J>>
+    ensures seat { IfOk result (λ shard. shard.value ≡ seat_of state.shard) }
+    ensures free { IfErr result (IsFree W.opening) }
+    ensures slot { IfErr result (λ seat. seat.slot ≡ state.shard.slot) }
+{
+    let slot = state.slot();
+    match Arc::new(alloc, Shard::new(state)) {
+        Ok(shard) => Ok(shard),
+        Err(failed) => Err(seat_back(rt, failed.value, slot)),
+    }
+}
+
+// The shard of a target on the last of the free slots, which is told, without rows, behind its lock.
+fn open_shard<W: World, J: Naming>(
+    rt: &impl Wait,
+    alloc: Global,
+    free: &mut Vec<ShardSeat<ShardLaw<W>, J>>,
+    which: &mut shard_run::Shard,
+    schema: &VSchema,
+    limits: Limits,
+) -> Result<Arc<Shard<W, J>, Global>, Refusal>
+    requires opens { IsOpening W.opening }
+    requires keyspace { which.old.place.keyspace < length W.opening.schema.keyspaces }
+    requires free { AllByRecursion (IsFree W.opening) free.old.items }
+    requires some { 0 < vec_len free.old }
+    requires range { IsNamed which.old.place.range }
+    requires sources { which.old.sources ≡ [] → ⊥ }
+    requires schema { schema.now ≡ W.opening.schema }
+    requires limits { limits ≡ W.limits }
+    requires most_rows { limits.rows ≤ 2 ^ 20 }
+    requires most_stored { limits.stored ≤ 2 ^ 20 }
+    ensures seat { IfOk result (λ shard. shard.value ≡ seat_of which.new) }
+    ensures place { which.new.place ≡ which.old.place }
+    ensures sources { which.new.sources ≡ which.old.sources }
+    ensures free { AllByRecursion (IsFree W.opening) free.new.items }
+    ensures taken { OnOk result (map (λ s. s.slot) free.old.items ≡ map (λ s. s.slot) free.new.items ++ which.new.slot ∷ []) }
+    ensures kept { OnErr result (map (λ s. s.slot) free.new.items ≡ map (λ s. s.slot) free.old.items) }
+    ensures room { vec_capacity free.old ≤ vec_capacity free.new }
+    ensures err { IfErr result (λ e. e ≡ Refusal.OutOfMemory) }
+{
+    let store = empty_store(alloc, schema)?;
+    let mut copy = copy_shard(alloc, which)?;
+    let seat = free.pop().unwrap();
+    let slot = seat.slot();
+    copy.slot = slot;
+    which.slot = slot;
+    let state = ShardState::new(alloc, seat, copy, store, Mode::Following, limits);
+    match shared(rt, alloc, state) {
+        Ok(shard) => Ok(shard),
+        Err(seat) => {
+            put(free, seat);
+            Err(Refusal::OutOfMemory)
+        }
+    }
+}
+
+// A target of this range on a free slot, with those of the sources that overlap it.
+fn make_target<W: World, J: Naming>(
+    rt: &impl Wait,
+    alloc: Global,
+    free: &mut Vec<ShardSeat<ShardLaw<W>, J>>,
+    schema: &VSchema,
+    ground: Ground,
+    sources: &[Source<W, J>],
+    range: KeyRange,
+) -> Result<Target<W, J>, Refusal>
+    requires opens { IsOpening W.opening }
+    requires schema { schema.now ≡ W.opening.schema }
+    requires ground { IsGround W.opening W.limits ground }
+    requires free { AllByRecursion (IsFree W.opening) free.old.items }
+    requires some { 0 < vec_len free.old }
+    requires range { IsNamed range }
+    requires covered { (own : List which.Shard) → AreOverlapped (map (λ s. s.member.which) sources.now) range own → own ≡ [] → ⊥ }
+    ensures target { IfOk result (λ t. IsMade (map (λ s. s.member.which) sources.now) ground.keyspace range (t.member.which, map (λ s. s.which) t.sources.items)) }
+    ensures seat { IfOk result (λ t. t.member.shard.value ≡ seat_of t.member.which) }
+    ensures free { AllByRecursion (IsFree W.opening) free.new.items }
+    ensures taken { IfOk result (λ t. map (λ s. s.slot) free.old.items ≡ map (λ s. s.slot) free.new.items ++ t.member.which.slot ∷ []) }
+    ensures kept { OnErr result (map (λ s. s.slot) free.new.items ≡ map (λ s. s.slot) free.old.items) }
+    ensures room { vec_capacity free.old ≤ vec_capacity free.new }
+    ensures err { IfErr result (λ e. e ≡ Refusal.OutOfMemory) }
+{
+    let own = own_of(alloc, &range, sources)?;
+    let mut target = Blank {
+        which: shard_run::Shard {
+            slot: 0,
+            place: Place {
+                keyspace: ground.keyspace,
+                range,
+            },
+            sources: own.slots,
+        },
+        members: own.members,
+    };
+    let shard = open_shard(rt, alloc, free, &mut target.which, schema, ground.limits)?;
+    Ok(Target {
+        member: Member {
+            which: target.which,
+            shard,
+        },
+        sources: target.members,
+    })
+}
+
+// A target that has no shard yet.
+#[derive(Drop)]
+struct Blank<W: World, J: Naming> {
+    which: shard_run::Shard,
+    members: Vec<Member<W, J>>,
+}
+
+// A target of each range, on the last of the free slots.
+pub(crate) fn make_targets<W: World, J: Naming>(
+    rt: &impl Wait,
+    alloc: Global,
+    free: &mut Vec<ShardSeat<ShardLaw<W>, J>>,
+    schema: &VSchema,
+    ground: Ground,
+    sources: &[Source<W, J>],
+    ranges: &[KeyRange],
+) -> Result<Vec<Target<W, J>>, Refusal>
+    requires opens { IsOpening W.opening }
+    requires schema { schema.now ≡ W.opening.schema }
+    requires ground { IsGround W.opening W.limits ground }
+    requires free { AllByRecursion (IsFree W.opening) free.old.items }
+    requires enough { length ranges.now ≤ vec_len free.old }
+    requires ranges { AllByRecursion IsNamed ranges.now }
+    requires covered { AllByRecursion (λ r. (own : List which.Shard) → AreOverlapped (map (λ s. s.member.which) sources.now) r own → own ≡ [] → ⊥) ranges.now }
+    ensures targets { IfOk result (λ ts. (map (λ t. t.member.which.place.range) ts.items ≡ ranges.now)
+        × AllByRecursion (IsMadeOf (map (λ s. s.member.which) sources.now) ground.keyspace) (map (λ t. (t.member.which, map (λ s. s.which) t.sources.items)) ts.items)) }
+    ensures seats { IfOk result (λ ts. map (λ t. t.member.shard.value) ts.items
+        ≡ target_seats (map (λ t. (t.member.which, map (λ s. s.which) t.sources.items)) ts.items)) }
+    ensures free { AllByRecursion (IsFree W.opening) free.new.items }
+    ensures taken { IfOk result (λ ts. map (λ s. s.slot) free.old.items ≡ map (λ s. s.slot) free.new.items ++ reverse (map (λ t. t.member.which.slot) ts.items)) }
+    ensures kept { OnErr result (map (λ s. s.slot) free.new.items ≡ map (λ s. s.slot) free.old.items) }
+    ensures err { IfErr result (λ e. e ≡ Refusal.OutOfMemory) }
+{
+    let mut made = Vec::with_capacity(alloc, ranges.len())?;
+    for range in ranges {
+        match make_target(rt, alloc, free, schema, ground, sources, *range) {
+            Ok(target) => made.push(target)?,
+            Err(refusal) => {
+                give_back(rt, free, made);
+                return Err(refusal);
+            }
+        }
+    }
+    Ok(made)
+}

@@ -1,0 +1,103 @@
+//! Which shards a workflow replaces, and whether these targets may take their place.
+ghost use Rattle.std.specs.Prelude.{◌≡◌, ◌⊎◌, ◌++◌, IfOk, IfErr, OnOk, MatchOption, Contains, map, length};
+ghost use Rattle.std.specs.List.{AllByRecursion};
+ghost use Rattle.keyrange.specs.Ranges.{Cover};
+ghost use Rattle.serving.specs.Partitions.{Seat, AreOf};
+ghost use Rattle.journal.specs.Runs.{IsLegal};
+ghost use Rattle.shard.specs.Shards.{MayFollow};
+ghost use Rattle.follow.specs.Steps.{IsOnward};
+ghost use Rattle.reshard_beginning.specs.Choices.{AreApart};
+ghost use Rattle.reshard_beginning.specs.inner.Created.{IsAway, IsUnfit};
+
+use crate::choosing::{Chosen, any_overlap, next_ranges};
+use crate::creating::source_of;
+use crate::fault::ReshardFault;
+use cutover_steps::Source;
+use journal::{Naming, Pass};
+use keyrange::{KeyRange, covers_once};
+use serving::Part;
+use shard::{Shard, ShardLaw, World};
+use std::alloc::Global;
+use std::sync::Wait;
+use vt_value::Refusal;
+
+// The shards of the parts, where each serves and isn't frozen.
+pub(crate) fn sources_of<W: World, J: Naming>(
+    rt: &impl Wait,
+    alloc: Global,
+    pass: &mut Pass<ShardLaw<W>, J>,
+    keyspace: usize,
+    parts: &[Part<Shard<W, J>>],
+) -> Result<Option<Vec<Source<W, J>>>, Refusal>
+    requires legal { IsLegal (MayFollow W.opening) pass.old.seen }
+    requires home { AreOf keyspace parts.now }
+    ensures found { IfOk result (λ r. MatchOption r ((seat : Seat) × Contains parts.now seat × IsAway W.opening pass.old pass.new keyspace seat)
+        (λ sources. (map (λ s. (s.member.which.slot, s.member.which.place.range, s.member.which.place.keyspace)) sources.items ≡ parts.now)
+        × AllByRecursion (λ s. s.member.which.place.keyspace ≡ keyspace) sources.items)) }
+    ensures onward { IsOnward W.opening pass.old pass.new }
+    ensures err { IfErr result (λ e. e ≡ Refusal.OutOfMemory) }
+{
+    let mut sources = Vec::new(alloc);
+    for part in parts {
+        let Some(member) = source_of(rt, alloc, pass, keyspace, part)? else {
+            return Ok(None);
+        };
+        sources.push(Source { member, stored: 0 })?;
+    }
+    Ok(Some(sources))
+}
+
+// Whether targets of these ranges may stand beside the parts that stay.
+pub(crate) fn test_targets<W: World, J: Naming>(
+    alloc: Global,
+    rest: &[Part<Shard<W, J>>],
+    targets: &[KeyRange],
+) -> Result<(), ReshardFault>
+    ensures ok { OnOk result (Cover (map (λ s. s.1) rest.now ++ targets.now)) }
+    ensures err { IfErr result (λ e. (e ≡ ReshardFault.Refused Refusal.OutOfMemory) ⊎ (((e ≡ ReshardFault.Overlap) × (AreApart targets.now → ⊥))
+        ⊎ ((e ≡ ReshardFault.Gap) × (Cover (map (λ s. s.1) rest.now ++ targets.now) → ⊥)))) }
+{
+    if any_overlap(targets) {
+        return Err(ReshardFault::Overlap);
+    }
+    let ranges = next_ranges(alloc, rest, targets)?;
+    if covers_once(ranges.as_slice()) {
+        Ok(())
+    } else {
+        Err(ReshardFault::Gap)
+    }
+}
+
+// The sources of these ranges, where targets of those may take their place.
+pub(crate) fn find_sources<W: World, J: Naming>(
+    rt: &impl Wait,
+    alloc: Global,
+    pass: &mut Pass<ShardLaw<W>, J>,
+    keyspace: usize,
+    chosen: &Chosen<Shard<W, J>>,
+    sources: &[KeyRange],
+    targets: &[KeyRange],
+) -> Result<Vec<Source<W, J>>, ReshardFault>
+    requires legal { IsLegal (MayFollow W.opening) pass.old.seen }
+    requires home { AreOf keyspace chosen.now.taken.items }
+    ensures found { IfOk result (λ found. (map (λ s. (s.member.which.slot, s.member.which.place.range, s.member.which.place.keyspace)) found.items ≡ chosen.now.taken.items)
+        × AllByRecursion (λ s. s.member.which.place.keyspace ≡ keyspace) found.items) }
+    ensures cover { OnOk result (Cover (map (λ s. s.1) chosen.now.rest.items ++ targets.now)) }
+    ensures count { OnOk result (length chosen.now.taken.items ≡ length sources.now) }
+    ensures onward { IsOnward W.opening pass.old pass.new }
+    ensures err { IfErr result (IsUnfit W.opening pass.old pass.new keyspace sources.now targets.now chosen.now.taken.items chosen.now.rest.items) }
+{
+    if sources.is_empty() {
+        return Err(ReshardFault::WrongSource);
+    }
+    if chosen.taken.len() != sources.len() {
+        return Err(ReshardFault::WrongSource);
+    }
+    let Some(found) = sources_of(rt, alloc, pass, keyspace, chosen.taken.as_slice())? else {
+        return Err(ReshardFault::WrongSource);
+    };
+    match test_targets(alloc, chosen.rest.as_slice(), targets) {
+        Ok(()) => Ok(found),
+        Err(fault) => Err(fault),
+    }
+}

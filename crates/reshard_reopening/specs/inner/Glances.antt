@@ -1,0 +1,30 @@
+-- What a look at a shard of a stopped workflow finds.
+use Rattle.std.specs.Prelude.{◌≡◌, ℕ, List, ◌++◌, map}
+use Rattle.serving.specs.Partitions.{Seat}
+use Rattle.vschema.specs.declared.schema.Place.{Place}
+use Rattle.shard_run.specs.declared.Shard as S
+use Rattle.shard_run.specs.declared.Mode.{Mode}
+use Rattle.shard_run.specs.Runs.{Run, Opening, mode}
+use Rattle.shard_run.specs.Legal.{IsOnItsSlot}
+use Rattle.journal.specs.Views.{PassView}
+use Rattle.shard_run.specs.declared.Entry.{Entry}
+use Rattle.reshard_beginning.specs.Splits.{AreThose}
+use Rattle.reshard_reopening.specs.MadeAgain.{Found, AreFound}
+use Rattle.cutover_steps.specs.Takings.{Taking}
+
+-- after the run this shard stands on the slot, at the place, in this mode
+pub record IsGlance (o : Opening) (run : Run) (slot : ℕ) (place : Place) (s : S.Shard) (m : Mode) : Type 0 where
+  pub at : s.slot ≡ slot
+  pub in_place : s.place ≡ place
+  pub stands : IsOnItsSlot o run s
+  pub in_mode : m ≡ mode o run s.slot
+
+-- the target is made again: it takes from those of the sources that overlap it
+pub record IsTakenUp (sources : List S.Shard) (t : Taking) : Type 0 where
+  pub those : AreThose t.0.place.range sources t.1
+  pub are : t.0.sources ≡ map (λ s. s.slot) t.1
+
+-- the shards of these seats, as looks found them, of ranges that have names
+pub record IsBoth (o : Opening) (p now : PassView Entry) (from into : List Seat) (sources targets : List Found) : Type 0 where
+  pub of_sources : AreFound o p now from sources
+  pub of_targets : AreFound o p now into targets

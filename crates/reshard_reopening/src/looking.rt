@@ -1,0 +1,187 @@
+//! The shards of a workflow that stopped, each looked at once under its lock.
+ghost use Rattle.shard_run.specs.declared.Shard as which;
+ghost use Rattle.std.specs.Prelude.{◌≡◌, IfOk, IfErr, IfSome, map};
+ghost use Rattle.journal.specs.Runs.{IsLegal};
+ghost use Rattle.shard_run.specs.Runs.{mode};
+ghost use Rattle.shard.specs.Shards.{MayFollow};
+ghost use Rattle.follow.specs.Steps.{IsOnward};
+ghost use Rattle.shard.specs.Seats.{seat_of};
+ghost use Rattle.reshard_reopening.specs.MadeAgain.{IsFound, AreFound};
+ghost use Rattle.reshard_reopening.specs.inner.Glances.{IsGlance};
+
+use follow::Member;
+use journal::{Naming, Pass};
+use reshard_beginning::copy_shard;
+use serving::Part;
+use shard::{Shard, ShardLaw, ShardState, World};
+use shard_run::Mode;
+use std::alloc::Global;
+use std::sync::{Arc, Wait};
+use vschema::Place;
+use vt_value::Refusal;
+
+/// A shard, its mode in the run, how many entries it has stored, where it is frozen, and whether its rows are gone.
+#[derive(Drop)]
+pub(crate) struct Found<W: World, J: Naming> {
+    pub(crate) member: Member<W, J>,
+    pub(crate) mode: Mode,
+    pub(crate) stored: u64,
+    pub(crate) dropped: bool,
+}
+
+// The same without what lies behind its lock.
+#[derive(Drop)]
+struct Glance {
+    which: shard_run::Shard,
+    mode: Mode,
+    stored: u64,
+    dropped: bool,
+}
+
+// The mode that the run tells, which doesn't know whether rows are gone.
+fn mode_of<W: World, J: Naming>(state: &ShardState<W, J>) -> Mode
+    ensures { result ≡ mode W.opening state.now.seen state.now.shard.slot }
+{
+    match state.mode() {
+        Mode::Dropped => Mode::Retired,
+        other => other,
+    }
+}
+
+fn is_dropped<W: World, J: Naming>(state: &ShardState<W, J>) -> bool {
+    state.mode() == Mode::Dropped
+}
+
+// How many entries it has stored, where it is frozen.
+fn stored_of<W: World, J: Naming>(state: &ShardState<W, J>) -> u64 {
+    if state.mode() == Mode::Frozen {
+        state.stored()
+    } else {
+        0
+    }
+}
+
+// One look, where it is the shard of this slot and place.
+fn look_at<W: World, J: Naming>(
+    state: &mut ShardState<W, J>,
+    alloc: Global,
+    pass: &mut Pass<ShardLaw<W>, J>,
+    slot: usize,
+    place: &Place,
+) -> Result<Option<Glance>, Refusal>
+    requires legal { IsLegal (MayFollow W.opening) pass.old.seen }
+    ensures seen { IfOk result (λ r. IfSome r (λ g. IsGlance W.opening pass.new.seen slot place.now g.which g.mode)) }
+    ensures onward { IsOnward W.opening pass.old pass.new }
+    ensures err { IfErr result (λ e. e ≡ Refusal.OutOfMemory) }
+{
+    let _ = state.look(pass);
+    if !state.stands_at(slot, place) {
+        return Ok(None);
+    }
+    let which = copy_shard(alloc, state.shard())?;
+    Ok(Some(Glance {
+        which,
+        mode: mode_of(state),
+        stored: stored_of(state),
+        dropped: is_dropped(state),
+    }))
+}
+
+// The same under its lock.
+fn look_locked<W: World, J: Naming>(
+    rt: &impl Wait,
+    alloc: Global,
+    pass: &mut Pass<ShardLaw<W>, J>,
+    part: &Part<Shard<W, J>>,
+    slot: usize,
+    place: &Place,
+) -> Result<Option<Glance>, Refusal>
+    requires legal { IsLegal (MayFollow W.opening) pass.old.seen }
+    ensures seen { IfOk result (λ r. IfSome r (λ g. IsGlance W.opening pass.new.seen slot place.now g.which g.mode)) }
+    ensures onward { IsOnward W.opening pass.old pass.new }
+    ensures err { IfErr result (λ e. e ≡ Refusal.OutOfMemory) }
+{
+    look_at(&mut part.shard().lock(rt), alloc, pass, slot, place)
+}
+
+fn found_of<W: World, J: Naming>(
+    part: &Part<Shard<W, J>>,
+    glance: Glance,
+) -> Result<Found<W, J>, Refusal>
+    ensures which { IfOk result (λ f. f.member.which ≡ glance.which) }
+    ensures mode { IfOk result (λ f. f.mode ≡ glance.mode) }
+    ensures shard { IfOk result (λ f. f.member.shard.value ≡ part.now) }
+    ensures err { IfErr result (λ e. e ≡ Refusal.OutOfMemory) }
+{
+    let shard = Arc::try_clone(part.shard())?;
+    let Glance {
+        which,
+        mode,
+        stored,
+        dropped,
+    } = glance;
+    Ok(Found {
+        member: Member { which, shard },
+        mode,
+        stored,
+        dropped,
+    })
+}
+
+// The shard of a part. A lock can't tell which shard it holds, so that is tested; where it is another, which no run meets, it is taken again.
+fn find<W: World, J: Naming>(
+    rt: &impl Wait,
+    alloc: Global,
+    pass: &mut Pass<ShardLaw<W>, J>,
+    part: &Part<Shard<W, J>>,
+) -> Result<Found<W, J>, Refusal>
+    requires legal { IsLegal (MayFollow W.opening) pass.old.seen }
+    ensures found { IfOk result (λ f. IsFound W.opening pass.old pass.new (f.member.which, f.mode)) }
+    ensures seat { IfOk result (λ f. seat_of f.member.which ≡ part.now) }
+    ensures shard { IfOk result (λ f. f.member.shard.value ≡ part.now) }
+    ensures onward { IsOnward W.opening pass.old pass.new }
+    ensures err { IfErr result (λ e. e ≡ Refusal.OutOfMemory) }
+{
+    let place = Place {
+        keyspace: part.keyspace(),
+        range: part.range(),
+    };
+    let slot = part.slot();
+    for _ in rt.forever() {
+        if let Some(glance) = look_locked(rt, alloc, pass, part, slot, &place)? {
+            let found = found_of(part, glance)?;
+            return Ok(found);
+        }
+    }
+    unreachable!()
+}
+
+/// The shards of the parts, and the mode that a look at each finds.
+pub(crate) fn find_all<W: World, J: Naming>(
+    rt: &impl Wait,
+    alloc: Global,
+    pass: &mut Pass<ShardLaw<W>, J>,
+    parts: &[Part<Shard<W, J>>],
+) -> Result<Vec<Found<W, J>>, Refusal>
+    requires legal { IsLegal (MayFollow W.opening) pass.old.seen }
+    ensures found { IfOk result (λ found. AreFound W.opening pass.old pass.new parts.now (map (λ f. (f.member.which, f.mode)) found.items)) }
+    ensures shards { IfOk result (λ found. map (λ f. f.member.shard.value) found.items ≡ parts.now) }
+    ensures onward { IsOnward W.opening pass.old pass.new }
+    ensures err { IfErr result (λ e. e ≡ Refusal.OutOfMemory) }
+{
+    let mut found = Vec::new(alloc);
+    for part in parts {
+        found.push(find(rt, alloc, pass, part)?)?;
+    }
+    Ok(found)
+}
+
+/// Whether the rows of one of them are gone.
+pub(crate) fn any_dropped<W: World, J: Naming>(found: &[Found<W, J>]) -> bool {
+    for one in found {
+        if one.dropped {
+            return true;
+        }
+    }
+    false
+}
