@@ -1,6 +1,6 @@
 -- The lists of targets for the sources that aren't retired, of a workflow that is made again.
-use Rattle.std.proofs.Common.{◌≡◌, ℕ, ◌+◌, ◌≤◌, true, drop, List, [], ◌∷◌, ◌++◌, map, sym, ap, ◌∙◌, subst}
-use Rattle.std.specs.Prelude.{◌==◌, Option, Some, None, IfSome}
+use Rattle.std.proofs.Common.{◌≡◌, ℕ, true, drop, List, map, sym, ap, ◌∙◌, subst}
+use Rattle.std.specs.Prelude.{Option, Some, None, IfSome}
 use Rattle.std.proofs.lemmas.Bool.{false≢true}
 use Rattle.std.proofs.lemmas.List.{drop-map}
 use Rattle.shard_run.specs.declared.Shard.{Shard}

@@ -1,5 +1,5 @@
 -- What the steps of a cutover do to a workflow and to what the controller's pass has seen.
-use Rattle.std.specs.Prelude.{◌≡◌, ◌⊎◌, ◌<◌, ◌≤◌, ◌+◌, ◌^◌, true, List, length, Contains, Some, slice_get}
+use Rattle.std.specs.Prelude.{◌≡◌, ◌⊎◌, ◌≤◌, ◌+◌, ◌^◌, true, List, length, Contains, Some, slice_get}
 use Rattle.std.specs.List.{AllByRecursion}
 use Rattle.vt_value.specs.declared.refusal.Refusal.TheVariants.{OutOfMemory, ShardFull}
 use Rattle.journal.specs.Views.{PassView}

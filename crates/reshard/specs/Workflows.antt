@@ -1,5 +1,5 @@
 -- What contracts see of a workflow, and what it keeps.
-use Rattle.std.specs.Prelude.{◌≡◌, ℕ, ◌<◌, ◌≤◌, ◌^◌, ◌++◌, Bool, List, []}
+use Rattle.std.specs.Prelude.{◌≡◌, ℕ, ◌++◌, Bool, List}
 use Rattle.std.specs.List.{AllByRecursion}
 use Rattle.journal.specs.Views.{SeatView}
 use Rattle.serving.specs.Partitions.{Seat, IsPartition, AreOf}

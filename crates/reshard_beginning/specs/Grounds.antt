@@ -1,5 +1,5 @@
 -- What a workflow stands on: what is fixed for all of a keyspace, and the slots that no shard ever stood on.
-use Rattle.std.specs.Prelude.{◌≡◌, ℕ, ◌<◌, ◌≤◌, ◌^◌, ◌++◌, false, [], length}
+use Rattle.std.specs.Prelude.{◌≡◌, ◌<◌, ◌≤◌, ◌^◌, false, [], length}
 use Rattle.journal.specs.Views.{SeatView}
 use Rattle.shard_run.specs.declared.Entry.{Entry}
 use Rattle.shard_run.specs.Runs.{Opening, entries_on, is_opening}

@@ -1,5 +1,5 @@
 -- What a workflow is that is made again from its shards, and why it isn't.
-use Rattle.std.specs.Prelude.{◌≡◌, ◌⊎◌, ℕ, ◌+◌, ◌≤◌, not, ◌==◌, List, [], ◌∷◌, ◌++◌, length, map, filter, replicate}
+use Rattle.std.specs.Prelude.{◌≡◌, ◌⊎◌, ℕ, ◌+◌, ◌≤◌, not, ◌==◌, List, [], ◌++◌, length, map, filter, replicate}
 use Rattle.std.specs.List.{AllByRecursion, list_any}
 use Rattle.vt_value.specs.declared.refusal.Refusal.TheVariants.{OutOfMemory}
 use Rattle.keyrange.specs.Ranges.{Cover}

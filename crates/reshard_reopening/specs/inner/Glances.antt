@@ -1,5 +1,5 @@
 -- What a look at a shard of a stopped workflow finds.
-use Rattle.std.specs.Prelude.{◌≡◌, ℕ, List, ◌++◌, map}
+use Rattle.std.specs.Prelude.{◌≡◌, ℕ, List, map}
 use Rattle.serving.specs.Partitions.{Seat}
 use Rattle.vschema.specs.declared.schema.Place.{Place}
 use Rattle.shard_run.specs.declared.Shard as S

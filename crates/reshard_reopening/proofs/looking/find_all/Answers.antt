@@ -1,4 +1,4 @@
-use Rattle.std.proofs.Common.{◌≡◌, ◌∙◌}
+use Rattle.std.proofs.Common.{◌∙◌}
 use Rattle.shard.proofs.Progress.{take_whole}
 use Rattle.shard.specs.Seats.{seat_of}
 use Rattle.reshard_reopening.specs.MadeAgain.{Found}
