@@ -82,6 +82,33 @@ pub fn freeze<W: World, J: Naming>(
     unreachable!()
 }
 
+fn is_frozen<W: World, J: Naming>(state: &ShardState<W, J>) -> bool
+    ensures { result ≡ true → mode W.opening state.now.seen state.now.shard.slot ≡ Mode.Frozen }
+{
+    state.mode() == Mode::Frozen
+}
+
+// Thaws the shard, where it is this one and frozen.
+fn try_thaw<W: World, J: Naming>(
+    state: &mut ShardState<W, J>,
+    which: &shard_run::Shard,
+    pass: &mut Pass<ShardLaw<W>, J>,
+) -> bool
+    requires legal { IsLegal (MayFollow W.opening) pass.old.seen }
+    ensures thawed { result ≡ true → HasStepped W.opening which.now Event.Thaw pass.old pass.new }
+    ensures onward { IsOnward W.opening pass.old pass.new }
+{
+    let _ = state.look(pass);
+    if !state.is(which) {
+        return false;
+    }
+    if !is_frozen(state) {
+        return false;
+    }
+    state.thaw(pass);
+    true
+}
+
 /// Thaws the shard. Takes no memory.
 pub fn thaw<W: World, J: Naming>(
     rt: &impl Wait,
@@ -93,20 +120,11 @@ pub fn thaw<W: World, J: Naming>(
     ensures { HasStepped W.opening which.now Event.Thaw pass.old pass.new }
 {
     for _ in rt.forever() {
-        let mut state = shard.lock(rt);
-        let _ = state.look(pass);
-        if state.is(which) && state.mode() == Mode::Frozen {
-            state.thaw(pass);
+        if try_thaw(&mut shard.lock(rt), which, pass) {
             return;
         }
     }
     unreachable!()
-}
-
-fn is_frozen<W: World, J: Naming>(state: &ShardState<W, J>) -> bool
-    ensures { result ≡ true → mode W.opening state.now.seen state.now.shard.slot ≡ Mode.Frozen }
-{
-    state.mode() == Mode::Frozen
 }
 
 // Retires the shard, where it is this one, frozen, and has stored so many entries; else the targets come back.

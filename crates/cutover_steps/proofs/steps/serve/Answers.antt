@@ -1,6 +1,6 @@
 use Rattle.std.proofs.Common.{map}
 use Rattle.shard.proofs.Legality.{legal_is}
-use Rattle.cutover_steps.proofs.Onward.{stepped_after}
+use Rattle.cutover_steps.proofs.Onward.{onward_trans, stepped_after}
 use Rattle.cutover_steps.proofs.Retiring.{are_retired_later}
 use Rattle.cutover_steps.proofs.steps.serve.Goals as goal
 
@@ -12,3 +12,10 @@ try_serve-requires-clause-retired g c =
 
 pub returns-then-try_serve : goal.returns-then-try_serve
 returns-then-try_serve g c = stepped_after _ _ _ _ _ _ c.loop.invariant.onward (c.try_serve.ensures.served c.if-try_serve.true)
+
+pub loop-preserved : goal.loop-preserved
+loop-preserved g c = record {
+  next = tt;
+  finite = tt;
+  onward = onward_trans g.W.World.opening c.args.pass.now c.loop.pass c.try_serve.new.pass c.loop.invariant.onward c.try_serve.ensures.onward;
+}
