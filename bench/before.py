@@ -6,6 +6,8 @@ import pathlib
 import re
 import sys
 
+import lines
+
 BEGIN, END = "<!-- bench/before.sh begins -->", "<!-- bench/before.sh ends -->"
 NANOS = {"nanoseconds": 1, "microseconds": 1000}
 HEAD = """## Queries before shards could be split
@@ -18,17 +20,17 @@ time. Both are built by `rt try`, without optimisation and with checks of memory
 """
 
 
-def read(path):
-    """Nanoseconds by shards, rows and query."""
+def read(path, rounds):
+    """Nanoseconds by shards, rows and query, of one of so many rounds."""
     found = {}
     for line in pathlib.Path(path).read_text().splitlines():
         if it := re.match(r"shards (\d+), rows (\d+): (.*): (\d+) (\w+)$", line):
-            found[it[1], it[2], it[3]] = int(it[4]) * NANOS[it[5]]
+            found[it[1], it[2], it[3]] = int(it[4]) * NANOS[it[5]] / rounds.get(it[3], 1)
     return found
 
 
 def main():
-    before, now = read(sys.argv[1]), read(sys.argv[2])
+    before, now = read(sys.argv[1], {}), read(sys.argv[2], {name: rounds for name, rounds, _ in lines.QUERIES})
     part = HEAD.format(day=datetime.date.today(), commit=sys.argv[3])
     for key, took in before.items():
         part += f"| {' | '.join(key)} | {took / 1000:.0f} | {now[key] / 1000:.0f} | {now[key] / took:.2f} |\n"

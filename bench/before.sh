@@ -19,7 +19,11 @@ git -C "$top" worktree add -q --detach "$work/tree" "$commit"
 for rows in ${ROWS:-20 1000}; do
     (cd "$work/tree/crates/query_bench" && rt try --seconds 1200 -- "$rows" rates >> "$work/before" 2> "$work/before.log") &
     before=$!
-    (cd "$top/crates/bench" && rt try --seconds 1200 -- queries "$rows" rates >> "$work/now" 2> "$work/now.log") || { cat "$work/now.log" >&2; exit 1; }
+    for shards in 1 2 4 8; do
+        python3 "$top/bench/lines.py" "$shards" "$rows" > "$work/lines"
+        (cd "$top/crates/bench" && rt try --seconds 1200 < "$work/lines" > "$work/given" 2> "$work/now.log") || { cat "$work/now.log" >&2; exit 1; }
+        sed -n "s/^\(.*: [0-9]* nanoseconds\)$/shards $shards, rows $rows: \1/p" "$work/now.log" >> "$work/now"
+    done
     wait $before || { cat "$work/before.log" >&2; exit 1; }
 done
 python3 "$top/bench/before.py" "$work/before" "$work/now" "$commit" "${document[@]}"

@@ -1,10 +1,11 @@
-"""Writes what the measurements printed as tables, with ratios. Called by measure.sh with the folder that has their output."""
+"""Runs the lines of lines.py and writes how long they took as tables, with ratios. Called by measure.sh with the program of crates/bench."""
 
 import datetime
 import os
-import pathlib
-import re
+import subprocess
 import sys
+
+import lines
 
 HEAD = """# Performance
 
@@ -23,95 +24,123 @@ def table(head, rows):
         print("| " + " | ".join(str(it) for it in row) + " |")
 
 
-def numbers(line):
-    return [int(it) for it in re.findall(r"\d+", line)]
+def run(program, shards, asked):
+    """What each line gave over so many shards, as the program prints it, and the nanoseconds of all its rounds."""
+    ran = subprocess.run([program], input=lines.program_input(shards, asked), capture_output=True, text=True)
+    given, took = ran.stdout.splitlines(), ran.stderr.splitlines()
+    if ran.returncode or len(given) != len(asked) or len(took) != len(asked):
+        sys.exit(f"{program} failed with status {ran.returncode} behind {given[-1:]}: {took[-1:]}")
+    return [
+        (line, told.removeprefix(f"{line.name}: "), int(time.removeprefix(f"{line.name}: ").removesuffix(" nanoseconds")))
+        for line, told, time in zip(asked, given, took)
+    ]
 
 
-def texts(lines):
+def run_statements(program, shards, asked):
+    """The nanoseconds of a round by the statement's name, and of a row of the load."""
+    found, loading, rows = {}, 0, 0
+    for line, told, took in run(program, shards, asked):
+        if not told.isdigit():
+            sys.exit(f"{line.name} was {told}")
+        if line.name == "load":
+            loading, rows = loading + took, rows + int(told)
+        else:
+            found[line.name] = took / line.rounds
+    return {"load": loading / rows, **found} if rows else found
+
+
+def a_second(count, nanos):
+    return count * 10**9 // max(nanos, 1)
+
+
+def texts(program):
     print("\n## Reading SQL texts\n\nMegabytes a second: a point query, an INSERT of 4,096 numbers, and INSERTs of more and more texts.")
-    read = [numbers(it) for it in lines]
-    rows = [(size, lexed, ratio(lexed, read[0][1]), parsed, ratio(parsed, read[0][2])) for size, lexed, parsed in read]
+    asked = lines.texts(number_of("TEXTS", 20))
+    rates = [a_second(len(line.text) * line.rounds, took) // 10**6 for line, _, took in run(program, 1, asked)]
+    lexed, parsed = rates[::2], rates[1::2]
+    rows = [
+        (len(line.text), lex, ratio(lex, lexed[0]), parse, ratio(parse, parsed[0])) for line, lex, parse in zip(asked[::2], lexed, parsed)
+    ]
     table(("bytes", "lexing", "ratio", "parsing", "ratio"), rows)
 
 
-def costly(lines):
+def costly(program):
     print("\n## Costly texts\n\nKilobytes a second of texts that are read, resolved and planned over 32 shards, and have much of one thing. The INSERT is refused:")
     print("its columns aren't there. The ratio is to the shorter text of the kind.")
     rows, first = [], {}
-    for line in lines:
-        size, name, length, rate = re.match(r"(\d+) (.*): (\d+) bytes: (\d+) kB/s", line).groups()
-        first.setdefault(name, int(rate))
-        rows.append((size, name, length, rate, ratio(int(rate), first[name])))
+    for line, _, took in run(program, 32, lines.costly(number_of("COSTLY", 100_000))):
+        many, name = line.name.split(" ", 1)
+        rate = a_second(len(line.text), took) // 1000
+        first.setdefault(name, rate)
+        rows.append((many, name, len(line.text), rate, ratio(rate, first[name])))
     table(("how many", "of what", "bytes", "kB/s", "ratio"), rows)
 
 
-def entries(lines):
+def entries(program):
     print("\n## The journal\n\nAppends and looks a second by threads that each have a slot of their own, and by threads that share one.")
-    rows, first = [], None
-    for line in lines:
-        name, _, rest = line.partition(":")
-        appends, looks = numbers(rest)
-        first = first or (appends, looks)
-        rows.append((name, appends, ratio(appends, first[0]), looks, ratio(looks, first[1])))
+    ran = run(program, 1, lines.entries(number_of("ENTRIES", 1_000_000)))
+    rates = [a_second(line.threads * line.rounds, took) for line, _, took in ran]
+    rows = [
+        (line.name, appends, ratio(appends, rates[0]), looks, ratio(looks, rates[1]))
+        for (line, _, _), appends, looks in zip(ran[::2], rates[::2], rates[1::2])
+    ]
     table(("", "appends", "ratio", "looks", "ratio"), rows)
 
 
-def query_line(line):
-    """Returns the shards, the rows in each, the query's name and its nanoseconds, if the line has them."""
-    found = re.match(r"shards (\d+), rows (\d+): (.*): (\d+) nanoseconds", line)
-    return (found[1], found[2], found[3], int(found[4])) if found else None
-
-
-def queries(lines):
+def queries(program):
     print("\n## Queries\n\nMicroseconds a query through the engine, without a connection, over more and more shards. The ratio is to one shard.")
-    rows, first, planning = [], {}, ""
-    for line in lines:
-        found = query_line(line)
-        if found:
-            shards, each, name, nanos = found
-            if name == "load":
-                continue
+    rows, first, each = [], {}, number_of("ROWS", 1000)
+    for shards in (1, 2, 4, 8):
+        took = run_statements(program, shards, lines.asked(shards, each, lines.QUERIES))
+        del took["load"]
+        for name, nanos in took.items():
             first.setdefault(name, nanos)
             rows.append((name, shards, each, f"{nanos / 1000:.1f}", ratio(nanos, first[name])))
-        else:
-            planning = line
     table(("query", "shards", "rows in each", "microseconds", "ratio"), rows)
-    print(f"\n{planning[:1].upper()}{planning[1:]}.")
+    planning = run_statements(program, 1, lines.planning())["planning"]
+    print(f"\nReading and planning a point query: {planning:.0f} nanoseconds.")
 
 
-def few(lines):
+def few(program):
     print("\n## Queries over one row a shard\n\nThe same over one row in each shard, read by the session's own thread. The ratio is to a point query over as many shards.")
-    rows, point = [], 0
-    for shards, _, name, nanos in filter(None, map(query_line, lines)):
-        point = nanos if name == "point" else point
-        if name in ("point", "scatter"):
-            rows.append((name, shards, f"{nanos / 1000:.1f}", ratio(nanos, point)))
+    rows = []
+    for shards in (1, 2, 4, 8):
+        took = run_statements(program, shards, lines.asked(shards, 1, lines.QUERIES))
+        for name in ("point", "scatter"):
+            rows.append((name, shards, f"{took[name] / 1000:.1f}", ratio(took[name], took["point"])))
     table(("query", "shards", "microseconds", "ratio"), rows)
 
 
-def store(lines):
+def store(program):
     print("\n## A store of rows\n\nMicroseconds a statement on one shard of few rows and on one of many, and a row of its loading by INSERTs of 1,000 rows. A SELECT")
     print("and an UPDATE by the whole primary key, and an INSERT of one row, look the key up; LIMIT 1 ends with its row, COUNT(*) walks all rows.")
-    rows, first = [], {}
-    for line in lines:
-        shards, each, name, nanos = query_line(line)
-        first.setdefault(name, nanos)
-        rows.append((name, each, f"{nanos / 1000:.1f}", ratio(nanos, first[name])))
+    rows, first, many = [], {}, number_of("STORE", 1_000_000)
+    for each in (max(many // 1000, 1), many):
+        for name, nanos in run_statements(program, 1, lines.asked(1, each, lines.BY_KEY)).items():
+            first.setdefault(name, nanos)
+            rows.append((name, each, f"{nanos / 1000:.1f}", ratio(nanos, first[name])))
     table(("statement", "rows", "microseconds", "ratio"), rows)
 
 
-def writes(lines):
+def writes(program):
     print("\n## Writes and point queries\n\nStatements a second on one shard, by one session and by two in threads of their own.")
-    read = [numbers(it) for it in lines]
-    rows = [(sessions, inserts, ratio(inserts, read[0][1]), selects, ratio(selects, read[0][2])) for sessions, inserts, selects in read]
+    rows, first = [], ()
+    for sessions in (1, 2):
+        took = run_statements(program, 1, lines.writes(sessions, number_of("WRITES", 4000)))
+        inserts, selects = (a_second(sessions, took[name]) for name in ("INSERTs", "SELECTs"))
+        first = first or (inserts, selects)
+        rows.append((sessions, f"{inserts:.0f}", ratio(inserts, first[0]), f"{selects:.0f}", ratio(selects, first[1])))
     table(("sessions", "INSERTs", "ratio", "SELECTs", "ratio"), rows)
 
 
+def number_of(name, otherwise):
+    return int(os.environ.get(name, otherwise))
+
+
 def main():
-    folder = pathlib.Path(sys.argv[1])
     print(HEAD.format(day=datetime.date.today(), cores=os.cpu_count()), end="")
-    for name, write in (("texts", texts), ("costly", costly), ("entries", entries), ("queries", queries), ("few", few), ("store", store), ("writes", writes)):
-        write((folder / name).read_text().splitlines())
+    for write in (texts, costly, entries, queries, few, store, writes):
+        write(sys.argv[1])
 
 
 if __name__ == "__main__":

@@ -1,118 +1,155 @@
-//! Looks at and appends to the journal by several threads.
-ghost use Rattle.std.specs.Prelude.{◌≡◌};
+//! Looks at and appends to a journal by several threads.
+ghost use Rattle.std.specs.Prelude.{◌≡◌, length};
+ghost use Rattle.std.specs.List.{filter};
+ghost use Rattle.journal.specs.Runs.{on_slot};
 
-use crate::load::{Load, Slots, Step, open_shards, run};
-use crate::marks::{Free, Shard};
-use crate::rates::{each_second, refused};
-use journal::{Naming, Opened, Pass};
+use crate::line::{Line, Measured};
+use journal::{Law, Naming, Opened, Pass, ShardSeat};
 use std::alloc::Global;
-use std::io;
 use std::marker::Brand;
 use std::sync::{Mutex, Wait};
-use std::thread::Threads;
-use std::time::{Clock, Duration, Instant};
+use std::thread::{Threads, map_vec};
+use vt_value::Refusal;
 
-// How long all rounds of a step took.
-fn timed<J: Naming + Send + Sync, R: Threads + Wait + Clock + Sync>(
+/// An entry is the number of its slot, and may follow any run.
+struct Free;
+
+impl Law for Free {
+    ghost use Rattle.std.specs.Prelude.{None};
+
+    type Entry = usize;
+
+    ghost slot_of = { λ e. e };
+
+    ghost commit_of = { λ _. None };
+
+    ghost may_follow = { λ _ _. Unit {0} };
+}
+
+/// A seat with the number of entries on its slot.
+#[derive(Drop)]
+struct Shard<J: Naming> {
+    seat: ShardSeat<Free, J>,
+    count: u64,
+    ghost counted: { count ≡ length (filter (on_slot (λ e. e) seat.slot) seat.seen) },
+}
+
+impl<J: Naming> Shard<J> {
+    fn new(mut seat: ShardSeat<Free, J>, pass: &mut Pass<Free, J>) -> Shard<J> {
+        let count = seat.look(pass);
+        Shard { seat, count }
+    }
+
+    // The number of entries on the slot.
+    fn look(&mut self, pass: &mut Pass<Free, J>) -> u64 {
+        self.count = self.seat.look(pass);
+        self.count
+    }
+
+    // Appends an entry, unless 2^62 were appended.
+    fn append(&mut self, pass: &mut Pass<Free, J>) {
+        if self.count < 1 << 62 {
+            let slot = self.seat.slot();
+            self.seat.append(pass, &slot);
+            self.count += 1;
+        }
+    }
+}
+
+// The rounds of one thread.
+fn work<J: Naming>(
+    rt: &impl Wait,
+    shard: &Mutex<Shard<J>>,
+    pass: &mut Pass<Free, J>,
+    line: Line<'_>,
+) {
+    for _ in 0..line.rounds {
+        let mut shard = shard.lock(rt);
+        match line.measured {
+            Measured::Append => shard.append(pass),
+            _ => {
+                shard.look(pass);
+            }
+        }
+    }
+}
+
+// The shards of the line's slots, each under a lock.
+fn open_shards<J: Naming>(
+    alloc: Global,
+    seats: &mut Vec<ShardSeat<Free, J>>,
+    pass: &mut Pass<Free, J>,
+    line: Line<'_>,
+) -> Result<Vec<Mutex<Shard<J>>>, Refusal> {
+    let slots = line.text.parse::<usize>().unwrap_or(1);
+    let mut shards = Vec::new(alloc);
+    for seat in seats.drain(..).take(slots) {
+        shards.push(Mutex::new(Shard::new(seat, pass)))?;
+    }
+    Ok(shards)
+}
+
+// What each thread works on, with a pass of its own.
+fn jobs<'s, J: Naming>(
+    alloc: Global,
+    shards: &'s [Mutex<Shard<J>>],
+    first: &mut Pass<Free, J>,
+    line: Line<'_>,
+) -> Result<Vec<(&'s Mutex<Shard<J>>, Pass<Free, J>)>, Refusal> {
+    let mut jobs = Vec::new(alloc);
+    for shard in shards.iter().cycle().take(line.threads as usize) {
+        jobs.push((shard, first.split()?))?;
+    }
+    Ok(jobs)
+}
+
+// Runs the threads to their ends, and gives how many entries there are then.
+fn run<J: Naming + Send + Sync, R: Threads + Wait + Sync>(
     rt: &R,
     alloc: Global,
     shards: &[Mutex<Shard<J>>],
     first: &mut Pass<Free, J>,
-    load: Load,
-    step: Step,
-) -> io::Result<Duration> {
-    let begun = Instant::now(rt)?;
-    run(rt, alloc, shards, first, load, step).map_err(refused)?;
-    begun.elapsed(rt)
-}
-
-// Prints how many entries each slot has.
-fn print_counts<J: Naming, R: Wait + Print>(
-    rt: &R,
-    shards: &[Mutex<Shard<J>>],
-    first: &mut Pass<Free, J>,
-    load: Load,
-) -> io::Result<()> {
-    let Load { threads, slots, .. } = load;
-    print!(rt; "threads {threads}, {}:", slots.name())?;
+    line: Line<'_>,
+) -> Result<u64, Refusal> {
+    let jobs = jobs(alloc, shards, first, line)?;
+    map_vec(
+        rt,
+        jobs,
+        &|(shard, mut pass)| work(rt, shard, &mut pass, line),
+    )?;
+    let mut entries = 0u64;
     for shard in shards {
-        let count = shard.lock(rt).look(first);
-        print!(rt; " {count}")?;
+        entries = entries.wrapping_add(shard.lock(rt).look(first));
     }
-    println!(rt; "")
+    Ok(entries)
 }
 
-// Appends and then looks.
-fn measure_shards<J: Naming + Send + Sync, R: Threads + Wait + Clock + Print + Sync>(
-    rt: &R,
-    alloc: Global,
-    shards: &[Mutex<Shard<J>>],
-    first: &mut Pass<Free, J>,
-    load: Load,
-    rates: bool,
-) -> io::Result<()> {
-    let appended = timed(rt, alloc, shards, first, load, Step::Append)?;
-    let looked = timed(rt, alloc, shards, first, load, Step::Look)?;
-    if !rates {
-        return print_counts(rt, shards, first, load);
-    }
-    let Load {
-        threads,
-        rounds,
-        slots,
-    } = load;
-    let steps = u64::from(threads).saturating_mul(u64::from(rounds));
-    let appends = each_second(steps, appended);
-    let looks = each_second(steps, looked);
-    let slots = slots.name();
-    println!(rt; "threads {threads}, {slots}: {appends} appends a second, {looks} looks a second")
-}
-
-// On a table of its own.
-fn measure<J: Naming + Send + Sync, R: Threads + Wait + Clock + Print + Sync>(
+// In the journal that was opened.
+fn run_opened<J: Naming + Send + Sync, R: Threads + Wait + Sync>(
     rt: &R,
     alloc: Global,
     opened: Opened<Free>,
-    load: Load,
-    rates: bool,
-) -> io::Result<()>
+    line: Line<'_>,
+) -> Result<u64, Refusal>
     requires { opened ≡ J.table }
 {
     match opened.named::<J>(alloc) {
-        Err(refusal) => Err(refused(refusal)),
-        Ok((mut seats, _opener, mut first)) => match open_shards(alloc, &mut seats, &mut first) {
-            Err(refusal) => Err(refused(refusal)),
-            Ok(shards) => measure_shards(rt, alloc, &shards, &mut first, load, rates),
-        },
-    }
-}
-
-fn measure_new<R: Threads + Wait + Clock + Print + Sync>(
-    rt: &R,
-    alloc: Global,
-    load: Load,
-    rates: bool,
-) -> io::Result<()> {
-    let opened = Opened::<Free>::new(alloc).map_err(refused)?;
-    measure::<Brand, R>(rt, alloc, opened, load, rates)
-}
-
-/// By 1, 2 and 4 threads, each on a slot of its own and all on one slot; each looks and appends so often.
-pub fn measure_entries<R: Threads + Wait + Clock + Print + Sync>(
-    rt: &R,
-    alloc: Global,
-    rounds: u32,
-    rates: bool,
-) -> io::Result<()> {
-    for slots in [Slots::Own, Slots::One] {
-        for threads in [1, 2, 4] {
-            let load = Load {
-                threads,
-                rounds,
-                slots,
-            };
-            measure_new(rt, alloc, load, rates)?;
+        Err(refusal) => Err(refusal),
+        Ok((mut seats, _opener, mut first)) => {
+            match open_shards(alloc, &mut seats, &mut first, line) {
+                Err(refusal) => Err(refusal),
+                Ok(shards) => run(rt, alloc, &shards, &mut first, line),
+            }
         }
     }
-    Ok(())
+}
+
+/// Appends or looks by the line's threads in a new journal, and gives how many entries there are then.
+pub fn run_entries<R: Threads + Wait + Sync>(
+    rt: &R,
+    alloc: Global,
+    line: Line<'_>,
+) -> Result<u64, Refusal> {
+    let opened = Opened::<Free>::new(alloc)?;
+    run_opened::<Brand, R>(rt, alloc, opened, line)
 }

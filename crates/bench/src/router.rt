@@ -1,99 +1,99 @@
-//! A router over empty shards, and what a statement told there.
-ghost use Rattle.std.specs.Prelude.{◌≡◌, None, IsSome, IsTrue, IfOk};
-ghost use Rattle.std.specs.List.{AllByRecursion};
-ghost use Rattle.keyrange.specs.Names.{IsNamed};
-ghost use Rattle.vschema.specs.WellFormed.{is_vschema};
-ghost use Rattle.empty_opening.specs.Empty.{FitRanges};
-
-use crate::rates::refused;
-use crate::tables::SCHEMA;
-use empty_opening::opening_shards;
-use journal::{Naming, Pass};
-use keyrange::{KeyRange, covers_once};
-use route_engine::{Answer, Engine, Open, Tx};
+//! Runs lines over a router, and tells what each gave.
+use crate::entries::run_entries;
+use crate::line::{Line, Measured};
+use crate::sessions::run_sessions;
+use crate::statement::Statement;
+use crate::texts::read_text;
+use journal::{Naming, Opener, Pass};
+use keyrange::KeyRange;
+use route_engine::{Engine, Open};
 use shard::{ShardLaw, World};
 use std::alloc::Global;
-use std::io;
 use std::sync::Wait;
 use std::thread::Threads;
-use vschema::VSchema;
+use std::time::{Clock, Duration, Instant};
+use std::{io, str};
 use vt_value::Refusal;
 
-/// How many rows an answer gives or tells of.
-fn amount(answer: &Answer) -> u64 {
-    match answer {
-        Answer::Rows(selected) => selected.rows.len() as u64,
-        Answer::Count(count) => *count,
+/// A router over these ranges, with what opens its sessions.
+#[derive(Drop)]
+pub struct Router<'r, W: World, J: Naming> {
+    pub engine: Engine<W, J, Open>,
+    pub opener: Opener<ShardLaw<W>, J>,
+    pub first: Pass<ShardLaw<W>, J>,
+    pub ranges: &'r [KeyRange],
+}
+
+/// What a refusal is to the program.
+pub fn refused(refusal: Refusal) -> io::Error {
+    match refusal {
+        Refusal::OutOfMemory => io::Error::from(io::ErrorKind::OutOfMemory),
+        _ => io::Error::from(io::ErrorKind::InvalidInput),
     }
 }
 
-/// How many rows a statement gave or changed.
-pub fn told<W: World + Send + Sync, J: Naming + Send + Sync>(
-    rt: &(impl Threads + Wait + Sync),
-    alloc: Global,
-    engine: &Engine<W, J, Open>,
-    pass: &mut Pass<ShardLaw<W>, J>,
-    text: &[u8],
-) -> Result<u64, Refusal>
-    requires { IsSome pass.old.session }
-    ensures { pass.new.session ≡ pass.old.session }
-{
-    let mut tx = Tx::new();
-    told_in(rt, alloc, engine, pass, &mut tx, text)
-}
-
-// The same by a transaction's place, in which none is open.
-fn told_in<W: World + Send + Sync, J: Naming + Send + Sync>(
-    rt: &(impl Threads + Wait + Sync),
-    alloc: Global,
-    engine: &Engine<W, J, Open>,
-    pass: &mut Pass<ShardLaw<W>, J>,
-    tx: &mut Tx<W, J>,
-    text: &[u8],
-) -> Result<u64, Refusal>
-    requires session { IsSome pass.old.session }
-    requires closed { tx.old ≡ None }
-    ensures { pass.new.session ≡ pass.old.session }
-{
-    match engine.execute(rt, alloc, pass, tx, text) {
-        Ok(reply) => Ok(amount(&reply.answer)),
-        Err(refusal) => Err(refusal),
+fn print_given<R: Print + Eprint>(
+    rt: &R,
+    name: &str,
+    given: Result<u64, Refusal>,
+    time: Duration,
+) -> io::Result<()> {
+    match given {
+        Ok(amount) => println!(rt; "{name}: {amount}")?,
+        Err(refusal) => println!(rt; "{name}: refused by {}", refusal.code())?,
     }
+    let nanos = u64::try_from(time.as_nanos()).unwrap_or(u64::MAX);
+    eprintln!(rt; "{name}: {nanos} nanoseconds")
 }
 
-/// What wrong ranges are to the program.
-pub fn no_range() -> io::Error {
-    io::Error::from(io::ErrorKind::InvalidInput)
-}
-
-/// The range of a name.
-pub fn named(name: &str) -> io::Result<KeyRange>
-    ensures { IfOk result IsNamed }
-{
-    match KeyRange::read(name) {
-        // by its edges: the check can't follow a whole range of another crate here
-        Some(KeyRange { begin, end }) => Ok(KeyRange { begin, end }),
-        None => Err(no_range()),
+impl<W: World + Send + Sync, J: Naming + Send + Sync> Router<'_, W, J> {
+    // What a line gives, whose statement is read.
+    fn measure<R: Threads + Wait + Sync>(
+        &mut self,
+        rt: &R,
+        alloc: Global,
+        line: Line<'_>,
+        statement: &Statement<'_>,
+    ) -> Result<u64, Refusal> {
+        let Router {
+            engine,
+            opener,
+            first,
+            ranges,
+        } = self;
+        match line.measured {
+            Measured::Run => run_sessions(rt, alloc, engine, opener, first, line, statement),
+            Measured::Append | Measured::Look => run_entries(rt, alloc, line),
+            _ => read_text(alloc, engine.schema(), ranges, line),
+        }
     }
-}
 
-/// The VSchema of the table that is measured.
-pub fn schema(alloc: Global) -> io::Result<VSchema>
-    ensures { IfOk result (λ schema. IsTrue (is_vschema schema)) }
-{
-    match VSchema::read(alloc, SCHEMA) {
-        Ok(schema) => Ok(schema),
-        Err(_) => Err(refused(Refusal::OutOfMemory)),
+    // Tells what a line gives.
+    fn run_line<R: Threads + Wait + Clock + Print + Eprint + Sync>(
+        &mut self,
+        rt: &R,
+        alloc: Global,
+        line: Line<'_>,
+    ) -> io::Result<()> {
+        let statement = Statement::read(alloc, line.text).map_err(refused)?;
+        let begun = Instant::now(rt)?;
+        let given = self.measure(rt, alloc, line, &statement);
+        print_given(rt, line.name, given, begun.elapsed(rt)?)
     }
-}
 
-/// Whether the ranges hold each keyspace id once and the shards fit into 64 slots.
-pub fn fits(alloc: Global, schema: &VSchema, ranges: &[KeyRange]) -> io::Result<bool>
-    requires { AllByRecursion IsNamed ranges.now }
-    ensures { IfOk result (λ b. IsTrue b → FitRanges schema.now ranges.now) }
-{
-    match opening_shards(alloc, schema, ranges) {
-        Ok(shards) => Ok(shards.len() <= 64 && covers_once(ranges)),
-        Err(refusal) => Err(refused(refusal)),
+    /// Runs the lines of a text, one after the other.
+    pub fn run_lines<R: Threads + Wait + Clock + Print + Eprint + Sync>(
+        &mut self,
+        rt: &R,
+        alloc: Global,
+        text: &[u8],
+    ) -> io::Result<()> {
+        for line in str::from_utf8(text).unwrap_or("").lines() {
+            match Line::read(line) {
+                Some(line) => self.run_line(rt, alloc, line)?,
+                None => return Err(refused(Refusal::SyntaxError)),
+            }
+        }
+        Ok(())
     }
 }

@@ -1,7 +1,0 @@
-use Rattle.shard.specs.Shards.{most_limits}
-use Rattle.empty_opening.specs.Empty.{opening_of}
-use Rattle.bench.proofs.queries.measure_over.Given as goal
-
--- the world of this VSchema and these ranges
-abbrev pub ghosts-measure_in_empty_world : goal.ghosts-measure_in_empty_world
-ghosts-measure_in_empty_world g a = record { opening = opening_of a.schema a.ranges.now; limits = most_limits }

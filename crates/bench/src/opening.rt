@@ -1,0 +1,132 @@
+//! A router over the shards that the input names, without rows.
+ghost use Rattle.std.specs.Prelude.{◌≡◌, IsTrue, IfOk, OnOk};
+ghost use Rattle.std.specs.List.{AllByRecursion};
+ghost use Rattle.keyrange.specs.Names.{IsNamed};
+ghost use Rattle.vschema.specs.WellFormed.{is_vschema};
+ghost use Rattle.shard.specs.Shards.{most_limits};
+ghost use Rattle.empty_opening.specs.Empty.{opening_of, FitRanges};
+
+use crate::router::{Router, refused};
+use empty_opening::opening_shards;
+use journal::{Naming, Opened};
+use keyrange::{KeyRange, covers_once};
+use route_engine::Open;
+use router_opening::empty_router;
+use shard::{ShardLaw, World};
+use std::alloc::Global;
+use std::io;
+use std::marker::Brand;
+use std::sync::Wait;
+use std::thread::Threads;
+use std::time::Clock;
+use vschema::VSchema;
+use vt_value::Refusal;
+
+// Puts the range of a name behind the others.
+fn push_named(ranges: &mut Vec<KeyRange>, name: &str) -> Result<(), Refusal>
+    ensures { OnOk result (AllByRecursion IsNamed ranges.old.items → AllByRecursion IsNamed ranges.new.items) }
+{
+    match KeyRange::read(name) {
+        // by its edges: the check can't follow a whole range of another crate here
+        Some(KeyRange { begin, end }) => {
+            ranges.push(KeyRange { begin, end })?;
+            Ok(())
+        }
+        None => Err(Refusal::SyntaxError),
+    }
+}
+
+// The ranges of names with commas between them.
+fn read_ranges(alloc: Global, names: &str) -> Result<Vec<KeyRange>, Refusal>
+    ensures { IfOk result (λ ranges. AllByRecursion IsNamed ranges.items) }
+{
+    let mut ranges = Vec::new(alloc);
+    for name in names.split(',') {
+        push_named(&mut ranges, name)?;
+    }
+    Ok(ranges)
+}
+
+// The VSchema that a text declares, where its shards over the ranges hold each keyspace id once and fit into 64 slots.
+fn read_schema(alloc: Global, text: &str, ranges: &[KeyRange]) -> Result<VSchema, Refusal>
+    requires { AllByRecursion IsNamed ranges.now }
+    ensures formed { IfOk result (λ schema. IsTrue (is_vschema schema)) }
+    ensures fit { IfOk result (λ schema. FitRanges schema ranges.now) }
+{
+    let Ok(schema) = VSchema::read(alloc, text) else {
+        return Err(Refusal::SyntaxError);
+    };
+    let shards = opening_shards(alloc, &schema, ranges)?;
+    if shards.len() <= 64 && covers_once(ranges) {
+        Ok(schema)
+    } else {
+        Err(Refusal::SyntaxError)
+    }
+}
+
+// The lines over a new router.
+fn run_opened<
+    W: World + Send + Sync,
+    J: Naming + Send + Sync,
+    R: Threads + Wait + Clock + Print + Eprint + Sync,
+>(
+    rt: &R,
+    alloc: Global,
+    schema: VSchema,
+    ranges: &[KeyRange],
+    opened: Opened<ShardLaw<W>>,
+    lines: &[u8],
+) -> io::Result<()>
+    requires opened { opened ≡ J.table }
+    requires opening { W.opening ≡ opening_of schema ranges.now }
+    requires limits { W.limits ≡ most_limits }
+    requires formed { IsTrue (is_vschema schema) }
+    requires fit { FitRanges schema ranges.now }
+{
+    match empty_router::<W, J, Open>(alloc, schema, ranges, opened, 0, Open) {
+        Err(refusal) => Err(refused(refusal)),
+        Ok((engine, opener, first)) => {
+            let mut router = Router {
+                engine,
+                opener,
+                first,
+                ranges,
+            };
+            router.run_lines(rt, alloc, lines)
+        }
+    }
+}
+
+// The same in the world that has this VSchema and these ranges, and no rows.
+fn run_in_empty_world<W: World + Send + Sync, R: Threads + Wait + Clock + Print + Eprint + Sync>(
+    rt: &R,
+    alloc: Global,
+    schema: VSchema,
+    ranges: &[KeyRange],
+    lines: &[u8],
+) -> io::Result<()>
+    requires opening { W.opening ≡ opening_of schema ranges.now }
+    requires limits { W.limits ≡ most_limits }
+    requires formed { IsTrue (is_vschema schema) }
+    requires fit { FitRanges schema ranges.now }
+{
+    let opened = Opened::<ShardLaw<W>>::new(alloc).map_err(refused)?;
+    run_opened::<W, Brand, R>(rt, alloc, schema, ranges, opened, lines)
+}
+
+/// Runs the lines of an input behind the first two, which say over what.
+pub fn run_input<R: Threads + Wait + Clock + Print + Eprint + Sync>(
+    rt: &R,
+    alloc: Global,
+    input: &str,
+) -> io::Result<()> {
+    let (declared, rest) = input.split_once('\n').unwrap_or((input, ""));
+    let (names, lines) = rest.split_once('\n').unwrap_or((rest, ""));
+    let ranges = read_ranges(alloc, names).map_err(refused)?;
+    // as bytes: the check lets no world be picked for a call that is passed a `&str`
+    let lines = lines.as_bytes();
+    match read_schema(alloc, declared, &ranges) {
+        Ok(schema) => run_in_empty_world::<Brand, R>(rt, alloc, schema, &ranges, lines),
+        Err(refusal) => Err(refused(refusal)),
+    }
+}
