@@ -3,7 +3,5 @@
 #![tactic(auto)]
 
 mod router;
-#[cfg(test)]
-mod tests;
 
-pub use router::{empty_router, seated_router};
+pub use router::{empty_router, opened_shards, seated_router};

@@ -270,7 +270,7 @@ pub(crate) fn opened_seats<W: World, J: Naming>(
 
 /// The shards of an opening without rows, in the journal that was opened, the partitions that each keyspace begins with, the opener of
 /// their sessions, and a first pass, which has seen nothing.
-pub(crate) fn opened_shards<W: World, J: Naming>(
+pub fn opened_shards<W: World, J: Naming>(
     alloc: Global,
     schema: &VSchema,
     ranges: &[KeyRange],
