@@ -4,3 +4,4 @@ pub mod FirstLemmas
 pub mod MergeLemmas
 pub mod OrderLemmas
 pub mod SliceLemmas
+pub mod Turns

@@ -1,4 +1,5 @@
-ghost use Rattle.std.specs.Prelude.{◌≡◌, map, IsTrue, IfOk, IfErr};
+ghost use Rattle.std.specs.Prelude.{◌≡◌, true, length, map, IsTrue, IfOk, IfErr};
+ghost use Rattle.std.specs.List.{range_with_len};
 ghost use Rattle.vt_value.specs.Values.{value_at};
 ghost use Rattle.operators.specs.Slices.{columns_of};
 
@@ -28,7 +29,26 @@ pub fn project_row(alloc: Global, places: &[usize], row: &Row) -> Result<Row, Re
     Ok(values)
 }
 
-/// The columns of an input's rows in given places.
+// Whether these are the first places, each in its turn.
+fn are_in_turn(places: &[usize]) -> bool
+    ensures { result ≡ true → places.now ≡ range_with_len 0 (length places.now) }
+{
+    for n in 0..places.len() {
+        if places[n] != n {
+            return false;
+        }
+    }
+    true
+}
+
+// Whether all values of a row are in these places, in their order.
+fn shows_whole(places: &[usize], row: &Row) -> bool
+    ensures { result ≡ true → columns_of places.now row.now ≡ row.now }
+{
+    places.len() == row.len() && are_in_turn(places)
+}
+
+/// The columns of an input's rows in given places. A row of which all are shown, in their order, is passed on as it is.
 #[derive(Drop)]
 pub struct Project<O> {
     input: O,
@@ -65,6 +85,9 @@ impl<O: Operator> Operator for Project<O> {
         let Some(row) = self.input.next(alloc)? else {
             return Ok(None);
         };
+        if shows_whole(self.places.as_slice(), &row) {
+            return Ok(Some(row));
+        }
         let shown = project_row(alloc, self.places.as_slice(), &row);
         self.failed = shown.is_err();
         Ok(Some(shown?))

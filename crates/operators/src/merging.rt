@@ -1,4 +1,4 @@
-ghost use Rattle.std.specs.Prelude.{◌≡◌, [], ◌∷◌, All, map, flat_map, MatchOption, IsPermutation, IsSorted, IfOk, IfErr, length, ◌<◌};
+ghost use Rattle.std.specs.Prelude.{◌≡◌, [], ◌∷◌, false, All, map, flat_map, MatchOption, IsPermutation, IsSorted, IfOk, IfErr, length, ◌<◌};
 ghost use Rattle.operators.specs.Orders.{row_cmp};
 ghost use Rattle.operators.specs.inner.Merges.{row_lt, head_rows, earlier, IsFirst};
 
@@ -97,6 +97,7 @@ impl<'a, O: Operator> MergeSort<'a, O> {
         ensures permutation { IfOk result (λ merge. IsPermutation (flat_map O.to_come inputs.items) (⟦<MergeSort<'a, O> as Operator>⟧.to_come merge)) }
         ensures sorted { IfOk result (λ merge. All (λ input. IsSorted (row_cmp keys.now) (O.to_come input)) inputs.items
             → IsSorted (row_cmp keys.now) (⟦<MergeSort<'a, O> as Operator>⟧.to_come merge)) }
+        ensures fresh { IfOk result (λ merge. ⟦<MergeSort<'a, O> as Operator>⟧.has_failed merge ≡ false) }
         ensures err { IfErr result (λ e. e ≡ Refusal.OutOfMemory) }
     {
         Ok(MergeSort {

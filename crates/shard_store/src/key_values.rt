@@ -8,13 +8,14 @@ ghost use Rattle.shard_store.specs.inner.Listings.{listed};
 use std::alloc::Global;
 use std::cmp::Ordering;
 use std::marker::Model;
-use vt_value::{Items, Refusal, Row, Value, copy_row, sort_order};
+use vt_value::{Boxed, Items, Refusal, Row, Value, copy_row, sort_order};
 
-// One number stands here itself, so that such keys are made and compared without memory of their own.
+// One number of 64 bits stands here itself, so that such keys are made and compared without memory of their own, and many of them
+// stand in one line of the processor's cache.
 #[derive(Drop)]
 enum Listing {
-    Number(i128),
-    Values(Row),
+    Number(i64),
+    Values(Boxed<Row>),
 }
 
 /// The values of a key, of which most are one number. Contracts see their list.
@@ -54,23 +55,41 @@ fn compare_listings(a: &Listing, b: &Listing) -> Ordering
     match (a, b) {
         (Listing::Number(m), Listing::Number(n)) => m.cmp(n),
         (Listing::Number(m), Listing::Values(b)) => {
-            compare_values(&[Value::Int(*m)], b.as_slice())
+            compare_values(&[Value::Int(i128::from(*m))], b.get().as_slice())
         }
         (Listing::Values(a), Listing::Number(n)) => {
-            compare_values(a.as_slice(), &[Value::Int(*n)])
+            compare_values(a.get().as_slice(), &[Value::Int(i128::from(*n))])
         }
-        (Listing::Values(a), Listing::Values(b)) => compare_values(a.as_slice(), b.as_slice()),
+        (Listing::Values(a), Listing::Values(b)) => {
+            compare_values(a.get().as_slice(), b.get().as_slice())
+        }
     }
 }
 
+fn listing_of(alloc: Global, values: Row) -> Result<Listing, Refusal>
+    ensures ok { IfOk result (λ listing. listed listing ≡ values) }
+    ensures err { IfErr result (λ e. e ≡ Refusal.OutOfMemory) }
+{
+    Ok(Listing::Values(Boxed::new(alloc, values)?))
+}
+
+fn listing_of_one(alloc: Global, value: Value) -> Result<Listing, Refusal>
+    ensures ok { IfOk result (λ listing. listed listing ≡ value ∷ []) }
+    ensures err { IfErr result (λ e. e ≡ Refusal.OutOfMemory) }
+{
+    let mut values = Items::new(alloc);
+    values.push(value)?;
+    listing_of(alloc, values)
+}
+
 impl KeyValues {
-    /// These values.
-    pub fn new(values: Row) -> KeyValues
-        ensures { result ≡ values }
+    /// These values. Refuses for want of memory.
+    pub fn new(alloc: Global, values: Row) -> Result<KeyValues, Refusal>
+        ensures ok { IfOk result (λ k. k ≡ values) }
+        ensures err { IfErr result (λ e. e ≡ Refusal.OutOfMemory) }
     {
-        KeyValues {
-            listing: Listing::Values(values),
-        }
+        let listing = listing_of(alloc, values)?;
+        Ok(KeyValues { listing })
     }
 
     /// One value alone. Refuses for want of memory.
@@ -78,13 +97,12 @@ impl KeyValues {
         ensures ok { IfOk result (λ values. values ≡ value ∷ []) }
         ensures err { IfErr result (λ e. e ≡ Refusal.OutOfMemory) }
     {
-        let listing = match value {
-            Value::Int(number) => Listing::Number(number),
-            other => {
-                let mut values = Items::new(alloc);
-                values.push(other)?;
-                Listing::Values(values)
-            }
+        let listing = match &value {
+            Value::Int(number) => match i64::try_from(*number) {
+                Ok(number) => Listing::Number(number),
+                Err(_) => listing_of_one(alloc, value)?,
+            },
+            _ => listing_of_one(alloc, value)?,
         };
         Ok(KeyValues { listing })
     }
@@ -96,7 +114,7 @@ impl KeyValues {
     {
         let listing = match &self.listing {
             Listing::Number(number) => Listing::Number(*number),
-            Listing::Values(values) => Listing::Values(copy_row(alloc, values)?),
+            Listing::Values(values) => listing_of(alloc, copy_row(alloc, values.get())?)?,
         };
         Ok(KeyValues { listing })
     }
@@ -113,8 +131,8 @@ impl KeyValues {
         ensures { result ≡ begins value.now self.now }
     {
         match &self.listing {
-            Listing::Number(number) => sort_order(value, &Value::Int(*number)).is_eq(),
-            Listing::Values(values) => match values.as_slice().first() {
+            Listing::Number(number) => sort_order(value, &Value::Int(i128::from(*number))).is_eq(),
+            Listing::Values(values) => match values.get().as_slice().first() {
                 Some(first) => sort_order(value, first).is_eq(),
                 None => false,
             },

@@ -121,9 +121,10 @@ impl StoredTables {
     {
         match self.tables.get(place) {
             Some(table) => table.key_of(alloc, row),
-            None => Ok(RowKey {
-                values: KeyValues::new(Items::new(alloc)),
-            }),
+            None => {
+                let values = KeyValues::new(alloc, Items::new(alloc))?;
+                Ok(RowKey { values })
+            }
         }
     }
 

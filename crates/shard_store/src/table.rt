@@ -63,7 +63,7 @@ fn key_values(alloc: Global, places: &[usize], row: &Row) -> Result<KeyValues, R
 {
     match places {
         [place] => KeyValues::of_one(alloc, copy_at(alloc, row, *place)?),
-        _ => Ok(KeyValues::new(values_at(alloc, places, row)?)),
+        _ => KeyValues::new(alloc, values_at(alloc, places, row)?),
     }
 }
 
