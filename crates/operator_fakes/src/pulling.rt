@@ -1,6 +1,7 @@
 //! What operators do with inputs that fail or count their calls.
 ghost use Rattle.std.specs.Prelude.{◌≡◌};
 
+use crate::failing::Failing;
 use aggregate::GroupMerge;
 use operators::*;
 use sql_tree::Key;
@@ -8,30 +9,6 @@ use std::alloc::Global;
 use std::cell::Cell;
 use std::test::Fail;
 use vt_value::{Items, Refusal, Row, Value};
-
-/// Gives `left` empty rows, and then has no memory.
-#[derive(Drop)]
-struct Failing {
-    left: u32,
-    failed: bool,
-}
-
-impl Operator for Failing {
-    ghost use Rattle.std.specs.Prelude.{replicate, []};
-
-    ghost to_come = { λ failing. replicate failing.left [] };
-
-    ghost has_failed = { λ failing. failing.failed };
-
-    fn next(&mut self, alloc: Global) -> Result<Option<Row>, Refusal> {
-        if self.failed || self.left == 0 {
-            self.failed = true;
-            return Err(Refusal::OutOfMemory);
-        }
-        self.left -= 1;
-        Ok(Some(Items::new(alloc)))
-    }
-}
 
 /// Counts the calls of `next`.
 #[derive(Drop)]

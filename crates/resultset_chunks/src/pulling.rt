@@ -1,6 +1,7 @@
 //! What `encode_rows` writes beside what `encode` does, and where its rows fail.
 use bytes::BytesMut;
-use operators::{Operator, Rows};
+use operator_fakes::Failing;
+use operators::Rows;
 use resultset::{
     CHUNK_LIMIT, Chunks, Column, Kind, Outcome, ResultSet, SetEnd, encode, encode_rows,
 };
@@ -10,30 +11,6 @@ use vt_value::{Items, Refusal, Row, Value};
 
 /// The status of each reply.
 const STATUS: u16 = 2;
-
-/// Gives `left` empty rows, and then has no memory.
-#[derive(Drop)]
-struct Failing {
-    left: u32,
-    failed: bool,
-}
-
-impl Operator for Failing {
-    ghost use Rattle.std.specs.Prelude.{replicate, []};
-
-    ghost to_come = { λ failing. replicate failing.left [] };
-
-    ghost has_failed = { λ failing. failing.failed };
-
-    fn next(&mut self, alloc: Global) -> Result<Option<Row>, Refusal> {
-        if self.failed || self.left == 0 {
-            self.failed = true;
-            return Err(Refusal::OutOfMemory);
-        }
-        self.left -= 1;
-        Ok(Some(Items::new(alloc)))
-    }
-}
 
 /// One column of texts.
 fn columns(alloc: Global) -> Result<Items<Column>, Fail> {
