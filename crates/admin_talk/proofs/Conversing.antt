@@ -5,10 +5,10 @@ use Rattle.std.proofs.lemmas.List.Folds.{list_all-append}
 use Rattle.std.specs.Io.KnownBytes.{Appends}
 use Rattle.std.proofs.KnownBytes.{Appends-nil, Appends-trans}
 use Rattle.shard_run.specs.Runs.{Opening}
-use Rattle.shard.specs.declared.limits.Limits.{Limits}
+use Rattle.shard_contents.specs.declared.limits.Limits.{Limits}
 use Rattle.vtgate_lines.specs.Lines.{HasNoEnd, is_inner}
 use Rattle.vtgate_lines.specs.Printed.{line}
-use Rattle.session.specs.Devices.{AppendsFront}
+use Rattle.session_replies.specs.Devices.{AppendsFront}
 use Rattle.administration.specs.declared.reply.AdminReply.{AdminReply}
 use Rattle.administration.specs.Told.{IsTold}
 use Rattle.administration.specs.Words.{reply_text}

@@ -3,7 +3,7 @@ ghost use Rattle.std.specs.Prelude.{◌≡◌, ◌++◌, ◌<◌, ℕ, List, [],
 ghost use Rattle.std.specs.Io.KnownBytes.{Appends, Consumes, IsAtEnd};
 ghost use Rattle.empty_opening.specs.Empty.{sharded_keyspace};
 ghost use Rattle.vtgate_lines.specs.Lines.{HasNoEnd};
-ghost use Rattle.session.specs.Devices.{AppendsFront};
+ghost use Rattle.session_replies.specs.Devices.{AppendsFront};
 ghost use Rattle.administration.specs.declared.reply.AdminReply.{AdminReply};
 ghost use Rattle.administration.specs.Told.{IsTold, keyspace_of};
 ghost use Rattle.administration.specs.Words.{reply_text};

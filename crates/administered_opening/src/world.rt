@@ -2,7 +2,7 @@ ghost use Rattle.std.specs.Prelude.{◌≡◌, [], None, IsTrue, IfOk, IfErr, dr
 ghost use Rattle.vschema.specs.WellFormed.{is_vschema};
 ghost use Rattle.journal.specs.Views.{fresh_seats, new_pass};
 ghost use Rattle.shard_run.specs.Openings.{IsOpening};
-ghost use Rattle.shard.specs.Shards.{most_limits};
+ghost use Rattle.shard_contents.specs.Shards.{most_limits};
 ghost use Rattle.empty_opening.specs.Empty.{empty_shards, opening_of, FitRanges};
 ghost use Rattle.administered_opening.specs.Idle.{opening_workflow};
 

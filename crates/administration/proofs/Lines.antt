@@ -9,7 +9,7 @@ use Rattle.keyrange.specs.Names.{IsNamed}
 use Rattle.journal.specs.Views.{PassView}
 use Rattle.shard_run.specs.declared.Entry.{Entry}
 use Rattle.shard_run.specs.Runs.{Opening}
-use Rattle.shard.specs.declared.limits.Limits.{Limits}
+use Rattle.shard_contents.specs.declared.limits.Limits.{Limits}
 use Rattle.reshard.specs.declared.workflow.Stage.{Stage}
 use Rattle.reshard_beginning.specs.declared.fault.ReshardFault.TheVariants as faults
 use Rattle.reshard.specs.Workflows.{WorkflowView}

@@ -4,7 +4,7 @@ use Rattle.keyrange.specs.declared.KeyRange.{KeyRange}
 use Rattle.journal.specs.Views.{PassView}
 use Rattle.shard_run.specs.declared.Entry.{Entry}
 use Rattle.shard_run.specs.Runs.{Opening}
-use Rattle.shard.specs.declared.limits.Limits.{Limits}
+use Rattle.shard_contents.specs.declared.limits.Limits.{Limits}
 use Rattle.reshard.specs.declared.workflow.Stage.TheVariants as stages
 use Rattle.reshard_beginning.specs.declared.fault.ReshardFault.{ReshardFault}
 use Rattle.reshard_beginning.specs.declared.fault.ReshardFault.TheVariants as faults

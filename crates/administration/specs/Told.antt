@@ -7,7 +7,7 @@ use Rattle.serving.specs.Partitions.{Seat, IsPartition, AreOf}
 use Rattle.journal.specs.Views.{PassView}
 use Rattle.shard_run.specs.declared.Entry.{Entry}
 use Rattle.shard_run.specs.Runs.{Opening}
-use Rattle.shard.specs.declared.limits.Limits.{Limits}
+use Rattle.shard_contents.specs.declared.limits.Limits.{Limits}
 use Rattle.follow.specs.declared.steps.Step as moves
 use Rattle.reshard.specs.declared.workflow.Stage.{Stage}
 use Rattle.reshard.specs.declared.workflow.Stage.TheVariants as stages

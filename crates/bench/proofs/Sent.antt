@@ -5,9 +5,10 @@ use denote.Struct.Declared.{shape}
 use denote.Struct.Tuple.{TupleAt, field_at, type_at}
 use Rattle.std.proofs.Common.{ℕ, List}
 use Rattle.journal.specs.declared.law.Naming as naming
-use Rattle.route_engine.specs.contracts.gate.Open as gate
-use Rattle.route_engine.proofs.gate.Open.TheSendSync as sent_gate
-use Rattle.route_engine.proofs.Sent.{engine_sync, pass_send}
+use Rattle.shard_calls.specs.contracts.gate.Open as gate
+use Rattle.shard_calls.proofs.gate.Open.TheSendSync as sent_gate
+use Rattle.shard_calls.proofs.Sent.{pass_send}
+use Rattle.route_engine.proofs.Shared.{engine_sync}
 use Rattle.shard.specs.declared.world.World as world
 use Rattle.bench.specs.contracts.sessions.Session as session
 

@@ -3,7 +3,7 @@ ghost use Rattle.std.specs.Prelude.{◌≡◌, IsTrue, IfOk, OnOk};
 ghost use Rattle.std.specs.List.{AllByRecursion};
 ghost use Rattle.keyrange.specs.Names.{IsNamed};
 ghost use Rattle.vschema.specs.WellFormed.{is_vschema};
-ghost use Rattle.shard.specs.Shards.{most_limits};
+ghost use Rattle.shard_contents.specs.Shards.{most_limits};
 ghost use Rattle.empty_opening.specs.Empty.{opening_of, FitRanges};
 
 use crate::router::{Router, refused};

@@ -11,8 +11,8 @@ use Rattle.shard_run.specs.Runs.{Run, Opening, stored_on, is_on, is_stored}
 use Rattle.shard_run.specs.Legal.{Legal}
 use Rattle.shard_law.proofs.Law.{beginnings}
 use Rattle.shard_law.proofs.Runs.{stored_on-push}
-use Rattle.shard.specs.Shards.{slot_of, commit_of, MayFollow, HasAppended, ShardView}
-use Rattle.shard.proofs.States.{stored-same, contains_later}
+use Rattle.shard_contents.specs.Shards.{slot_of, commit_of, MayFollow, HasAppended, ShardView}
+use Rattle.shard_contents.proofs.States.{stored-same, contains_later}
 use Rattle.follow.specs.Steps.{IsOnward, HasStepped}
 use Rattle.follow.proofs.Onward as follows
 use Rattle.cutover_steps.specs.Steps.{HasEntry}

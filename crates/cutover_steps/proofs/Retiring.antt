@@ -13,11 +13,11 @@ use Rattle.shard_run.specs.Runs.{Run, Opening, mode, stored_on}
 use Rattle.shard_run.specs.Legal.{Legal, MayServe, IsRetiredFor}
 use Rattle.shard_run.specs.Copies.{position}
 use Rattle.shard_run.specs.Openings.{IsOpening}
-use Rattle.shard.specs.Copying.{HasCopiedAll}
+use Rattle.shard_contents.specs.Copying.{HasCopiedAll}
 use Rattle.shard_law.proofs.Lists.{In, In-from_Contains, In-map, In-from_map, In-all, all-weaker, AllByRecursion-push}
 use Rattle.shard_law.proofs.Law.{slots}
-use Rattle.shard.proofs.States.{stored-same}
-use Rattle.shard.proofs.Modes.{retired_stays}
+use Rattle.shard_contents.proofs.States.{stored-same}
+use Rattle.shard_contents.proofs.Modes.{retired_stays}
 use Rattle.cutover_steps.specs.Steps.{Looked, has_source, HasEntry, IsRetired, AreRetired, IsTargetOf}
 use Rattle.cutover_steps.specs.inner.Steps.{IsUpTo, AreFollowed}
 use Rattle.cutover_steps.proofs.Onward.{legal_front, entry_later}

@@ -12,7 +12,7 @@ use Rattle.shard_run.specs.declared.Mode.TheVariants.{Serving, Retired}
 use Rattle.shard_run.specs.Runs.{Opening, Run, mode, mode_after, is_on}
 use Rattle.shard_law.proofs.Runs.{mode-on}
 use Rattle.shard_law.proofs.Lists.{all-weaker}
-use Rattle.shard.specs.Shards.{ShardView, HasAppended}
+use Rattle.shard_contents.specs.Shards.{ShardView, HasAppended}
 use Rattle.follow.specs.Steps.{IsOnward}
 use Rattle.cutover_steps.specs.Looks.{IsServingAgain, IsOutOfUse}
 use Rattle.cutover_steps.proofs.Retiring.{all_map_next}

@@ -8,7 +8,7 @@ use Rattle.shard_run.specs.declared.Event.TheVariants as events
 use Rattle.shard_run.specs.declared.Mode.TheVariants as modes
 use Rattle.shard_run.specs.Runs.{Opening, Run, mode, held}
 use Rattle.shard_run.specs.Openings.{row_count}
-use Rattle.shard.specs.declared.limits.Limits.{Limits}
+use Rattle.shard_contents.specs.declared.limits.Limits.{Limits}
 use Rattle.follow.specs.Steps.{IsRunBetween}
 use Rattle.cutover_steps.specs.Steps.{HasEntry}
 use Rattle.cutover_steps.specs.Takings.{Taking}

@@ -3,7 +3,7 @@ ghost use Rattle.std.specs.Prelude.{◌≡◌, ◌<◌, false, Some, Contains, m
 ghost use Rattle.journal.specs.Runs.{IsLegal};
 ghost use Rattle.shard_run.specs.Runs.{held};
 ghost use Rattle.shard_run.specs.Openings.{row_count};
-ghost use Rattle.shard.specs.Shards.{MayFollow};
+ghost use Rattle.shard_contents.specs.Shards.{MayFollow};
 ghost use Rattle.follow.specs.Steps.{IsOnward};
 ghost use Rattle.cutover_steps.specs.Takings.{Taking};
 ghost use Rattle.cutover_steps.specs.Looks.{IsOverfull};

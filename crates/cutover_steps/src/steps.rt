@@ -5,7 +5,7 @@ ghost use Rattle.journal.specs.Runs.{IsLegal};
 ghost use Rattle.shard_run.specs.declared.Event.{Event};
 ghost use Rattle.shard_run.specs.Runs.{mode, stored_on, entries_on};
 ghost use Rattle.shard_run.specs.Openings.{IsOpening};
-ghost use Rattle.shard.specs.Shards.{MayFollow};
+ghost use Rattle.shard_contents.specs.Shards.{MayFollow};
 ghost use Rattle.follow.specs.Steps.{IsOnward, HasStepped};
 ghost use Rattle.cutover_steps.specs.Steps.{has_source, AreRetired, IsTargetOf, FitTargets};
 ghost use Rattle.cutover_steps.specs.inner.Steps.{IsUpTo, AreFollowed};

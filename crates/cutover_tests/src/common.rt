@@ -1,31 +1,9 @@
-//! Acts that many scenes have: six rows, a split of the first of two shards, and the steps of its cutover.
-use crate::acts::Act;
+//! Acts that many scenes have: a split of the first of two shards, and the steps of its cutover.
+use router_scenes::Act;
+use router_scenes::common::{BEGUN, COPIED, EVEN, LEVEL, ODD};
 
-/// The rows with even ids, which lie on the first shard.
-pub(crate) const EVEN: Act<'static> = Act::One(
-    b"INSERT INTO t (id, c) VALUES (2, NULL), (4, 7), (6, 1)",
-    Ok(3),
-);
-
-/// Those with odd ids, which lie on the second.
-pub(crate) const ODD: Act<'static> = Act::Two(
-    b"INSERT INTO t (id, c) VALUES (1, NULL), (3, 7), (5, 9)",
-    Ok(3),
-);
-
-/// A query of all rows.
-pub(crate) const ALL: &[u8] = b"SELECT id FROM t";
-
-/// An INSERT, whose row lies on the first shard.
-pub(crate) const EIGHT: &[u8] = b"INSERT INTO t (id, c) VALUES (8, 1)";
-
-pub(crate) const BEGUN: Act<'static> = Act::Line(b"create -80 -40,40-80", b"ok\n");
-
-pub(crate) const COPIED: Act<'static> = Act::Line(b"step", b"ok copied\n");
-
-pub(crate) const LEVEL: Act<'static> = Act::Line(b"step", b"ok level\n");
-
-pub(crate) const FREEZE: Act<'static> = Act::Line(b"advance", b"ok freeze\n");
+/// Six rows, of which the targets have copied those of the first shard.
+pub(crate) const LEVELLED: [Act<'static>; 6] = [EVEN, ODD, BEGUN, COPIED, COPIED, LEVEL];
 
 pub(crate) const RETIRE: Act<'static> = Act::Line(b"advance", b"ok retire\n");
 
@@ -35,7 +13,8 @@ pub(crate) const PUBLISH: Act<'static> = Act::Line(b"advance", b"ok publish\n");
 
 pub(crate) const RELEASE: Act<'static> = Act::Line(b"advance", b"ok release\n");
 
-pub(crate) const RESUMED: Act<'static> = Act::Line(b"resume", b"ok\n");
+/// All steps of the cutover, or those that are left.
+pub(crate) const SWITCH: Act<'static> = Act::Line(b"switch", b"ok\n");
 
 pub(crate) const CANCELLED: Act<'static> = Act::Line(b"cancel", b"ok\n");
 

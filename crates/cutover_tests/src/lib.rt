@@ -2,22 +2,12 @@
 #![tactic(auto)]
 
 #[cfg(test)]
-mod acts;
-#[cfg(test)]
 mod common;
-#[cfg(test)]
-mod gate;
 #[cfg(test)]
 mod lines;
 #[cfg(test)]
 mod reads;
 #[cfg(test)]
-mod reopening;
-#[cfg(test)]
-mod scenes;
-#[cfg(test)]
 mod stops;
-#[cfg(test)]
-mod told;
 #[cfg(test)]
 mod writes;

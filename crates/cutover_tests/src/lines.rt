@@ -1,11 +1,15 @@
 //! Admin lines over shards with rows, answered as they are meant to be.
-use crate::acts::Act;
 use crate::common::{
-    BEGUN, CANCELLED, COMPLETED, COPIED, EVEN, FOLLOWING, FREEZE, LEVEL, ODD, PUBLISH, RELEASE,
-    RESUMED, RETIRE, SERVE, SPLIT, SWITCHED, SWITCHING, UNSPLIT,
+    CANCELLED, COMPLETED, FOLLOWING, PUBLISH, RELEASE, RETIRE, SERVE, SPLIT, SWITCH, SWITCHED,
+    SWITCHING, UNSPLIT,
 };
-use crate::scenes::{SHOP, WITH_BASE, play_alone};
+use router_scenes::common::{BEGUN, COPIED, EVEN, FREEZE, LEVEL, ODD, RESUMED, SHOP};
+use router_scenes::{Act, plays_alone};
 use std::test::Fail;
+
+/// The shop, and an unsharded keyspace, whose shard has a slot too.
+const WITH_BASE: &str =
+    r#"{"keyspaces":{"base":{"sharded":false,"tables":{"b":{"columns":[{"name":"id","type":"BIGINT UNSIGNED"}],"primary_key":["id"]}}},"shop":{"sharded":true,"vindexes":{"rev":{"type":"reverse_bits"}},"tables":{"t":{"columns":[{"name":"id","type":"BIGINT UNSIGNED"},{"name":"c","type":"BIGINT UNSIGNED","null":true}],"primary_key":["id"],"column_vindexes":[{"column":"id","name":"rev"}]}}}}}"#;
 
 /// A split into 62 shards.
 const INTO_62: &[u8] = b"create -80 \
@@ -69,15 +73,15 @@ const SPLIT_AND_MERGE: [Act<'static>; 34] = [
     COMPLETED,
     SPLIT,
     Act::Line(b"create -40,40-80 -80", b"ok\n"),
-    Act::Line(b"switch", b"ok\n"),
+    SWITCH,
     Act::Line(b"status", b"serving -80 80- switched\n"),
     COMPLETED,
 ];
 
 #[test]
 fn each_line_is_answered_by_what_it_did(rt: HostRuntime) -> Result<(), Fail> {
-    assert!(rt; play_alone(&rt, rt.alloc(), SHOP, &REFUSED)?);
-    assert!(rt; play_alone(&rt, rt.alloc(), SHOP, &SPLIT_AND_MERGE)?);
+    assert!(rt; plays_alone(&rt, rt.alloc(), SHOP, &[&REFUSED])?);
+    assert!(rt; plays_alone(&rt, rt.alloc(), SHOP, &[&SPLIT_AND_MERGE])?);
     Ok(())
 }
 
@@ -94,7 +98,7 @@ const OF_THREE_SHARDS: [Act<'static>; 2] = [Act::Line(INTO_62, b"N3\n"), UNSPLIT
 
 #[test]
 fn a_split_into_more_shards_than_slots_are_free_is_refused(rt: HostRuntime) -> Result<(), Fail> {
-    assert!(rt; play_alone(&rt, rt.alloc(), SHOP, &OF_TWO_SHARDS)?);
-    assert!(rt; play_alone(&rt, rt.alloc(), WITH_BASE, &OF_THREE_SHARDS)?);
+    assert!(rt; plays_alone(&rt, rt.alloc(), SHOP, &[&OF_TWO_SHARDS])?);
+    assert!(rt; plays_alone(&rt, rt.alloc(), WITH_BASE, &[&OF_THREE_SHARDS])?);
     Ok(())
 }

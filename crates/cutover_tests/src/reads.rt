@@ -1,9 +1,7 @@
 //! Queries of all rows, each begun at another moment of a cutover, by a session in a thread of its own.
-use crate::acts::Act;
-use crate::common::{
-    ALL, BEGUN, COPIED, EVEN, FREEZE, LEVEL, ODD, PUBLISH, RELEASE, RETIRE, SERVE, SWITCHED,
-};
-use crate::scenes::{Asked, SHOP, Scene, all_right, play_scene};
+use crate::common::{LEVELLED, PUBLISH, RELEASE, RETIRE, SERVE, SWITCHED};
+use router_scenes::common::{ALL, FREEZE};
+use router_scenes::{Act, Asked, plays_beside};
 use std::alloc::Global;
 use std::sync::Wait;
 use std::test::Fail;
@@ -16,16 +14,10 @@ const NO_ROOM: Act<'static> = Act::One(ALL, Err(Refusal::BufferFull));
 /// A second query is answered.
 const ALL_READ: Act<'static> = Act::One(ALL, Ok(6));
 
-const HELD_OVER_ALL: [Act<'static>; 20] = [
-    EVEN,
-    ODD,
-    BEGUN,
-    COPIED,
-    COPIED,
-    LEVEL,
-    Act::Arm,
-    Act::Begin,
-    Act::Held,
+/// The query begins, and its read of the first shard is held.
+const HELD: [Act<'static>; 3] = [Act::Arm, Act::Begin, Act::Held];
+
+const OVER_ALL: [Act<'static>; 11] = [
     FREEZE,
     RETIRE,
     SERVE,
@@ -39,16 +31,7 @@ const HELD_OVER_ALL: [Act<'static>; 20] = [
     ALL_READ,
 ];
 
-const HELD_UNTIL_FROZEN: [Act<'static>; 18] = [
-    EVEN,
-    ODD,
-    BEGUN,
-    COPIED,
-    COPIED,
-    LEVEL,
-    Act::Arm,
-    Act::Begin,
-    Act::Held,
+const UNTIL_FROZEN: [Act<'static>; 9] = [
     FREEZE,
     Act::LetGo,
     Act::Answered,
@@ -60,16 +43,7 @@ const HELD_UNTIL_FROZEN: [Act<'static>; 18] = [
     RELEASE,
 ];
 
-const HELD_UNTIL_RETIRED: [Act<'static>; 19] = [
-    EVEN,
-    ODD,
-    BEGUN,
-    COPIED,
-    COPIED,
-    LEVEL,
-    Act::Arm,
-    Act::Begin,
-    Act::Held,
+const UNTIL_RETIRED: [Act<'static>; 10] = [
     FREEZE,
     RETIRE,
     Act::LetGo,
@@ -82,13 +56,7 @@ const HELD_UNTIL_RETIRED: [Act<'static>; 19] = [
     Act::Answered,
 ];
 
-const BEGUN_FROZEN: [Act<'static>; 15] = [
-    EVEN,
-    ODD,
-    BEGUN,
-    COPIED,
-    COPIED,
-    LEVEL,
+const BEGUN_FROZEN: [Act<'static>; 9] = [
     FREEZE,
     Act::Begin,
     Act::Answered,
@@ -100,13 +68,7 @@ const BEGUN_FROZEN: [Act<'static>; 15] = [
     SWITCHED,
 ];
 
-const BEGUN_RETIRED: [Act<'static>; 19] = [
-    EVEN,
-    ODD,
-    BEGUN,
-    COPIED,
-    COPIED,
-    LEVEL,
+const BEGUN_RETIRED: [Act<'static>; 13] = [
     FREEZE,
     RETIRE,
     Act::Begin,
@@ -122,13 +84,7 @@ const BEGUN_RETIRED: [Act<'static>; 19] = [
     Act::Answered,
 ];
 
-const BEGUN_PUBLISHED: [Act<'static>; 15] = [
-    EVEN,
-    ODD,
-    BEGUN,
-    COPIED,
-    COPIED,
-    LEVEL,
+const BEGUN_PUBLISHED: [Act<'static>; 9] = [
     FREEZE,
     RETIRE,
     SERVE,
@@ -140,32 +96,28 @@ const BEGUN_PUBLISHED: [Act<'static>; 15] = [
     SWITCHED,
 ];
 
-// Plays the acts, over which the query of all rows is asked by a third session.
-fn reads_all<R: Threads + Wait + Sync>(
+// Plays the acts behind a split that is level, over which the query of all rows is asked by a third session.
+fn reads_all<'x, R: Threads + Wait + Sync>(
     rt: &R,
     alloc: Global,
-    acts: &[Act<'_>],
-) -> Result<bool, Fail> {
-    let scene = Scene {
-        schema: SHOP,
-        buffer: 1,
-        acts,
-        asked: Asked::AllRows,
-    };
-    Ok(play_scene(rt, alloc, &scene)? == all_right(&scene, Ok(6)))
+    begun: &'x [Act<'x>],
+    acts: &'x [Act<'x>],
+) -> Result<bool, Refusal> {
+    let parts = [&LEVELLED, &begun[..], &acts[..]];
+    plays_beside(rt, alloc, &parts, Asked::AllRows, 6)
 }
 
 #[test]
 fn a_query_begun_before_the_freeze_reads_all_rows(rt: HostRuntime) -> Result<(), Fail> {
-    assert!(rt; reads_all(&rt, rt.alloc(), &HELD_OVER_ALL)?);
-    assert!(rt; reads_all(&rt, rt.alloc(), &HELD_UNTIL_FROZEN)?);
-    assert!(rt; reads_all(&rt, rt.alloc(), &HELD_UNTIL_RETIRED)?);
+    assert!(rt; reads_all(&rt, rt.alloc(), &HELD, &OVER_ALL)?);
+    assert!(rt; reads_all(&rt, rt.alloc(), &HELD, &UNTIL_FROZEN)?);
+    assert!(rt; reads_all(&rt, rt.alloc(), &HELD, &UNTIL_RETIRED)?);
     Ok(())
 }
 
 #[test]
 fn a_query_begun_while_the_source_is_frozen_is_answered_by_it(rt: HostRuntime) -> Result<(), Fail> {
-    assert!(rt; reads_all(&rt, rt.alloc(), &BEGUN_FROZEN)?);
+    assert!(rt; reads_all(&rt, rt.alloc(), &[], &BEGUN_FROZEN)?);
     Ok(())
 }
 
@@ -173,7 +125,7 @@ fn a_query_begun_while_the_source_is_frozen_is_answered_by_it(rt: HostRuntime) -
 fn a_query_begun_while_no_shard_serves_its_rows_waits_for_the_release(
     rt: HostRuntime,
 ) -> Result<(), Fail> {
-    assert!(rt; reads_all(&rt, rt.alloc(), &BEGUN_RETIRED)?);
+    assert!(rt; reads_all(&rt, rt.alloc(), &[], &BEGUN_RETIRED)?);
     Ok(())
 }
 
@@ -181,6 +133,6 @@ fn a_query_begun_while_no_shard_serves_its_rows_waits_for_the_release(
 fn a_query_begun_once_the_next_partition_is_published_does_not_wait(
     rt: HostRuntime,
 ) -> Result<(), Fail> {
-    assert!(rt; reads_all(&rt, rt.alloc(), &BEGUN_PUBLISHED)?);
+    assert!(rt; reads_all(&rt, rt.alloc(), &[], &BEGUN_PUBLISHED)?);
     Ok(())
 }

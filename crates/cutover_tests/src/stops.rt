@@ -1,12 +1,11 @@
 //! A cutover that is stopped after each of its steps in turn and then resumed, while two sessions write and read.
-use crate::acts::Act;
-use crate::common::{
-    ALL, BEGUN, CANCELLED, COMPLETED, COPIED, EIGHT, EVEN, FOLLOWING, ODD, RESUMED, SPLIT,
-    SWITCHED, SWITCHING, UNSPLIT,
-};
-use crate::scenes::{SHOP, play_alone};
+ghost use Rattle.std.specs.Prelude.{◌<◌};
+
+use crate::common::{CANCELLED, COMPLETED, FOLLOWING, SPLIT, SWITCH, SWITCHED, SWITCHING, UNSPLIT};
 use reshard::ReshardFault;
-use std::alloc::{AllocError, Global};
+use router_scenes::common::{ALL, BEGUN, COPIED, EIGHT, EVEN, ODD, RESUMED, SHOP};
+use router_scenes::{Act, plays_alone};
+use std::alloc::Global;
 use std::sync::Wait;
 use std::test::Fail;
 use std::thread::Threads;
@@ -20,55 +19,39 @@ const TWICE: Result<u64, Refusal> = Err(Refusal::DuplicateKey);
 const BEGINNING: [Act<'static>; 5] = [EVEN, ODD, BEGUN, COPIED, Act::One(EIGHT, Ok(1))];
 
 // After each step of the cutover an INSERT into the shard that is split, one into the other shard, and a query of all rows. Nobody may wait.
-const STEPS: [[Act<'static>; 4]; 8] = [
-    [
-        Act::Line(b"advance", b"ok freeze\n"),
-        Act::One(b"INSERT INTO t (id, c) VALUES (10, 1)", FULL),
-        Act::Two(b"INSERT INTO t (id, c) VALUES (11, 1)", Ok(1)),
-        Act::Two(ALL, Ok(8)),
-    ],
-    [
-        Act::Line(b"advance", b"ok follow\n"),
-        Act::One(b"INSERT INTO t (id, c) VALUES (12, 1)", FULL),
-        Act::Two(b"INSERT INTO t (id, c) VALUES (13, 1)", Ok(1)),
-        Act::Two(ALL, Ok(9)),
-    ],
-    [
-        Act::Line(b"advance", b"ok copy\n"),
-        Act::One(b"INSERT INTO t (id, c) VALUES (14, 1)", FULL),
-        Act::Two(b"INSERT INTO t (id, c) VALUES (15, 1)", Ok(1)),
-        Act::Two(ALL, Ok(10)),
-    ],
-    [
-        Act::Line(b"advance", b"ok retire\n"),
-        Act::One(b"INSERT INTO t (id, c) VALUES (16, 1)", FULL),
-        Act::Two(b"INSERT INTO t (id, c) VALUES (17, 1)", Ok(1)),
-        Act::Two(ALL, FULL),
-    ],
-    [
-        Act::Line(b"advance", b"ok serve\n"),
-        Act::One(b"INSERT INTO t (id, c) VALUES (18, 1)", FULL),
-        Act::Two(b"INSERT INTO t (id, c) VALUES (19, 1)", Ok(1)),
-        Act::Two(ALL, FULL),
-    ],
-    [
-        Act::Line(b"advance", b"ok serve\n"),
-        Act::One(b"INSERT INTO t (id, c) VALUES (20, 1)", FULL),
-        Act::Two(b"INSERT INTO t (id, c) VALUES (21, 1)", Ok(1)),
-        Act::Two(ALL, FULL),
-    ],
-    [
-        Act::Line(b"advance", b"ok publish\n"),
-        Act::One(b"INSERT INTO t (id, c) VALUES (22, 1)", Ok(1)),
-        Act::Two(b"INSERT INTO t (id, c) VALUES (23, 1)", Ok(1)),
-        Act::Two(ALL, Ok(15)),
-    ],
-    [
-        Act::Line(b"advance", b"ok release\n"),
-        Act::One(b"INSERT INTO t (id, c) VALUES (24, 1)", Ok(1)),
-        Act::Two(b"INSERT INTO t (id, c) VALUES (25, 1)", Ok(1)),
-        Act::Two(ALL, Ok(17)),
-    ],
+const STEPS: [Act<'static>; 32] = [
+    Act::Line(b"advance", b"ok freeze\n"),
+    Act::One(b"INSERT INTO t (id, c) VALUES (10, 1)", FULL),
+    Act::Two(b"INSERT INTO t (id, c) VALUES (11, 1)", Ok(1)),
+    Act::Two(ALL, Ok(8)),
+    Act::Line(b"advance", b"ok follow\n"),
+    Act::One(b"INSERT INTO t (id, c) VALUES (12, 1)", FULL),
+    Act::Two(b"INSERT INTO t (id, c) VALUES (13, 1)", Ok(1)),
+    Act::Two(ALL, Ok(9)),
+    Act::Line(b"advance", b"ok copy\n"),
+    Act::One(b"INSERT INTO t (id, c) VALUES (14, 1)", FULL),
+    Act::Two(b"INSERT INTO t (id, c) VALUES (15, 1)", Ok(1)),
+    Act::Two(ALL, Ok(10)),
+    Act::Line(b"advance", b"ok retire\n"),
+    Act::One(b"INSERT INTO t (id, c) VALUES (16, 1)", FULL),
+    Act::Two(b"INSERT INTO t (id, c) VALUES (17, 1)", Ok(1)),
+    Act::Two(ALL, FULL),
+    Act::Line(b"advance", b"ok serve\n"),
+    Act::One(b"INSERT INTO t (id, c) VALUES (18, 1)", FULL),
+    Act::Two(b"INSERT INTO t (id, c) VALUES (19, 1)", Ok(1)),
+    Act::Two(ALL, FULL),
+    Act::Line(b"advance", b"ok serve\n"),
+    Act::One(b"INSERT INTO t (id, c) VALUES (20, 1)", FULL),
+    Act::Two(b"INSERT INTO t (id, c) VALUES (21, 1)", Ok(1)),
+    Act::Two(ALL, FULL),
+    Act::Line(b"advance", b"ok publish\n"),
+    Act::One(b"INSERT INTO t (id, c) VALUES (22, 1)", Ok(1)),
+    Act::Two(b"INSERT INTO t (id, c) VALUES (23, 1)", Ok(1)),
+    Act::Two(ALL, Ok(15)),
+    Act::Line(b"advance", b"ok release\n"),
+    Act::One(b"INSERT INTO t (id, c) VALUES (24, 1)", Ok(1)),
+    Act::Two(b"INSERT INTO t (id, c) VALUES (25, 1)", Ok(1)),
+    Act::Two(ALL, Ok(17)),
 ];
 
 /// So many steps come before the one that retires the source.
@@ -78,39 +61,23 @@ const UNTIL_RETIRED: usize = 3;
 const PUBLISHED: usize = 7;
 
 // Once the cutover was resumed, the same INSERTs: those that were accepted are there, the others are not.
-const AGAIN: [[Act<'static>; 2]; 8] = [
-    [
-        Act::Two(b"INSERT INTO t (id, c) VALUES (10, 1)", Ok(1)),
-        Act::One(b"INSERT INTO t (id, c) VALUES (11, 1)", TWICE),
-    ],
-    [
-        Act::Two(b"INSERT INTO t (id, c) VALUES (12, 1)", Ok(1)),
-        Act::One(b"INSERT INTO t (id, c) VALUES (13, 1)", TWICE),
-    ],
-    [
-        Act::Two(b"INSERT INTO t (id, c) VALUES (14, 1)", Ok(1)),
-        Act::One(b"INSERT INTO t (id, c) VALUES (15, 1)", TWICE),
-    ],
-    [
-        Act::Two(b"INSERT INTO t (id, c) VALUES (16, 1)", Ok(1)),
-        Act::One(b"INSERT INTO t (id, c) VALUES (17, 1)", TWICE),
-    ],
-    [
-        Act::Two(b"INSERT INTO t (id, c) VALUES (18, 1)", Ok(1)),
-        Act::One(b"INSERT INTO t (id, c) VALUES (19, 1)", TWICE),
-    ],
-    [
-        Act::Two(b"INSERT INTO t (id, c) VALUES (20, 1)", Ok(1)),
-        Act::One(b"INSERT INTO t (id, c) VALUES (21, 1)", TWICE),
-    ],
-    [
-        Act::Two(b"INSERT INTO t (id, c) VALUES (22, 1)", TWICE),
-        Act::One(b"INSERT INTO t (id, c) VALUES (23, 1)", TWICE),
-    ],
-    [
-        Act::Two(b"INSERT INTO t (id, c) VALUES (24, 1)", TWICE),
-        Act::One(b"INSERT INTO t (id, c) VALUES (25, 1)", TWICE),
-    ],
+const AGAIN: [Act<'static>; 16] = [
+    Act::Two(b"INSERT INTO t (id, c) VALUES (10, 1)", Ok(1)),
+    Act::One(b"INSERT INTO t (id, c) VALUES (11, 1)", TWICE),
+    Act::Two(b"INSERT INTO t (id, c) VALUES (12, 1)", Ok(1)),
+    Act::One(b"INSERT INTO t (id, c) VALUES (13, 1)", TWICE),
+    Act::Two(b"INSERT INTO t (id, c) VALUES (14, 1)", Ok(1)),
+    Act::One(b"INSERT INTO t (id, c) VALUES (15, 1)", TWICE),
+    Act::Two(b"INSERT INTO t (id, c) VALUES (16, 1)", Ok(1)),
+    Act::One(b"INSERT INTO t (id, c) VALUES (17, 1)", TWICE),
+    Act::Two(b"INSERT INTO t (id, c) VALUES (18, 1)", Ok(1)),
+    Act::One(b"INSERT INTO t (id, c) VALUES (19, 1)", TWICE),
+    Act::Two(b"INSERT INTO t (id, c) VALUES (20, 1)", Ok(1)),
+    Act::One(b"INSERT INTO t (id, c) VALUES (21, 1)", TWICE),
+    Act::Two(b"INSERT INTO t (id, c) VALUES (22, 1)", TWICE),
+    Act::One(b"INSERT INTO t (id, c) VALUES (23, 1)", TWICE),
+    Act::Two(b"INSERT INTO t (id, c) VALUES (24, 1)", TWICE),
+    Act::One(b"INSERT INTO t (id, c) VALUES (25, 1)", TWICE),
 ];
 
 /// How many rows were accepted where so many steps were taken, and how many there are once those that were refused have come too.
@@ -167,68 +134,41 @@ fn found(steps: usize) -> Act<'static> {
     }
 }
 
-// Puts the first so many steps behind the beginning, and what is done with them then.
-fn put_stopped(
-    acts: &mut Vec<Act<'static>>,
-    steps: usize,
-    accepted: u64,
-    controller: Controller,
-) -> Result<(), AllocError> {
-    for step in STEPS.iter().take(steps) {
-        acts.extend_from_slice(step)?;
-    }
-    if controller == Controller::Stops {
-        acts.extend_from_slice(&[Act::Reopen(Ok(())), found(steps)])?;
-    }
-    acts.extend_from_slice(&ending(steps, controller))?;
-    acts.push(Act::Two(ALL, Ok(accepted)))?;
-    Ok(())
-}
-
-// Puts the INSERTs again, and the end of the split.
-fn put_again(acts: &mut Vec<Act<'static>>, steps: usize, rows: u64) -> Result<(), AllocError> {
-    for again in AGAIN.iter().take(steps) {
-        acts.extend_from_slice(again)?;
-    }
-    acts.extend_from_slice(&ended(steps))?;
-    acts.push(Act::One(ALL, Ok(rows)))?;
-    Ok(())
-}
-
-// What is done where the cutover is stopped after so many steps.
-fn stopped_after(
-    alloc: Global,
-    steps: usize,
-    accepted: u64,
-    rows: u64,
-    controller: Controller,
-) -> Result<Vec<Act<'static>>, AllocError> {
-    let mut acts: Vec<Act<'static>> = Vec::from_slice(alloc, &BEGINNING)?;
-    put_stopped(&mut acts, steps, accepted, controller)?;
-    put_again(&mut acts, steps, rows)?;
-    Ok(acts)
-}
-
 // Whether all goes as it is to where the cutover is stopped after so many steps.
 fn is_kept<R: Threads + Wait + Sync>(
     rt: &R,
     alloc: Global,
     steps: usize,
-    accepted: u64,
-    rows: u64,
     controller: Controller,
-) -> Result<bool, Fail> {
-    let acts = stopped_after(alloc, steps, accepted, rows, controller)?;
-    play_alone(rt, alloc, SHOP, &acts)
+) -> Result<bool, Refusal>
+    requires { steps < 9 }
+{
+    let (accepted, rows) = ROWS[steps];
+    let another = [Act::Reopen(Ok(())), found(steps)];
+    let reopened: &[Act<'_>] = match controller {
+        Controller::GoesOn => &[],
+        Controller::Stops => &another,
+    };
+    let acts = [
+        &BEGINNING,
+        &STEPS[..4 * steps],
+        reopened,
+        &ending(steps, controller),
+        &[Act::Two(ALL, Ok(accepted))],
+        &AGAIN[..2 * steps],
+        &ended(steps),
+        &[Act::One(ALL, Ok(rows))],
+    ];
+    plays_alone(rt, alloc, SHOP, &acts)
 }
 
 #[test]
 fn a_cutover_that_is_stopped_and_resumed_keeps_each_accepted_row_once(
     rt: HostRuntime,
 ) -> Result<(), Fail> {
-    for (steps, (accepted, rows)) in ROWS.iter().enumerate() {
+    for steps in 0..9 {
         assert!(rt;
-            is_kept(&rt, rt.alloc(), steps, *accepted, *rows, Controller::GoesOn)?,
+            is_kept(&rt, rt.alloc(), steps, Controller::GoesOn)?,
             "after {steps} steps"
         );
     }
@@ -239,9 +179,9 @@ fn a_cutover_that_is_stopped_and_resumed_keeps_each_accepted_row_once(
 fn a_cutover_whose_controller_stopped_is_reopened_and_keeps_each_accepted_row_once(
     rt: HostRuntime,
 ) -> Result<(), Fail> {
-    for (steps, (accepted, rows)) in ROWS.iter().enumerate() {
+    for steps in 0..9 {
         assert!(rt;
-            is_kept(&rt, rt.alloc(), steps, *accepted, *rows, Controller::Stops)?,
+            is_kept(&rt, rt.alloc(), steps, Controller::Stops)?,
             "after {steps} steps"
         );
     }
@@ -256,7 +196,7 @@ const NOTHING: [Act<'static>; 10] = [
     BEGUN,
     Act::Reopen(Ok(())),
     FOLLOWING,
-    Act::Line(b"switch", b"ok\n"),
+    SWITCH,
     COMPLETED,
     Act::Reopen(Err(ReshardFault::WrongState)),
     SPLIT,
@@ -264,6 +204,6 @@ const NOTHING: [Act<'static>; 10] = [
 
 #[test]
 fn a_workflow_is_reopened_while_there_is_one(rt: HostRuntime) -> Result<(), Fail> {
-    assert!(rt; play_alone(&rt, rt.alloc(), SHOP, &NOTHING)?);
+    assert!(rt; plays_alone(&rt, rt.alloc(), SHOP, &[&NOTHING])?);
     Ok(())
 }

@@ -20,13 +20,13 @@ use Rattle.shard_run.specs.Legal.{Legal, Had, is_left}
 use Rattle.shard_run.specs.Openings.{IsOpening}
 use Rattle.shard_law.proofs.Law.{beginnings}
 use Rattle.shard_law.proofs.Lists.{all-filter, all-weaker, AllByRecursion-push}
-use Rattle.shard.specs.declared.copying.NextTable.{NextTable}
-use Rattle.shard.specs.declared.copying.SourceProgress.{SourceProgress}
-use Rattle.shard.specs.Shards.{IsNext}
-use Rattle.shard.specs.Copying.{IsProgress, IsEntryFor, IsCopyFor, IsNextTable, IsNextCopy, HasCopiedAll, is_reached, is_wanted}
-use Rattle.shard.proofs.Follows.{stored_later, none_left}
-use Rattle.shard.proofs.Positions.{position-same, copied_all-same}
-use Rattle.shard.proofs.CopySteps.{left-same, stored_there_now}
+use Rattle.shard_contents.specs.declared.copying.NextTable.{NextTable}
+use Rattle.shard_contents.specs.declared.copying.SourceProgress.{SourceProgress}
+use Rattle.shard_contents.specs.Shards.{IsNext}
+use Rattle.shard_contents.specs.Copying.{IsProgress, IsEntryFor, IsCopyFor, IsNextTable, IsNextCopy, HasCopiedAll, is_reached, is_wanted}
+use Rattle.shard_contents.proofs.Follows.{stored_later, none_left}
+use Rattle.shard_contents.proofs.Positions.{position-same, copied_all-same}
+use Rattle.shard_contents.proofs.CopySteps.{left-same, stored_there_now}
 use Rattle.follow.specs.declared.steps.Given.{Given}
 use Rattle.follow.specs.declared.steps.Given.TheVariants as givens
 use Rattle.follow.specs.declared.steps.Step.{Step}
@@ -34,7 +34,7 @@ use Rattle.follow.specs.inner.Given.{IsGiven, NoneLeft, IsNextEntry, AreNextRows
 use Rattle.follow.specs.inner.Given as given
 use Rattle.follow.specs.Steps.{IsOnward, IsRunBetween, IsLevel, HasMoved, copied, followed, level, HasMovedWith, one, all_level}
 use Rattle.follow.specs.declared.steps.Step.TheVariants.{Level}
-use Rattle.shard.proofs.Progress.{take_whole}
+use Rattle.shard_contents.proofs.Progress.{take_whole}
 use Rattle.std.proofs.lemmas.List.{take_more, map-append}
 use Rattle.follow.proofs.Onward.{same_entries, onward_trans, stepped_after}
 

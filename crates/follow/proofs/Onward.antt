@@ -10,7 +10,7 @@ use Rattle.shard_run.specs.declared.Shard.{Shard}
 use Rattle.shard_run.specs.declared.Event.{Event}
 use Rattle.shard_run.specs.declared.Entry.{Entry}
 use Rattle.shard_run.specs.Runs.{Run, Opening, entries_on, is_on}
-use Rattle.shard.specs.Shards.{slot_of, commit_of, MayFollow, HasLooked, HasAppended, ShardView}
+use Rattle.shard_contents.specs.Shards.{slot_of, commit_of, MayFollow, HasLooked, HasAppended, ShardView}
 use Rattle.follow.specs.Steps.{IsOnward, HasStepped}
 
 pub still : (o : Opening) (p : PassView Entry) → IsLegal (MayFollow o) p.seen → IsOnward o p p

@@ -11,8 +11,8 @@ ghost use Rattle.shard_run.specs.declared.Event.{Event};
 ghost use Rattle.shard_run.specs.declared.Follow as follow;
 ghost use Rattle.shard_run.specs.Runs.{mode, is_serving, entries_on, stored_on};
 ghost use Rattle.shard_run.specs.Openings.{IsOpening};
-ghost use Rattle.shard.specs.Shards.{MayFollow};
-ghost use Rattle.shard.specs.Copying.{IsProgress, IsEntryFor};
+ghost use Rattle.shard_contents.specs.Shards.{MayFollow};
+ghost use Rattle.shard_contents.specs.Copying.{IsProgress, IsEntryFor};
 ghost use Rattle.follow.specs.Steps.{IsOnward, HasStepped, HasMoved, HasMovedWith, IsFull};
 ghost use Rattle.follow.specs.inner.Given.{IsGiven, NoneLeft, IsNextEntry, AreNextRows, IsTakeable, HasTaken};
 

@@ -7,7 +7,7 @@ use Rattle.shard_run.specs.declared.Shard.{Shard}
 use Rattle.shard_run.specs.declared.Entry.{Entry}
 use Rattle.shard_run.specs.declared.Event.TheVariants as events
 use Rattle.shard_run.specs.Runs.{Opening, Run, entries_on}
-use Rattle.shard.specs.declared.limits.Limits.{Limits}
+use Rattle.shard_contents.specs.declared.limits.Limits.{Limits}
 use Rattle.follow.specs.Steps.{IsOnward, IsRunBetween, HasStepped, IsFull}
 use Rattle.follow.specs.declared.steps.Step.TheVariants as moves
 use Rattle.reshard_beginning.specs.declared.fault.ReshardFault.{ReshardFault}

@@ -5,7 +5,7 @@ ghost use Rattle.vschema.specs.WellFormed.{is_vschema};
 ghost use Rattle.keyrange.specs.Names.{IsNamed};
 ghost use Rattle.journal.specs.Runs.{IsLegal};
 ghost use Rattle.shard_run.specs.Openings.{IsOpening};
-ghost use Rattle.shard.specs.Shards.{MayFollow};
+ghost use Rattle.shard_contents.specs.Shards.{MayFollow};
 ghost use Rattle.follow.specs.Steps.{IsOnward};
 ghost use Rattle.reshard_beginning.specs.Grounds.{IsFree, IsGround};
 ghost use Rattle.reshard_beginning.specs.Begun.{HasBegun, IsCreateRefusal, HasMovedFirst, IsMoveRefusal};

@@ -5,7 +5,7 @@ ghost use Rattle.shard_run.specs.declared.Event.{Event};
 ghost use Rattle.std.specs.Prelude.{◌≡◌, ◌+◌, ◌<◌, true, Some, IfErr, OnOk, OnErr, Contains, length, slice_get};
 ghost use Rattle.std.specs.List.{AllByRecursion};
 ghost use Rattle.journal.specs.Runs.{IsLegal};
-ghost use Rattle.shard.specs.Shards.{MayFollow};
+ghost use Rattle.shard_contents.specs.Shards.{MayFollow};
 ghost use Rattle.follow.specs.Steps.{IsOnward, HasStepped};
 ghost use Rattle.cutover_steps.specs.Steps.{named_for};
 ghost use Rattle.cutover_steps.specs.Takings.{Taking, shards_of};

@@ -2,7 +2,7 @@
 ghost use Rattle.std.specs.Prelude.{◌≡◌, ◌⊎◌, true, false, IfOk, IfErr, OnOk, IsTrue};
 ghost use Rattle.vschema.specs.WellFormed.{is_vschema};
 ghost use Rattle.journal.specs.Runs.{IsLegal};
-ghost use Rattle.shard.specs.Shards.{MayFollow};
+ghost use Rattle.shard_contents.specs.Shards.{MayFollow};
 ghost use Rattle.follow.specs.Steps.{IsOnward};
 ghost use Rattle.reshard.specs.Cutover.{HasFinished, IsResumed, HasStoppedLater};
 

@@ -1,7 +1,7 @@
 //! A workflow whose controller stopped is made again from its shards.
 ghost use Rattle.std.specs.Prelude.{◌≡◌, ◌⊎◌, IfErr, IfSome, OnOk, OnErr};
 ghost use Rattle.journal.specs.Runs.{IsLegal};
-ghost use Rattle.shard.specs.Shards.{MayFollow};
+ghost use Rattle.shard_contents.specs.Shards.{MayFollow};
 ghost use Rattle.follow.specs.Steps.{IsOnward};
 ghost use Rattle.reshard.specs.Reopened.{IsReopened, stage_at};
 ghost use Rattle.reshard_reopening.specs.MadeAgain.{IsReopenRefusal};

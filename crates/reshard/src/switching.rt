@@ -2,7 +2,7 @@
 ghost use Rattle.std.specs.Prelude.{◌≡◌, ◌⊎◌, ◌≤◌, true, false, Some, IfOk, IfErr, OnOk, OnErr, MatchOption, IsTrue};
 ghost use Rattle.vschema.specs.WellFormed.{is_vschema};
 ghost use Rattle.journal.specs.Runs.{IsLegal};
-ghost use Rattle.shard.specs.Shards.{MayFollow};
+ghost use Rattle.shard_contents.specs.Shards.{MayFollow};
 ghost use Rattle.follow.specs.Steps.{IsOnward};
 ghost use Rattle.reshard.specs.Cutover.{HasSwitched, HasStopped, IsSwitchRefusal, MaySwitch};
 

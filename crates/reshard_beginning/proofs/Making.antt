@@ -62,7 +62,7 @@ begin_so sources range = record { among = tt; all = λ x h over. absurd h }
 pub all_so : (sources : List Shard) (n : ℕ) (range : KeyRange) (own : List Shard) → length sources ≤ n → SoFar sources n range own → AreOverlapped sources range own
 all_so sources n range own l is = record {
   among = is.among;
-  all = λ s h over. is.all s (subst (In s) (sym (Rattle.shard.proofs.Progress.take_whole n sources l)) (In-from_Contains s sources h)) over;
+  all = λ s h over. is.all s (subst (In s) (sym (Rattle.shard_contents.proofs.Progress.take_whole n sources l)) (In-from_Contains s sources h)) over;
 }
 
 pub slots_next : (slots : List ℕ) (xs ys : List Shard) (s : Shard) → slots ≡ map (λ s. s.slot) xs → ys ≡ xs ++ s ∷ [] → slots ++ s.slot ∷ [] ≡ map (λ s. s.slot) ys

@@ -9,7 +9,7 @@ use Rattle.shard_run.specs.declared.Entry.{Entry}
 use Rattle.shard_run.specs.declared.Event.TheVariants as events
 use Rattle.shard_run.specs.Runs.{Opening, Run}
 use Rattle.shard_law.proofs.Lists.{all-weaker, AllByRecursion-push}
-use Rattle.shard.proofs.Progress.{take_whole}
+use Rattle.shard_contents.proofs.Progress.{take_whole}
 use Rattle.follow.specs.declared.steps.Step.{Step}
 use Rattle.follow.specs.declared.steps.Step.TheVariants.{Copied, Followed, Level}
 use Rattle.follow.specs.Steps.{IsOnward, IsRunBetween, HasMoved, copied, followed, level, HasMovedWith, IsFull}
@@ -18,7 +18,7 @@ use Rattle.follow.proofs.Moves.{level_later}
 use Rattle.cutover_steps.specs.Takings.{Taking}
 use Rattle.vt_value.specs.declared.refusal.Refusal.{Refusal}
 use Rattle.vt_value.specs.declared.refusal.Refusal.TheVariants.{OutOfMemory, ShardFull}
-use Rattle.shard.specs.declared.limits.Limits.{Limits}
+use Rattle.shard_contents.specs.declared.limits.Limits.{Limits}
 use Rattle.reshard_beginning.specs.declared.fault.ReshardFault.TheVariants.{Refused}
 use Rattle.reshard_beginning.specs.Begun.{HasMovedFirst, IsMoveRefusal}
 use Rattle.reshard_beginning.specs.Begun as begun

@@ -5,7 +5,7 @@ use Rattle.keyrange.specs.declared.KeyRange.{KeyRange}
 use Rattle.serving.specs.Partitions.{Seat, IsPartition}
 use Rattle.journal.specs.Views.{PassView}
 use Rattle.vt_value.specs.declared.refusal.Refusal.TheVariants.{OutOfMemory, ShardFull}
-use Rattle.shard.specs.declared.limits.Limits.{Limits}
+use Rattle.shard_contents.specs.declared.limits.Limits.{Limits}
 use Rattle.shard_run.specs.declared.Shard.{Shard}
 use Rattle.shard_run.specs.declared.Entry.{Entry}
 use Rattle.shard_run.specs.Runs.{Opening}

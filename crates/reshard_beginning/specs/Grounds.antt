@@ -3,7 +3,7 @@ use Rattle.std.specs.Prelude.{◌≡◌, ◌<◌, ◌≤◌, ◌^◌, false, [],
 use Rattle.journal.specs.Views.{SeatView}
 use Rattle.shard_run.specs.declared.Entry.{Entry}
 use Rattle.shard_run.specs.Runs.{Opening, entries_on, is_opening}
-use Rattle.shard.specs.declared.limits.Limits.{Limits}
+use Rattle.shard_contents.specs.declared.limits.Limits.{Limits}
 use Rattle.reshard_beginning.specs.declared.ground.Ground.{Ground}
 
 -- what is fixed is that of the world, whose limits are those of a shard

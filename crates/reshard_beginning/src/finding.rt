@@ -4,7 +4,7 @@ ghost use Rattle.std.specs.List.{AllByRecursion};
 ghost use Rattle.keyrange.specs.Ranges.{Cover};
 ghost use Rattle.serving.specs.Partitions.{Seat, AreOf};
 ghost use Rattle.journal.specs.Runs.{IsLegal};
-ghost use Rattle.shard.specs.Shards.{MayFollow};
+ghost use Rattle.shard_contents.specs.Shards.{MayFollow};
 ghost use Rattle.follow.specs.Steps.{IsOnward};
 ghost use Rattle.reshard_beginning.specs.Choices.{AreApart};
 ghost use Rattle.reshard_beginning.specs.inner.Created.{IsAway, IsUnfit};

@@ -1,7 +1,7 @@
 //! A workflow that isn't begun gives the seats of its targets back.
 ghost use Rattle.std.specs.Prelude.{◌≡◌, ◌≤◌, ◌<◌, ◌+◌, ◌++◌, ◌∷◌, [], true, map, reverse, length, vec_len, vec_capacity};
 ghost use Rattle.std.specs.List.{AllByRecursion};
-ghost use Rattle.shard.specs.Shards as shards;
+ghost use Rattle.shard_contents.specs.Shards as shards;
 ghost use Rattle.reshard_beginning.specs.Grounds.{IsFree};
 
 use cutover_steps::Target;

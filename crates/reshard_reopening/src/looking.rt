@@ -3,7 +3,7 @@ ghost use Rattle.shard_run.specs.declared.Shard as which;
 ghost use Rattle.std.specs.Prelude.{◌≡◌, IfOk, IfErr, IfSome, map};
 ghost use Rattle.journal.specs.Runs.{IsLegal};
 ghost use Rattle.shard_run.specs.Runs.{mode};
-ghost use Rattle.shard.specs.Shards.{MayFollow};
+ghost use Rattle.shard_contents.specs.Shards.{MayFollow};
 ghost use Rattle.follow.specs.Steps.{IsOnward};
 ghost use Rattle.shard.specs.Seats.{seat_of};
 ghost use Rattle.reshard_reopening.specs.MadeAgain.{IsFound, AreFound};

@@ -24,18 +24,18 @@ use Rattle.shard_run.specs.declared.Entry.{Entry}
 use Rattle.shard_run.specs.Runs.{Run, Opening, one, held, mode, is_serving}
 use Rattle.shard_run.specs.Legal.{IsOnItsSlot}
 use Rattle.shard_run.specs.Openings.{IsOpening}
-use Rattle.shard.specs.Shards.{MayFollow, commit_of}
-use Rattle.shard.specs.Transactions.{PendingView, entry_of}
-use Rattle.shard.proofs.Legality.{legal_is, part_held}
+use Rattle.shard_contents.specs.Shards.{MayFollow, commit_of}
+use Rattle.shard_contents.specs.Transactions.{PendingView, entry_of}
+use Rattle.shard_contents.proofs.Legality.{legal_is, part_held}
 use Rattle.shard.proofs.Moves.{pending_may}
 use Rattle.shard.proofs.Pendings.{legal_then, stands_then, held_then, one_then, serves_then}
-use Rattle.route_engine.specs.declared.reply.Selected.{Selected}
-use Rattle.route_engine.specs.declared.reply.Answer.TheVariants.{Rows, Count}
-use Rattle.route_engine.specs.Answers.{NeedsAlone, needed_by}
-use Rattle.route_engine.specs.Alone as over
-use Rattle.route_engine.specs.Transactions.{Step, Transaction, needed_for}
-use Rattle.route_engine.specs.Pendings as stands
-use Rattle.route_engine.specs.Pendings.{OpenView, Stands, IsAnywhere}
+use Rattle.shard_calls.specs.declared.reply.Selected.{Selected}
+use Rattle.shard_calls.specs.declared.reply.Answer.TheVariants.{Rows, Count}
+use Rattle.shard_calls.specs.Answers.{NeedsAlone, needed_by}
+use Rattle.shard_calls.specs.Alone as over
+use Rattle.shard_calls.specs.Transactions.{Step, Transaction, needed_for}
+use Rattle.shard_calls.specs.Pendings as stands
+use Rattle.shard_calls.specs.Pendings.{OpenView, Stands, IsAnywhere}
 use Rattle.route_engine.proofs.Going as g
 use Rattle.route_engine.proofs.Over.{nowhere_over}
 use Rattle.route_engine.proofs.Told.{answers_kept}
@@ -55,7 +55,7 @@ stands_met o p q _ _ more same own (stands.bound {v} {t} is) = stands.bound (rec
   pending = is.pending;
   told = is.told;
   touches =
-      subst (λ (i : Option ℕ). Rattle.std.specs.List.AllByRecursion (Rattle.route_engine.specs.Pendings.IsTouchOf o is.shard i t.at t.steps) v.pending.touched) (sym same)
+      subst (λ (i : Option ℕ). Rattle.std.specs.List.AllByRecursion (Rattle.shard_calls.specs.Pendings.IsTouchOf o is.shard i t.at t.steps) v.pending.touched) (sym same)
       is.touches;
   behind = is.behind;
   seen = prefix_trans t.at p.seen q.seen is.seen more;

@@ -22,13 +22,13 @@ use Rattle.shard_run.specs.declared.Event.TheVariants.{Commit, Follow, Copy, Fre
 use Rattle.shard_run.specs.Runs.{Run, Opening, mode, is_serving, is_on, is_stored, stored_on}
 use Rattle.shard_run.specs.Legal.{LegalFrom, May, IsOnItsSlot}
 use Rattle.shard_run.specs.Openings.{IsOpening}
-use Rattle.shard.specs.declared.touch.Touch.{Touch}
-use Rattle.shard.specs.Shards.{MayFollow, commit_of}
-use Rattle.shard.specs.Transactions.{changes_table, is_changed, is_conflict}
+use Rattle.shard_contents.specs.declared.touch.Touch.{Touch}
+use Rattle.shard_contents.specs.Shards.{MayFollow, commit_of}
+use Rattle.shard_contents.specs.Transactions.{changes_table, is_changed, is_conflict}
 use Rattle.shard.proofs.Conflicts.{stored_is}
-use Rattle.shard.proofs.Legality.{legal_is, of_run}
-use Rattle.route_engine.specs.Transactions.{Step, IsConflict}
-use Rattle.route_engine.specs.Pendings.{IsTouchOf}
+use Rattle.shard_contents.proofs.Legality.{legal_is, of_run}
+use Rattle.shard_calls.specs.Transactions.{Step, IsConflict}
+use Rattle.shard_calls.specs.Pendings.{IsTouchOf}
 use Rattle.route_engine.proofs.NoOthers.{all_front}
 
 -- ---- one shard on a slot

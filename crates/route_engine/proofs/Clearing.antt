@@ -8,11 +8,11 @@ use Rattle.shard_run.specs.declared.Event.TheVariants.{Commit}
 use Rattle.shard_run.specs.declared.Shard.{Shard}
 use Rattle.shard_run.specs.declared.Entry.{Entry}
 use Rattle.shard_run.specs.Runs.{Run, Opening, is_on, is_stored, stored_on}
-use Rattle.shard.specs.declared.touch.Touch.{Touch}
-use Rattle.shard.specs.Transactions.{changes_table, is_changed, is_conflict, is_touched, touched_with}
+use Rattle.shard_contents.specs.declared.touch.Touch.{Touch}
+use Rattle.shard_contents.specs.Transactions.{changes_table, is_changed, is_conflict, is_touched, touched_with}
 use Rattle.shard.proofs.Conflicts.{stored_is}
-use Rattle.route_engine.specs.Transactions.{Step, IsConflict, table_of}
-use Rattle.route_engine.specs.Pendings.{WasTouched, HasTouched}
+use Rattle.shard_calls.specs.Transactions.{Step, IsConflict, table_of}
+use Rattle.shard_calls.specs.Pendings.{WasTouched, HasTouched}
 use Rattle.route_engine.proofs.Causes.{found}
 
 any_from : {X : Type 0} (p : X → Bool) (x : X) (xs : List X) → In x xs → p x ≡ true → list_any p xs ≡ true

@@ -22,21 +22,21 @@ use Rattle.shard_run.specs.declared.Shard.{Shard}
 use Rattle.shard_run.specs.declared.Entry.{Entry}
 use Rattle.shard_run.specs.Runs.{Opening}
 use Rattle.shard_run.specs.Openings.{IsOpening}
-use Rattle.shard.specs.declared.limits.Limits.{Limits}
-use Rattle.shard.specs.Shards.{MayFollow, commit_of}
-use Rattle.shard.specs.Transactions.{PendingView, IsPendingOf}
+use Rattle.shard_contents.specs.declared.limits.Limits.{Limits}
+use Rattle.shard_contents.specs.Shards.{MayFollow, commit_of}
+use Rattle.shard_contents.specs.Transactions.{PendingView, IsPendingOf}
 use Rattle.shard.proofs.LooksIn.{Of, session_of}
-use Rattle.route_engine.specs.declared.reply.Answer.TheVariants.{Rows, Count}
-use Rattle.route_engine.specs.declared.reply.Reply.{Reply}
-use Rattle.route_engine.specs.declared.reply.ShardRead.{ShardRead}
-use Rattle.route_engine.specs.Answers.{needed}
-use Rattle.route_engine.specs.Transactions as t
-use Rattle.route_engine.specs.Transactions.{Transaction, Standing, GivesIn, IsRefusedIn}
-use Rattle.route_engine.specs.Pendings as stands
-use Rattle.route_engine.specs.Pendings.{BoundView, OpenView, Stands, IsOf, bound_of}
-use Rattle.route_engine.specs.inner.Within.{GoesOnIn, IsRefusedStep, IsSeatOf, NeedsNoSeat, NeedsSeveral, NeedsOther, HasReadAt, IsNotReadAt, HasWrittenAt, IsNotWrittenAt, HasCommittedAt, IsNotCommittedAt}
+use Rattle.shard_calls.specs.declared.reply.Answer.TheVariants.{Rows, Count}
+use Rattle.shard_calls.specs.declared.reply.Reply.{Reply}
+use Rattle.shard_calls.specs.declared.reply.ShardRead.{ShardRead}
+use Rattle.shard_calls.specs.Answers.{needed}
+use Rattle.shard_calls.specs.Transactions as t
+use Rattle.shard_calls.specs.Transactions.{Transaction, Standing, GivesIn, IsRefusedIn}
+use Rattle.shard_calls.specs.Pendings as stands
+use Rattle.shard_calls.specs.Pendings.{BoundView, OpenView, Stands, IsOf, bound_of}
+use Rattle.shard_calls.specs.inner.Within.{GoesOnIn, IsRefusedStep, IsSeatOf, NeedsNoSeat, NeedsSeveral, NeedsOther, HasReadAt, IsNotReadAt, HasWrittenAt, IsNotWrittenAt, HasCommittedAt, IsNotCommittedAt}
 use Rattle.route_engine.proofs.Anywhere.{reads_nowhere, writes_nowhere, names_anywhere}
-use Rattle.route_engine.proofs.Gathers.{stays}
+use Rattle.shard_calls.proofs.Gathers.{stays}
 use Rattle.route_engine.proofs.Stepping as s
 use Rattle.route_engine.proofs.Stepping.{Fits}
 
@@ -164,7 +164,7 @@ module _ (o : Opening) (opens : IsOpening o) (formed : is_vschema o.schema ≡ t
     abbrev count_of : ℕ → Reply
     count_of count = record { answer = Count count; reads = [] }
 
-    needed_by_is : (seats : List Seat) → needed table route seats ≡ Rattle.route_engine.specs.Answers.needed_by o wr seats
+    needed_by_is : (seats : List Seat) → needed table route seats ≡ Rattle.shard_calls.specs.Answers.needed_by o wr seats
     needed_by_is seats =
         ap (λ (x : Table). needed x route seats) table_is ∙ ap (λ (x : Route). needed (table_at o.schema (written_table wr)) x seats) route_is
 
@@ -209,7 +209,7 @@ module _ (o : Opening) (opens : IsOpening o) (formed : is_vschema o.schema ≡ t
     }
       where
         elsewhere : ((2 ≤ length (needed table route fault.seats)) ⊎ ((seat : Seat) × (needed table route fault.seats ≡ seat ∷ []) × (b ≡ record { keyspace = table.keyspace; seat = seat } → ⊥)))
-            → (2 ≤ length (Rattle.route_engine.specs.Answers.needed_by o wr fault.seats)) ⊎ ((seat : Seat) × (Rattle.route_engine.specs.Answers.needed_by o wr fault.seats ≡ seat ∷ []) × (b ≡ record { keyspace = (table_at o.schema (written_table wr)).keyspace; seat = seat } → ⊥))
+            → (2 ≤ length (Rattle.shard_calls.specs.Answers.needed_by o wr fault.seats)) ⊎ ((seat : Seat) × (Rattle.shard_calls.specs.Answers.needed_by o wr fault.seats ≡ seat ∷ []) × (b ≡ record { keyspace = (table_at o.schema (written_table wr)).keyspace; seat = seat } → ⊥))
         elsewhere (inl more) = inl (subst (λ (l : List Seat). 2 ≤ length l) (needed_by_is fault.seats) more)
         elsewhere (inr (seat, only, differs)) =
             inr (seat, sym (needed_by_is fault.seats) ∙ only, λ same. differs (same ∙ ap (λ (x : Table). s.view_of x.keyspace seat) (sym table_is)))

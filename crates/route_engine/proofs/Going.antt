@@ -23,16 +23,16 @@ use Rattle.shard_run.specs.declared.Shard.{Shard}
 use Rattle.shard_run.specs.Runs.{Run, Opening, one, held, mode, stored_on}
 use Rattle.shard_run.specs.Legal.{IsOnItsSlot, IsChangeOf}
 use Rattle.shard_run.specs.Openings.{IsOpening}
-use Rattle.shard.specs.declared.touch.Touch.{Touch}
-use Rattle.shard.specs.Shards.{MayFollow, commit_of}
-use Rattle.shard.specs.Transactions.{PendingView, nothing_done, is_conflict, is_touched, touched_with, IsClear, IsTouchBy, IsPending}
+use Rattle.shard_contents.specs.declared.touch.Touch.{Touch}
+use Rattle.shard_contents.specs.Shards.{MayFollow, commit_of}
+use Rattle.shard_contents.specs.Transactions.{PendingView, nothing_done, is_conflict, is_touched, touched_with, IsClear, IsTouchBy, IsPending}
 use Rattle.shard.proofs.Moves.{rows_after_stay, still_touched, now_touched, pending_later, pending_touches, pending_writes, pending_nothing}
-use Rattle.route_engine.specs.declared.reply.Selected.{Selected}
-use Rattle.route_engine.specs.declared.reply.Answer.TheVariants.{Rows, Count}
-use Rattle.route_engine.specs.Answers.{NeedsAlone}
-use Rattle.route_engine.specs.Transactions.{Step, GiveOver, ReadsAlone, if_any, used, write_on, writes_in, with_step}
-use Rattle.route_engine.specs.Pendings as p
-use Rattle.route_engine.specs.Pendings.{AreTold, IsAnywhere}
+use Rattle.shard_calls.specs.declared.reply.Selected.{Selected}
+use Rattle.shard_calls.specs.declared.reply.Answer.TheVariants.{Rows, Count}
+use Rattle.shard_calls.specs.Answers.{NeedsAlone}
+use Rattle.shard_calls.specs.Transactions.{Step, GiveOver, ReadsAlone, if_any, used, write_on, writes_in, with_step}
+use Rattle.shard_calls.specs.Pendings as p
+use Rattle.shard_calls.specs.Pendings.{AreTold, IsAnywhere}
 use Rattle.route_engine.proofs.Told.{placed_on, lifted}
 
 module _ (o : Opening) (s : Shard) where

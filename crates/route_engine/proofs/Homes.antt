@@ -10,9 +10,9 @@ use Rattle.planner.specs.declared.routes.Route.{Route}
 use Rattle.planner.specs.Routes.{takes}
 use Rattle.shard_law.proofs.Lists.{In, In-all, In-from_filter}
 use Rattle.serving.specs.Partitions.{Seat, IsPartition, AreOf}
-use Rattle.route_engine.specs.Answers.{needed}
-use Rattle.route_engine.specs.Pendings.{BoundView}
-use Rattle.route_engine.specs.inner.Within.{IsSeatOf, NeedsOther}
+use Rattle.shard_calls.specs.Answers.{needed}
+use Rattle.shard_calls.specs.Pendings.{BoundView}
+use Rattle.shard_calls.specs.inner.Within.{IsSeatOf, NeedsOther}
 
 -- ---- a part that is needed
 

@@ -21,18 +21,18 @@ use Rattle.shard_run.specs.declared.Entry.{Entry}
 use Rattle.shard_run.specs.Runs.{Run, Opening, one, mode, stored_on}
 use Rattle.shard_run.specs.Legal.{IsOnItsSlot}
 use Rattle.shard_run.specs.Openings.{IsOpening}
-use Rattle.shard.specs.declared.limits.Limits.{Limits}
-use Rattle.shard.specs.declared.touch.Touch.{Touch}
-use Rattle.shard.specs.Shards.{MayFollow, HasLooked, commit_of}
-use Rattle.shard.specs.Transactions.{PendingView, nothing_done, touched_with, IsClear, IsTouchBy, IsPending, HasReadIn, HasWrittenIn, HasCommittedAll, entry_of}
+use Rattle.shard_contents.specs.declared.limits.Limits.{Limits}
+use Rattle.shard_contents.specs.declared.touch.Touch.{Touch}
+use Rattle.shard_contents.specs.Shards.{MayFollow, HasLooked, commit_of}
+use Rattle.shard_contents.specs.Transactions.{PendingView, nothing_done, touched_with, IsClear, IsTouchBy, IsPending, HasReadIn, HasWrittenIn, HasCommittedAll, entry_of}
 use Rattle.shard.proofs.Moves.{all_touched}
-use Rattle.route_engine.specs.declared.reply.Selected.{Selected}
-use Rattle.route_engine.specs.declared.reply.Answer.TheVariants.{Rows, Count}
-use Rattle.route_engine.specs.Answers.{NeedsAlone}
-use Rattle.route_engine.specs.Transactions as gives
-use Rattle.route_engine.specs.Transactions.{Step, Transaction, Standing, GiveOver, AreOver, GivesIn, IsCommitted, IsConflict, ReadsAlone, table_of, if_any, used, writes_in, with_step, reads_of}
-use Rattle.route_engine.specs.Pendings as stands
-use Rattle.route_engine.specs.Pendings.{OpenView, BoundView, IsBound, IsTouchOf, HasTouched, Stands, IsAnywhere, AreTold, bound_of}
+use Rattle.shard_calls.specs.declared.reply.Selected.{Selected}
+use Rattle.shard_calls.specs.declared.reply.Answer.TheVariants.{Rows, Count}
+use Rattle.shard_calls.specs.Answers.{NeedsAlone}
+use Rattle.shard_calls.specs.Transactions as gives
+use Rattle.shard_calls.specs.Transactions.{Step, Transaction, Standing, GiveOver, AreOver, GivesIn, IsCommitted, IsConflict, ReadsAlone, table_of, if_any, used, writes_in, with_step, reads_of}
+use Rattle.shard_calls.specs.Pendings as stands
+use Rattle.shard_calls.specs.Pendings.{OpenView, BoundView, IsBound, IsTouchOf, HasTouched, Stands, IsAnywhere, AreTold, bound_of}
 use Rattle.route_engine.proofs.Going as g
 use Rattle.route_engine.proofs.Causes.{one_on_slot, stands_early}
 use Rattle.route_engine.proofs.Clearing.{no_conflict, touched_more}

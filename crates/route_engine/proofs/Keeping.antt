@@ -10,14 +10,14 @@ use Rattle.journal.specs.Views.{PassView}
 use Rattle.journal.proofs.Fronts.{prefix_self}
 use Rattle.shard_run.specs.declared.Entry.{Entry}
 use Rattle.shard_run.specs.Runs.{Opening}
-use Rattle.shard.specs.declared.limits.Limits.{Limits}
-use Rattle.route_engine.specs.declared.reply.Reply.{Reply}
-use Rattle.route_engine.specs.Answers as a
-use Rattle.route_engine.specs.Answers.{counted, MayReadRefuse, MayWriteRefuse}
-use Rattle.route_engine.specs.Transactions as t
-use Rattle.route_engine.specs.Transactions.{Transaction, Standing, GivesIn, GivesAt, IsAnswerNow, IsReplyTo, IsRefusedBy, IsRefusedNow, IsRefusedAt}
-use Rattle.route_engine.specs.Pendings as stands
-use Rattle.route_engine.specs.Pendings.{OpenView, Stands, IsOf}
+use Rattle.shard_contents.specs.declared.limits.Limits.{Limits}
+use Rattle.shard_calls.specs.declared.reply.Reply.{Reply}
+use Rattle.shard_calls.specs.Answers as a
+use Rattle.shard_calls.specs.Answers.{counted, MayReadRefuse, MayWriteRefuse}
+use Rattle.shard_calls.specs.Transactions as t
+use Rattle.shard_calls.specs.Transactions.{Transaction, Standing, GivesIn, GivesAt, IsAnswerNow, IsReplyTo, IsRefusedBy, IsRefusedNow, IsRefusedAt}
+use Rattle.shard_calls.specs.Pendings as stands
+use Rattle.shard_calls.specs.Pendings.{OpenView, Stands, IsOf}
 use Rattle.route_engine.specs.inner.Pendings.{Leads}
 use Rattle.route_engine.proofs.Anywhere.{stands_met}
 use Rattle.route_engine.proofs.Sessions.{looked_session, gone_session, gives_session}

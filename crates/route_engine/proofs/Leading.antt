@@ -16,19 +16,19 @@ use Rattle.journal.specs.Runs.{IsLegal}
 use Rattle.journal.specs.Views.{PassView}
 use Rattle.shard_run.specs.declared.Entry.{Entry}
 use Rattle.shard_run.specs.Runs.{Opening}
-use Rattle.shard.specs.declared.limits.Limits.{Limits}
-use Rattle.shard.specs.Shards.{MayFollow}
-use Rattle.shard.specs.Transactions.{PendingView, nothing_done}
-use Rattle.route_engine.specs.declared.reply.Answer.TheVariants.{Count}
-use Rattle.route_engine.specs.declared.reply.Reply.{Reply}
-use Rattle.route_engine.specs.Answers as a
-use Rattle.route_engine.specs.Answers.{Gives, HasRead, HasWritten, MayReadRefuse, MayWriteRefuse}
-use Rattle.route_engine.specs.Transactions as t
-use Rattle.route_engine.specs.Transactions.{Transaction, Standing, GivesAt, IsRefusedBy, IsAnswerNow, IsRefusedNow}
-use Rattle.route_engine.specs.Pendings as stands
-use Rattle.route_engine.specs.Pendings.{BoundView, OpenView, Stands}
+use Rattle.shard_contents.specs.declared.limits.Limits.{Limits}
+use Rattle.shard_contents.specs.Shards.{MayFollow}
+use Rattle.shard_contents.specs.Transactions.{PendingView, nothing_done}
+use Rattle.shard_calls.specs.declared.reply.Answer.TheVariants.{Count}
+use Rattle.shard_calls.specs.declared.reply.Reply.{Reply}
+use Rattle.shard_calls.specs.Answers as a
+use Rattle.shard_calls.specs.Answers.{Gives, HasRead, HasWritten, MayReadRefuse, MayWriteRefuse}
+use Rattle.shard_calls.specs.Transactions as t
+use Rattle.shard_calls.specs.Transactions.{Transaction, Standing, GivesAt, IsRefusedBy, IsAnswerNow, IsRefusedNow}
+use Rattle.shard_calls.specs.Pendings as stands
+use Rattle.shard_calls.specs.Pendings.{BoundView, OpenView, Stands}
 use Rattle.route_engine.specs.inner.Pendings.{Leads}
-use Rattle.route_engine.specs.inner.Within.{ends, closes, left_by, kept_by, stays_open, GoesOnIn, IsRefusedStep}
+use Rattle.shard_calls.specs.inner.Within.{ends, closes, left_by, kept_by, stays_open, GoesOnIn, IsRefusedStep}
 use Rattle.route_engine.proofs.Stepping.{stands_left}
 
 module _ (o : Opening) (limits : Limits) (p now : PassView Entry) where

@@ -1,13 +1,9 @@
 pub mod Moments
 pub mod Spread
-pub mod Gathers
 pub mod Placing
-pub mod Workers
 pub mod Formed
 pub mod Selecting
-pub mod Jobs
 pub mod Theirs
-pub mod Sent
 pub mod Refusals
 pub mod Replies
 pub mod Sessions
@@ -17,7 +13,6 @@ pub mod Trying
 pub mod NoOthers
 pub mod WholeWrites
 pub mod Over
-mod OverExample
 pub mod Openings
 pub mod Told
 pub mod Going
@@ -28,7 +23,8 @@ pub mod InTransaction
 pub mod Refusing
 pub mod Stepping
 pub mod Leading
-pub mod Calling
 pub mod Doing
 pub mod Keeping
 pub mod Homes
+pub mod Shared
+pub mod OverExample

@@ -19,11 +19,11 @@ use Rattle.shard_run.specs.declared.Entry.{Entry}
 use Rattle.shard_run.specs.Runs.{Run, Opening, opening_rows, one}
 use Rattle.shard_law.proofs.Runs.{commits}
 use Rattle.shard_law.proofs.Lists.{In, In-filter, all-append}
-use Rattle.shard.specs.declared.limits.Limits.{Limits}
-use Rattle.shard.specs.Shards.{commit_of, HasLooked}
-use Rattle.shard.specs.Commits.{HasCommitted}
-use Rattle.route_engine.specs.Answers.{HasGoneOn, HasGone}
-use Rattle.route_engine.specs.Alone.{IsNoOthers, NoOthers, NoCommits}
+use Rattle.shard_contents.specs.declared.limits.Limits.{Limits}
+use Rattle.shard_contents.specs.Shards.{commit_of, HasLooked}
+use Rattle.shard_contents.specs.Commits.{HasCommitted}
+use Rattle.shard_calls.specs.Answers.{HasGoneOn, HasGone}
+use Rattle.shard_calls.specs.Alone.{IsNoOthers, NoOthers, NoCommits}
 
 module _ {X : Type 0} where
   pub all_front : (P : X → Type 0) (xs ys : List X) → AllByRecursion P (xs ++ ys) → AllByRecursion P xs

@@ -19,7 +19,7 @@ use Rattle.keyrange.specs.Ranges.{Cover}
 use Rattle.serving.specs.Partitions.{IsPartition, AreOf, ranges}
 use Rattle.shard.specs.Seats.{seat_of}
 use Rattle.route_engine.proofs.Everywhere.{ranges_named}
-use Rattle.shard.specs.Shards.{opening_shards}
+use Rattle.shard_contents.specs.Shards.{opening_shards}
 
 -- what differs pair by pair is mapped to numbers that do
 mapped_apart : (f : Shard → ℕ) (ss : List Shard) → AllPairs (λ a b. f a ≢ f b) ss → AllPairs (λ (x : ℕ) (y : ℕ). x ≢ y) (map f ss)

@@ -30,21 +30,21 @@ use Rattle.shard_run.specs.Legal.{Legal, IsChangeOf, AreChangesOf}
 use Rattle.shard_run.specs.Openings.{IsOpening}
 use Rattle.shard_law.proofs.Lists.{all-weaker}
 use Rattle.shard_law.proofs.Runs.{commits, commits-push}
-use Rattle.shard.specs.declared.limits.Limits.{Limits}
-use Rattle.shard.specs.Shards.{MayFollow, HasLooked}
-use Rattle.shard.specs.Commits.{HasCommitted, IsCommitRefusal, commit_entry}
-use Rattle.shard.specs.Commits as commits
-use Rattle.shard.proofs.Legality.{legal_is}
-use Rattle.route_engine.specs.declared.reply.Answer.TheVariants.{Rows, Count}
-use Rattle.route_engine.specs.declared.reply.Reply.{Reply}
-use Rattle.route_engine.specs.Mix.{Part, LiesBetween, mixed_rows}
-use Rattle.route_engine.specs.Answers as a
+use Rattle.shard_contents.specs.declared.limits.Limits.{Limits}
+use Rattle.shard_contents.specs.Shards.{MayFollow, HasLooked}
+use Rattle.shard_contents.specs.Commits.{HasCommitted, IsCommitRefusal, commit_entry}
+use Rattle.shard_contents.specs.Commits as commits
+use Rattle.shard_contents.proofs.Legality.{legal_is}
+use Rattle.shard_calls.specs.declared.reply.Answer.TheVariants.{Rows, Count}
+use Rattle.shard_calls.specs.declared.reply.Reply.{Reply}
+use Rattle.shard_calls.specs.Mix.{Part, LiesBetween, mixed_rows}
+use Rattle.shard_calls.specs.Answers as a
 use Rattle.route_engine.specs.inner.Answers as i
 use Rattle.serving.specs.Partitions.{Seat, IsPartition}
-use Rattle.route_engine.specs.Answers.{counted, HasGone, IsSelected, Gives, MayReadRefuse, MayWriteRefuse, NeedsAlone, needed_by}
+use Rattle.shard_calls.specs.Answers.{counted, HasGone, IsSelected, Gives, MayReadRefuse, MayWriteRefuse, NeedsAlone, needed_by}
 use Rattle.route_engine.specs.inner.Answers.{IsReply, IsRefused, IsRefusal}
-use Rattle.route_engine.specs.Alone as over
-use Rattle.route_engine.specs.Alone.{NoOthers, NoCommits, GivesOver, IsRefusedOver}
+use Rattle.shard_calls.specs.Alone as over
+use Rattle.shard_calls.specs.Alone.{NoOthers, NoCommits, GivesOver, IsRefusedOver}
 use Rattle.route_engine.specs.inner.Alone.{AnswersOver}
 use Rattle.route_engine.proofs.Everywhere.{same_moment}
 use Rattle.sql_eval.proofs.SameAnswers.{same_answers}
@@ -151,7 +151,7 @@ module _ (o : Opening) (opens : IsOpening o) (formed : is_vschema o.schema ≡ t
       (λ part h. one_still o p.seen part.run (still_between p.seen part.run now.seen h.0 h.1 same)) parts all
 
   -- a query
-  pub selected_over : (q : Query) (selected : Rattle.route_engine.specs.declared.reply.Selected.Selected) (reads : List Rattle.route_engine.specs.declared.reply.ShardRead.ShardRead)
+  pub selected_over : (q : Query) (selected : Rattle.shard_calls.specs.declared.reply.Selected.Selected) (reads : List Rattle.shard_calls.specs.declared.reply.ShardRead.ShardRead)
       → q.table < length o.schema.tables → IsSelected o p (table_at o.schema q.table) q selected reads now
       → GivesOver o.schema (one o p.seen) (typed.Select q) (Rows selected) (one o now.seen)
   selected_over q selected reads there is =

@@ -18,9 +18,9 @@ use Rattle.shard_run.specs.declared.Event.TheVariants.{Freeze}
 use Rattle.shard_run.specs.declared.Entry.{Entry}
 use Rattle.shard_run.specs.Runs.{Run, one}
 use Rattle.shard_run.proofs.Examples.{n, opening, seven, four}
-use Rattle.route_engine.specs.declared.reply.Answer.TheVariants.{Rows, Count}
-use Rattle.route_engine.specs.Alone as over
-use Rattle.route_engine.specs.Alone.{IsNoOthers, NoOthers, GivesOver}
+use Rattle.shard_calls.specs.declared.reply.Answer.TheVariants.{Rows, Count}
+use Rattle.shard_calls.specs.Alone as over
+use Rattle.shard_calls.specs.Alone.{IsNoOthers, NoOthers, GivesOver}
 
 abbrev pass : ℕ → Run → PassView Entry
 pass session run = new_pass run (Some session)

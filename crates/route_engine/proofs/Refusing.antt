@@ -15,14 +15,14 @@ use Rattle.shard_run.specs.declared.Shard.{Shard}
 use Rattle.shard_run.specs.declared.Entry.{Entry}
 use Rattle.shard_run.specs.Runs.{Opening, one}
 use Rattle.shard_run.specs.Openings.{IsOpening}
-use Rattle.shard.specs.declared.limits.Limits.{Limits}
-use Rattle.shard.specs.Shards.{HasLooked, commit_of}
-use Rattle.shard.specs.Transactions as tx
-use Rattle.shard.specs.Transactions.{PendingView, IsStopped, IsReadRefusal, IsWriteRefusal, IsCommitAllRefusal}
-use Rattle.route_engine.specs.Answers.{NeedsAlone, HasGone}
-use Rattle.route_engine.specs.Transactions as t
-use Rattle.route_engine.specs.Transactions.{Transaction, Standing, IsFor, IsRefusedIn, used}
-use Rattle.route_engine.specs.inner.Within.{left_by}
+use Rattle.shard_contents.specs.declared.limits.Limits.{Limits}
+use Rattle.shard_contents.specs.Shards.{HasLooked, commit_of}
+use Rattle.shard_contents.specs.Transactions as tx
+use Rattle.shard_contents.specs.Transactions.{PendingView, IsStopped, IsReadRefusal, IsWriteRefusal, IsCommitAllRefusal}
+use Rattle.shard_calls.specs.Answers.{NeedsAlone, HasGone}
+use Rattle.shard_calls.specs.Transactions as t
+use Rattle.shard_calls.specs.Transactions.{Transaction, Standing, IsFor, IsRefusedIn, used}
+use Rattle.shard_calls.specs.inner.Within.{left_by}
 use Rattle.route_engine.proofs.Anywhere.{duplicate_in}
 use Rattle.route_engine.proofs.Causes.{cause}
 use Rattle.route_engine.proofs.Going as g

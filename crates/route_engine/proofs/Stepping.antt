@@ -32,24 +32,24 @@ use Rattle.shard_run.specs.declared.Mode.TheVariants.{Serving}
 use Rattle.shard_run.specs.Runs.{Run, Opening, one}
 use Rattle.shard_run.specs.Legal.{IsOnItsSlot}
 use Rattle.shard_run.specs.Openings.{IsOpening}
-use Rattle.shard.specs.declared.limits.Limits.{Limits}
-use Rattle.shard.specs.Shards.{MayFollow, HasLooked, commit_of}
-use Rattle.shard.specs.Transactions.{PendingView, nothing_done, IsPendingOf}
+use Rattle.shard_contents.specs.declared.limits.Limits.{Limits}
+use Rattle.shard_contents.specs.Shards.{MayFollow, HasLooked, commit_of}
+use Rattle.shard_contents.specs.Transactions.{PendingView, nothing_done, IsPendingOf}
 use Rattle.shard.proofs.Moves.{pending_nothing, pending_same}
-use Rattle.route_engine.specs.declared.reply.Answer.{Answer}
-use Rattle.route_engine.specs.declared.reply.Answer.TheVariants.{Rows, Count}
-use Rattle.route_engine.specs.declared.reply.Reply.{Reply}
-use Rattle.route_engine.specs.declared.reply.ShardRead.{ShardRead}
+use Rattle.shard_calls.specs.declared.reply.Answer.{Answer}
+use Rattle.shard_calls.specs.declared.reply.Answer.TheVariants.{Rows, Count}
+use Rattle.shard_calls.specs.declared.reply.Reply.{Reply}
+use Rattle.shard_calls.specs.declared.reply.ShardRead.{ShardRead}
 use Rattle.shard.specs.Seats.{seat_of}
-use Rattle.route_engine.specs.Answers.{HasGone, NeedsAlone}
-use Rattle.route_engine.specs.Transactions as t
-use Rattle.route_engine.specs.Transactions.{Step, Transaction, Standing, GiveOver, AreOver, GivesIn, IsRefusedIn, ReadsAlone, if_any, used, with_step, seats_for, statement_keyspace}
-use Rattle.route_engine.specs.Pendings as stands
-use Rattle.route_engine.specs.Pendings.{BoundView, OpenView, IsBound, IsTouchOf, HasTouched, IsAnywhere, Stands, bound_of}
-use Rattle.route_engine.specs.inner.Within as w
-use Rattle.route_engine.specs.inner.Within.{left_by, ends, IsSeatOf, NeedsNoSeat, NeedsSeveral, NeedsOther, HasReadAt, IsNotReadAt, HasWrittenAt, IsNotWrittenAt, HasCommittedAt, IsNotCommittedAt}
+use Rattle.shard_calls.specs.Answers.{HasGone, NeedsAlone}
+use Rattle.shard_calls.specs.Transactions as t
+use Rattle.shard_calls.specs.Transactions.{Step, Transaction, Standing, GiveOver, AreOver, GivesIn, IsRefusedIn, ReadsAlone, if_any, used, with_step, seats_for, statement_keyspace}
+use Rattle.shard_calls.specs.Pendings as stands
+use Rattle.shard_calls.specs.Pendings.{BoundView, OpenView, IsBound, IsTouchOf, HasTouched, IsAnywhere, Stands, bound_of}
+use Rattle.shard_calls.specs.inner.Within as w
+use Rattle.shard_calls.specs.inner.Within.{left_by, ends, IsSeatOf, NeedsNoSeat, NeedsSeveral, NeedsOther, HasReadAt, IsNotReadAt, HasWrittenAt, IsNotWrittenAt, HasCommittedAt, IsNotCommittedAt}
 use Rattle.route_engine.proofs.Anywhere.{stands_met}
-use Rattle.route_engine.proofs.Gathers.{stays}
+use Rattle.shard_calls.proofs.Gathers.{stays}
 use Rattle.route_engine.proofs.Going as g
 use Rattle.route_engine.proofs.InTransaction as i
 use Rattle.route_engine.proofs.InTransaction.{ReadyOn, ready_bound, ready_first, same_shard}

@@ -24,22 +24,22 @@ use Rattle.shard_run.specs.declared.Entry.{Entry}
 use Rattle.shard_run.specs.Runs.{Run, Opening, one, held, mode, is_serving}
 use Rattle.shard_run.specs.Legal.{IsOnItsSlot, IsChangeOf}
 use Rattle.shard_run.specs.Openings.{IsOpening}
-use Rattle.shard.specs.declared.touch.Touch.{Touch}
-use Rattle.shard.specs.Shards.{MayFollow, commit_of}
-use Rattle.shard.specs.Commits.{IsPlaced}
-use Rattle.shard.specs.Transactions.{entry_of}
-use Rattle.shard.proofs.Commits.{applied-append}
+use Rattle.shard_contents.specs.declared.touch.Touch.{Touch}
+use Rattle.shard_contents.specs.Shards.{MayFollow, commit_of}
+use Rattle.shard_contents.specs.Commits.{IsPlaced}
+use Rattle.shard_contents.specs.Transactions.{entry_of}
+use Rattle.shard_contents.proofs.Commits.{applied-append}
 use Rattle.shard.proofs.Inside.{change_same}
-use Rattle.shard.proofs.Legality.{legal_is, part_held}
+use Rattle.shard_contents.proofs.Legality.{legal_is, part_held}
 use Rattle.shard.proofs.Pendings.{may_nothing, may_next, legal_then, stands_then, held_then, one_then, serves_then}
-use Rattle.route_engine.specs.declared.reply.Answer.TheVariants.{Rows, Count}
+use Rattle.shard_calls.specs.declared.reply.Answer.TheVariants.{Rows, Count}
 use Rattle.shard.specs.Seats.{seat_of}
-use Rattle.route_engine.specs.Answers.{NeedsAlone}
-use Rattle.route_engine.specs.Alone as over
-use Rattle.route_engine.specs.Alone.{GivesOver}
-use Rattle.route_engine.specs.Transactions.{Step, GiveOver, none, next, ReadsAlone}
-use Rattle.route_engine.specs.Pendings as p
-use Rattle.route_engine.specs.Pendings.{AreTold, IsAnywhere}
+use Rattle.shard_calls.specs.Answers.{NeedsAlone}
+use Rattle.shard_calls.specs.Alone as over
+use Rattle.shard_calls.specs.Alone.{GivesOver}
+use Rattle.shard_calls.specs.Transactions.{Step, GiveOver, none, next, ReadsAlone}
+use Rattle.shard_calls.specs.Pendings as p
+use Rattle.shard_calls.specs.Pendings.{AreTold, IsAnywhere}
 use Rattle.route_engine.proofs.Everywhere.{rows_restricted}
 use Rattle.route_engine.proofs.Trying.{placed}
 use Rattle.route_engine.proofs.WholeWrites.{Keeps, kept_here, kept_over, whole_changes}

@@ -30,18 +30,18 @@ use Rattle.shard_run.specs.Runs.{Opening, mode, is_serving}
 use Rattle.shard_run.specs.Legal.{IsOnItsSlot}
 use Rattle.shard_law.proofs.Lists.{In, In-from_filter, In-filter, In-from_map, Contains-from_In}
 use Rattle.serving.specs.Partitions.{Seat, IsPartition, ranges}
-use Rattle.shard.specs.declared.limits.Limits.{Limits}
-use Rattle.shard.specs.declared.state.Committed.{Committed}
-use Rattle.shard.specs.Shards.{MayFollow, HasLooked, commit_of}
+use Rattle.shard_contents.specs.declared.limits.Limits.{Limits}
+use Rattle.shard_contents.specs.declared.outcomes.Committed.{Committed}
+use Rattle.shard_contents.specs.Shards.{MayFollow, HasLooked, commit_of}
 use Rattle.shard.specs.Seats.{place_at}
-use Rattle.shard.specs.Commits as c
-use Rattle.shard.specs.Commits.{IsPlaced, HasAnswered, IsCommitRefusal}
-use Rattle.route_engine.specs.Answers as a
-use Rattle.route_engine.specs.Answers.{needed, needed_by, NeedsAlone, HasGone, HasWritten, IsHeldUp, MayWriteRefuse, is_writable}
-use Rattle.route_engine.specs.inner.Scatter.{IsTried, written, again, tried}
+use Rattle.shard_contents.specs.Commits as c
+use Rattle.shard_contents.specs.Commits.{IsPlaced, HasAnswered, IsCommitRefusal}
+use Rattle.shard_calls.specs.Answers as a
+use Rattle.shard_calls.specs.Answers.{needed, needed_by, NeedsAlone, HasGone, HasWritten, IsHeldUp, MayWriteRefuse, is_writable}
+use Rattle.shard_calls.specs.inner.Scatter.{IsTried, written, again, tried}
 use Rattle.shard_law.proofs.Fitting.{fits-from_typed}
 use Rattle.route_engine.proofs.Everywhere.{everywhere}
-use Rattle.route_engine.proofs.Gathers.{stays}
+use Rattle.shard_calls.proofs.Gathers.{stays}
 use Rattle.route_engine.proofs.Placing.{some_in, row_taken, only_one}
 use Rattle.route_engine.proofs.Selecting.{gone_on}
 
@@ -162,8 +162,8 @@ module _ (o : Opening) (limits : Limits) (w : Write) (typed : IsTypedWrite o.sch
 -- ---- after tries before
 
 module _ (o : Opening) (limits : Limits) (w : Write) (p since now : PassView Entry) (gone : HasGone o p since) where
-  pub written_after : (count : ℕ) → HasWritten o limits since w (record { answer = Rattle.route_engine.specs.declared.reply.Answer.TheVariants.Count count; reads = [] }) now
-      → HasWritten o limits p w (record { answer = Rattle.route_engine.specs.declared.reply.Answer.TheVariants.Count count; reads = [] }) now
+  pub written_after : (count : ℕ) → HasWritten o limits since w (record { answer = Rattle.shard_calls.specs.declared.reply.Answer.TheVariants.Count count; reads = [] }) now
+      → HasWritten o limits p w (record { answer = Rattle.shard_calls.specs.declared.reply.Answer.TheVariants.Count count; reads = [] }) now
   written_after _ (a.nowhere seats is none more) = a.nowhere seats is none (gone_on o p since now gone more)
   written_after _ (a.wrote s alone more h) = a.wrote s alone (gone_on o p since _ gone more) h
 
@@ -221,8 +221,8 @@ came_back o limits w w' p now _ is (again gone held) = record { same = same w w'
         write_of d (Err v) = v
 
 pub is_written : (o : Opening) (limits : Limits) (w : Write) (count : ℕ) (p now : PassView Entry) (r : Result ℕ Write) → r ≡ Ok count → IsTried o limits p w r now
-    → HasWritten o limits p w (record { answer = Rattle.route_engine.specs.declared.reply.Answer.TheVariants.Count count; reads = [] }) now
-is_written o limits w count p now _ is (written {count = n} h) = subst (λ k. HasWritten o limits p w (record { answer = Rattle.route_engine.specs.declared.reply.Answer.TheVariants.Count k; reads = [] }) now) (same n count is) h
+    → HasWritten o limits p w (record { answer = Rattle.shard_calls.specs.declared.reply.Answer.TheVariants.Count count; reads = [] }) now
+is_written o limits w count p now _ is (written {count = n} h) = subst (λ k. HasWritten o limits p w (record { answer = Rattle.shard_calls.specs.declared.reply.Answer.TheVariants.Count k; reads = [] }) now) (same n count is) h
   where
     same : (x y : ℕ) → ◌≡◌ {A = Result ℕ Write} (Ok x) (Ok y) → x ≡ y
     same x y e = ap (λ (r : Result ℕ Write). number_or x r) e

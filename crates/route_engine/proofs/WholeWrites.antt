@@ -37,7 +37,7 @@ use Rattle.shard_law.proofs.Rows.{row_is}
 use Rattle.shard_law.proofs.Typed.{table_there}
 use Rattle.serving.specs.Partitions.{Seat, IsPartition}
 use Rattle.shard.specs.Seats.{seat_of}
-use Rattle.route_engine.specs.Answers.{needed, needed_by, NeedsAlone}
+use Rattle.shard_calls.specs.Answers.{needed, needed_by, NeedsAlone}
 use Rattle.route_engine.proofs.Everywhere.{rows_restricted}
 use Rattle.route_engine.proofs.Moments.{placed_at}
 use Rattle.route_engine.proofs.Placing.{row_taken, only_one}

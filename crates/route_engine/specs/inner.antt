@@ -1,5 +1,3 @@
 pub mod Alone
 pub mod Answers
 pub mod Pendings
-pub mod Scatter
-pub mod Within

@@ -5,7 +5,7 @@ use Rattle.std.specs.List.{range_with_len}
 use Rattle.std.proofs.lemmas.List.{append-nil, get_or-map, length-map, map-id, take_more}
 use Rattle.std.proofs.lemmas.List.FromFn.{map-range_with_len_more}
 use Rattle.std.proofs.lemmas.List.Elements.{filter-append}
-use Rattle.route_engine.proofs.Gathers.{map-push}
+use Rattle.shard_calls.proofs.Gathers.{map-push}
 use Rattle.shard_law.proofs.Lists.{In-from_Contains}
 use Rattle.shard_law.proofs.Runs.{opening-is}
 use Rattle.keyrange.specs.declared.KeyRange.{KeyRange}
@@ -17,7 +17,7 @@ use Rattle.journal.specs.Views.{SeatView}
 use Rattle.shard_run.specs.declared.Shard.{Shard}
 use Rattle.shard_run.specs.Runs.{Opening, all_rows, opening_part, first_rows}
 use Rattle.shard_run.specs.Openings.{row_count}
-use Rattle.shard.specs.Shards.{opening_shards}
+use Rattle.shard_contents.specs.Shards.{opening_shards}
 use Rattle.empty_opening.specs.Empty.{unsharded_keyspace, sharded_keyspace, full_range, shards_from, keyspace_shards, empty_shards, no_rows, opening_of}
 
 -- ---- seats

@@ -5,7 +5,7 @@ ghost use Rattle.journal.specs.Views.{fresh_seats, new_pass};
 ghost use Rattle.shard_run.specs.declared.Shard as which;
 ghost use Rattle.shard_run.specs.Runs.{first_rows};
 ghost use Rattle.shard_run.specs.Openings.{IsOpening};
-ghost use Rattle.shard.specs.Shards.{most_limits, opening_shards};
+ghost use Rattle.shard_contents.specs.Shards.{most_limits, opening_shards};
 ghost use Rattle.shard.specs.Seats.{seat_of};
 ghost use Rattle.empty_opening.specs.Empty.{opening_of, FitRanges};
 

@@ -15,28 +15,28 @@ use Rattle.journal.proofs.Fronts.{prefix_self, prefix_trans}
 use Rattle.shard_run.specs.Runs.{Run, Opening, one}
 use Rattle.shard_run.specs.Openings.{IsOpening}
 use Rattle.shard_run.specs.declared.Entry.{Entry}
-use Rattle.shard.specs.declared.limits.Limits.{Limits}
-use Rattle.shard.specs.Shards.{MayFollow}
-use Rattle.route_engine.specs.Alone.{NoOthers}
-use Rattle.route_engine.specs.Transactions.{Transaction}
-use Rattle.route_engine.specs.Pendings.{OpenView}
+use Rattle.shard_contents.specs.declared.limits.Limits.{Limits}
+use Rattle.shard_contents.specs.Shards.{MayFollow}
+use Rattle.shard_calls.specs.Alone.{NoOthers}
+use Rattle.shard_calls.specs.Transactions.{Transaction}
+use Rattle.shard_calls.specs.Pendings.{OpenView}
 use Rattle.route_engine.proofs.NoOthers.{up_to, behind}
-use Rattle.session.specs.declared.end.End.{End}
-use Rattle.session.specs.declared.hello.Hello.{Hello}
-use Rattle.session.specs.Sessions.{AnswersFed}
-use Rattle.session.specs.Sessions as sessions
-use Rattle.session.specs.declared.standing.Phase.{Phase}
-use Rattle.session.specs.declared.standing.Phase.TheVariants.{Commands}
-use Rattle.session.specs.declared.standing.Standing.{Standing}
-use Rattle.session.specs.declared.standing.Standing.TheVariants.{At, Ended}
-use Rattle.session.specs.Packets.{reply_number}
-use Rattle.session.specs.Logins.{LogsIn}
-use Rattle.session.specs.Outcomes.{PassAndTransaction, IsKept, Means, status_with, terms_of}
-use Rattle.session.specs.Outcomes as means
+use Rattle.session_replies.specs.declared.end.End.{End}
+use Rattle.session_replies.specs.declared.hello.Hello.{Hello}
+use Rattle.session_replies.specs.Sessions.{AnswersFed}
+use Rattle.session_replies.specs.Sessions as sessions
+use Rattle.session_replies.specs.declared.standing.Phase.{Phase}
+use Rattle.session_replies.specs.declared.standing.Phase.TheVariants.{Commands}
+use Rattle.session_replies.specs.declared.standing.Standing.{Standing}
+use Rattle.session_replies.specs.declared.standing.Standing.TheVariants.{At, Ended}
+use Rattle.session_replies.specs.Packets.{reply_number}
+use Rattle.session_replies.specs.Logins.{LogsIn}
+use Rattle.session_replies.specs.Outcomes.{PassAndTransaction, IsKept, Means, status_with, terms_of}
+use Rattle.session_replies.specs.Outcomes as means
 use Rattle.session.specs.Alone.{Alone, OneState, Told, MeansOver, MeansAlone, IsOverAt, alone_terms}
 use Rattle.session.specs.Alone as over
-use Rattle.session.specs.Talk.{AnswersPayload, Replies, Conversation, Talk, set_end_of}
-use Rattle.session.specs.Talk as t
+use Rattle.session_replies.specs.Talk.{AnswersPayload, Replies, Conversation, Talk, set_end_of}
+use Rattle.session_replies.specs.Talk as t
 use Rattle.session.proofs.Servings.{SoFar}
 use Rattle.session.proofs.Steps.{Follows, stays, answer_on, refusal_at_on}
 use Rattle.session.proofs.OneDatabase.{Goes, answer_over, refused_over}

@@ -2,13 +2,13 @@
 use Rattle.std.proofs.Common.{◌≡◌, List, ℕ, Some}
 use Rattle.mysql_packet.specs.declared.framer.Fed.{Fed}
 use Rattle.resultset.specs.declared.Outcome.{Outcome}
-use Rattle.session.specs.declared.end.End.{End}
-use Rattle.session.specs.declared.standing.Standing.{Standing}
-use Rattle.session.specs.declared.standing.Standing.TheVariants.{New, At, Ended}
-use Rattle.session.specs.Standings.{end_of, HasGreeted}
-use Rattle.session.specs.Talk.{Terms}
-use Rattle.session.specs.Sessions.{AnswersFed}
-use Rattle.session.specs.Sessions as s
+use Rattle.session_replies.specs.declared.end.End.{End}
+use Rattle.session_replies.specs.declared.standing.Standing.{Standing}
+use Rattle.session_replies.specs.declared.standing.Standing.TheVariants.{New, At, Ended}
+use Rattle.session_replies.specs.Standings.{end_of, HasGreeted}
+use Rattle.session_replies.specs.Talk.{Terms}
+use Rattle.session_replies.specs.Sessions.{AnswersFed}
+use Rattle.session_replies.specs.Sessions as s
 
 pub fed_begun : {S : Type 0} (terms : Terms S) (May : S → List ℕ → Outcome → S → Type 0) (begin : Standing) (first now : S) (fed : Fed) (out : List ℕ) (b : Standing)
     → AnswersFed terms May begin first fed out b now → HasGreeted b

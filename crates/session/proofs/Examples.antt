@@ -10,13 +10,13 @@ use Rattle.resultset.specs.declared.Outcome.{Outcome}
 use Rattle.resultset.specs.declared.Outcome.TheVariants.{Count}
 use Rattle.resultset.specs.declared.SetEnd.TheVariants.{EofPackets}
 use Rattle.resultset.specs.Encoding.{encoded}
-use Rattle.route_engine.specs.Transactions.{Transaction}
-use Rattle.session.specs.Outcomes.{status_with}
-use Rattle.session.specs.declared.end.End.TheVariants.{Quit, Closed, Broken}
-use Rattle.session.specs.declared.standing.Phase.TheVariants.{Commands}
-use Rattle.session.specs.declared.standing.Standing.TheVariants.{At}
-use Rattle.session.specs.Talk.{Terms, Talk}
-use Rattle.session.specs.Talk as t
+use Rattle.shard_calls.specs.Transactions.{Transaction}
+use Rattle.session_replies.specs.Outcomes.{status_with}
+use Rattle.session_replies.specs.declared.end.End.TheVariants.{Quit, Closed, Broken}
+use Rattle.session_replies.specs.declared.standing.Phase.TheVariants.{Commands}
+use Rattle.session_replies.specs.declared.standing.Standing.TheVariants.{At}
+use Rattle.session_replies.specs.Talk.{Terms, Talk}
+use Rattle.session_replies.specs.Talk as t
 
 abbrev Never : Unit {0} → List ℕ → Outcome → Unit {0} → Type 0
 Never s text outcome now = ⊥

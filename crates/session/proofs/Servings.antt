@@ -4,21 +4,21 @@ use Rattle.std.specs.Prelude.{IfOk, Result, Ok, Err}
 use Rattle.std.specs.Io.KnownBytes.{Appends, Consumes, Keeps}
 use Rattle.std.proofs.KnownBytes.{Appends-trans, Consumes-trans, Consumes-kept}
 use Rattle.resultset.specs.declared.Outcome.{Outcome}
-use Rattle.session.specs.declared.end.End.{End}
-use Rattle.session.specs.declared.end.SessionFault.{SessionFault}
-use Rattle.session.specs.declared.standing.Standing.{Standing}
-use Rattle.session.specs.declared.standing.Standing.TheVariants as standing
+use Rattle.session_replies.specs.declared.end.End.{End}
+use Rattle.session_replies.specs.declared.end.SessionFault.{SessionFault}
+use Rattle.session_replies.specs.declared.standing.Standing.{Standing}
+use Rattle.session_replies.specs.declared.standing.Standing.TheVariants as standing
 use Rattle.journal.specs.Views.{PassView}
 use Rattle.shard_run.specs.declared.Entry.{Entry}
 use Rattle.shard_run.specs.Runs.{Opening}
-use Rattle.route_engine.specs.Pendings as stands
-use Rattle.route_engine.specs.Pendings.{OpenView, Stands}
-use Rattle.session.specs.Outcomes.{PassAndTransaction, IsKept, none_open}
-use Rattle.session.specs.Faults.{HasBrokenOff, IsUnfinished}
-use Rattle.session.specs.Standings.{end_of}
-use Rattle.session.specs.Talk.{Terms, Talk}
-use Rattle.session.specs.Talk as t
-use Rattle.session.specs.Sessions.{SessionState, HasTalked, HasTalkedOn}
+use Rattle.shard_calls.specs.Pendings as stands
+use Rattle.shard_calls.specs.Pendings.{OpenView, Stands}
+use Rattle.session_replies.specs.Outcomes.{PassAndTransaction, IsKept, none_open}
+use Rattle.session_replies.specs.Faults.{HasBrokenOff, IsUnfinished}
+use Rattle.session_replies.specs.Standings.{end_of}
+use Rattle.session_replies.specs.Talk.{Terms, Talk}
+use Rattle.session_replies.specs.Talk as t
+use Rattle.session_replies.specs.Sessions.{SessionState, HasTalked, HasTalkedOn}
 
 abbrev Known : Type 0
 Known = Option (List ℕ)

@@ -12,14 +12,14 @@ use Rattle.journal.proofs.Fronts.{prefix_self, prefix_trans}
 use Rattle.shard_run.specs.declared.Entry.{Entry}
 use Rattle.shard_run.specs.declared.Shard.{Shard}
 use Rattle.shard_run.specs.Runs.{Opening}
-use Rattle.shard.specs.declared.limits.Limits.{Limits}
-use Rattle.shard.specs.Shards.{MayFollow, HasLooked}
-use Rattle.route_engine.specs.declared.reply.Reply.{Reply}
+use Rattle.shard_contents.specs.declared.limits.Limits.{Limits}
+use Rattle.shard_contents.specs.Shards.{MayFollow, HasLooked}
+use Rattle.shard_calls.specs.declared.reply.Reply.{Reply}
 use Rattle.route_engine.specs.inner.Answers as a
-use Rattle.route_engine.specs.Answers.{counted, HasGone, Gives}
+use Rattle.shard_calls.specs.Answers.{counted, HasGone, Gives}
 use Rattle.route_engine.specs.inner.Answers.{IsReply, IsRefused}
-use Rattle.route_engine.specs.Transactions as x
-use Rattle.route_engine.specs.Transactions.{Step, Transaction, Standing, IsCommitted, GivesIn, GivesAt, IsReplyTo, IsRefusedIn, IsRefusedBy, IsRefusedNow, IsRefusedAt}
+use Rattle.shard_calls.specs.Transactions as x
+use Rattle.shard_calls.specs.Transactions.{Step, Transaction, Standing, IsCommitted, GivesIn, GivesAt, IsReplyTo, IsRefusedIn, IsRefusedBy, IsRefusedNow, IsRefusedAt}
 use Rattle.route_engine.proofs.Over.{reply_on, refusal_on}
 use Rattle.route_engine.proofs.Sessions.{same_session}
 

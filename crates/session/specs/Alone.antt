@@ -15,14 +15,14 @@ use Rattle.vschema.specs.TypedStatement.{typed_statement}
 use Rattle.journal.specs.Views.{PassView}
 use Rattle.shard_run.specs.declared.Entry.{Entry}
 use Rattle.shard_run.specs.Runs.{Run, Opening, one}
-use Rattle.shard.specs.declared.limits.Limits.{Limits}
-use Rattle.route_engine.specs.declared.reply.Answer.{Answer}
-use Rattle.route_engine.specs.declared.reply.Answer.TheVariants.{Count}
-use Rattle.route_engine.specs.Alone.{NoCommits, GivesOver, IsRefusedOver}
-use Rattle.route_engine.specs.Transactions.{Step, Transaction, GiveOver, write_on}
-use Rattle.session.specs.declared.hello.Hello.{Hello}
-use Rattle.session.specs.Talk.{Terms}
-use Rattle.session.specs.Outcomes.{PassAndTransaction, none_open, Shows, HasRows, Means, status_with}
+use Rattle.shard_contents.specs.declared.limits.Limits.{Limits}
+use Rattle.shard_calls.specs.declared.reply.Answer.{Answer}
+use Rattle.shard_calls.specs.declared.reply.Answer.TheVariants.{Count}
+use Rattle.shard_calls.specs.Alone.{NoCommits, GivesOver, IsRefusedOver}
+use Rattle.shard_calls.specs.Transactions.{Step, Transaction, GiveOver, write_on}
+use Rattle.session_replies.specs.declared.hello.Hello.{Hello}
+use Rattle.session_replies.specs.Talk.{Terms}
+use Rattle.session_replies.specs.Outcomes.{PassAndTransaction, none_open, Shows, HasRows, Means, status_with}
 
 -- ---- one database
 

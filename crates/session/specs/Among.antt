@@ -8,11 +8,11 @@ use Rattle.vschema.specs.Database.{Database}
 use Rattle.vschema.specs.TypedStatement.{typed_statement}
 use Rattle.journal.specs.Runs.{IsLegal}
 use Rattle.shard_run.specs.Runs.{Run, Opening, one}
-use Rattle.shard.specs.Shards.{MayFollow}
-use Rattle.route_engine.specs.declared.reply.Answer.{Answer}
-use Rattle.route_engine.specs.declared.reply.Answer.TheVariants.{Count}
-use Rattle.route_engine.specs.Alone.{GivesOver}
-use Rattle.route_engine.specs.Transactions.{Transaction}
+use Rattle.shard_contents.specs.Shards.{MayFollow}
+use Rattle.shard_calls.specs.declared.reply.Answer.{Answer}
+use Rattle.shard_calls.specs.declared.reply.Answer.TheVariants.{Count}
+use Rattle.shard_calls.specs.Alone.{GivesOver}
+use Rattle.shard_calls.specs.Transactions.{Transaction}
 use Rattle.session.specs.Alone.{Told, InTurn, told_of}
 
 -- the answered statements of a transaction, if one is open

@@ -1,12 +1,3 @@
-pub mod Columns
-pub mod Outcomes
-pub mod Standings
-pub mod Packets
-pub mod Logins
-pub mod Talk
-pub mod Sessions
-pub mod Faults
 pub mod Alone
-pub mod Devices
 pub mod Among
 pub mod inner

@@ -1,4 +1,1 @@
-pub mod Replies
 pub mod TypedSteps
-pub mod Outcomes
-pub mod Sessions

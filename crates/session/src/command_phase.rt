@@ -2,24 +2,21 @@ ghost use Rattle.std.specs.Prelude.{◌≡◌, ℕ, ◌<◌, List, [], ◌++◌,
 ghost use Rattle.std.specs.Io.{ReadsAtMost};
 ghost use Rattle.std.specs.Io.KnownBytes.{Appends, Consumes, IsAtEnd, Keeps, ReadConsumes};
 ghost use Rattle.shard_run.specs.Runs.{Opening};
-ghost use Rattle.shard.specs.declared.limits.Limits.{Limits};
-ghost use Rattle.route_engine.specs.Alone.{NoOthers};
-ghost use Rattle.route_engine.specs.Pendings.{IsOf};
+ghost use Rattle.shard_contents.specs.declared.limits.Limits.{Limits};
+ghost use Rattle.shard_calls.specs.Alone.{NoOthers};
+ghost use Rattle.shard_calls.specs.Pendings.{IsOf};
 ghost use Rattle.session.specs.Alone.{Alone, MeansAlone, alone_terms, alone_first};
-ghost use Rattle.session.specs.Devices.{read_failures_after, write_failures_after};
-ghost use Rattle.session.specs.Faults.{IsUnfinished, HasBrokenOff};
-ghost use Rattle.session.specs.Outcomes.{IsKept, Means, PassAndTransaction, none_open, terms_of};
-ghost use Rattle.session.specs.Sessions.{HasTalked, HasTalkedOn, IsStateAfter};
-ghost use Rattle.session.specs.Standings.{end_of};
-ghost use Rattle.session.specs.Talk.{Talk, IsByInput};
+ghost use Rattle.session_replies.specs.Devices.{read_failures_after, write_failures_after};
+ghost use Rattle.session_replies.specs.Faults.{IsUnfinished, HasBrokenOff};
+ghost use Rattle.session_replies.specs.Outcomes.{IsKept, Means, PassAndTransaction, none_open, terms_of};
+ghost use Rattle.session_replies.specs.Sessions.{HasTalked, HasTalkedOn, IsStateAfter};
+ghost use Rattle.session_replies.specs.Standings.{end_of};
+ghost use Rattle.session_replies.specs.Talk.{Talk, IsByInput};
 
-use crate::devices::{Sink, Source};
-use crate::end::{End, SessionFault};
-use crate::hello::Access;
 use crate::session_core::{COMMAND_LIMIT, Core, begins_with};
-use crate::standing::{Standing, is_new};
 use journal::{Naming, Pass};
 use route_engine::{Engine, Gate};
+use session_replies::{Access, End, SessionFault, Sink, Source, Standing, is_new};
 use shard::{ShardLaw, World};
 use std::alloc::Global;
 use std::sync::Wait;
@@ -221,55 +218,11 @@ fn begin<W: World, J: Naming>(
     }
 }
 
-/// Serves one connection by a buffer for the pieces of its input.
-fn serve_by<W: World + Send + Sync, J: Naming + Send + Sync, G: Gate, R: Source, S: Sink>(
-    rt: &(impl Threads + Wait + Sync),
-    alloc: Global,
-    engine: &Engine<W, J, G>,
-    pass: &mut Pass<ShardLaw<W>, J>,
-    access: &Access,
-    salt: &[u8; 20],
-    id: u32,
-    buffer: &mut [u8],
-    source: &mut R,
-    sink: &mut S,
-) -> Result<End, SessionFault>
-    requires room { 0 < length buffer.old }
-    requires session { IsSome pass.old.session }
-    ensures talk { IfOk result (λ end. (read : List ℕ) × (written : List ℕ)
-        × Consumes (R.unread source.old) (R.unread source.new) read × Appends (S.taken sink.old) (S.taken sink.new) written
-        × ((now : PassAndTransaction) × (now.pass ≡ pass.new)
-        × Talk COMMAND_LIMIT (terms_of W.opening (record { access = access.now; salt = salt.now; id = id })) (Means W.opening W.limits) Standing.New (none_open pass.old) read written end now)) }
-    ensures alone { IfOk result (λ end. NoOthers pass.old pass.new → (read : List ℕ) × (written : List ℕ)
-        × Consumes (R.unread source.old) (R.unread source.new) read × Appends (S.taken sink.old) (S.taken sink.new) written
-        × ((now : Alone W.opening) × (now.kept.pass ≡ pass.new)
-        × Talk COMMAND_LIMIT (alone_terms W.opening (record { access = access.now; salt = salt.now; id = id })) (MeansAlone W.opening W.limits) Standing.New (alone_first W.opening pass.old) read written end now)) }
-    ensures at_end { IfOk result (λ end. IsByInput end → IsAtEnd (R.unread source.new)) }
-    ensures read { result ≡ Err SessionFault.Read → (read : List ℕ) × (written : List ℕ)
-        × Consumes (R.unread source.old) (R.unread source.new) read × Appends (S.taken sink.old) (S.taken sink.new) written
-        × ((now : PassAndTransaction) × (now.pass ≡ pass.new)
-        × IsUnfinished COMMAND_LIMIT (terms_of W.opening (record { access = access.now; salt = salt.now; id = id })) (Means W.opening W.limits) Standing.New (none_open pass.old) read written now) }
-    ensures memory { result ≡ Err SessionFault.Memory → (read : List ℕ) × (piece : List ℕ) × (written : List ℕ)
-        × Consumes (R.unread source.old) (R.unread source.new) (read ++ piece) × Appends (S.taken sink.old) (S.taken sink.new) written
-        × ((now : PassAndTransaction) × (now.pass ≡ pass.new)
-        × IsUnfinished COMMAND_LIMIT (terms_of W.opening (record { access = access.now; salt = salt.now; id = id })) (Means W.opening W.limits) Standing.New (none_open pass.old) read written now) }
-    ensures write { result ≡ Err SessionFault.Write → (read : List ℕ) × (written : List ℕ)
-        × Consumes (R.unread source.old) (R.unread source.new) read × Appends (S.taken sink.old) (S.taken sink.new) written
-        × ((now : PassAndTransaction) × (now.pass ≡ pass.new)
-        × HasBrokenOff COMMAND_LIMIT (terms_of W.opening (record { access = access.now; salt = salt.now; id = id })) (Means W.opening W.limits) Standing.New (none_open pass.old) read written now) }
-    ensures source_count { R.failures source.new ≡ read_failures_after result (R.failures source.old) }
-    ensures sink_count { S.failures sink.new ≡ write_failures_after result (S.failures sink.old) }
-    ensures session { pass.new.session ≡ pass.old.session }
-{
-    let core = begin(alloc, access, salt, id)?;
-    serve_whole(rt, alloc, engine, pass, core, buffer, source, sink)
-}
-
 // Promise: The bytes that a connection's sink takes are the conversation over the bytes that its source gave, and the session ends as it
 // says
 // Clauses: talk, at_end, session
-// Refuses: serve_closes_a_truncated_input, serve_answers_only_half_a_piece, chunk_is_not_written, buffer_is_written_for_rows,
-// rows_are_given_up
+// Refuses: serve_closes_a_truncated_input, serve_answers_only_half_a_piece, session_replies::chunk_is_not_written,
+// session_replies::buffer_is_written_for_rows, session_replies::rows_are_given_up
 // Headline.
 // Promise: With no other session's commit between (shards may copy, follow and change places), the bytes are a conversation with one
 // database that knows no shards: each query's rows are an answer over what the commands before it left, each write makes and counts its
@@ -327,16 +280,6 @@ pub fn serve<W: World + Send + Sync, J: Naming + Send + Sync, G: Gate, R: Source
     ensures session { pass.new.session ≡ pass.old.session }
 {
     let mut buffer = piece_buffer(alloc)?;
-    serve_by(
-        rt,
-        alloc,
-        engine,
-        pass,
-        access,
-        salt,
-        id,
-        &mut buffer,
-        source,
-        sink,
-    )
+    let core = begin(alloc, access, salt, id)?;
+    serve_whole(rt, alloc, engine, pass, core, &mut buffer, source, sink)
 }

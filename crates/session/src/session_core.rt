@@ -4,26 +4,23 @@ ghost use Rattle.mysql_packet.specs.declared.framer.Fed.{Fed};
 ghost use Rattle.vschema.specs.WellFormed.{is_vschema};
 ghost use Rattle.journal.specs.Runs.{IsLegal};
 ghost use Rattle.shard_run.specs.Openings.{IsOpening};
-ghost use Rattle.shard.specs.Shards.{MayFollow};
-ghost use Rattle.session.specs.Devices.{write_failures_after};
-ghost use Rattle.session.specs.Faults.{IsCutOff};
-ghost use Rattle.route_engine.specs.Pendings.{IsOf};
-ghost use Rattle.session.specs.Outcomes.{Means, terms_of};
-ghost use Rattle.session.specs.inner.Outcomes.{LeadsKept};
-ghost use Rattle.session.specs.Standings.{end_of};
-ghost use Rattle.session.specs.Sessions.{AnswersFed};
-ghost use Rattle.session.specs.inner.Sessions.{FedBy};
+ghost use Rattle.shard_contents.specs.Shards.{MayFollow};
+ghost use Rattle.session_replies.specs.Devices.{write_failures_after};
+ghost use Rattle.session_replies.specs.Faults.{IsCutOff};
+ghost use Rattle.shard_calls.specs.Pendings.{IsOf};
+ghost use Rattle.session_replies.specs.Outcomes.{Means, terms_of};
+ghost use Rattle.session_replies.specs.inner.Outcomes.{LeadsKept};
+ghost use Rattle.session_replies.specs.Standings.{end_of};
+ghost use Rattle.session_replies.specs.Sessions.{AnswersFed};
+ghost use Rattle.session_replies.specs.inner.Sessions.{FedBy};
 
-use crate::answers::answer_fed;
-use crate::devices::Sink;
-use crate::end::{End, SessionFault};
-use crate::hello::{Access, Hello};
-use crate::reply::REPLY_ROOM;
-use crate::standing::{Phase, Standing, end_of};
 use bytes::BytesMut;
 use journal::{Naming, Pass};
 use mysql_packet::Framer;
 use route_engine::{Engine, Gate, Tx};
+use session_replies::{
+    Access, End, Hello, Phase, REPLY_ROOM, SessionFault, Sink, Standing, answer_fed, end_of,
+};
 use shard::{ShardLaw, World};
 use std::alloc::Global;
 use std::marker::Model;
@@ -101,8 +98,8 @@ pub struct Core<W: World, J: Naming> {
 
 impl<W: World, J: Naming> Model for Core<W, J> {
     ghost use Rattle.std.specs.Prelude.{◌+◌, ◌≤◌, length};
-    ghost use Rattle.session.specs.declared.reply.TheConstants.{REPLY_ROOM};
-    ghost use Rattle.session.specs.Sessions.{SessionState};
+    ghost use Rattle.session_replies.specs.declared.reply.TheConstants.{REPLY_ROOM};
+    ghost use Rattle.session_replies.specs.Sessions.{SessionState};
     ghost use Rattle.std.specs.Coded.{codes};
     ghost use Rattle.vschema.specs.contracts.changes.Write as write;
 
@@ -130,11 +127,11 @@ fn end_between(is_between_payloads: bool) -> End
 impl<W: World, J: Naming> Core<W, J> {
     ghost use Rattle.std.specs.Prelude.{◌≡◌, ℕ, List, [], None, IfOk, IfErr, IfSome};
     ghost use Rattle.shard_run.specs.Runs.{Opening};
-    ghost use Rattle.shard.specs.declared.limits.Limits.{Limits};
-    ghost use Rattle.session.specs.Outcomes.{Means, PassAndTransaction, terms_of};
-    ghost use Rattle.session.specs.Standings.{HasGreeted, end_of};
-    ghost use Rattle.session.specs.Talk.{Talk};
-    ghost use Rattle.session.specs.Sessions.{HasTalked};
+    ghost use Rattle.shard_contents.specs.declared.limits.Limits.{Limits};
+    ghost use Rattle.session_replies.specs.Outcomes.{Means, PassAndTransaction, terms_of};
+    ghost use Rattle.session_replies.specs.Standings.{HasGreeted, end_of};
+    ghost use Rattle.session_replies.specs.Talk.{Talk};
+    ghost use Rattle.session_replies.specs.Sessions.{HasTalked};
 
     /// A session that is new: of the connection with this id. It greets its client by the salt, and lets in whom `access` tells.
     /// Makes room for the greeting and for a refusal, and refuses only where it can't.
@@ -233,15 +230,15 @@ impl<W: World, J: Naming> Core<W, J> {
 impl<W: World + Send + Sync, J: Naming + Send + Sync> Core<W, J> {
     ghost use Rattle.std.specs.Prelude.{◌≡◌, ℕ, List, ◌++◌, None, Some, Ok, Err, IsSome, IfOk, IfErr, IfSome, OnErr, ◌⊎◌};
     ghost use Rattle.std.specs.Io.KnownBytes.{Appends};
-    ghost use Rattle.route_engine.specs.Alone.{NoOthers};
-    ghost use Rattle.route_engine.specs.Pendings.{IsOf};
+    ghost use Rattle.shard_calls.specs.Alone.{NoOthers};
+    ghost use Rattle.shard_calls.specs.Pendings.{IsOf};
     ghost use Rattle.session.specs.Alone.{Alone, MeansAlone, alone_terms};
-    ghost use Rattle.session.specs.Devices.{write_failures_after};
-    ghost use Rattle.session.specs.Faults.{HasBrokenOff};
-    ghost use Rattle.session.specs.Outcomes.{IsKept, Means, PassAndTransaction, terms_of};
-    ghost use Rattle.session.specs.Standings.{HasGreeted, end_of};
-    ghost use Rattle.session.specs.Talk.{IsByCommand};
-    ghost use Rattle.session.specs.Sessions.{HasTalked, HasTalkedOn, IsStateAfter};
+    ghost use Rattle.session_replies.specs.Devices.{write_failures_after};
+    ghost use Rattle.session_replies.specs.Faults.{HasBrokenOff};
+    ghost use Rattle.session_replies.specs.Outcomes.{IsKept, Means, PassAndTransaction, terms_of};
+    ghost use Rattle.session_replies.specs.Standings.{HasGreeted, end_of};
+    ghost use Rattle.session_replies.specs.Talk.{IsByCommand};
+    ghost use Rattle.session_replies.specs.Sessions.{HasTalked, HasTalkedOn, IsStateAfter};
 
     // Promise: However a client's bytes are cut, exactly the conversation over them is written, from the greeting on: a client is let in by
     // its user and its answer to the salt, and then by its database, or told why not; each statement has an outcome that its text may have,
@@ -251,18 +248,21 @@ impl<W: World + Send + Sync, J: Naming + Send + Sync> Core<W, J> {
     // With: Core::{new, commands, standing, end_of_input}
     // Clauses: begins, hello, standing, limit, none_open, err, talk, tx, begun, ended, by_command, fault, cause, again, next, session,
     // whole, id
-    // Refuses: each_statement_by_itself, transaction_is_forgotten, open_transaction_is_not_told, ping_tells_no_transaction,
-    // keyspace_tells_no_transaction, status_before_the_statement, answers_before_the_handshake, another_user_is_taken, salt_is_forgotten,
-    // unknown_keyspace_is_used, feed_forgets_the_end, id_is_another, reply_number_by_the_first_packet, ping_tells_a_row,
-    // query_is_refused_for_syntax, query_gives_no_rows, count_is_told_halved, fault_has_the_refused_number, fault_is_not_told,
-    // key_columns_may_be_null
+    // Refuses: session_replies::each_statement_by_itself, session_replies::transaction_is_forgotten,
+    // session_replies::open_transaction_is_not_told, session_replies::ping_tells_no_transaction,
+    // session_replies::keyspace_tells_no_transaction, session_replies::status_before_the_statement,
+    // session_replies::answers_before_the_handshake, session_replies::another_user_is_taken, session_replies::salt_is_forgotten,
+    // session_replies::unknown_keyspace_is_used, feed_forgets_the_end, id_is_another, session_replies::reply_number_by_the_first_packet,
+    // session_replies::ping_tells_a_row, session_replies::query_is_refused_for_syntax, session_replies::query_gives_no_rows,
+    // session_replies::count_is_told_halved, session_replies::fault_has_the_refused_number, session_replies::fault_is_not_told,
+    // session_replies::key_columns_may_be_null
     // Headline.
     // Promise: After a fault: without memory for a piece, it counts as not fed, and pass and sink are as before it; where the sink failed,
     // a front of the payloads is answered, each once, and the sink took a front of the replies; where the source failed, each payload that
     // was read whole is answered, and nothing else was written. A device's failure is told exactly where it failed in the call
     // With: serve
     // Clauses: memory, write, count, fault, read, source_count, sink_count
-    // Refuses: answer_runs_the_command_again, piece_without_memory_is_written_raw, read_fault_is_told_at_the_end,
+    // Refuses: session_replies::answer_runs_the_command_again, piece_without_memory_is_written_raw, read_fault_is_told_at_the_end,
     // write_fault_is_told_for_memory
     /// Takes the next piece of the input, and writes the replies to the payloads that it completes, each once it is known
     /// whole; the first piece, also an empty one, writes the greeting of a session that is new. `None` says that the session goes on. A session that has ended takes nothing and writes nothing, and tells

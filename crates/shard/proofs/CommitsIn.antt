@@ -15,19 +15,19 @@ use Rattle.shard_run.specs.Runs.{Run, Opening, held, entries_on, stored_on}
 use Rattle.shard_run.specs.Openings.{row_count}
 use Rattle.shard_law.proofs.Lists.{all-weaker}
 use Rattle.shard_law.proofs.Typed.{table_there}
-use Rattle.shard.specs.declared.limits.Limits.{Limits}
-use Rattle.shard.specs.declared.contents.Contents.{Contents}
-use Rattle.shard.specs.Shards.{IsAfter, MayFollow, commit_of}
-use Rattle.shard.specs.Commits.{HasRoom}
-use Rattle.shard.specs.Transactions.{PendingView, IsClear, is_conflict, IsPending, IsPendingOf, entry_of, IsCommitAllRefusal}
-use Rattle.shard.specs.inner.Transactions.{has_room_for, IsAllUnprepared}
-use Rattle.shard.specs.inner.Transactions as t
-use Rattle.shard.specs.Transactions as refusals
-use Rattle.shard.proofs.Bags.{length-same}
-use Rattle.shard.proofs.Commits as commits
+use Rattle.shard_contents.specs.declared.limits.Limits.{Limits}
+use Rattle.shard_contents.specs.declared.contents.Contents.{Contents}
+use Rattle.shard_contents.specs.Shards.{IsAfter, MayFollow, commit_of}
+use Rattle.shard_contents.specs.Commits.{HasRoom}
+use Rattle.shard_contents.specs.Transactions.{PendingView, IsClear, is_conflict, IsPending, IsPendingOf, entry_of, IsCommitAllRefusal}
+use Rattle.shard_contents.specs.inner.Transactions.{has_room_for, IsAllUnprepared}
+use Rattle.shard_contents.specs.inner.Transactions as t
+use Rattle.shard_contents.specs.Transactions as refusals
+use Rattle.shard_contents.proofs.Bags.{length-same}
+use Rattle.shard_contents.proofs.Commits as commits
 use Rattle.shard.proofs.Moves.{pending_later, pending_may}
-use Rattle.shard.proofs.States.{stored-same}
-use Rattle.shard.proofs.Tables.{all_there}
+use Rattle.shard_contents.proofs.States.{stored-same}
+use Rattle.shard_contents.proofs.Tables.{all_there}
 use Rattle.shard.proofs.Totals.{room_for, no_room_for}
 
 module _ (o : Opening) (most : Limits) (seat : SeatView Entry) (c : Contents) (is : IsAfter o most seat c) (p : PassView Entry) (tx : PendingView)

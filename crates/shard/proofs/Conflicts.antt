@@ -14,12 +14,12 @@ use Rattle.shard_run.specs.Legal.{Legal}
 use Rattle.shard_law.proofs.Law.{legal_back}
 use Rattle.shard_law.proofs.Runs.{log}
 use Rattle.shard_law.proofs.Since.{told, since}
-use Rattle.shard.specs.declared.touch.Touch.{Touch}
-use Rattle.shard.specs.Shards.{MayFollow}
-use Rattle.shard.specs.Transactions.{changes_table, is_changed}
-use Rattle.shard.proofs.Commits.{applied-append}
-use Rattle.shard.proofs.Legality.{legal_is}
-use Rattle.shard.proofs.OneTable.{no_or, others_kept, none_of}
+use Rattle.shard_contents.specs.declared.touch.Touch.{Touch}
+use Rattle.shard_contents.specs.Shards.{MayFollow}
+use Rattle.shard_contents.specs.Transactions.{changes_table, is_changed}
+use Rattle.shard_contents.proofs.Commits.{applied-append}
+use Rattle.shard_contents.proofs.Legality.{legal_is}
+use Rattle.shard_contents.proofs.OneTable.{no_or, others_kept, none_of}
 
 module _ (o : Opening) (s : Shard) (old new : Run) (later : IsPrefix old new) where
   abbrev pub added : Run

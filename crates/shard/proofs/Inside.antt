@@ -18,10 +18,10 @@ use Rattle.sql_eval.proofs.ChangeLemmas.{same_changes, rows-same}
 use Rattle.shard_run.specs.Legal.{IsChangeOf, AreChangesOf}
 use Rattle.shard_law.proofs.Lists.{all-append, all-from_list_all}
 use Rattle.shard_law.proofs.Typed.{keeps_keys-from_typed}
-use Rattle.shard.specs.Commits.{IsPlaced}
-use Rattle.shard.proofs.Bags.{all_applied-same}
-use Rattle.shard.proofs.Commits.{applied-append}
-use Rattle.shard.proofs.Places.{changes_in}
+use Rattle.shard_contents.specs.Commits.{IsPlaced}
+use Rattle.shard_contents.proofs.Bags.{all_applied-same}
+use Rattle.shard_contents.proofs.Commits.{applied-append}
+use Rattle.shard_contents.proofs.Places.{changes_in}
 
 module _ (schema : VSchema) where
   -- the same rows in another order have the same changes

@@ -31,16 +31,16 @@ use Rattle.shard_run.specs.Runs.{Run, Opening, held, is_serving, stored_on}
 use Rattle.shard_run.specs.Openings.{row_count}
 use Rattle.shard_run.specs.Legal.{IsChangeOf}
 use Rattle.shard_law.proofs.Storable.{held_storable}
-use Rattle.shard.specs.declared.limits.Limits.{Limits}
-use Rattle.shard.specs.declared.contents.Contents.{Contents}
-use Rattle.shard.specs.Shards.{IsAfter, MayFollow, slot_of, commit_of, ShardView}
-use Rattle.shard.specs.Transactions.{PendingView, IsClear, IsPendingOf, HasWrittenIn, IsWriteRefusal, touched_with, entry_of}
-use Rattle.shard.specs.Transactions as t
-use Rattle.shard.proofs.Bags.{rows_all, all_applied-same}
-use Rattle.shard.proofs.Commits as commits
+use Rattle.shard_contents.specs.declared.limits.Limits.{Limits}
+use Rattle.shard_contents.specs.declared.contents.Contents.{Contents}
+use Rattle.shard_contents.specs.Shards.{IsAfter, MayFollow, slot_of, commit_of, ShardView}
+use Rattle.shard_contents.specs.Transactions.{PendingView, IsClear, IsPendingOf, HasWrittenIn, IsWriteRefusal, touched_with, entry_of}
+use Rattle.shard_contents.specs.Transactions as t
+use Rattle.shard_contents.proofs.Bags.{rows_all, all_applied-same}
+use Rattle.shard_contents.proofs.Commits as commits
 use Rattle.shard.proofs.CommitsIn as k
 use Rattle.shard.proofs.Inside.{change_same}
-use Rattle.shard.proofs.Legality.{legal_is}
+use Rattle.shard_contents.proofs.Legality.{legal_is}
 use Rattle.shard.proofs.Pendings as then
 
 -- what an answer says once it is known

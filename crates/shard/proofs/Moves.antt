@@ -26,13 +26,13 @@ use Rattle.shard_run.specs.Openings.{IsOpening}
 use Rattle.shard_law.proofs.Databases.{length-all_applied}
 use Rattle.shard_law.proofs.Lists.{AllByRecursion-push, all-weaker}
 use Rattle.shard_law.proofs.Runs.{log}
-use Rattle.shard.specs.declared.touch.Touch.{Touch}
-use Rattle.shard.specs.Shards.{MayFollow, commit_of}
-use Rattle.shard.specs.Commits.{IsPlaced}
-use Rattle.shard.specs.Transactions.{PendingView, nothing_done, is_changed, is_conflict, is_touched, touched_with, IsClear, IsTouchBy, IsPending, IsPendingOf, HasReadIn, HasWrittenIn, entry_of}
+use Rattle.shard_contents.specs.declared.touch.Touch.{Touch}
+use Rattle.shard_contents.specs.Shards.{MayFollow, commit_of}
+use Rattle.shard_contents.specs.Commits.{IsPlaced}
+use Rattle.shard_contents.specs.Transactions.{PendingView, nothing_done, is_changed, is_conflict, is_touched, touched_with, IsClear, IsTouchBy, IsPending, IsPendingOf, HasReadIn, HasWrittenIn, entry_of}
 use Rattle.shard.proofs.Conflicts.{same_rows, stored_is}
 use Rattle.shard.proofs.Inside.{snoc}
-use Rattle.shard.proofs.OneTable.{no_or, same_after}
+use Rattle.shard_contents.proofs.OneTable.{no_or, same_after}
 use Rattle.shard.proofs.Pendings.{may_all}
 
 module _ (touched : List Touch) (t : Touch) where

@@ -13,8 +13,8 @@ use Rattle.shard_run.specs.declared.Shard.{Shard}
 use Rattle.shard_run.specs.Runs.{Run, Opening}
 use Rattle.shard_run.specs.Copies.{table_at, has_copied_all}
 use Rattle.shard_run.specs.Legal.{IsTableOf}
-use Rattle.shard.specs.Copying.{HasCopiedAll, IsNextTable}
-use Rattle.shard.specs.inner.Rowed.{first_named}
+use Rattle.shard_contents.specs.Copying.{HasCopiedAll, IsNextTable}
+use Rattle.shard_contents.specs.inner.Rowed.{first_named}
 
 is_less : (o : Ordering) → is_lt o ≡ true → o ≡ Less
 is_less Less e = refl

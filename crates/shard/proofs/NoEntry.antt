@@ -7,10 +7,10 @@ use Rattle.shard_run.specs.declared.Event.{Event}
 use Rattle.shard_run.specs.declared.Event.TheVariants.{Commit, Follow, Copy, Freeze, Thaw, Retire, Serve}
 use Rattle.shard_run.specs.declared.Entry.{Entry}
 use Rattle.shard_run.specs.Runs.{Run, Opening, is_on, is_stored, is_opening, entries_on, stored_on, mode_from, mode_after}
-use Rattle.shard.specs.declared.limits.Limits.{Limits}
-use Rattle.shard.specs.declared.contents.Contents.{Contents}
-use Rattle.shard.specs.Progress.{steps_of, steps_on}
-use Rattle.shard.specs.Shards.{ShardView, Holds, Keeps, holds, dropped, IsAfter}
+use Rattle.shard_contents.specs.declared.limits.Limits.{Limits}
+use Rattle.shard_contents.specs.declared.contents.Contents.{Contents}
+use Rattle.shard_contents.specs.Progress.{steps_of, steps_on}
+use Rattle.shard_contents.specs.Shards.{ShardView, Holds, Keeps, holds, dropped, IsAfter}
 
 -- what doesn't follow never follows again
 stays : (m : Mode) (event : Event) → (m ≡ Following → ⊥) → mode_after m event ≡ Following → ⊥

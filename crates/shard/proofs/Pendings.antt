@@ -18,14 +18,14 @@ use Rattle.shard_run.specs.Legal.{IsOnItsSlot, IsChangeOf, AreChangesOf}
 use Rattle.shard_run.specs.Openings.{IsOpening}
 use Rattle.shard_law.proofs.Lists.{AllByRecursion-push, all-append, all-from_list_all}
 use Rattle.shard_law.proofs.Runs.{log, log-on, mode-on, commits, commits-push}
-use Rattle.shard.specs.Shards.{MayFollow, commit_of}
-use Rattle.shard.specs.Commits.{IsPlaced}
-use Rattle.shard.specs.Transactions.{entry_of}
-use Rattle.shard.proofs.Bags.{all_applied-same}
-use Rattle.shard.proofs.Commits.{applied-append, rises_by, Below}
+use Rattle.shard_contents.specs.Shards.{MayFollow, commit_of}
+use Rattle.shard_contents.specs.Commits.{IsPlaced}
+use Rattle.shard_contents.specs.Transactions.{entry_of}
+use Rattle.shard_contents.proofs.Bags.{all_applied-same}
+use Rattle.shard_contents.proofs.Commits.{applied-append, rises_by, Below}
 use Rattle.shard.proofs.Inside.{change_same, changes_same, snoc, Lie, lie_after, change_inside, all_inside}
-use Rattle.shard.proofs.Legality.{stands-next, part_held}
-use Rattle.shard.proofs.Places.{rows_lie, list_all_from}
+use Rattle.shard_contents.proofs.Legality.{stands-next, part_held}
+use Rattle.shard_contents.proofs.Places.{rows_lie, list_all_from}
 
 module _ (o : Opening) (opens : IsOpening o) (s : Shard) (run : Run) (stands : IsOnItsSlot o run s) (legal : IsLegal (MayFollow o) run)
     (serves : mode o run s.slot ≡ Serving) where

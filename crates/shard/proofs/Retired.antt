@@ -7,9 +7,9 @@ use Rattle.shard_run.specs.declared.Entry.{Entry}
 use Rattle.shard_run.specs.declared.Event.TheVariants as events
 use Rattle.shard_run.specs.declared.Mode.TheVariants.{Retired, Dropped}
 use Rattle.shard_run.specs.Runs.{Run, Opening, stored_on}
-use Rattle.shard.specs.declared.limits.Limits.{Limits}
-use Rattle.shard.specs.declared.contents.Contents.{Contents}
-use Rattle.shard.specs.Shards.{ShardView, Holds, Keeps, holds, dropped, IsAfter, Names}
+use Rattle.shard_contents.specs.declared.limits.Limits.{Limits}
+use Rattle.shard_contents.specs.declared.contents.Contents.{Contents}
+use Rattle.shard_contents.specs.Shards.{ShardView, Holds, Keeps, holds, dropped, IsAfter, Names}
 
 still_holds : (o : Opening) (most : Limits) (run : Run) (c : Contents) → Keeps o most run c → c.mode ≡ Retired → Holds o most run c
 still_holds o most run c (holds h) is = h

@@ -13,14 +13,14 @@ use Rattle.shard_run.specs.declared.Entry.{Entry}
 use Rattle.shard_run.specs.declared.Mode.TheVariants.{Serving}
 use Rattle.shard_run.specs.Runs.{Run, Opening, mode, is_serving, entries_on}
 use Rattle.shard_run.specs.Openings.{row_count}
-use Rattle.shard.specs.declared.limits.Limits.{Limits}
-use Rattle.shard.specs.declared.contents.Contents.{Contents}
-use Rattle.shard.specs.Shards.{IsAfter, MayFollow, HasLooked, ShardView, slot_of, commit_of}
-use Rattle.shard.specs.Transactions.{PendingView, IsClear, IsPendingOf, entry_of, IsCommitAllRefusal, HasCommittedAll}
-use Rattle.shard.specs.inner.Transactions.{has_room_for, IsAllUnprepared}
-use Rattle.shard.proofs.Commits as commits
+use Rattle.shard_contents.specs.declared.limits.Limits.{Limits}
+use Rattle.shard_contents.specs.declared.contents.Contents.{Contents}
+use Rattle.shard_contents.specs.Shards.{IsAfter, MayFollow, HasLooked, ShardView, slot_of, commit_of}
+use Rattle.shard_contents.specs.Transactions.{PendingView, IsClear, IsPendingOf, entry_of, IsCommitAllRefusal, HasCommittedAll}
+use Rattle.shard_contents.specs.inner.Transactions.{has_room_for, IsAllUnprepared}
+use Rattle.shard_contents.proofs.Commits as commits
 use Rattle.shard.proofs.CommitsIn as k
-use Rattle.shard.proofs.Looks as looks
+use Rattle.shard_contents.proofs.Looks as looks
 
 -- what is left of a commit that was made
 pub record Left (o : Opening) (most : Limits) (s : Shard) (seat' : SeatView Entry) (c' : Contents) (p : PassView Entry) (tx : PendingView) (now : PassView Entry)

@@ -28,12 +28,12 @@ use Rattle.shard_run.specs.declared.Shard.{Shard}
 use Rattle.shard_run.specs.Runs.{Opening, Run, held, entries_on, stored_on}
 use Rattle.shard_run.specs.Legal.{AreChangesOf}
 use Rattle.shard_run.specs.Openings.{row_count}
-use Rattle.shard.specs.declared.limits.Limits.{Limits}
-use Rattle.shard.specs.Commits.{HasRoom}
-use Rattle.shard.specs.inner.Transactions.{is_added, is_removed, has_room_for}
-use Rattle.shard.proofs.Changes.{AreOf, of_table}
-use Rattle.shard.proofs.Commits.{applied-append}
-use Rattle.shard.proofs.Counts.{rows_after, count_after}
+use Rattle.shard_contents.specs.declared.limits.Limits.{Limits}
+use Rattle.shard_contents.specs.Commits.{HasRoom}
+use Rattle.shard_contents.specs.inner.Transactions.{is_added, is_removed, has_room_for}
+use Rattle.shard_contents.proofs.Changes.{AreOf, of_table}
+use Rattle.shard_contents.proofs.Commits.{applied-append}
+use Rattle.shard_contents.proofs.Counts.{rows_after, count_after}
 
 -- ---- a row's removals
 

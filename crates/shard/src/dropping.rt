@@ -2,10 +2,10 @@
 ghost use Rattle.std.specs.Prelude.{◌≡◌, []};
 ghost use Rattle.shard_run.specs.Runs.{mode};
 
-use crate::contents::Contents;
 use crate::state::ShardState;
 use crate::world::World;
 use journal::Naming;
+use shard_contents::Contents;
 use shard_run::Mode;
 use shard_store::StoredTables;
 

@@ -4,10 +4,10 @@ ghost use Rattle.shard_run.specs.declared.Event.{Event};
 ghost use Rattle.shard_run.specs.declared.Shard as which;
 ghost use Rattle.shard_run.specs.Runs.{stored_on};
 
-use crate::contents::Contents;
 use crate::state::ShardState;
 use crate::world::World;
 use journal::Naming;
+use shard_contents::Contents;
 use shard_run::{Mode, Shard};
 
 fn is_same(one: &Shard, other: &Shard) -> bool

@@ -8,14 +8,12 @@ ghost use Rattle.shard_run.specs.Runs.{mode, mode_after, is_serving, entries_on,
 ghost use Rattle.shard_run.specs.Legal.{May};
 ghost use Rattle.shard_run.specs.Openings.{row_count};
 ghost use Rattle.journal.specs.Runs.{IsLegal};
-ghost use Rattle.shard.specs.Shards.{beyond, IsAfter, MayFollow, slot_of, commit_of};
-ghost use Rattle.shard.specs.inner.Shards.{is_plain};
+ghost use Rattle.shard_contents.specs.Shards.{beyond, IsAfter, MayFollow, slot_of, commit_of};
+ghost use Rattle.shard_contents.specs.inner.Shards.{is_plain};
 
-use crate::contents::{Author, Contents};
-use crate::forward::Step;
-use crate::limits::{Limits, MOST_ENTRIES};
 use crate::world::{ShardLaw, World};
 use journal::{Naming, Pass, ShardSeat};
+use shard_contents::{Author, Committed, Contents, Limits, MOST_ENTRIES, Read, Reading, Step};
 use shard_run::{Entry, Event, Follow, Mode, Shard};
 use shard_store::StoredTables;
 use std::alloc::Global;
@@ -35,7 +33,7 @@ pub struct ShardState<W: World, J: Naming> {
 }
 
 impl<W: World, J: Naming> Model for ShardState<W, J> {
-    ghost use Rattle.shard.specs.Shards.{ShardView, IsAfter, Names};
+    ghost use Rattle.shard_contents.specs.Shards.{ShardView, IsAfter, Names};
     ghost use Rattle.std.specs.Coded.{codes};
     ghost use Rattle.shard_run.specs.contracts.Entry as entry;
     ghost use Rattle.shard_run.specs.contracts.Shard as which;
@@ -48,28 +46,6 @@ impl<W: World, J: Naming> Model for ShardState<W, J> {
 
     // What it holds is what the run that it has seen leaves on it.
     ghost invariant = { λ s. IsAfter W.opening W.limits s.seat s.contents × Names W.opening s.seat.seen s.contents.shard s.targets };
-}
-
-/// What a query gave on a shard: its rows, and how many entries the shard had then.
-#[derive(Drop)]
-pub struct Reading {
-    pub rows: Items<Row>,
-    pub entries: u64,
-}
-
-/// What a shard answers to a query.
-#[derive(Drop)]
-pub enum Read {
-    Rows(Reading),
-    NotServing,
-}
-
-/// What a shard answers to a write: how many rows it added, removed or really changed, or the write again.
-#[derive(Drop)]
-pub enum Committed {
-    Count(u64),
-    Frozen(Write),
-    NotServing(Write),
 }
 
 fn serves(mode: Mode) -> bool
@@ -125,11 +101,11 @@ impl<W: World, J: Naming> ShardState<W, J> {
     ghost use Rattle.shard_run.specs.Runs.{first_rows, held};
     ghost use Rattle.shard_run.specs.Openings.{IsOpening};
     ghost use Rattle.shard_run.specs.Copies.{position, has_copied_all};
-    ghost use Rattle.shard.specs.Progress.{behind};
+    ghost use Rattle.shard_contents.specs.Progress.{behind};
     ghost use Rattle.shard_run.specs.Legal.{IsOnItsSlot, MayRetire, MayServe};
     ghost use Rattle.journal.specs.Views.{PassView};
-    ghost use Rattle.shard.specs.Shards.{HasLooked, HasAppended, Answers, opening_shards, seat_view, IsNext};
-    ghost use Rattle.shard.specs.Commits.{IsPlaced, HasCommitted, IsCommitRefusal, HasAnswered};
+    ghost use Rattle.shard_contents.specs.Shards.{HasLooked, HasAppended, Answers, opening_shards, seat_view, IsNext};
+    ghost use Rattle.shard_contents.specs.Commits.{IsPlaced, HasCommitted, IsCommitRefusal, HasAnswered};
 
     // Promise: A shard's rows (as bags), mode, stored entries, targets and how far it has come with each source are those that the run
     // which its seat has seen leaves on it, within its limits where it serves: the invariant of the type. It is an opening shard or a
@@ -357,13 +333,13 @@ impl<W: World, J: Naming> ShardState<W, J> {
     // the write and its changes; its count is what the write gives over the one database before the entry, in the shard's place. Where the
     // shard is frozen or doesn't serve, the write comes back after one look
     // Clauses: answered, seen, later, shard, stands
-    // Refuses: write_appends_nothing, write_appends_another_change, commit_leaves_out_a_write, number_of_another_statement,
-    // rows_forget_the_commit
+    // Refuses: write_appends_nothing, shard_contents::write_appends_another_change, shard_contents::commit_leaves_out_a_write,
+    // number_of_another_statement, shard_contents::rows_forget_the_commit
     // Promise: It is refused only for its cause at the look's run, and then nothing is appended: a primary key that is there (F12), a limit
     // of rows, stored entries or entries (F24), or memory
     // Clauses: refused, looked
-    // Refuses: duplicate_is_not_tested, always_full, full_one_row_too_late, full_one_entry_too_late, shard_store::rows_are_counted_short,
-    // full_one_stored_entry_too_late
+    // Refuses: shard_contents::duplicate_is_not_tested, shard_contents::always_full, shard_contents::full_one_row_too_late,
+    // shard_contents::full_one_entry_too_late, shard_store::rows_are_counted_short, shard_contents::full_one_stored_entry_too_late
     /// Commits one write of the pass's session, under the number of its statement, where the shard serves and isn't frozen: one look,
     /// which the pass keeps, and then one entry. Answers how many rows it added, removed or really changed; else the look was made, and
     /// the write comes back. It refuses a primary key that is there already, what would pass a limit of the shard, and for want of

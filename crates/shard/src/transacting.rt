@@ -3,13 +3,10 @@ ghost use Rattle.std.specs.Prelude.{List, ◌≡◌, ◌↔◌, IsTrue, ◌≤�
 ghost use Rattle.vschema.specs.TypedWrites.{IsTypedWrite};
 ghost use Rattle.sql_eval.specs.Writes.{written_table};
 
-use crate::contents::{Author, written_table};
-use crate::copies::beside;
-use crate::pending::Pending;
-use crate::state::{Reading, ShardState};
-use crate::touch::Touch;
+use crate::state::ShardState;
 use crate::world::{ShardLaw, World};
 use journal::{Naming, Pass};
+use shard_contents::{Author, Pending, Reading, Touch, beside, written_table};
 use shard_run::Mode;
 use std::alloc::Global;
 use vschema::{Query, VSchema, Write};
@@ -28,9 +25,9 @@ impl<W: World, J: Naming> ShardState<W, J> {
     ghost use Rattle.journal.specs.Views.{IsLater};
     ghost use Rattle.shard_run.specs.Runs.{entries_on};
     ghost use Rattle.shard_run.specs.Legal.{IsOnItsSlot};
-    ghost use Rattle.shard.specs.Shards.{slot_of, commit_of, MayFollow, HasLooked, seat_view};
-    ghost use Rattle.shard.specs.Commits.{IsPlaced};
-    ghost use Rattle.shard.specs.Transactions.{IsClear, IsPendingOf, HasReadIn, HasWrittenIn, IsStopped, IsReadRefusal, IsWriteRefusal, HasCommittedAll, IsCommitAllRefusal};
+    ghost use Rattle.shard_contents.specs.Shards.{slot_of, commit_of, MayFollow, HasLooked, seat_view};
+    ghost use Rattle.shard_contents.specs.Commits.{IsPlaced};
+    ghost use Rattle.shard_contents.specs.Transactions.{IsClear, IsPendingOf, HasReadIn, HasWrittenIn, IsStopped, IsReadRefusal, IsWriteRefusal, HasCommittedAll, IsCommitAllRefusal};
 
     // Promise: A transaction on one shard, before its commit: each statement of it makes one look, where the shard serves, isn't frozen and
     // no table that it touched was changed since, and gives what it means over the rows that the run leaves on the shard with the
@@ -38,9 +35,11 @@ impl<W: World, J: Naming> ShardState<W, J> {
     // changes. It is refused for its cause alone: the shard doesn't serve or is frozen (F23), a touched table was changed since (F21,
     // exactly then), a primary key (F12), a limit at the commit (F24), or memory; where it is refused, the transaction is as it was
     // With: ShardState::{read_in, write_in, commit_in}, Shard::{check, read_in, write_in, commit_in}
-    // Refuses: commit_without_conflict_test, conflict_for_every_commit, commit_leaves_out_a_write_2, conflict_looks_one_entry_too_late,
-    // frozen_shard_takes_a_transaction, own_removal_is_not_seen, query_sees_no_own_writes, refused_commit_loses_its_writes,
-    // transaction_commits_no_changes, transaction_counts_removed_as_added, transaction_keeps_no_write, write_sees_no_own_writes
+    // Refuses: shard_contents::commit_without_conflict_test, shard_contents::conflict_for_every_commit,
+    // shard_contents::commit_leaves_out_a_write_2, shard_contents::conflict_looks_one_entry_too_late, frozen_shard_takes_a_transaction,
+    // shard_contents::own_removal_is_not_seen, shard_contents::query_sees_no_own_writes, shard_contents::refused_commit_loses_its_writes,
+    // shard_contents::transaction_commits_no_changes, shard_contents::transaction_counts_removed_as_added,
+    // shard_contents::transaction_keeps_no_write, shard_contents::write_sees_no_own_writes
     /// One look, which the pass keeps. Answers how many entries the shard has then. It refuses where the shard is frozen or doesn't serve;
     /// else where an entry of the shard has changed a table that the transaction touched before it. Takes no memory.
     pub fn check(&mut self, pass: &mut Pass<ShardLaw<W>, J>, tx: &Pending) -> Result<u64, Refusal>

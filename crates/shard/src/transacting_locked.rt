@@ -5,15 +5,14 @@ ghost use Rattle.journal.specs.Runs.{NumbersBelow};
 ghost use Rattle.shard_run.specs.declared.Shard as which;
 ghost use Rattle.shard_run.specs.Runs.{entries_on};
 ghost use Rattle.shard_run.specs.Legal.{IsOnItsSlot};
-ghost use Rattle.shard.specs.Shards.{commit_of, HasLooked};
+ghost use Rattle.shard_contents.specs.Shards.{commit_of, HasLooked};
 ghost use Rattle.shard.specs.Seats.{place_at};
-ghost use Rattle.shard.specs.Transactions.{IsClear, IsPendingOf, HasReadIn, HasWrittenIn, IsStopped, IsReadRefusal, IsWriteRefusal, HasCommittedAll, IsCommitAllRefusal};
+ghost use Rattle.shard_contents.specs.Transactions.{IsClear, IsPendingOf, HasReadIn, HasWrittenIn, IsStopped, IsReadRefusal, IsWriteRefusal, HasCommittedAll, IsCommitAllRefusal};
 
 use crate::locked::Shard;
-use crate::pending::Pending;
-use crate::state::Reading;
 use crate::world::{ShardLaw, World};
 use journal::{Naming, Pass};
+use shard_contents::{Pending, Reading};
 use std::alloc::Global;
 use std::sync::Wait;
 use vschema::{Query, VSchema, Write};

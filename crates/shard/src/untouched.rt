@@ -1,13 +1,13 @@
 //! A shard on which nothing happened gives its seat back.
 ghost use Rattle.std.specs.Prelude.{◌≡◌, [], true, false};
 ghost use Rattle.shard_run.specs.Runs.{entries_on, is_opening};
-ghost use Rattle.shard.specs.Shards.{seat_view};
+ghost use Rattle.shard_contents.specs.Shards.{seat_view};
 
-use crate::contents::Contents;
 use crate::locked::Shard;
 use crate::state::ShardState;
 use crate::world::{ShardLaw, World};
 use journal::{Naming, ShardSeat};
+use shard_contents::Contents;
 use shard_run::Mode;
 
 fn follows(contents: &Contents) -> bool

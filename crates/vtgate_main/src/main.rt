@@ -3,12 +3,14 @@
 
 #[cfg(test)]
 mod failing_devices;
-mod plan;
-mod run;
 #[cfg(test)]
-mod status_tests;
+mod loopback;
+mod plan;
+mod running;
+#[cfg(test)]
+mod statuses;
 
-use run::run;
+use running::run;
 use session::{Reader, Sink, Writer};
 use std::alloc::Global;
 use std::process::ExitCode;

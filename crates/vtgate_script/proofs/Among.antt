@@ -8,15 +8,15 @@ use Rattle.journal.specs.Views.{PassView}
 use Rattle.shard_run.specs.declared.Entry.{Entry}
 use Rattle.shard_run.specs.Runs.{Opening, one}
 use Rattle.shard_run.specs.Openings.{IsOpening}
-use Rattle.shard.specs.Shards.{MayFollow, most_limits}
-use Rattle.route_engine.specs.Alone.{NoOthers}
-use Rattle.route_engine.specs.Transactions.{Standing}
-use Rattle.route_engine.specs.Pendings.{OpenView, Stands}
+use Rattle.shard_contents.specs.Shards.{MayFollow, most_limits}
+use Rattle.shard_calls.specs.Alone.{NoOthers}
+use Rattle.shard_calls.specs.Transactions.{Standing}
+use Rattle.shard_calls.specs.Pendings.{OpenView, Stands}
 use Rattle.route_engine.proofs.NoOthers.{one_still}
 use Rattle.session.specs.Alone.{Told}
 use Rattle.session.specs.Among.{told_in}
 use Rattle.session.specs.inner.TypedSteps.{AreTyped}
-use Rattle.session.specs.Outcomes.{PassAndTransaction}
+use Rattle.session_replies.specs.Outcomes.{PassAndTransaction}
 use Rattle.session.proofs.Among.{Left, answer_among, refused_at}
 use Rattle.vtgate_script.specs.Scripted as s
 use Rattle.vtgate_script.specs.Scripted.{Prints, PrintsAmong}

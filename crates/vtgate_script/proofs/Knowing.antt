@@ -12,10 +12,10 @@ use Rattle.shard_run.specs.declared.Entry.{Entry}
 use Rattle.shard_run.specs.Runs.{Run, Opening}
 use Rattle.shard_run.specs.Openings.{IsOpening}
 use Rattle.shard_law.proofs.Lists.{In, In-filter}
-use Rattle.shard.specs.Shards.{MayFollow, commit_of}
-use Rattle.route_engine.specs.Alone.{IsNoOthers, NoOthers, NoCommits}
-use Rattle.route_engine.specs.Pendings.{OpenView}
-use Rattle.session.specs.Outcomes.{PassAndTransaction}
+use Rattle.shard_contents.specs.Shards.{MayFollow, commit_of}
+use Rattle.shard_calls.specs.Alone.{IsNoOthers, NoOthers, NoCommits}
+use Rattle.shard_calls.specs.Pendings.{OpenView}
+use Rattle.session_replies.specs.Outcomes.{PassAndTransaction}
 use Rattle.vtgate_script.specs.Scripted.{met}
 use Rattle.vtgate_script.specs.inner.UnderWay.{Kept, KeptSession, PrintsFrom, PrintsHere, KnowsOwn, IsKnown, IsBehind}
 use Rattle.vtgate_script.proofs.Among.{prints_among}

@@ -7,10 +7,10 @@ use Rattle.journal.specs.Views.{PassView, IsLonger}
 use Rattle.journal.proofs.Fronts.{prefix_both}
 use Rattle.shard_run.specs.declared.Entry.{Entry}
 use Rattle.shard_run.specs.Runs.{Opening}
-use Rattle.shard.specs.declared.limits.Limits.{Limits}
-use Rattle.route_engine.specs.declared.reply.Reply.{Reply}
-use Rattle.route_engine.specs.Transactions.{Transaction, IsReplyTo, IsRefusedAt}
-use Rattle.route_engine.specs.Pendings.{OpenView, Stands, IsOf}
+use Rattle.shard_contents.specs.declared.limits.Limits.{Limits}
+use Rattle.shard_calls.specs.declared.reply.Reply.{Reply}
+use Rattle.shard_calls.specs.Transactions.{Transaction, IsReplyTo, IsRefusedAt}
+use Rattle.shard_calls.specs.Pendings.{OpenView, Stands, IsOf}
 use Rattle.session.proofs.Steps.{answer_on, refusal_at_on}
 
 -- ---- statements

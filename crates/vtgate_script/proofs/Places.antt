@@ -11,9 +11,9 @@ use Rattle.journal.proofs.Fronts.{prefix_self, prefix_trans}
 use Rattle.journal.specs.Views.{PassView, new_pass}
 use Rattle.shard_run.specs.declared.Entry.{Entry}
 use Rattle.shard_run.specs.Runs.{Run, Opening}
-use Rattle.route_engine.specs.Pendings as stands
-use Rattle.route_engine.specs.Pendings.{OpenView, IsOf}
-use Rattle.session.specs.Outcomes.{PassAndTransaction, none_open}
+use Rattle.shard_calls.specs.Pendings as stands
+use Rattle.shard_calls.specs.Pendings.{OpenView, IsOf}
+use Rattle.session_replies.specs.Outcomes.{PassAndTransaction, none_open}
 use Rattle.vtgate_script.specs.Scripted as s
 use Rattle.vtgate_script.specs.Scripted.{Session, Progress, PrintsAt, Runs, met}
 use Rattle.vtgate_script.proofs.Knowing.{known_opened}

@@ -7,12 +7,12 @@ use Rattle.journal.specs.Runs.{by_session}
 use Rattle.journal.specs.Views.{PassView, IsLonger}
 use Rattle.shard_run.specs.declared.Entry.{Entry}
 use Rattle.shard_run.specs.Runs.{Run, Opening}
-use Rattle.shard.specs.declared.limits.Limits.{Limits}
-use Rattle.shard.specs.Shards.{slot_of, commit_of, MayFollow, most_limits}
-use Rattle.route_engine.specs.declared.reply.Reply.{Reply}
-use Rattle.route_engine.specs.Transactions.{Transaction}
-use Rattle.route_engine.specs.Pendings.{OpenView, Stands, IsOf}
-use Rattle.session.specs.Outcomes.{PassAndTransaction}
+use Rattle.shard_contents.specs.declared.limits.Limits.{Limits}
+use Rattle.shard_contents.specs.Shards.{slot_of, commit_of, MayFollow, most_limits}
+use Rattle.shard_calls.specs.declared.reply.Reply.{Reply}
+use Rattle.shard_calls.specs.Transactions.{Transaction}
+use Rattle.shard_calls.specs.Pendings.{OpenView, Stands, IsOf}
+use Rattle.session_replies.specs.Outcomes.{PassAndTransaction}
 use Rattle.route_engine.proofs.Anywhere.{stands_met}
 use Rattle.vtgate_script.specs.Scripted as s
 use Rattle.vtgate_script.specs.Scripted.{Prints, met}

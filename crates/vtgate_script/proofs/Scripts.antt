@@ -6,8 +6,8 @@ use Rattle.std.proofs.KnownBytes.{Appends-nil, Appends-trans}
 use Rattle.journal.specs.Views.{PassView}
 use Rattle.shard_run.specs.declared.Entry.{Entry}
 use Rattle.shard_run.specs.Runs.{Run, Opening}
-use Rattle.route_engine.specs.Alone.{NoCommits}
-use Rattle.shard.specs.Shards.{most_limits}
+use Rattle.shard_calls.specs.Alone.{NoCommits}
+use Rattle.shard_contents.specs.Shards.{most_limits}
 use Rattle.reshard.specs.Workflows.{WorkflowView}
 use Rattle.administration.specs.declared.reply.AdminReply.{AdminReply}
 use Rattle.administration.specs.Told.{IsTold}

@@ -11,14 +11,14 @@ use Rattle.vschema.specs.Faults.{contents, schema_read}
 use Rattle.journal.specs.Views.{PassView, new_pass}
 use Rattle.shard_run.specs.declared.Entry.{Entry}
 use Rattle.shard_run.specs.Runs.{Run, Opening, one}
-use Rattle.shard.specs.Shards.{most_limits}
-use Rattle.route_engine.specs.declared.reply.Answer.{Answer}
-use Rattle.route_engine.specs.declared.reply.Answer.TheVariants.{Rows, Count}
-use Rattle.route_engine.specs.declared.reply.Reply.{Reply}
-use Rattle.route_engine.specs.Alone.{NoOthers, NoCommits, IsRefusedOver}
-use Rattle.route_engine.specs.Transactions.{IsReplyTo, IsRefusedAt}
+use Rattle.shard_contents.specs.Shards.{most_limits}
+use Rattle.shard_calls.specs.declared.reply.Answer.{Answer}
+use Rattle.shard_calls.specs.declared.reply.Answer.TheVariants.{Rows, Count}
+use Rattle.shard_calls.specs.declared.reply.Reply.{Reply}
+use Rattle.shard_calls.specs.Alone.{NoOthers, NoCommits, IsRefusedOver}
+use Rattle.shard_calls.specs.Transactions.{IsReplyTo, IsRefusedAt}
 use Rattle.empty_opening.specs.Empty.{opening_of, FitRanges}
-use Rattle.session.specs.Outcomes.{PassAndTransaction, none_open, HasRows}
+use Rattle.session_replies.specs.Outcomes.{PassAndTransaction, none_open, HasRows}
 use Rattle.session.specs.Alone.{Told}
 use Rattle.session.specs.Among.{AnswersAmong, told_in}
 use Rattle.vtgate_lines.specs.Lines.{IsStatementLine, IsAdminLine, IsNextLine}

@@ -6,9 +6,9 @@ ghost use mathlib.Core.List.{IsPrefix};
 ghost use Rattle.vschema.specs.WellFormed.{is_vschema};
 ghost use Rattle.journal.specs.Runs.{IsLegal, by_session};
 ghost use Rattle.shard_run.specs.Openings.{IsOpening};
-ghost use Rattle.shard.specs.Shards.{MayFollow, commit_of, most_limits};
+ghost use Rattle.shard_contents.specs.Shards.{MayFollow, commit_of, most_limits};
 ghost use Rattle.vtgate_lines.specs.Printed.{rows_text, refusal_text};
-ghost use Rattle.route_engine.specs.Pendings.{IsOf};
+ghost use Rattle.shard_calls.specs.Pendings.{IsOf};
 ghost use Rattle.empty_opening.specs.Empty.{sharded_keyspace};
 ghost use Rattle.administration.specs.Told.{keyspace_of};
 ghost use Rattle.vtgate_script.specs.Scripted.{HasGiven, unknown_text};
@@ -186,7 +186,7 @@ impl<W: World, J: Naming> Model for Sessions<W, J> {
 impl<W: World + Send + Sync, J: Naming + Send + Sync> Sessions<W, J> {
     ghost use Rattle.std.specs.Prelude.{◌≡◌, ◌<◌, ◌++◌, ◌∷◌, ℕ, List, [], Some, None, IfOk, OnOk, length, position, slice_index_or, slice_set, bytes_eq};
     ghost use Rattle.std.specs.Io.KnownBytes.{Appends};
-    ghost use Rattle.shard.specs.Shards.{most_limits};
+    ghost use Rattle.shard_contents.specs.Shards.{most_limits};
     ghost use Rattle.journal.specs.Views.{new_pass};
     ghost use Rattle.journal.specs.Views.{PassView};
     ghost use Rattle.shard_run.specs.declared.Entry.{Entry};
@@ -195,7 +195,7 @@ impl<W: World + Send + Sync, J: Naming + Send + Sync> Sessions<W, J> {
     ghost use Rattle.administration.specs.Told as told;
     ghost use Rattle.administration.specs.Told.{keyspace_of};
     ghost use Rattle.administration.specs.Words.{reply_text};
-    ghost use Rattle.route_engine.specs.Alone.{NoCommits};
+    ghost use Rattle.shard_calls.specs.Alone.{NoCommits};
     ghost use Rattle.vtgate_script.specs.Scripted.{Progress, Runs, PrintsLine};
     ghost use Rattle.vtgate_script.specs.inner.UnderWay.{Kept, KeptSession, IsProgressOf, PrintsHere, HasOpened, nothing_kept};
 

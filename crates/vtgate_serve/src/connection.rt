@@ -1,10 +1,10 @@
 //! One connection.
 ghost use Rattle.std.specs.Prelude.{◌≡◌, ℕ, List, IsSome, IfOk, Err};
 ghost use Rattle.std.specs.Io.KnownBytes.{Appends, Consumes, IsAtEnd};
-ghost use Rattle.route_engine.specs.Alone.{NoOthers};
+ghost use Rattle.shard_calls.specs.Alone.{NoOthers};
 ghost use Rattle.session.specs.Alone.{Alone, MeansAlone, alone_terms, alone_first};
-ghost use Rattle.session.specs.Outcomes.{Means, PassAndTransaction, none_open, terms_of};
-ghost use Rattle.session.specs.Talk.{Talk, IsByInput};
+ghost use Rattle.session_replies.specs.Outcomes.{Means, PassAndTransaction, none_open, terms_of};
+ghost use Rattle.session_replies.specs.Talk.{Talk, IsByInput};
 ghost use Rattle.serve_lines.specs.Salts.{salt_of};
 
 use crate::client::{Replies, begin, end};

@@ -22,7 +22,7 @@ pub struct Acceptor<'l, W: World, J: Naming> {
     accepted: u32,
     last: u32,
     // Promise: The server has opened at most as many sessions as it has accepted connections, from none on
-    // Refuses: connection_opens_two_sessions, serve_deletes_before_it_listens
+    // Refuses: connection_opens_two_sessions, serve_opens_a_session_of_its_own
     ghost opened: { opener ≤ accepted },
 }
 

@@ -5,9 +5,8 @@ mod admin_port;
 mod client;
 mod connection;
 mod entrance;
-#[cfg(test)]
-mod loopback_tests;
 mod ports;
 mod serve;
 
-pub use serve::run_serve;
+pub use ports::Ports;
+pub use serve::{Setting, run_serve, serve_opened, setting_of};

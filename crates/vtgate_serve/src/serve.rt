@@ -4,7 +4,7 @@ ghost use Rattle.std.specs.Io.KnownBytes.{Appends};
 ghost use Rattle.keyrange.specs.declared.KeyRange.{KeyRange};
 ghost use Rattle.vschema.specs.WellFormed.{is_vschema};
 ghost use Rattle.journal.specs.Views.{new_pass};
-ghost use Rattle.shard.specs.Shards.{most_limits};
+ghost use Rattle.shard_contents.specs.Shards.{most_limits};
 ghost use Rattle.empty_opening.specs.Empty.{opening_of, sharded_keyspace, FitRanges};
 ghost use Rattle.administration.specs.Told.{keyspace_of};
 ghost use Rattle.vtgate_lines.specs.Partitions.{NamesPartition};

@@ -4,7 +4,7 @@ use Rattle.std.specs.List.{AllByRecursion}
 use Rattle.shard_run.specs.declared.Shard.{Shard}
 use Rattle.shard_run.specs.Runs.{Run, Opening}
 use Rattle.shard_run.specs.Copies.{position}
-use Rattle.shard.specs.Copying.{HasCopiedAll}
+use Rattle.shard_contents.specs.Copying.{HasCopiedAll}
 use Rattle.cutover_steps.specs.Steps.{Looked, has_source}
 
 -- after the run the target has copied all of the source, and stands behind what it has stored

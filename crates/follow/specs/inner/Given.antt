@@ -11,9 +11,9 @@ use Rattle.shard_run.specs.declared.Shard.{Shard}
 use Rattle.shard_run.specs.declared.Copied as C
 use Rattle.shard_run.specs.declared.Follow as F
 use Rattle.shard_run.specs.Runs.{Run, Opening, entries_on, stored_on}
-use Rattle.shard.specs.declared.copying.NextTable.{NextTable}
-use Rattle.shard.specs.declared.copying.SourceProgress.{SourceProgress}
-use Rattle.shard.specs.Copying.{IsEntryFor, IsCopyFor, IsNextTable, is_reached}
+use Rattle.shard_contents.specs.declared.copying.NextTable.{NextTable}
+use Rattle.shard_contents.specs.declared.copying.SourceProgress.{SourceProgress}
+use Rattle.shard_contents.specs.Copying.{IsEntryFor, IsCopyFor, IsNextTable, is_reached}
 use Rattle.follow.specs.Steps.{HasStepped}
 use Rattle.follow.specs.declared.steps.Step.{Step}
 use Rattle.follow.specs.declared.steps.Step.TheVariants.{Copied, Followed, Level}

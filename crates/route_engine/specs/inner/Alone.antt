@@ -6,8 +6,8 @@ use Rattle.vschema.specs.Database.{Database}
 use Rattle.vschema.specs.declared.schema.Typed.{Typed}
 use Rattle.vschema.specs.declared.schema.VSchema.{VSchema}
 use Rattle.vschema.specs.TypedStatement.{typed_statement}
-use Rattle.route_engine.specs.declared.reply.Answer.{Answer}
-use Rattle.route_engine.specs.Alone.{GivesOver}
+use Rattle.shard_calls.specs.declared.reply.Answer.{Answer}
+use Rattle.shard_calls.specs.Alone.{GivesOver}
 
 -- the text is a statement under the VSchema, and the answer is what it gives over the database
 pub record AnswersOver (schema : VSchema) (db : Database) (text : List ℕ) (answer : Answer) (after : Database) : Type 0 where

@@ -12,9 +12,9 @@ use Rattle.vschema.specs.TypedStatement.{typed_statement}
 use Rattle.journal.specs.Views.{PassView}
 use Rattle.shard_run.specs.declared.Entry.{Entry}
 use Rattle.shard_run.specs.Runs.{Opening}
-use Rattle.shard.specs.declared.limits.Limits.{Limits}
-use Rattle.route_engine.specs.declared.reply.Reply.{Reply}
-use Rattle.route_engine.specs.Answers.{counted, HasGone, MayReadRefuse, Gives, is_run, MayWriteRefuse}
+use Rattle.shard_contents.specs.declared.limits.Limits.{Limits}
+use Rattle.shard_calls.specs.declared.reply.Reply.{Reply}
+use Rattle.shard_calls.specs.Answers.{counted, HasGone, MayReadRefuse, Gives, is_run, MayWriteRefuse}
 
 -- The text is a statement under the VSchema, and the reply is what it gives, from the pass with the statement's number.
 pub record IsReply (o : Opening) (limits : Limits) (p : PassView Entry) (text : List ℕ) (reply : Reply) (now : PassView Entry) : Type 0 where

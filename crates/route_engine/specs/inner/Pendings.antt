@@ -3,8 +3,8 @@ use Rattle.std.specs.Prelude.{Option}
 use Rattle.journal.specs.Views.{PassView}
 use Rattle.shard_run.specs.declared.Entry.{Entry}
 use Rattle.shard_run.specs.Runs.{Opening, one}
-use Rattle.route_engine.specs.Transactions.{Transaction}
-use Rattle.route_engine.specs.Pendings.{OpenView, Stands}
+use Rattle.shard_calls.specs.Transactions.{Transaction}
+use Rattle.shard_calls.specs.Pendings.{OpenView, Stands}
 
 -- From whatever transaction the program keeps by the first, as the one pass has it, a step leads to one that it keeps by the second, as the other
 -- pass has it.

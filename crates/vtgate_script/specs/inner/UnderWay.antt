@@ -8,11 +8,11 @@ use Rattle.journal.specs.Runs.{by_session}
 use Rattle.journal.specs.Views.{PassView, new_pass}
 use Rattle.shard_run.specs.declared.Entry.{Entry}
 use Rattle.shard_run.specs.Runs.{Run, Opening}
-use Rattle.route_engine.specs.declared.reply.Answer.{Answer}
-use Rattle.route_engine.specs.declared.reply.Reply.{Reply}
-use Rattle.shard.specs.Shards.{commit_of}
-use Rattle.route_engine.specs.Pendings.{OpenView, IsOf}
-use Rattle.session.specs.Outcomes.{PassAndTransaction, IsKept, HasRows}
+use Rattle.shard_calls.specs.declared.reply.Answer.{Answer}
+use Rattle.shard_calls.specs.declared.reply.Reply.{Reply}
+use Rattle.shard_contents.specs.Shards.{commit_of}
+use Rattle.shard_calls.specs.Pendings.{OpenView, IsOf}
+use Rattle.session_replies.specs.Outcomes.{PassAndTransaction, IsKept, HasRows}
 use Rattle.session.specs.inner.TypedSteps.{AreTyped}
 use Rattle.vtgate_lines.specs.Printed.{refusal_text}
 use Rattle.vtgate_script.specs.Scripted.{Session, Progress, Prints, PrintsAt, met, answer_text}

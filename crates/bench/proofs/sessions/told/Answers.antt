@@ -1,6 +1,6 @@
 use Rattle.std.proofs.Common.{Option, None, sym, subst}
-use Rattle.route_engine.specs.Pendings as stands
-use Rattle.route_engine.specs.Pendings.{OpenView, Stands}
+use Rattle.shard_calls.specs.Pendings as stands
+use Rattle.shard_calls.specs.Pendings.{OpenView, Stands}
 use Rattle.bench.proofs.sessions.told.Goals as goal
 
 -- no transaction is open

@@ -1,6 +1,6 @@
 use Rattle.std.proofs.Common.{map, take, List}
 use Rattle.std.specs.Prelude.{IsTrue, Contains}
-use Rattle.shard.proofs.Legality.{legal_is}
+use Rattle.shard_contents.proofs.Legality.{legal_is}
 use Rattle.shard_run.specs.declared.Shard.{Shard}
 use Rattle.cutover_steps.specs.Steps.{Looked, has_source, IsRetired}
 use Rattle.cutover_steps.proofs.Onward.{onward_trans}

@@ -5,7 +5,7 @@ use Rattle.shard_run.specs.declared.Shard.{Shard}
 use Rattle.shard_run.specs.declared.Entry.{Entry}
 use Rattle.shard_run.specs.Runs.{Run, mode}
 use Rattle.shard_run.specs.Legal.{IsOnItsSlot}
-use Rattle.shard.proofs.Legality.{legal_is}
+use Rattle.shard_contents.proofs.Legality.{legal_is}
 use Rattle.cutover_steps.specs.Looks.{HasBegunToServe}
 use Rattle.cutover_steps.proofs.Served.{has_served}
 use Rattle.cutover_steps.proofs.confirming.try_served.Goals as goal

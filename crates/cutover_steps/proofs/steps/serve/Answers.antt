@@ -1,5 +1,5 @@
 use Rattle.std.proofs.Common.{map}
-use Rattle.shard.proofs.Legality.{legal_is}
+use Rattle.shard_contents.proofs.Legality.{legal_is}
 use Rattle.cutover_steps.proofs.Onward.{onward_trans, stepped_after}
 use Rattle.cutover_steps.proofs.Retiring.{are_retired_later}
 use Rattle.cutover_steps.proofs.steps.serve.Goals as goal

@@ -4,7 +4,7 @@ use Rattle.journal.specs.Views.{PassView}
 use Rattle.shard_run.specs.declared.Entry.{Entry}
 use Rattle.shard_run.specs.Runs.{held, entries_on}
 use Rattle.shard_run.specs.Openings.{row_count}
-use Rattle.shard.proofs.Legality.{legal_is}
+use Rattle.shard_contents.proofs.Legality.{legal_is}
 use Rattle.cutover_steps.proofs.Retiring.{may_serve_looked}
 use Rattle.cutover_steps.proofs.steps.try_serve.Goals as goal
 

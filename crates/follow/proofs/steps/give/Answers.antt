@@ -1,6 +1,6 @@
 use Rattle.std.proofs.Common.{◌≡◌, Some}
 use Rattle.shard_run.specs.declared.Follow as F
-use Rattle.shard.specs.Copying.{IsEntryFor}
+use Rattle.shard_contents.specs.Copying.{IsEntryFor}
 use Rattle.follow.specs.inner.Given.{NoneLeft, entry, rows, nothing}
 use Rattle.follow.proofs.Moves.{at_some, at_not_some}
 use Rattle.follow.proofs.steps.give.Goals as goal

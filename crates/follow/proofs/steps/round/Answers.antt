@@ -1,7 +1,7 @@
 use Rattle.std.proofs.Common.{◌≡◌, length, refl}
 use Rattle.shard_run.specs.Runs.{entries_on}
-use Rattle.shard.specs.Copying.{IsProgress}
-use Rattle.shard.proofs.Legality.{legal_is}
+use Rattle.shard_contents.specs.Copying.{IsProgress}
+use Rattle.shard_contents.proofs.Legality.{legal_is}
 use Rattle.follow.specs.declared.steps.Come.{Come}
 use Rattle.follow.specs.declared.steps.Step.{Step}
 use Rattle.follow.specs.Steps.{HasMoved}
@@ -45,3 +45,25 @@ returns-clause-moved g c =
     c.requires.of_source is.0 is.1 p q now c.in-Some-given.given s refl on c.try_progress.ensures.onward.later c.take.ensures.onward.later
     (onward_trans o p q now on c.take.ensures.onward) given t)
     c.take.ensures.taken
+
+pub try_give-requires-clause-legal : goal.try_give-requires-clause-legal
+try_give-requires-clause-legal g c = c.try_progress.ensures.onward.legal
+
+pub take-requires-clause-legal : goal.take-requires-clause-legal
+take-requires-clause-legal g c = c.try_give.ensures.onward.legal
+
+pub returns-in_err-given-clause-onward : goal.returns-in_err-given-clause-onward
+returns-in_err-given-clause-onward g c =
+    onward_trans g.W.World.opening c.args.pass.now c.try_progress.new.pass c.try_give.new.pass c.try_progress.ensures.onward c.try_give.ensures.onward
+
+pub returns-in_default-given-clause-onward : goal.returns-in_default-given-clause-onward
+returns-in_default-given-clause-onward g c =
+    onward_trans g.W.World.opening c.args.pass.now c.try_progress.new.pass c.try_give.new.pass c.try_progress.ensures.onward c.try_give.ensures.onward
+
+pub returns-clause-onward : goal.returns-clause-onward
+returns-clause-onward g c =
+    let o = g.W.World.opening in
+    let p = c.args.pass.now in
+    let q = c.try_give.new.pass in
+    onward_trans o p q c.take.new.pass (onward_trans o p c.try_progress.new.pass q c.try_progress.ensures.onward c.try_give.ensures.onward)
+    c.take.ensures.onward

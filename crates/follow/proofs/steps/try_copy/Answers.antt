@@ -4,9 +4,9 @@ use Rattle.shard_run.specs.declared.Shard.{Shard}
 use Rattle.shard_run.specs.declared.Entry.{Entry}
 use Rattle.shard_run.specs.declared.Event.TheVariants.{Copy}
 use Rattle.shard_run.specs.Runs.{Run, entries_on}
-use Rattle.shard.specs.Shards.{seat_view}
-use Rattle.shard.specs.Copying.{IsNextCopy}
-use Rattle.shard.proofs.Legality.{legal_is}
+use Rattle.shard_contents.specs.Shards.{seat_view}
+use Rattle.shard_contents.specs.Copying.{IsNextCopy}
+use Rattle.shard_contents.proofs.Legality.{legal_is}
 use Rattle.follow.proofs.Onward.{still, looked, has_looked, stepped}
 use Rattle.follow.proofs.Moves.{copy_next}
 use Rattle.follow.proofs.steps.try_copy.Goals as goal

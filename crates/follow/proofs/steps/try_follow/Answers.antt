@@ -10,8 +10,8 @@ use Rattle.shard_run.specs.declared.Entry.{Entry}
 use Rattle.shard_run.specs.declared.Event.TheVariants.{Follow}
 use Rattle.shard_run.specs.Runs.{Run, entries_on}
 use Rattle.shard_run.specs.Copies.{change_is_copied}
-use Rattle.shard.specs.Shards.{IsNext, seat_view}
-use Rattle.shard.proofs.Legality.{legal_is}
+use Rattle.shard_contents.specs.Shards.{IsNext, seat_view}
+use Rattle.shard_contents.proofs.Legality.{legal_is}
 use Rattle.follow.proofs.Onward.{still, looked, has_looked, stepped}
 use Rattle.follow.proofs.Moves.{entry_there, follow_next}
 use Rattle.follow.proofs.steps.try_follow.Goals as goal

@@ -13,7 +13,7 @@ returns-clause-own g c =
 pub returns-clause-those : goal.returns-clause-those
 returns-clause-those g c =
     subst (λ l. AreThose c.args.range.now l (map (λ m. m.which) c.loop-source.own.members.items))
-    (Rattle.shard.proofs.Progress.take_whole c.loop-source.source-index (map (λ s. s.member.which) c.args.sources.now)
+    (Rattle.shard_contents.proofs.Progress.take_whole c.loop-source.source-index (map (λ s. s.member.which) c.args.sources.now)
     (map_short (λ s. s.member.which) c.args.sources.now c.loop-source.source-index c.loop-source-test.false)) c.loop-source.invariant.those
 
 pub loop-source-preserved : goal.loop-source-preserved

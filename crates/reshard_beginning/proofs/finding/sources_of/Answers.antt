@@ -1,5 +1,5 @@
 use Rattle.std.proofs.Common.{sym, ◌∙◌}
-use Rattle.shard.proofs.Progress.{take_whole}
+use Rattle.shard_contents.proofs.Progress.{take_whole}
 use Rattle.follow.proofs.Moves.{at_some, at_not_some}
 use Rattle.cutover_steps.proofs.Onward.{onward_trans}
 use Rattle.reshard_beginning.proofs.Making.{picked_next, away_since}

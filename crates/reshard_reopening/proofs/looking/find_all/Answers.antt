@@ -1,5 +1,5 @@
 use Rattle.std.proofs.Common.{◌∙◌}
-use Rattle.shard.proofs.Progress.{take_whole}
+use Rattle.shard_contents.proofs.Progress.{take_whole}
 use Rattle.shard.specs.Seats.{seat_of}
 use Rattle.reshard_reopening.specs.MadeAgain.{Found}
 use Rattle.cutover_steps.proofs.Onward.{onward_trans}

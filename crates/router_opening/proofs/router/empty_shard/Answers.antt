@@ -4,7 +4,7 @@ use Rattle.shard_run.specs.declared.Shard.{Shard}
 use Rattle.shard_run.specs.declared.Mode.TheVariants.{Following, Serving}
 use Rattle.shard_run.specs.Runs.{is_opening}
 use Rattle.shard_run.specs.Openings.{row_count}
-use Rattle.shard.proofs.Legality.{on_its_slot, opening_slot, tables_held}
+use Rattle.shard_contents.proofs.Legality.{on_its_slot, opening_slot, tables_held}
 use Rattle.router_opening.proofs.Empty.{none_counted}
 use Rattle.router_opening.proofs.router.empty_shard.Goals as goal
 

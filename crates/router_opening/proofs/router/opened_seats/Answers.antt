@@ -4,7 +4,7 @@ use Rattle.shard_run.proofs.Sent.{entry_send}
 use Rattle.vschema.specs.declared.schema.Table.{Table}
 use Rattle.shard_run.specs.declared.Shard.{Shard}
 use Rattle.shard_run.specs.Runs.{Opening, first_rows}
-use Rattle.shard.specs.Shards.{opening_shards}
+use Rattle.shard_contents.specs.Shards.{opening_shards}
 use Rattle.empty_opening.specs.Empty.{empty_shards}
 use Rattle.router_opening.proofs.Empty.{opening_is, first_rows_are, on_own_slots}
 use Rattle.router_opening.proofs.router.opened_seats.Goals as goal

@@ -1,10 +1,10 @@
 use Rattle.std.proofs.Common.{[], refl, ap, ◌∙◌}
 use Rattle.std.proofs.KnownBytes.{Appends-nil, Consumes-nil}
 use Rattle.std.specs.Prelude.{None}
-use Rattle.session.specs.Outcomes.{terms_of, none_open}
+use Rattle.session_replies.specs.Outcomes.{terms_of, none_open}
 use Rattle.session.specs.Alone.{alone_first}
 use Rattle.session.proofs.Alone.{served_alone}
-use Rattle.session.proofs.Conversations.{same_fault}
+use Rattle.session_replies.proofs.Conversations.{same_fault}
 use Rattle.session.proofs.Servings.{one_more, still_goes_on, still_open, has_ended, stopped, starved, cut_short, told_passes, told_pass, kept_pass, kept_none}
 use Rattle.session.proofs.command_phase.serve_on.Goals as goal
 

@@ -1,12 +1,12 @@
 use Rattle.std.proofs.Common.{◌≡◌, ℕ, List, None}
 use Rattle.std.specs.Io.KnownBytes.{Appends, Consumes}
-use Rattle.route_engine.specs.Pendings.{IsOf}
+use Rattle.shard_calls.specs.Pendings.{IsOf}
 use Rattle.session.specs.declared.session_core.TheConstants.{COMMAND_LIMIT}
-use Rattle.session.specs.declared.hello.Hello.{Hello}
-use Rattle.session.specs.declared.standing.Standing.TheVariants.{New}
-use Rattle.session.specs.Outcomes.{PassAndTransaction, IsKept, Means, none_open, terms_of}
-use Rattle.session.specs.Sessions.{HasTalked}
-use Rattle.session.specs.Standings.{end_of}
+use Rattle.session_replies.specs.declared.hello.Hello.{Hello}
+use Rattle.session_replies.specs.declared.standing.Standing.TheVariants.{New}
+use Rattle.session_replies.specs.Outcomes.{PassAndTransaction, IsKept, Means, none_open, terms_of}
+use Rattle.session_replies.specs.Sessions.{HasTalked}
+use Rattle.session_replies.specs.Standings.{end_of}
 use Rattle.session.proofs.command_phase.serve_on.Given as goal
 
 abbrev pub invariant-loop : goal.invariant-loop

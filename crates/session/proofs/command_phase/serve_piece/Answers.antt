@@ -2,7 +2,7 @@ use Rattle.std.proofs.Common.{[], take, subst}
 use Rattle.std.specs.Io.KnownBytes.{Consumes}
 use Rattle.std.proofs.KnownBytes.{Appends-nil, Consumes-nil}
 use Rattle.std.proofs.lemmas.List.{append-nil}
-use Rattle.session.proofs.Conversations.{not_by_input}
+use Rattle.session_replies.proofs.Conversations.{not_by_input}
 use Rattle.session.proofs.Servings.{served}
 use Rattle.session.proofs.command_phase.serve_piece.Goals as goal
 

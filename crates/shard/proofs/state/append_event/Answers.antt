@@ -4,7 +4,7 @@ use Rattle.shard_run.specs.declared.Entry.{Entry}
 use Rattle.shard_run.specs.declared.Shard.{Shard}
 use Rattle.shard_run.specs.Runs.{mode}
 use Rattle.shard_run.specs.Legal.{IsOnItsSlot, May}
-use Rattle.shard.proofs.Modes as m
+use Rattle.shard_contents.proofs.Modes as m
 use Rattle.shard.proofs.state.append_event.Goals as goal
 
 pub append-requires-clause-lawful : goal.append-requires-clause-lawful

@@ -1,4 +1,4 @@
-use Rattle.shard.specs.Shards.{most_limits}
+use Rattle.shard_contents.specs.Shards.{most_limits}
 use Rattle.empty_opening.specs.Empty.{opening_of}
 use Rattle.vtgate_serve.proofs.serve.serve_over.Given as goal
 

@@ -2,8 +2,8 @@ use Rattle.std.proofs.Common.{◌≡◌, [], ap, sym, subst, ◌∙◌, refl}
 use Rattle.vschema.specs.declared.changes.Write.{Write}
 use Rattle.sql_eval.specs.Writes.{written_table}
 use Rattle.planner.specs.Routes.{table_at, write_route}
-use Rattle.route_engine.specs.Answers as a
-use Rattle.route_engine.proofs.Gathers.{stays}
+use Rattle.shard_calls.specs.Answers as a
+use Rattle.shard_calls.proofs.Gathers.{stays}
 use Rattle.route_engine.proofs.Selecting.{gone_on}
 use Rattle.route_engine.proofs.Trying as w
 use Rattle.route_engine.proofs.engine.Engine.commit_until.Goals as goal

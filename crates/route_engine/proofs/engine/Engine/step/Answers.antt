@@ -1,7 +1,7 @@
 use Rattle.std.proofs.Common.{Option, Some, None, sym, subst, ◌∙◌}
 use Rattle.std.specs.Prelude.{IfOk, IfErr}
-use Rattle.route_engine.specs.Transactions.{GivesAt, IsRefusedBy}
-use Rattle.route_engine.specs.Pendings.{OpenView, IsOf}
+use Rattle.shard_calls.specs.Transactions.{GivesAt, IsRefusedBy}
+use Rattle.shard_calls.specs.Pendings.{OpenView, IsOf}
 use Rattle.route_engine.specs.inner.Pendings.{Leads}
 use Rattle.route_engine.proofs.engine.Engine.step.Goals as goal
 

@@ -1,4 +1,4 @@
-use Rattle.session.proofs.Conversations.{whole_end, is_end}
+use Rattle.session_replies.proofs.Conversations.{whole_end, is_end}
 use Rattle.session.proofs.session_core.Core.end_of_input.Goals as goal
 
 pub returns-in-None-clause-whole : goal.returns-in-None-clause-whole

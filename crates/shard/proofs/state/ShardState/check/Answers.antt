@@ -1,8 +1,8 @@
 use Rattle.std.proofs.Common.{◌≡◌, true, false, List, ap, sym, ◌∙◌}
 use Rattle.std.proofs.lemmas.Bool.{false≢true}
 use Rattle.shard_run.specs.declared.Entry.{Entry}
-use Rattle.shard.specs.Transactions.{is_conflict}
-use Rattle.shard.proofs.Looks.{clear_seen, conflict_seen, moved_seen}
+use Rattle.shard_contents.specs.Transactions.{is_conflict}
+use Rattle.shard_contents.proofs.Looks.{clear_seen, conflict_seen, moved_seen}
 use Rattle.shard.proofs.state.ShardState.check.Goals as goal
 
 pub returns-then-not-takes-clause-err : goal.returns-then-not-takes-clause-err

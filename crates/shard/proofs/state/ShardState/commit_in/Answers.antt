@@ -6,10 +6,10 @@ use Rattle.vschema.specs.declared.changes.RowChange.{RowChange}
 use Rattle.vschema.specs.Database.{Database, SameRows, all_applied}
 use Rattle.shard_run.specs.declared.Entry.{Entry}
 use Rattle.shard_run.specs.Runs.{mode, is_serving}
-use Rattle.shard.specs.declared.limits.Limits.{Limits}
-use Rattle.shard.specs.Shards.{commit_of, seat_view}
-use Rattle.shard.specs.Transactions as t
-use Rattle.shard.proofs.States.{same_contents, names_none, lives_if}
+use Rattle.shard_contents.specs.declared.limits.Limits.{Limits}
+use Rattle.shard_contents.specs.Shards.{commit_of, seat_view}
+use Rattle.shard_contents.specs.Transactions as t
+use Rattle.shard_contents.proofs.States.{same_contents, names_none, lives_if}
 use Rattle.shard.proofs.StepsIn as steps
 use Rattle.shard_run.proofs.Sent.{entry_send}
 use Rattle.shard.proofs.state.ShardState.commit_in.Goals as goal
@@ -76,7 +76,7 @@ pub invariant_of-self : goal.invariant_of-self
 invariant_of-self g c =
     let p = c.prepare_in.ensures in (
       same_contents _ _ c.self.inside.seat c.self.inside.contents c.prepare_in.new.self c.self.invariant.0 p.shard p.rows p.mode p.stored p.steps p.same_limits,
-      subst (λ s. Rattle.shard.specs.Shards.Names g.W.World.opening c.self.inside.seat.seen s c.self.inside.targets) (sym p.shard) c.self.invariant.1,
+      subst (λ s. Rattle.shard_contents.specs.Shards.Names g.W.World.opening c.self.inside.seat.seen s c.self.inside.targets) (sym p.shard) c.self.invariant.1,
     )
 
 pub invariant_of-self-2 : goal.invariant_of-self-2

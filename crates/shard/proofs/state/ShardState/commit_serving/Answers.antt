@@ -6,11 +6,11 @@ use Rattle.journal.specs.Views.{SeatView, PassView}
 use Rattle.shard_run.specs.declared.Entry.{Entry}
 use Rattle.shard_run.specs.declared.Mode.TheVariants.{Serving}
 use Rattle.shard_law.proofs.Typed.{table_there}
-use Rattle.shard.proofs.States.{after_look, names_after_look, same_contents, holds_of, lives_if, names_none}
-use Rattle.shard.specs.Commits.{IsPlaced}
-use Rattle.shard.specs.Shards.{ShardView, Holds, IsAfter, Names, commit_of}
-use Rattle.shard.specs.declared.contents.Contents.{Contents}
-use Rattle.shard.specs.declared.limits.Limits.{Limits}
+use Rattle.shard_contents.proofs.States.{after_look, names_after_look, same_contents, holds_of, lives_if, names_none}
+use Rattle.shard_contents.specs.Commits.{IsPlaced}
+use Rattle.shard_contents.specs.Shards.{ShardView, Holds, IsAfter, Names, commit_of}
+use Rattle.shard_contents.specs.declared.contents.Contents.{Contents}
+use Rattle.shard_contents.specs.declared.limits.Limits.{Limits}
 use Rattle.shard_run.specs.declared.Shard.{Shard}
 use Rattle.shard_run.specs.Legal.{IsOnItsSlot}
 use Rattle.shard_run.specs.Runs.{Opening, Run, mode, is_serving, held_changes}

@@ -1,7 +1,7 @@
 use Rattle.std.proofs.Common.{Bool, List, [], ◌∷◌, ◌++◌, sym, ap, ◌∙◌}
 use Rattle.vschema.specs.declared.changes.RowChange.{RowChange}
 use Rattle.shard_run.specs.Copies.{change_is_copied}
-use Rattle.shard.proofs.CopySteps.{kept_next, dropped_next}
+use Rattle.shard_contents.proofs.CopySteps.{kept_next, dropped_next}
 use Rattle.shard.proofs.state.ShardState.copied_changes.Goals as goal
 use Rattle.shard.proofs.state.ShardState.copied_changes.Goals.{then-change_is_copied+in_ok-copy_change+in_ok-push, else-change_is_copied}
 

@@ -8,12 +8,12 @@ use Rattle.shard_run.specs.declared.Shard.{Shard}
 use Rattle.shard_run.specs.declared.Entry.{Entry}
 use Rattle.shard_run.specs.declared.Event.TheVariants.{Copy}
 use Rattle.shard_run.specs.Runs.{mode, held_changes}
-use Rattle.shard.specs.declared.forward.Step.{Step}
-use Rattle.shard.specs.Shards.{MayFollow, Names}
-use Rattle.shard.proofs.Looks.{following_lives}
-use Rattle.shard.proofs.States.{looked, same_contents, names_none}
-use Rattle.shard.proofs.Follows as f
-use Rattle.shard.proofs.CopySteps as k
+use Rattle.shard_contents.specs.declared.forward.Step.{Step}
+use Rattle.shard_contents.specs.Shards.{MayFollow, Names}
+use Rattle.shard_contents.proofs.Looks.{following_lives}
+use Rattle.shard_contents.proofs.States.{looked, same_contents, names_none}
+use Rattle.shard_contents.proofs.Follows as f
+use Rattle.shard_contents.proofs.CopySteps as k
 use Rattle.shard_run.proofs.Sent.{entry_send}
 use Rattle.shard.proofs.state.ShardState.copy.Goals as goal
 

@@ -5,8 +5,8 @@ use Rattle.vschema.specs.declared.schema.VSchema.{VSchema}
 use Rattle.vschema.specs.declared.changes.RowChange.{RowChange}
 use Rattle.vschema.specs.Database.{changed_table, restricted_changes}
 use Rattle.shard_run.specs.Runs.{stored_on, stored_changes}
-use Rattle.shard.proofs.Legality.{legal_is}
-use Rattle.shard.proofs.CopySteps.{entry_told, stored_there_now}
+use Rattle.shard_contents.proofs.Legality.{legal_is}
+use Rattle.shard_contents.proofs.CopySteps.{entry_told, stored_there_now}
 use Rattle.shard.proofs.state.ShardState.entry_for.Goals as goal
 
 stored : (g : _) (c : goal.After-stored_changes g)

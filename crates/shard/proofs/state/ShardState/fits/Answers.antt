@@ -2,10 +2,10 @@ use Rattle.std.proofs.Common.{ℕ, sym, ap, ◌∙◌}
 use Rattle.std.specs.Prelude.{nat_le}
 use Rattle.shard_run.specs.Runs.{mode, held}
 use Rattle.shard_run.specs.Openings.{row_count}
-use Rattle.shard.specs.declared.limits.Limits.{Limits}
-use Rattle.shard.specs.Shards.{ShardView}
-use Rattle.shard.proofs.Bags.{row_count-same}
-use Rattle.shard.proofs.States.{holds_of}
+use Rattle.shard_contents.specs.declared.limits.Limits.{Limits}
+use Rattle.shard_contents.specs.Shards.{ShardView}
+use Rattle.shard_contents.proofs.Bags.{row_count-same}
+use Rattle.shard_contents.proofs.States.{holds_of}
 use Rattle.shard.proofs.state.ShardState.fits.Goals as goal
 
 pub returns : goal.returns

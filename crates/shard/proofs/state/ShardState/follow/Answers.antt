@@ -8,13 +8,13 @@ use Rattle.shard_run.specs.declared.Shard.{Shard}
 use Rattle.shard_run.specs.declared.Entry.{Entry}
 use Rattle.shard_run.specs.declared.Event.TheVariants.{Follow}
 use Rattle.shard_run.specs.Runs.{mode}
-use Rattle.shard.specs.declared.limits.Limits.{Limits}
-use Rattle.shard.specs.declared.forward.Step.{Step}
-use Rattle.shard.specs.declared.forward.Step.TheVariants.{Followed}
-use Rattle.shard.specs.Shards.{MayFollow, Names}
-use Rattle.shard.proofs.Looks.{following_lives}
-use Rattle.shard.proofs.States.{looked, same_contents, names_none}
-use Rattle.shard.proofs.Follows as f
+use Rattle.shard_contents.specs.declared.limits.Limits.{Limits}
+use Rattle.shard_contents.specs.declared.forward.Step.{Step}
+use Rattle.shard_contents.specs.declared.forward.Step.TheVariants.{Followed}
+use Rattle.shard_contents.specs.Shards.{MayFollow, Names}
+use Rattle.shard_contents.proofs.Looks.{following_lives}
+use Rattle.shard_contents.proofs.States.{looked, same_contents, names_none}
+use Rattle.shard_contents.proofs.Follows as f
 use Rattle.shard_run.proofs.Sent.{entry_send}
 use Rattle.shard.proofs.state.ShardState.follow.Goals as goal
 use Rattle.shard.proofs.state.ShardState.follow.Goals.{then-entries-ge-MOST_ENTRIES-via-then-entries-ge-MOST_ENTRIES, then-entries-ge-MOST_ENTRIES-via-else-entries-ge-MOST_ENTRIES+then-len-self}

@@ -1,7 +1,7 @@
 use Rattle.std.proofs.Common.{sym, ap, ◌∙◌}
 use Rattle.std.specs.List.{list_any}
-use Rattle.shard.specs.inner.Progress.{is_last_copy_of}
-use Rattle.shard.proofs.Progress.{copied_told, any_at, take_whole}
+use Rattle.shard_contents.specs.inner.Progress.{is_last_copy_of}
+use Rattle.shard_contents.proofs.Progress.{copied_told, any_at, take_whole}
 use Rattle.shard.proofs.state.ShardState.has_copied.Goals as goal
 
 pub returns-then-is_last_copy_of : goal.returns-then-is_last_copy_of

@@ -1,6 +1,6 @@
 use Rattle.std.proofs.Common.{◌≡◌, false, take}
 use Rattle.std.specs.List.{list_any}
-use Rattle.shard.specs.inner.Progress.{is_last_copy_of}
+use Rattle.shard_contents.specs.inner.Progress.{is_last_copy_of}
 use Rattle.shard.proofs.state.ShardState.has_copied.Given as goal
 
 -- none so far

@@ -3,8 +3,8 @@ use Rattle.std.specs.Prelude.{option_copied}
 use Rattle.vschema.specs.declared.schema.Table.{Table}
 use Rattle.vschema.specs.declared.schema.VSchema.{VSchema}
 use Rattle.shard_run.specs.Copies.{table_at}
-use Rattle.shard.specs.Copying.{is_reached}
-use Rattle.shard.proofs.CopySteps.{copied_all, copied_as, table_is}
+use Rattle.shard_contents.specs.Copying.{is_reached}
+use Rattle.shard_contents.proofs.CopySteps.{copied_all, copied_as, table_is}
 use Rattle.shard.proofs.state.ShardState.is_copied.Goals as goal
 
 pub returns-then-has_copied : goal.returns-then-has_copied

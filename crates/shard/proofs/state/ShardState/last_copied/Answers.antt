@@ -4,13 +4,13 @@ use Rattle.std.proofs.lemmas.List.{take_more}
 use Rattle.vt_value.specs.Values.{Row}
 use Rattle.shard_run.specs.Copies.{table_at, has_copied_all}
 use Rattle.shard_law.specs.Law.{rows_copied}
-use Rattle.shard.specs.Progress.{last_row}
-use Rattle.shard.specs.Copying.{is_reached}
-use Rattle.shard.specs.inner.Rowed.{row_of}
-use Rattle.shard.specs.declared.forward.Step.{Step}
-use Rattle.shard.proofs.Legality.{legal_is}
-use Rattle.shard.proofs.Progress.{take_whole}
-use Rattle.shard.proofs.CopySteps.{later, row_last, row_last-push, row_told, copied_tells}
+use Rattle.shard_contents.specs.Progress.{last_row}
+use Rattle.shard_contents.specs.Copying.{is_reached}
+use Rattle.shard_contents.specs.inner.Rowed.{row_of}
+use Rattle.shard_contents.specs.declared.forward.Step.{Step}
+use Rattle.shard_contents.proofs.Legality.{legal_is}
+use Rattle.shard_contents.proofs.Progress.{take_whole}
+use Rattle.shard_contents.proofs.CopySteps.{later, row_last, row_last-push, row_told, copied_tells}
 use Rattle.shard.proofs.state.ShardState.last_copied.Goals as goal
 
 -- what the first `end` steps tell, of which this one is the last

@@ -1,5 +1,5 @@
 use Rattle.std.proofs.Common.{◌≡◌, ◌≤◌, None, take, length}
-use Rattle.shard.proofs.CopySteps.{row_last}
+use Rattle.shard_contents.proofs.CopySteps.{row_last}
 use Rattle.shard.proofs.state.ShardState.last_copied.Given as goal
 
 -- none of those from `end` on copied a row of the table from the source

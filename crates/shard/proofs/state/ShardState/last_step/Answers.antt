@@ -2,10 +2,10 @@ use Rattle.std.proofs.Common.{◌≡◌, ◌==◌, ◌+◌, ◌-◌, ◌<◌, �
 use Rattle.std.specs.Prelude.{if◌then◌else◌}
 use Rattle.std.proofs.lemmas.Bool.{eq-eqb, ne_eqb}
 use Rattle.std.proofs.lemmas.List.{take_more}
-use Rattle.shard.specs.declared.forward.Step.{Step}
-use Rattle.shard.specs.Progress.{behind}
-use Rattle.shard.specs.inner.Progress.{source_of}
-use Rattle.shard.proofs.Progress.{position_told, behind_last, behind_last-push, take_whole}
+use Rattle.shard_contents.specs.declared.forward.Step.{Step}
+use Rattle.shard_contents.specs.Progress.{behind}
+use Rattle.shard_contents.specs.inner.Progress.{source_of}
+use Rattle.shard_contents.proofs.Progress.{position_told, behind_last, behind_last-push, take_whole}
 use Rattle.shard.proofs.state.ShardState.last_step.Goals as goal
 
 -- what the first `end` steps tell, of which this one is the last

@@ -1,5 +1,5 @@
 use Rattle.std.proofs.Common.{◌≡◌, ◌≤◌, None, take, length}
-use Rattle.shard.proofs.Progress.{behind_last}
+use Rattle.shard_contents.proofs.Progress.{behind_last}
 use Rattle.shard.proofs.state.ShardState.last_step.Given as goal
 
 -- none of those from `end` on is with the source

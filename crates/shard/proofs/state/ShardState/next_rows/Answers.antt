@@ -1,7 +1,7 @@
 use Rattle.std.proofs.Common.{sym, ap, ◌∙◌}
 use Rattle.shard_run.specs.Copies.{table_at}
-use Rattle.shard.specs.Copying.{is_reached}
-use Rattle.shard.proofs.CopySteps.{copied_as}
+use Rattle.shard_contents.specs.Copying.{is_reached}
+use Rattle.shard_contents.proofs.CopySteps.{copied_as}
 use Rattle.std.specs.Prelude.{option_copied}
 use Rattle.shard.proofs.state.ShardState.next_rows.Goals as goal
 

@@ -2,7 +2,7 @@ use Rattle.std.proofs.Common.{◌≡◌, ◌+◌, ◌<◌, Some, length, not, �
 use Rattle.std.specs.Prelude.{IfSome}
 use Rattle.vschema.specs.declared.schema.VSchema.{VSchema}
 use Rattle.shard_run.specs.Copies.{table_at, has_copied_all}
-use Rattle.shard.specs.inner.Rowed.{first_named}
+use Rattle.shard_contents.specs.inner.Rowed.{first_named}
 use Rattle.shard.proofs.NextTables as next
 use Rattle.shard.proofs.state.ShardState.next_table.Goals as goal
 use Rattle.shard.proofs.state.ShardState.next_table.Goals.{then-is_unfinished, else-is_unfinished}

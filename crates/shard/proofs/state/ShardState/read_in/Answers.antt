@@ -5,9 +5,9 @@ use Rattle.vschema.specs.Database.{rows_of, all_applied}
 use Rattle.sql_eval.specs.Groups.{CanBeSummed}
 use Rattle.sql_eval.specs.Queries.{IsAnswer}
 use Rattle.shard_run.specs.Runs.{stored_on}
-use Rattle.shard.specs.Shards.{seat_view}
-use Rattle.shard.specs.Transactions.{touched_with, PendingView}
-use Rattle.shard.specs.Transactions as t
+use Rattle.shard_contents.specs.Shards.{seat_view}
+use Rattle.shard_contents.specs.Transactions.{touched_with, PendingView}
+use Rattle.shard_contents.specs.Transactions as t
 use Rattle.shard.proofs.HeldRows.{length-of_table}
 use Rattle.shard.proofs.LooksIn as l
 use Rattle.shard.proofs.state.ShardState.read_in.Goals as goal

@@ -5,12 +5,12 @@ use Rattle.vschema.specs.Database.{rows_of}
 use Rattle.journal.specs.Runs.{IsLegal}
 use Rattle.shard_run.specs.Copies.{table_at}
 use Rattle.shard_run.specs.Runs.{mode, is_serving, stored_on}
-use Rattle.shard.specs.Shards.{ShardView, MayFollow}
-use Rattle.shard.specs.Copying.{IsCopyFor}
-use Rattle.shard.proofs.Legality.{legal_is}
-use Rattle.shard.proofs.States.{holds_of, lives_if}
-use Rattle.shard.proofs.FirstRows.{first_of}
-use Rattle.shard.proofs.CopySteps.{copy_for, first_as, table_is}
+use Rattle.shard_contents.specs.Shards.{ShardView, MayFollow}
+use Rattle.shard_contents.specs.Copying.{IsCopyFor}
+use Rattle.shard_contents.proofs.Legality.{legal_is}
+use Rattle.shard_contents.proofs.States.{holds_of, lives_if}
+use Rattle.shard_contents.proofs.FirstRows.{first_of}
+use Rattle.shard_contents.proofs.CopySteps.{copy_for, first_as, table_is}
 use Rattle.shard.proofs.state.ShardState.rows_to_copy.Goals as goal
 
 pub behind-requires : goal.behind-requires

@@ -4,8 +4,8 @@ use Rattle.vt_value.specs.declared.refusal.Refusal.TheVariants.{OutOfMemory, Dup
 use Rattle.vschema.specs.declared.changes.Write.{Write}
 use Rattle.vschema.specs.Database.{all_applied}
 use Rattle.sql_eval.specs.Writes.{written_table, changes_of}
-use Rattle.shard.specs.Transactions.{PendingView, IsStopped, IsWriteRefusal, HasWrittenIn}
-use Rattle.shard.specs.Transactions as t
+use Rattle.shard_contents.specs.Transactions.{PendingView, IsStopped, IsWriteRefusal, HasWrittenIn}
+use Rattle.shard_contents.specs.Transactions as t
 use Rattle.shard.proofs.LooksIn as l
 use Rattle.shard.proofs.state.ShardState.write_in.Goals as goal
 

@@ -3,8 +3,8 @@ use Rattle.std.specs.Io.KnownBytes.{Appends}
 use Rattle.journal.specs.Views.{PassView}
 use Rattle.shard_run.specs.declared.Entry.{Entry}
 use Rattle.shard_run.specs.Runs.{Run}
-use Rattle.shard.specs.declared.limits.Limits.{Limits}
-use Rattle.route_engine.specs.Alone.{NoCommits}
+use Rattle.shard_contents.specs.declared.limits.Limits.{Limits}
+use Rattle.shard_calls.specs.Alone.{NoCommits}
 use Rattle.administration.specs.Told.{IsTold}
 use Rattle.vtgate_script.specs.inner.UnderWay.{KeptSession, KeptProgress}
 use Rattle.vtgate_script.proofs.Printing.{on_ok}

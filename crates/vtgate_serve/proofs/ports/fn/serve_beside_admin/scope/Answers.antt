@@ -12,7 +12,8 @@ use Rattle.std.specs.contracts.alloc.Global as heap
 use Rattle.std.proofs.alloc.Global.TheSendSync as sent_heap
 use Rattle.std.specs.contracts.sync.atomic.AtomicU64 as atomic
 use Rattle.route_engine.specs.contracts.engine.Engine as engine
-use Rattle.route_engine.proofs.Sent.{captures_send, engine_sync}
+use Rattle.shard_calls.proofs.Sent.{captures_send}
+use Rattle.route_engine.proofs.Shared.{engine_sync}
 use Rattle.vtgate_serve.specs.contracts.connection.Welcome as welcome
 use Rattle.vtgate_serve.specs.contracts.entrance.Acceptor as acceptor
 use Rattle.vtgate_serve.proofs.connection.Welcome.TheSendSync as sent_welcome

@@ -1,0 +1,242 @@
+-- Replies to one payload, and to the payloads behind it.
+use Rattle.std.proofs.Common.{◌≡◌, ℕ, Bool, refl, true, false, ◌==◌, List, [], ◌∷◌, ◌++◌, Option, Some, None, sym, ap, subst, ◌∙◌, append_assoc, eq-eqb, ◌⊎◌, inl, inr}
+use Rattle.std.proofs.lemmas.List.{append-nil}
+use Rattle.vt_value.specs.declared.refusal.Refusal.TheVariants.{OutOfMemory, PacketsOutOfOrder, UnknownCommand, UnknownKeyspace}
+use Rattle.mysql_packet.specs.declared.framer.Payload.{Payload}
+use Rattle.mysql_packet.specs.Frames.{frame}
+use Rattle.mysql_message.specs.Messages.{quit, init_db, query, ping, command_of, ok_payload, err_payload}
+use Rattle.resultset.specs.declared.Outcome.{Outcome}
+use Rattle.resultset.specs.declared.Outcome.TheVariants.{Refused, Rows}
+use Rattle.resultset.specs.declared.ResultSet.{ResultSet}
+use Rattle.vt_value.specs.Values.{Row}
+use Rattle.shard_calls.specs.declared.reply.Reply.{Reply}
+use Rattle.session_replies.specs.Columns.{AreColumns}
+use Rattle.resultset.specs.Encoding.{encoded}
+use Rattle.shard_run.specs.Runs.{Opening}
+use Rattle.shard_calls.specs.declared.reply.Selected.{Selected}
+use Rattle.shard_contents.specs.declared.limits.Limits.{Limits}
+use Rattle.shard_calls.specs.declared.reply.Answer.{Answer}
+use Rattle.shard_calls.specs.declared.reply.Answer.TheVariants as answer
+use Rattle.journal.specs.Views.{PassView}
+use Rattle.shard_run.specs.declared.Entry.{Entry}
+use Rattle.shard_calls.specs.Transactions.{Transaction, IsReplyTo}
+use Rattle.shard_calls.specs.Pendings.{OpenView, Stands}
+use Rattle.shard_calls.specs.Pendings as stands
+use Rattle.vschema.specs.declared.schema.VSchema.{VSchema}
+use Rattle.session_replies.specs.declared.end.End.{End}
+use Rattle.session_replies.specs.declared.end.End.TheVariants.{Quit, Broken}
+use Rattle.session_replies.specs.declared.standing.Phase.{Phase}
+use Rattle.session_replies.specs.declared.standing.Phase.TheVariants.{Commands}
+use Rattle.session_replies.specs.declared.standing.Standing.{Standing}
+use Rattle.session_replies.specs.declared.standing.Standing.TheVariants.{New, At, Ended}
+use Rattle.session_replies.specs.Standings.{first_number}
+use Rattle.session_replies.specs.Outcomes.{PassAndTransaction, IsKept, Means, Shows, HasRows, status_with, terms_of}
+use Rattle.session_replies.specs.inner.Outcomes.{LeadsKept, IsRows}
+use Rattle.session_replies.specs.Outcomes as q
+use Rattle.session_replies.specs.Packets.{refusal_bytes, reply_number}
+use Rattle.std.specs.Io.KnownBytes.{Appends}
+use Rattle.mysql_handshake.specs.Native.{is_right}
+use Rattle.vschema.specs.declared.schema.Keyspace.{Keyspace}
+use Rattle.session_replies.specs.declared.standing.Login.{Login}
+use Rattle.session_replies.specs.Logins.{Admits, LogsIn, has_keyspace, login_of}
+use Rattle.session_replies.specs.Logins as l
+use Rattle.session_replies.specs.declared.hello.Hello.{Hello}
+use Rattle.session_replies.proofs.LoginLemmas.{one_login}
+use Rattle.session_replies.specs.Talk.{Terms, AnswersPayload, Replies, Conversation, set_end_of}
+use Rattle.session_replies.specs.Talk as t
+
+admits_goes : (status number : ℕ) (login : Login) (right : Bool) (out : List ℕ) (b : Standing) → Admits status number login right out b → b ≡ New → ⊥
+admits_goes status number login right _ _ (l.denied wrong) is = cc
+admits_goes status number login right _ _ (l.unknown right' none) is = cc
+admits_goes status number login right _ _ (l.admitted right' known) is = cc
+
+logs_in_goes : (hello : Hello) (keyspaces : List Keyspace) (status : ℕ) (at : Phase) (p : Payload) (out : List ℕ) (b : Standing)
+    → LogsIn hello keyspaces status at p out b → b ≡ New → ⊥
+logs_in_goes hello keyspaces status _ _ _ _ (l.unreadable first none) is = cc
+logs_in_goes hello keyspaces status _ _ _ _ (l.switches r first reads other) is = cc
+logs_in_goes hello keyspaces status _ p _ _ (l.responds {out} {standing} r first reads other a) is =
+    admits_goes status (reply_number p) (login_of hello keyspaces r) (is_right hello.access.stage2 hello.salt r.answer) out standing a is
+logs_in_goes hello keyspaces status _ p _ _ (l.answers {out} {standing} {login} first a) is =
+    admits_goes status (reply_number p) login (is_right hello.access.stage2 hello.salt p.bytes) out standing a is
+
+module _ {S : Type 0} (terms : Terms S) (May : S → List ℕ → Outcome → S → Type 0) where
+  module _ (bits : ℕ) where
+    pub one_ping : (s : S) (p : Payload) (out : List ℕ) → p.first ≡ 0 → command_of p.bytes ≡ Some ping
+        → out ≡ frame (reply_number p) (ok_payload 0 (terms.status s)) → AnswersPayload terms May (Commands bits) s p out (At (Commands bits)) s
+    one_ping s p out first is e = subst (λ (bs : List ℕ). AnswersPayload terms May (Commands bits) s p bs (At (Commands bits)) s) (sym e) (t.pinged (eq-eqb p.first 0 first) is)
+
+    pub one_unknown : (s : S) (p : Payload) (out : List ℕ) → p.first ≡ 0 → command_of p.bytes ≡ None
+        → out ≡ frame (reply_number p) (err_payload UnknownCommand) → AnswersPayload terms May (Commands bits) s p out (At (Commands bits)) s
+    one_unknown s p out first is e = subst (λ (bs : List ℕ). AnswersPayload terms May (Commands bits) s p bs (At (Commands bits)) s) (sym e) (t.unknown (eq-eqb p.first 0 first) is)
+
+    pub one_selected : (s : S) (p : Payload) (out name : List ℕ) → p.first ≡ 0 → command_of p.bytes ≡ Some (init_db name)
+        → (has_keyspace terms.keyspaces name ≡ true → out ≡ frame (reply_number p) (ok_payload 0 (terms.status s)))
+        → (has_keyspace terms.keyspaces name ≡ false → out ≡ frame (reply_number p) (err_payload UnknownKeyspace))
+        → AnswersPayload terms May (Commands bits) s p out (At (Commands bits)) s
+    one_selected s p out name first is known unknown = by_name (has_keyspace terms.keyspaces name) refl
+      where
+        by_name : (b : Bool) → has_keyspace terms.keyspaces name ≡ b → AnswersPayload terms May (Commands bits) s p out (At (Commands bits)) s
+        by_name true e = subst (λ (bs : List ℕ). AnswersPayload terms May (Commands bits) s p bs (At (Commands bits)) s) (sym (known e)) (t.selected name (eq-eqb p.first 0 first) is e)
+        by_name false e =
+            subst (λ (bs : List ℕ). AnswersPayload terms May (Commands bits) s p bs (At (Commands bits)) s) (sym (unknown e)) (t.unknown_keyspace name (eq-eqb p.first 0 first) is e)
+
+    pub one_query : (s now : S) (p : Payload) (out text : List ℕ) (outcome : Outcome) → p.first ≡ 0 → command_of p.bytes ≡ Some (query text)
+        → May s text outcome now → out ≡ encoded (set_end_of bits) outcome (reply_number p) (terms.status now) → AnswersPayload terms May (Commands bits) s p out (At (Commands bits)) now
+    one_query s now p out text outcome first is may e =
+        subst (λ (bs : List ℕ). AnswersPayload terms May (Commands bits) s p bs (At (Commands bits)) now) (sym e) (t.queried text outcome (eq-eqb p.first 0 first) is may)
+
+    pub one_quit : (s : S) (p : Payload) (out : List ℕ) → p.first ≡ 0 → command_of p.bytes ≡ Some quit → out ≡ []
+        → AnswersPayload terms May (Commands bits) s p out (Ended Quit) s
+    one_quit s p out first is e = subst (λ (bs : List ℕ). AnswersPayload terms May (Commands bits) s p bs (Ended Quit) s) (sym e) (t.quits (eq-eqb p.first 0 first) is)
+
+  pub one_out_of_order : (at : Phase) (s : S) (p : Payload) (out : List ℕ) → p.first == first_number at ≡ false → out ≡ refusal_bytes p.first PacketsOutOfOrder
+      → AnswersPayload terms May at s p out (Ended Broken) s
+  one_out_of_order at s p out first e = subst (λ (bs : List ℕ). AnswersPayload terms May at s p bs (Ended Broken) s) (sym e) (t.out_of_order first)
+
+  -- what is written leads to no new session
+  answers_go : (at : Phase) (s now : S) (p : Payload) (out : List ℕ) (b : Standing) → AnswersPayload terms May at s p out b now → b ≡ New → ⊥
+  answers_go _ _ _ _ _ _ (t.out_of_order first) is = cc
+  answers_go at s _ p _ _ (t.logs_in {out} {standing} logs) is = logs_in_goes terms.hello terms.keyspaces (terms.status s) at p out standing logs is
+  answers_go _ _ _ _ _ _ (t.quits first command) is = cc
+  answers_go _ _ _ _ _ _ (t.unknown first command) is = cc
+  answers_go _ _ _ _ _ _ (t.pinged first command) is = cc
+  answers_go _ _ _ _ _ _ (t.selected name first command known) is = cc
+  answers_go _ _ _ _ _ _ (t.unknown_keyspace name first command known) is = cc
+  answers_go _ _ _ _ _ _ (t.queried text outcome first command may) is = cc
+
+  pub never_new : (at : Phase) (s now : S) (p : Payload) (b : Standing) (a c : Option (List ℕ)) → b ≡ New
+      → (out : List ℕ) × Appends a c out × AnswersPayload terms May at s p out b now → ⊥
+  never_new at s now p b a c is said = answers_go at s now p said.0 b said.2 is
+
+  -- what is written for one payload
+  pub one_reply : (at : Phase) (s now : S) (p : Payload) (out : List ℕ) (standing : Standing) → AnswersPayload terms May at s p out standing now
+      → Replies terms May at s (p ∷ []) out standing now
+  one_reply at s now p out (At next) a =
+      subst (λ (bs : List ℕ). Replies terms May at s (p ∷ []) bs (At next) now) (append-nil out) (t.goes a t.none)
+  one_reply at s now p out (Ended end) a = t.ends a
+  one_reply at s now p out New a = absurd (answers_go at s now p out New a refl)
+
+  -- the payloads behind those that are answered
+  pub go_on : (at next : Phase) (s mid now : S) (ps qs : List Payload) (out more : List ℕ) (b standing : Standing) → b ≡ At next
+      → Replies terms May at s ps out b mid → Replies terms May next mid qs more standing now → Replies terms May at s (ps ++ qs) (out ++ more) standing now
+  go_on _ next _ _ now _ qs _ more _ standing is (t.none {at} {s}) rest =
+      let same : next ≡ at = cc in subst (λ (x : Phase). Replies terms May x s qs more standing now) same rest
+  go_on _ next _ _ now _ qs _ more _ standing is (t.goes {at} {next = then} {s} {mid = half} {t = mid} {p} {more = ps} {out} {rest = told} {standing = b} a r) rest =
+      subst (λ (bs : List ℕ). Replies terms May at s (p ∷ ps ++ qs) bs standing now) (sym (append_assoc out told more))
+      (t.goes a (go_on then next half mid now ps qs told more b standing is r rest))
+  go_on _ next _ _ now _ qs _ more _ standing is (t.ends a) rest = absurd (cc)
+
+  pub not_new : (at : Phase) (s now : S) (ps : List Payload) (out : List ℕ) (b : Standing) → b ≡ New → Replies terms May at s ps out b now → ⊥
+  not_new _ _ _ _ _ _ is t.none = cc
+  not_new _ _ _ _ _ _ is (t.goes {next} {mid} {t = now} {more = ps} {rest} {standing = b} a r) = not_new next mid now ps rest b is r
+  not_new _ _ _ _ _ _ is (t.ends a) = cc
+
+  follow : (at : Phase) (b standing : Standing) (s mid now : S) (ps qs : List Payload) (out more : List ℕ) → Conversation terms May b mid qs more standing now
+      → (b' : Standing) → b' ≡ b → Replies terms May at s ps out b' mid → Replies terms May at s (ps ++ qs) (out ++ more) standing now
+  follow at _ _ s _ _ ps _ out _ (t.new {s = mid}) b' is r = absurd (not_new at s mid ps out b' is r)
+  follow at _ _ s _ _ ps qs out _ (t.begun {standing} {s = mid} {t = now} {out = more} t.greets q) b' is r = absurd (not_new at s mid ps out b' is r)
+  follow at _ _ s _ _ ps qs out _ (t.begun {standing} {at = next} {s = mid} {t = now} {out = more} t.goes_on q) b' is r =
+      go_on at next s mid now ps qs out more b' standing is r q
+
+  -- a conversation that goes on
+  pub talk_on : (begin b standing : Standing) (s mid now : S) (ps qs : List Payload) (out more : List ℕ) → Conversation terms May begin s ps out b mid
+      → Conversation terms May b mid qs more standing now → Conversation terms May begin s (ps ++ qs) (out ++ more) standing now
+  talk_on _ _ standing _ _ now _ qs _ more t.new rest = rest
+  talk_on _ _ standing _ _ now _ qs _ more (t.begun {begin} {standing = b} {at} {s} {t = mid} {ps} {front} {out} g r) rest =
+      subst (λ (bs : List ℕ). Conversation terms May begin s (ps ++ qs) bs standing now) (sym (append_assoc front out more))
+      (t.begun g (follow at b standing s mid now ps qs out more rest b refl r))
+
+  -- payloads behind the end are not answered
+  pub stay_ended : (at : Phase) (s now : S) (ps qs : List Payload) (out : List ℕ) (b : Standing) (end : End) → b ≡ Ended end
+      → Replies terms May at s ps out b now → Replies terms May at s (ps ++ qs) out b now
+  stay_ended _ _ _ _ qs _ _ end is t.none = absurd (cc)
+  stay_ended _ _ _ _ qs _ _ end is (t.goes {at} {next} {s} {mid} {t = now} {p} {more = ps} {out} {rest} {standing = b} a r) =
+      t.goes a (stay_ended next mid now ps qs rest b end is r)
+  stay_ended _ _ _ _ qs _ _ end is (t.ends a) = t.ends a
+
+shows_rows : (schema : VSchema) (x : Answer) (outcome : Outcome) → Shows schema x outcome → IsRows outcome → HasRows x
+shows_rows schema _ _ (q.rows columns) rows = tt
+shows_rows schema _ _ q.count rows = absurd rows
+
+-- rows for which there is no memory
+unshown : (o : Opening) (l : Limits) (s : PassAndTransaction) (text : List ℕ) (outcome : Outcome) (now : PassAndTransaction) → Means o l s text outcome now → IsRows outcome
+    → Means o l s text (Refused OutOfMemory) now
+unshown o l s text outcome now (q.answered reply is shows) rows = q.untold reply is (shows_rows o.schema reply.answer outcome shows rows)
+unshown o l s text _ now (q.untold reply is has) rows = absurd rows
+unshown o l s text _ now (q.refused why) rows = absurd rows
+
+-- ---- what is kept
+
+-- the status tells whether a transaction is open
+status_is : (o : Opening) (p : PassView Entry) (kept : Option OpenView) (t : Option Transaction) → Stands o p kept t → status_with kept ≡ status_with t
+status_is o p _ _ stands.closed = refl
+status_is o p _ _ (stands.unbound legal all) = refl
+status_is o p _ _ (stands.bound is) = refl
+
+pub kept_status : (o : Opening) (p : PassView Entry) (kept : Option OpenView) (s : PassAndTransaction) → IsKept o p kept s → status_with kept ≡ status_with s.tx
+kept_status o p kept s is = status_is o p kept s.tx is.1
+
+-- what a statement gives, from whatever was kept
+pub gives : (o : Opening) (p q : PassView Entry) (kept then : Option OpenView) (R : PassAndTransaction → PassAndTransaction → Type 0)
+    → ((t : Option Transaction) → Stands o p kept t
+    → (u : Option Transaction) × R (record { pass = p; tx = t }) (record { pass = q; tx = u }) × Stands o q then u)
+    → LeadsKept o p kept q then R
+gives o p q kept then R said = λ s is.
+    let next = said s.tx is.1 in
+    let whole : record { pass = p; tx = s.tx } ≡ s = ap (λ (x : PassView Entry). record s { pass = x }) (sym is.0) in (
+      record { pass = q; tx = next.0 },
+      (refl, next.2),
+      subst (λ (x : PassAndTransaction). R x (record { pass = q; tx = next.0 })) whole next.1,
+    )
+
+-- a query's outcome, told under the status that is kept then
+pub one_query_or_refusal : (o : Opening) (l : Limits) (hello : Hello) (bits : ℕ) (p q : PassView Entry) (kept then : Option OpenView) (payload : Payload)
+    (out text : List ℕ) (outcome : Outcome) → payload.first ≡ 0 → command_of payload.bytes ≡ Some (query text)
+    → LeadsKept o p kept q then (λ s now. Means o l s text outcome now)
+    → (out ≡ encoded (set_end_of bits) outcome (reply_number payload) (status_with then))
+    ⊎ (IsRows outcome × (out ≡ encoded (set_end_of bits) (Refused OutOfMemory) (reply_number payload) (status_with then)))
+    → LeadsKept o p kept q then (λ s now. AnswersPayload (terms_of o hello) (Means o l) (Commands bits) s payload out (At (Commands bits)) now)
+one_query_or_refusal o l hello bits p q kept then payload out text outcome first is may told = λ s held.
+    let next = may s held in
+    let now = next.0 in
+    let same : status_with then ≡ status_with now.tx = kept_status o q then now next.1 in
+    (now, next.1, by s now same next.2 told)
+  where
+    by : (s now : PassAndTransaction) → status_with then ≡ status_with now.tx → Means o l s text outcome now
+        → (out ≡ encoded (set_end_of bits) outcome (reply_number payload) (status_with then))
+        ⊎ (IsRows outcome × (out ≡ encoded (set_end_of bits) (Refused OutOfMemory) (reply_number payload) (status_with then)))
+        → AnswersPayload (terms_of o hello) (Means o l) (Commands bits) s payload out (At (Commands bits)) now
+    by s now same means (inl e) =
+        one_query (terms_of o hello) (Means o l) bits s now payload out text outcome first is means
+        (e ∙ ap (λ (n : ℕ). encoded (set_end_of bits) outcome (reply_number payload) n) same)
+    by s now same means (inr (rows, e)) =
+        one_query (terms_of o hello) (Means o l) bits s now payload out text (Refused OutOfMemory) first is (unshown o l s text outcome now means rows)
+        (e ∙ ap (λ (n : ℕ). encoded (set_end_of bits) (Refused OutOfMemory) (reply_number payload) n) same)
+
+-- a result set with the columns and rows of an answer
+pub shows : (schema : VSchema) (selected : Selected) (set : ResultSet) → AreColumns schema selected.table selected.items set.columns
+    → set.rows ≡ selected.rows → Shows schema (answer.Rows selected) (Rows set)
+shows schema selected set columns rows =
+    let E : List Row → Type 0 = λ rs. Shows schema (answer.Rows selected) (Rows (record { columns = set.columns; rows = rs })) in
+    subst E (sym rows) (q.rows columns)
+
+-- a reply as its client is told it
+pub replied : (o : Opening) (l : Limits) (s now : PassAndTransaction) (text : List ℕ) (reply : Reply) (outcome : Outcome) (schema : VSchema) → schema ≡ o.schema
+    → Shows schema reply.answer outcome ⊎ (HasRows reply.answer × (outcome ≡ Refused OutOfMemory)) → IsReplyTo o l s text reply now → Means o l s text outcome now
+replied o l s now text reply outcome schema served (inl shows) is =
+    q.answered reply is (subst (λ (v : VSchema). Shows v reply.answer outcome) served shows)
+replied o l s now text reply outcome schema served (inr (rows, full)) is =
+    subst (λ (x : Outcome). Means o l s text x now) (sym full) (q.untold reply is rows)
+
+-- a payload of the connection phase
+pub login_kept : (o : Opening) (l : Limits) (hello : Hello) (keyspaces : List Keyspace) (p : PassView Entry) (kept : Option OpenView) (at then : Phase) (payload : Payload)
+    (status : ℕ) (out : List ℕ) (standing : Standing) → at ≡ then → keyspaces ≡ o.schema.keyspaces → status ≡ status_with kept
+    → LogsIn hello keyspaces status then payload out standing
+    → LeadsKept o p kept p kept (λ s now. AnswersPayload (terms_of o hello) (Means o l) at s payload out standing now)
+login_kept o l hello keyspaces p kept at then payload status out standing is known told logs = λ s held.
+    let status_now : status ≡ status_with s.tx = told ∙ kept_status o p kept s held in (
+      s,
+      held,
+      one_login (terms_of o hello) (Means o l) at then keyspaces s payload out standing is known
+          (subst (λ (n : ℕ). LogsIn hello keyspaces n then payload out standing) status_now logs),
+    )

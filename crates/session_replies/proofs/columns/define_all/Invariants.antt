@@ -1,0 +1,6 @@
+use Rattle.std.proofs.Common.{take}
+use Rattle.session_replies.specs.Columns.{AllDefined}
+use Rattle.session_replies.proofs.columns.define_all.Given as goal
+
+abbrev pub invariant-loop-item : goal.invariant-loop-item
+invariant-loop-item l = AllDefined l.schema l.table (take l.item-index l.wanted) l.columns

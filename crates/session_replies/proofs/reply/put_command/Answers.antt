@@ -1,0 +1,50 @@
+use Rattle.std.proofs.Common.{ℕ, ap, sym, ◌∙◌}
+use Rattle.vt_value.specs.declared.refusal.Refusal.{Refusal}
+use Rattle.mysql_packet.specs.Frames.{frame}
+use Rattle.mysql_message.specs.Messages.{command_of, ok_payload, err_payload}
+use Rattle.session_replies.specs.Packets.{reply_number}
+use Rattle.session_replies.proofs.RepliesLemmas.{kept_status, one_quit, one_unknown, one_ping, one_selected, one_query_or_refusal}
+use Rattle.session_replies.proofs.reply.put_command.Goals as goal
+
+pub returns-in-Ok-Quit-clause-answers : goal.returns-in-Ok-Quit-clause-answers
+returns-in-Ok-Quit-clause-answers g c =
+    let e = rw c.in-Ok-Quit.field-0-is at c.in-Ok-Quit.ensures.command in
+    λ hello s held. (s, held, one_quit _ _ _ s c.args.payload.now _ c.requires.number (sym (e ∙ ap command_of c.as_slice.ensures)) c.requires.empty)
+
+pub returns-in-Err-clause-answers : goal.returns-in-Err-clause-answers
+returns-in-Err-clause-answers g c = λ hello s held. (
+  s,
+  held,
+  one_unknown _ _ _ s c.args.payload.now _ c.requires.number (sym (c.in-Err.ensures.command ∙ ap command_of c.as_slice.ensures))
+      (c.put_refusal.ensures.bytes ∙ ap (λ (r : Refusal). frame (reply_number c.args.payload.now) (err_payload r)) c.in-Err.ensures.err),
+)
+
+pub returns-in-Ok-Ping-clause-answers : goal.returns-in-Ok-Ping-clause-answers
+returns-in-Ok-Ping-clause-answers g c =
+    let e = rw c.in-Ok-Ping.field-0-is at c.in-Ok-Ping.ensures.command in
+    λ hello s held. (
+      s,
+      held,
+      one_ping _ _ _ s c.args.payload.now _ c.requires.number (sym (e ∙ ap command_of c.as_slice.ensures))
+          (c.put_pong.ensures.bytes ∙ ap (λ (n : ℕ). frame (reply_number c.args.payload.now) (ok_payload 0 n)) (c.status_of.ensures ∙ kept_status _ _ _ s held)),
+    )
+
+pub returns-in-Ok-Query-clause-answers : goal.returns-in-Ok-Query-clause-answers
+returns-in-Ok-Query-clause-answers g c =
+    let e = rw c.in-Ok-Query.field-0-is at c.in-Ok-Query.ensures.command in
+    let bytes = rw (c.set_end_of-end.ensures, c.status_of-in-Ok-Query.ensures) at c.put_outcome-rows.ensures.bytes in
+    λ hello. one_query_or_refusal _ _ hello _ _ _ _ _ c.args.payload.now _ _ _ c.requires.number (sym (e ∙ ap command_of c.as_slice.ensures))
+    c.outcome_of-outcome.ensures.means bytes
+
+pub returns-in-Ok-InitDb-clause-answers : goal.returns-in-Ok-InitDb-clause-answers
+returns-in-Ok-InitDb-clause-answers g c =
+    let e = rw c.in-Ok-InitDb.field-0-is at c.in-Ok-InitDb.ensures.command in
+    let known = rw (c.schema.ensures.schema, c.schema.ensures.opening) at c.put_selected.ensures.known in
+    let unknown = rw (c.schema.ensures.schema, c.schema.ensures.opening) at c.put_selected.ensures.unknown in
+    λ hello s held. (
+      s,
+      held,
+      one_selected _ _ _ s c.args.payload.now _ _ c.requires.number (sym (e ∙ ap command_of c.as_slice.ensures))
+          (λ is. known is ∙ ap (λ (n : ℕ). frame (reply_number c.args.payload.now) (ok_payload 0 n)) (c.status_of-in-Ok-InitDb.ensures ∙ kept_status _ _ _ s held))
+          unknown,
+    )

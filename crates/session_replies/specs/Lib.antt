@@ -1,0 +1,10 @@
+pub mod Columns
+pub mod Outcomes
+pub mod Standings
+pub mod Packets
+pub mod Logins
+pub mod Talk
+pub mod Sessions
+pub mod Faults
+pub mod Devices
+pub mod inner

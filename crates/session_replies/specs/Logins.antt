@@ -1,0 +1,62 @@
+-- The connection phase: whom a server lets in, and what it writes for what the client tells of itself.
+use Rattle.std.specs.Prelude.{◌≡◌, ◌==◌, ◌&&◌, not, ℕ, Bool, true, false, List, [], ◌∷◌, Option, Some, None, bytes_eq, bit_and}
+use Rattle.std.specs.List.{list_any}
+use Rattle.vt_value.specs.declared.refusal.Refusal.TheVariants.{AccessDenied, UnknownKeyspace, BadHandshake}
+use Rattle.vschema.specs.declared.schema.Keyspace.{Keyspace}
+use Rattle.mysql_packet.specs.declared.framer.Payload.{Payload}
+use Rattle.mysql_packet.specs.Frames.{frame}
+use Rattle.mysql_message.specs.Messages.{ok_payload, err_payload}
+use Rattle.mysql_handshake.specs.Handshakes.{Answered, IsResponse, announced, plugin_name, auth_switch_payload}
+use Rattle.mysql_handshake.specs.Native.{is_right}
+use Rattle.session_replies.specs.declared.end.End.TheVariants.{Denied}
+use Rattle.session_replies.specs.declared.hello.Hello.{Hello}
+use Rattle.session_replies.specs.declared.standing.Login.{Login}
+use Rattle.session_replies.specs.declared.standing.Phase.{Phase}
+use Rattle.session_replies.specs.declared.standing.Phase.TheVariants.{Response, Switch, Commands}
+use Rattle.session_replies.specs.declared.standing.Standing.{Standing}
+use Rattle.session_replies.specs.declared.standing.Standing.TheVariants.{At, Ended}
+use Rattle.session_replies.specs.Packets.{reply_number}
+
+abbrev pub has_keyspace : List Keyspace → List ℕ → Bool
+has_keyspace keyspaces name = list_any (λ k. bytes_eq k.name name) keyspaces
+
+-- whether the database that a client names is a keyspace; none and an empty name ask for none
+abbrev pub is_known : List Keyspace → Option (List ℕ) → Bool
+is_known keyspaces None = true
+is_known keyspaces (Some []) = true
+is_known keyspaces (Some (b ∷ name)) = has_keyspace keyspaces (b ∷ name)
+
+-- whether a client answered by another plugin than `mysql_native_password`
+abbrev pub is_other_plugin : Option (List ℕ) → Bool
+is_other_plugin None = false
+is_other_plugin (Some name) = not (bytes_eq name plugin_name)
+
+-- what is kept of a client's response: the capabilities that both sides set, and whether its user and its database are right
+abbrev pub login_of : Hello → List Keyspace → Answered → Login
+login_of hello keyspaces r = record {
+  capabilities = bit_and r.capabilities announced;
+  is_user = bytes_eq r.user hello.access.user;
+  is_database = is_known keyspaces r.database;
+}
+
+-- What is written for a client whose answer to the salt is right or not. User and answer are looked at before the database.
+pub data Admits (status number : ℕ) (login : Login) (right : Bool) : List ℕ → Standing → Type 0 where
+  denied : (login.is_user && right) ≡ false → Admits status number login right (frame number (err_payload AccessDenied)) (Ended Denied)
+  unknown : (login.is_user && right) ≡ true → login.is_database ≡ false
+      → Admits status number login right (frame number (err_payload UnknownKeyspace)) (Ended Denied)
+  admitted : (login.is_user && right) ≡ true → login.is_database ≡ true
+      → Admits status number login right (frame number (ok_payload 0 status)) (At (Commands login.capabilities))
+
+-- What is written for a payload of the connection phase: the client's response to the greeting, which is numbered 1, and, where that came
+-- by another plugin, its answer to the request to switch, numbered 3.
+pub data LogsIn (hello : Hello) (keyspaces : List Keyspace) (status : ℕ) : Phase → Payload → List ℕ → Standing → Type 0 where
+  unreadable : {p : Payload} → p.first == 1 ≡ true → ((r : Answered) → IsResponse p.bytes r → ⊥)
+      → LogsIn hello keyspaces status Response p (frame (reply_number p) (err_payload BadHandshake)) (Ended Denied)
+  switches : {p : Payload} (r : Answered) → p.first == 1 ≡ true → IsResponse p.bytes r → is_other_plugin r.plugin ≡ true
+      → LogsIn hello keyspaces status Response p (frame (reply_number p) (auth_switch_payload hello.salt)) (At (Switch (login_of hello keyspaces r)))
+  responds : {p : Payload} {out : List ℕ} {standing : Standing} (r : Answered) → p.first == 1 ≡ true → IsResponse p.bytes r → is_other_plugin r.plugin ≡ false
+      → Admits status (reply_number p) (login_of hello keyspaces r) (is_right hello.access.stage2 hello.salt r.answer) out standing
+      → LogsIn hello keyspaces status Response p out standing
+  answers : {p : Payload} {out : List ℕ} {standing : Standing} {login : Login} → p.first == 3 ≡ true
+      → Admits status (reply_number p) login (is_right hello.access.stage2 hello.salt p.bytes) out standing
+      → LogsIn hello keyspaces status (Switch login) p out standing

@@ -1,0 +1,108 @@
+-- A conversation of the MySQL client/server protocol: what the server writes for what it reads.
+use Rattle.std.specs.Prelude.{◌≡◌, ℕ, true, false, ◌==◌, List, [], ◌∷◌, ◌++◌, Some, None, if◌then◌else◌}
+use Rattle.vt_value.specs.declared.refusal.Refusal.TheVariants.{PacketsOutOfOrder, UnknownCommand, UnknownKeyspace}
+use Rattle.mysql_packet.specs.declared.framer.Payload.{Payload}
+use Rattle.mysql_packet.specs.declared.framer.Fault.{Fault}
+use Rattle.mysql_packet.specs.Frames.{frame, Splits, IsRefusedAfter}
+use Rattle.mysql_message.specs.Messages.{quit, init_db, query, ping, command_of, ok_payload, err_payload}
+use Rattle.resultset.specs.declared.Outcome.{Outcome}
+use Rattle.resultset.specs.declared.SetEnd.{SetEnd}
+use Rattle.resultset.specs.declared.SetEnd.TheVariants.{EofPackets, OkPacket}
+use Rattle.resultset.specs.Encoding.{encoded}
+use Rattle.mysql_handshake.specs.Handshakes.{is_set, deprecate_eof, greeting_payload}
+use Rattle.vschema.specs.declared.schema.Keyspace.{Keyspace}
+use Rattle.session_replies.specs.declared.hello.Hello.{Hello}
+use Rattle.session_replies.specs.declared.end.End.{End}
+use Rattle.session_replies.specs.declared.end.End.TheVariants.{Quit, Closed, Truncated, Broken, Denied}
+use Rattle.session_replies.specs.declared.standing.Phase.{Phase}
+use Rattle.session_replies.specs.declared.standing.Phase.TheVariants.{Response, Commands}
+use Rattle.session_replies.specs.declared.standing.Standing.{Standing}
+use Rattle.session_replies.specs.declared.standing.Standing.TheVariants.{New, At, Ended}
+use Rattle.session_replies.specs.Standings.{first_number}
+use Rattle.session_replies.specs.Packets.{refusal_bytes, reply_number}
+use Rattle.session_replies.specs.Logins.{LogsIn, has_keyspace}
+
+-- What holds in a conversation whatever is asked: the greeting and whom it lets in, the keyspaces that a client may use, and the status
+-- flags of a reply, by what the session has seen.
+pub record Terms (S : Type 0) : Type 0 where
+  pub hello : Hello
+  pub keyspaces : List Keyspace
+  pub status : S → ℕ
+
+-- how the parts of a result set end, by the capabilities that both sides set
+abbrev pub set_end_of : ℕ → SetEnd
+set_end_of bits = if is_set deprecate_eof bits then OkPacket else EofPackets
+
+-- What is written for one payload in a phase, and how the session then stands. A payload whose first number is another than the phase
+-- begins with is out of order, which ends the session, as COM_QUIT does. A client may use each keyspace, which changes nothing. A query has
+-- an outcome that its text may have, and that leads from what the session had seen to what it then has seen.
+pub data AnswersPayload {S : Type 0} (terms : Terms S) (May : S → List ℕ → Outcome → S → Type 0) : Phase → S → Payload → List ℕ → Standing → S → Type 0 where
+  out_of_order : {at : Phase} {s : S} {p : Payload} → p.first == first_number at ≡ false
+      → AnswersPayload terms May at s p (refusal_bytes p.first PacketsOutOfOrder) (Ended Broken) s
+  logs_in : {at : Phase} {s : S} {p : Payload} {out : List ℕ} {standing : Standing} → LogsIn terms.hello terms.keyspaces (terms.status s) at p out standing
+      → AnswersPayload terms May at s p out standing s
+  quits : {bits : ℕ} {s : S} {p : Payload} → p.first == 0 ≡ true → command_of p.bytes ≡ Some quit
+      → AnswersPayload terms May (Commands bits) s p [] (Ended Quit) s
+  unknown : {bits : ℕ} {s : S} {p : Payload} → p.first == 0 ≡ true → command_of p.bytes ≡ None
+      → AnswersPayload terms May (Commands bits) s p (frame (reply_number p) (err_payload UnknownCommand)) (At (Commands bits)) s
+  pinged : {bits : ℕ} {s : S} {p : Payload} → p.first == 0 ≡ true → command_of p.bytes ≡ Some ping
+      → AnswersPayload terms May (Commands bits) s p (frame (reply_number p) (ok_payload 0 (terms.status s))) (At (Commands bits)) s
+  selected : {bits : ℕ} {s : S} {p : Payload} (name : List ℕ) → p.first == 0 ≡ true → command_of p.bytes ≡ Some (init_db name)
+      → has_keyspace terms.keyspaces name ≡ true
+      → AnswersPayload terms May (Commands bits) s p (frame (reply_number p) (ok_payload 0 (terms.status s))) (At (Commands bits)) s
+  unknown_keyspace : {bits : ℕ} {s : S} {p : Payload} (name : List ℕ) → p.first == 0 ≡ true → command_of p.bytes ≡ Some (init_db name)
+      → has_keyspace terms.keyspaces name ≡ false
+      → AnswersPayload terms May (Commands bits) s p (frame (reply_number p) (err_payload UnknownKeyspace)) (At (Commands bits)) s
+  queried : {bits : ℕ} {s now : S} {p : Payload} (text : List ℕ) (outcome : Outcome)
+      → p.first == 0 ≡ true → command_of p.bytes ≡ Some (query text) → May s text outcome now
+      → AnswersPayload terms May (Commands bits) s p (encoded (set_end_of bits) outcome (reply_number p) (terms.status now)) (At (Commands bits)) now
+
+-- What is written for payloads, one after another, from a phase on. Payloads behind the end are not answered.
+pub data Replies {S : Type 0} (terms : Terms S) (May : S → List ℕ → Outcome → S → Type 0) : Phase → S → List Payload → List ℕ → Standing → S → Type 0 where
+  none : {at : Phase} {s : S} → Replies terms May at s [] [] (At at) s
+  goes : {at next : Phase} {s mid t : S} {p : Payload} {more : List Payload} {out rest : List ℕ} {standing : Standing}
+      → AnswersPayload terms May at s p out (At next) mid → Replies terms May next mid more rest standing t
+      → Replies terms May at s (p ∷ more) (out ++ rest) standing t
+  ends : {at : Phase} {s t : S} {p : Payload} {more : List Payload} {out : List ℕ} {end : End}
+      → AnswersPayload terms May at s p out (Ended end) t → Replies terms May at s (p ∷ more) out (Ended end) t
+
+-- how a session begins: one that is new with the greeting
+pub data Greets (hello : Hello) : Standing → List ℕ → Phase → Type 0 where
+  greets : Greets hello New (frame 0 (greeting_payload hello.id hello.salt)) Response
+  goes_on : {at : Phase} → Greets hello (At at) [] at
+
+-- What is written from some standing on. A session that is new greets its client before anything else.
+pub data Conversation {S : Type 0} (terms : Terms S) (May : S → List ℕ → Outcome → S → Type 0) : Standing → S → List Payload → List ℕ → Standing → S → Type 0 where
+  new : {s : S} → Conversation terms May New s [] [] New s
+  begun : {begin standing : Standing} {at : Phase} {s t : S} {ps : List Payload} {front out : List ℕ} → Greets terms.hello begin front at
+      → Replies terms May at s ps out standing t → Conversation terms May begin s ps (front ++ out) standing t
+
+-- The whole conversation over the bytes that were read, from some standing on, and its end. A header that is refused has its ERR packet behind
+-- the replies, and ends it. Where nothing ends it before, the end of the input does: between two payloads, or within one.
+pub data Talk (limit : ℕ) {S : Type 0} (terms : Terms S) (May : S → List ℕ → Outcome → S → Type 0) (begin : Standing) (s : S) : List ℕ → List ℕ → End → S → Type 0 where
+  ended : {bytes out : List ℕ} {end : End} {t : S} (payloads : List Payload) (rest : List ℕ)
+      → Splits limit bytes payloads rest → Conversation terms May begin s payloads out (Ended end) t → Talk limit terms May begin s bytes out end t
+  ended_before : {bytes out : List ℕ} {end : End} {t : S} (payloads : List Payload) (fault : Fault)
+      → IsRefusedAfter limit bytes payloads fault → Conversation terms May begin s payloads out (Ended end) t → Talk limit terms May begin s bytes out end t
+  refused : {bytes out : List ℕ} {at : Phase} {t : S} (payloads : List Payload) (fault : Fault)
+      → IsRefusedAfter limit bytes payloads fault → Conversation terms May begin s payloads out (At at) t
+      → Talk limit terms May begin s bytes (out ++ refusal_bytes fault.number fault.refusal) Broken t
+  closed : {bytes out : List ℕ} {at : Phase} {t : S} (payloads : List Payload)
+      → Splits limit bytes payloads [] → Conversation terms May begin s payloads out (At at) t → Talk limit terms May begin s bytes out Closed t
+  truncated : {bytes out : List ℕ} {at : Phase} {t : S} (payloads : List Payload) (b : ℕ) (rest : List ℕ)
+      → Splits limit bytes payloads (b ∷ rest) → Conversation terms May begin s payloads out (At at) t → Talk limit terms May begin s bytes out Truncated t
+
+-- a command or a fault ended the session, or the end of its input did
+abbrev pub IsByCommand : End → Type 0
+IsByCommand Quit = Unit {0}
+IsByCommand Broken = Unit {0}
+IsByCommand Denied = Unit {0}
+IsByCommand Closed = ⊥
+IsByCommand Truncated = ⊥
+
+abbrev pub IsByInput : End → Type 0
+IsByInput Quit = ⊥
+IsByInput Broken = ⊥
+IsByInput Denied = ⊥
+IsByInput Closed = Unit {0}
+IsByInput Truncated = Unit {0}

@@ -1,0 +1,3 @@
+pub mod Replies
+pub mod Outcomes
+pub mod Sessions

@@ -1,0 +1,240 @@
+ghost use Rattle.std.specs.Prelude.{◌≡◌, ◌+◌, ◌≤◌, ℕ, List, [], None, length, IsSome, IfOk, OnOk, OnErr};
+ghost use Rattle.std.specs.Io.KnownBytes.{Appends};
+ghost use Rattle.std.specs.List.{concat};
+ghost use mathlib.Core.List.{IsPrefix};
+ghost use Rattle.mysql_packet.specs.declared.framer.Payload.{Payload};
+ghost use Rattle.mysql_packet.specs.Frames.{frame};
+ghost use Rattle.mysql_handshake.specs.Handshakes.{greeting_payload};
+ghost use Rattle.session_replies.specs.declared.standing.Phase.{Phase};
+ghost use Rattle.session_replies.specs.declared.standing.Standing.{Standing};
+ghost use Rattle.session_replies.specs.Devices.{AppendsFront, failures_after};
+ghost use Rattle.session_replies.specs.Faults.{IsCutOff};
+ghost use Rattle.shard_calls.specs.Pendings.{IsOf};
+ghost use Rattle.session_replies.specs.Outcomes.{Means, terms_of};
+ghost use Rattle.session_replies.specs.inner.Outcomes.{LeadsKept};
+ghost use Rattle.session_replies.specs.Packets.{refusal_bytes};
+ghost use Rattle.session_replies.specs.Standings.{end_of};
+ghost use Rattle.session_replies.specs.Talk.{AnswersPayload, Greets, Replies};
+ghost use Rattle.session_replies.specs.Sessions.{AnswersFed};
+ghost use Rattle.session_replies.specs.inner.Replies.{reply_bytes};
+
+use crate::devices::{DeviceFailed, Sink};
+use crate::end::End;
+use crate::hello::Hello;
+use crate::reply::{REPLY_ROOM, put_refusal, put_reply};
+use crate::standing::{Phase, Standing};
+use bytes::BytesMut;
+use journal::{Naming, Pass};
+use mysql_handshake::put_greeting;
+use mysql_packet::{Fault, Fed, Payload};
+use resultset::Chunks;
+use route_engine::{Engine, Gate, Tx};
+use shard::{ShardLaw, World};
+use std::alloc::Global;
+use std::sync::Wait;
+use std::thread::Threads;
+use vt_value::Items;
+
+/// Writes the chunks, one after another.
+fn write_chunks<S: Sink>(chunks: &[Items<u8>], sink: &mut S) -> Result<(), DeviceFailed>
+    ensures bytes { OnOk result (Appends (S.taken sink.old) (S.taken sink.new) (concat chunks.now)) }
+    ensures front { OnErr result (AppendsFront (S.taken sink.old) (S.taken sink.new) (concat chunks.now)) }
+    ensures count { S.failures sink.new ≡ failures_after result (S.failures sink.old) }
+{
+    for chunk in chunks {
+        sink.write(chunk.as_slice())?;
+    }
+    Ok(())
+}
+
+/// Writes a reply: its rows in their chunks, or what lies in the buffer.
+fn write_reply<S: Sink>(
+    rows: Option<Chunks>,
+    reply: &[u8],
+    sink: &mut S,
+) -> Result<(), DeviceFailed>
+    ensures bytes { OnOk result (Appends (S.taken sink.old) (S.taken sink.new) (reply_bytes rows reply.now)) }
+    ensures front { OnErr result (AppendsFront (S.taken sink.old) (S.taken sink.new) (reply_bytes rows reply.now)) }
+    ensures count { S.failures sink.new ≡ failures_after result (S.failures sink.old) }
+{
+    match rows {
+        None => sink.write(reply),
+        Some(chunks) => write_chunks(chunks.as_slice(), sink),
+    }
+}
+
+/// Writes what is written for one payload, once it is known whole, and tells how the session then stands.
+fn answer<W: World + Send + Sync, J: Naming + Send + Sync, G: Gate, S: Sink>(
+    rt: &(impl Threads + Wait + Sync),
+    alloc: Global,
+    engine: &Engine<W, J, G>,
+    pass: &mut Pass<ShardLaw<W>, J>,
+    tx: &mut Tx<W, J>,
+    hello: &Hello,
+    phase: Phase,
+    payload: &Payload,
+    reply: &mut BytesMut,
+    sink: &mut S,
+) -> Result<Standing, DeviceFailed>
+    requires room { REPLY_ROOM ≤ length reply.old.items + reply.old.spare }
+    requires session { IsSome pass.old.session }
+    requires tx { IsOf W.opening tx.old pass.old }
+    ensures answers { IfOk result (λ standing. (out : List ℕ) × Appends (S.taken sink.old) (S.taken sink.new) out
+        × LeadsKept W.opening pass.old tx.old pass.new tx.new
+        (λ s now. AnswersPayload (terms_of W.opening hello.now) (Means W.opening W.limits) phase s payload.now out standing now)) }
+    ensures cut { OnErr result ((out : List ℕ) × (standing : Standing) × AppendsFront (S.taken sink.old) (S.taken sink.new) out
+        × LeadsKept W.opening pass.old tx.old pass.new tx.new
+        (λ s now. AnswersPayload (terms_of W.opening hello.now) (Means W.opening W.limits) phase s payload.now out standing now)) }
+    ensures count { S.failures sink.new ≡ failures_after result (S.failures sink.old) }
+    ensures room { REPLY_ROOM ≤ length reply.new.items + reply.new.spare }
+    ensures tx { IsOf W.opening tx.new pass.new }
+    ensures session { pass.new.session ≡ pass.old.session }
+{
+    reply.clear();
+    let (standing, rows) = put_reply(rt, alloc, engine, pass, tx, hello, phase, payload, reply);
+    match write_reply(rows, reply.as_slice(), sink) {
+        Ok(()) => Ok(standing),
+        Err(failed) => Err(failed),
+    }
+}
+
+/// Writes what is written for the payloads from the phase on, until the session ends.
+fn answer_all<W: World + Send + Sync, J: Naming + Send + Sync, G: Gate, S: Sink>(
+    rt: &(impl Threads + Wait + Sync),
+    alloc: Global,
+    engine: &Engine<W, J, G>,
+    pass: &mut Pass<ShardLaw<W>, J>,
+    tx: &mut Tx<W, J>,
+    hello: &Hello,
+    begin: Phase,
+    payloads: &[Payload],
+    reply: &mut BytesMut,
+    sink: &mut S,
+) -> Result<Standing, DeviceFailed>
+    requires room { REPLY_ROOM ≤ length reply.old.items + reply.old.spare }
+    requires session { IsSome pass.old.session }
+    requires tx { IsOf W.opening tx.old pass.old }
+    ensures replies { IfOk result (λ standing. (out : List ℕ) × Appends (S.taken sink.old) (S.taken sink.new) out
+        × LeadsKept W.opening pass.old tx.old pass.new tx.new
+        (λ s now. Replies (terms_of W.opening hello.now) (Means W.opening W.limits) begin s payloads.now out standing now)) }
+    ensures cut { OnErr result ((done : List Payload) × (out : List ℕ) × (standing : Standing) × IsPrefix done payloads.now
+        × AppendsFront (S.taken sink.old) (S.taken sink.new) out
+        × LeadsKept W.opening pass.old tx.old pass.new tx.new
+        (λ s now. Replies (terms_of W.opening hello.now) (Means W.opening W.limits) begin s done out standing now)) }
+    ensures count { S.failures sink.new ≡ failures_after result (S.failures sink.old) }
+    ensures room { REPLY_ROOM ≤ length reply.new.items + reply.new.spare }
+    ensures tx { IsOf W.opening tx.new pass.new }
+    ensures session { pass.new.session ≡ pass.old.session }
+{
+    let mut phase = begin;
+    for payload in payloads {
+        match answer(
+            rt, alloc, engine, pass, tx, hello, phase, payload, reply, sink,
+        )? {
+            Standing::New => unreachable!(),
+            Standing::At(next) => phase = next,
+            Standing::Ended(end) => return Ok(Standing::Ended(end)),
+        }
+    }
+    Ok(Standing::At(phase))
+}
+
+fn put_hello(hello: &Hello, reply: &mut BytesMut)
+    requires empty { reply.old.items ≡ [] }
+    requires room { REPLY_ROOM ≤ reply.old.spare }
+    ensures bytes { reply.new.items ≡ frame 0 (greeting_payload hello.now.id hello.now.salt) }
+    ensures room { REPLY_ROOM ≤ length reply.new.items + reply.new.spare }
+{
+    let _ = put_greeting(hello.id, &hello.salt, reply).unwrap();
+}
+
+fn answer_fault<S: Sink>(
+    fault: Fault,
+    reply: &mut BytesMut,
+    sink: &mut S,
+) -> Result<(), DeviceFailed>
+    requires { REPLY_ROOM ≤ length reply.old.items + reply.old.spare }
+    ensures refusal { OnOk result (Appends (S.taken sink.old) (S.taken sink.new) (refusal_bytes fault.number fault.refusal)) }
+    ensures cut { OnErr result (AppendsFront (S.taken sink.old) (S.taken sink.new) (refusal_bytes fault.number fault.refusal)) }
+    ensures count { S.failures sink.new ≡ failures_after result (S.failures sink.old) }
+    ensures room { REPLY_ROOM ≤ length reply.new.items + reply.new.spare }
+{
+    reply.clear();
+    put_refusal(fault.number.wrapping_add(1), fault.refusal, reply);
+    sink.write(reply.as_slice())
+}
+
+/// Writes the greeting, where the session is new, and tells what the session awaits then.
+fn greet<S: Sink>(
+    hello: &Hello,
+    begin: Standing,
+    reply: &mut BytesMut,
+    sink: &mut S,
+) -> Result<Phase, DeviceFailed>
+    requires room { REPLY_ROOM ≤ length reply.old.items + reply.old.spare }
+    requires open_session { end_of begin ≡ None }
+    ensures greets { IfOk result (λ phase. (front : List ℕ) × Appends (S.taken sink.old) (S.taken sink.new) front × Greets hello.now begin front phase) }
+    ensures cut { OnErr result ((front : List ℕ) × (phase : Phase) × AppendsFront (S.taken sink.old) (S.taken sink.new) front
+        × Greets hello.now begin front phase) }
+    ensures count { S.failures sink.new ≡ failures_after result (S.failures sink.old) }
+    ensures room { REPLY_ROOM ≤ length reply.new.items + reply.new.spare }
+{
+    match begin {
+        Standing::Ended(_) => unreachable!(),
+        Standing::At(phase) => Ok(phase),
+        Standing::New => {
+            reply.clear();
+            put_hello(hello, reply);
+            match sink.write(reply.as_slice()) {
+                Ok(()) => Ok(Phase::Response),
+                Err(failed) => Err(failed),
+            }
+        }
+    }
+}
+
+/// Writes what is written for the payloads that a piece gave, and the refusal of its fault behind them; in a session that is new,
+/// behind the greeting.
+pub fn answer_fed<W: World + Send + Sync, J: Naming + Send + Sync, G: Gate, S: Sink>(
+    rt: &(impl Threads + Wait + Sync),
+    alloc: Global,
+    engine: &Engine<W, J, G>,
+    pass: &mut Pass<ShardLaw<W>, J>,
+    tx: &mut Tx<W, J>,
+    hello: &Hello,
+    begin: Standing,
+    fed: &Fed,
+    reply: &mut BytesMut,
+    sink: &mut S,
+) -> Result<Standing, DeviceFailed>
+    requires room { REPLY_ROOM ≤ length reply.old.items + reply.old.spare }
+    requires session { IsSome pass.old.session }
+    requires tx { IsOf W.opening tx.old pass.old }
+    requires open_session { end_of begin ≡ None }
+    ensures answers { IfOk result (λ standing. (out : List ℕ) × Appends (S.taken sink.old) (S.taken sink.new) out
+        × LeadsKept W.opening pass.old tx.old pass.new tx.new
+        (λ s now. AnswersFed (terms_of W.opening hello.now) (Means W.opening W.limits) begin s fed.now out standing now)) }
+    ensures cut { OnErr result ((written : List ℕ) × Appends (S.taken sink.old) (S.taken sink.new) written
+        × LeadsKept W.opening pass.old tx.old pass.new tx.new
+        (λ s now. IsCutOff (terms_of W.opening hello.now) (Means W.opening W.limits) begin s fed.now written now)) }
+    ensures count { S.failures sink.new ≡ failures_after result (S.failures sink.old) }
+    ensures room { REPLY_ROOM ≤ length reply.new.items + reply.new.spare }
+    ensures tx { IsOf W.opening tx.new pass.new }
+    ensures session { pass.new.session ≡ pass.old.session }
+{
+    let phase = greet(hello, begin, reply, sink)?;
+    let payloads = fed.payloads.as_slice();
+    match answer_all(
+        rt, alloc, engine, pass, tx, hello, phase, payloads, reply, sink,
+    )? {
+        Standing::New => unreachable!(),
+        Standing::Ended(end) => Ok(Standing::Ended(end)),
+        Standing::At(next) => match fed.fault {
+            None => Ok(Standing::At(next)),
+            Some(fault) => {
+                answer_fault(fault, reply, sink)?;
+                Ok(Standing::Ended(End::Broken))
+            }
+        },
+    }
+}

@@ -1,0 +1,262 @@
+ghost use Rattle.std.specs.Prelude.{◌≡◌, ◌==◌, IfOk, IfErr, slice_index_or};
+ghost use Rattle.std.specs.List.{list_any};
+ghost use Rattle.vschema.specs.Schema.{no_table};
+ghost use Rattle.session_replies.specs.Columns.{shown_kind, base_flags, flags_of, no_keyspace, no_column, column_at, Defines, DefinesAt, named_item, item_kind, item_flags, DefinesAggregate, DefinesItem, AllDefined, AreColumns};
+
+use resultset::{Column as ResultColumn, Kind};
+use sql_tree::{Item, Name, print_item};
+use std::alloc::Global;
+use vschema::{Column, ColumnType, Columns, Table, VSchema};
+use vt_value::{Items, Refusal};
+
+fn kind_of(kind: ColumnType) -> Kind
+    ensures { result ≡ shown_kind kind }
+{
+    match kind {
+        ColumnType::BigInt => Kind::BigInt,
+        ColumnType::BigIntUnsigned => Kind::BigIntUnsigned,
+        ColumnType::VarBinary(most) => Kind::VarBinary(most),
+    }
+}
+
+fn base_flags(kind: ColumnType) -> u16
+    ensures { result ≡ base_flags kind }
+{
+    match kind {
+        ColumnType::BigInt | ColumnType::VarBinary(_) => 128,
+        ColumnType::BigIntUnsigned => 160,
+    }
+}
+
+fn has_place(places: &[usize], place: usize) -> bool
+    ensures { result ≡ list_any (λ key. key == place) places.now }
+{
+    places.iter().any(|key| *key == place)
+}
+
+fn flags_of(table: &Table, place: usize, column: &Column) -> u16
+    ensures { result ≡ flags_of table.now place column.now }
+{
+    let base = base_flags(column.kind);
+    if has_place(table.primary_key.as_slice(), place) {
+        base + 3
+    } else if column.nullable {
+        base
+    } else {
+        base + 1
+    }
+}
+
+fn keyspace_name<'a>(schema: &'a VSchema, table: &Table) -> &'a [u8]
+    ensures { result.now ≡ (slice_index_or schema.now.keyspaces table.now.keyspace no_keyspace).name }
+{
+    match schema.keyspaces.as_slice().get(table.keyspace) {
+        Some(keyspace) => keyspace.name.as_slice(),
+        None => &[],
+    }
+}
+
+fn copy_name(alloc: Global, name: &[u8]) -> Result<Name, Refusal>
+    ensures ok { IfOk result (λ n. n ≡ name.now) }
+    ensures err { IfErr result (λ e. e ≡ Refusal.OutOfMemory) }
+{
+    let copied = Items::from_slice(alloc, name)?;
+    Ok(copied)
+}
+
+fn define(
+    alloc: Global,
+    schema: &VSchema,
+    table: &Table,
+    place: usize,
+    column: &Column,
+) -> Result<ResultColumn, Refusal>
+    ensures ok { IfOk result (Defines schema.now table.now place column.now) }
+    ensures err { IfErr result (λ e. e ≡ Refusal.OutOfMemory) }
+{
+    Ok(ResultColumn {
+        schema: copy_name(alloc, keyspace_name(schema, table))?,
+        table: copy_name(alloc, table.name.as_slice())?,
+        name: copy_name(alloc, column.name.as_slice())?,
+        org_name: copy_name(alloc, column.name.as_slice())?,
+        kind: kind_of(column.kind),
+        flags: flags_of(table, place, column),
+    })
+}
+
+fn missing_column(alloc: Global) -> Column
+    ensures { result ≡ no_column }
+{
+    Column {
+        name: Items::new(alloc),
+        kind: ColumnType::BigInt,
+        nullable: true,
+    }
+}
+
+fn missing_table(alloc: Global) -> Table
+    ensures { result ≡ no_table }
+{
+    Table {
+        name: Items::new(alloc),
+        keyspace: 0,
+        columns: Columns::new(alloc),
+        primary_key: Items::new(alloc),
+        vindex: None,
+    }
+}
+
+fn define_at(
+    alloc: Global,
+    schema: &VSchema,
+    table: &Table,
+    place: usize,
+) -> Result<ResultColumn, Refusal>
+    ensures ok { IfOk result (DefinesAt schema.now table.now place) }
+    ensures err { IfErr result (λ e. e ≡ Refusal.OutOfMemory) }
+{
+    match table.columns.as_slice().get(place) {
+        Some(column) => define(alloc, schema, table, place, column),
+        None => define(alloc, schema, table, place, &missing_column(alloc)),
+    }
+}
+
+fn type_at(table: &Table, place: usize) -> ColumnType
+    ensures { result ≡ (column_at table.now place).kind }
+{
+    match table.columns.as_slice().get(place) {
+        Some(column) => column.kind,
+        None => ColumnType::BigInt,
+    }
+}
+
+fn name_at(alloc: Global, table: &Table, place: usize) -> Result<Name, Refusal>
+    ensures ok { IfOk result (λ n. n ≡ (column_at table.now place).name) }
+    ensures err { IfErr result (λ e. e ≡ Refusal.OutOfMemory) }
+{
+    match table.columns.as_slice().get(place) {
+        Some(column) => copy_name(alloc, column.name.as_slice()),
+        None => Ok(Items::new(alloc)),
+    }
+}
+
+fn named_item(alloc: Global, table: &Table, item: &Item<usize>) -> Result<Item<Name>, Refusal>
+    ensures ok { IfOk result (λ i. i ≡ named_item table.now item.now) }
+    ensures err { IfErr result (λ e. e ≡ Refusal.OutOfMemory) }
+{
+    match item {
+        Item::Column(place) => {
+            let name = name_at(alloc, table, *place)?;
+            Ok(Item::Column(name))
+        }
+        Item::CountRows => Ok(Item::CountRows),
+        Item::Count(place) => {
+            let name = name_at(alloc, table, *place)?;
+            Ok(Item::Count(name))
+        }
+        Item::Sum(place) => {
+            let name = name_at(alloc, table, *place)?;
+            Ok(Item::Sum(name))
+        }
+        Item::Min(place) => {
+            let name = name_at(alloc, table, *place)?;
+            Ok(Item::Min(name))
+        }
+        Item::Max(place) => {
+            let name = name_at(alloc, table, *place)?;
+            Ok(Item::Max(name))
+        }
+    }
+}
+
+fn item_kind(table: &Table, item: &Item<usize>) -> Kind
+    ensures { result ≡ item_kind table.now item.now }
+{
+    match item {
+        Item::CountRows | Item::Count(_) => Kind::Count,
+        Item::Sum(_) => Kind::Sum,
+        Item::Column(place) | Item::Min(place) | Item::Max(place) => kind_of(type_at(
+            table, *place,
+        )),
+    }
+}
+
+fn item_flags(table: &Table, item: &Item<usize>) -> u16
+    ensures { result ≡ item_flags table.now item.now }
+{
+    match item {
+        Item::CountRows | Item::Count(_) => 129,
+        Item::Sum(_) => 128,
+        Item::Column(place) | Item::Min(place) | Item::Max(place) => {
+            base_flags(type_at(table, *place))
+        }
+    }
+}
+
+fn define_aggregate(
+    alloc: Global,
+    table: &Table,
+    item: &Item<usize>,
+) -> Result<ResultColumn, Refusal>
+    ensures ok { IfOk result (DefinesAggregate table.now item.now) }
+    ensures err { IfErr result (λ e. e ≡ Refusal.OutOfMemory) }
+{
+    let named = named_item(alloc, table, item)?;
+    let printed = print_item(alloc, &named)?;
+    Ok(ResultColumn {
+        schema: Items::new(alloc),
+        table: Items::new(alloc),
+        name: Items::from_vec(printed),
+        org_name: Items::new(alloc),
+        kind: item_kind(table, item),
+        flags: item_flags(table, item),
+    })
+}
+
+fn define_item(
+    alloc: Global,
+    schema: &VSchema,
+    table: &Table,
+    item: &Item<usize>,
+) -> Result<ResultColumn, Refusal>
+    ensures ok { IfOk result (DefinesItem schema.now table.now item.now) }
+    ensures err { IfErr result (λ e. e ≡ Refusal.OutOfMemory) }
+{
+    match item {
+        Item::Column(place) => define_at(alloc, schema, table, *place),
+        _ => define_aggregate(alloc, table, item),
+    }
+}
+
+fn define_all(
+    alloc: Global,
+    schema: &VSchema,
+    table: &Table,
+    wanted: &[Item<usize>],
+) -> Result<Items<ResultColumn>, Refusal>
+    ensures ok { IfOk result (AllDefined schema.now table.now wanted.now) }
+    ensures err { IfErr result (λ e. e ≡ Refusal.OutOfMemory) }
+{
+    let mut columns = Items::new(alloc);
+    for item in wanted {
+        let column = define_item(alloc, schema, table, item)?;
+        columns.push(column)?;
+    }
+    Ok(columns)
+}
+
+/// The definitions of the columns that these items of the table at a place of the VSchema are.
+pub fn columns_of(
+    alloc: Global,
+    schema: &VSchema,
+    table: usize,
+    items: &[Item<usize>],
+) -> Result<Items<ResultColumn>, Refusal>
+    ensures ok { IfOk result (AreColumns schema.now table items.now) }
+    ensures err { IfErr result (λ e. e ≡ Refusal.OutOfMemory) }
+{
+    match schema.tables.as_slice().get(table) {
+        Some(table) => define_all(alloc, schema, table, items),
+        None => define_all(alloc, schema, &missing_table(alloc), items),
+    }
+}

@@ -1,0 +1,324 @@
+ghost use Rattle.std.specs.Prelude.{◌≡◌, ◌+◌, ◌≤◌, ◌⊎◌, true, false, [], length, IsSome, IfOk, IfErr, Option};
+ghost use Rattle.std.specs.List.{concat};
+ghost use Rattle.shard_calls.specs.Pendings.{IsOf};
+ghost use Rattle.mysql_packet.specs.Frames.{frame};
+ghost use Rattle.mysql_message.specs.Messages.{ok_payload, err_payload};
+ghost use Rattle.resultset.specs.declared.Outcome.{Outcome};
+ghost use Rattle.resultset.specs.Encoding.{encoded};
+ghost use Rattle.session_replies.specs.Columns.{AreColumns};
+ghost use Rattle.session_replies.specs.Outcomes.{Means, Shows, HasRows, status_with, terms_of};
+ghost use Rattle.session_replies.specs.inner.Outcomes.{LeadsKept, IsRows};
+ghost use Rattle.session_replies.specs.declared.hello.Hello.{Hello};
+ghost use Rattle.session_replies.specs.Logins.{has_keyspace};
+ghost use Rattle.session_replies.specs.Talk.{AnswersPayload, set_end_of};
+ghost use Rattle.session_replies.specs.inner.Replies.{reply_bytes};
+
+use crate::columns::columns_of;
+use crate::end::End;
+use crate::hello::Hello;
+use crate::login::{has_keyspace, put_answer, put_response};
+use crate::standing::{Phase, Standing, first_number};
+use bytes::BytesMut;
+use journal::{Naming, Pass};
+use mysql_handshake::{DEPRECATE_EOF, is_set};
+use mysql_message::{Command, put_err, put_ok, read_command};
+use mysql_packet::Payload;
+use operators::Rows;
+use resultset::{Chunks, Outcome, ResultSet, SetEnd, encode_rows};
+use route_engine::{Answer, Engine, Gate, Selected, Tx};
+use shard::{ShardLaw, World};
+use std::alloc::Global;
+use std::sync::Wait;
+use std::thread::Threads;
+use vschema::VSchema;
+use vt_value::Refusal;
+
+/// SERVER_STATUS_AUTOCOMMIT.
+const AUTOCOMMIT: u16 = 2;
+
+/// SERVER_STATUS_IN_TRANS.
+const IN_TRANSACTION: u16 = 1;
+
+/// The room that a reply's buffer has at least: a greeting, an OK or an ERR packet fits in it.
+pub const REPLY_ROOM: usize = 84;
+
+pub fn put_refusal(number: u8, refusal: Refusal, reply: &mut BytesMut)
+    requires empty { reply.old.items ≡ [] }
+    requires room { REPLY_ROOM ≤ reply.old.spare }
+    ensures bytes { reply.new.items ≡ frame number (err_payload refusal) }
+    ensures room { REPLY_ROOM ≤ length reply.new.items + reply.new.spare }
+{
+    let _ = put_err(number, refusal, reply).unwrap();
+}
+
+/// The status flags of a reply: whether a transaction is open then.
+fn status_of<W: World, J: Naming>(tx: &Tx<W, J>) -> u16
+    ensures { result ≡ status_with tx.now }
+{
+    if tx.is_open() {
+        AUTOCOMMIT | IN_TRANSACTION
+    } else {
+        AUTOCOMMIT
+    }
+}
+
+/// An OK that counts no rows.
+pub fn put_pong(number: u8, status: u16, reply: &mut BytesMut)
+    requires empty { reply.old.items ≡ [] }
+    requires room { REPLY_ROOM ≤ reply.old.spare }
+    ensures bytes { reply.new.items ≡ frame number (ok_payload 0 status) }
+    ensures room { REPLY_ROOM ≤ length reply.new.items + reply.new.spare }
+{
+    let _ = put_ok(number, 0, status, reply).unwrap();
+}
+
+fn result_set(alloc: Global, schema: &VSchema, selected: Selected) -> Result<ResultSet, Refusal>
+    ensures columns { IfOk result (λ set. AreColumns schema.now selected.table selected.items set.columns) }
+    ensures rows { IfOk result (λ set. set.rows ≡ selected.rows) }
+    ensures err { IfErr result (λ e. e ≡ Refusal.OutOfMemory) }
+{
+    let columns = columns_of(alloc, schema, selected.table, selected.items.as_slice())?;
+    Ok(ResultSet {
+        columns,
+        rows: selected.rows,
+    })
+}
+
+/// An answer as its client is told it, or, where there is no memory for rows, the refusal that says so.
+fn shown(alloc: Global, schema: &VSchema, answer: Answer) -> Outcome
+    ensures { Shows schema.now answer result ⊎ (HasRows answer × (result ≡ Outcome.Refused Refusal.OutOfMemory)) }
+{
+    match answer {
+        Answer::Count(count) => Outcome::Count(count),
+        Answer::Rows(selected) => match result_set(alloc, schema, selected) {
+            Ok(set) => Outcome::Rows(set),
+            Err(refusal) => Outcome::Refused(refusal),
+        },
+    }
+}
+
+/// What the text of a statement gives its client.
+fn outcome_of<W: World + Send + Sync, J: Naming + Send + Sync, G: Gate>(
+    rt: &(impl Threads + Wait + Sync),
+    alloc: Global,
+    engine: &Engine<W, J, G>,
+    pass: &mut Pass<ShardLaw<W>, J>,
+    tx: &mut Tx<W, J>,
+    text: &[u8],
+) -> Outcome
+    requires session { IsSome pass.old.session }
+    requires tx { IsOf W.opening tx.old pass.old }
+    ensures means { LeadsKept W.opening pass.old tx.old pass.new tx.new (λ s now. Means W.opening W.limits s text.now result now) }
+    ensures tx { IsOf W.opening tx.new pass.new }
+    ensures session { pass.new.session ≡ pass.old.session }
+{
+    match engine.execute(rt, alloc, pass, tx, text) {
+        Ok(reply) => shown(alloc, engine.schema(), reply.answer),
+        Err(refusal) => Outcome::Refused(refusal),
+    }
+}
+
+fn put_count(number: u8, count: u64, status: u16, reply: &mut BytesMut)
+    requires empty { reply.old.items ≡ [] }
+    requires room { REPLY_ROOM ≤ reply.old.spare }
+    ensures bytes { reply.new.items ≡ frame number (ok_payload count status) }
+    ensures room { REPLY_ROOM ≤ length reply.new.items + reply.new.spare }
+{
+    let _ = put_ok(number, count, status, reply).unwrap();
+}
+
+fn set_end_of(capabilities: u32) -> SetEnd
+    ensures { result ≡ set_end_of capabilities }
+{
+    if is_set(DEPRECATE_EOF, capabilities) {
+        SetEnd::OkPacket
+    } else {
+        SetEnd::EofPackets
+    }
+}
+
+/// The packets of a result set, whose rows are dropped as they are encoded. Refuses only for want of memory.
+fn chunks_of(
+    alloc: Global,
+    set: ResultSet,
+    end: SetEnd,
+    number: u8,
+    status: u16,
+) -> Result<Chunks, Refusal>
+    ensures ok { IfOk result (λ chunks. concat chunks ≡ encoded end (Outcome.Rows set) number status) }
+    ensures err { IfErr result (λ e. e ≡ Refusal.OutOfMemory) }
+{
+    let ResultSet { columns, rows } = set;
+    let rows = Rows::new(alloc, rows)?;
+    let mut chunks = Chunks::new(alloc);
+    let _next = encode_rows(
+        alloc,
+        columns.as_slice(),
+        rows,
+        number,
+        status,
+        end,
+        &mut chunks,
+    )?;
+    Ok(chunks)
+}
+
+/// The reply of a result set, or, where there is no memory for it, the refusal that says so.
+fn put_rows(
+    alloc: Global,
+    set: ResultSet,
+    end: SetEnd,
+    number: u8,
+    status: u16,
+    reply: &mut BytesMut,
+) -> Option<Chunks>
+    requires empty { reply.old.items ≡ [] }
+    requires room { REPLY_ROOM ≤ reply.old.spare }
+    ensures bytes { (reply_bytes result reply.new.items ≡ encoded end (Outcome.Rows set) number status)
+        ⊎ (reply_bytes result reply.new.items ≡ encoded end (Outcome.Refused Refusal.OutOfMemory) number status) }
+    ensures room { REPLY_ROOM ≤ length reply.new.items + reply.new.spare }
+{
+    match chunks_of(alloc, set, end, number, status) {
+        Ok(chunks) => Some(chunks),
+        Err(_) => {
+            put_refusal(number, Refusal::OutOfMemory, reply);
+            None
+        }
+    }
+}
+
+/// The reply to a statement, in chunks where it has rows. Where there is no memory for them, it is the refusal that says so; a count always
+/// has room.
+fn put_outcome(
+    alloc: Global,
+    outcome: Outcome,
+    end: SetEnd,
+    number: u8,
+    status: u16,
+    reply: &mut BytesMut,
+) -> Option<Chunks>
+    requires empty { reply.old.items ≡ [] }
+    requires room { REPLY_ROOM ≤ reply.old.spare }
+    ensures bytes { (reply_bytes result reply.new.items ≡ encoded end outcome number status)
+        ⊎ (IsRows outcome × (reply_bytes result reply.new.items ≡ encoded end (Outcome.Refused Refusal.OutOfMemory) number status)) }
+    ensures room { REPLY_ROOM ≤ length reply.new.items + reply.new.spare }
+{
+    match outcome {
+        Outcome::Rows(set) => put_rows(alloc, set, end, number, status, reply),
+        Outcome::Count(count) => {
+            put_count(number, count, status, reply);
+            None
+        }
+        Outcome::Refused(refusal) => {
+            put_refusal(number, refusal, reply);
+            None
+        }
+    }
+}
+
+/// The reply to the name of a keyspace: an OK, or that there is none of that name.
+fn put_selected(schema: &VSchema, name: &[u8], number: u8, status: u16, reply: &mut BytesMut)
+    requires empty { reply.old.items ≡ [] }
+    requires room { REPLY_ROOM ≤ reply.old.spare }
+    ensures known { has_keyspace schema.now.keyspaces name.now ≡ true → reply.new.items ≡ frame number (ok_payload 0 status) }
+    ensures unknown { has_keyspace schema.now.keyspaces name.now ≡ false → reply.new.items ≡ frame number (err_payload Refusal.UnknownKeyspace) }
+    ensures room { REPLY_ROOM ≤ length reply.new.items + reply.new.spare }
+{
+    if has_keyspace(schema, name) {
+        put_pong(number, status, reply);
+    } else {
+        put_refusal(number, Refusal::UnknownKeyspace, reply);
+    }
+}
+
+/// The reply to a command whose numbers are right, and how the session then stands. A reply of rows lies in chunks, each other in the buffer.
+fn put_command<W: World + Send + Sync, J: Naming + Send + Sync, G: Gate>(
+    rt: &(impl Threads + Wait + Sync),
+    alloc: Global,
+    engine: &Engine<W, J, G>,
+    pass: &mut Pass<ShardLaw<W>, J>,
+    tx: &mut Tx<W, J>,
+    capabilities: u32,
+    payload: &Payload,
+    reply: &mut BytesMut,
+) -> (Standing, Option<Chunks>)
+    requires empty { reply.old.items ≡ [] }
+    requires room { REPLY_ROOM ≤ reply.old.spare }
+    requires session { IsSome pass.old.session }
+    requires tx { IsOf W.opening tx.old pass.old }
+    requires number { payload.now.first ≡ 0 }
+    ensures answers { (hello : Hello) → LeadsKept W.opening pass.old tx.old pass.new tx.new
+        (λ s now. AnswersPayload (terms_of W.opening hello) (Means W.opening W.limits) (Phase.Commands capabilities) s payload.now (reply_bytes result.1 reply.new.items) result.0 now) }
+    ensures tx { IsOf W.opening tx.new pass.new }
+    ensures room { REPLY_ROOM ≤ length reply.new.items + reply.new.spare }
+    ensures session { pass.new.session ≡ pass.old.session }
+{
+    let number = payload.last.wrapping_add(1);
+    let next = Standing::At(Phase::Commands(capabilities));
+    match read_command(payload.bytes.as_slice()) {
+        Err(refusal) => {
+            put_refusal(number, refusal, reply);
+            (next, None)
+        }
+        Ok(Command::Quit) => (Standing::Ended(End::Quit), None),
+        Ok(Command::Ping) => {
+            put_pong(number, status_of(tx), reply);
+            (next, None)
+        }
+        Ok(Command::InitDb(name)) => {
+            put_selected(engine.schema(), name, number, status_of(tx), reply);
+            (next, None)
+        }
+        Ok(Command::Query(text)) => {
+            let outcome = outcome_of(rt, alloc, engine, pass, tx, text);
+            let end = set_end_of(capabilities);
+            let rows = put_outcome(alloc, outcome, end, number, status_of(tx), reply);
+            (next, rows)
+        }
+    }
+}
+
+/// What is written for one payload in the phase, and how the session then stands. A reply of rows lies in chunks, each other in the buffer.
+pub fn put_reply<W: World + Send + Sync, J: Naming + Send + Sync, G: Gate>(
+    rt: &(impl Threads + Wait + Sync),
+    alloc: Global,
+    engine: &Engine<W, J, G>,
+    pass: &mut Pass<ShardLaw<W>, J>,
+    tx: &mut Tx<W, J>,
+    hello: &Hello,
+    phase: Phase,
+    payload: &Payload,
+    reply: &mut BytesMut,
+) -> (Standing, Option<Chunks>)
+    requires empty { reply.old.items ≡ [] }
+    requires room { REPLY_ROOM ≤ reply.old.spare }
+    requires session { IsSome pass.old.session }
+    requires tx { IsOf W.opening tx.old pass.old }
+    ensures answers { LeadsKept W.opening pass.old tx.old pass.new tx.new
+        (λ s now. AnswersPayload (terms_of W.opening hello.now) (Means W.opening W.limits) phase s payload.now (reply_bytes result.1 reply.new.items) result.0 now) }
+    ensures tx { IsOf W.opening tx.new pass.new }
+    ensures room { REPLY_ROOM ≤ length reply.new.items + reply.new.spare }
+    ensures session { pass.new.session ≡ pass.old.session }
+{
+    if payload.first != first_number(phase) {
+        put_refusal(
+            payload.first.wrapping_add(1),
+            Refusal::PacketsOutOfOrder,
+            reply,
+        );
+        return (Standing::Ended(End::Broken), None);
+    }
+    match phase {
+        Phase::Response => (
+            put_response(hello, engine.schema(), payload, status_of(tx), reply),
+            None,
+        ),
+        Phase::Switch(login) => (
+            put_answer(hello, login, payload, status_of(tx), reply),
+            None,
+        ),
+        Phase::Commands(capabilities) => {
+            put_command(rt, alloc, engine, pass, tx, capabilities, payload, reply)
+        }
+    }
+}

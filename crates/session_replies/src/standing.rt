@@ -1,0 +1,66 @@
+//! How a session stands.
+ghost use Rattle.std.specs.Prelude.{◌≡◌, false};
+ghost use Rattle.session_replies.specs.Standings.{first_number, end_of, HasGreeted};
+
+use crate::end::End;
+
+/// What is kept of a client's response to the greeting until its answer comes: the capabilities that both sides set, and
+/// whether its user and its database are right.
+#[derive(Clone, Copy, Debug, PartialEq, Eq)]
+pub struct Login {
+    pub capabilities: u32,
+    pub is_user: bool,
+    pub is_database: bool,
+}
+
+/// What a session awaits from its client.
+#[derive(Clone, Copy, Debug, PartialEq, Eq)]
+pub enum Phase {
+    /// The response to the greeting.
+    Response,
+    /// The answer to the request to switch to `mysql_native_password`.
+    Switch(Login),
+    /// Commands, with the capabilities that both sides set.
+    Commands(u32),
+}
+
+/// How a session stands: nothing is written yet, it goes on, or it has ended.
+#[derive(Clone, Copy, Debug, PartialEq, Eq)]
+pub enum Standing {
+    New,
+    At(Phase),
+    Ended(End),
+}
+
+/// The sequence number with which the next payload begins.
+pub fn first_number(phase: Phase) -> u8
+    ensures { result ≡ first_number phase }
+{
+    match phase {
+        Phase::Response => 1,
+        Phase::Switch(_) => 3,
+        Phase::Commands(_) => 0,
+    }
+}
+
+/// How the session ended, if it did.
+pub fn end_of(standing: Standing) -> Option<End>
+    ensures { result ≡ end_of standing }
+{
+    match standing {
+        Standing::New => None,
+        Standing::At(_) => None,
+        Standing::Ended(end) => Some(end),
+    }
+}
+
+/// Whether the session has yet to greet its client.
+pub fn is_new(standing: Standing) -> bool
+    ensures { result ≡ false → HasGreeted standing }
+{
+    match standing {
+        Standing::New => true,
+        Standing::At(_) => false,
+        Standing::Ended(_) => false,
+    }
+}

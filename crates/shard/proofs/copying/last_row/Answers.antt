@@ -1,9 +1,0 @@
-use Rattle.std.proofs.Common.{◌≡◌, Option, subst, ◌∙◌}
-use Rattle.std.specs.Prelude.{IfOk}
-use Rattle.vt_value.specs.Values.{Row}
-use Rattle.shard.proofs.CopySteps.{last_get}
-use Rattle.shard.proofs.copying.last_row.Goals as goal
-
-pub returns-clause-ok : goal.returns-clause-ok
-returns-clause-ok c =
-    subst (λ (o : Option Row). IfOk c.copied.result (λ r. r ≡ o)) (c.last.ensures.value ∙ last_get c.args.rows.now) c.copied.ensures.ok

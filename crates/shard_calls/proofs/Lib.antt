@@ -1,0 +1,5 @@
+pub mod Gathers
+pub mod Workers
+pub mod Taken
+pub mod Sent
+pub mod Calling

@@ -1,0 +1,74 @@
+-- What a worker takes and gives may go to another thread, whatever the world.
+use denote.RattleType.{RattleType}
+use denote.Param.Send.{IsSend, IsSync, AllSend, view_send, view_sync, recorded_send, recorded_sync, struct_send, struct_sync, shr_send, sendable}
+use denote.Struct.Declared.{shape}
+use denote.Struct.Tuple.{TupleAt, field_at, type_at}
+use Rattle.std.proofs.Common.{ℕ, List}
+use Rattle.std.proofs.Crossing as std
+use Rattle.journal.specs.declared.law.Naming as naming
+use Rattle.journal.specs.contracts.pass.Pass as pass
+use Rattle.journal.specs.contracts.seat.ShardSeat as seat
+use Rattle.journal.proofs.pass.Pass.TheSendSync as sent_pass
+use Rattle.journal.proofs.seat.ShardSeat.TheSendSync as sent_seat
+use Rattle.shard.specs.declared.world.World as world
+use Rattle.shard_contents.specs.contracts.contents.Contents as contents
+use Rattle.shard.specs.contracts.locked.Shard as locked
+use Rattle.shard.specs.contracts.locked.Shard.TheInside as locked_inside
+use Rattle.shard.specs.contracts.state.ShardState as state
+use Rattle.shard.specs.contracts.state.ShardState.TheInside as state_inside
+use Rattle.shard.specs.contracts.world.ShardLaw as law
+use Rattle.shard.specs.contracts.world.ShardLawLaw.TheImpl as laws
+use Rattle.shard_store.proofs.stored.StoredTables.TheSendSync as store
+use Rattle.shard_run.specs.contracts.Entry as entry
+use Rattle.shard_run.specs.contracts.Shard as which
+use Rattle.vt_value.specs.contracts.Items as items
+use Rattle.shard_run.proofs.Sent.{entry_send}
+use Rattle.sql_tree.proofs.Condition.TheLaws.TheKnot as condition
+use Rattle.vschema.specs.contracts.schema.Query as query
+use Rattle.vschema.proofs.schema.Place.TheSendSync as place
+use Rattle.vt_value.proofs.refusal.Refusal.TheSendSync as refusal
+use Rattle.shard_contents.proofs.outcomes.Read.TheSendSync as reading
+use Rattle.shard_calls.specs.contracts.scatter.Job as job
+use Rattle.shard_calls.specs.contracts.scatter.Done as done
+
+-- captures that may each go to another thread
+pub captures_send : (n : List ℕ) (rs : List RattleType) → AllSend (shape (type_at n rs)).fields → IsSend (TupleAt n rs)
+captures_send n rs all = recorded_send (field_at n rs).row _ _ (type_at n rs).to_one (struct_send (shape (type_at n rs)) all)
+
+pub query_send : IsSend query.the_field.row
+query_send = search (std.crosses, condition.crosses, sendable) depth 60 fits 20000
+
+contents_send : IsSend contents.the_field.row
+contents_send = search (entry_send, store.the_send, std.crosses, sendable) depth 60 fits 20000
+
+targets_send : IsSend (items.the_field which.the_row).row
+targets_send = search (std.crosses, sendable) depth 60 fits 20000
+
+module _ (W J : RattleType) (w : world.Ghosts W.Denot) (j : naming.Ghosts J.Denot) where
+  pub pass_send : IsSend (pass.the_row (law.the_row W) J entry.the_row j (laws.ghosts W w laws.no_dict))
+  pass_send = sent_pass.the_send (law.the_row W) J entry.the_row j (laws.ghosts W w laws.no_dict) entry_send
+
+  seat_send : IsSend (seat.the_row (law.the_row W) J entry.the_row j (laws.ghosts W w laws.no_dict))
+  seat_send = sent_seat.the_send (law.the_row W) J entry.the_row j (laws.ghosts W w laws.no_dict) entry_send
+
+  inside_send : IsSend (state_inside.the_row W J w j)
+  inside_send = recorded_send (state_inside.the_field W J w j).row _ _ (state_inside.the_type W J w j).to_one (struct_send (shape (state_inside.the_type W J w j)) (seat_send, (contents_send, (targets_send, tt))))
+
+  pub state_send : IsSend (state.the_row W J w j)
+  state_send = view_send _ _ _ _ _ inside_send
+
+  pub shard_shared : IsSync (locked.the_row W J w j)
+  shard_shared =
+      view_sync _ _ _ _ _
+      (recorded_sync (locked_inside.the_field W J w j).row _ _ (locked_inside.the_type W J w j).to_one
+      (struct_sync (shape (locked_inside.the_type W J w j)) (search sendable, (place.the_field_sync, (search (state_send, std.crosses, sendable), tt)))))
+
+  pub job_send : (ℓ : _) → IsSend (job.the_row ℓ W J w j)
+  job_send ℓ =
+      recorded_send (job.the_field ℓ W J w j).row _ _ (job.the_type ℓ W J w j).to_one
+      (struct_send (shape (job.the_type ℓ W J w j)) (search sendable, (shr_send _ _ _ shard_shared, (query_send, (pass_send, tt)))))
+
+  pub done_send : IsSend (done.the_row W J w j)
+  done_send =
+      recorded_send (done.the_field W J w j).row _ _ (done.the_type W J w j).to_one
+      (struct_send (shape (done.the_type W J w j)) (search sendable, (pass_send, (search (reading.the_send, refusal.the_send, std.crosses, sendable), tt))))

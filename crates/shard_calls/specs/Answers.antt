@@ -1,0 +1,151 @@
+-- What executing a text answers, or the refusal for its cause.
+use Rattle.std.specs.Prelude.{◌≡◌, ℕ, ◌+◌, ◌≤◌, Bool, true, false, List, [], ◌∷◌, ◌++◌, length, filter, Contains, Some}
+use Rattle.std.specs.List.{AllZip}
+use mathlib.Core.List.{IsPrefix}
+use Rattle.vt_value.specs.declared.refusal.Refusal.{Refusal}
+use Rattle.vt_value.specs.declared.refusal.Refusal.TheVariants.{OutOfMemory, SeveralShards, BufferFull}
+use Rattle.vschema.specs.declared.schema.Table.{Table}
+use Rattle.vschema.specs.declared.schema.Query.{Query}
+use Rattle.vschema.specs.declared.schema.Typed.{Typed}
+use Rattle.vschema.specs.declared.schema.Typed.TheVariants as typed
+use Rattle.vschema.specs.declared.changes.Write.{Write}
+use Rattle.sql_eval.specs.Queries.{Allowed}
+use Rattle.sql_eval.specs.Writes.{written_table}
+use Rattle.planner.specs.declared.routes.Route.{Route}
+use Rattle.planner.specs.Routes.{table_at, route_of, write_route, takes}
+use Rattle.journal.specs.Runs.{IsLegal, by_session}
+use Rattle.journal.specs.Views.{PassView}
+use Rattle.shard_run.specs.declared.Mode.{Mode}
+use Rattle.shard_run.specs.declared.Mode.TheVariants.{Serving}
+use Rattle.shard_run.specs.declared.Shard.{Shard}
+use Rattle.shard_run.specs.declared.Entry.{Entry}
+use Rattle.shard_run.specs.Runs.{Opening, mode, is_serving, entries_on}
+use Rattle.shard_contents.specs.declared.limits.Limits.{Limits}
+use Rattle.shard_run.specs.Legal.{IsOnItsSlot}
+use Rattle.shard_law.specs.Law.{Serves}
+use Rattle.serving.specs.Partitions.{Seat, IsPartition}
+use Rattle.shard_contents.specs.Shards.{MayFollow, HasLooked, commit_of}
+use Rattle.shard_contents.specs.Commits.{HasCommitted, IsCommitRefusal}
+use Rattle.shard_calls.specs.declared.reply.Selected.{Selected}
+use Rattle.shard_calls.specs.declared.reply.Answer.TheVariants.{Rows, Count}
+use Rattle.shard_calls.specs.declared.reply.ShardRead.{ShardRead}
+use Rattle.shard_calls.specs.declared.reply.Reply.{Reply}
+use Rattle.shard.specs.Seats.{seat_of}
+use Rattle.shard_calls.specs.Mix.{Part, Mix, mixed_rows}
+
+-- the pass once its session's next statement is numbered
+abbrev pub counted : PassView Entry → PassView Entry
+counted p = record p { statements = p.statements + 1 }
+
+-- the seats of a partition that a statement on the table with this route needs
+abbrev pub needed : Table → Route → List Seat → List Seat
+needed t r seats = filter (λ seat. takes t r seat.1) seats
+
+-- The pass has gone on by looks alone: it has seen a legal run, which begins with what it had seen and has no other commit of its session.
+pub record HasGoneOn (o : Opening) (p : PassView Entry) (added : List (ℕ × ℕ)) (now : PassView Entry) : Type 0 where
+  pub legal : IsLegal (MayFollow o) now.seen
+  pub later : IsPrefix p.seen now.seen
+  pub own : (n : ℕ) → p.session ≡ Some n → filter (by_session commit_of n) now.seen ≡ filter (by_session commit_of n) p.seen
+  pub pass : now ≡ record p { seen = now.seen; looks = p.looks ++ added }
+
+-- the same by some looks
+abbrev pub HasGone : Opening → PassView Entry → PassView Entry → Type 0
+HasGone o p now = (added : List (ℕ × ℕ)) × HasGoneOn o p added now
+
+-- A shard was read where the part's run ends, by one of these looks: it serves then, in the part's range, and has so many entries.
+pub record IsShardRead (o : Opening) (keyspace : ℕ) (looks : List (ℕ × ℕ)) (part : Part) (r : ShardRead) : Type 0 where
+  pub looked : Contains looks (r.slot, length part.run)
+  pub shard : Shard
+  pub serves : Serves o part.run shard
+  pub slot : shard.slot ≡ r.slot
+  pub place : shard.place ≡ record { keyspace = keyspace; range = part.range }
+  pub entries : r.entries ≡ length (entries_on r.slot part.run)
+
+-- The rows are some that the query may answer over a database of which each range is as some run between the call and its end left it.
+-- Just the shards of the query's route were read, each at the run of its range, by a look of this call.
+pub record IsSelected (o : Opening) (p : PassView Entry) (t : Table) (query : Query) (selected : Selected) (reads : List ShardRead) (now : PassView Entry) : Type 0 where
+  pub table : selected.table ≡ query.table
+  pub items : selected.items ≡ query.items
+  pub added : List (ℕ × ℕ)
+  pub gone : HasGoneOn o p added now
+  pub parts : List Part
+  pub mix : Mix p.seen now.seen parts
+  pub allowed : Allowed query (mixed_rows o t.keyspace parts) selected.rows
+  pub routed : AllZip (IsShardRead o t.keyspace added) (filter (λ part. takes t (route_of t query.filter) part.range) parts) reads
+
+-- the reply has the rows of the query
+pub data HasRead (o : Opening) (p : PassView Entry) (query : Query) : Reply → PassView Entry → Type 0 where
+  read : {selected : Selected} {reads : List ShardRead} {now : PassView Entry} → IsSelected o p (table_at o.schema query.table) query selected reads now
+      → HasRead o p query (record { answer = Rows selected; reads = reads }) now
+
+-- A shard that a statement on the table with this route needs by a partition didn't answer at some moment between: its mode was none of
+-- these.
+pub record IsHeldUp (o : Opening) (t : Table) (r : Route) (answers : Mode → Bool) (before now : List Entry) : Type 0 where
+  pub seats : List Seat
+  pub partition : IsPartition seats
+  pub seat : Seat
+  pub needed : Contains (needed t r seats) seat
+  pub run : List Entry
+  pub since : IsPrefix before run
+  pub until : IsPrefix run now
+  pub shard : Shard
+  pub stands : IsOnItsSlot o run shard
+  pub on_slot : shard.slot ≡ seat.0
+  pub in_place : shard.place ≡ record { keyspace = t.keyspace; range = seat.1 }
+  pub held_up : answers (mode o run shard.slot) ≡ false
+
+-- Why a query is refused: a growth was refused; or the buffer was full when one of its shards didn't serve.
+pub data MayReadRefuse (o : Opening) (p : PassView Entry) (query : Query) : Refusal → PassView Entry → Type 0 where
+  no_memory : {now : PassView Entry} → HasGone o p now → MayReadRefuse o p query OutOfMemory now
+  buffer_full : {now : PassView Entry} → HasGone o p now
+      → IsHeldUp o (table_at o.schema query.table) (route_of (table_at o.schema query.table) query.filter) is_serving p.seen now.seen
+      → MayReadRefuse o p query BufferFull now
+
+-- the seats that a write needs by a partition
+abbrev pub needed_by : Opening → Write → List Seat → List Seat
+needed_by o w seats = needed (table_at o.schema (written_table w)) (write_route o.schema w) seats
+
+-- by some partition the write needs this shard alone
+pub record NeedsAlone (o : Opening) (w : Write) (s : Shard) : Type 0 where
+  pub seats : List Seat
+  pub partition : IsPartition seats
+  pub keyspace : s.place.keyspace ≡ (table_at o.schema (written_table w)).keyspace
+  pub only : needed_by o w seats ≡ seat_of s ∷ []
+
+-- A write that needs no shard counts 0 and does nothing. Another needs one shard, on which the session has committed it, after looks at
+-- most, and the reply counts its changes.
+pub data HasWritten (o : Opening) (limits : Limits) (p : PassView Entry) (w : Write) : Reply → PassView Entry → Type 0 where
+  nowhere : {now : PassView Entry} (seats : List Seat) → IsPartition seats → needed_by o w seats ≡ [] → HasGone o p now
+      → HasWritten o limits p w (record { answer = Count 0; reads = [] }) now
+  wrote : {count : ℕ} {since now : PassView Entry} (s : Shard) → NeedsAlone o w s → HasGone o p since → HasCommitted o limits s since w count now
+      → HasWritten o limits p w (record { answer = Count count; reads = [] }) now
+
+-- what a typed statement gives: a query has its rows, a write is committed; SET NAMES counts 0, and no shard is used
+pub data Gives (o : Opening) (limits : Limits) (p : PassView Entry) : Typed → Reply → PassView Entry → Type 0 where
+  selects : {query : Query} {reply : Reply} {now : PassView Entry} → HasRead o p query reply now → Gives o limits p (typed.Select query) reply now
+  writes : {w : Write} {reply : Reply} {now : PassView Entry} → HasWritten o limits p w reply now → Gives o limits p (typed.Write w) reply now
+  sets_names : Gives o limits p typed.SetNames (record { answer = Count 0; reads = [] }) p
+
+-- the statements that are run so far: queries, writes and SET NAMES
+abbrev pub is_run : Typed → Bool
+is_run (typed.Select q) = true
+is_run (typed.Write w) = true
+is_run typed.SetNames = true
+is_run _ = false
+
+-- a shard that takes commits
+abbrev pub is_writable : Mode → Bool
+is_writable Serving = true
+is_writable _ = false
+
+-- Why a write is refused: a growth was refused; by some partition it needs more than one shard; the buffer was full when its shard took
+-- no commits; or its one shard refuses it at one look, for want of memory, for its primary keys, or for a limit.
+pub data MayWriteRefuse (o : Opening) (limits : Limits) (p : PassView Entry) (w : Write) : Refusal → PassView Entry → Type 0 where
+  no_memory : {now : PassView Entry} → HasGone o p now → MayWriteRefuse o limits p w OutOfMemory now
+  several : {now : PassView Entry} (seats : List Seat) → IsPartition seats → 2 ≤ length (needed_by o w seats) → HasGone o p now
+      → MayWriteRefuse o limits p w SeveralShards now
+  buffer_full : {now : PassView Entry} → HasGone o p now
+      → IsHeldUp o (table_at o.schema (written_table w)) (write_route o.schema w) is_writable p.seen now.seen
+      → MayWriteRefuse o limits p w BufferFull now
+  refused : {r : Refusal} {since now : PassView Entry} (s : Shard) → NeedsAlone o w s → HasGone o p since → HasLooked o s.slot since now
+      → IsCommitRefusal o limits s now.seen w r → MayWriteRefuse o limits p w r now

@@ -1,0 +1,112 @@
+-- How a transaction as the program keeps it stands for a session's transaction.
+use Rattle.std.specs.Prelude.{◌≡◌, ℕ, ◌<◌, ◌≤◌, IsTrue, List, [], ◌∷◌, ◌++◌, length, filter, Contains, Option, Some, None}
+use Rattle.std.specs.List.{AllByRecursion}
+use mathlib.Core.List.{IsPrefix}
+use Rattle.vschema.specs.declared.schema.Query.{Query}
+use Rattle.vschema.specs.declared.schema.Typed.TheVariants as typed
+use Rattle.vschema.specs.declared.changes.Write.{Write}
+use Rattle.vschema.specs.declared.changes.RowChange.{RowChange}
+use Rattle.vschema.specs.Database.{all_applied}
+use Rattle.vschema.specs.TypedWrites.{IsTypedWrite}
+use Rattle.sql_eval.specs.Queries.{Allowed}
+use Rattle.sql_eval.specs.Writes.{written_table}
+use Rattle.journal.specs.Runs.{IsLegal, by_session}
+use Rattle.journal.specs.Views.{PassView}
+use Rattle.shard_run.specs.declared.Mode.TheVariants.{Serving}
+use Rattle.shard_run.specs.declared.Shard.{Shard}
+use Rattle.shard_run.specs.declared.Entry.{Entry}
+use Rattle.shard_run.specs.Runs.{Run, Opening, one, held, mode, stored_on}
+use Rattle.shard_run.specs.Legal.{IsOnItsSlot, IsChangeOf}
+use Rattle.serving.specs.Partitions.{Seat}
+use Rattle.shard_contents.specs.declared.touch.Touch.{Touch}
+use Rattle.shard_contents.specs.Shards.{MayFollow, commit_of}
+use Rattle.shard_contents.specs.Transactions.{PendingView, nothing_done, is_touched, IsPending}
+use Rattle.shard_calls.specs.declared.reply.Selected.{Selected}
+use Rattle.shard_calls.specs.declared.reply.Answer.TheVariants.{Rows, Count}
+use Rattle.shard.specs.Seats.{seat_of}
+use Rattle.shard_calls.specs.Answers.{NeedsAlone}
+use Rattle.shard_calls.specs.Alone.{GivesOver}
+use Rattle.shard_calls.specs.Transactions.{Step, Transaction, ReadsAlone, NeedsNone, table_of, used}
+
+-- the keyspace and the seat of the shard that an open transaction is bound to
+pub record BoundView : Type 0 where
+  pub keyspace : ℕ
+  pub seat : Seat
+
+-- the shard that an open transaction is bound to, if it is, and what it has done there
+pub record OpenView : Type 0 where
+  pub bound : Option BoundView
+  pub pending : PendingView
+
+abbrev pub bound_of : Shard → BoundView
+bound_of s = record { keyspace = s.place.keyspace; seat = seat_of s }
+
+-- a statement that needs no shard gives the same over the one database of every run, and leaves it
+pub record IsAnywhere (o : Opening) (step : Step) : Type 0 where
+  pub none : NeedsNone o step.typed
+  pub on : step.on ≡ None
+  pub same : (run : Run) → IsLegal (MayFollow o) run → GivesOver o.schema (one o run) step.typed step.answer (one o run)
+
+-- The statements gave their answers over the rows that the run leaves on the shard with the changes before each; these are the writes and the
+-- changes that they made. Their tables are touched.
+pub data AreTold (o : Opening) (s : Shard) (run : Run) (touched : List Touch) : List Step → List Write → List RowChange → Type 0 where
+  none : AreTold o s run touched [] [] []
+  anywhere : {steps : List Step} {writes : List Write} {changes : List RowChange} (step : Step) → AreTold o s run touched steps writes changes
+      → IsAnywhere o step → AreTold o s run touched (steps ++ step ∷ []) writes changes
+  read : {steps : List Step} {writes : List Write} {changes : List RowChange} (q : Query) (selected : Selected) (seen : Run)
+      → AreTold o s run touched steps writes changes → ReadsAlone o q s → q.table < length o.schema.tables
+      → IsTrue (is_touched touched q.table) → selected.table ≡ q.table → selected.items ≡ q.items
+      → Allowed q (all_applied changes (held o run s)) selected.rows
+      → AreTold o s run touched (steps ++ record { typed = typed.Select q; answer = Rows selected; on = Some s; seen = seen } ∷ []) writes changes
+  wrote : {steps : List Step} {writes : List Write} {changes : List RowChange} (w : Write) (more : List RowChange) (seen : Run)
+      → AreTold o s run touched steps writes changes → NeedsAlone o w s → IsTypedWrite o.schema w
+      → IsTrue (is_touched touched (written_table w)) → IsChangeOf o.schema w (all_applied changes (held o run s)) more
+      → AreTold o s run touched (steps ++ record { typed = typed.Write w; answer = Count (length more); on = Some s; seen = seen } ∷ [])
+      (writes ++ w ∷ []) (changes ++ more)
+
+-- a table was touched by a statement on the shard, which served at the run that it had seen, behind which the session has no commit
+pub record IsTouchOf (o : Opening) (s : Shard) (session : Option ℕ) (at : Run) (steps : List Step) (t : Touch) : Type 0 where
+  pub step : Step
+  pub is : Contains steps step
+  pub on : step.on ≡ Some s
+  pub table : table_of step.typed ≡ Some t.table
+  pub before : IsPrefix step.seen at
+  pub serves : mode o step.seen s.slot ≡ Serving
+  pub stored : t.stored ≡ length (stored_on s.slot step.seen)
+  pub own : (n : ℕ) → session ≡ Some n → filter (by_session commit_of n) at ≡ filter (by_session commit_of n) step.seen
+
+-- the table was touched by then
+pub record WasTouched (s : Shard) (touched : List Touch) (n : ℕ) (seen : Run) : Type 0 where
+  pub touch : Touch
+  pub is : Contains touched touch
+  pub table : touch.table ≡ n
+  pub stored : touch.stored ≤ length (stored_on s.slot seen)
+
+-- a statement that used the shard has touched its table
+abbrev pub HasTouched : Shard → List Touch → Step → Type 0
+HasTouched s touched step = (n : ℕ) → step.on ≡ Some s → table_of step.typed ≡ Some n → WasTouched s touched n step.seen
+
+-- bound to a shard, where it has gone on up to the run of the transaction, which the pass has seen, and has made no commit since
+pub record IsBound (o : Opening) (p : PassView Entry) (v : OpenView) (t : Transaction) : Type 0 where
+  pub shard : Shard
+  pub stands : IsOnItsSlot o t.at shard
+  pub serves : mode o t.at shard.slot ≡ Serving
+  pub bound : v.bound ≡ Some (bound_of shard)
+  pub uses : Contains (used t.steps) shard
+  pub pending : IsPending o shard t.at v.pending
+  pub told : AreTold o shard t.at v.pending.touched t.steps v.pending.writes v.pending.changes
+  pub touches : AllByRecursion (IsTouchOf o shard p.session t.at t.steps) v.pending.touched
+  pub behind : AllByRecursion (HasTouched shard v.pending.touched) t.steps
+  pub seen : IsPrefix t.at p.seen
+  pub own : (n : ℕ) → p.session ≡ Some n → filter (by_session commit_of n) p.seen ≡ filter (by_session commit_of n) t.at
+
+-- What the program keeps stands for the session's transaction: none is open; an open one has used no shard; or it is bound to one.
+pub data Stands (o : Opening) (p : PassView Entry) : Option OpenView → Option Transaction → Type 0 where
+  closed : Stands o p None None
+  unbound : {t : Transaction} → IsLegal (MayFollow o) t.at → AllByRecursion (IsAnywhere o) t.steps
+      → Stands o p (Some (record { bound = None; pending = nothing_done })) (Some t)
+  bound : {v : OpenView} {t : Transaction} → IsBound o p v t → Stands o p (Some v) (Some t)
+
+-- it stands for some transaction of the pass
+abbrev pub IsOf : Opening → Option OpenView → PassView Entry → Type 0
+IsOf o v p = (t : Option Transaction) × Stands o p v t

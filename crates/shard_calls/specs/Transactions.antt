@@ -1,0 +1,273 @@
+-- Transactions of a session: what their statements give, over one database, and what a commit does.
+use Rattle.std.specs.Prelude.{◌≡◌, ◌≢◌, ℕ, ◌≤◌, ◌^◌, true, List, [], ◌∷◌, ◌++◌, length, filter, flat_map, Contains, Option, Some, None, Ok, Err}
+use Rattle.std.specs.List.{AllByRecursion}
+use mathlib.Core.List.{IsPrefix}
+use Rattle.vt_value.specs.declared.refusal.Refusal.{Refusal}
+use Rattle.vt_value.specs.declared.refusal.Refusal.TheVariants.{OutOfMemory, SyntaxError, NotSupported, SeveralShards, Conflict, DuplicateKey, ShardMoved, ShardFull}
+use Rattle.sql_tree.specs.declared.Statement.{Statement}
+use Rattle.sql_parser.specs.Grammar.{Reads}
+use Rattle.vschema.specs.declared.schema.Query.{Query}
+use Rattle.vschema.specs.declared.schema.Table.{Table}
+use Rattle.vschema.specs.declared.schema.VSchema.{VSchema}
+use Rattle.vschema.specs.declared.schema.Typed.{Typed}
+use Rattle.vschema.specs.declared.schema.Typed.TheVariants as typed
+use Rattle.vschema.specs.declared.changes.Write.{Write}
+use Rattle.vschema.specs.declared.changes.RowChange.{RowChange}
+use Rattle.vschema.specs.Database.{Database, all_applied}
+use Rattle.vschema.specs.TypedStatement.{typed_statement}
+use Rattle.sql_eval.specs.Writes.{written_table, changes_of}
+use Rattle.planner.specs.Routes.{table_at, route_of}
+use Rattle.journal.specs.Runs.{IsLegal, by_session}
+use Rattle.journal.specs.Views.{PassView}
+use Rattle.shard_run.specs.declared.Shard.{Shard}
+use Rattle.shard_run.specs.declared.Commit as C
+use Rattle.shard_run.specs.declared.Mode.TheVariants.{Serving}
+use Rattle.shard_run.specs.declared.Event.TheVariants.{Commit}
+use Rattle.shard_run.specs.declared.Entry.{Entry}
+use Rattle.shard_run.specs.Runs.{Run, Opening, one, mode, entries_on}
+use Rattle.serving.specs.Partitions.{Seat, IsPartition}
+use Rattle.shard_contents.specs.declared.limits.Limits.{Limits}
+use Rattle.shard_contents.specs.Shards.{MayFollow, HasLooked, commit_of}
+use Rattle.shard_contents.specs.Commits.{HasRoom}
+use Rattle.shard_contents.specs.Transactions.{changes_table, entry_of}
+use Rattle.shard_calls.specs.declared.reply.Answer.{Answer}
+use Rattle.shard_calls.specs.declared.reply.Answer.TheVariants.{Count}
+use Rattle.shard_calls.specs.declared.reply.ShardRead.{ShardRead}
+use Rattle.shard_calls.specs.declared.reply.Reply.{Reply}
+use Rattle.shard.specs.Seats.{seat_of}
+use Rattle.shard_calls.specs.Answers.{counted, needed, needed_by, NeedsAlone, HasGone, Gives, MayReadRefuse, MayWriteRefuse}
+use Rattle.shard_calls.specs.Alone.{GivesOver}
+
+-- ---- what a transaction is
+
+-- an answered statement of a transaction, the shard that it used, if it needed one, and the run that its session had seen when it was answered
+pub record Step : Type 0 where
+  pub typed : Typed
+  pub answer : Answer
+  pub on : Option Shard
+  pub seen : Run
+
+-- An open transaction: its answered statements in order, and the run at the last of them that used a shard; before any, the one that its
+-- session had seen when it began.
+pub record Transaction : Type 0 where
+  pub at : Run
+  pub steps : List Step
+
+-- what a session's pass has seen, and its open transaction
+pub record Standing : Type 0 where
+  pub pass : PassView Entry
+  pub tx : Option Transaction
+
+-- ---- one database
+
+-- The statements gave their answers, one after the other, from the one database to the other.
+pub data GiveOver (schema : VSchema) (db : Database) : List Step → Database → Type 0 where
+  none : GiveOver schema db [] db
+  next : {steps : List Step} {mid after : Database} (step : Step) → GiveOver schema db steps mid → GivesOver schema mid step.typed step.answer after
+      → GiveOver schema db (steps ++ step ∷ []) after
+
+-- The statements gave what they mean over the one database as the run leaves it, each with those before it done.
+abbrev pub AreOver : Opening → Run → List Step → Type 0
+AreOver o run steps = (after : Database) × GiveOver o.schema (one o run) steps after
+
+-- ---- the shards that it needs and uses
+
+-- the seats of a partition that a query needs
+abbrev pub needed_for : Opening → Query → List Seat → List Seat
+needed_for o q seats = needed (table_at o.schema q.table) (route_of (table_at o.schema q.table) q.filter) seats
+
+-- by some partition the query needs this shard alone
+pub record ReadsAlone (o : Opening) (q : Query) (s : Shard) : Type 0 where
+  pub seats : List Seat
+  pub partition : IsPartition seats
+  pub keyspace : s.place.keyspace ≡ (table_at o.schema q.table).keyspace
+  pub only : needed_for o q seats ≡ seat_of s ∷ []
+
+-- the keyspace of a query or a write
+abbrev pub statement_keyspace : Opening → Typed → Option ℕ
+statement_keyspace o (typed.Select q) = Some (table_at o.schema q.table).keyspace
+statement_keyspace o (typed.Write w) = Some (table_at o.schema (written_table w)).keyspace
+statement_keyspace o _ = None
+
+-- the seats of a partition that a statement needs
+abbrev pub seats_for : Opening → Typed → List Seat → List Seat
+seats_for o (typed.Select q) seats = needed_for o q seats
+seats_for o (typed.Write w) seats = needed_by o w seats
+seats_for o _ seats = []
+
+-- a query or a write that needs no shard by some partition; or SET NAMES
+abbrev pub NeedsNone : Opening → Typed → Type 0
+NeedsNone o (typed.Select q) = (seats : List Seat) × IsPartition seats × (needed_for o q seats ≡ [])
+NeedsNone o (typed.Write w) = (seats : List Seat) × IsPartition seats × (needed_by o w seats ≡ [])
+NeedsNone o typed.SetNames = Unit {0}
+NeedsNone o _ = ⊥
+
+-- a query or a write that needs this shard alone by some partition
+abbrev pub NeedsOnly : Opening → Typed → Shard → Type 0
+NeedsOnly o (typed.Select q) s = ReadsAlone o q s
+NeedsOnly o (typed.Write w) s = NeedsAlone o w s
+NeedsOnly o _ s = ⊥
+
+abbrev pub if_any : Option Shard → List Shard
+if_any None = []
+if_any (Some s) = s ∷ []
+
+-- the shard of each statement that used one
+abbrev pub used : List Step → List Shard
+used steps = flat_map (λ step. if_any step.on) steps
+
+abbrev pub write_on : Option Shard → Typed → List Write
+write_on (Some s) (typed.Write w) = w ∷ []
+write_on _ _ = []
+
+-- its writes that used a shard, in order
+abbrev pub writes_in : List Step → List Write
+writes_in steps = flat_map (λ step. write_on step.on step.typed) steps
+
+-- ---- conflicts
+
+-- the table of a query or a write
+abbrev pub table_of : Typed → Option ℕ
+table_of (typed.Select q) = Some q.table
+table_of (typed.Write w) = Some (written_table w)
+table_of _ = None
+
+-- Behind a statement of the transaction another session's commit on the shard that it used has changed a row of that statement's table.
+pub record IsConflict (o : Opening) (s : Shard) (session : Option ℕ) (run : Run) (steps : List Step) : Type 0 where
+  pub step : Step
+  pub is : Contains steps step
+  pub on : step.on ≡ Some s
+  pub table : ℕ
+  pub touched : table_of step.typed ≡ Some table
+  pub behind : List Entry
+  pub since : run ≡ step.seen ++ behind
+  pub commit : C.Commit
+  pub there : Contains behind (record { shard = s; event = Commit commit })
+  pub other : session ≢ Some commit.session
+  pub changed : changes_table table (record { shard = s; event = Commit commit }) ≡ true
+
+-- ---- what its statements give
+
+-- one more statement of a transaction
+abbrev pub with_step : List Step → Typed → Answer → Option Shard → Run → List Step
+with_step steps t answer on seen = steps ++ record { typed = t; answer = answer; on = on; seen = seen } ∷ []
+
+-- what is told of the shard that a query read
+abbrev pub reads_of : Typed → Shard → Run → List ShardRead
+reads_of (typed.Select q) s run = record { slot = s.slot; entries = length (entries_on s.slot run) } ∷ []
+reads_of _ s run = []
+
+-- The session of the pass has committed these statements on the shard: one look, then one entry with their writes, in order, and this alone is
+-- new of its session. Up to the entry none of their tables was changed by another session, and the statements lead from the one database right
+-- before the entry to the one right behind it.
+pub record IsCommitted (o : Opening) (limits : Limits) (s : Shard) (p : PassView Entry) (steps : List Step) (now : PassView Entry) : Type 0 where
+  pub looked : PassView Entry
+  pub look : HasLooked o s.slot p looked
+  pub before : Run
+  pub later : IsPrefix looked.seen before
+  pub own : (n : ℕ) → p.session ≡ Some n → filter (by_session commit_of n) before ≡ filter (by_session commit_of n) p.seen
+  pub session : ℕ
+  pub of_session : p.session ≡ Some session
+  pub changes : List RowChange
+  pub seen : now.seen ≡ before ++ entry_of s session p.statements (writes_in steps) changes ∷ []
+  pub legal : IsLegal (MayFollow o) now.seen
+  pub room : HasRoom o limits s before changes
+  pub clear : IsConflict o s p.session before steps → ⊥
+  pub over : GiveOver o.schema (one o before) steps (one o now.seen)
+  pub pass : now ≡ record looked { seen = now.seen }
+
+-- What a statement gives in an open transaction. One that needs no shard gives what it means with those before it. One that needs a shard needs
+-- the transaction's, which serves at a look, up to which no other session has changed a table of an earlier statement, and then all statements
+-- so far give what they mean over the one database as it is at this look. So it is where a commit has read alone, which adds nothing; one that
+-- has written adds one entry. A rollback adds nothing.
+pub data GivesIn (o : Opening) (limits : Limits) (p : PassView Entry) (t : Transaction) : Typed → Reply → Standing → Type 0 where
+  nowhere : {typed : Typed} {answer : Answer} → NeedsNone o typed → AreOver o t.at (with_step t.steps typed answer None p.seen)
+      → GivesIn o limits p t typed (record { answer = answer; reads = [] })
+      (record { pass = p; tx = Some (record { at = t.at; steps = with_step t.steps typed answer None p.seen }) })
+  on_shard : {typed : Typed} {answer : Answer} {now : PassView Entry} (s : Shard) → NeedsOnly o typed s
+      → AllByRecursion (λ u. u ≡ s) (used t.steps) → HasLooked o s.slot p now → mode o now.seen s.slot ≡ Serving
+      → (IsConflict o s p.session now.seen t.steps → ⊥) → AreOver o now.seen (with_step t.steps typed answer (Some s) now.seen)
+      → GivesIn o limits p t typed (record { answer = answer; reads = reads_of typed s now.seen })
+      (record { pass = now; tx = Some (record { at = now.seen; steps = with_step t.steps typed answer (Some s) now.seen }) })
+  commits_nothing : used t.steps ≡ [] → GivesIn o limits p t typed.Commit (record { answer = Count 0; reads = [] }) (record { pass = p; tx = None })
+  commits_reads : {now : PassView Entry} (s : Shard) → Contains (used t.steps) s → writes_in t.steps ≡ [] → HasLooked o s.slot p now
+      → mode o now.seen s.slot ≡ Serving → (IsConflict o s p.session now.seen t.steps → ⊥) → AreOver o now.seen t.steps
+      → GivesIn o limits p t typed.Commit (record { answer = Count 0; reads = [] }) (record { pass = now; tx = None })
+  commits_writes : {now : PassView Entry} (s : Shard) → Contains (used t.steps) s → writes_in t.steps ≢ [] → IsCommitted o limits s p t.steps now
+      → GivesIn o limits p t typed.Commit (record { answer = Count 0; reads = [] }) (record { pass = now; tx = None })
+  rolls_back : GivesIn o limits p t typed.Rollback (record { answer = Count 0; reads = [] }) (record { pass = p; tx = None })
+
+-- What a typed statement gives. Without an open transaction each is one by itself; BEGIN opens one, COMMIT and ROLLBACK do nothing.
+pub data GivesAt (o : Opening) (limits : Limits) (p : PassView Entry) : Option Transaction → Typed → Reply → Standing → Type 0 where
+  alone : {t : Typed} {reply : Reply} {now : PassView Entry} → Gives o limits p t reply now
+      → GivesAt o limits p None t reply (record { pass = now; tx = None })
+  begins : GivesAt o limits p None typed.Begin (record { answer = Count 0; reads = [] })
+      (record { pass = p; tx = Some (record { at = p.seen; steps = [] }) })
+  commits : GivesAt o limits p None typed.Commit (record { answer = Count 0; reads = [] }) (record { pass = p; tx = None })
+  rolls_back : GivesAt o limits p None typed.Rollback (record { answer = Count 0; reads = [] }) (record { pass = p; tx = None })
+  within : {tx : Transaction} {t : Typed} {reply : Reply} {now : Standing} → GivesIn o limits p tx t reply now → GivesAt o limits p (Some tx) t reply now
+
+-- The text is a statement under the VSchema, and the reply is what it gives; the pass has the statement's number.
+pub record IsAnswerNow (o : Opening) (limits : Limits) (p : Standing) (text : List ℕ) (reply : Reply) (now : Standing) : Type 0 where
+  pub statement : Statement
+  pub typed : Typed
+  pub reads : Reads text statement
+  pub resolved : typed_statement o.schema statement ≡ Ok typed
+  pub gives : GivesAt o limits p.pass p.tx typed reply now
+
+-- a session once its next statement is numbered
+abbrev pub numbered : Standing → Standing
+numbered p = record p { pass = counted p.pass }
+
+-- the same of a text, under the session's next number
+abbrev pub IsReplyTo : Opening → Limits → Standing → List ℕ → Reply → Standing → Type 0
+IsReplyTo o limits p text reply now = IsAnswerNow o limits (numbered p) text reply now
+
+-- ---- why it is refused
+
+-- the shard that a query or a write of the transaction needs alone, or of a commit the one that it has used
+abbrev pub IsFor : Opening → Transaction → Typed → Shard → Type 0
+IsFor o t typed.Commit s = Contains (used t.steps) s
+IsFor o t other s = NeedsOnly o other s
+
+-- Why a statement of an open transaction is refused, and how that leaves the session. The transaction goes on, but where its shard is frozen or
+-- doesn't serve, its tables were changed, or its commit has no room.
+pub data IsRefusedIn (o : Opening) (limits : Limits) (p : PassView Entry) (t : Transaction) : Typed → Refusal → Standing → Type 0 where
+  no_memory : {typed : Typed} {now : PassView Entry} → HasGone o p now → IsRefusedIn o limits p t typed OutOfMemory (record { pass = now; tx = Some t })
+  open_twice : IsRefusedIn o limits p t typed.Begin NotSupported (record { pass = p; tx = Some t })
+  several : {typed : Typed} (seats : List Seat) → IsPartition seats → 2 ≤ length (seats_for o typed seats)
+      → IsRefusedIn o limits p t typed SeveralShards (record { pass = p; tx = Some t })
+  another : {typed : Typed} (seats : List Seat) (seat : Seat) (u : Shard) → IsPartition seats → seats_for o typed seats ≡ seat ∷ []
+      → Contains (used t.steps) u → (statement_keyspace o typed ≡ Some u.place.keyspace → seat ≡ seat_of u → ⊥)
+      → IsRefusedIn o limits p t typed SeveralShards (record { pass = p; tx = Some t })
+  duplicate : {w : Write} {now : PassView Entry} (s : Shard) (after : Database) → NeedsAlone o w s → HasLooked o s.slot p now
+      → GiveOver o.schema (one o now.seen) t.steps after → changes_of o.schema w after ≡ Err DuplicateKey
+      → IsRefusedIn o limits p t (typed.Write w) DuplicateKey (record { pass = now; tx = Some t })
+  moved : {typed : Typed} {now : PassView Entry} (s : Shard) → IsFor o t typed s → HasLooked o s.slot p now → mode o now.seen s.slot ≢ Serving
+      → IsRefusedIn o limits p t typed ShardMoved (record { pass = now; tx = None })
+  conflict : {typed : Typed} {now : PassView Entry} (s : Shard) → IsFor o t typed s → HasLooked o s.slot p now
+      → IsConflict o s p.session now.seen t.steps → IsRefusedIn o limits p t typed Conflict (record { pass = now; tx = None })
+  full : {now : PassView Entry} (s : Shard) (changes : List RowChange) → Contains (used t.steps) s → HasLooked o s.slot p now
+      → GiveOver o.schema (one o now.seen) t.steps (all_applied changes (one o now.seen)) → (HasRoom o limits s now.seen changes → ⊥)
+      → IsRefusedIn o limits p t typed.Commit ShardFull (record { pass = now; tx = None })
+
+-- Why a typed statement is refused: a query or a write by itself, as without transactions; or one of an open transaction.
+pub data IsRefusedBy (o : Opening) (limits : Limits) (p : PassView Entry) : Option Transaction → Typed → Refusal → Standing → Type 0 where
+  not_read : {q : Query} {r : Refusal} {now : PassView Entry} → MayReadRefuse o p q r now
+      → IsRefusedBy o limits p None (typed.Select q) r (record { pass = now; tx = None })
+  not_written : {w : Write} {r : Refusal} {now : PassView Entry} → MayWriteRefuse o limits p w r now
+      → IsRefusedBy o limits p None (typed.Write w) r (record { pass = now; tx = None })
+  within : {tx : Transaction} {t : Typed} {r : Refusal} {now : Standing} → IsRefusedIn o limits p tx t r now → IsRefusedBy o limits p (Some tx) t r now
+
+-- Why a numbered text is refused: a growth was refused; the text has no tree; its tree is refused under the VSchema; or what it means is refused.
+pub data IsRefusedNow (o : Opening) (limits : Limits) (p : Standing) (text : List ℕ) : Refusal → Standing → Type 0 where
+  no_memory : IsRefusedNow o limits p text OutOfMemory p
+  no_tree : ((statement : Statement) → Reads text statement → ⊥) → IsRefusedNow o limits p text SyntaxError p
+  not_typed : {r : Refusal} (statement : Statement) → Reads text statement → typed_statement o.schema statement ≡ Err r → IsRefusedNow o limits p text r p
+  refused : {r : Refusal} {now : Standing} (statement : Statement) (t : Typed) → Reads text statement → typed_statement o.schema statement ≡ Ok t
+      → IsRefusedBy o limits p.pass p.tx t r now → IsRefusedNow o limits p text r now
+
+-- Why a text is refused: its session's statement numbers are used up, which ends its transaction; or its numbered text is refused.
+pub data IsRefusedAt (o : Opening) (limits : Limits) (p : Standing) (text : List ℕ) : Refusal → Standing → Type 0 where
+  used_up : 2 ^ 62 ≤ p.pass.statements → IsRefusedAt o limits p text ShardFull (record { pass = p.pass; tx = None })
+  refused : {r : Refusal} {now : Standing} → IsRefusedNow o limits (numbered p) text r now → IsRefusedAt o limits p text r now

@@ -1,0 +1,162 @@
+-- What a shard is asked, what it gave, and what the gathered readings are.
+use Rattle.std.specs.Prelude.{◌≡◌, ℕ, ◌+◌, List, [], ◌∷◌, map, flat_map, Bool, true, false, Contains, IfOk, IfErr, Result, Ok, Err, None, All, IsSorted}
+use Rattle.std.specs.List.{AllByRecursion, AllZip}
+use mathlib.Core.List.{IsPrefix}
+use Rattle.vt_value.specs.declared.refusal.Refusal.{Refusal}
+use Rattle.vt_value.specs.declared.refusal.Refusal.TheVariants.{OutOfMemory}
+use Rattle.vt_value.specs.Values.{Row}
+use Rattle.operators.specs.Orders.{row_cmp}
+use Rattle.vschema.specs.declared.schema.Table.{Table}
+use Rattle.vschema.specs.declared.schema.Query.{Query}
+use Rattle.planner.specs.declared.plans.Plan.{Plan}
+use Rattle.planner.specs.Plans.{piece_of, CanJoin, Finishes}
+use Rattle.journal.specs.Views.{PassView, new_pass}
+use Rattle.shard_run.specs.declared.Shard.{Shard}
+use Rattle.shard_run.specs.declared.Entry.{Entry}
+use Rattle.shard_run.specs.Runs.{Opening}
+use Rattle.shard_contents.specs.declared.outcomes.Read.{Read}
+use Rattle.shard_contents.specs.declared.outcomes.Read.TheVariants.{Rows, NotServing}
+use Rattle.shard_run.specs.Legal.{IsOnItsSlot}
+use Rattle.vschema.specs.declared.schema.Place.{Place}
+use Rattle.serving.specs.Partitions.{Seat, IsPartition}
+use Rattle.shard_contents.specs.Shards.{HasLooked, Answers}
+use Rattle.shard_calls.specs.declared.reply.ShardRead.{ShardRead}
+use Rattle.vschema.specs.declared.changes.Write.{Write}
+use Rattle.sql_eval.specs.Writes.{written_table}
+use Rattle.planner.specs.Routes.{table_at, write_route}
+use Rattle.shard_contents.specs.declared.limits.Limits.{Limits}
+use Rattle.shard_contents.specs.declared.outcomes.Committed.{Committed}
+use Rattle.shard_contents.specs.declared.outcomes.Committed.TheVariants as c
+use Rattle.shard_calls.specs.declared.reply.Answer.TheVariants.{Count}
+use Rattle.shard_calls.specs.Answers.{needed, HasGoneOn, HasGone, HasWritten, IsHeldUp, is_writable}
+
+-- a shard's slot and place, the query that it is asked, and the pass by which it is read
+pub record Asked : Type 0 where
+  pub slot : ℕ
+  pub place : Place
+  pub query : Query
+  pub pass : PassView Entry
+
+-- its slot, the pass once it was read, and what it gave
+pub record Given : Type 0 where
+  pub slot : ℕ
+  pub pass : PassView Entry
+  pub outcome : Result Read Refusal
+
+-- each shard that the plan needs is asked its piece, by a pass that has seen the run
+abbrev pub asked : Table → Plan → List Entry → Seat → Asked
+asked t p before seat = record {
+  slot = seat.0;
+  place = record { keyspace = t.keyspace; range = seat.1 };
+  query = piece_of t p seat.1;
+  pass = new_pass before None;
+}
+
+-- numbers one after the other, from this one on
+abbrev pub AreConsecutive : ℕ → List ℕ → Type 0
+AreConsecutive n [] = Unit {0}
+AreConsecutive n (x ∷ xs) = (x ≡ n) × AreConsecutive (n + 1) xs
+
+abbrev pub all_asked : Table → Plan → List Entry → List Seat → List Asked
+all_asked t p before seats = map (asked t p before) (needed t p.route seats)
+
+-- the shard of this slot and place was read at one look, unless a growth was refused
+pub record IsReadingOf (o : Opening) (a : Asked) (g : Given) : Type 0 where
+  pub slot : g.slot ≡ a.slot
+  pub shard : Shard
+  pub stands : IsOnItsSlot o g.pass.seen shard
+  pub on_slot : shard.slot ≡ a.slot
+  pub in_place : shard.place ≡ a.place
+  pub looked : HasLooked o a.slot a.pass g.pass
+  pub read : IfOk g.outcome (Answers o g.pass.seen shard a.query)
+  pub refused : IfErr g.outcome (λ e. e ≡ OutOfMemory)
+
+abbrev pub rows_of_read : Read → List Row
+rows_of_read (Rows r) = r.rows
+rows_of_read NotServing = []
+
+abbrev pub entries_of_read : Read → ℕ
+entries_of_read (Rows r) = r.entries
+entries_of_read NotServing = 0
+
+abbrev pub has_rows : Read → Bool
+has_rows (Rows r) = true
+has_rows NotServing = false
+
+abbrev pub outcome_rows : Result Read Refusal → List Row
+outcome_rows (Ok r) = rows_of_read r
+outcome_rows (Err e) = []
+
+abbrev pub entries_in : Result Read Refusal → ℕ
+entries_in (Ok r) = entries_of_read r
+entries_in (Err e) = 0
+
+abbrev pub is_read : Result Read Refusal → Bool
+is_read (Ok r) = has_rows r
+is_read (Err e) = false
+
+-- the rows that a shard gave, and what the reply tells of it
+abbrev pub given_rows : Given → List Row
+given_rows g = outcome_rows g.outcome
+
+abbrev pub given_read : Given → ShardRead
+given_read g = record { slot = g.slot; entries = entries_in g.outcome }
+
+abbrev pub given_looks : Given → List (ℕ × ℕ)
+given_looks g = g.pass.looks
+
+-- The pass has seen what the readings' passes have seen, their looks are added to its own, and each gave rows.
+pub record IsGathered (o : Opening) (gs : List Given) (p now : PassView Entry) : Type 0 where
+  pub gone : HasGoneOn o p (flat_map given_looks gs) now
+  pub seen : AllByRecursion (λ g. IsPrefix g.pass.seen now.seen) gs
+  pub answered : AllByRecursion (λ g. is_read g.outcome ≡ true) gs
+
+-- one of the shards doesn't serve, and the pass has seen what the reading's pass has seen
+pub record IsStalled (gs : List Given) (now : PassView Entry) : Type 0 where
+  pub given : Given
+  pub there : Contains gs given
+  pub held_up : given.outcome ≡ Ok NotServing
+  pub seen : IsPrefix given.pass.seen now.seen
+
+-- the shards of some partition were read for the plan, after looks at most
+pub record IsScattered (o : Opening) (t : Table) (plan : Plan) (p : PassView Entry) (pieces : List (List Row)) (reads : List ShardRead) (now : PassView Entry) : Type 0 where
+  pub seats : List Seat
+  pub partition : IsPartition seats
+  pub since : PassView Entry
+  pub gone : HasGone o p since
+  pub gs : List Given
+  pub given : AllZip (IsReadingOf o) (all_asked t plan since.seen seats) gs
+  pub gathered : IsGathered o gs since now
+  pub pieces_are : pieces ≡ map given_rows gs
+  pub reads_are : reads ≡ map given_read gs
+
+-- what shards of a partition give for the plan can be joined
+abbrev pub CanJoinAll : Opening → Table → Plan → PassView Entry → Type 0
+CanJoinAll o t plan p =
+    (pieces : List (List Row)) (reads : List ShardRead) (now : PassView Entry) → IsScattered o t plan p pieces reads now
+    → CanJoin plan.finish.grouping (flat_map (λ l. l) pieces)
+
+-- where the plan's query isn't aggregated, what each of them gives is in the order of the finish's keys
+abbrev pub AllInOrder : Opening → Table → Plan → PassView Entry → Type 0
+AllInOrder o t plan p =
+    (pieces : List (List Row)) (reads : List ShardRead) (now : PassView Entry) → IsScattered o t plan p pieces reads now
+    → plan.finish.grouping ≡ None → All (λ piece. IsSorted (row_cmp plan.finish.order_by) piece) pieces
+
+-- the rows are what the plan makes of what the shards of some partition gave
+pub record IsFinished (o : Opening) (t : Table) (plan : Plan) (p : PassView Entry) (rows : List Row) (reads : List ShardRead) (now : PassView Entry) : Type 0 where
+  pub pieces : List (List Row)
+  pub scattered : IsScattered o t plan p pieces reads now
+  pub finished : Finishes plan.finish (flat_map (λ l. l) pieces) rows
+
+-- a count, or the write again where its shard took no commits
+abbrev pub tried : Committed → Result ℕ Write
+tried (c.Count n) = Ok n
+tried (c.Frozen w) = Err w
+tried (c.NotServing w) = Err w
+
+-- What one try to commit a write gives: it is written; or its one shard took no commits at a look, and the write comes back.
+pub data IsTried (o : Opening) (limits : Limits) (p : PassView Entry) (w : Write) : Result ℕ Write → PassView Entry → Type 0 where
+  written : {count : ℕ} {now : PassView Entry} → HasWritten o limits p w (record { answer = Count count; reads = [] }) now
+      → IsTried o limits p w (Ok count) now
+  again : {now : PassView Entry} → HasGone o p now
+      → IsHeldUp o (table_at o.schema (written_table w)) (write_route o.schema w) is_writable p.seen now.seen → IsTried o limits p w (Err w) now

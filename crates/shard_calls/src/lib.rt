@@ -1,0 +1,19 @@
+//! What a statement does on its shards: reads of several at once, in threads, and the reads, writes and commits of a transaction on its one shard.
+#![tactic(auto)]
+
+mod gate;
+mod parts;
+mod reply;
+mod scatter;
+mod tx;
+mod within;
+
+pub use gate::{Gate, Open};
+pub use parts::{only_needed, shard_of};
+pub use reply::{Answer, Reply, Selected, ShardRead, counted};
+pub use scatter::{Done, Gathered, Job, gather, jobs, read_all};
+pub use tx::{Bound, OpenTx, Tx};
+pub use within::{
+    closes, commit_at, ends, items_of, read_at, read_first, read_nothing, stays_open, write_at,
+    write_first,
+};

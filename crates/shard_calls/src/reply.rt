@@ -1,0 +1,45 @@
+//! What a statement answered.
+ghost use Rattle.std.specs.Prelude.{◌≡◌, []};
+
+use sql_tree::Item;
+use std::alloc::Global;
+use vt_value::{Items, Row};
+
+/// What a query gave: the table that it names and what it shows, by the places of columns, and its rows.
+#[derive(Drop)]
+pub struct Selected {
+    pub table: usize,
+    pub items: Items<Item<usize>>,
+    pub rows: Items<Row>,
+}
+
+/// What a statement answered: rows, or the count of an OK.
+#[derive(Drop)]
+pub enum Answer {
+    Rows(Selected),
+    Count(u64),
+}
+
+/// A shard that a query read, by its slot, and how many entries it had then.
+#[derive(Clone, Copy, Debug, PartialEq, Eq)]
+pub struct ShardRead {
+    pub slot: usize,
+    pub entries: u64,
+}
+
+/// What a statement answered, and the shards that it read, in the order of their ranges.
+#[derive(Drop)]
+pub struct Reply {
+    pub answer: Answer,
+    pub reads: Items<ShardRead>,
+}
+
+/// The reply to a statement that counts so many rows.
+pub fn counted(alloc: Global, count: u64) -> Reply
+    ensures { result ≡ record { answer = Answer.Count count; reads = [] } }
+{
+    Reply {
+        answer: Answer::Count(count),
+        reads: Items::new(alloc),
+    }
+}

@@ -1,0 +1,232 @@
+//! The shards that a query needs, read at once in threads of their own.
+ghost use Rattle.std.specs.Prelude.{◌≡◌, ◌++◌, ◌∷◌, [], ℕ, IfOk, IfErr, OnOk, IfSome, IfNone, map, true};
+ghost use Rattle.std.specs.List.{AllZip, AllByRecursion};
+ghost use Rattle.journal.specs.Runs.{IsLegal};
+ghost use Rattle.serving.specs.Partitions.{AreOf};
+ghost use Rattle.shard_contents.specs.Shards.{MayFollow};
+ghost use Rattle.shard.specs.Seats.{place_at};
+ghost use Rattle.shard_calls.specs.Answers.{HasGone};
+ghost use Rattle.shard_calls.specs.inner.Scatter.{asked, all_asked, IsReadingOf, outcome_rows, entries_in, IsGathered, AreConsecutive, IsStalled};
+
+use crate::gate::Gate;
+use crate::reply::ShardRead;
+use journal::{Naming, Pass};
+use operators::{Operator, Rows};
+use planner::{Plan, single_id, takes_by};
+use serving::{Part, Seated};
+use shard::{Read, Reading, Shard, ShardLaw, World};
+use std::alloc::Global;
+use std::sync::Wait;
+use std::thread::{self, Threads};
+use vschema::{Query, Table};
+use vt_value::{Items, Refusal};
+
+/// What a shard is asked: its number among those that a query needs, itself, its piece of the query, and a pass.
+#[derive(Drop)]
+pub struct Job<'e, W: World, J: Naming> {
+    pub turn: usize,
+    pub shard: &'e Shard<W, J>,
+    pub query: Query,
+    pub pass: Pass<ShardLaw<W>, J>,
+}
+
+/// What a shard gave, with the pass by which it was read.
+#[derive(Drop)]
+pub struct Done<W: World, J: Naming> {
+    pub slot: usize,
+    pub pass: Pass<ShardLaw<W>, J>,
+    pub outcome: Result<Read, Refusal>,
+}
+
+/// The rows that each shard gave, and what the reply tells of each.
+#[derive(Drop)]
+pub struct Gathered {
+    pub pieces: Vec<Rows>,
+    pub reads: Items<ShardRead>,
+}
+
+impl Gathered {
+    // What the next shard gave.
+    fn push(&mut self, alloc: Global, slot: usize, reading: Reading) -> Result<(), Refusal>
+        ensures pieces { OnOk result (map ⟦<Rows as Operator>⟧.to_come self.new.pieces.items ≡ map ⟦<Rows as Operator>⟧.to_come self.old.pieces.items ++ reading.rows ∷ []) }
+        ensures reads { OnOk result (self.new.reads ≡ self.old.reads ++ record { slot = slot; entries = reading.entries } ∷ []) }
+        ensures err { IfErr result (λ e. e ≡ Refusal.OutOfMemory) }
+    {
+        self.pieces.push(Rows::new(alloc, reading.rows)?)?;
+        self.reads.push(ShardRead {
+            slot,
+            entries: reading.entries,
+        })?;
+        Ok(())
+    }
+}
+
+// What the part's shard is asked under this number, by a pass of its own.
+fn job_for<'e, W: World, J: Naming>(
+    alloc: Global,
+    pass: &mut Pass<ShardLaw<W>, J>,
+    turn: usize,
+    part: &'e Part<Shard<W, J>>,
+    table: &Table,
+    plan: &Plan,
+) -> Result<Job<'e, W, J>, Refusal>
+    requires keyspace { part.now.2 ≡ table.now.keyspace }
+    ensures same { pass.new ≡ pass.old }
+    ensures turn { IfOk result (λ job. job.turn ≡ turn) }
+    ensures asks { IfOk result (λ job. record { slot = job.shard.now.0; place = place_at job.shard.now; query = job.query; pass = job.pass } ≡ asked table.now plan.now pass.old.seen part.now) }
+    ensures err { IfErr result (λ e. e ≡ Refusal.OutOfMemory) }
+{
+    let range = part.range();
+    let pass = pass.split()?;
+    match plan.piece_for(alloc, table, &range) {
+        Ok(query) => Ok(Job {
+            turn,
+            shard: part.shard(),
+            query,
+            pass,
+        }),
+        Err(refusal) => {
+            drop(pass);
+            Err(refusal)
+        }
+    }
+}
+
+/// What the shards are asked that the plan needs, each under the next number and by a pass of its own.
+pub fn jobs<'e, W: World, J: Naming>(
+    alloc: Global,
+    pass: &mut Pass<ShardLaw<W>, J>,
+    parts: &'e [Part<Shard<W, J>>],
+    table: &Table,
+    plan: &Plan,
+) -> Result<Vec<Job<'e, W, J>>, Refusal>
+    requires keyspace { AreOf table.now.keyspace parts.now }
+    ensures same { pass.new ≡ pass.old }
+    ensures ok { IfOk result (λ jobs. map (λ job. record { slot = job.shard.now.0; place = place_at job.shard.now; query = job.query; pass = job.pass }) jobs.items ≡ all_asked table.now plan.now pass.old.seen parts.now) }
+    ensures turns { IfOk result (λ jobs. AreConsecutive 0 (map (λ job. job.turn) jobs.items)) }
+    ensures err { IfErr result (λ e. e ≡ Refusal.OutOfMemory) }
+{
+    // Most plans need one shard: no room is made for more at first.
+    let mut jobs = Vec::with_capacity(alloc, 1)?;
+    let id = single_id(table, &plan.route);
+    for part in parts {
+        if takes_by(table, &plan.route, &id, &part.range()) {
+            let turn = jobs.len();
+            jobs.push(job_for(alloc, pass, turn, part, table, plan)?)?;
+        }
+    }
+    Ok(jobs)
+}
+
+fn read_one<W: World, J: Naming, G: Gate>(
+    rt: &impl Wait,
+    alloc: Global,
+    gate: &G,
+    job: Job<W, J>,
+) -> Done<W, J>
+    ensures { IsReadingOf W.opening (record { slot = job.entry.shard.now.0; place = place_at job.entry.shard.now; query = job.entry.query; pass = job.entry.pass }) (record { slot = result.slot; pass = result.pass; outcome = result.outcome }) }
+{
+    let Job {
+        turn,
+        shard,
+        query,
+        mut pass,
+    } = job;
+    let slot = shard.slot();
+    gate.before(turn);
+    let outcome = shard.read(rt, alloc, &mut pass, &query);
+    gate.after(turn);
+    drop(query);
+    Done {
+        slot,
+        pass,
+        outcome,
+    }
+}
+
+// Whether the tables that these jobs read have at most so many rows each, as far as one can tell without waiting.
+fn are_small<W: World, J: Naming>(jobs: &[Job<W, J>], most: usize) -> bool {
+    for job in jobs {
+        if !job.shard.is_small(job.query.table, most) {
+            return false;
+        }
+    }
+    true
+}
+
+// Each shard's answer, read by this thread, one after the other.
+fn read_in_turn<W: World, J: Naming, G: Gate>(
+    rt: &impl Wait,
+    alloc: Global,
+    gate: &G,
+    jobs: Vec<Job<W, J>>,
+) -> Result<Vec<Done<W, J>>, Refusal>
+    ensures ok { IfOk result (λ done. AllZip (λ job d. IsReadingOf W.opening (record { slot = job.shard.now.0; place = place_at job.shard.now; query = job.query; pass = job.pass }) (record { slot = d.slot; pass = d.pass; outcome = d.outcome })) jobs.entry.items done.items) }
+    ensures err { IfErr result (λ e. e ≡ Refusal.OutOfMemory) }
+{
+    let mut done = Vec::with_capacity(alloc, jobs.len())?;
+    for job in jobs {
+        done.push(read_one(rt, alloc, gate, job))?;
+    }
+    Ok(done)
+}
+
+/// Each shard's answer: of one shard, or of small tables, read by this thread; else each in a thread of its own where one can be started.
+/// Refuses only for want of memory.
+pub fn read_all<R: Threads + Wait + Sync, W: World + Send + Sync, J: Naming + Send + Sync, G: Gate>(
+    rt: &R,
+    alloc: Global,
+    gate: &G,
+    jobs: Vec<Job<W, J>>,
+) -> Result<Vec<Done<W, J>>, Refusal>
+    ensures ok { IfOk result (λ done. AllZip (λ job d. IsReadingOf W.opening (record { slot = job.shard.now.0; place = place_at job.shard.now; query = job.query; pass = job.pass }) (record { slot = d.slot; pass = d.pass; outcome = d.outcome })) jobs.entry.items done.items) }
+    ensures err { IfErr result (λ e. e ≡ Refusal.OutOfMemory) }
+{
+    if jobs.len() < 2 || are_small(jobs.as_slice(), gate.few_rows()) {
+        return read_in_turn(rt, alloc, gate, jobs);
+    }
+    let done = thread::map_vec(
+        rt,
+        jobs,
+        &|job: Job<W, J>| -> Done<W, J>
+            ensures { IsReadingOf W.opening (record { slot = job.entry.shard.now.0; place = place_at job.entry.shard.now; query = job.entry.query; pass = job.entry.pass }) (record { slot = result.slot; pass = result.pass; outcome = result.outcome }) }
+        { read_one(rt, alloc, gate, job) },
+    )?;
+    Ok(done)
+}
+
+/// What the shards gave, with all that their passes have seen and their looks joined into the session's pass; nothing where one of them
+/// doesn't serve. Refuses where a shard refused, and for want of memory.
+pub fn gather<W: World, J: Naming>(
+    alloc: Global,
+    pass: &mut Pass<ShardLaw<W>, J>,
+    done: Vec<Done<W, J>>,
+) -> Result<Option<Gathered>, Refusal>
+    requires legal { IsLegal (MayFollow W.opening) pass.old.seen }
+    requires refused { AllByRecursion (λ d. IfErr d.outcome (λ e. e ≡ Refusal.OutOfMemory)) done.items }
+    ensures gone { HasGone W.opening pass.old pass.new }
+    ensures all { IfOk result (λ r. IfSome r (λ g. IsGathered W.opening (map (λ d. record { slot = d.slot; pass = d.pass; outcome = d.outcome }) done.items) pass.old pass.new)) }
+    ensures pieces { IfOk result (λ r. IfSome r (λ g. map ⟦<Rows as Operator>⟧.to_come g.pieces.items ≡ map (λ d. outcome_rows d.outcome) done.items)) }
+    ensures reads { IfOk result (λ r. IfSome r (λ g. g.reads ≡ map (λ d. record { slot = d.slot; entries = entries_in d.outcome }) done.items)) }
+    ensures stalled { IfOk result (λ r. IfNone r (IsStalled (map (λ d. record { slot = d.slot; pass = d.pass; outcome = d.outcome }) done.items) pass.new)) }
+    ensures err { IfErr result (λ e. e ≡ Refusal.OutOfMemory) }
+{
+    let mut gathered = Gathered {
+        pieces: Vec::new(alloc),
+        reads: Items::new(alloc),
+    };
+    for one in done {
+        let Done {
+            slot,
+            pass: other,
+            outcome,
+        } = one;
+        pass.join(other);
+        match outcome {
+            Ok(Read::Rows(reading)) => gathered.push(alloc, slot, reading)?,
+            Ok(Read::NotServing) => return Ok(None),
+            Err(refusal) => return Err(refusal),
+        }
+    }
+    Ok(Some(gathered))
+}

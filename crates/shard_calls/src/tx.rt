@@ -1,0 +1,171 @@
+//! A session's transaction, as the engine keeps it.
+ghost use Rattle.std.specs.Prelude.{◌≡◌, ◌↔◌, IsTrue, IsSome, None, Some, IfOk, IfErr};
+ghost use Rattle.serving.specs.Partitions.{AreOf};
+
+use journal::Naming;
+use serving::{Part, Partition, Seated};
+use shard::{Pending, Shard, World};
+use std::alloc::Global;
+use std::marker::Model;
+use std::sync::Arc;
+use vt_value::Refusal;
+
+/// The shard that a transaction is bound to, its keyspace, and the partition by which a statement needed it. Contracts see a `BoundView`.
+#[derive(Drop)]
+pub struct Bound<W: World, J: Naming> {
+    keyspace: usize,
+    part: Part<Shard<W, J>>,
+    partition: Partition<Shard<W, J>>,
+}
+
+impl<W: World, J: Naming> Model for Bound<W, J> {
+    ghost use Rattle.std.specs.Prelude.{◌≡◌};
+    ghost use Rattle.serving.specs.Partitions.{AreOf};
+    ghost use Rattle.shard_calls.specs.Pendings.{BoundView};
+
+    ghost Value = { BoundView };
+
+    ghost view = { λ b. record { keyspace = b.keyspace; seat = b.part } };
+
+    ghost invariant = { λ b. (b.part.2 ≡ b.keyspace) × AreOf b.keyspace b.partition };
+}
+
+fn copy_part<S: Seated + Drop>(part: &Part<S>) -> Result<Part<S>, Refusal>
+    ensures ok { IfOk result (λ copy. copy ≡ part.now) }
+    ensures err { IfErr result (λ e. e ≡ Refusal.OutOfMemory) }
+{
+    Ok(Part::new(Arc::try_clone(part.shard())?))
+}
+
+fn copy_parts<S: Seated + Drop>(alloc: Global, parts: &[Part<S>]) -> Result<Vec<Part<S>>, Refusal>
+    ensures ok { IfOk result (λ copies. copies.items ≡ parts.now) }
+    ensures err { IfErr result (λ e. e ≡ Refusal.OutOfMemory) }
+{
+    let mut copies = Vec::new(alloc);
+    for part in parts {
+        copies.push(copy_part(part)?)?;
+    }
+    Ok(copies)
+}
+
+impl<W: World, J: Naming> Bound<W, J> {
+    /// Bound to the shard of this part of the keyspace's partition. Refuses for want of memory.
+    pub fn to_part(
+        alloc: Global,
+        keyspace: usize,
+        partition: &Partition<Shard<W, J>>,
+        part: &Part<Shard<W, J>>,
+    ) -> Result<Bound<W, J>, Refusal>
+        requires part { part.now.2 ≡ keyspace }
+        requires keyspace { AreOf keyspace partition.now }
+        ensures ok { IfOk result (λ bound. bound ≡ record { keyspace = keyspace; seat = part.now }) }
+        ensures err { IfErr result (λ e. e ≡ Refusal.OutOfMemory) }
+    {
+        let part = copy_part(part)?;
+        match copy_parts(alloc, partition.parts()) {
+            Ok(parts) => Ok(Bound {
+                keyspace,
+                part,
+                partition: Partition::new(keyspace, parts),
+            }),
+            Err(refusal) => {
+                drop(part);
+                Err(refusal)
+            }
+        }
+    }
+
+    /// The keyspace, by its place in the VSchema.
+    pub fn keyspace(&self) -> usize
+        ensures { result ≡ self.now.keyspace }
+    {
+        self.keyspace
+    }
+
+    /// The slot that the shard stands on.
+    pub fn slot(&self) -> usize
+        ensures { result ≡ self.now.seat.0 }
+    {
+        self.part.slot()
+    }
+
+    /// The shard.
+    pub fn shard(&self) -> &Shard<W, J>
+        ensures seat { result.now ≡ self.now.seat }
+        ensures keyspace { self.now.seat.2 ≡ self.now.keyspace }
+    {
+        self.part.shard()
+    }
+
+    /// The partition by which it was needed.
+    pub fn partition(&self) -> &Partition<Shard<W, J>>
+        ensures { AreOf self.now.keyspace result.now }
+    {
+        &self.partition
+    }
+
+    /// Whether the part's shard is the one.
+    pub fn is_at(&self, part: &Part<Shard<W, J>>) -> bool
+        ensures { IsTrue result ↔ (self.now ≡ record { keyspace = part.now.2; seat = part.now }) }
+    {
+        self.keyspace == part.keyspace()
+            && self.part.slot() == part.slot()
+            && self.part.range() == part.range()
+    }
+}
+
+/// A session's open transaction: the shard that it is bound to, once it has used one, and what it has done there. Contracts see an
+/// `OpenView`.
+#[derive(Drop)]
+pub struct OpenTx<W: World, J: Naming> {
+    pub bound: Option<Bound<W, J>>,
+    pub pending: Pending,
+}
+
+impl<W: World, J: Naming> Model for OpenTx<W, J> {
+    ghost use Rattle.shard_calls.specs.Pendings.{OpenView};
+    ghost use Rattle.std.specs.Coded.{codes};
+    ghost use Rattle.vschema.specs.contracts.changes.Write as write;
+
+    ghost Value = { OpenView };
+
+    ghost coded = { Prim.hlevel (codes, write.the_row.coded) };
+
+    ghost view = { λ x. record { bound = x.bound; pending = x.pending } };
+}
+
+/// The transaction of a session, which takes part in each of its pass's statements: none, or an open one. Contracts see what the open one
+/// keeps.
+#[derive(Drop)]
+pub struct Tx<W: World, J: Naming> {
+    pub open: Option<OpenTx<W, J>>,
+}
+
+impl<W: World, J: Naming> Model for Tx<W, J> {
+    ghost use Rattle.std.specs.Prelude.{Option};
+    ghost use Rattle.shard_calls.specs.Pendings.{OpenView};
+    ghost use Rattle.std.specs.Coded.{codes};
+    ghost use Rattle.vschema.specs.contracts.changes.Write as write;
+
+    ghost Value = { Option OpenView };
+
+    ghost coded = { Prim.hlevel (codes, write.the_row.coded) };
+
+    ghost view = { λ x. x.open };
+}
+
+impl<W: World, J: Naming> Tx<W, J> {
+    /// No transaction is open.
+    pub fn new() -> Tx<W, J>
+        ensures { result ≡ None }
+    {
+        Tx { open: None }
+    }
+
+    /// Whether a transaction is open.
+    pub fn is_open(&self) -> bool
+        ensures { IsTrue result ↔ IsSome self.now }
+    {
+        self.open.is_some()
+    }
+}

@@ -1,0 +1,122 @@
+-- The steps that a state keeps tell how far it has come with each source.
+use Rattle.std.proofs.Common.{◌≡◌, ℕ, zero, suc, ◌+◌, ◌<◌, ◌≤◌, length, get_or, take, arith, Bool, true, false, ◌&&◌, ◌||◌, ◌==◌, List, [], ◌∷◌, ◌++◌, Option, Some, None, refl, sym, ap, ◌∙◌, flat_map}
+use Rattle.std.specs.Prelude.{if◌then◌else◌}
+use Rattle.std.specs.List.{list_any}
+use Rattle.shard_run.specs.declared.Event.{Event}
+use Rattle.shard_run.specs.declared.Event.TheVariants.{Commit, Follow, Copy, Freeze, Thaw, Retire, Serve}
+use Rattle.shard_run.specs.declared.Entry.{Entry}
+use Rattle.shard_run.specs.declared.Mode.TheVariants.{Retired}
+use Rattle.shard_run.specs.Runs.{Run, Opening, mode, is_on, entries_on}
+use Rattle.shard_run.specs.Copies.{position, position_from, has_copied_all, is_copy_that, is_last}
+use Rattle.shard_law.proofs.Lists.{flat_map-push}
+use Rattle.shard_contents.specs.declared.forward.Step.{Step}
+use Rattle.shard_contents.specs.declared.limits.Limits.{Limits}
+use Rattle.shard_contents.specs.declared.contents.Contents.{Contents}
+use Rattle.shard_contents.specs.Shards.{ShardView, Holds, Keeps}
+use Rattle.shard_contents.specs.inner.Shards.{is_plain}
+use Rattle.shard_contents.specs.Progress.{steps_of, steps_on, behind}
+use Rattle.shard_contents.specs.inner.Progress.{source_of, is_last_copy_of}
+use Rattle.shard_contents.proofs.Positions.{any_both}
+use Rattle.shard_contents.proofs.States.{entries-on, holds_of}
+
+pub steps-push : (run : Run) (e : Entry) (slot : ℕ) → is_on slot e ≡ true → steps_on slot (run ++ e ∷ []) ≡ steps_on slot run ++ steps_of e.event
+steps-push run e slot on =
+    ap (flat_map (λ (x : Entry). steps_of x.event)) (entries-on run e slot on)
+    ∙ flat_map-push (λ (x : Entry). steps_of x.event) (entries_on slot run) e
+
+-- an entry that changes a mode at most is no step
+pub no_steps : (ev : Event) → is_plain ev ≡ true → steps_of ev ≡ []
+no_steps (Commit c) plain = absurd (cc plain)
+no_steps (Follow f) plain = absurd (cc plain)
+no_steps (Copy c) plain = absurd (cc plain)
+no_steps Freeze plain = refl
+no_steps Thaw plain = refl
+no_steps (Retire targets) plain = refl
+no_steps Serve plain = refl
+
+-- ---- the position
+
+-- behind the last of these steps that is with the source
+abbrev pub behind_last : ℕ → Option ℕ → List Step → Option ℕ
+behind_last source p [] = p
+behind_last source p (step ∷ steps) = behind_last source (if source_of step == source then Some (behind step) else p) steps
+
+behind_last-run : (source : ℕ) (p : Option ℕ) (run : Run) → position_from source p run ≡ behind_last source p (flat_map (λ (e : Entry). steps_of e.event) run)
+behind_last-run source p [] = refl
+behind_last-run source p (e ∷ run) = by e.event (λ q. behind_last-run source q run)
+  where
+    by : (ev : Event) → ((q : Option ℕ) → position_from source q run ≡ behind_last source q (flat_map (λ (x : Entry). steps_of x.event) run))
+        → position_from source p (record e { event = ev } ∷ run)
+        ≡ behind_last source p (flat_map (λ (x : Entry). steps_of x.event) (record e { event = ev } ∷ run))
+    by (Commit c) rest = rest p
+    by (Follow f) rest = rest (if f.source == source then Some (f.place + 1) else p)
+    by (Copy c) rest = rest (if c.source == source then Some c.place else p)
+    by Freeze rest = rest p
+    by Thaw rest = rest p
+    by (Retire targets) rest = rest p
+    by Serve rest = rest p
+
+pub position_is : (run : Run) (slot source : ℕ) → position run slot source ≡ behind_last source None (steps_on slot run)
+position_is run slot source = behind_last-run source None (entries_on slot run)
+
+-- ---- tables that are wholly copied
+
+copied_run : (source table : ℕ) (run : Run)
+    → list_any (λ (e : Entry). is_copy_that is_last source table e.event) run
+    ≡ list_any (is_last_copy_of source table) (flat_map (λ (e : Entry). steps_of e.event) run)
+copied_run source table [] = refl
+copied_run source table (e ∷ run) = by e.event (copied_run source table run)
+  where
+    by : (ev : Event)
+        → list_any (λ (x : Entry). is_copy_that is_last source table x.event) run
+        ≡ list_any (is_last_copy_of source table) (flat_map (λ (x : Entry). steps_of x.event) run)
+        → list_any (λ (x : Entry). is_copy_that is_last source table x.event) (record e { event = ev } ∷ run)
+        ≡ list_any (is_last_copy_of source table) (flat_map (λ (x : Entry). steps_of x.event) (record e { event = ev } ∷ run))
+    by (Commit c) rest = rest
+    by (Follow f) rest = rest
+    by (Copy c) rest = ap (λ b. (((c.source == source) && (c.table == table)) && is_last c) || b) rest
+    by Freeze rest = rest
+    by Thaw rest = rest
+    by (Retire targets) rest = rest
+    by Serve rest = rest
+
+pub copied_is : (run : Run) (slot source table : ℕ) → has_copied_all run slot source table ≡ list_any (is_last_copy_of source table) (steps_on slot run)
+copied_is run slot source table =
+    any_both (is_on slot) (λ (e : Entry). is_copy_that is_last source table e.event) run ∙ copied_run source table (entries_on slot run)
+
+pub behind_last-push : (source : ℕ) (p : Option ℕ) (steps : List Step) (x : Step)
+    → behind_last source p (steps ++ x ∷ []) ≡ (if source_of x == source then Some (behind x) else behind_last source p steps)
+behind_last-push source p [] x = refl
+behind_last-push source p (y ∷ steps) x = behind_last-push source (if source_of y == source then Some (behind y) else p) steps x
+
+-- ---- what a state tells
+
+module _ (o : Opening) (most : Limits) (seen : Run) (c : Contents) (v : ShardView) (keeps : Keeps o most seen c) (view : record { seen = seen; shard = c.shard } ≡ v)
+    (lives : mode o v.seen v.shard.slot ≡ Retired → ⊥) where
+  has : Holds o most seen c
+  has = holds_of o most seen c keeps (λ retired. lives (ap (λ (x : ShardView). mode o x.seen x.shard.slot) (sym view) ∙ retired))
+
+  pub position_told : (source : ℕ) → position v.seen v.shard.slot source ≡ behind_last source None c.steps.items
+  position_told source =
+      ap (λ (x : ShardView). position x.seen x.shard.slot source) (sym view) ∙ position_is seen c.shard.slot source
+      ∙ ap (behind_last source None) (sym has.steps)
+
+  pub copied_told : (source table : ℕ) → has_copied_all v.seen v.shard.slot source table ≡ list_any (is_last_copy_of source table) c.steps.items
+  copied_told source table =
+      ap (λ (x : ShardView). has_copied_all x.seen x.shard.slot source table) (sym view) ∙ copied_is seen c.shard.slot source table
+      ∙ ap (list_any (is_last_copy_of source table)) (sym has.steps)
+
+pub any_at : {X : Type 0} (p : X → Bool) (xs : List X) (i : ℕ) (x : X) → i < length xs → x ≡ get_or xs i x → p x ≡ true → list_any p xs ≡ true
+any_at p [] i x there is passes = absurd (omega (arith, there))
+any_at p (y ∷ xs) zero x there is passes = let h : p y ≡ true = ap p (sym is) ∙ passes in ap (λ b. b || list_any p xs) h
+any_at p (y ∷ xs) (suc i) x there is passes = by (p y) (any_at p xs i x (omega (arith, there)) is passes)
+  where
+    by : (b : Bool) → list_any p xs ≡ true → (b || list_any p xs) ≡ true
+    by true rest = refl
+    by false rest = rest
+
+pub take_whole : {X : Type 0} (n : ℕ) (xs : List X) → length xs ≤ n → take n xs ≡ xs
+take_whole zero [] l = refl
+take_whole zero (x ∷ xs) l = absurd (omega (arith, l))
+take_whole (suc n) [] l = refl
+take_whole (suc n) (x ∷ xs) l = ap (λ ys. x ∷ ys) (take_whole n xs (omega (arith, l)))

@@ -1,0 +1,7 @@
+pub mod Stores
+pub mod Progress
+pub mod Shards
+pub mod Commits
+pub mod inner
+pub mod Copying
+pub mod Transactions

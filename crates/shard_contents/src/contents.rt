@@ -1,0 +1,259 @@
+ghost use Rattle.std.specs.Prelude.{◌≡◌, ◌+◌, ◌<◌, ◌≤◌, ◌^◌, ◌++◌, ◌∷◌, [], Ok, IfOk, IfErr, OnOk, IsTrue, length, slice_index_or, vec_len, vec_capacity};
+ghost use Rattle.vschema.specs.Schema.{no_table};
+ghost use Rattle.std.specs.List.{AllByRecursion};
+ghost use Rattle.vschema.specs.Database.{SameRows, all_applied, changed_table};
+ghost use Rattle.sql_eval.specs.Writes.{written_table, changes_of};
+ghost use Rattle.shard_run.specs.Openings.{row_count};
+ghost use Rattle.shard_run.specs.Runs.{held_changes};
+ghost use Rattle.shard_store.specs.Stores.{IsReadyFor};
+ghost use Rattle.shard_contents.specs.Commits.{inserted_rows, commit_entry};
+ghost use Rattle.shard_contents.specs.inner.Commits.{has_room, IsUnprepared};
+
+use crate::copies::{beside, copy_shard, one};
+use crate::forward::Step;
+use crate::limits::{Limits, MOST_ENTRIES};
+use shard_run::{Commit, Entry, Event, Follow, Mode, Shard};
+use shard_store::{KeyedChange, StoredTables};
+use std::alloc::Global;
+use vschema::{RowChange, VSchema, Write};
+use vt_value::{Items, Refusal};
+
+/// What a shard holds beside its seat.
+#[derive(Drop)]
+pub struct Contents {
+    pub shard: Shard,
+    pub store: StoredTables,
+    pub mode: Mode,
+    pub stored: Vec<Entry>,
+    // how far a target has come with its sources
+    pub steps: Vec<Step>,
+    pub limits: Limits,
+}
+
+/// The session that commits, and the number of its statement.
+#[derive(Clone, Copy)]
+pub struct Author {
+    pub session: u64,
+    pub number: u64,
+}
+
+/// A commit for which all memory is made: its entry, its changes once more by keys, and how many rows it changes.
+#[derive(Drop)]
+pub struct Prepared {
+    pub entry: Entry,
+    pub changes: Vec<KeyedChange>,
+    pub count: u64,
+}
+
+// Promise: The place of the table that a write changes
+/// The place of the table that a write changes.
+pub fn written_table(write: &Write) -> usize
+    ensures { result ≡ written_table write.now }
+{
+    match write {
+        Write::Insert(place, _) => *place,
+        Write::Update(place, _, _) => *place,
+        Write::Delete(place, _) => *place,
+    }
+}
+
+fn inserted(write: &Write) -> usize
+    ensures { result ≡ length (inserted_rows write.now) }
+{
+    match write {
+        Write::Insert(_, rows) => rows.len(),
+        _ => 0,
+    }
+}
+
+fn commit_entry(
+    alloc: Global,
+    shard: &Shard,
+    author: Author,
+    write: Write,
+    changes: Items<RowChange>,
+) -> Result<Entry, Refusal>
+    ensures ok { IfOk result (λ e. e ≡ commit_entry shard.now author.session author.number write changes) }
+    ensures err { IfErr result (λ e. e ≡ Refusal.OutOfMemory) }
+{
+    let statements = one(alloc, write)?;
+    let shard = copy_shard(alloc, shard)?;
+    let event = Event::Commit(Commit {
+        session: author.session,
+        number: author.number,
+        statements,
+        changes,
+    });
+    Ok(Entry { shard, event })
+}
+
+impl Contents {
+    // Whether one more stored entry with this write passes no limit.
+    fn has_room(&self, entries: u64, write: &Write) -> bool
+        requires { row_count self.now.store.rows ≤ self.now.limits.rows }
+        ensures { result ≡ has_room self.now.limits entries (vec_len self.now.stored) (row_count self.now.store.rows) write.now }
+    {
+        let left = self.limits.rows - self.store.row_count() as u64;
+        entries < MOST_ENTRIES
+            && (self.stored.len() as u64) < self.limits.stored
+            && inserted(write) as u64 <= left
+    }
+
+    // The changes of the write, unless it has a primary key that is there already or passes a limit.
+    fn changes(
+        &self,
+        alloc: Global,
+        entries: u64,
+        schema: &VSchema,
+        write: &Write,
+    ) -> Result<Items<RowChange>, Refusal>
+        requires there { written_table write.now < length schema.now.tables }
+        requires within { row_count self.now.store.rows ≤ self.now.limits.rows }
+        ensures changes { IfOk result (λ changes. changes_of schema.now write.now self.now.store.rows ≡ Ok changes) }
+        ensures limits { OnOk result (IsTrue (has_room self.now.limits entries (vec_len self.now.stored) (row_count self.now.store.rows) write.now)) }
+        ensures err { IfErr result (IsUnprepared schema.now self.now.limits entries (vec_len self.now.stored) self.now.store.rows write.now) }
+    {
+        let place = written_table(write);
+        let table = &schema.tables.as_slice()[place];
+        let changes = self.store.changes(alloc, table, write)?;
+        if !self.has_room(entries, write) {
+            return Err(Refusal::ShardFull);
+        }
+        Ok(changes)
+    }
+
+    // The changes of the write, and once more by keys, with room for them in the store and for an entry.
+    fn changes_twice(
+        &mut self,
+        alloc: Global,
+        entries: u64,
+        schema: &VSchema,
+        write: &Write,
+    ) -> Result<(Items<RowChange>, Vec<KeyedChange>), Refusal>
+        requires there { written_table write.now < length schema.now.tables }
+        requires tables { length self.old.store.rows ≡ length schema.now.tables }
+        requires within { row_count self.old.store.rows ≤ self.old.limits.rows }
+        ensures changes { IfOk result (λ r. changes_of schema.now write.now self.old.store.rows ≡ Ok r.0) }
+        ensures ready { IfOk result (λ r. IsReadyFor self.new.store r.0 r.1.items) }
+        ensures one_more { OnOk result (vec_len self.new.stored < vec_capacity self.new.stored) }
+        ensures limits { OnOk result (IsTrue (has_room self.old.limits entries (vec_len self.old.stored) (row_count self.old.store.rows) write.now)) }
+        ensures err { IfErr result (IsUnprepared schema.now self.old.limits entries (vec_len self.old.stored) self.old.store.rows write.now) }
+        ensures shard { self.new.shard ≡ self.old.shard }
+        ensures rows { self.new.store.rows ≡ self.old.store.rows }
+        ensures mode { self.new.mode ≡ self.old.mode }
+        ensures stored { self.new.stored.items ≡ self.old.stored.items }
+        ensures steps { self.new.steps.items ≡ self.old.steps.items }
+        ensures same_limits { self.new.limits ≡ self.old.limits }
+    {
+        let changes = self.changes(alloc, entries, schema, write)?;
+        let keyed = self.store.prepare(alloc, changes.as_slice())?;
+        self.stored.reserve(1)?;
+        Ok((changes, keyed))
+    }
+
+    /// Makes all memory of a commit of the write, once the shard has so many entries. It refuses a primary key that is there
+    /// already, what passes a limit, and for want of memory; what the shard holds stays as it is.
+    pub fn prepare(
+        &mut self,
+        alloc: Global,
+        entries: u64,
+        author: Author,
+        schema: &VSchema,
+        write: Write,
+    ) -> Result<Prepared, Refusal>
+        requires there { written_table write < length schema.now.tables }
+        requires tables { length self.old.store.rows ≡ length schema.now.tables }
+        requires within { row_count self.old.store.rows ≤ self.old.limits.rows }
+        ensures changes { IfOk result (λ p. changes_of schema.now write self.old.store.rows ≡ Ok (held_changes p.entry.event)) }
+        ensures entry { IfOk result (λ p. p.entry ≡ commit_entry self.old.shard author.session author.number write (held_changes p.entry.event)) }
+        ensures count { IfOk result (λ p. p.count ≡ length (held_changes p.entry.event)) }
+        ensures ready { IfOk result (λ p. IsReadyFor self.new.store (held_changes p.entry.event) p.changes.items) }
+        ensures one_more { OnOk result (vec_len self.new.stored < vec_capacity self.new.stored) }
+        ensures limits { OnOk result (IsTrue (has_room self.old.limits entries (vec_len self.old.stored) (row_count self.old.store.rows) write)) }
+        ensures err { IfErr result (IsUnprepared schema.now self.old.limits entries (vec_len self.old.stored) self.old.store.rows write) }
+        ensures shard { self.new.shard ≡ self.old.shard }
+        ensures rows { self.new.store.rows ≡ self.old.store.rows }
+        ensures mode { self.new.mode ≡ self.old.mode }
+        ensures stored { self.new.stored.items ≡ self.old.stored.items }
+        ensures steps { self.new.steps.items ≡ self.old.steps.items }
+        ensures same_limits { self.new.limits ≡ self.old.limits }
+    {
+        let twice = self.changes_twice(alloc, entries, schema, &write);
+        let ((changes, keyed), write) = beside(twice, write)?;
+        let count = changes.len() as u64;
+        let entry = commit_entry(alloc, &self.shard, author, write, changes)?;
+        Ok(Prepared {
+            entry,
+            changes: keyed,
+            count,
+        })
+    }
+
+    /// Makes all memory of a following step; what the shard holds stays as it is.
+    pub fn prepare_follow(&mut self, alloc: Global, taken: Follow) -> Result<Prepared, Refusal>
+        requires { AllByRecursion (λ c. changed_table c < length self.old.store.rows) taken.changes }
+        ensures changes { IfOk result (λ p. held_changes p.entry.event ≡ taken.changes) }
+        ensures entry { IfOk result (λ p. p.entry ≡ record { shard = self.old.shard; event = Event.Follow taken }) }
+        ensures ready { IfOk result (λ p. IsReadyFor self.new.store (held_changes p.entry.event) p.changes.items) }
+        ensures one_more { OnOk result (vec_len self.new.stored < vec_capacity self.new.stored) }
+        ensures one_step { OnOk result (vec_len self.new.steps < vec_capacity self.new.steps) }
+        ensures err { IfErr result (λ e. e ≡ Refusal.OutOfMemory) }
+        ensures shard { self.new.shard ≡ self.old.shard }
+        ensures rows { self.new.store.rows ≡ self.old.store.rows }
+        ensures mode { self.new.mode ≡ self.old.mode }
+        ensures stored { self.new.stored.items ≡ self.old.stored.items }
+        ensures steps { self.new.steps.items ≡ self.old.steps.items }
+        ensures same_limits { self.new.limits ≡ self.old.limits }
+    {
+        let keyed = self.store.prepare(alloc, taken.changes.as_slice())?;
+        self.stored.reserve(1)?;
+        self.steps.reserve(1)?;
+        let shard = copy_shard(alloc, &self.shard)?;
+        let count = taken.changes.len() as u64;
+        Ok(Prepared {
+            entry: Entry {
+                shard,
+                event: Event::Follow(taken),
+            },
+            changes: keyed,
+            count,
+        })
+    }
+
+    /// Takes over a commit for which memory was made, and answers how many rows it changes. Takes no memory.
+    pub fn take(&mut self, prepared: Prepared) -> u64
+        requires ready { IsReadyFor self.old.store (held_changes prepared.entry.event) prepared.changes.items }
+        requires one_more { vec_len self.old.stored < vec_capacity self.old.stored }
+        ensures count { result ≡ prepared.count }
+        ensures rows { SameRows self.new.store.rows (all_applied (held_changes prepared.entry.event) self.old.store.rows) }
+        ensures stored { self.new.stored.items ≡ self.old.stored.items ++ prepared.entry ∷ [] }
+        ensures steps { self.new.steps ≡ self.old.steps }
+        ensures shard { self.new.shard ≡ self.old.shard }
+        ensures mode { self.new.mode ≡ self.old.mode }
+        ensures limits { self.new.limits ≡ self.old.limits }
+    {
+        let Prepared {
+            entry,
+            changes: keyed,
+            count,
+        } = prepared;
+        self.store.apply(keyed);
+        self.stored.push_reserved(entry);
+        count
+    }
+    /// The same of a step with a source.
+    pub fn take_step(&mut self, prepared: Prepared, step: Step)
+        requires ready { IsReadyFor self.old.store (held_changes prepared.entry.event) prepared.changes.items }
+        requires one_more { vec_len self.old.stored < vec_capacity self.old.stored }
+        requires one_step { vec_len self.old.steps < vec_capacity self.old.steps }
+        ensures rows { SameRows self.new.store.rows (all_applied (held_changes prepared.entry.event) self.old.store.rows) }
+        ensures stored { self.new.stored.items ≡ self.old.stored.items ++ prepared.entry ∷ [] }
+        ensures steps { self.new.steps.items ≡ self.old.steps.items ++ step ∷ [] }
+        ensures shard { self.new.shard ≡ self.old.shard }
+        ensures mode { self.new.mode ≡ self.old.mode }
+        ensures limits { self.new.limits ≡ self.old.limits }
+    {
+        let _ = self.take(prepared);
+        self.steps.push_reserved(step);
+    }
+}

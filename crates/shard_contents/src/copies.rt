@@ -1,0 +1,71 @@
+ghost use Rattle.std.specs.Prelude.{◌≡◌, ◌∷◌, [], Ok, Err, IfOk, IfErr};
+
+use shard_run::Shard;
+use std::alloc::Global;
+use vschema::{Place, RowChange};
+use vt_value::{Items, Refusal, copy_row};
+
+/// An equal shard.
+pub fn copy_shard(alloc: Global, shard: &Shard) -> Result<Shard, Refusal>
+    ensures ok { IfOk result (λ s. s ≡ shard.now) }
+    ensures err { IfErr result (λ e. e ≡ Refusal.OutOfMemory) }
+{
+    let sources = Items::from_slice(alloc, shard.sources.as_slice())?;
+    let place = Place {
+        keyspace: shard.place.keyspace,
+        range: shard.place.range,
+    };
+    Ok(Shard {
+        slot: shard.slot,
+        place,
+        sources,
+    })
+}
+
+/// An equal change.
+pub fn copy_change(alloc: Global, change: &RowChange) -> Result<RowChange, Refusal>
+    ensures ok { IfOk result (λ c. c ≡ change.now) }
+    ensures err { IfErr result (λ e. e ≡ Refusal.OutOfMemory) }
+{
+    match change {
+        RowChange::Added(place, row) => Ok(RowChange::Added(*place, copy_row(alloc, row)?)),
+        RowChange::Replaced(place, old, new) => {
+            let old = copy_row(alloc, old)?;
+            Ok(RowChange::Replaced(*place, old, copy_row(alloc, new)?))
+        }
+        RowChange::Removed(place, row) => Ok(RowChange::Removed(*place, copy_row(alloc, row)?)),
+    }
+}
+
+/// Equal changes.
+pub fn copy_changes(alloc: Global, changes: &[RowChange]) -> Result<Vec<RowChange>, Refusal>
+    ensures ok { IfOk result (λ v. v.items ≡ changes.now) }
+    ensures err { IfErr result (λ e. e ≡ Refusal.OutOfMemory) }
+{
+    let mut copied = Vec::new(alloc);
+    for change in changes {
+        copied.push(copy_change(alloc, change)?)?;
+    }
+    Ok(copied)
+}
+
+/// A list of one item.
+pub fn one<T: Drop>(alloc: Global, item: T) -> Result<Items<T>, Refusal>
+    ensures ok { IfOk result (λ items. items ≡ item ∷ []) }
+    ensures err { IfErr result (λ e. e ≡ Refusal.OutOfMemory) }
+{
+    let mut items = Items::new(alloc);
+    items.push(item)?;
+    Ok(items)
+}
+
+/// The value beside what was got; where nothing was got, the value is dropped here, and not at each place that calls this.
+pub fn beside<T, U: Drop, E>(got: Result<T, E>, owned: U) -> Result<(T, U), E>
+    ensures ok { IfOk result (λ both. (got ≡ Ok both.0) × (both.1 ≡ owned)) }
+    ensures err { IfErr result (λ e. got ≡ Err e) }
+{
+    match got {
+        Ok(value) => Ok((value, owned)),
+        Err(error) => Err(error),
+    }
+}

@@ -1,0 +1,248 @@
+//! A Copy: which rows it takes, and its entry, made in memory before it is appended.
+ghost use Rattle.std.specs.Prelude.{◌≡◌, ◌<◌, ◌++◌, ◌∷◌, [], ◌&&◌, ◌==◌, None, IfOk, IfErr, IfSome, OnOk, map, length, option_copied, vec_len, vec_capacity};
+ghost use Rattle.std.specs.List.{AllByRecursion};
+ghost use Rattle.vschema.specs.declared.changes.RowChange as row;
+ghost use Rattle.vschema.specs.Database.{SameRows, all_applied, changed_table, changed_row, change_lies_in, restricted_changes};
+ghost use Rattle.shard_run.specs.declared.Entry.{Entry};
+ghost use Rattle.shard_run.specs.declared.Event.{Event};
+ghost use Rattle.shard_run.specs.Runs.{mode, stored_changes, held_changes};
+ghost use Rattle.shard_run.specs.Copies.{is_last};
+ghost use Rattle.shard_store.specs.Stores.{IsReadyFor};
+ghost use Rattle.shard_contents.specs.Progress.{behind, last_row};
+ghost use Rattle.shard_contents.specs.inner.Rowed.{row_of, first_named};
+
+use crate::choosing::{COPY_STEP, lies_in};
+use crate::contents::Contents;
+use crate::copies::{copy_change, copy_shard};
+use crate::forward::Step;
+use crate::store::changed_table;
+use shard_run::{Copied, Entry, Event};
+use shard_store::{KeyedChange, StoredTables};
+use std::alloc::Global;
+use vschema::{Place, RowChange, VSchema};
+use vt_value::{Items, Refusal, Row, copy_row};
+
+/// The table that a target copies next from a source, by its place in the VSchema, and the last row of it that the target has.
+#[derive(Drop)]
+pub struct NextTable {
+    pub table: usize,
+    pub after: Option<Row>,
+}
+
+/// How far a target has come with a source.
+#[derive(Drop)]
+pub struct SourceProgress {
+    /// Behind how many of the source's stored entries it stands. None before its first Copy from there.
+    pub behind: Option<u128>,
+    /// Where it copies on. None where it has copied all tables.
+    pub next: Option<NextTable>,
+}
+
+impl Step {
+    // Behind how many of the source's stored entries the target stands after the step.
+    pub fn behind(&self) -> u128
+        ensures { result ≡ behind self.now }
+    {
+        match self {
+            Step::Followed { place, .. } => u128::from(*place) + 1,
+            Step::Copied { place, .. } => u128::from(*place),
+        }
+    }
+
+    // The last row that it copied of the table from the source.
+    pub fn row_of(&self, source: usize, table: usize) -> Option<&Row>
+        ensures { option_copied result ≡ row_of source table self.now }
+    {
+        match self {
+            Step::Followed { .. } => None,
+            Step::Copied {
+                source: from,
+                table: of,
+                row,
+                ..
+            } => {
+                if *from == source && *of == table {
+                    row.as_ref()
+                } else {
+                    None
+                }
+            }
+        }
+    }
+}
+
+pub fn changed_row(change: &RowChange) -> &Row
+    ensures { result.now ≡ changed_row change.now }
+{
+    match change {
+        RowChange::Added(_, row) => row,
+        RowChange::Replaced(_, _, new) => new,
+        RowChange::Removed(_, row) => row,
+    }
+}
+
+fn change_lies_in(schema: &VSchema, place: &Place, change: &RowChange) -> bool
+    requires { changed_table change.now < length schema.now.tables }
+    ensures { result ≡ change_lies_in schema.now place.now change.now }
+{
+    let table = &schema.tables.as_slice()[changed_table(change)];
+    lies_in(place, table, changed_row(change))
+}
+
+// Equal changes, of the rows that lie in the place.
+pub fn restricted_changes(
+    alloc: Global,
+    schema: &VSchema,
+    place: &Place,
+    changes: &[RowChange],
+) -> Result<Items<RowChange>, Refusal>
+    requires { AllByRecursion (λ c. changed_table c < length schema.now.tables) changes.now }
+    ensures ok { IfOk result (λ kept. kept ≡ restricted_changes schema.now place.now changes.now) }
+    ensures err { IfErr result (λ e. e ≡ Refusal.OutOfMemory) }
+{
+    let mut kept = Items::new(alloc);
+    for change in changes {
+        if change_lies_in(schema, place, change) {
+            kept.push(copy_change(alloc, change)?)?;
+        }
+    }
+    Ok(kept)
+}
+
+// The changes that an event stores.
+pub fn stored_changes(event: &Event) -> &[RowChange]
+    ensures { result.now ≡ stored_changes event.now }
+{
+    match event {
+        Event::Commit(commit) => commit.changes.as_slice(),
+        Event::Follow(follow) => follow.changes.as_slice(),
+        _ => &[],
+    }
+}
+
+// The first by name of two tables, where the other was found.
+pub fn first_named(schema: &VSchema, n: usize, found: Option<usize>) -> usize
+    requires n { n < length schema.now.tables }
+    requires found { IfSome found (λ m. m < length schema.now.tables) }
+    ensures { result ≡ first_named schema.now n found }
+{
+    let tables = schema.tables.as_slice();
+    match found {
+        Some(m)
+            if !tables[n]
+                .name
+                .as_slice()
+                .cmp(tables[m].name.as_slice())
+                .is_lt() => m,
+        _ => n,
+    }
+}
+
+// An equal row.
+pub fn copied(alloc: Global, row: Option<&Row>) -> Result<Option<Row>, Refusal>
+    ensures ok { IfOk result (λ r. r ≡ option_copied row.entry) }
+    ensures err { IfErr result (λ e. e ≡ Refusal.OutOfMemory) }
+{
+    match row {
+        Some(row) => Ok(Some(copy_row(alloc, row)?)),
+        None => Ok(None),
+    }
+}
+
+fn last_row(alloc: Global, rows: &[Row]) -> Result<Option<Row>, Refusal>
+    ensures ok { IfOk result (λ last. last ≡ last_row rows.now) }
+    ensures err { IfErr result (λ e. e ≡ Refusal.OutOfMemory) }
+{
+    copied(alloc, rows.last())
+}
+
+// The rows as changes that add them to a table.
+fn added(alloc: Global, table: usize, rows: &[Row]) -> Result<Vec<RowChange>, Refusal>
+    ensures ok { IfOk result (λ changes. changes.items ≡ map (row.RowChange.Added table) rows.now) }
+    ensures err { IfErr result (λ e. e ≡ Refusal.OutOfMemory) }
+{
+    let mut changes = Vec::new(alloc);
+    for row in rows {
+        changes.push(RowChange::Added(table, copy_row(alloc, row)?))?;
+    }
+    Ok(changes)
+}
+
+// A Copy for which all memory is made: its entry, its rows once more by keys, and the step that it is.
+#[derive(Drop)]
+pub struct PreparedCopy {
+    pub entry: Entry,
+    pub changes: Vec<KeyedChange>,
+    pub step: Step,
+}
+
+// The rows as additions by keys, with room for them in the store.
+fn prepare_rows(
+    alloc: Global,
+    store: &mut StoredTables,
+    table: usize,
+    rows: &[Row],
+) -> Result<Vec<KeyedChange>, Refusal>
+    requires { table < length store.old.rows }
+    ensures ready { IfOk result (λ keyed. IsReadyFor store.new (map (row.RowChange.Added table) rows.now) keyed.items) }
+    ensures rows { store.new.rows ≡ store.old.rows }
+    ensures err { IfErr result (λ e. e ≡ Refusal.OutOfMemory) }
+{
+    let changes = added(alloc, table, rows)?;
+    store.prepare(alloc, changes.as_slice())
+}
+
+impl Contents {
+    // Makes all memory of a Copy; what the shard holds stays as it is.
+    pub fn prepare_copy(&mut self, alloc: Global, taken: Copied) -> Result<PreparedCopy, Refusal>
+        requires { taken.table < length self.old.store.rows }
+        ensures entry { IfOk result (λ p. p.entry ≡ record { shard = self.old.shard; event = Event.Copy taken }) }
+        ensures step { IfOk result (λ p. p.step ≡ Step.Copied taken.source taken.table taken.place (is_last taken) (last_row taken.rows)) }
+        ensures ready { IfOk result (λ p. IsReadyFor self.new.store (held_changes p.entry.event) p.changes.items) }
+        ensures one_step { OnOk result (vec_len self.new.steps < vec_capacity self.new.steps) }
+        ensures err { IfErr result (λ e. e ≡ Refusal.OutOfMemory) }
+        ensures shard { self.new.shard ≡ self.old.shard }
+        ensures rows { self.new.store.rows ≡ self.old.store.rows }
+        ensures mode { self.new.mode ≡ self.old.mode }
+        ensures stored { self.new.stored.items ≡ self.old.stored.items }
+        ensures steps { self.new.steps.items ≡ self.old.steps.items }
+        ensures same_limits { self.new.limits ≡ self.old.limits }
+    {
+        let changes = prepare_rows(alloc, &mut self.store, taken.table, taken.rows.as_slice())?;
+        self.steps.reserve(1)?;
+        let step = Step::Copied {
+            source: taken.source,
+            table: taken.table,
+            place: taken.place,
+            last: taken.rows.len() < COPY_STEP,
+            row: last_row(alloc, taken.rows.as_slice())?,
+        };
+        let shard = copy_shard(alloc, &self.shard)?;
+        let event = Event::Copy(taken);
+        Ok(PreparedCopy {
+            entry: Entry { shard, event },
+            changes,
+            step,
+        })
+    }
+
+    // Takes over a Copy for which memory was made. Takes no memory.
+    pub fn take_copy(&mut self, prepared: PreparedCopy)
+        requires ready { IsReadyFor self.old.store (held_changes prepared.entry.event) prepared.changes.items }
+        requires one_step { vec_len self.old.steps < vec_capacity self.old.steps }
+        ensures rows { SameRows self.new.store.rows (all_applied (held_changes prepared.entry.event) self.old.store.rows) }
+        ensures stored { self.new.stored ≡ self.old.stored }
+        ensures steps { self.new.steps.items ≡ self.old.steps.items ++ prepared.step ∷ [] }
+        ensures shard { self.new.shard ≡ self.old.shard }
+        ensures mode { self.new.mode ≡ self.old.mode }
+        ensures limits { self.new.limits ≡ self.old.limits }
+    {
+        let PreparedCopy {
+            entry: _,
+            changes,
+            step,
+        } = prepared;
+        self.store.apply(changes);
+        self.steps.push_reserved(step);
+    }
+}

@@ -1,0 +1,145 @@
+ghost use Rattle.std.specs.Prelude.{◌≡◌, false, ◌↔◌, ◌++◌, ◌<◌, ◌∷◌, [], IfOk, IfErr, OnOk, OnErr, length, vec_len, vec_capacity};
+ghost use Rattle.shard_contents.specs.Transactions.{nothing_done, changes_table, is_changed, is_conflict, is_touched, touched_with};
+
+use crate::behind::changes_any;
+use crate::copies::{beside, copy_changes};
+use crate::touch::Touch;
+use shard_run::{Entry, Event};
+use std::alloc::Global;
+use std::marker::Model;
+use vschema::{RowChange, Write};
+use vt_value::Refusal;
+
+/// A transaction on its one shard that isn't committed: the tables that it has touched, its writes in order, and the row changes that they
+/// make. Contracts see a `PendingView`.
+#[derive(Drop)]
+pub struct Pending {
+    pub touched: Vec<Touch>,
+    pub writes: Vec<Write>,
+    pub changes: Vec<RowChange>,
+}
+
+impl Model for Pending {
+    ghost use Rattle.shard_contents.specs.Transactions.{PendingView};
+    ghost use Rattle.std.specs.Coded.{codes};
+    ghost use Rattle.vschema.specs.contracts.changes.Write as write;
+
+    ghost Value = { PendingView };
+
+    ghost coded = { Prim.hlevel (codes, write.the_row.coded) };
+
+    ghost view = { λ p. record { touched = p.touched.items; writes = p.writes.items; changes = p.changes.items } };
+}
+
+// Whether the entry changes a row of the table at a place.
+fn changes_table(place: usize, entry: &Entry) -> bool
+    ensures { result ≡ changes_table place entry.now }
+{
+    match &entry.event {
+        Event::Commit(commit) => changes_any(place, commit.changes.as_slice()),
+        Event::Follow(follow) => changes_any(place, follow.changes.as_slice()),
+        _ => false,
+    }
+}
+
+fn is_changed(stored: &[Entry], touch: &Touch) -> bool
+    ensures { result ≡ is_changed stored.now touch.now }
+{
+    stored
+        .iter()
+        .skip(touch.stored)
+        .any(|entry| changes_table(touch.table, entry))
+}
+
+fn is_touched(touched: &[Touch], place: usize) -> bool
+    ensures { result ≡ is_touched touched.now place }
+{
+    touched.iter().any(|touch| touch.table == place)
+}
+
+// Appends the changes, and makes room for a touch and a write. Refuses for want of memory; then nothing has changed.
+fn append(
+    touched: &mut Vec<Touch>,
+    writes: &mut Vec<Write>,
+    changes: &mut Vec<RowChange>,
+    more: &mut Vec<RowChange>,
+) -> Result<(), Refusal>
+    ensures touched { touched.new.items ≡ touched.old.items }
+    ensures touch { OnOk result (vec_len touched.new < vec_capacity touched.new) }
+    ensures writes { writes.new.items ≡ writes.old.items }
+    ensures write { OnOk result (vec_len writes.new < vec_capacity writes.new) }
+    ensures changes { OnOk result (changes.new.items ≡ changes.old.items ++ more.old.items) }
+    ensures unchanged { OnErr result (changes.new.items ≡ changes.old.items) }
+    ensures err { IfErr result (λ e. e ≡ Refusal.OutOfMemory) }
+{
+    touched.reserve(1)?;
+    writes.reserve(1)?;
+    changes.append(more)?;
+    Ok(())
+}
+
+impl Pending {
+    /// A transaction that has done nothing yet.
+    pub fn new(alloc: Global) -> Pending
+        ensures { result ≡ nothing_done }
+    {
+        Pending {
+            touched: Vec::new(alloc),
+            writes: Vec::new(alloc),
+            changes: Vec::new(alloc),
+        }
+    }
+
+    /// Whether it has written.
+    pub fn has_written(&self) -> bool
+        ensures { result ≡ false ↔ (self.now.writes ≡ []) }
+    {
+        !self.writes.is_empty()
+    }
+
+    /// Whether an entry that the shard has stored since a touch changes a row of the touched table.
+    pub fn is_conflict(&self, stored: &[Entry]) -> bool
+        ensures { result ≡ is_conflict stored.now self.now.touched }
+    {
+        self.touched.iter().any(|touch| is_changed(stored, touch))
+    }
+
+    /// Touches a table. Refuses for want of memory; then nothing has changed.
+    pub fn touch(&mut self, touch: Touch) -> Result<(), Refusal>
+        ensures ok { OnOk result (self.new ≡ record self.old { touched = touched_with self.old.touched touch }) }
+        ensures err { IfErr result (λ e. e ≡ Refusal.OutOfMemory) }
+        ensures unchanged { OnErr result (self.new ≡ self.old) }
+    {
+        if !is_touched(self.touched.as_slice(), touch.table) {
+            self.touched.push(touch)?;
+        }
+        Ok(())
+    }
+
+    /// Touches the table of a write, and takes the write over with its changes. Refuses for want of memory; then nothing has changed.
+    pub fn add(
+        &mut self,
+        alloc: Global,
+        touch: Touch,
+        write: Write,
+        changes: &[RowChange],
+    ) -> Result<(), Refusal>
+        ensures ok { OnOk result (self.new ≡ record { touched = touched_with self.old.touched touch; writes = self.old.writes ++ write ∷ []; changes = self.old.changes ++ changes.now }) }
+        ensures err { IfErr result (λ e. e ≡ Refusal.OutOfMemory) }
+        ensures unchanged { OnErr result (self.new ≡ self.old) }
+    {
+        let (mut copied, write) = beside(copy_changes(alloc, changes), write)?;
+        let room = append(
+            &mut self.touched,
+            &mut self.writes,
+            &mut self.changes,
+            &mut copied,
+        );
+        let (_, write) = beside(room, write)?;
+        self.writes.push_reserved(write);
+        if !is_touched(self.touched.as_slice(), touch.table) {
+            self.touched.push_reserved(touch);
+        }
+        Ok(())
+    }
+}

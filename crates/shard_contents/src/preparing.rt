@@ -1,0 +1,148 @@
+//! What a transaction's commit needs before its entry is appended.
+ghost use Rattle.std.specs.Prelude.{◌≡◌, ◌<◌, ◌≤◌, ◌^◌, ◌++◌, ◌∷◌, [], true, IfOk, IfErr, OnOk, OnErr, length, vec_len, vec_capacity, count_by};
+ghost use Rattle.std.specs.List.{AllByRecursion};
+ghost use Rattle.vschema.specs.Database.{changed_table};
+ghost use Rattle.shard_run.specs.Openings.{row_count};
+ghost use Rattle.shard_run.specs.Runs.{held_changes};
+ghost use Rattle.shard_store.specs.Stores.{IsReadyFor};
+ghost use Rattle.shard_contents.specs.Transactions.{entry_of};
+ghost use Rattle.shard_contents.specs.inner.Transactions.{is_added, is_removed, has_room_for, IsAllUnprepared};
+
+use crate::contents::{Author, Contents, Prepared};
+use crate::copies::copy_shard;
+use crate::limits::MOST_ENTRIES;
+use crate::pending::Pending;
+use shard_run::{Commit, Entry, Event};
+use shard_store::KeyedChange;
+use std::alloc::Global;
+use std::mem;
+use vschema::RowChange;
+use vt_value::{Items, Refusal};
+
+fn is_added(change: &RowChange) -> bool
+    ensures { result ≡ is_added change.now }
+{
+    match change {
+        RowChange::Added(_, _) => true,
+        RowChange::Replaced(_, _, _) => false,
+        RowChange::Removed(_, _) => false,
+    }
+}
+
+fn is_removed(change: &RowChange) -> bool
+    ensures { result ≡ is_removed change.now }
+{
+    match change {
+        RowChange::Added(_, _) => false,
+        RowChange::Replaced(_, _, _) => false,
+        RowChange::Removed(_, _) => true,
+    }
+}
+
+fn added(changes: &[RowChange]) -> usize
+    ensures { result ≡ count_by is_added changes.now }
+{
+    changes.iter().filter(|change| is_added(change)).count()
+}
+
+fn removed(changes: &[RowChange]) -> usize
+    ensures { result ≡ count_by is_removed changes.now }
+{
+    changes.iter().filter(|change| is_removed(change)).count()
+}
+
+impl Pending {
+    // Gives its writes and changes away, as the commit of this session's statement.
+    fn give(&mut self, alloc: Global, author: Author) -> Commit
+        ensures { result ≡ record { session = author.session; number = author.number; statements = self.old.writes; changes = self.old.changes } }
+    {
+        let writes = mem::replace(&mut self.writes, Vec::new(alloc));
+        let changes = mem::replace(&mut self.changes, Vec::new(alloc));
+        Commit {
+            session: author.session,
+            number: author.number,
+            statements: Items::from_vec(writes),
+            changes: Items::from_vec(changes),
+        }
+    }
+}
+
+impl Contents {
+    // Whether one more stored entry with these changes passes no limit.
+    fn has_room_for(&self, entries: u64, changes: &[RowChange]) -> bool
+        requires within { row_count self.now.store.rows ≤ self.now.limits.rows }
+        requires most { self.now.limits.rows ≤ 2 ^ 20 }
+        ensures { result ≡ has_room_for self.now.limits entries (vec_len self.now.stored) (row_count self.now.store.rows) changes.now }
+    {
+        let rows = self.store.row_count() as u64 + added(changes) as u64;
+        let most = self.limits.rows + removed(changes) as u64;
+        entries < MOST_ENTRIES && (self.stored.len() as u64) < self.limits.stored && rows <= most
+    }
+
+    // The changes once more by keys, with room for them in the store and for an entry.
+    fn make_room(
+        &mut self,
+        alloc: Global,
+        changes: &[RowChange],
+    ) -> Result<Vec<KeyedChange>, Refusal>
+        requires { AllByRecursion (λ c. changed_table c < length self.old.store.rows) changes.now }
+        ensures ready { IfOk result (λ keyed. IsReadyFor self.new.store changes.now keyed.items) }
+        ensures one_more { OnOk result (vec_len self.new.stored < vec_capacity self.new.stored) }
+        ensures err { IfErr result (λ e. e ≡ Refusal.OutOfMemory) }
+        ensures shard { self.new.shard ≡ self.old.shard }
+        ensures rows { self.new.store.rows ≡ self.old.store.rows }
+        ensures mode { self.new.mode ≡ self.old.mode }
+        ensures stored { self.new.stored.items ≡ self.old.stored.items }
+        ensures steps { self.new.steps.items ≡ self.old.steps.items }
+        ensures same_limits { self.new.limits ≡ self.old.limits }
+    {
+        self.stored.reserve(1)?;
+        self.store.prepare(alloc, changes)
+    }
+
+    /// Makes all memory of a transaction's commit, once the shard has so many entries, and takes over its writes and changes. It refuses
+    /// what passes a limit, and for want of memory; then what the shard holds and the transaction stay as they are.
+    pub fn prepare_in(
+        &mut self,
+        alloc: Global,
+        entries: u64,
+        author: Author,
+        tx: &mut Pending,
+    ) -> Result<Prepared, Refusal>
+        requires there { AllByRecursion (λ c. changed_table c < length self.old.store.rows) tx.old.changes }
+        requires within { row_count self.old.store.rows ≤ self.old.limits.rows }
+        requires most { self.old.limits.rows ≤ 2 ^ 20 }
+        ensures changes { IfOk result (λ p. held_changes p.entry.event ≡ tx.old.changes) }
+        ensures entry { IfOk result (λ p. p.entry ≡ entry_of self.old.shard author.session author.number tx.old.writes tx.old.changes) }
+        ensures ready { IfOk result (λ p. IsReadyFor self.new.store (held_changes p.entry.event) p.changes.items) }
+        ensures one_more { OnOk result (vec_len self.new.stored < vec_capacity self.new.stored) }
+        ensures limits { OnOk result (has_room_for self.old.limits entries (vec_len self.old.stored) (row_count self.old.store.rows) tx.old.changes ≡ true) }
+        ensures err { IfErr result (IsAllUnprepared self.old.limits entries (vec_len self.old.stored) (row_count self.old.store.rows) tx.old.changes) }
+        ensures unchanged { OnErr result (tx.new ≡ tx.old) }
+        ensures shard { self.new.shard ≡ self.old.shard }
+        ensures rows { self.new.store.rows ≡ self.old.store.rows }
+        ensures mode { self.new.mode ≡ self.old.mode }
+        ensures stored { self.new.stored.items ≡ self.old.stored.items }
+        ensures steps { self.new.steps.items ≡ self.old.steps.items }
+        ensures same_limits { self.new.limits ≡ self.old.limits }
+    {
+        if !self.has_room_for(entries, tx.changes.as_slice()) {
+            return Err(Refusal::ShardFull);
+        }
+        let count = tx.changes.len() as u64;
+        let keyed = self.make_room(alloc, tx.changes.as_slice())?;
+        let shard = match copy_shard(alloc, &self.shard) {
+            Ok(shard) => shard,
+            Err(e) => return Err(e),
+        };
+        let entry = Entry {
+            shard,
+            event: Event::Commit(tx.give(alloc, author)),
+        };
+        Ok(Prepared {
+            entry,
+            changes: keyed,
+            count,
+        })
+    }
+}
