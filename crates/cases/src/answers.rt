@@ -3,7 +3,7 @@ use crate::fields::Unanswered;
 use crate::told::Told;
 use crate::{
     aggregates, handshakes, ids, lines, packets, pulled, ranges, results, schemas, statements,
-    values,
+    talks, values,
 };
 use keyrange::one_range;
 use mysql_packet::{bounded_rest, one_framing, read_back};
@@ -11,10 +11,25 @@ use resultset::SetEnd;
 use sql_lexer::{longest, one_lexing};
 use sql_parser::{one_tree, print_reads};
 use std::alloc::Global;
+use std::sync::Wait;
+use std::thread::Threads;
 
 /// Tells what the case of a line answers.
-pub(crate) fn answer(alloc: Global, line: &str, told: &mut Told) -> Result<(), Unanswered> {
+pub(crate) fn answer<R: Threads + Wait + Sync>(
+    rt: &R,
+    alloc: Global,
+    line: &str,
+    told: &mut Told,
+) -> Result<(), Unanswered> {
     let (area, case) = line.split_once('\t').unwrap_or((line, ""));
+    match area {
+        "talk" => talks::conversation(rt, alloc, case, told),
+        _ => answer_texts(alloc, area, case, told),
+    }
+}
+
+// Tells what a case of texts answers.
+fn answer_texts(alloc: Global, area: &str, case: &str, told: &mut Told) -> Result<(), Unanswered> {
     match area {
         "print" => statements::printed(alloc, case, told),
         "tokens" => statements::tokens(alloc, case, told),
@@ -65,6 +80,9 @@ fn answer_bytes(alloc: Global, area: &str, case: &str, told: &mut Told) -> Resul
         "read_lenenc" => packets::read_number(alloc, case, told),
         "read_string" => packets::read_string(alloc, case, told),
         "native" => handshakes::native(alloc, case, told),
+        "greeting" => handshakes::greeting(alloc, case, told),
+        "switch" => handshakes::switch(alloc, case, told),
+        "response" => handshakes::response(alloc, case, told),
         "result" => results::result_again(alloc, case, SetEnd::EofPackets, told),
         "result_to_ok" => results::result_again(alloc, case, SetEnd::OkPacket, told),
         _ => Err(Unanswered::BadLine),

@@ -70,8 +70,8 @@ pub(crate) fn payloads(alloc: Global, case: &str, told: &mut Told) -> Result<(),
     Ok(())
 }
 
-// Puts packets, and the next number.
-fn put_packets(
+/// Puts packets, and the next number.
+pub(crate) fn put_packets(
     told: &mut Told,
     packets: &[u8],
     next: Result<u8, Refusal>,

@@ -7,9 +7,9 @@ use std::io::{ErrorKind, Read};
 
 /// A source that fails once its bytes are read.
 #[derive(Drop)]
-pub(crate) struct FailingSource<'a> {
-    pub(crate) unread: &'a [u8],
-    pub(crate) failures: u64,
+pub struct FailingSource<'a> {
+    pub unread: &'a [u8],
+    pub failures: u64,
 }
 
 impl Source for FailingSource<'_> {
@@ -34,9 +34,9 @@ impl Source for FailingSource<'_> {
 
 /// A sink that fails from some write on.
 #[derive(Drop)]
-pub(crate) struct FailingSink {
-    pub(crate) writes_left: u32,
-    pub(crate) failures: u64,
+pub struct FailingSink {
+    pub writes_left: u32,
+    pub failures: u64,
 }
 
 impl Sink for FailingSink {
@@ -56,9 +56,9 @@ impl Sink for FailingSink {
 
 /// A reader that is interrupted before each of its bytes, and before its end.
 #[derive(Drop)]
-pub(crate) struct InterruptedReader<'a> {
-    pub(crate) unread: &'a [u8],
-    pub(crate) is_interrupted: bool,
+pub struct InterruptedReader<'a> {
+    pub unread: &'a [u8],
+    pub is_interrupted: bool,
 }
 
 impl Read for InterruptedReader<'_> {

@@ -1,17 +1,12 @@
-//! Tests of connections: the messages of the connection phase, the queue by three passes, the threads that serve, and sessions over
-//! buffers.
+//! Tests of connections: the queue by three passes, the threads that serve, and sessions whose devices are interrupted or fail. What a client's
+//! bytes alone can reach are lines of `cases`.
 #![tactic(auto)]
 
+pub mod devices;
 #[cfg(test)]
-mod devices;
-#[cfg(test)]
-mod handshakes;
-#[cfg(test)]
-mod logins;
+mod faults;
 #[cfg(test)]
 mod queues;
-#[cfg(test)]
-mod replies;
 #[cfg(test)]
 mod sessions;
 #[cfg(test)]

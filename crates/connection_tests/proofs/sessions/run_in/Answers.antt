@@ -1,9 +1,0 @@
-use Rattle.std.proofs.Common.{Option, None, sym, subst}
-use Rattle.route_engine.specs.Pendings as stands
-use Rattle.route_engine.specs.Pendings.{OpenView, Stands}
-use Rattle.connection_tests.proofs.sessions.run_in.Goals as goal
-
--- no transaction is open
-pub execute-requires-clause-tx : goal.execute-requires-clause-tx
-execute-requires-clause-tx g c κs within =
-    (None, subst (λ (v : Option OpenView). Stands g.W.World.opening c.args.pass.now v None) (sym c.requires.closed) stands.closed)

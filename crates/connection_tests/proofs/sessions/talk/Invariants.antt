@@ -1,7 +1,0 @@
-use Rattle.shard.specs.Shards.{most_limits}
-use Rattle.empty_opening.specs.Empty.{opening_of}
-use Rattle.connection_tests.proofs.sessions.talk.Given as goal
-
--- the world of this VSchema and these ranges
-abbrev pub ghosts-talk_in_world : goal.ghosts-talk_in_world
-ghosts-talk_in_world g a = record { opening = opening_of a.schema a.ranges.now; limits = most_limits }
