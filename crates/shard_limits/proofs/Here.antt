@@ -13,10 +13,10 @@ use Rattle.journal.proofs.Fronts.{prefix_self, prefix_trans}
 use Rattle.shard_run.specs.declared.Entry.{Entry}
 use Rattle.shard_run.specs.declared.Shard.{Shard}
 use Rattle.shard_run.specs.Legal.{IsOnItsSlot}
-use Rattle.shard.specs.declared.state.Reading.{Reading}
-use Rattle.shard.specs.Shards.{MayFollow, HasLooked}
-use Rattle.shard.specs.Commits.{IsPlaced}
-use Rattle.shard.specs.Transactions.{PendingView, nothing_done, IsPending, HasReadIn, HasWrittenIn, IsReadRefusal, IsWriteRefusal}
+use Rattle.shard_contents.specs.declared.outcomes.Reading.{Reading}
+use Rattle.shard_contents.specs.Shards.{MayFollow, HasLooked}
+use Rattle.shard_contents.specs.Commits.{IsPlaced}
+use Rattle.shard_contents.specs.Transactions.{PendingView, nothing_done, IsPending, HasReadIn, HasWrittenIn, IsReadRefusal, IsWriteRefusal}
 use Rattle.shard.proofs.Moves.{pending_nothing, pending_read, pending_written, pending_same}
 use Rattle.shard_limits.specs.SmallWorld.{small_schema, small_shard, small_opening}
 use Rattle.shard_limits.specs.inner.SmallWorld.{IsHere}

@@ -8,7 +8,7 @@ use Rattle.vschema.specs.TypedWrites.{IsTypedWrite, insert, update, delete}
 use Rattle.shard_run.specs.declared.Shard.{Shard}
 use Rattle.shard_run.specs.Openings.{IsOpening, shards_in}
 use Rattle.shard_law.proofs.Lists.{In-from_Contains}
-use Rattle.shard.specs.Shards.{opening_shards}
+use Rattle.shard_contents.specs.Shards.{opening_shards}
 use Rattle.shard_limits.specs.SmallWorld.{small_schema, small_shard, small_opening}
 use Rattle.shard_limits.specs.inner.SmallWorld.{insert_of, update_all, delete_all}
 

@@ -6,7 +6,7 @@ use Rattle.vschema.specs.declared.schema.ColumnType.TheVariants.{BigIntUnsigned}
 use Rattle.vschema.specs.declared.schema.VSchema.{VSchema}
 use Rattle.shard_run.specs.declared.Shard.{Shard}
 use Rattle.shard_run.specs.Runs.{Opening}
-use Rattle.shard.specs.declared.limits.Limits.{Limits}
+use Rattle.shard_contents.specs.declared.limits.Limits.{Limits}
 
 abbrev pub small_schema : VSchema
 small_schema = record {

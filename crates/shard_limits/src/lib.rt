@@ -4,6 +4,8 @@
 #[cfg(test)]
 mod law;
 #[cfg(test)]
+mod playing;
+#[cfg(test)]
 mod transactions;
 #[cfg(test)]
 mod writing;

@@ -1,18 +1,20 @@
 //! Writes and reads of one small shard.
-ghost use Rattle.std.specs.Prelude.{◌≡◌, ◌<◌, ◌∷◌, [], IsSome, IfOk};
+ghost use Rattle.std.specs.Prelude.{◌≡◌, ◌<◌, ◌∷◌, [], ℕ, Some, IsSome, IfOk};
 ghost use Rattle.vschema.specs.TypedWrites.{IsTypedWrite};
+ghost use Rattle.journal.specs.Runs.{NumbersBelow};
 ghost use Rattle.journal.specs.Views.{fresh_seats};
-ghost use Rattle.shard.specs.Commits.{IsPlaced};
+ghost use Rattle.shard_contents.specs.Commits.{IsPlaced};
+ghost use Rattle.shard_contents.specs.Shards.{commit_of};
 ghost use Rattle.shard_limits.specs.SmallWorld.{small_schema, small_shard};
 ghost use Rattle.shard_limits.specs.inner.SmallWorld.{small_seat, insert_of, update_all, delete_all};
 
-use journal::{Naming, Opened, Pass, ShardSeat};
+use crate::playing::{Turn, play};
+use journal::{Naming, Opener, Pass, ShardSeat};
 use keyrange::KeyRange;
-use shard::{Committed, Limits, Read, Reading, Shard, ShardLaw, ShardState, Store, World};
+use shard::{Committed, Limits, Read, Shard, ShardLaw, ShardState, Store, World};
 use shard_run::Mode;
 use sql_tree::{Assignment, Item};
 use std::alloc::Global;
-use std::marker::Brand;
 use std::process::Abort;
 use std::sync::Wait;
 use std::test::Fail;
@@ -150,43 +152,28 @@ fn not_taken(_write: Write) -> Result<u64, Refusal> {
     Err(Refusal::NotSupported)
 }
 
-// The next statement of the session.
+// A write of the session's statement.
 fn write<J: Naming>(
     rt: &impl Wait,
     alloc: Global,
     shard: &Shard<Small, J>,
+    schema: &VSchema,
     pass: &mut Pass<ShardLaw<Small>, J>,
     write: Write,
 ) -> Result<u64, Refusal>
     requires here { shard.now ≡ small_seat }
+    requires schema { schema.now ≡ small_schema }
     requires typed { IsTypedWrite small_schema write }
     requires placed { IsPlaced small_schema small_shard.place write }
     requires session { IsSome pass.old.session }
+    requires above { (n : ℕ) → pass.old.session ≡ Some n → NumbersBelow commit_of n pass.old.statements pass.old.seen }
     ensures session { IsSome pass.new.session }
 {
-    let schema = schema(alloc)?;
-    pass.next_statement()?;
-    match shard.commit(rt, alloc, pass, &schema, write)? {
-        Committed::Count(count) => Ok(count),
-        Committed::Frozen(write) => not_taken(write),
-        Committed::NotServing(write) => not_taken(write),
-    }
-}
-
-// What the shard, which always serves, gives for a query.
-fn read<J: Naming>(
-    rt: &impl Wait,
-    alloc: Global,
-    shard: &Shard<Small, J>,
-    pass: &mut Pass<ShardLaw<Small>, J>,
-    query: &Query,
-) -> Result<Reading, Refusal>
-    requires { IsSome pass.old.session }
-    ensures { IsSome pass.new.session }
-{
-    match shard.read(rt, alloc, pass, query)? {
-        Read::Rows(reading) => Ok(reading),
-        Read::NotServing => Err(Refusal::NotSupported),
+    match shard.commit(rt, alloc, pass, schema, write) {
+        Ok(Committed::Count(count)) => Ok(count),
+        Ok(Committed::Frozen(write)) => not_taken(write),
+        Ok(Committed::NotServing(write)) => not_taken(write),
+        Err(refusal) => Err(refusal),
     }
 }
 
@@ -195,16 +182,19 @@ pub(crate) fn insert_row<J: Naming>(
     rt: &impl Wait,
     alloc: Global,
     shard: &Shard<Small, J>,
+    schema: &VSchema,
     pass: &mut Pass<ShardLaw<Small>, J>,
     id: u64,
 ) -> Result<u64, Refusal>
     requires here { shard.now ≡ small_seat }
+    requires schema { schema.now ≡ small_schema }
     requires below { id < 4 }
     requires session { IsSome pass.old.session }
     ensures session { IsSome pass.new.session }
 {
+    pass.next_statement()?;
     let row = insert(alloc, id)?;
-    write(rt, alloc, shard, pass, row)
+    write(rt, alloc, shard, schema, pass, row)
 }
 
 // The same, once more where the first had no memory: a commit that was refused for it has changed nothing.
@@ -212,16 +202,18 @@ fn insert_again<J: Naming>(
     rt: &impl Wait,
     alloc: Global,
     shard: &Shard<Small, J>,
+    schema: &VSchema,
     pass: &mut Pass<ShardLaw<Small>, J>,
     id: u64,
 ) -> Result<u64, Refusal>
     requires here { shard.now ≡ small_seat }
+    requires schema { schema.now ≡ small_schema }
     requires below { id < 4 }
     requires session { IsSome pass.old.session }
     ensures session { IsSome pass.new.session }
 {
-    match insert_row(rt, alloc, shard, pass, id) {
-        Err(Refusal::OutOfMemory) => insert_row(rt, alloc, shard, pass, id),
+    match insert_row(rt, alloc, shard, schema, pass, id) {
+        Err(Refusal::OutOfMemory) => insert_row(rt, alloc, shard, schema, pass, id),
         done => done,
     }
 }
@@ -231,14 +223,17 @@ fn update_rows<J: Naming>(
     rt: &impl Wait,
     alloc: Global,
     shard: &Shard<Small, J>,
+    schema: &VSchema,
     pass: &mut Pass<ShardLaw<Small>, J>,
 ) -> Result<u64, Refusal>
     requires here { shard.now ≡ small_seat }
+    requires schema { schema.now ≡ small_schema }
     requires session { IsSome pass.old.session }
     ensures session { IsSome pass.new.session }
 {
+    pass.next_statement()?;
     let sevens = update(alloc)?;
-    write(rt, alloc, shard, pass, sevens)
+    write(rt, alloc, shard, schema, pass, sevens)
 }
 
 // DELETE FROM t
@@ -246,13 +241,16 @@ fn delete_rows<J: Naming>(
     rt: &impl Wait,
     alloc: Global,
     shard: &Shard<Small, J>,
+    schema: &VSchema,
     pass: &mut Pass<ShardLaw<Small>, J>,
 ) -> Result<u64, Refusal>
     requires here { shard.now ≡ small_seat }
+    requires schema { schema.now ≡ small_schema }
     requires session { IsSome pass.old.session }
     ensures session { IsSome pass.new.session }
 {
-    write(rt, alloc, shard, pass, delete())
+    pass.next_statement()?;
+    write(rt, alloc, shard, schema, pass, delete())
 }
 
 // SELECT item FROM t
@@ -269,11 +267,45 @@ pub(crate) fn query(alloc: Global, item: Item<usize>) -> Result<Query, Refusal>
     })
 }
 
+// What the shard, which always serves, gives for SELECT item FROM t.
+fn read<J: Naming>(
+    rt: &impl Wait,
+    alloc: Global,
+    shard: &Shard<Small, J>,
+    pass: &mut Pass<ShardLaw<Small>, J>,
+    item: Item<usize>,
+) -> Result<Read, Refusal>
+    requires { IsSome pass.old.session }
+    ensures { IsSome pass.new.session }
+{
+    let query = query(alloc, item)?;
+    shard.read(rt, alloc, pass, &query)
+}
+
 // The number of a row that has nothing else.
 fn number_in(row: &Row) -> Option<i128> {
     match row.as_slice() {
         [Value::Int(number)] => Some(*number),
         _ => None,
+    }
+}
+
+// The number of the one row that a shard gave.
+fn number_of(read: &Read) -> Option<i128> {
+    match read {
+        Read::Rows(reading) => match reading.rows.as_slice() {
+            [row] => number_in(row),
+            _ => None,
+        },
+        Read::NotServing => None,
+    }
+}
+
+// How many rows a shard gave, and how many entries it had.
+fn counts_of(read: &Read) -> (usize, u64) {
+    match read {
+        Read::Rows(reading) => (reading.rows.len(), reading.entries),
+        Read::NotServing => (0, 0),
     }
 }
 
@@ -287,12 +319,8 @@ fn counted<J: Naming>(
     requires session { IsSome pass.old.session }
     ensures session { IsSome pass.new.session }
 {
-    let query = query(alloc, Item::CountRows)?;
-    let reading = read(rt, alloc, shard, pass, &query)?;
-    match reading.rows.as_slice() {
-        [row] => Ok(number_in(row)),
-        _ => Ok(None),
-    }
+    let read = read(rt, alloc, shard, pass, Item::CountRows)?;
+    Ok(number_of(&read))
 }
 
 // How many rows the shard has, and how many entries.
@@ -305,49 +333,111 @@ pub(crate) fn counts<J: Naming>(
     requires session { IsSome pass.old.session }
     ensures session { IsSome pass.new.session }
 {
-    let query = query(alloc, Item::Column(0))?;
-    let reading = read(rt, alloc, shard, pass, &query)?;
-    Ok((reading.rows.len(), reading.entries))
+    let read = read(rt, alloc, shard, pass, Item::Column(0))?;
+    Ok(counts_of(&read))
 }
 
-fn writes_in_turn<J: Naming, R: Wait + Abort>(
+/// A statement.
+#[derive(Clone, Copy)]
+enum Act {
+    // of a row with this id, which is less than 4
+    Insert(u64),
+    Update,
+    Delete,
+}
+
+// What the session's next statement gives.
+fn take<J: Naming>(
+    rt: &impl Wait,
+    alloc: Global,
+    shard: &Shard<Small, J>,
+    schema: &VSchema,
+    pass: &mut Pass<ShardLaw<Small>, J>,
+    act: Act,
+) -> Result<u64, Refusal>
+    requires here { shard.now ≡ small_seat }
+    requires schema { schema.now ≡ small_schema }
+    requires session { IsSome pass.old.session }
+    ensures session { IsSome pass.new.session }
+{
+    match act {
+        Act::Insert(id) if id < 4 => insert_again(rt, alloc, shard, schema, pass, id),
+        Act::Insert(_) => Err(Refusal::NotSupported),
+        Act::Update => update_rows(rt, alloc, shard, schema, pass),
+        Act::Delete => delete_rows(rt, alloc, shard, schema, pass),
+    }
+}
+
+// A statement gives this, and leaves so many rows and entries.
+fn step<J: Naming, R: Wait + Abort>(
     rt: &R,
     alloc: Global,
-    opened: Opened<ShardLaw<Small>>,
-) -> Result<(), Fail>
-    requires { opened ≡ J.table }
+    shard: &Shard<Small, J>,
+    schema: &VSchema,
+    pass: &mut Pass<ShardLaw<Small>, J>,
+    act: Act,
+    given: Result<u64, Refusal>,
+    after: (u8, u64),
+) -> Result<(), Refusal>
+    requires here { shard.now ≡ small_seat }
+    requires schema { schema.now ≡ small_schema }
+    requires session { IsSome pass.old.session }
+    ensures session { IsSome pass.new.session }
 {
-    let (seats, mut opener, mut first) = opened.named::<J>(alloc)?;
-    let shard = Shard::new(state(alloc, first_seat(seats))?);
-    let mut pass = opener.open(&mut first)?;
-    assert_eq!(rt; insert_again(rt, alloc, &shard, &mut pass, 1), Ok(1));
-    assert_eq!(rt;
-        insert_again(rt, alloc, &shard, &mut pass, 1),
-        Err(Refusal::DuplicateKey)
-    );
-    assert_eq!(rt; counts(rt, alloc, &shard, &mut pass)?, (1, 1));
-    assert_eq!(rt; insert_again(rt, alloc, &shard, &mut pass, 2), Ok(1));
-    assert_eq!(rt;
-        insert_again(rt, alloc, &shard, &mut pass, 3),
-        Err(Refusal::ShardFull)
-    );
-    assert_eq!(rt; counts(rt, alloc, &shard, &mut pass)?, (2, 2));
-    assert_eq!(rt; counted(rt, alloc, &shard, &mut pass)?, Some(2));
-    assert_eq!(rt; update_rows(rt, alloc, &shard, &mut pass), Ok(2));
-    assert_eq!(rt; delete_rows(rt, alloc, &shard, &mut pass), Ok(2));
-    assert_eq!(rt; counts(rt, alloc, &shard, &mut pass)?, (0, 4));
-    assert_eq!(rt; counted(rt, alloc, &shard, &mut pass)?, Some(0));
-    assert_eq!(rt;
-        insert_again(rt, alloc, &shard, &mut pass, 1),
-        Err(Refusal::ShardFull)
-    );
-    assert_eq!(rt; counts(rt, alloc, &shard, &mut pass)?, (0, 4));
+    let (rows, entries) = after;
+    let told = take(rt, alloc, shard, schema, pass, act);
+    assert!(rt; told == given);
+    let counts = counts(rt, alloc, shard, pass)?;
+    assert!(rt; counts == (usize::from(rows), entries));
+    let counted = counted(rt, alloc, shard, pass)?;
+    assert!(rt; counted == Some(i128::from(rows)));
     Ok(())
 }
 
-// a key that is there, the limit of rows and the limit of stored entries refuse, and then nothing has changed
+// A key that is there, the limit of rows and the limit of stored entries refuse, and then nothing has changed.
+fn steps<J: Naming, R: Wait + Abort>(
+    rt: &R,
+    alloc: Global,
+    shard: &Shard<Small, J>,
+    schema: &VSchema,
+    pass: &mut Pass<ShardLaw<Small>, J>,
+) -> Result<(), Refusal>
+    requires here { shard.now ≡ small_seat }
+    requires schema { schema.now ≡ small_schema }
+    requires session { IsSome pass.old.session }
+{
+    let steps = [
+        (Act::Insert(1), Ok(1), (1, 1)),
+        (Act::Insert(1), Err(Refusal::DuplicateKey), (1, 1)),
+        (Act::Insert(2), Ok(1), (2, 2)),
+        (Act::Insert(3), Err(Refusal::ShardFull), (2, 2)),
+        (Act::Update, Ok(2), (2, 3)),
+        (Act::Delete, Ok(2), (0, 4)),
+        (Act::Insert(1), Err(Refusal::ShardFull), (0, 4)),
+    ];
+    for (act, given, after) in steps {
+        step(rt, alloc, shard, schema, pass, act, given, after)?;
+    }
+    Ok(())
+}
+
+// The same by a session of its own.
+pub(crate) fn writes<J: Naming, R: Wait + Abort>(
+    rt: &R,
+    alloc: Global,
+    shard: &Shard<Small, J>,
+    schema: &VSchema,
+    opener: &mut Opener<ShardLaw<Small>, J>,
+    first: &mut Pass<ShardLaw<Small>, J>,
+) -> Result<(), Refusal>
+    requires here { shard.now ≡ small_seat }
+    requires schema { schema.now ≡ small_schema }
+{
+    let mut pass = opener.open(first)?;
+    steps(rt, alloc, shard, schema, &mut pass)
+}
+
 #[test]
 fn writes_are_one_entry_each(rt: HostRuntime) -> Result<(), Fail> {
-    let opened = Opened::<ShardLaw<Small>>::new(rt.alloc())?;
-    writes_in_turn::<Brand, _>(&rt, rt.alloc(), opened)
+    Ok(play(&rt, rt.alloc(), Turn::Writes)?)
 }

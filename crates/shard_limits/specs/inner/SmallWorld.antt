@@ -7,7 +7,7 @@ use Rattle.serving.specs.Partitions.{Seat}
 use Rattle.shard_run.specs.declared.Shard.{Shard}
 use Rattle.shard_run.specs.declared.Entry.{Entry}
 use Rattle.journal.specs.Views.{PassView}
-use Rattle.shard.specs.Transactions.{PendingView, IsPendingOf}
+use Rattle.shard_contents.specs.Transactions.{PendingView, IsPendingOf}
 use Rattle.shard_limits.specs.SmallWorld.{small_shard, small_opening}
 
 -- where it stands

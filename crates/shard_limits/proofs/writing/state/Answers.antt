@@ -1,7 +1,7 @@
 use Rattle.std.proofs.Common.{[], refl, lit<}
 use Rattle.shard_law.proofs.Lists.{Contains-from_In}
-use Rattle.shard.proofs.Legality.{on_its_slot}
-use Rattle.shard.specs.Shards.{opening_shards}
+use Rattle.shard_contents.proofs.Legality.{on_its_slot}
+use Rattle.shard_contents.specs.Shards.{opening_shards}
 use Rattle.std.proofs.Common.{inl}
 use Rattle.shard_limits.specs.SmallWorld.{small_opening, small_shard}
 use Rattle.shard_limits.proofs.SmallWorld.{opens}

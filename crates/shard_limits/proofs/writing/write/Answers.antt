@@ -1,5 +1,3 @@
-use denote.Param.Send.{sendable}
-use Rattle.shard_run.proofs.Sent.{entry_send}
 use Rattle.std.proofs.Common.{◌≡◌, ℕ, Option, sym, ap, subst, ◌∙◌, rules}
 use Rattle.std.specs.Prelude.{IsSome}
 use Rattle.vschema.specs.declared.changes.Write.{Write}
@@ -7,10 +5,10 @@ use Rattle.journal.specs.Views.{PassView}
 use Rattle.shard_run.specs.declared.Entry.{Entry}
 use Rattle.shard_run.specs.declared.Shard.{Shard}
 use Rattle.shard_run.specs.Runs.{Opening}
-use Rattle.shard.specs.declared.limits.Limits.{Limits}
-use Rattle.shard.specs.declared.state.Committed.{Committed}
-use Rattle.shard.specs.Commits as a
-use Rattle.shard.specs.Commits.{HasAnswered}
+use Rattle.shard_contents.specs.declared.limits.Limits.{Limits}
+use Rattle.shard_contents.specs.declared.outcomes.Committed.{Committed}
+use Rattle.shard_contents.specs.Commits as a
+use Rattle.shard_contents.specs.Commits.{HasAnswered}
 use Rattle.shard_limits.proofs.writing.write.Goals as goal
 
 -- what a shard answers leaves the session
@@ -20,18 +18,5 @@ same_session o l s p w _ now (a.committed h) = ap (λ (v : PassView Entry). v.se
 same_session o l s p w _ now (a.frozen look m) = ap (λ (v : PassView Entry). v.session) look.pass
 same_session o l s p w _ now (a.not_serving look m) = ap (λ (v : PassView Entry). v.session) look.pass
 
-pub returns-in-Frozen : goal.returns-in-Frozen
-returns-in-Frozen g c = record {
-  session = subst (λ (s : Option ℕ). IsSome s) (sym (same_session _ _ _ _ _ _ c.commit.new.pass c.in_ok-count.ensures.commit.4)) (search rules);
-}
-
-pub returns : goal.returns
-returns g c = record {
-  session = subst (λ (s : Option ℕ). IsSome s) (sym (same_session _ _ _ _ _ _ c.commit.new.pass c.in_ok-count.ensures.commit.4)) (search rules);
-}
-
 pub commit-requires-clause-placed : goal.commit-requires-clause-placed
 commit-requires-clause-placed g c = rw c.requires.here c.requires.placed
-
-pub next_statement-requires-send-L-Entry : goal.next_statement-requires-send-L-Entry
-next_statement-requires-send-L-Entry g c κs within = search (entry_send, sendable)

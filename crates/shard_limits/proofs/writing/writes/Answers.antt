@@ -1,9 +1,6 @@
 use denote.Param.Send.{sendable}
 use Rattle.shard_run.proofs.Sent.{entry_send}
-use Rattle.shard_limits.proofs.writing.writes_in_turn.Goals as goal
-
-pub named-requires-send-L-Entry : goal.named-requires-send-L-Entry
-named-requires-send-L-Entry g c κs within = search (entry_send, sendable)
+use Rattle.shard_limits.proofs.writing.writes.Goals as goal
 
 pub open-requires-send-L-Entry : goal.open-requires-send-L-Entry
 open-requires-send-L-Entry g c κs within = search (entry_send, sendable)

@@ -1,0 +1,86 @@
+//! The small shard of a new journal, which tests act on.
+ghost use Rattle.std.specs.Prelude.{◌≡◌, []};
+ghost use Rattle.shard_limits.specs.SmallWorld.{small_schema};
+ghost use Rattle.shard_limits.specs.inner.SmallWorld.{small_seat};
+
+use crate::transactions::transactions;
+use crate::writing::{Small, first_seat, schema, state, writes};
+use journal::{Naming, Opened, Opener, Pass, ShardSeat};
+use shard::{Shard, ShardLaw};
+use std::alloc::Global;
+use std::marker::Brand;
+use std::process::Abort;
+use std::sync::Wait;
+use vschema::VSchema;
+use vt_value::Refusal;
+
+/// What is done in turn.
+#[derive(Clone, Copy)]
+pub(crate) enum Turn {
+    Writes,
+    Transactions,
+}
+
+fn act<J: Naming, R: Wait + Abort>(
+    rt: &R,
+    alloc: Global,
+    shard: &Shard<Small, J>,
+    schema: &VSchema,
+    opener: &mut Opener<ShardLaw<Small>, J>,
+    first: &mut Pass<ShardLaw<Small>, J>,
+    turn: Turn,
+) -> Result<(), Refusal>
+    requires here { shard.now ≡ small_seat }
+    requires schema { schema.now ≡ small_schema }
+{
+    match turn {
+        Turn::Writes => writes(rt, alloc, shard, schema, opener, first),
+        Turn::Transactions => transactions(rt, alloc, shard, schema, opener, first),
+    }
+}
+
+fn act_by_schema<J: Naming, R: Wait + Abort>(
+    rt: &R,
+    alloc: Global,
+    shard: &Shard<Small, J>,
+    opener: &mut Opener<ShardLaw<Small>, J>,
+    first: &mut Pass<ShardLaw<Small>, J>,
+    turn: Turn,
+) -> Result<(), Refusal>
+    requires here { shard.now ≡ small_seat }
+{
+    let schema = schema(alloc)?;
+    act(rt, alloc, shard, &schema, opener, first, turn)
+}
+
+fn act_on<J: Naming, R: Wait + Abort>(
+    rt: &R,
+    alloc: Global,
+    seat: ShardSeat<ShardLaw<Small>, J>,
+    opener: &mut Opener<ShardLaw<Small>, J>,
+    first: &mut Pass<ShardLaw<Small>, J>,
+    turn: Turn,
+) -> Result<(), Refusal>
+    requires { seat ≡ record { seen = []; slot = 0 } }
+{
+    let shard = Shard::new(state(alloc, seat)?);
+    act_by_schema(rt, alloc, &shard, opener, first, turn)
+}
+
+fn act_in<J: Naming, R: Wait + Abort>(
+    rt: &R,
+    alloc: Global,
+    opened: Opened<ShardLaw<Small>>,
+    turn: Turn,
+) -> Result<(), Refusal>
+    requires { opened ≡ J.table }
+{
+    let (seats, mut opener, mut first) = opened.named::<J>(alloc)?;
+    act_on(rt, alloc, first_seat(seats), &mut opener, &mut first, turn)
+}
+
+/// Acts on the small shard of a new journal.
+pub(crate) fn play<R: Wait + Abort>(rt: &R, alloc: Global, turn: Turn) -> Result<(), Refusal> {
+    let opened = Opened::<ShardLaw<Small>>::new(alloc)?;
+    act_in::<Brand, R>(rt, alloc, opened, turn)
+}
