@@ -1,25 +1,21 @@
 -- What goes to a session's thread may, and what threads share may be shared, whatever the world.
 use denote.RattleType.{RattleType}
-use denote.Param.Send.{IsSend, IsSync, AllSync, recorded_send, recorded_sync, struct_send, struct_sync, sendable}
+use denote.Param.Send.{IsSend, IsSync, AllSync, recorded_send, recorded_sync, struct_send, struct_sync}
 use denote.Struct.Declared.{shape}
 use denote.Struct.Tuple.{TupleAt, field_at, type_at}
 use Rattle.std.proofs.Common.{ℕ, List}
-use Rattle.std.proofs.Crossing as std
 use Rattle.journal.specs.declared.law.Naming as naming
-use Rattle.route_engine.proofs.Sent.{pass_send}
+use Rattle.shard_calls.proofs.Sent.{pass_send}
 use Rattle.shard.specs.declared.world.World as world
-use Rattle.soak.proofs.random.Choices.TheSendSync as choices
-use Rattle.soak.proofs.rows.Rows.TheSendSync as rows
-use Rattle.soak.proofs.tally.Tally.TheSendSync as tally
-use Rattle.soak.specs.contracts.session.Session as session
+use Rattle.soak.proofs.book.Book.TheSendSync as book
+use Rattle.soak.specs.contracts.session.Client as client
 
 -- captures that threads may each share
 pub captures_sync : (n : List ℕ) (rs : List RattleType) → AllSync (shape (type_at n rs)).fields → IsSync (TupleAt n rs)
 captures_sync n rs all = recorded_sync (field_at n rs).row _ _ (type_at n rs).to_one (struct_sync (shape (type_at n rs)) all)
 
 module _ (W J : RattleType) (w : world.Ghosts W.Denot) (j : naming.Ghosts J.Denot) where
-  pub session_send : IsSend (session.the_row W J j w)
-  session_send =
-      recorded_send (session.the_field W J j w).row _ _ (session.the_type W J j w).to_one
-      (struct_send (shape (session.the_type W J j w))
-      (pass_send W J w j, (search sendable, (rows.the_field_send, (choices.the_field_send, (tally.the_field_send, (search sendable, tt)))))))
+  pub client_send : IsSend (client.the_row W J j w)
+  client_send =
+      recorded_send (client.the_field W J j w).row _ _ (client.the_type W J j w).to_one
+      (struct_send (shape (client.the_type W J j w)) (pass_send W J w j, (book.the_field_send, tt)))

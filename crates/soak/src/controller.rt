@@ -1,155 +1,56 @@
-//! The administrator, who splits shards and merges them back by admin lines.
-use crate::admin::Admin;
+//! The administrator of a world, who splits shards and merges them back by admin lines.
+ghost use Rattle.std.specs.Prelude.{◌≡◌};
+ghost use Rattle.empty_opening.specs.Empty.{sharded_keyspace};
+ghost use Rattle.administration.specs.Told.{keyspace_of};
+
+use crate::book::Book;
 use crate::fault::Fault;
-use crate::random::Choices;
+use crate::lines::{Done, Next, TURNS, script};
+use crate::session::Client;
 use crate::watch::Watch;
-use administration::AdminReply;
-use follow::Step;
-use journal::{Naming, Pass};
-use reshard::{CutoverStep, ReshardFault};
+use administered_opening::administer;
+use administration::{AdminReply, Administrator};
+use journal::{Naming, Opener, Pass};
+use rand_core::utils::NextWord;
+use rand_pcg::Pcg32;
 use route_engine::{Engine, Open};
 use serving::Seated;
 use shard::{Shard, ShardLaw, World};
-use std::alloc::{AllocError, Global};
+use std::alloc::Global;
 use std::sync::{Arc, Wait};
+use std::thread;
 use std::time::{Clock, Duration};
-use std::{str, thread};
+use vt_value::Refusal;
 
-/// What is done again and again: shards are split, or merged, and put back.
-const TURNS: [(&str, &str); 3] = [
-    ("create -80 -40,40-80", "create -40,40-80 -80"),
-    ("create 80- 80-c0,c0-", "create 80-c0,c0- 80-"),
-    ("create -80,80- -", "create - -80,80-"),
-];
-
-/// How a world's cutovers go.
-#[derive(Clone, Copy, PartialEq, Eq)]
-pub enum Manner {
-    /// Step by step, so that the entries of each are known.
-    ByStep,
-    /// All steps by one line.
-    AtOnce,
-}
-
-/// What the administrator did, and how many entries it made.
-#[derive(Clone, Copy)]
-pub struct Done {
-    /// So many times targets came to serve.
-    pub cutovers: u64,
-    /// So many cutovers were undone before a source was retired.
-    pub resumed: u64,
-    /// So many workflows were given up.
-    pub cancelled: u64,
-    /// The entries on shards that have served.
-    pub entries: u64,
-    // those on the targets of the workflow that is under way, and how many sources are frozen
-    on_targets: u64,
-    frozen: u64,
-}
-
-/// The administrator of a world, what it has seen, and the shards that have ever served there.
+/// The administrator of a router, what it has seen, and the shards that have ever served there. Where it cuts over step by step, each of its
+/// entries is counted.
 #[derive(Drop)]
-pub struct Controller<W: World, J: Naming> {
-    admin: Admin<W, J>,
-    pass: Pass<ShardLaw<W>, J>,
-    shards: Vec<Arc<Shard<W, J>, Global>>,
-    choices: Choices,
-    manner: Manner,
-    done: Done,
+pub struct Controller<'e, W: World, J: Naming, R> {
+    pub rt: &'e R,
+    pub alloc: Global,
+    pub engine: &'e Engine<W, J, Open>,
+    pub watch: Watch<'e>,
+    pub administrator: Administrator<W, J>,
+    pub pass: Pass<ShardLaw<W>, J>,
+    pub shards: Vec<Arc<Shard<W, J>, Global>>,
+    pub choices: Pcg32,
+    pub by_step: bool,
+    pub turn: usize,
+    pub done: Done,
+    ghost known: { keyspace_of administrator ≡ sharded_keyspace engine.now },
 }
 
-impl Done {
-    /// Nothing yet.
-    pub fn new() -> Done {
-        Done {
-            cutovers: 0,
-            resumed: 0,
-            cancelled: 0,
-            entries: 0,
-            on_targets: 0,
-            frozen: 0,
-        }
-    }
-
-    /// What another did too.
-    pub fn add(&mut self, other: &Done) {
-        self.cutovers = self.cutovers.wrapping_add(other.cutovers);
-        self.resumed = self.resumed.wrapping_add(other.resumed);
-        self.cancelled = self.cancelled.wrapping_add(other.cancelled);
-        self.entries = self.entries.wrapping_add(other.entries);
-    }
-}
-
-fn text_of(reply: &AdminReply) -> &str {
-    str::from_utf8(reply.line()).unwrap_or("no text")
-}
-
-// The reply to a line isn't one that may be.
-fn unlike(alloc: Global, words: &str, reply: &AdminReply) -> Fault {
-    let told = text_of(reply);
-    match format!(in alloc; "! {words}: {told}") {
-        Ok(text) => Fault::Differs(text),
-        Err(_) => Fault::Memory,
-    }
-}
-
-impl<W: World + Send + Sync, J: Naming + Send + Sync> Controller<W, J> {
-    /// The administrator of a world that begins, with the pass that it has seen the world by.
-    pub fn new(
-        alloc: Global,
-        admin: Admin<W, J>,
-        pass: Pass<ShardLaw<W>, J>,
-        choices: Choices,
-        manner: Manner,
-    ) -> Controller<W, J> {
-        Controller {
-            admin,
-            pass,
-            shards: Vec::new(alloc),
-            choices,
-            manner,
-            done: Done::new(),
-        }
-    }
-
-    /// What was done.
-    pub fn done(&self) -> Done {
-        self.done
-    }
-
-    /// Whether the entries of all cutovers are known.
-    pub fn has_counted(&self) -> bool {
-        self.manner == Manner::ByStep
-    }
-
-    /// The pass that has seen what the administrator has.
-    pub fn pass(&mut self) -> &mut Pass<ShardLaw<W>, J> {
-        &mut self.pass
-    }
-
-    // The answer to a line.
-    fn line(
+impl<'e, W: World + Send + Sync, J: Naming + Send + Sync, R: Wait + Clock> Controller<'e, W, J, R> {
+    /// A new session of the router, which has seen what the administrator has.
+    pub fn client(
         &mut self,
-        rt: &impl Wait,
-        alloc: Global,
-        engine: &Engine<W, J, Open>,
-        words: &str,
-    ) -> AdminReply {
-        self.admin.answer(rt, alloc, engine, &mut self.pass, words)
-    }
-
-    // Does what a line asks for, which is answered by `ok`.
-    fn do_line(
-        &mut self,
-        rt: &impl Wait,
-        alloc: Global,
-        engine: &Engine<W, J, Open>,
-        words: &str,
-    ) -> Result<(), Fault> {
-        match self.line(rt, alloc, engine, words) {
-            AdminReply::Done => Ok(()),
-            other => Err(unlike(alloc, words, &other)),
-        }
+        opener: &mut Opener<ShardLaw<W>, J>,
+        book: Book,
+    ) -> Result<Client<W, J>, Refusal> {
+        Ok(Client {
+            pass: opener.open(&mut self.pass)?,
+            book,
+        })
     }
 
     fn has(&self, slot: usize) -> bool {
@@ -161,9 +62,9 @@ impl<W: World + Send + Sync, J: Naming + Send + Sync> Controller<W, J> {
         false
     }
 
-    /// Keeps the shards that serve now.
-    pub fn keep_shards(&mut self, engine: &Engine<W, J, Open>) -> Result<(), AllocError> {
-        let Some(serving) = engine.partitions(0) else {
+    // Keeps the shards that serve now.
+    fn keep_shards(&mut self) -> Result<(), Refusal> {
+        let Some(serving) = self.engine.partitions(0) else {
             return Ok(());
         };
         for part in serving.current().parts() {
@@ -174,229 +75,108 @@ impl<W: World + Send + Sync, J: Naming + Send + Sync> Controller<W, J> {
         Ok(())
     }
 
-    /// How many entries all shards have that have ever served.
-    pub fn entries(&mut self, rt: &impl Wait) -> u64 {
-        let mut all = 0u64;
+    /// All shards that have ever served have as many entries as the sessions and the administrator made. An entry can't be looked at, so it
+    /// is their number that is compared, where all cutovers were step by step.
+    pub fn check_entries(&mut self, made: u64) -> Result<(), Fault> {
+        let mut there = 0u64;
         for shard in self.shards.as_slice() {
-            all = all.wrapping_add(shard.lock(rt).look(&mut self.pass));
+            there = there.wrapping_add(shard.lock(self.rt).look(&mut self.pass));
         }
-        all
-    }
-
-    // Lets the sessions run for some milliseconds.
-    fn pause(&mut self, rt: &impl Clock, most: u32) {
-        let millis = self.choices.below(most);
-        thread::sleep(rt, Duration::from_millis(u64::from(millis)));
-    }
-
-    // Begins a workflow. There is none where too few slots are left.
-    fn create(
-        &mut self,
-        rt: &impl Wait,
-        alloc: Global,
-        engine: &Engine<W, J, Open>,
-        words: &str,
-    ) -> Result<bool, Fault> {
-        self.done.on_targets = 0;
-        match self.line(rt, alloc, engine, words) {
-            AdminReply::Done => Ok(true),
-            AdminReply::Refused(ReshardFault::FewSlots) => Ok(false),
-            other => Err(unlike(alloc, words, &other)),
-        }
-    }
-
-    // Brings the targets forward, until they are level or some steps were taken.
-    fn follow(
-        &mut self,
-        rt: &impl Wait,
-        alloc: Global,
-        engine: &Engine<W, J, Open>,
-    ) -> Result<(), Fault> {
-        for _ in 0..self.choices.below(400) {
-            match self.line(rt, alloc, engine, "step") {
-                AdminReply::Moved(Step::Level) => break,
-                AdminReply::Moved(_) => {
-                    self.done.on_targets = self.done.on_targets.wrapping_add(1);
-                }
-                other => return Err(unlike(alloc, "step", &other)),
-            }
+        let made = made.wrapping_add(self.done.entries);
+        if self.by_step && there != made {
+            return Err(Fault::Numbers("entries there and made", there, made));
         }
         Ok(())
     }
 
-    // Counts the entry of a step of a cutover.
-    fn count_step(&mut self, step: CutoverStep) {
-        let done = &mut self.done;
-        match step {
-            CutoverStep::Freeze => {
-                done.frozen = done.frozen.wrapping_add(1);
-                done.entries = done.entries.wrapping_add(1);
-            }
-            CutoverStep::Retire => done.entries = done.entries.wrapping_add(1),
-            CutoverStep::Copy | CutoverStep::Follow | CutoverStep::Serve => {
-                done.on_targets = done.on_targets.wrapping_add(1);
-            }
-            CutoverStep::Publish | CutoverStep::Release => {}
+    fn answer(&mut self, words: &str) -> AdminReply {
+        administer(
+            self.rt,
+            self.alloc,
+            self.engine,
+            &mut self.administrator,
+            &mut self.pass,
+            words.as_bytes(),
+        )
+    }
+
+    // Lets the sessions run for some milliseconds, now and then.
+    fn pause(&mut self) {
+        let word = self.choices.next_word();
+        if word % 8 == 0 {
+            thread::sleep(self.rt, Duration::from_millis(u64::from(word / 8 % 4)));
         }
     }
 
-    // Takes the next step of a cutover.
-    fn advance(
-        &mut self,
-        rt: &impl Wait,
-        alloc: Global,
-        engine: &Engine<W, J, Open>,
-    ) -> Result<CutoverStep, Fault> {
-        match self.line(rt, alloc, engine, "advance") {
-            AdminReply::Took(step) => {
-                self.count_step(step);
-                Ok(step)
-            }
-            other => Err(unlike(alloc, "advance", &other)),
-        }
-    }
-
-    // Begins a cutover and gives it up, while no source is retired.
-    fn stop_early(
-        &mut self,
-        rt: &(impl Wait + Clock),
-        alloc: Global,
-        engine: &Engine<W, J, Open>,
-    ) -> Result<(), Fault> {
-        let _ = self.advance(rt, alloc, engine)?;
-        self.pause(rt, 3);
-        self.do_line(rt, alloc, engine, "resume")?;
-        // Each source that was frozen takes commits again.
-        self.done.entries = self.done.entries.wrapping_add(self.done.frozen);
-        self.done.frozen = 0;
-        self.done.resumed = self.done.resumed.wrapping_add(1);
-        self.follow(rt, alloc, engine)
-    }
-
-    // Takes all steps of a cutover, one line each.
-    fn by_step(
-        &mut self,
-        rt: &(impl Wait + Clock),
-        alloc: Global,
-        engine: &Engine<W, J, Open>,
-    ) -> Result<(), Fault> {
-        for _ in 0..u64::MAX {
-            let step = self.advance(rt, alloc, engine)?;
-            if step == CutoverStep::Release {
-                break;
-            }
-            if self.choices.below(4) == 0 {
-                self.pause(rt, 2);
+    // Says a line until it is done, or so often. Whether there are slots for it.
+    fn say(&mut self, words: &'static str, most: u32) -> Result<bool, Fault> {
+        for _ in 0..most {
+            self.pause();
+            let reply = self.answer(words);
+            match self.done.note(words, &reply)? {
+                Next::Again => {}
+                Next::Over => break,
+                Next::Full => return Ok(false),
             }
         }
-        Ok(())
-    }
-
-    // Has the targets serve in the sources' place.
-    fn cut_over(
-        &mut self,
-        rt: &(impl Wait + Clock),
-        alloc: Global,
-        engine: &Engine<W, J, Open>,
-    ) -> Result<(), Fault> {
-        match self.manner {
-            Manner::ByStep => self.by_step(rt, alloc, engine)?,
-            Manner::AtOnce => self.do_line(rt, alloc, engine, "switch")?,
-        }
-        self.done.entries = self.done.entries.wrapping_add(self.done.on_targets);
-        self.done.frozen = 0;
-        self.done.cutovers = self.done.cutovers.wrapping_add(1);
-        self.keep_shards(engine)?;
-        self.do_line(rt, alloc, engine, "complete")
-    }
-
-    // Goes through with a workflow that has begun, or gives it up; whether its targets serve.
-    fn go_through(
-        &mut self,
-        rt: &(impl Wait + Clock),
-        alloc: Global,
-        engine: &Engine<W, J, Open>,
-    ) -> Result<bool, Fault> {
-        self.pause(rt, 3);
-        self.follow(rt, alloc, engine)?;
-        if self.choices.below(4) == 0 {
-            self.stop_early(rt, alloc, engine)?;
-        }
-        if self.choices.below(16) == 0 {
-            self.do_line(rt, alloc, engine, "cancel")?;
-            self.done.cancelled = self.done.cancelled.wrapping_add(1);
-            return Ok(false);
-        }
-        self.cut_over(rt, alloc, engine)?;
         Ok(true)
     }
 
-    // Puts shards in the place of others, however often it takes. Whether there were slots for it.
-    fn replace(
-        &mut self,
-        rt: &(impl Wait + Clock),
-        alloc: Global,
-        engine: &Engine<W, J, Open>,
-        words: &str,
-    ) -> Result<bool, Fault> {
-        for _ in 0..u64::MAX {
-            self.pause(rt, 8);
-            if !self.create(rt, alloc, engine, words)? {
-                return Ok(false);
+    // Says a line of a script: targets are brought forward by some steps, and the steps of a cutover are taken one by one, or all at once.
+    fn play(&mut self, words: &'static str) -> Result<bool, Fault> {
+        match words {
+            "step" => {
+                let most = self.choices.next_word() % 400;
+                self.say("step", most)
             }
-            if self.go_through(rt, alloc, engine)? {
-                return Ok(true);
-            }
+            "switch" if self.by_step => self.say("advance", u32::MAX),
+            _ => self.say(words, 1),
         }
-        Ok(false)
     }
 
-    // A split and the merge back, or the other way round. Whether there were slots for both.
-    fn turn(
-        &mut self,
-        rt: &(impl Wait + Clock),
-        alloc: Global,
-        engine: &Engine<W, J, Open>,
-        there: &str,
-        back: &str,
-    ) -> Result<bool, Fault> {
-        if !self.replace(rt, alloc, engine, there)? {
-            return Ok(false);
+    // Begins to put shards in the place of others, or back. Whether there were slots for it.
+    fn create(&mut self) -> Result<bool, Fault> {
+        let is_back = self.done.tally.cutovers % 2 == 1;
+        if !is_back {
+            self.turn = self.choices.next_word() as usize;
         }
-        self.replace(rt, alloc, engine, back)
+        let [there, back] = TURNS[self.turn % TURNS.len()];
+        self.say(if is_back { back } else { there }, 1)
     }
 
-    // Splits shards and merges them back, once at least, until no slots are left, or it is to stop.
-    fn turns(
-        &mut self,
-        rt: &(impl Wait + Clock),
-        alloc: Global,
-        engine: &Engine<W, J, Open>,
-        watch: &Watch<'_>,
-    ) -> Result<(), Fault> {
+    // Puts shards in the place of others, or gives it up, once at least, until no slots are left, or it is to stop.
+    fn turns(&mut self) -> Result<(), Fault> {
+        self.keep_shards()?;
         for _ in 0..u64::MAX {
-            let (there, back) = TURNS[self.choices.below(3) as usize % TURNS.len()];
-            if !self.turn(rt, alloc, engine, there, back)? || watch.is_over(rt) {
+            if !self.create()? {
+                break;
+            }
+            let choice = self.choices.next_word();
+            self.play_script(script(choice))?;
+            self.keep_shards()?;
+            let is_over = self.watch.is_stopped() || self.watch.is_past(self.rt);
+            if is_over && self.done.tally.cutovers > 0 {
                 break;
             }
         }
         Ok(())
     }
 
-    /// The same, and tells the sessions to stop at the end.
-    pub fn run(
-        &mut self,
-        rt: &(impl Wait + Clock),
-        alloc: Global,
-        engine: &Engine<W, J, Open>,
-        watch: &Watch<'_>,
-    ) -> Result<(), Fault> {
-        let ended = self.turns(rt, alloc, engine, watch);
+    fn play_script(&mut self, script: &[&'static str]) -> Result<(), Fault> {
+        for words in script {
+            self.play(words)?;
+        }
+        Ok(())
+    }
+
+    /// Splits shards and merges them back, and tells the sessions to stop at the end.
+    pub fn run(&mut self) -> Result<(), Fault> {
+        let ended = self.turns();
         if ended.is_err() {
             // No session waits for a cutover that nobody goes on with.
-            let _ = self.line(rt, alloc, engine, "resume");
+            let _ = self.answer("resume");
         }
-        watch.stop();
+        self.watch.stop();
         ended
     }
 }

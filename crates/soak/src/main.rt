@@ -4,25 +4,18 @@
 //! prints no counts.
 #![tactic(auto)]
 
-mod admin;
-mod alone;
-mod command;
+mod book;
 mod controller;
-mod ending;
 mod fault;
-mod found;
-mod outcome;
-mod random;
-mod report;
+mod lines;
 mod rows;
 mod session;
+mod statement;
 mod tally;
 mod watch;
 mod world;
 
-use controller::Manner;
 use fault::Fault;
-use report::{Report, print_counts};
 use std::process::ExitCode;
 use std::rt::Env;
 use std::sync::Wait;
@@ -30,8 +23,9 @@ use std::sync::atomic::AtomicU64;
 use std::thread::Threads;
 use std::time::{Clock, Instant};
 use std::{env, io};
-use watch::{Watch, is_past};
-use world::{Plan, Played, play};
+use tally::{Tally, count};
+use watch::Watch;
+use world::{Plan, play};
 
 /// What is asked for on the command line.
 #[derive(Clone, Copy)]
@@ -42,106 +36,77 @@ struct Asked {
 }
 
 fn read_words<R: Env + AllocGlobal>(rt: &R) -> io::Result<Option<Asked>> {
-    let mut words = env::args(rt)?.skip(1);
-    let seconds = match words.next() {
-        Some(word) => word.parse::<u64>(),
-        None => return Ok(None),
-    };
-    let seed = match words.next() {
-        Some(word) => word.parse::<u64>(),
-        None => Ok(1),
-    };
-    let is_quiet = match words.next() {
-        Some(word) => word.as_str() == "quiet",
-        None => false,
-    };
-    match (seconds, seed) {
-        (Ok(seconds), Ok(seed)) => Ok(Some(Asked {
-            seconds,
-            seed,
-            is_quiet,
-        })),
-        _ => Ok(None),
+    let mut asked = None;
+    for (place, word) in env::args(rt)?.enumerate() {
+        asked = match (place, word.parse::<u64>(), asked) {
+            (1, Ok(seconds), _) => Some(Asked {
+                seconds,
+                seed: 1,
+                is_quiet: false,
+            }),
+            (2, Ok(seed), Some(asked)) => Some(Asked { seed, ..asked }),
+            (3, _, Some(asked)) => Some(Asked {
+                is_quiet: word.as_str() == "quiet",
+                ..asked
+            }),
+            _ => None,
+        };
     }
+    Ok(asked)
 }
 
-// One world. Every other one cuts over step by step.
-fn play_next<R: Threads + Wait + Clock + Sync + AllocGlobal>(
-    rt: &R,
-    asked: Asked,
-    begun: Instant,
-    number: u64,
-) -> Result<Played, Fault> {
-    let stopped = AtomicU64::new(0);
-    let manner = if number % 2 == 0 {
-        Manner::ByStep
-    } else {
-        Manner::AtOnce
-    };
-    let plan = Plan {
-        seed: asked.seed.wrapping_add(number),
-        manner,
-        watch: Watch::new(begun, asked.seconds, &stopped),
-    };
-    play(rt, rt.alloc(), plan)
-}
-
-// Worlds until the seconds are over.
+// Worlds until the seconds are over. Every other one cuts over step by step.
 fn play_all<R: Threads + Wait + Clock + Sync + AllocGlobal>(
     rt: &R,
     asked: Asked,
     begun: Instant,
-    report: &mut Report,
+    tally: &mut Tally,
 ) -> Result<(), Fault> {
     for number in 0..u64::MAX {
-        let Played { tally, done, ended } = play_next(rt, asked, begun, number)?;
-        report.add(&tally, &done);
-        ended?;
-        if is_past(rt, begun, asked.seconds) {
+        let stopped = AtomicU64::new(0);
+        let watch = Watch {
+            begun,
+            seconds: asked.seconds,
+            stopped: &stopped,
+        };
+        let plan = Plan {
+            seed: asked.seed.wrapping_add(number),
+            by_step: number % 2 == 0,
+            watch,
+        };
+        count(&mut tally.worlds);
+        play(rt, rt.alloc(), plan, tally)?;
+        if watch.is_past(rt) {
             break;
         }
     }
     Ok(())
 }
 
-fn print_success<R: Print>(rt: &R, asked: Asked, report: &Report) -> io::Result<()> {
-    let statements = report.tally.all();
-    let cutovers = report.done.cutovers;
-    if cutovers == 0 {
-        return println!(rt; "soak: no cutover");
-    }
-    if asked.is_quiet {
-        return println!(rt; "soak: nothing lost or doubled");
-    }
-    println!(rt; "soak: {statements} statements, {cutovers} cutovers, nothing lost or doubled")
-}
-
 // Prints the end, and tells whether nothing differs.
 fn print_end<R: Print>(
     rt: &R,
     asked: Asked,
-    report: &Report,
+    tally: &Tally,
     ended: Result<(), Fault>,
 ) -> io::Result<bool> {
-    if !asked.is_quiet {
-        let seed = asked.seed;
+    let Asked { seed, is_quiet, .. } = asked;
+    if !is_quiet {
         println!(rt; "seed: {seed}")?;
-        print_counts(rt, report)?;
+        tally.print(rt)?;
     }
+    let statements = tally.all();
+    let cutovers = tally.cutovers;
     match ended {
-        Err(Fault::Differs(text)) => {
-            println!(rt; "differs: {text}")?;
-            Ok(false)
-        }
-        Err(Fault::Memory) => {
-            println!(rt; "out of memory")?;
-            Ok(false)
-        }
-        Ok(()) => {
-            print_success(rt, asked, report)?;
-            Ok(report.done.cutovers > 0)
-        }
+        Err(Fault::Memory) => println!(rt; "out of memory")?,
+        Err(fault) => println!(rt; "differs: {fault}")?,
+        Ok(()) if cutovers == 0 => println!(rt; "soak: no cutover")?,
+        Ok(()) if is_quiet => println!(rt; "soak: nothing lost or doubled")?,
+        Ok(()) => println!(rt;
+            "soak: {statements} statements, {cutovers} cutovers, nothing lost or doubled"
+        )?,
     }
+    Ok(ended.is_ok() && cutovers > 0)
 }
 
 fn run<R: Threads + Wait + Clock + Print + Sync + AllocGlobal>(
@@ -149,9 +114,9 @@ fn run<R: Threads + Wait + Clock + Print + Sync + AllocGlobal>(
     asked: Asked,
 ) -> io::Result<bool> {
     let begun = Instant::now(rt)?;
-    let mut report = Report::new();
-    let ended = play_all(rt, asked, begun, &mut report);
-    print_end(rt, asked, &report, ended)
+    let mut tally = Tally::new();
+    let ended = play_all(rt, asked, begun, &mut tally);
+    print_end(rt, asked, &tally, ended)
 }
 
 fn main(rt: HostRuntime) -> ExitCode {
@@ -161,7 +126,6 @@ fn main(rt: HostRuntime) -> ExitCode {
     };
     match run(&rt, asked) {
         Ok(true) => ExitCode::from(0),
-        Ok(false) => ExitCode::from(1),
-        Err(_) => ExitCode::from(1),
+        Ok(false) | Err(_) => ExitCode::from(1),
     }
 }

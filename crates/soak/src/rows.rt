@@ -1,103 +1,120 @@
 //! The rows of a session by its accepted commands.
-use std::alloc::{AllocError, Global};
+use crate::fault::Fault;
+use crate::statement::{Ids, Statement, Verb, number};
+use route_engine::Answer;
+use vt_value::Row;
 
 /// How many keys a session has.
-pub const KEYS: u32 = 128;
+pub const KEYS: usize = 128;
 
 /// How far the first ids of two sessions are apart.
 const APART: u64 = 1 << 20;
 
-/// The rows of a session: the value of each of its keys that has one. What was changed since `keep` can be undone.
-#[derive(Drop)]
+/// Rows of a session: the value of each of its keys that has one.
+#[derive(Clone, Copy)]
 pub struct Rows {
     first: u64,
-    values: Vec<Option<u64>>,
-    before: Vec<(usize, Option<u64>)>,
+    values: [Option<u64>; KEYS],
+}
+
+// The id and the value of a row.
+fn cells(row: &Row) -> (Option<u64>, Option<u64>) {
+    match row.as_slice() {
+        [id, value] => (number(id), number(value)),
+        _ => (None, None),
+    }
 }
 
 impl Rows {
     /// The session of this number has no row yet.
-    pub fn new(alloc: Global, number: u64) -> Result<Rows, AllocError> {
-        Ok(Rows {
+    pub fn new(number: u64) -> Rows {
+        Rows {
             first: number.wrapping_mul(APART),
-            values: vec![in alloc; None; KEYS as usize]?,
-            before: Vec::new(alloc),
-        })
+            values: [None; KEYS],
+        }
     }
 
     /// The id of the key at a place.
-    pub fn id(&self, place: usize) -> u64 {
-        self.first.wrapping_add(place as u64)
+    pub fn id(&self, place: u64) -> u64 {
+        self.first.wrapping_add(place)
     }
 
-    /// The first id that isn't one of the session's.
-    pub fn end(&self) -> u64 {
-        self.id(self.values.len())
-    }
-
-    /// The place of the key that has this id, if it is one of the session's.
-    pub fn place(&self, id: i128) -> Option<usize> {
-        let Ok(id) = u64::try_from(id) else {
-            return None;
-        };
-        let place = id.wrapping_sub(self.first);
-        if place < self.values.len() as u64 {
-            Some(place as usize)
-        } else {
-            None
-        }
-    }
-
-    /// The value at a place, where there is a row.
-    pub fn value(&self, place: usize) -> Option<u64> {
-        match self.values.get(place) {
-            Some(value) => *value,
-            None => None,
-        }
-    }
-
-    /// Each value, in the order of places.
-    pub fn values(&self) -> &[Option<u64>] {
-        self.values.as_slice()
+    /// The ids of all its keys.
+    pub fn all(&self) -> Ids {
+        Ids::Span(self.first, self.id(KEYS as u64))
     }
 
     /// How many rows there are.
     pub fn count(&self) -> u64 {
         let mut count = 0u64;
-        for value in self.values.as_slice() {
-            if value.is_some() {
+        for place in 0..KEYS {
+            if self.values[place].is_some() {
                 count = count.wrapping_add(1);
             }
         }
         count
     }
 
-    /// Puts a row with this value in a place, or none.
-    pub fn set(&mut self, place: usize, value: Option<u64>) -> Result<(), AllocError> {
-        if place < self.values.len() {
-            self.before.push((place, self.values[place]))?;
-            self.values[place] = value;
+    /// Those that have these ids.
+    pub fn among(&self, ids: Ids) -> Rows {
+        let mut among = *self;
+        for place in 0..KEYS {
+            if !ids.contain(self.id(place as u64)) {
+                among.values[place] = None;
+            }
         }
-        Ok(())
+        among
     }
 
-    /// All changes so far stay.
-    pub fn keep(&mut self) {
-        self.before.clear();
-    }
-
-    /// The rows are those of the last `keep`.
-    pub fn undo(&mut self) {
-        for _ in 0..self.before.len() {
-            if let Some((place, value)) = self.before.pop() {
-                self.put_back(place, value);
+    /// Does what a command says that was accepted.
+    pub fn apply(&mut self, statement: &Statement) {
+        for place in 0..KEYS {
+            if statement.ids.contain(self.id(place as u64)) {
+                self.values[place] = match (statement.verb, self.values[place]) {
+                    (Verb::Insert, _) => Some(statement.value),
+                    (Verb::Update, Some(_)) => Some(statement.value),
+                    (Verb::Delete, _) => None,
+                    (_, kept) => kept,
+                };
             }
         }
     }
 
-    fn put_back(&mut self, place: usize, value: Option<u64>) {
-        if place < self.values.len() {
-            self.values[place] = value;
+    // Takes away a row that was found; whether it was there, or is another session's.
+    fn take(&mut self, id: Option<u64>, value: Option<u64>) -> bool {
+        let Some(id) = id else {
+            return false;
+        };
+        let place = id.wrapping_sub(self.first);
+        if place >= KEYS as u64 {
+            return true;
+        }
+        let kept = self.values[place as usize];
+        self.values[place as usize] = None;
+        kept.is_some() && kept == value
+    }
+
+    // Takes away each row that was found.
+    fn take_each(&mut self, statement: &Statement, found: &[Row]) -> Result<(), Fault> {
+        for row in found {
+            let (id, value) = cells(row);
+            if !self.take(id, value) {
+                return Err(Fault::Statement("not accepted last", *statement, id, value));
+            }
+        }
+        Ok(())
+    }
+
+    /// A query gave those of these rows that it names, each once, beside rows of other sessions.
+    pub fn check(&self, statement: &Statement, answer: &Answer) -> Result<(), Fault> {
+        let (Verb::Find | Verb::Scatter, Answer::Rows(selected)) = (statement.verb, answer) else {
+            return Ok(());
+        };
+        let mut left = self.among(statement.ids);
+        left.take_each(statement, selected.rows.as_slice())?;
+        match left.count() {
+            0 => Ok(()),
+            count => Err(Fault::Statement("rows weren't given", *statement, Some(count), None)),
         }
     }
 }

@@ -1,53 +1,48 @@
 //! What is counted.
+use crate::statement::Verb;
+use std::io;
 use vt_value::Refusal;
 
-/// What a statement is.
-#[derive(Clone, Copy)]
-pub enum Kind {
-    Insert,
-    Update,
-    Delete,
-    /// A SELECT of one row by its key.
-    Find,
-    /// A SELECT of all own rows.
-    Scatter,
-    /// A SELECT COUNT(*) of them.
-    Count,
-    Begin,
-    Commit,
-    Rollback,
-}
-
-/// Each kind by its name, in their order.
-pub const KINDS: [(Kind, &str); 9] = [
-    (Kind::Insert, "INSERT"),
-    (Kind::Update, "UPDATE"),
-    (Kind::Delete, "DELETE"),
-    (Kind::Find, "SELECT by key"),
-    (Kind::Scatter, "SELECT of all"),
-    (Kind::Count, "SELECT COUNT(*)"),
-    (Kind::Begin, "BEGIN"),
-    (Kind::Commit, "COMMIT"),
-    (Kind::Rollback, "ROLLBACK"),
+/// The kinds of statements by their names, in their order.
+const NAMES: [&str; 9] = [
+    "INSERT",
+    "UPDATE",
+    "DELETE",
+    "SELECT by key",
+    "SELECT of all",
+    "SELECT COUNT(*)",
+    "BEGIN",
+    "COMMIT",
+    "ROLLBACK",
 ];
 
-/// How many statements of each kind were run, how many were refused by each number, and how many entries the accepted ones make.
+/// How many statements of each kind were run, and how many were refused by each number; the entries that the accepted ones make; and what the
+/// administrators did.
 #[derive(Clone, Copy)]
 pub struct Tally {
     statements: [u64; 9],
     refusals: [u64; 25],
-    entries: u64,
+    pub entries: u64,
+    pub worlds: u64,
+    pub cutovers: u64,
+    pub undone: u64,
+    pub given_up: u64,
 }
 
-fn add_one(counts: &mut [u64], place: usize) {
-    if let Some(count) = counts.get_mut(place) {
-        *count = count.wrapping_add(1);
+/// Counts one more.
+pub fn count(counter: &mut u64) {
+    *counter = counter.wrapping_add(1);
+}
+
+fn count_at(counters: &mut [u64], place: usize) {
+    if let Some(counter) = counters.get_mut(place) {
+        count(counter);
     }
 }
 
-fn add_each(counts: &mut [u64], more: &[u64]) {
-    for (count, more) in counts.iter_mut().zip(more.iter()) {
-        *count = count.wrapping_add(*more);
+fn add_each(counters: &mut [u64], more: &[u64]) {
+    for (counter, more) in counters.iter_mut().zip(more.iter()) {
+        *counter = counter.wrapping_add(*more);
     }
 }
 
@@ -58,27 +53,21 @@ impl Tally {
             statements: [0; 9],
             refusals: [0; 25],
             entries: 0,
+            worlds: 0,
+            cutovers: 0,
+            undone: 0,
+            given_up: 0,
         }
     }
 
     /// A statement is run.
-    pub fn asked(&mut self, kind: Kind) {
-        add_one(&mut self.statements, kind as usize);
+    pub fn ran(&mut self, verb: Verb) {
+        count_at(&mut self.statements, verb as usize);
     }
 
     /// One was refused.
     pub fn refused(&mut self, refusal: Refusal) {
-        add_one(&mut self.refusals, refusal.number() as usize);
-    }
-
-    /// What was accepted is one entry.
-    pub fn entered(&mut self) {
-        self.entries = self.entries.wrapping_add(1);
-    }
-
-    /// How many statements of a kind were run.
-    pub fn of(&self, kind: Kind) -> u64 {
-        self.statements.get(kind as usize).copied().unwrap_or(0)
+        count_at(&mut self.refusals, refusal.number() as usize);
     }
 
     /// How many statements were run.
@@ -90,20 +79,39 @@ impl Tally {
         all
     }
 
-    /// How many were refused by the number.
-    pub fn by_number(&self, number: usize) -> u64 {
-        self.refusals.get(number).copied().unwrap_or(0)
-    }
-
-    /// How many entries there are of what was accepted.
-    pub fn entries(&self) -> u64 {
-        self.entries
-    }
-
     /// Adds another's counts.
     pub fn add(&mut self, other: &Tally) {
         add_each(&mut self.statements, &other.statements);
         add_each(&mut self.refusals, &other.refusals);
         self.entries = self.entries.wrapping_add(other.entries);
+        self.worlds = self.worlds.wrapping_add(other.worlds);
+        self.cutovers = self.cutovers.wrapping_add(other.cutovers);
+        self.undone = self.undone.wrapping_add(other.undone);
+        self.given_up = self.given_up.wrapping_add(other.given_up);
+    }
+
+    /// Prints how many statements of each kind were run, how many were refused by each number, and what the administrators did.
+    pub fn print(&self, rt: &impl Print) -> io::Result<()> {
+        for (name, count) in NAMES.iter().zip(self.statements.iter()) {
+            println!(rt; "{name}: {count}")?;
+        }
+        for number in 0..25usize {
+            let count = self.refusals[number];
+            if count > 0 {
+                println!(rt; "refused F{number}: {count}")?;
+            }
+        }
+        let Tally {
+            entries,
+            worlds,
+            cutovers,
+            undone,
+            given_up,
+            ..
+        } = *self;
+        println!(rt; "entries of sessions: {entries}")?;
+        println!(rt;
+            "worlds: {worlds}, cutovers: {cutovers}, undone: {undone}, given up: {given_up}"
+        )
     }
 }

@@ -4,16 +4,15 @@ ghost use Rattle.std.specs.Prelude.{◌≡◌, IsTrue, IfOk};
 ghost use Rattle.std.specs.List.{AllByRecursion};
 ghost use Rattle.keyrange.specs.Names.{IsNamed};
 ghost use Rattle.vschema.specs.WellFormed.{is_vschema};
-ghost use Rattle.shard.specs.Shards.{most_limits};
+ghost use Rattle.shard_contents.specs.Shards.{most_limits};
 ghost use Rattle.empty_opening.specs.Empty.{opening_of, sharded_keyspace, FitRanges};
 ghost use Rattle.administration.specs.Told.{keyspace_of};
 
-use crate::admin::Admin;
-use crate::controller::{Controller, Done, Manner};
-use crate::ending::{check_entries, check_numbers, check_tables};
+use crate::book::Book;
+use crate::controller::Controller;
 use crate::fault::Fault;
-use crate::random::Choices;
-use crate::session::{SESSIONS, Session, Worked, work};
+use crate::lines::Done;
+use crate::session::{Client, Session, work};
 use crate::tally::Tally;
 use crate::watch::Watch;
 use administered_opening::administered_router;
@@ -21,11 +20,13 @@ use administration::Administrator;
 use empty_opening::opening_shards;
 use journal::{Naming, Opened, Opener, Pass};
 use keyrange::{KeyRange, covers_once};
+use rand_pcg::Pcg32;
 use route_engine::{Engine, Open};
 use shard::{ShardLaw, World};
 use std::alloc::{AllocError, Global};
 use std::marker::Brand;
 use std::sync::Wait;
+use std::sync::atomic::AtomicU64;
 use std::thread::{Threads, join, map_vec};
 use std::time::Clock;
 use vschema::VSchema;
@@ -39,6 +40,9 @@ const SHOP: &str =
  "t2":{"columns":[{"name":"id","type":"BIGINT UNSIGNED"},{"name":"c","type":"BIGINT UNSIGNED"}],"primary_key":["id"],"column_vindexes":[{"column":"id","name":"rev"}]},
  "t3":{"columns":[{"name":"id","type":"BIGINT UNSIGNED"},{"name":"c","type":"BIGINT UNSIGNED"}],"primary_key":["id"],"column_vindexes":[{"column":"id","name":"rev"}]}}}}}"#;
 
+/// How many sessions there are.
+const SESSIONS: u64 = 8;
+
 /// So many statements may wait for a cutover: less than there are sessions, so that some are refused.
 const WAITING: u64 = 5;
 
@@ -46,28 +50,9 @@ const WAITING: u64 = 5;
 #[derive(Clone, Copy)]
 pub struct Plan<'s> {
     pub seed: u64,
-    pub manner: Manner,
+    /// Whether each step of a cutover is a line of its own.
+    pub by_step: bool,
     pub watch: Watch<'s>,
-}
-
-/// What came of a world.
-#[derive(Drop)]
-pub struct Played {
-    /// What its sessions have counted.
-    pub tally: Tally,
-    /// What its administrator has done.
-    pub done: Done,
-    /// What differs.
-    pub ended: Result<(), Fault>,
-}
-
-fn halves() -> Result<[KeyRange; 2], Fault>
-    ensures { IfOk result (λ ranges. AllByRecursion IsNamed ranges) }
-{
-    match (KeyRange::read("-80"), KeyRange::read("80-")) {
-        (Some(low), Some(high)) => Ok([low, high]),
-        _ => Err(Fault::Memory),
-    }
 }
 
 // Promise: Ranges that the soak tests and takes make an opening of at most 64 shards
@@ -81,239 +66,155 @@ fn fits(alloc: Global, schema: &VSchema, ranges: &[KeyRange]) -> Result<bool, Re
     Ok(shards.len() <= 64 && covers_once(ranges))
 }
 
-// The sessions of a world.
-fn open_sessions<W: World + Send + Sync, J: Naming + Send + Sync>(
-    alloc: Global,
+// The clients of a world.
+fn open_clients<W: World + Send + Sync, J: Naming + Send + Sync, R: Wait + Clock>(
+    controller: &mut Controller<'_, W, J, R>,
     opener: &mut Opener<ShardLaw<W>, J>,
-    first: &mut Pass<ShardLaw<W>, J>,
     seed: u64,
-) -> Result<Vec<Session<W, J>>, Fault> {
-    let mut sessions = Vec::new(alloc);
+) -> Result<Vec<Client<W, J>>, Refusal> {
+    let mut clients = Vec::new(controller.alloc);
     for number in 0..SESSIONS {
-        let pass = opener.open(first)?;
-        sessions.push(Session::new(alloc, pass, number, seed)?)?;
+        clients.push(controller.client(opener, Book::new(number, seed))?)?;
     }
-    Ok(sessions)
+    Ok(clients)
 }
 
-// All sessions, each in a thread of its own.
-fn run_sessions<W: World + Send + Sync, J: Naming + Send + Sync, R: Threads + Wait + Clock + Sync>(
-    rt: &R,
+// All clients' sessions, each in a thread of its own.
+fn run_sessions<
+    'e,
+    W: World + Send + Sync,
+    J: Naming + Send + Sync,
+    R: Threads + Wait + Clock + Sync,
+>(
+    rt: &'e R,
     alloc: Global,
-    engine: &Engine<W, J, Open>,
-    sessions: Vec<Session<W, J>>,
-    watch: &Watch<'_>,
-) -> Result<Vec<Worked>, AllocError> {
+    engine: &'e Engine<W, J, Open>,
+    watch: Watch<'e>,
+    clients: Vec<Client<W, J>>,
+) -> Result<Vec<Book>, AllocError> {
     map_vec(
         rt,
-        sessions,
-        &move |session: Session<W, J>| work(rt, alloc, engine, session, watch),
+        clients,
+        &move |client: Client<W, J>| work(rt, alloc, engine, watch, client),
     )
 }
-
-type Ended<W, J> = (
-    Result<Vec<Worked>, AllocError>,
-    (Result<(), Fault>, Controller<W, J>),
-);
 
 // The sessions, and beside them the administrator.
 fn run_beside<W: World + Send + Sync, J: Naming + Send + Sync, R: Threads + Wait + Clock + Sync>(
-    rt: &R,
-    alloc: Global,
-    engine: &Engine<W, J, Open>,
-    mut controller: Controller<W, J>,
-    sessions: Vec<Session<W, J>>,
-    watch: Watch<'_>,
-) -> Ended<W, J> {
+    controller: &mut Controller<'_, W, J, R>,
+    clients: Vec<Client<W, J>>,
+) -> (Result<Vec<Book>, AllocError>, Result<(), Fault>) {
+    let rt = controller.rt;
+    let alloc = controller.alloc;
+    let engine = controller.engine;
+    let watch = controller.watch;
     join(
         rt,
-        move || -> Result<Vec<Worked>, AllocError>
+        move || -> Result<Vec<Book>, AllocError>
             requires { IsSync R.row × IsSend W.row × IsSync W.row × IsSend J.row × IsSync J.row }
-        { run_sessions(rt, alloc, engine, sessions, &watch) },
-        move || -> (Result<(), Fault>, Controller<W, J>)
+        { run_sessions(rt, alloc, engine, watch, clients) },
+        move || -> Result<(), Fault>
             requires { IsSync R.row × IsSend W.row × IsSync W.row × IsSend J.row × IsSync J.row }
-        {
-            let ended = controller.run(rt, alloc, engine, &watch);
-            (ended, controller)
-        },
+        { controller.run() },
     )
 }
 
-// What all sessions have counted.
-fn sum(worked: &[Worked]) -> Tally {
-    let mut tally = Tally::new();
-    for one in worked {
-        tally.add(&one.tally);
+// Adds what all sessions have counted, and tells how many entries they made, or a fault that one has found.
+fn sum(books: &[Book], tally: &mut Tally) -> Result<u64, Fault> {
+    let mut made = Ok(0);
+    for book in books {
+        tally.add(&book.tally);
+        made = match (made, book.ended) {
+            (Ok(made), Ok(())) => Ok(book.tally.entries.wrapping_add(made)),
+            (Err(fault), _) | (_, Err(fault)) => Err(fault),
+        };
     }
-    tally
+    made
 }
 
-// The fault that a session has found.
-fn found_by(worked: Vec<Worked>) -> Result<(), Fault> {
-    for one in worked {
-        let Worked { ended, .. } = one;
-        ended?;
-    }
-    Ok(())
-}
-
-// The first of two ends that has a fault.
-fn first_fault(one: Result<(), Fault>, other: Result<(), Fault>) -> Result<(), Fault> {
-    match one {
-        Ok(()) => other,
-        Err(fault) => {
-            drop(other);
-            Err(fault)
-        }
-    }
-}
-
-// What is to hold at the end of a world.
-fn check<W: World + Send + Sync, J: Naming + Send + Sync>(
-    rt: &(impl Threads + Wait + Sync),
-    alloc: Global,
-    engine: &Engine<W, J, Open>,
+// The rows are those of the books, for a session that begins behind their end.
+fn check_rows<W: World + Send + Sync, J: Naming + Send + Sync, R: Threads + Wait + Clock + Sync>(
+    controller: &mut Controller<'_, W, J, R>,
     opener: &mut Opener<ShardLaw<W>, J>,
-    controller: &mut Controller<W, J>,
-    worked: &[Worked],
-    tally: &Tally,
+    books: &[Book],
 ) -> Result<(), Fault> {
-    check_numbers(alloc, worked)?;
-    check_entries(rt, alloc, controller, tally)?;
-    let mut last = opener.open(controller.pass())?;
-    check_tables(rt, alloc, engine, &mut last, worked)
-}
-
-// The end of a world: what its sessions and its administrator have found, and what is checked then.
-fn end<W: World + Send + Sync, J: Naming + Send + Sync>(
-    rt: &(impl Threads + Wait + Sync),
-    alloc: Global,
-    engine: &Engine<W, J, Open>,
-    opener: &mut Opener<ShardLaw<W>, J>,
-    controller: &mut Controller<W, J>,
-    worked: Vec<Worked>,
-    administered: Result<(), Fault>,
-) -> Played {
-    let tally = sum(worked.as_slice());
-    let checked = check(
-        rt,
-        alloc,
-        engine,
-        opener,
-        controller,
-        worked.as_slice(),
-        &tally,
+    let client = controller.client(opener, Book::new(SESSIONS, 0))?;
+    let mut last = Session::new(
+        controller.rt,
+        controller.alloc,
+        controller.engine,
+        controller.watch,
+        client,
     );
-    let found = first_fault(found_by(worked), administered);
-    Played {
-        tally,
-        done: controller.done(),
-        ended: first_fault(found, checked),
-    }
+    last.check(books)
 }
 
-// The same, where its sessions have ended.
-fn end_all<W: World + Send + Sync, J: Naming + Send + Sync>(
-    rt: &(impl Threads + Wait + Sync),
-    alloc: Global,
-    engine: &Engine<W, J, Open>,
+// The end of a world: it is counted, and checked where nobody has found a fault.
+fn end<W: World + Send + Sync, J: Naming + Send + Sync, R: Threads + Wait + Clock + Sync>(
+    controller: &mut Controller<'_, W, J, R>,
     opener: &mut Opener<ShardLaw<W>, J>,
-    controller: &mut Controller<W, J>,
-    worked: Result<Vec<Worked>, AllocError>,
+    books: &[Book],
     administered: Result<(), Fault>,
-) -> Result<Played, Fault> {
-    match worked {
-        Ok(worked) => Ok(end(rt, alloc, engine, opener, controller, worked, administered)),
+    tally: &mut Tally,
+) -> Result<(), Fault> {
+    tally.add(&controller.done.tally);
+    let made = sum(books, tally)?;
+    administered?;
+    controller.check_entries(made)?;
+    check_rows(controller, opener, books)
+}
+
+// The world's sessions, its threads, and its end.
+fn play_by<W: World + Send + Sync, J: Naming + Send + Sync, R: Threads + Wait + Clock + Sync>(
+    controller: &mut Controller<'_, W, J, R>,
+    opener: &mut Opener<ShardLaw<W>, J>,
+    seed: u64,
+    tally: &mut Tally,
+) -> Result<(), Fault> {
+    let clients = open_clients(controller, opener, seed)?;
+    let (books, administered) = run_beside(controller, clients);
+    match books {
+        Ok(books) => end(controller, opener, books.as_slice(), administered, tally),
         Err(_) => Err(Fault::Memory),
     }
 }
 
-// The world's threads, and its end.
-fn run<W: World + Send + Sync, J: Naming + Send + Sync, R: Threads + Wait + Clock + Sync>(
-    rt: &R,
+// The world over a new engine.
+fn play_opened<
+    'e,
+    W: World + Send + Sync,
+    J: Naming + Send + Sync,
+    R: Threads + Wait + Clock + Sync,
+>(
+    rt: &'e R,
     alloc: Global,
-    engine: &Engine<W, J, Open>,
+    engine: &'e Engine<W, J, Open>,
+    administrator: Administrator<W, J>,
     opener: &mut Opener<ShardLaw<W>, J>,
-    controller: Controller<W, J>,
-    sessions: Vec<Session<W, J>>,
-    watch: Watch<'_>,
-) -> Result<Played, Fault> {
-    let (worked, (administered, mut controller)) = run_beside(
-        rt, alloc, engine, controller, sessions, watch,
-    );
-    end_all(
+    first: Pass<ShardLaw<W>, J>,
+    plan: Plan<'_>,
+    stopped: &'e AtomicU64,
+    tally: &mut Tally,
+) -> Result<(), Fault>
+    requires home { keyspace_of administrator ≡ sharded_keyspace engine.now }
+{
+    let mut controller = Controller {
         rt,
         alloc,
         engine,
-        opener,
-        &mut controller,
-        worked,
-        administered,
-    )
-}
-
-// The administrator, who knows the shards that serve at the beginning.
-fn controller_of<W: World + Send + Sync, J: Naming + Send + Sync>(
-    alloc: Global,
-    engine: &Engine<W, J, Open>,
-    administrator: Administrator<W, J>,
-    first: Pass<ShardLaw<W>, J>,
-    plan: Plan<'_>,
-) -> Result<Controller<W, J>, Fault>
-    requires home { keyspace_of administrator ≡ sharded_keyspace engine.now }
-{
-    let _ = engine.schema();
-    let choices = Choices::new(plan.seed, SESSIONS);
-    let admin = Admin::new(administrator);
-    let mut controller = Controller::new(alloc, admin, first, choices, plan.manner);
-    controller.keep_shards(engine)?;
-    Ok(controller)
-}
-
-// The world of these sessions.
-fn play_by<W: World + Send + Sync, J: Naming + Send + Sync, R: Threads + Wait + Clock + Sync>(
-    rt: &R,
-    alloc: Global,
-    engine: &Engine<W, J, Open>,
-    administrator: Administrator<W, J>,
-    opener: &mut Opener<ShardLaw<W>, J>,
-    first: Pass<ShardLaw<W>, J>,
-    sessions: Vec<Session<W, J>>,
-    plan: Plan<'_>,
-) -> Result<Played, Fault>
-    requires home { keyspace_of administrator ≡ sharded_keyspace engine.now }
-{
-    match controller_of(alloc, engine, administrator, first, plan) {
-        Ok(controller) => run(rt, alloc, engine, opener, controller, sessions, plan.watch),
-        Err(fault) => Err(fault),
-    }
-}
-
-// The world over a new engine, whose sessions are opened first.
-fn play_opened<W: World + Send + Sync, J: Naming + Send + Sync, R: Threads + Wait + Clock + Sync>(
-    rt: &R,
-    alloc: Global,
-    engine: &Engine<W, J, Open>,
-    administrator: Administrator<W, J>,
-    mut opener: Opener<ShardLaw<W>, J>,
-    mut first: Pass<ShardLaw<W>, J>,
-    plan: Plan<'_>,
-) -> Result<Played, Fault>
-    requires home { keyspace_of administrator ≡ sharded_keyspace engine.now }
-{
-    match open_sessions(alloc, &mut opener, &mut first, plan.seed) {
-        Ok(sessions) => play_by(
-            rt,
-            alloc,
-            engine,
-            administrator,
-            &mut opener,
-            first,
-            sessions,
-            plan,
-        ),
-        Err(fault) => Err(fault),
-    }
+        watch: Watch {
+            stopped,
+            ..plan.watch
+        },
+        administrator,
+        pass: first,
+        shards: Vec::new(alloc),
+        choices: Pcg32::new(plan.seed, SESSIONS),
+        by_step: plan.by_step,
+        turn: 0,
+        done: Done::new(),
+    };
+    play_by(&mut controller, opener, plan.seed, tally)
 }
 
 fn play_over<W: World + Send + Sync, J: Naming + Send + Sync, R: Threads + Wait + Clock + Sync>(
@@ -323,7 +224,8 @@ fn play_over<W: World + Send + Sync, J: Naming + Send + Sync, R: Threads + Wait 
     ranges: &[KeyRange],
     opened: Opened<ShardLaw<W>>,
     plan: Plan<'_>,
-) -> Result<Played, Fault>
+    tally: &mut Tally,
+) -> Result<(), Fault>
     requires name { opened ≡ J.table }
     requires opening { W.opening ≡ opening_of schema ranges.now }
     requires limits { W.limits ≡ most_limits }
@@ -331,8 +233,18 @@ fn play_over<W: World + Send + Sync, J: Naming + Send + Sync, R: Threads + Wait 
     requires ranges { FitRanges schema ranges.now }
 {
     match administered_router::<W, J, Open>(alloc, schema, ranges, opened, WAITING, Open) {
-        Ok((engine, administrator, opener, first)) => {
-            play_opened(rt, alloc, &engine, administrator, opener, first, plan)
+        Ok((engine, administrator, mut opener, first)) => {
+            play_opened(
+                rt,
+                alloc,
+                &engine,
+                administrator,
+                &mut opener,
+                first,
+                plan,
+                plan.watch.stopped,
+                tally,
+            )
         }
         Err(_) => Err(Fault::Memory),
     }
@@ -345,41 +257,36 @@ fn play_in_world<W: World + Send + Sync, R: Threads + Wait + Clock + Sync>(
     schema: VSchema,
     ranges: &[KeyRange],
     plan: Plan<'_>,
-) -> Result<Played, Fault>
+    tally: &mut Tally,
+) -> Result<(), Fault>
     requires opening { W.opening ≡ opening_of schema ranges.now }
     requires limits { W.limits ≡ most_limits }
     requires schema { IsTrue (is_vschema schema) }
     requires ranges { FitRanges schema ranges.now }
 {
     match Opened::<ShardLaw<W>>::new(alloc) {
-        Ok(opened) => play_over::<W, Brand, R>(rt, alloc, schema, ranges, opened, plan),
+        Ok(opened) => play_over::<W, Brand, R>(rt, alloc, schema, ranges, opened, plan, tally),
         Err(_) => Err(Fault::Memory),
     }
 }
 
-fn play_with<R: Threads + Wait + Clock + Sync>(
-    rt: &R,
-    alloc: Global,
-    schema: VSchema,
-    plan: Plan<'_>,
-) -> Result<Played, Fault>
-    requires { IsTrue (is_vschema schema) }
-{
-    let ranges = halves()?;
-    if !fits(alloc, &schema, &ranges)? {
-        return Err(Fault::Memory);
-    }
-    play_in_world::<Brand, R>(rt, alloc, schema, &ranges, plan)
-}
-
-/// Runs a world until its slots are used up, the seconds are over or something differs, and checks its end. Refuses only for want of memory.
+/// Runs a world until its slots are used up, the seconds are over or something differs, counts what was done, and checks its end.
 pub fn play<R: Threads + Wait + Clock + Sync>(
     rt: &R,
     alloc: Global,
     plan: Plan<'_>,
-) -> Result<Played, Fault> {
-    match VSchema::read(alloc, SHOP) {
-        Ok(schema) => play_with(rt, alloc, schema, plan),
-        Err(_) => Err(Fault::Memory),
+    tally: &mut Tally,
+) -> Result<(), Fault> {
+    let (Ok(schema), Some(low), Some(high)) = (
+        VSchema::read(alloc, SHOP),
+        KeyRange::read("-80"),
+        KeyRange::read("80-"),
+    ) else {
+        return Err(Fault::Memory);
+    };
+    let ranges = [low, high];
+    match fits(alloc, &schema, &ranges) {
+        Ok(true) => play_in_world::<Brand, R>(rt, alloc, schema, &ranges, plan, tally),
+        _ => Err(Fault::Memory),
     }
 }

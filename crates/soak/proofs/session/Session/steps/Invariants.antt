@@ -1,4 +1,4 @@
-use Rattle.route_engine.specs.Pendings.{IsOf}
+use Rattle.shard_calls.specs.Pendings.{IsOf}
 use Rattle.soak.proofs.session.Session.steps.Given as goal
 
 -- the transaction is still the pass's

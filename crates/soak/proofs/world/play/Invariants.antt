@@ -1,6 +1,6 @@
-use Rattle.shard.specs.Shards.{most_limits}
+use Rattle.shard_contents.specs.Shards.{most_limits}
 use Rattle.empty_opening.specs.Empty.{opening_of}
-use Rattle.soak.proofs.world.play_with.Given as goal
+use Rattle.soak.proofs.world.play.Given as goal
 
 -- the world of this VSchema and these ranges
 abbrev pub ghosts-play_in_world : goal.ghosts-play_in_world
