@@ -1,5 +1,5 @@
 //! Queries of all rows, each begun at another moment of a cutover, by a session in a thread of its own.
-use crate::common::{LEVELLED, PUBLISH, RELEASE, RETIRE, SERVE, SWITCHED};
+use crate::steps::{LEVELLED, PUBLISH, RELEASE, RETIRE, SERVE, SWITCHED};
 use router_scenes::common::{ALL, FREEZE};
 use router_scenes::{Act, Asked, plays_beside};
 use std::alloc::Global;

@@ -1,7 +1,7 @@
 //! A cutover that is stopped after each of its steps in turn and then resumed, while two sessions write and read.
 ghost use Rattle.std.specs.Prelude.{◌<◌};
 
-use crate::common::{CANCELLED, COMPLETED, FOLLOWING, SPLIT, SWITCH, SWITCHED, SWITCHING, UNSPLIT};
+use crate::steps::{CANCELLED, COMPLETED, FOLLOWING, SPLIT, SWITCH, SWITCHED, SWITCHING, UNSPLIT};
 use reshard::ReshardFault;
 use router_scenes::common::{ALL, BEGUN, COPIED, EIGHT, EVEN, ODD, RESUMED, SHOP};
 use router_scenes::{Act, plays_alone};

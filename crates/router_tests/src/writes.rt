@@ -1,5 +1,5 @@
 //! An INSERT that is begun during a cutover, by a session in a thread of its own.
-use crate::common::{
+use crate::steps::{
     CANCELLED, LEVELLED, PUBLISH, RELEASE, RETIRE, SERVE, SWITCH, SWITCHED, UNSPLIT,
 };
 use router_scenes::common::{ALL, EIGHT, FREEZE, RESUMED, SEVEN, TEN};

@@ -1,5 +1,5 @@
 //! Admin lines over shards with rows, answered as they are meant to be.
-use crate::common::{
+use crate::steps::{
     CANCELLED, COMPLETED, FOLLOWING, PUBLISH, RELEASE, RETIRE, SERVE, SPLIT, SWITCH, SWITCHED,
     SWITCHING, UNSPLIT,
 };
