@@ -3,11 +3,12 @@
 # Usage: examples/split.sh [PROGRAM]
 set -euo pipefail
 top=$(cd "$(dirname "$0")/.." && pwd)
+. "$top/examples/program.sh"
 input=$(mktemp)
 trap 'rm -f "$input"' EXIT
 { tr -d '\n' < "$top/examples/shop.json"; echo; cat "$top/examples/split.lines"; } > "$input"
 if [ $# -gt 0 ]; then
     "$1" script -80,80- < "$input"
 else
-    cd "$top/crates/vtgate_main" && rt run -- script -80,80- < "$input"
+    run_program script -80,80- < "$input"
 fi
