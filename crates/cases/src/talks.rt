@@ -129,6 +129,20 @@ fn converse_over_rows<W: World + Send + Sync, J: Naming + Send + Sync, R: Thread
     converse(rt, alloc, engine, pass, talk, sink)
 }
 
+// The same by the first session.
+fn converse_first<W: World + Send + Sync, J: Naming + Send + Sync, R: Threads + Wait + Sync>(
+    rt: &R,
+    alloc: Global,
+    engine: &Engine<W, J, Open>,
+    opener: &mut Opener<ShardLaw<W>, J>,
+    first: &mut Pass<ShardLaw<W>, J>,
+    talk: &Talk<'_>,
+    sink: &mut Writer<Vec<u8>>,
+) -> Result<End, Refusal> {
+    let mut pass = opener.open(first)?;
+    converse_over_rows(rt, alloc, engine, &mut pass, talk, sink)
+}
+
 // The same by a router over this VSchema and these ranges.
 fn converse_opened<W: World + Send + Sync, J: Naming + Send + Sync, R: Threads + Wait + Sync>(
     rt: &R,
@@ -145,13 +159,10 @@ fn converse_opened<W: World + Send + Sync, J: Naming + Send + Sync, R: Threads +
     requires schema { IsTrue (is_vschema schema) }
     requires ranges { FitRanges schema ranges.now }
 {
-    match empty_router::<W, J, Open>(alloc, schema, ranges, opened, 0, Open) {
-        Ok((engine, mut opener, mut first)) => match opener.open(&mut first) {
-            Ok(mut pass) => converse_over_rows(rt, alloc, &engine, &mut pass, talk, sink),
-            Err(refusal) => Err(refusal),
-        },
-        Err(refusal) => Err(refusal),
-    }
+    let (engine, mut opener, mut first) = empty_router::<W, J, Open>(
+        alloc, schema, ranges, opened, 0, Open,
+    )?;
+    converse_first(rt, alloc, &engine, &mut opener, &mut first, talk, sink)
 }
 
 // The same in the world that has this VSchema and these ranges.
