@@ -20,7 +20,9 @@ pub(crate) fn halves() -> Option<[KeyRange; 2]>
     Some([low, high])
 }
 
-// Whether the shards over the ranges hold each keyspace id once and fit into 64 slots.
+// Promise: Ranges that a scene's router is opened over make an opening of at most 64 shards
+// Refuses: unfitting_ranges_are_opened
+/// Whether the shards over the ranges hold each keyspace id once and fit into 64 slots.
 fn fits(alloc: Global, schema: &VSchema, ranges: &[KeyRange]) -> Result<bool, Refusal>
     requires { AllByRecursion IsNamed ranges.now }
     ensures { IfOk result (λ b. IsTrue b → FitRanges schema.now ranges.now) }
