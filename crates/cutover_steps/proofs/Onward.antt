@@ -8,7 +8,7 @@ use Rattle.shard_run.specs.declared.Shard.{Shard}
 use Rattle.shard_run.specs.declared.Event.{Event}
 use Rattle.shard_run.specs.declared.Entry.{Entry}
 use Rattle.shard_run.specs.Runs.{Run, Opening, stored_on, is_on, is_stored}
-use Rattle.shard_run.specs.Legal.{Legal}
+use Rattle.shard_law.specs.Legal.{Legal}
 use Rattle.shard_law.proofs.Law.{beginnings}
 use Rattle.shard_law.proofs.Runs.{stored_on-push}
 use Rattle.shard_contents.specs.Shards.{slot_of, commit_of, MayFollow, HasAppended, ShardView}

@@ -10,7 +10,7 @@ use Rattle.shard_run.specs.declared.Shard.{Shard}
 use Rattle.shard_run.specs.declared.Mode.TheVariants.{Following, Retired}
 use Rattle.shard_run.specs.declared.Event.TheVariants.{Retire}
 use Rattle.shard_run.specs.Runs.{Run, Opening, mode, stored_on}
-use Rattle.shard_run.specs.Legal.{Legal, MayServe, IsRetiredFor}
+use Rattle.shard_law.specs.Legal.{Legal, MayServe, IsRetiredFor}
 use Rattle.shard_run.specs.Copies.{position}
 use Rattle.shard_run.specs.Openings.{IsOpening}
 use Rattle.shard_contents.specs.Copying.{HasCopiedAll}

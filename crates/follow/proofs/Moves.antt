@@ -16,7 +16,7 @@ use Rattle.shard_run.specs.declared.Copied as C
 use Rattle.shard_run.specs.declared.Entry.{Entry}
 use Rattle.shard_run.specs.Runs.{Run, Opening, held, entries_on, stored_on, stored_changes}
 use Rattle.shard_run.specs.Copies.{position, table_at, is_copied, change_is_copied}
-use Rattle.shard_run.specs.Legal.{Legal, Had, is_left}
+use Rattle.shard_law.specs.Legal.{Legal, Had, is_left}
 use Rattle.shard_run.specs.Openings.{IsOpening}
 use Rattle.shard_law.proofs.Law.{beginnings}
 use Rattle.shard_law.proofs.Lists.{all-filter, all-weaker, AllByRecursion-push}

@@ -16,7 +16,7 @@ use Rattle.shard_run.specs.declared.Shard.{Shard}
 use Rattle.shard_run.specs.declared.Mode.TheVariants.{Following, Serving}
 use Rattle.shard_run.specs.declared.Entry.{Entry}
 use Rattle.shard_run.specs.Runs.{Opening, Run, all_rows, is_opening, is_on, entries_on, opening_part, first_rows, mode}
-use Rattle.shard_run.specs.Legal.{IsOnItsSlot}
+use Rattle.shard_law.specs.Legal.{IsOnItsSlot}
 use Rattle.shard_run.specs.Openings.{IsOpening, OpensWith, shards_in, row_count}
 use Rattle.shard_law.proofs.First.{long}
 use Rattle.reshard_beginning.specs.Grounds.{IsFree}

@@ -11,7 +11,7 @@ use Rattle.shard_law.proofs.Lists.{In, In-from_Contains, Contains-from_In, In-le
 use Rattle.vschema.specs.declared.schema.Place.{Place}
 use Rattle.shard_run.specs.declared.Mode.TheVariants.{Serving}
 use Rattle.shard_run.specs.Runs.{Opening, Run, mode}
-use Rattle.shard_run.specs.Legal.{IsOnItsSlot}
+use Rattle.shard_law.specs.Legal.{IsOnItsSlot}
 use Rattle.reshard_beginning.specs.declared.creating.Sight.{Sight}
 use Rattle.reshard_beginning.specs.declared.creating.Sight.TheVariants.{Serves, DoesNot, Another}
 use Rattle.reshard_beginning.specs.Splits.{AreOverlapped}

@@ -6,7 +6,7 @@ use Rattle.std.proofs.lemmas.Bool.{and_parts, eqb-true}
 use Rattle.keyrange.specs.declared.KeyRange.{KeyRange}
 use Rattle.keyrange.specs.Ranges.{has_id, IsByteString, Overlap}
 use Rattle.shard_run.specs.declared.Shard.{Shard}
-use Rattle.shard_run.specs.Legal.{Hold, PlacesOverlap}
+use Rattle.shard_law.specs.Legal.{Hold, PlacesOverlap}
 use Rattle.shard_law.proofs.Lists.{In, In-from_Contains, Contains-from_In, In-map, In-from_map, In-all, In-filter, all-passed, all-weaker}
 use Rattle.reshard_beginning.specs.Choices.{holders, HoldTheSame}
 use Rattle.cutover_steps.specs.Steps.{has_source, named_for, IsTargetOf, FitTargets}

@@ -91,7 +91,7 @@ module _ (o : Opening) where
   found_at p now slot place s w m n later is same same' = record {
     run = now.seen;
     between = record { since = later; until = prefix_self now.seen };
-    stands = subst (Rattle.shard_run.specs.Legal.IsOnItsSlot o now.seen) (sym same) is.stands;
+    stands = subst (Rattle.shard_law.specs.Legal.IsOnItsSlot o now.seen) (sym same) is.stands;
     mode = same' ∙ is.in_mode ∙ ap (λ (x : Shard). mode o now.seen x.slot) (sym same);
   }
 

@@ -20,7 +20,7 @@ use Rattle.shard_run.specs.declared.Entry.{Entry}
 use Rattle.shard_run.specs.declared.Event.{Event}
 use Rattle.shard_run.specs.declared.Event.TheVariants.{Commit, Follow, Copy, Freeze, Thaw, Retire, Serve}
 use Rattle.shard_run.specs.Runs.{Run, Opening, mode, is_serving, is_on, is_stored, stored_on}
-use Rattle.shard_run.specs.Legal.{LegalFrom, May, IsOnItsSlot}
+use Rattle.shard_law.specs.Legal.{LegalFrom, May, IsOnItsSlot}
 use Rattle.shard_run.specs.Openings.{IsOpening}
 use Rattle.shard_contents.specs.declared.touch.Touch.{Touch}
 use Rattle.shard_contents.specs.Shards.{MayFollow, commit_of}

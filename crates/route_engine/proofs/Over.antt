@@ -26,7 +26,7 @@ use Rattle.journal.proofs.Fronts.{prefix_self, prefix_trans, legal_front}
 use Rattle.shard_run.specs.declared.Shard.{Shard}
 use Rattle.shard_run.specs.declared.Entry.{Entry}
 use Rattle.shard_run.specs.Runs.{Run, Opening, opening_rows, one, commit_changes}
-use Rattle.shard_run.specs.Legal.{Legal, IsChangeOf, AreChangesOf}
+use Rattle.shard_law.specs.Legal.{Legal, IsChangeOf, AreChangesOf}
 use Rattle.shard_run.specs.Openings.{IsOpening}
 use Rattle.shard_law.proofs.Lists.{all-weaker}
 use Rattle.shard_law.proofs.Runs.{commits, commits-push}

@@ -22,7 +22,7 @@ use Rattle.shard_run.specs.declared.Mode.TheVariants.{Serving}
 use Rattle.shard_run.specs.declared.Shard.{Shard}
 use Rattle.shard_run.specs.declared.Entry.{Entry}
 use Rattle.shard_run.specs.Runs.{Run, Opening, one, held, mode, is_serving}
-use Rattle.shard_run.specs.Legal.{IsOnItsSlot, IsChangeOf}
+use Rattle.shard_law.specs.Legal.{IsOnItsSlot, IsChangeOf}
 use Rattle.shard_run.specs.Openings.{IsOpening}
 use Rattle.shard_contents.specs.declared.touch.Touch.{Touch}
 use Rattle.shard_contents.specs.Shards.{MayFollow, commit_of}

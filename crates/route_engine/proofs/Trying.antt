@@ -27,7 +27,7 @@ use Rattle.shard_run.specs.declared.Mode.{Mode}
 use Rattle.shard_run.specs.declared.Mode.TheVariants.{Following, Serving, Frozen, Retired, Dropped}
 use Rattle.shard_run.specs.declared.Entry.{Entry}
 use Rattle.shard_run.specs.Runs.{Opening, mode, is_serving}
-use Rattle.shard_run.specs.Legal.{IsOnItsSlot}
+use Rattle.shard_law.specs.Legal.{IsOnItsSlot}
 use Rattle.shard_law.proofs.Lists.{In, In-from_filter, In-filter, In-from_map, Contains-from_In}
 use Rattle.serving.specs.Partitions.{Seat, IsPartition, ranges}
 use Rattle.shard_contents.specs.declared.limits.Limits.{Limits}

@@ -29,7 +29,7 @@ use Rattle.planner.proofs.Placed.{IsHome, rows_home}
 use Rattle.planner.proofs.Skips.{skipped}
 use Rattle.shard_run.specs.declared.Shard.{Shard}
 use Rattle.shard_run.specs.Runs.{Run, Opening, one}
-use Rattle.shard_run.specs.Legal.{Legal}
+use Rattle.shard_law.specs.Legal.{Legal}
 use Rattle.shard_run.specs.Openings.{IsOpening}
 use Rattle.shard_law.proofs.Fitting.{fits-from_typed}
 use Rattle.shard_law.proofs.Lists.{In, In-all, In-filter, In-map, all-from_In, all-from_list_all, filter-filter_weaker, filter-none}

@@ -24,7 +24,7 @@ use Rattle.shard_run.specs.declared.Shard.{Shard}
 use Rattle.shard_run.specs.declared.Event.TheVariants.{Commit}
 use Rattle.shard_run.specs.declared.Entry.{Entry}
 use Rattle.shard_run.specs.Runs.{Run, Opening, one}
-use Rattle.shard_run.specs.Legal.{IsChangeOf}
+use Rattle.shard_law.specs.Legal.{IsChangeOf}
 use Rattle.shard_run.specs.Openings.{IsOpening}
 use Rattle.shard_law.proofs.Lists.{In, In-from_Contains, all-append, all-weaker}
 use Rattle.shard_contents.specs.declared.limits.Limits.{Limits}

@@ -10,7 +10,7 @@ use Rattle.journal.specs.Runs.{IsLegal}
 use Rattle.shard_run.specs.declared.Shard.{Shard}
 use Rattle.shard_run.specs.declared.Mode.TheVariants.{Following}
 use Rattle.shard_run.specs.Runs.{Run, Opening, held, first_rows, mode, stored_changes, is_stored, is_on, stored_on}
-use Rattle.shard_run.specs.Legal.{Legal}
+use Rattle.shard_law.specs.Legal.{Legal}
 use Rattle.shard_law.proofs.Law.{legal_back}
 use Rattle.shard_law.proofs.Runs.{log}
 use Rattle.shard_law.proofs.Since.{told, since}

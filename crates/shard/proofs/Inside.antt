@@ -15,7 +15,7 @@ use Rattle.vschema.specs.Database.{Database, SameRows, rows_of, same_row, withou
 use Rattle.vschema.specs.TypedWrites.{IsTypedWrite}
 use Rattle.sql_eval.specs.Writes.{written_table}
 use Rattle.sql_eval.proofs.ChangeLemmas.{same_changes, rows-same}
-use Rattle.shard_run.specs.Legal.{IsChangeOf, AreChangesOf}
+use Rattle.shard_law.specs.Legal.{IsChangeOf, AreChangesOf}
 use Rattle.shard_law.proofs.Lists.{all-append, all-from_list_all}
 use Rattle.shard_law.proofs.Typed.{keeps_keys-from_typed}
 use Rattle.shard_contents.specs.Commits.{IsPlaced}

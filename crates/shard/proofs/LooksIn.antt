@@ -29,7 +29,7 @@ use Rattle.shard_run.specs.declared.Entry.{Entry}
 use Rattle.shard_run.specs.declared.Shard.{Shard}
 use Rattle.shard_run.specs.Runs.{Run, Opening, held, is_serving, stored_on}
 use Rattle.shard_run.specs.Openings.{row_count}
-use Rattle.shard_run.specs.Legal.{IsChangeOf}
+use Rattle.shard_law.specs.Legal.{IsChangeOf}
 use Rattle.shard_law.proofs.Storable.{held_storable}
 use Rattle.shard_contents.specs.declared.limits.Limits.{Limits}
 use Rattle.shard_contents.specs.declared.contents.Contents.{Contents}

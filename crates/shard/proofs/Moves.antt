@@ -21,7 +21,7 @@ use Rattle.shard_run.specs.declared.Shard.{Shard}
 use Rattle.shard_run.specs.declared.Mode.TheVariants.{Following, Serving}
 use Rattle.shard_run.specs.declared.Entry.{Entry}
 use Rattle.shard_run.specs.Runs.{Run, Opening, held, first_rows, mode, stored_on}
-use Rattle.shard_run.specs.Legal.{IsOnItsSlot, IsChangeOf, AreChangesOf}
+use Rattle.shard_law.specs.Legal.{IsOnItsSlot, IsChangeOf, AreChangesOf}
 use Rattle.shard_run.specs.Openings.{IsOpening}
 use Rattle.shard_law.proofs.Databases.{length-all_applied}
 use Rattle.shard_law.proofs.Lists.{AllByRecursion-push, all-weaker}

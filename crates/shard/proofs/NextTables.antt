@@ -12,7 +12,7 @@ use Rattle.keyrange.specs.Ranges.{is_before}
 use Rattle.shard_run.specs.declared.Shard.{Shard}
 use Rattle.shard_run.specs.Runs.{Run, Opening}
 use Rattle.shard_run.specs.Copies.{table_at, has_copied_all}
-use Rattle.shard_run.specs.Legal.{IsTableOf}
+use Rattle.shard_law.specs.Legal.{IsTableOf}
 use Rattle.shard_contents.specs.Copying.{HasCopiedAll, IsNextTable}
 use Rattle.shard_contents.specs.inner.Rowed.{first_named}
 

@@ -14,7 +14,7 @@ use Rattle.shard_run.specs.declared.Shard.{Shard}
 use Rattle.shard_run.specs.declared.Mode.TheVariants.{Serving}
 use Rattle.shard_run.specs.declared.Entry.{Entry}
 use Rattle.shard_run.specs.Runs.{Run, Opening, one, held, mode, is_serving, first_rows, opening_rows, is_on}
-use Rattle.shard_run.specs.Legal.{IsOnItsSlot, IsChangeOf, AreChangesOf}
+use Rattle.shard_law.specs.Legal.{IsOnItsSlot, IsChangeOf, AreChangesOf}
 use Rattle.shard_run.specs.Openings.{IsOpening}
 use Rattle.shard_law.proofs.Lists.{AllByRecursion-push, all-append, all-from_list_all}
 use Rattle.shard_law.proofs.Runs.{log, log-on, mode-on, commits, commits-push}

@@ -26,7 +26,7 @@ use Rattle.shard_law.proofs.Counts.{count, once, same_self, count-none, count-ap
 use Rattle.shard_law.proofs.Databases.{length-all_applied}
 use Rattle.shard_run.specs.declared.Shard.{Shard}
 use Rattle.shard_run.specs.Runs.{Opening, Run, held, entries_on, stored_on}
-use Rattle.shard_run.specs.Legal.{AreChangesOf}
+use Rattle.shard_law.specs.Legal.{AreChangesOf}
 use Rattle.shard_run.specs.Openings.{row_count}
 use Rattle.shard_contents.specs.declared.limits.Limits.{Limits}
 use Rattle.shard_contents.specs.Commits.{HasRoom}

@@ -3,7 +3,7 @@ ghost use Rattle.std.specs.Prelude.{◌≡◌, ◌<◌, ◌≤◌, ◌^◌, ℕ,
 ghost use Rattle.shard_run.specs.declared.Event.{Event};
 ghost use Rattle.shard_run.specs.Runs.{mode, entries_on, held};
 ghost use Rattle.shard_run.specs.Openings.{row_count};
-ghost use Rattle.shard_run.specs.Legal.{MayRetire, MayServe};
+ghost use Rattle.shard_law.specs.Legal.{MayRetire, MayServe};
 ghost use Rattle.shard_contents.specs.Shards.{HasAppended};
 
 use crate::state::{ShardState, append_event};

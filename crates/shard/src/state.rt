@@ -5,7 +5,7 @@ ghost use Rattle.journal.specs.Views.{IsLater};
 ghost use Rattle.shard_run.specs.declared.Entry.{Entry};
 ghost use Rattle.shard_run.specs.declared.Event.{Event};
 ghost use Rattle.shard_run.specs.Runs.{mode, mode_after, is_serving, entries_on, stored_on};
-ghost use Rattle.shard_run.specs.Legal.{May};
+ghost use Rattle.shard_law.specs.Legal.{May};
 ghost use Rattle.shard_run.specs.Openings.{row_count};
 ghost use Rattle.journal.specs.Runs.{IsLegal};
 ghost use Rattle.shard_contents.specs.Shards.{beyond, IsAfter, MayFollow, slot_of, commit_of};
@@ -102,7 +102,7 @@ impl<W: World, J: Naming> ShardState<W, J> {
     ghost use Rattle.shard_run.specs.Openings.{IsOpening};
     ghost use Rattle.shard_run.specs.Copies.{position, has_copied_all};
     ghost use Rattle.shard_contents.specs.Progress.{behind};
-    ghost use Rattle.shard_run.specs.Legal.{IsOnItsSlot, MayRetire, MayServe};
+    ghost use Rattle.shard_law.specs.Legal.{IsOnItsSlot, MayRetire, MayServe};
     ghost use Rattle.journal.specs.Views.{PassView};
     ghost use Rattle.shard_contents.specs.Shards.{HasLooked, HasAppended, Answers, opening_shards, seat_view, IsNext};
     ghost use Rattle.shard_contents.specs.Commits.{IsPlaced, HasCommitted, IsCommitRefusal, HasAnswered};

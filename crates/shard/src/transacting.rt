@@ -24,7 +24,7 @@ impl<W: World, J: Naming> ShardState<W, J> {
     ghost use Rattle.journal.specs.Runs.{NumbersBelow};
     ghost use Rattle.journal.specs.Views.{IsLater};
     ghost use Rattle.shard_run.specs.Runs.{entries_on};
-    ghost use Rattle.shard_run.specs.Legal.{IsOnItsSlot};
+    ghost use Rattle.shard_law.specs.Legal.{IsOnItsSlot};
     ghost use Rattle.shard_contents.specs.Shards.{slot_of, commit_of, MayFollow, HasLooked, seat_view};
     ghost use Rattle.shard_contents.specs.Commits.{IsPlaced};
     ghost use Rattle.shard_contents.specs.Transactions.{IsClear, IsPendingOf, HasReadIn, HasWrittenIn, IsStopped, IsReadRefusal, IsWriteRefusal, HasCommittedAll, IsCommitAllRefusal};

@@ -4,7 +4,7 @@ ghost use Rattle.sql_eval.specs.Writes.{written_table};
 ghost use Rattle.journal.specs.Runs.{NumbersBelow};
 ghost use Rattle.shard_run.specs.declared.Shard as which;
 ghost use Rattle.shard_run.specs.Runs.{entries_on};
-ghost use Rattle.shard_run.specs.Legal.{IsOnItsSlot};
+ghost use Rattle.shard_law.specs.Legal.{IsOnItsSlot};
 ghost use Rattle.shard_contents.specs.Shards.{commit_of, HasLooked};
 ghost use Rattle.shard.specs.Seats.{place_at};
 ghost use Rattle.shard_contents.specs.Transactions.{IsClear, IsPendingOf, HasReadIn, HasWrittenIn, IsStopped, IsReadRefusal, IsWriteRefusal, HasCommittedAll, IsCommitAllRefusal};

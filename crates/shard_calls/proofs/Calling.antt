@@ -10,7 +10,7 @@ use Rattle.journal.specs.Views.{PassView}
 use Rattle.shard_run.specs.declared.Shard.{Shard}
 use Rattle.shard_run.specs.declared.Entry.{Entry}
 use Rattle.shard_run.specs.Runs.{Opening}
-use Rattle.shard_run.specs.Legal.{IsOnItsSlot}
+use Rattle.shard_law.specs.Legal.{IsOnItsSlot}
 use Rattle.shard_contents.specs.declared.limits.Limits.{Limits}
 use Rattle.serving.specs.Partitions.{Seat}
 use Rattle.shard_contents.specs.Shards.{HasLooked}

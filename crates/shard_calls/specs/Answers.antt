@@ -21,7 +21,7 @@ use Rattle.shard_run.specs.declared.Shard.{Shard}
 use Rattle.shard_run.specs.declared.Entry.{Entry}
 use Rattle.shard_run.specs.Runs.{Opening, mode, is_serving, entries_on}
 use Rattle.shard_contents.specs.declared.limits.Limits.{Limits}
-use Rattle.shard_run.specs.Legal.{IsOnItsSlot}
+use Rattle.shard_law.specs.Legal.{IsOnItsSlot}
 use Rattle.shard_law.specs.Law.{Serves}
 use Rattle.serving.specs.Partitions.{Seat, IsPartition}
 use Rattle.shard_contents.specs.Shards.{MayFollow, HasLooked, commit_of}

@@ -24,7 +24,7 @@ use Rattle.shard_run.specs.declared.Event.{Event}
 use Rattle.shard_run.specs.declared.Event.TheVariants.{Commit, Follow, Copy, Freeze, Thaw, Retire, Serve}
 use Rattle.shard_run.specs.declared.Entry.{Entry}
 use Rattle.shard_run.specs.Runs.{Run, Opening, one, held, mode, is_serving, first_rows, entries_on, stored_on, is_on, is_stored}
-use Rattle.shard_run.specs.Legal.{is_late, IsOnItsSlot}
+use Rattle.shard_law.specs.Legal.{is_late, IsOnItsSlot}
 use Rattle.shard_run.specs.Openings.{row_count}
 use Rattle.shard_law.proofs.Databases.{length-all_applied}
 use Rattle.shard_law.proofs.Runs.{log, log-on, mode-on, stored_on-push}

@@ -29,7 +29,7 @@ use Rattle.shard_run.specs.declared.Event.TheVariants.{Commit, Follow, Copy, Fre
 use Rattle.shard_run.specs.declared.Entry.{Entry}
 use Rattle.shard_run.specs.Runs.{Run, Opening, held, first_rows, mode, is_serving, is_on, is_stored, stored_on, stored_changes, entries_on}
 use Rattle.shard_run.specs.Copies.{position, is_key_before, table_at, is_last, has_copied_all, is_copied, is_copy_that, reaches}
-use Rattle.shard_run.specs.Legal.{Legal, MayCopy, Had, IsOnItsSlot, is_left}
+use Rattle.shard_law.specs.Legal.{Legal, MayCopy, Had, IsOnItsSlot, is_left}
 use Rattle.shard_run.specs.Openings.{IsOpening}
 use Rattle.shard_law.specs.Law.{copied_by, rows_copied}
 use Rattle.shard_law.proofs.Databases.{length-all_applied}

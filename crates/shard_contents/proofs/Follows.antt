@@ -16,7 +16,7 @@ use Rattle.shard_run.specs.declared.Follow as F
 use Rattle.shard_run.specs.declared.Entry.{Entry}
 use Rattle.shard_run.specs.declared.Event.TheVariants.{Follow}
 use Rattle.shard_run.specs.Runs.{Run, Opening, held, first_rows, mode, is_serving, is_on, is_stored, stored_on, stored_changes, entries_on}
-use Rattle.shard_run.specs.Legal.{Legal, MayFollowSource, IsOnItsSlot}
+use Rattle.shard_law.specs.Legal.{Legal, MayFollowSource, IsOnItsSlot}
 use Rattle.shard_run.specs.Copies.{position, change_is_copied}
 use Rattle.shard_contents.proofs.Positions.{position-same, copied-same}
 use Rattle.shard_run.specs.Openings.{IsOpening}

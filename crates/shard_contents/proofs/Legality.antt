@@ -10,7 +10,7 @@ use Rattle.shard_run.specs.declared.Mode.TheVariants.{Following}
 use Rattle.shard_run.specs.declared.Event.{Event}
 use Rattle.shard_run.specs.declared.Entry.{Entry}
 use Rattle.shard_run.specs.Runs.{Run, Opening, one, held, first_rows, mode, is_serving, is_opening, is_on, entries_on, IsShardOf}
-use Rattle.shard_run.specs.Legal.{Legal, LegalFrom, IsOnItsSlot}
+use Rattle.shard_law.specs.Legal.{Legal, LegalFrom, IsOnItsSlot}
 use Rattle.shard_run.specs.Openings.{IsOpening, OpensWith}
 use Rattle.shard_law.proofs.Databases.{length-all_applied}
 use Rattle.shard_law.proofs.First.{long, first_rows_are}

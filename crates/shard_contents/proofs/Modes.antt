@@ -15,7 +15,7 @@ use Rattle.shard_run.specs.declared.Event.{Event}
 use Rattle.shard_run.specs.declared.Event.TheVariants.{Commit, Follow, Copy, Freeze, Thaw, Retire, Serve}
 use Rattle.shard_run.specs.declared.Entry.{Entry}
 use Rattle.shard_run.specs.Runs.{Run, Opening, held, first_rows, mode, mode_after, is_serving, is_on, is_stored, held_changes, stored_on, entries_on}
-use Rattle.shard_run.specs.Legal.{LegalFrom, Legal, MayRetire, MayServe, IsOnItsSlot, IsRetiredFor, IsTableOf}
+use Rattle.shard_law.specs.Legal.{LegalFrom, Legal, MayRetire, MayServe, IsOnItsSlot, IsRetiredFor, IsTableOf}
 use Rattle.shard_run.specs.Openings.{IsOpening, row_count}
 use Rattle.shard_law.proofs.Lists.{In, In-from_Contains, In-all, all-from_In, zip-left}
 use Rattle.shard_law.proofs.Runs.{log, log-on, mode-on, mode-off, stored_on-push, not_retired}

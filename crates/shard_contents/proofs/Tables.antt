@@ -16,7 +16,7 @@ use Rattle.shard_run.specs.declared.Event.TheVariants.{Commit, Follow, Copy, Fre
 use Rattle.shard_run.specs.declared.Entry.{Entry}
 use Rattle.shard_run.specs.Runs.{Run, Opening, one, is_on, is_stored, stored_on, stored_changes}
 use Rattle.shard_run.specs.Copies.{change_is_copied}
-use Rattle.shard_run.specs.Legal.{Legal, LegalFrom, May, IsChangeOf, AreChangesOf}
+use Rattle.shard_law.specs.Legal.{Legal, LegalFrom, May, IsChangeOf, AreChangesOf}
 use Rattle.shard_law.proofs.Lists.{In-all, In-from_filter, AllByRecursion-push, slice_get-In, all-weaker, all-filter, all-append}
 use Rattle.std.proofs.lemmas.List.Elements.{All-from_recursion, recursion_from_All}
 use Rattle.std.proofs.lemmas.List.Sorted.{All-permutation}

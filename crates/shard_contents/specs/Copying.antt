@@ -13,7 +13,7 @@ use Rattle.shard_run.specs.declared.Copied.{Copied}
 use Rattle.shard_run.specs.declared.Mode.TheVariants.{Following}
 use Rattle.shard_run.specs.Runs.{Run, Opening, IsShardOf, held, mode, is_serving, stored_on, stored_changes}
 use Rattle.shard_run.specs.Copies.{position, is_key_before, table_at, step, has_copied_all, is_copied}
-use Rattle.shard_run.specs.Legal.{Had, IsTableOf, is_left}
+use Rattle.shard_law.specs.Legal.{Had, IsTableOf, is_left}
 use Rattle.shard_contents.specs.Shards.{ShardView}
 use Rattle.shard_contents.specs.declared.copying.SourceProgress.{SourceProgress}
 

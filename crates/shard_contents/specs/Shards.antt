@@ -18,7 +18,7 @@ use Rattle.shard_run.specs.Runs.{Run, Opening, held, mode, is_serving, stored_on
 use Rattle.shard_run.specs.Openings.{IsOpening, row_count}
 use Rattle.shard_run.specs.declared.Follow as F
 use Rattle.vschema.specs.Database.{SameRows, restricted_changes}
-use Rattle.shard_run.specs.Legal.{IsOnItsSlot, May}
+use Rattle.shard_law.specs.Legal.{IsOnItsSlot, May}
 use Rattle.shard_run.specs.Copies.{position, change_is_copied}
 use Rattle.shard_contents.specs.declared.limits.Limits.{Limits}
 use Rattle.shard_contents.specs.Progress.{steps_on}

@@ -20,7 +20,7 @@ use Rattle.shard_run.specs.declared.Mode.TheVariants.{Serving}
 use Rattle.shard_run.specs.declared.Event.TheVariants.{Commit}
 use Rattle.shard_run.specs.declared.Entry.{Entry}
 use Rattle.shard_run.specs.Runs.{Run, Opening, held, mode, entries_on, stored_changes, stored_on}
-use Rattle.shard_run.specs.Legal.{IsChangeOf, AreChangesOf}
+use Rattle.shard_law.specs.Legal.{IsChangeOf, AreChangesOf}
 use Rattle.shard_contents.specs.declared.limits.Limits.{Limits}
 use Rattle.shard_contents.specs.declared.touch.Touch.{Touch}
 use Rattle.shard_contents.specs.Shards.{commit_of, MayFollow, HasLooked}

@@ -13,7 +13,7 @@ use Rattle.keyrange.specs.declared.KeyRange.{KeyRange}
 use Rattle.keyrange.specs.Ranges.{is_less, is_before, is_before_end, has_id, IsByteString, Overlap}
 use Rattle.keyrange.specs.Names.{IsNamed}
 use Rattle.vschema.specs.declared.schema.Place.{Place}
-use Rattle.shard_run.specs.Legal.{Hold}
+use Rattle.shard_law.specs.Legal.{Hold}
 use Rattle.shard_law.proofs.Lists.{In, In-from_Contains, In-all, all-append}
 
 less_is : (o : Ordering) → is_less o ≡ is_lt o

@@ -12,7 +12,7 @@ use Rattle.journal.specs.Views.{PassView}
 use Rattle.journal.proofs.Fronts.{prefix_self, prefix_trans}
 use Rattle.shard_run.specs.declared.Entry.{Entry}
 use Rattle.shard_run.specs.declared.Shard.{Shard}
-use Rattle.shard_run.specs.Legal.{IsOnItsSlot}
+use Rattle.shard_law.specs.Legal.{IsOnItsSlot}
 use Rattle.shard_contents.specs.declared.outcomes.Reading.{Reading}
 use Rattle.shard_contents.specs.Shards.{MayFollow, HasLooked}
 use Rattle.shard_contents.specs.Commits.{IsPlaced}

@@ -11,7 +11,7 @@ use Rattle.shard_run.specs.declared.Shard as S
 use Rattle.shard_run.specs.declared.Entry.{Entry}
 use Rattle.shard_run.specs.declared.Mode.TheVariants as modes
 use Rattle.shard_run.specs.Runs.{Run, Opening, mode}
-use Rattle.shard_run.specs.Legal.{IsOnItsSlot}
+use Rattle.shard_law.specs.Legal.{IsOnItsSlot}
 use Rattle.vt_value.specs.declared.refusal.Refusal.TheVariants.{OutOfMemory}
 use Rattle.reshard_beginning.specs.declared.fault.ReshardFault.{ReshardFault}
 use Rattle.reshard_beginning.specs.declared.fault.ReshardFault.TheVariants.{Refused, Gap, WrongSource}

@@ -5,7 +5,7 @@ use Rattle.vschema.specs.declared.schema.Place.{Place}
 use Rattle.shard_run.specs.declared.Shard as S
 use Rattle.shard_run.specs.declared.Mode.{Mode}
 use Rattle.shard_run.specs.Runs.{Run, Opening, mode}
-use Rattle.shard_run.specs.Legal.{IsOnItsSlot}
+use Rattle.shard_law.specs.Legal.{IsOnItsSlot}
 use Rattle.journal.specs.Views.{PassView}
 use Rattle.shard_run.specs.declared.Entry.{Entry}
 use Rattle.reshard_beginning.specs.Splits.{AreThose}

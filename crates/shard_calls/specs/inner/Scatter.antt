@@ -16,7 +16,7 @@ use Rattle.shard_run.specs.declared.Entry.{Entry}
 use Rattle.shard_run.specs.Runs.{Opening}
 use Rattle.shard_contents.specs.declared.outcomes.Read.{Read}
 use Rattle.shard_contents.specs.declared.outcomes.Read.TheVariants.{Rows, NotServing}
-use Rattle.shard_run.specs.Legal.{IsOnItsSlot}
+use Rattle.shard_law.specs.Legal.{IsOnItsSlot}
 use Rattle.vschema.specs.declared.schema.Place.{Place}
 use Rattle.serving.specs.Partitions.{Seat, IsPartition}
 use Rattle.shard_contents.specs.Shards.{HasLooked, Answers}

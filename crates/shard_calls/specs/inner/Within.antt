@@ -14,7 +14,7 @@ use Rattle.serving.specs.Partitions.{Seat, IsPartition}
 use Rattle.shard_run.specs.declared.Shard.{Shard}
 use Rattle.shard_run.specs.declared.Entry.{Entry}
 use Rattle.shard_run.specs.Runs.{Opening}
-use Rattle.shard_run.specs.Legal.{IsOnItsSlot}
+use Rattle.shard_law.specs.Legal.{IsOnItsSlot}
 use Rattle.shard_contents.specs.declared.limits.Limits.{Limits}
 use Rattle.shard_contents.specs.Shards.{HasLooked}
 use Rattle.shard_contents.specs.Transactions.{PendingView, IsClear, HasReadIn, HasWrittenIn, HasCommittedAll, IsReadRefusal, IsWriteRefusal, IsCommitAllRefusal}

@@ -4,7 +4,7 @@ use Rattle.journal.specs.Views.{PassView}
 use Rattle.shard_run.specs.declared.Shard.{Shard}
 use Rattle.shard_run.specs.declared.Entry.{Entry}
 use Rattle.shard_run.specs.Runs.{Run, mode}
-use Rattle.shard_run.specs.Legal.{IsOnItsSlot}
+use Rattle.shard_law.specs.Legal.{IsOnItsSlot}
 use Rattle.shard_contents.proofs.Legality.{legal_is}
 use Rattle.cutover_steps.specs.Looks.{HasBegunToServe}
 use Rattle.cutover_steps.proofs.Served.{has_served}

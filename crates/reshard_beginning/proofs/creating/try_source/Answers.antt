@@ -3,7 +3,7 @@ use Rattle.journal.specs.Views.{PassView}
 use Rattle.shard_run.specs.declared.Shard.{Shard}
 use Rattle.shard_run.specs.declared.Entry.{Entry}
 use Rattle.shard_run.specs.Runs.{Run, mode}
-use Rattle.shard_run.specs.Legal.{IsOnItsSlot}
+use Rattle.shard_law.specs.Legal.{IsOnItsSlot}
 use Rattle.reshard_beginning.specs.inner.Created.{serves, does_not, another}
 use Rattle.reshard_beginning.proofs.creating.try_source.Goals as goal
 

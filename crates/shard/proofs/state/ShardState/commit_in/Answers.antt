@@ -96,4 +96,4 @@ returns-clause-later g c = (left g c).begins
 pub returns-clause-stands : goal.returns-clause-stands
 returns-clause-stands g c =
     let is = left g c in
-    subst (λ s. Rattle.shard_run.specs.Legal.IsOnItsSlot g.W.World.opening c.append.new.self.seen s) is.shard_now is.is_now.stands
+    subst (λ s. Rattle.shard_law.specs.Legal.IsOnItsSlot g.W.World.opening c.append.new.self.seen s) is.shard_now is.is_now.stands

@@ -12,7 +12,7 @@ use Rattle.shard_contents.specs.Shards.{ShardView, Holds, IsAfter, Names, commit
 use Rattle.shard_contents.specs.declared.contents.Contents.{Contents}
 use Rattle.shard_contents.specs.declared.limits.Limits.{Limits}
 use Rattle.shard_run.specs.declared.Shard.{Shard}
-use Rattle.shard_run.specs.Legal.{IsOnItsSlot}
+use Rattle.shard_law.specs.Legal.{IsOnItsSlot}
 use Rattle.shard_run.specs.Runs.{Opening, Run, mode, is_serving, held_changes}
 use Rattle.vschema.specs.declared.changes.Write.{Write}
 use Rattle.vschema.specs.declared.changes.RowChange.{RowChange}
