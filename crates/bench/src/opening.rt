@@ -7,9 +7,9 @@ ghost use Rattle.shard_contents.specs.Shards.{most_limits};
 ghost use Rattle.empty_opening.specs.Empty.{opening_of, FitRanges};
 
 use crate::router::{Router, refused};
-use empty_opening::opening_shards;
+use empty_opening::ranges_fit;
 use journal::{Naming, Opened};
-use keyrange::{KeyRange, covers_once};
+use keyrange::KeyRange;
 use route_engine::Open;
 use router_opening::empty_router;
 use shard::{ShardLaw, World};
@@ -56,8 +56,7 @@ fn read_schema(alloc: Global, text: &str, ranges: &[KeyRange]) -> Result<VSchema
     let Ok(schema) = VSchema::read(alloc, text) else {
         return Err(Refusal::SyntaxError);
     };
-    let shards = opening_shards(alloc, &schema, ranges)?;
-    if shards.len() <= 64 && covers_once(ranges) {
+    if ranges_fit(alloc, &schema, ranges)? {
         Ok(schema)
     } else {
         Err(Refusal::SyntaxError)
@@ -85,7 +84,8 @@ fn run_opened<
 {
     match empty_router::<W, J, Open>(alloc, schema, ranges, opened, 0, Open) {
         Err(refusal) => Err(refused(refusal)),
-        Ok((engine, opener, first)) => {
+        Ok((engine, opener, first, free)) => {
+            drop(free);
             let mut router = Router {
                 engine,
                 opener,

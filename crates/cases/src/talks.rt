@@ -10,9 +10,9 @@ ghost use Rattle.empty_opening.specs.Empty.{opening_of, FitRanges};
 use crate::fields::{Unanswered, fields, text_of};
 use crate::handshakes::{salt_of, stage2_of};
 use crate::told::Told;
-use empty_opening::opening_shards;
+use empty_opening::ranges_fit;
 use journal::{Naming, Opened, Opener, Pass};
-use keyrange::{KeyRange, covers_once};
+use keyrange::KeyRange;
 use route_engine::{Engine, Open};
 use router_opening::empty_router;
 use session::{Access, Core, End, SessionFault, Writer};
@@ -159,9 +159,10 @@ fn converse_opened<W: World + Send + Sync, J: Naming + Send + Sync, R: Threads +
     requires schema { IsTrue (is_vschema schema) }
     requires ranges { FitRanges schema ranges.now }
 {
-    let (engine, mut opener, mut first) = empty_router::<W, J, Open>(
+    let (engine, mut opener, mut first, free) = empty_router::<W, J, Open>(
         alloc, schema, ranges, opened, 0, Open,
     )?;
+    drop(free);
     converse_first(rt, alloc, &engine, &mut opener, &mut first, talk, sink)
 }
 
@@ -183,15 +184,6 @@ fn converse_in_world<W: World + Send + Sync, R: Threads + Wait + Sync>(
     converse_opened::<W, Brand, R>(rt, alloc, schema, ranges, opened, talk, sink)
 }
 
-// Whether the ranges hold each keyspace id once and the shards fit into 64 slots.
-fn fits(alloc: Global, schema: &VSchema, ranges: &[KeyRange]) -> Result<bool, Refusal>
-    requires { AllByRecursion IsNamed ranges.now }
-    ensures { IfOk result (λ b. IsTrue b → FitRanges schema.now ranges.now) }
-{
-    let shards = opening_shards(alloc, schema, ranges)?;
-    Ok(shards.len() <= 64 && covers_once(ranges))
-}
-
 // The same by a new router over the table.
 fn converse_anew<R: Threads + Wait + Sync>(
     rt: &R,
@@ -206,7 +198,7 @@ fn converse_anew<R: Threads + Wait + Sync>(
         return Err(Refusal::OutOfMemory);
     };
     let ranges = [range];
-    match fits(alloc, &schema, &ranges) {
+    match ranges_fit(alloc, &schema, &ranges) {
         Ok(true) => converse_in_world::<Brand, R>(rt, alloc, schema, &ranges, talk, sink),
         Ok(false) => Err(Refusal::NotSupported),
         Err(refusal) => Err(refusal),

@@ -170,9 +170,10 @@ fn serve_opened<
     requires schema { IsTrue (is_vschema schema) }
     requires ranges { FitRanges schema ranges.now }
 {
-    let (engine, mut opener, mut first) = empty_router::<W, J, Open>(
+    let (engine, mut opener, mut first, free) = empty_router::<W, J, Open>(
         alloc, schema, ranges, opened, 0, Open,
     )?;
+    drop(free);
     serve_two(
         rt,
         alloc,

@@ -5,4 +5,4 @@ mod opening;
 #[cfg(test)]
 mod tests;
 
-pub use opening::{empty_tables, opening_shards, sharded_keyspace};
+pub use opening::{empty_tables, opening_shards, ranges_fit, sharded_keyspace};

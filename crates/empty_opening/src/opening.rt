@@ -1,9 +1,11 @@
-ghost use Rattle.std.specs.Prelude.{◌≡◌, ◌++◌, [], length, map, replicate, IfOk, IfErr, OnOk, IsTrue};
+ghost use Rattle.std.specs.Prelude.{◌≡◌, ◌++◌, ◌↔◌, [], length, map, replicate, IfOk, IfErr, OnOk, IsTrue};
+ghost use Rattle.std.specs.List.{AllByRecursion};
+ghost use Rattle.keyrange.specs.Names.{IsNamed};
 ghost use Rattle.vschema.specs.WellFormed.{is_vschema};
 ghost use Rattle.shard_run.specs.Openings.{IsOpening};
 ghost use Rattle.empty_opening.specs.Empty.{unsharded_keyspace, sharded_keyspace, keyspace_shards, no_rows, opening_of, FitRanges};
 
-use keyrange::KeyRange;
+use keyrange::{KeyRange, covers_once};
 use shard_run::Shard;
 use std::alloc::{AllocError, Global};
 use vschema::{Place, VSchema};
@@ -79,6 +81,21 @@ pub fn opening_shards(
     push_shards(&mut shards, alloc, unsharded_keyspace(schema), &full)?;
     push_shards(&mut shards, alloc, sharded_keyspace(schema), ranges)?;
     Ok(shards)
+}
+
+// Promise: Ranges with names fit exactly where the sharded keyspace, if there is one, has each keyspace id in one of them, and there are at most
+// 64 shards
+// Refuses: unfitting_ranges_fit
+/// Whether the shards over ranges that have names make an opening: they hold each keyspace id of the sharded keyspace once, where there is one,
+/// and fit into 64 slots. It refuses only for want of memory.
+pub fn ranges_fit(alloc: Global, schema: &VSchema, ranges: &[KeyRange]) -> Result<bool, Refusal>
+    requires named { AllByRecursion IsNamed ranges.now }
+    ensures fit { IfOk result (λ b. IsTrue b ↔ FitRanges schema.now ranges.now) }
+    ensures err { IfErr result (λ e. e ≡ Refusal.OutOfMemory) }
+{
+    let shards = opening_shards(alloc, schema, ranges)?;
+    let covers = sharded_keyspace(schema).is_none() || covers_once(ranges);
+    Ok(shards.len() <= 64 && covers)
 }
 
 /// The number of empty lists of rows with which a shard of that opening begins: one for each table.

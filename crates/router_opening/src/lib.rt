@@ -4,4 +4,4 @@
 
 mod router;
 
-pub use router::{empty_router, opened_shards, seated_router};
+pub use router::{empty_router, opened_seats};

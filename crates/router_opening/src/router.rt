@@ -224,7 +224,7 @@ fn held_and_served<W: World, J: Naming>(
 
 /// The shards of an opening without rows, in the journal that was opened, the partitions that each keyspace begins with, the opener of
 /// their sessions, a first pass, which has seen nothing, and the seats of the slots on which none of these shards stands.
-pub(crate) fn opened_seats<W: World, J: Naming>(
+pub fn opened_seats<W: World, J: Naming>(
     alloc: Global,
     schema: &VSchema,
     ranges: &[KeyRange],
@@ -268,45 +268,14 @@ pub(crate) fn opened_seats<W: World, J: Naming>(
     }
 }
 
-/// The shards of an opening without rows, in the journal that was opened, the partitions that each keyspace begins with, the opener of
-/// their sessions, and a first pass, which has seen nothing.
-pub fn opened_shards<W: World, J: Naming>(
-    alloc: Global,
-    schema: &VSchema,
-    ranges: &[KeyRange],
-    opened: Opened<ShardLaw<W>>,
-) -> Result<
-    (
-        Vec<Arc<Shard<W, J>, Global>>,
-        Vec<Serving<Shard<W, J>>>,
-        Opener<ShardLaw<W>, J>,
-        Pass<ShardLaw<W>, J>,
-    ),
-    Refusal,
->
-    requires name { opened ≡ J.table }
-    requires opening { W.opening ≡ opening_of schema.now ranges.now }
-    requires limits { W.limits ≡ most_limits }
-    requires schema { IsTrue (is_vschema schema.now) }
-    requires ranges { FitRanges schema.now ranges.now }
-    ensures opens { IfOk result (λ r. IsOpening W.opening) }
-    ensures held { IfOk result (λ r. map (λ h. h.value) r.0.items ≡ map seat_of (opening_shards W.opening)) }
-    ensures each { IfOk result (λ r. r.1.items ≡ range_with_len 0 (length schema.now.keyspaces)) }
-    ensures opener { IfOk result (λ r. r.2 ≡ 0) }
-    ensures pass { IfOk result (λ r. r.3 ≡ new_pass [] None) }
-    ensures err { IfErr result (λ e. e ≡ Refusal.OutOfMemory) }
-{
-    let (held, keyspaces, opener, pass, free) = opened_seats::<W, J>(
-        alloc, schema, ranges, opened,
-    )?;
-    drop(free);
-    Ok((held, keyspaces, opener, pass))
-}
-
+// Promise: The engine over a well-formed VSchema and ranges that fit, with no rows: each opening shard on the seat of its slot; the opener
+// of its sessions, a pass that has seen nothing, and the seats that no shard is on
+// With: opened_seats
+// Refuses: half_of_the_shards, seats_in_another_order, a_table_more, every_part_has_the_first_shard
 /// The engine over a VSchema and the ranges of its sharded keyspace, whose tables are empty, in the journal that was opened; the opener
 /// of its sessions, a first pass, which has seen nothing, and the seats of the slots on which none of its shards stands. So many statements
 /// may wait in its buffer. It refuses only for want of memory.
-pub fn seated_router<W: World + Send + Sync, J: Naming + Send + Sync, G: Gate>(
+pub fn empty_router<W: World + Send + Sync, J: Naming + Send + Sync, G: Gate>(
     alloc: Global,
     schema: VSchema,
     ranges: &[KeyRange],
@@ -340,47 +309,4 @@ pub fn seated_router<W: World + Send + Sync, J: Naming + Send + Sync, G: Gate>(
     drop(held);
     let engine = Engine::new(schema, keyspaces, Buffer::new(buffer_size), gate);
     Ok((engine, opener, pass, free))
-}
-
-// Promise: The engine over a well-formed VSchema and ranges that fit, with no rows: each opening shard on the seat of its slot; the opener
-// of its sessions, and a pass that has seen nothing
-// Refuses: half_of_the_shards, seats_in_another_order, a_table_more, every_part_has_the_first_shard
-/// The engine over a VSchema and the ranges of its sharded keyspace, whose tables are empty, in the journal that was opened; the opener
-/// of its sessions, and a first pass, which has seen nothing. So many statements may wait in its buffer. It refuses only for want of
-/// memory.
-pub fn empty_router<W: World + Send + Sync, J: Naming + Send + Sync, G: Gate>(
-    alloc: Global,
-    schema: VSchema,
-    ranges: &[KeyRange],
-    opened: Opened<ShardLaw<W>>,
-    buffer_size: u64,
-    gate: G,
-) -> Result<
-    (
-        Engine<W, J, G>,
-        Opener<ShardLaw<W>, J>,
-        Pass<ShardLaw<W>, J>,
-    ),
-    Refusal,
->
-    requires name { opened ≡ J.table }
-    requires opening { W.opening ≡ opening_of schema ranges.now }
-    requires limits { W.limits ≡ most_limits }
-    requires schema { IsTrue (is_vschema schema) }
-    requires ranges { FitRanges schema ranges.now }
-    ensures schema { IfOk result (λ r. r.0 ≡ schema) }
-    ensures opener { IfOk result (λ r. r.1 ≡ 0) }
-    ensures pass { IfOk result (λ r. r.2 ≡ new_pass [] None) }
-    ensures err { IfErr result (λ e. e ≡ Refusal.OutOfMemory) }
-{
-    let (engine, opener, pass, free) = seated_router::<W, J, G>(
-        alloc,
-        schema,
-        ranges,
-        opened,
-        buffer_size,
-        gate,
-    )?;
-    drop(free);
-    Ok((engine, opener, pass))
 }

@@ -1,7 +1,11 @@
 //! Reads of two shards that a gate holds: a scatter's reads are made at once, and no lock but a shard's own is held over a statement.
-use router_scenes::common::{ALL, EVEN, ODD, SEVEN, SHOP};
-use router_scenes::{Act, Asked, Played, Scene, play, plays_alone};
-use std::test::Fail;
+use crate::acts::{Act, Asked};
+use crate::common::{ALL, EVEN, ODD, SEVEN, SHOP};
+use crate::scenes::{Played, Scene, play, plays_alone};
+use std::alloc::Global;
+use std::sync::Wait;
+use std::thread::Threads;
+use vt_value::Refusal;
 
 // The read of the first shard is held until that of the second was answered.
 const SCATTER: [Act<'static>; 5] = [
@@ -12,10 +16,11 @@ const SCATTER: [Act<'static>; 5] = [
     Act::Held,
 ];
 
-#[test]
-fn scatter_reads_in_turn_would_wait(rt: HostRuntime) -> Result<(), Fail> {
-    assert!(rt; plays_alone(&rt, rt.alloc(), SHOP, &[&SCATTER])?);
-    Ok(())
+pub(crate) fn scatter_reads_in_turn_would_wait<R: Threads + Wait + Sync>(
+    rt: &R,
+    alloc: Global,
+) -> Result<bool, Refusal> {
+    plays_alone(rt, alloc, SHOP, &[&SCATTER])
 }
 
 // While a query of all rows is held at the first shard, another session reads and writes the second.
@@ -31,8 +36,10 @@ const MEANWHILE: [Act<'static>; 9] = [
     Act::Answered,
 ];
 
-#[test]
-fn one_mutex_round_all_shards_would_hold_up_a_read(rt: HostRuntime) -> Result<(), Fail> {
+pub(crate) fn one_mutex_round_all_shards_would_hold_up_a_read<R: Threads + Wait + Sync>(
+    rt: &R,
+    alloc: Global,
+) -> Result<bool, Refusal> {
     let scene = Scene {
         schema: SHOP,
         buffer: 0,
@@ -40,8 +47,7 @@ fn one_mutex_round_all_shards_would_hold_up_a_read(rt: HostRuntime) -> Result<()
         asked: Asked::AllRows,
         acts: &[&MEANWHILE],
     };
-    let played = play(&rt, rt.alloc(), &scene)?;
+    let played = play(rt, alloc, &scene)?;
     // the query meets the other session's row or misses it
-    assert!(rt; played == Played::right(6) || played == Played::right(7));
-    Ok(())
+    Ok(played == Played::right(6) || played == Played::right(7))
 }

@@ -1,11 +1,15 @@
 //! Admin lines over shards with rows, answered as they are meant to be.
+use crate::acts::Act;
+use crate::common::{BEGUN, COPIED, EVEN, FREEZE, LEVEL, ODD, RESUMED, SHOP};
+use crate::scenes::plays_alone;
 use crate::steps::{
     CANCELLED, COMPLETED, FOLLOWING, PUBLISH, RELEASE, RETIRE, SERVE, SPLIT, SWITCH, SWITCHED,
     SWITCHING, UNSPLIT,
 };
-use router_scenes::common::{BEGUN, COPIED, EVEN, FREEZE, LEVEL, ODD, RESUMED, SHOP};
-use router_scenes::{Act, plays_alone};
-use std::test::Fail;
+use std::alloc::Global;
+use std::sync::Wait;
+use std::thread::Threads;
+use vt_value::Refusal;
 
 /// The shop, and an unsharded keyspace, whose shard has a slot too.
 const WITH_BASE: &str =
@@ -78,11 +82,14 @@ const SPLIT_AND_MERGE: [Act<'static>; 34] = [
     COMPLETED,
 ];
 
-#[test]
-fn each_line_is_answered_by_what_it_did(rt: HostRuntime) -> Result<(), Fail> {
-    assert!(rt; plays_alone(&rt, rt.alloc(), SHOP, &[&REFUSED])?);
-    assert!(rt; plays_alone(&rt, rt.alloc(), SHOP, &[&SPLIT_AND_MERGE])?);
-    Ok(())
+pub(crate) fn each_line_is_answered_by_what_it_did<R: Threads + Wait + Sync>(
+    rt: &R,
+    alloc: Global,
+) -> Result<bool, Refusal> {
+    Ok(
+        plays_alone(rt, alloc, SHOP, &[&REFUSED])?
+            && plays_alone(rt, alloc, SHOP, &[&SPLIT_AND_MERGE])?,
+    )
 }
 
 // A shard takes one of 64 slots, and none is used again.
@@ -96,9 +103,12 @@ const OF_TWO_SHARDS: [Act<'static>; 5] = [
 
 const OF_THREE_SHARDS: [Act<'static>; 2] = [Act::Line(INTO_62, b"N3\n"), UNSPLIT];
 
-#[test]
-fn a_split_into_more_shards_than_slots_are_free_is_refused(rt: HostRuntime) -> Result<(), Fail> {
-    assert!(rt; plays_alone(&rt, rt.alloc(), SHOP, &[&OF_TWO_SHARDS])?);
-    assert!(rt; plays_alone(&rt, rt.alloc(), WITH_BASE, &[&OF_THREE_SHARDS])?);
-    Ok(())
+pub(crate) fn a_split_into_more_shards_than_slots_are_free_is_refused<R: Threads + Wait + Sync>(
+    rt: &R,
+    alloc: Global,
+) -> Result<bool, Refusal> {
+    Ok(
+        plays_alone(rt, alloc, SHOP, &[&OF_TWO_SHARDS])?
+            && plays_alone(rt, alloc, WITH_BASE, &[&OF_THREE_SHARDS])?,
+    )
 }

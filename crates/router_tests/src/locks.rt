@@ -1,7 +1,11 @@
 //! While the lock of one shard is held, and a write waits for it, a write of another is answered.
-use router_scenes::common::{SEVEN, SHOP};
-use router_scenes::{Act, Asked, Played, Scene, play};
-use std::test::Fail;
+use crate::acts::{Act, Asked};
+use crate::common::{SEVEN, SHOP};
+use crate::scenes::{Played, Scene, play};
+use std::alloc::Global;
+use std::sync::Wait;
+use std::thread::Threads;
+use vt_value::Refusal;
 
 // The INSERT into the other shard comes once that which waits for the lock was begun and has had time to come to it.
 const ACTS: [Act<'static>; 6] = [
@@ -13,8 +17,10 @@ const ACTS: [Act<'static>; 6] = [
     Act::Answered,
 ];
 
-#[test]
-fn one_mutex_round_all_shards_would_hold_up_a_write(rt: HostRuntime) -> Result<(), Fail> {
+pub(crate) fn one_mutex_round_all_shards_would_hold_up_a_write<R: Threads + Wait + Sync>(
+    rt: &R,
+    alloc: Global,
+) -> Result<bool, Refusal> {
     let scene = Scene {
         schema: SHOP,
         buffer: 0,
@@ -22,6 +28,5 @@ fn one_mutex_round_all_shards_would_hold_up_a_write(rt: HostRuntime) -> Result<(
         asked: Asked::Eight,
         acts: &[&ACTS],
     };
-    assert!(rt; play(&rt, rt.alloc(), &scene)? == Played::right(1));
-    Ok(())
+    Ok(play(rt, alloc, &scene)? == Played::right(1))
 }

@@ -1,15 +1,20 @@
 //! A first statement, and a second.
-use router_scenes::common::SHOP;
-use router_scenes::{Act, plays_alone};
-use std::test::Fail;
+use crate::acts::Act;
+use crate::common::SHOP;
+use crate::scenes::plays_alone;
+use std::alloc::Global;
+use std::sync::Wait;
+use std::thread::Threads;
+use vt_value::Refusal;
 
 const ACTS: [Act<'static>; 2] = [
     Act::One(b"INSERT INTO t (id, c) VALUES (2, 7)", Ok(1)),
     Act::One(b"SELECT c FROM t WHERE id = 2 AND c = 7", Ok(1)),
 ];
 
-#[test]
-fn always_out_of_memory_would_find_no_row(rt: HostRuntime) -> Result<(), Fail> {
-    assert!(rt; plays_alone(&rt, rt.alloc(), SHOP, &[&ACTS])?);
-    Ok(())
+pub(crate) fn always_out_of_memory_would_find_no_row<R: Threads + Wait + Sync>(
+    rt: &R,
+    alloc: Global,
+) -> Result<bool, Refusal> {
+    plays_alone(rt, alloc, SHOP, &[&ACTS])
 }

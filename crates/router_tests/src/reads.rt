@@ -1,10 +1,10 @@
 //! Queries of all rows, each begun at another moment of a cutover, by a session in a thread of its own.
+use crate::acts::{Act, Asked};
+use crate::common::{ALL, FREEZE};
+use crate::scenes::plays_beside;
 use crate::steps::{LEVELLED, PUBLISH, RELEASE, RETIRE, SERVE, SWITCHED};
-use router_scenes::common::{ALL, FREEZE};
-use router_scenes::{Act, Asked, plays_beside};
 use std::alloc::Global;
 use std::sync::Wait;
-use std::test::Fail;
 use std::thread::Threads;
 use vt_value::Refusal;
 
@@ -107,32 +107,32 @@ fn reads_all<'x, R: Threads + Wait + Sync>(
     plays_beside(rt, alloc, &parts, Asked::AllRows, 6)
 }
 
-#[test]
-fn a_query_begun_before_the_freeze_reads_all_rows(rt: HostRuntime) -> Result<(), Fail> {
-    assert!(rt; reads_all(&rt, rt.alloc(), &HELD, &OVER_ALL)?);
-    assert!(rt; reads_all(&rt, rt.alloc(), &HELD, &UNTIL_FROZEN)?);
-    assert!(rt; reads_all(&rt, rt.alloc(), &HELD, &UNTIL_RETIRED)?);
-    Ok(())
+pub(crate) fn a_query_begun_before_the_freeze_reads_all_rows<R: Threads + Wait + Sync>(
+    rt: &R,
+    alloc: Global,
+) -> Result<bool, Refusal> {
+    Ok(
+        reads_all(rt, alloc, &HELD, &OVER_ALL)?
+            && reads_all(rt, alloc, &HELD, &UNTIL_FROZEN)?
+            && reads_all(rt, alloc, &HELD, &UNTIL_RETIRED)?,
+    )
 }
 
-#[test]
-fn a_query_begun_while_the_source_is_frozen_is_answered_by_it(rt: HostRuntime) -> Result<(), Fail> {
-    assert!(rt; reads_all(&rt, rt.alloc(), &[], &BEGUN_FROZEN)?);
-    Ok(())
+pub(crate) fn a_query_begun_while_the_source_is_frozen_is_answered_by_it<R: Threads + Wait + Sync>(
+    rt: &R,
+    alloc: Global,
+) -> Result<bool, Refusal> {
+    reads_all(rt, alloc, &[], &BEGUN_FROZEN)
 }
 
-#[test]
-fn a_query_begun_while_no_shard_serves_its_rows_waits_for_the_release(
-    rt: HostRuntime,
-) -> Result<(), Fail> {
-    assert!(rt; reads_all(&rt, rt.alloc(), &[], &BEGUN_RETIRED)?);
-    Ok(())
+pub(crate) fn a_query_begun_while_no_shard_serves_its_rows_waits_for_the_release<
+    R: Threads + Wait + Sync,
+>(rt: &R, alloc: Global) -> Result<bool, Refusal> {
+    reads_all(rt, alloc, &[], &BEGUN_RETIRED)
 }
 
-#[test]
-fn a_query_begun_once_the_next_partition_is_published_does_not_wait(
-    rt: HostRuntime,
-) -> Result<(), Fail> {
-    assert!(rt; reads_all(&rt, rt.alloc(), &[], &BEGUN_PUBLISHED)?);
-    Ok(())
+pub(crate) fn a_query_begun_once_the_next_partition_is_published_does_not_wait<
+    R: Threads + Wait + Sync,
+>(rt: &R, alloc: Global) -> Result<bool, Refusal> {
+    reads_all(rt, alloc, &[], &BEGUN_PUBLISHED)
 }

@@ -1,6 +1,6 @@
 //! Acts that many scenes have: a split of the first of two shards, and the steps of its cutover.
-use router_scenes::Act;
-use router_scenes::common::{BEGUN, COPIED, EVEN, LEVEL, ODD};
+use crate::acts::Act;
+use crate::common::{BEGUN, COPIED, EVEN, LEVEL, ODD};
 
 /// Six rows, of which the targets have copied those of the first shard.
 pub(crate) const LEVELLED: [Act<'static>; 6] = [EVEN, ODD, BEGUN, COPIED, COPIED, LEVEL];

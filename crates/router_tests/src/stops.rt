@@ -1,13 +1,13 @@
 //! A cutover that is stopped after each of its steps in turn and then resumed, while two sessions write and read.
 ghost use Rattle.std.specs.Prelude.{◌<◌};
 
+use crate::acts::Act;
+use crate::common::{ALL, BEGUN, COPIED, EIGHT, EVEN, ODD, RESUMED, SHOP};
+use crate::scenes::plays_alone;
 use crate::steps::{CANCELLED, COMPLETED, FOLLOWING, SPLIT, SWITCH, SWITCHED, SWITCHING, UNSPLIT};
 use reshard::ReshardFault;
-use router_scenes::common::{ALL, BEGUN, COPIED, EIGHT, EVEN, ODD, RESUMED, SHOP};
-use router_scenes::{Act, plays_alone};
 use std::alloc::Global;
 use std::sync::Wait;
-use std::test::Fail;
 use std::thread::Threads;
 use vt_value::Refusal;
 
@@ -162,30 +162,30 @@ fn is_kept<R: Threads + Wait + Sync>(
     plays_alone(rt, alloc, SHOP, &acts)
 }
 
-#[test]
-fn a_cutover_that_is_stopped_and_resumed_keeps_each_accepted_row_once(
-    rt: HostRuntime,
-) -> Result<(), Fail> {
+// Whether it does wherever the cutover is stopped.
+fn are_kept<R: Threads + Wait + Sync>(
+    rt: &R,
+    alloc: Global,
+    controller: Controller,
+) -> Result<bool, Refusal> {
     for steps in 0..9 {
-        assert!(rt;
-            is_kept(&rt, rt.alloc(), steps, Controller::GoesOn)?,
-            "after {steps} steps"
-        );
+        if !is_kept(rt, alloc, steps, controller)? {
+            return Ok(false);
+        }
     }
-    Ok(())
+    Ok(true)
 }
 
-#[test]
-fn a_cutover_whose_controller_stopped_is_reopened_and_keeps_each_accepted_row_once(
-    rt: HostRuntime,
-) -> Result<(), Fail> {
-    for steps in 0..9 {
-        assert!(rt;
-            is_kept(&rt, rt.alloc(), steps, Controller::Stops)?,
-            "after {steps} steps"
-        );
-    }
-    Ok(())
+pub(crate) fn a_cutover_that_is_stopped_and_resumed_keeps_each_accepted_row_once<
+    R: Threads + Wait + Sync,
+>(rt: &R, alloc: Global) -> Result<bool, Refusal> {
+    are_kept(rt, alloc, Controller::GoesOn)
+}
+
+pub(crate) fn a_cutover_whose_controller_stopped_is_reopened_and_keeps_each_accepted_row_once<
+    R: Threads + Wait + Sync,
+>(rt: &R, alloc: Global) -> Result<bool, Refusal> {
+    are_kept(rt, alloc, Controller::Stops)
 }
 
 // Once the split is complete there is nothing to reopen, nor before there is one.
@@ -202,8 +202,9 @@ const NOTHING: [Act<'static>; 10] = [
     SPLIT,
 ];
 
-#[test]
-fn a_workflow_is_reopened_while_there_is_one(rt: HostRuntime) -> Result<(), Fail> {
-    assert!(rt; plays_alone(&rt, rt.alloc(), SHOP, &[&NOTHING])?);
-    Ok(())
+pub(crate) fn a_workflow_is_reopened_while_there_is_one<R: Threads + Wait + Sync>(
+    rt: &R,
+    alloc: Global,
+) -> Result<bool, Refusal> {
+    plays_alone(rt, alloc, SHOP, &[&NOTHING])
 }

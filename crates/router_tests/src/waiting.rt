@@ -1,7 +1,10 @@
 //! Statements on a shard that takes no commits for a while: queries are answered, and writes wait in the buffer, or find it full.
-use router_scenes::common::{ALL, BEGUN, COPIED, FREEZE, LEVEL, RESUMED, SEVEN, SHOP, TEN};
-use router_scenes::{Act, Asked, plays_alone, plays_beside};
-use std::test::Fail;
+use crate::acts::{Act, Asked};
+use crate::common::{ALL, BEGUN, COPIED, FREEZE, LEVEL, RESUMED, SEVEN, SHOP, TEN};
+use crate::scenes::{plays_alone, plays_beside};
+use std::alloc::Global;
+use std::sync::Wait;
+use std::thread::Threads;
 use vt_value::Refusal;
 
 // The first shard, which has no rows, is frozen.
@@ -18,10 +21,11 @@ const WITHOUT_ROOM: [Act<'static>; 5] = [
     Act::One(TEN, Ok(1)),
 ];
 
-#[test]
-fn always_buffer_full_would_refuse_what_is_not_frozen(rt: HostRuntime) -> Result<(), Fail> {
-    assert!(rt; plays_alone(&rt, rt.alloc(), SHOP, &[&FROZEN, &WITHOUT_ROOM])?);
-    Ok(())
+pub(crate) fn always_buffer_full_would_refuse_what_is_not_frozen<R: Threads + Wait + Sync>(
+    rt: &R,
+    alloc: Global,
+) -> Result<bool, Refusal> {
+    plays_alone(rt, alloc, SHOP, &[&FROZEN, &WITHOUT_ROOM])
 }
 
 const ROOM_FOR_ONE: [Act<'static>; 6] = [
@@ -33,9 +37,10 @@ const ROOM_FOR_ONE: [Act<'static>; 6] = [
     Act::One(ALL, Ok(1)),
 ];
 
-#[test]
-fn buffered_statement_commits_twice_would_add_two_rows(rt: HostRuntime) -> Result<(), Fail> {
+pub(crate) fn buffered_statement_commits_twice_would_add_two_rows<R: Threads + Wait + Sync>(
+    rt: &R,
+    alloc: Global,
+) -> Result<bool, Refusal> {
     let acts: [&[Act<'_>]; 2] = [&FROZEN, &ROOM_FOR_ONE];
-    assert!(rt; plays_beside(&rt, rt.alloc(), &acts, Asked::Eight, 1)?);
-    Ok(())
+    plays_beside(rt, alloc, &acts, Asked::Eight, 1)
 }

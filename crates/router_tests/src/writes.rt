@@ -1,12 +1,12 @@
 //! An INSERT that is begun during a cutover, by a session in a thread of its own.
+use crate::acts::{Act, Asked};
+use crate::common::{ALL, EIGHT, FREEZE, RESUMED, SEVEN, TEN};
+use crate::scenes::plays_beside;
 use crate::steps::{
     CANCELLED, LEVELLED, PUBLISH, RELEASE, RETIRE, SERVE, SWITCH, SWITCHED, UNSPLIT,
 };
-use router_scenes::common::{ALL, EIGHT, FREEZE, RESUMED, SEVEN, TEN};
-use router_scenes::{Act, Asked, plays_beside};
 use std::alloc::Global;
 use std::sync::Wait;
-use std::test::Fail;
 use std::thread::Threads;
 use vt_value::Refusal;
 
@@ -51,20 +51,21 @@ fn adds_one<'x, R: Threads + Wait + Sync>(
     plays_beside(rt, alloc, &parts, Asked::Eight, 1)
 }
 
-#[test]
-fn an_insert_that_waits_for_a_cutover_adds_its_row_once(rt: HostRuntime) -> Result<(), Fail> {
-    let alloc = rt.alloc();
-    assert!(rt; adds_one(&rt, alloc, &[FREEZE], &SERVED, &[SWITCHED])?);
-    assert!(rt; adds_one(&rt, alloc, &[FREEZE, RETIRE], &SERVED[1..], &[SWITCHED])?);
-    Ok(())
+pub(crate) fn an_insert_that_waits_for_a_cutover_adds_its_row_once<R: Threads + Wait + Sync>(
+    rt: &R,
+    alloc: Global,
+) -> Result<bool, Refusal> {
+    Ok(
+        adds_one(rt, alloc, &[FREEZE], &SERVED, &[SWITCHED])?
+            && adds_one(rt, alloc, &[FREEZE, RETIRE], &SERVED[1..], &[SWITCHED])?,
+    )
 }
 
-#[test]
-fn an_insert_that_waits_for_a_cutover_that_is_undone_adds_its_row_once(
-    rt: HostRuntime,
-) -> Result<(), Fail> {
-    let alloc = rt.alloc();
-    assert!(rt; adds_one(&rt, alloc, &[FREEZE], &[RESUMED], &[SWITCH, ALL_READ])?);
-    assert!(rt; adds_one(&rt, alloc, &[FREEZE], &[CANCELLED], &[UNSPLIT])?);
-    Ok(())
+pub(crate) fn an_insert_that_waits_for_a_cutover_that_is_undone_adds_its_row_once<
+    R: Threads + Wait + Sync,
+>(rt: &R, alloc: Global) -> Result<bool, Refusal> {
+    Ok(
+        adds_one(rt, alloc, &[FREEZE], &[RESUMED], &[SWITCH, ALL_READ])?
+            && adds_one(rt, alloc, &[FREEZE], &[CANCELLED], &[UNSPLIT])?,
+    )
 }

@@ -27,7 +27,7 @@ use Rattle.reshard.specs.Workflows.{WorkflowView}
 use Rattle.administration.specs.declared.reply.AdminReply.{AdminReply}
 use Rattle.administration.specs.Told.{IsTold}
 use Rattle.administration.specs.Words.{reply_text}
-use Rattle.administered_opening.specs.Idle.{opening_workflow}
+use Rattle.administration.specs.Idle.{opening_workflow}
 use Rattle.vtgate_lines.specs.Printed.{rows_text, count_text, refusal_text}
 use Rattle.vtgate_input.specs.Inputs.{Known}
 

@@ -7,14 +7,13 @@ ghost use Rattle.shard_contents.specs.Shards.{most_limits};
 ghost use Rattle.journal.specs.Views.{new_pass};
 ghost use Rattle.empty_opening.specs.Empty.{opening_of, sharded_keyspace, FitRanges};
 ghost use Rattle.administration.specs.Told.{keyspace_of};
-ghost use Rattle.administered_opening.specs.Idle.{opening_workflow};
+ghost use Rattle.administration.specs.Idle.{opening_workflow};
 ghost use Rattle.vtgate_lines.specs.Lines.{IsNextLine};
 ghost use Rattle.vtgate_lines.specs.Partitions.{NamesPartition};
 ghost use Rattle.vtgate_script.specs.Scripted.{HasGiven, HasScripted};
 
 use crate::sessions::{Sessions, run_lines};
-use administered_opening::administered_router;
-use administration::Administrator;
+use administration::{Administrator, administered_router};
 use journal::{Naming, Opened, Opener, Pass};
 use keyrange::KeyRange;
 use route_engine::{Engine, Open};

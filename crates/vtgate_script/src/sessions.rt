@@ -14,8 +14,7 @@ ghost use Rattle.administration.specs.Told.{keyspace_of};
 ghost use Rattle.vtgate_script.specs.Scripted.{HasGiven, unknown_text};
 ghost use Rattle.vtgate_script.specs.inner.UnderWay.{KeptSession, IsBehind, IsShown, IsOutcomeShown, KnowsOwn, PrintsFrom, nothing_kept};
 
-use administered_opening::administer;
-use administration::Administrator;
+use administration::{Administrator, administer};
 use journal::{Naming, Opener, Pass};
 use route_engine::{Answer, Engine, Open, Reply, Tx};
 use session::{DeviceFailed, Sink};

@@ -4,8 +4,8 @@ ghost use Rattle.std.specs.Io.{ReadsAtMost};
 ghost use Rattle.empty_opening.specs.Empty.{sharded_keyspace};
 ghost use Rattle.administration.specs.Told.{keyspace_of};
 
+use crate::conversation::talk;
 use crate::ports::UNDER_WAY;
-use admin_talk::talk;
 use administration::Administrator;
 use journal::{Naming, Pass};
 use route_engine::{Engine, Gate};

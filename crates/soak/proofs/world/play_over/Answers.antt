@@ -1,4 +1,4 @@
-use Rattle.administered_opening.proofs.Homes.{begins_at_home}
+use Rattle.administration.proofs.RouterHomes.{begins_at_home}
 use Rattle.soak.proofs.world.play_over.Goals as goal
 
 pub play_opened-requires-clause-home : goal.play_opened-requires-clause-home

@@ -1,0 +1,38 @@
+use Rattle.std.proofs.Common.{ℕ, ◌≤◌, ◌^◌, Option, Some, length, map, ap, ap₂, sym, subst, ◌∙◌, lit≤, arith}
+use Rattle.std.specs.List.{AllByRecursion}
+use Rattle.journal.specs.Views.{SeatView}
+use Rattle.shard_contents.specs.declared.limits.Limits.{Limits}
+use Rattle.shard_run.specs.declared.Entry.{Entry}
+use Rattle.shard_run.specs.Runs.{Opening}
+use Rattle.reshard.specs.Workflows.{WorkflowView}
+use Rattle.reshard_beginning.specs.Grounds.{IsFree}
+use Rattle.empty_opening.specs.Empty.{empty_shards, opening_of}
+use Rattle.administration.specs.Idle.{idle, idle_in, free_slots}
+use Rattle.administration.proofs.Free.{free_behind, place_below, their_slots}
+use Rattle.administration.proofs.router.idle_administrator.Goals as goal
+
+pub new-requires-clause-ground : goal.new-requires-clause-ground
+new-requires-clause-ground g c = record {
+  keyspace =
+      let is = sym c.sharded_keyspace.ensures ∙ c.in-Some.is in
+      let below = place_below (λ k. k.sharded) 0 c.args.schema.now.keyspaces c.in-Some.keyspace is in
+      let same = c.most_of.ensures.keyspace in
+      let many = ap (λ (o : Opening). length o.schema.keyspaces) c.requires.opening in
+      omega (arith, below, same, many);
+  limits = c.most_of.ensures.limits ∙ sym c.requires.limits;
+  rows = subst (λ (l : Limits). l.rows ≤ 2 ^ 20) (sym c.most_of.ensures.limits) (lit≤ tt);
+  stored = subst (λ (l : Limits). l.stored ≤ 2 ^ 20) (sym c.most_of.ensures.limits) (lit≤ tt);
+}
+
+pub new-requires-clause-free : goal.new-requires-clause-free
+new-requires-clause-free g c =
+    subst (λ (o : Opening). AllByRecursion (IsFree o) c.args.free.items) (sym c.requires.opening)
+    (subst (AllByRecursion (IsFree (opening_of c.args.schema.now c.args.ranges.now))) (sym c.requires.free) (free_behind c.args.schema.now c.args.ranges.now))
+
+pub returns-in-Some : goal.returns-in-Some
+returns-in-Some g c =
+    let free = free_slots c.args.schema.now c.args.ranges.now in
+    let is = sym c.sharded_keyspace.ensures ∙ c.in-Some.is in
+    let slots = ap (map (λ (s : SeatView Entry). s.slot)) c.requires.free ∙ their_slots (length (empty_shards c.args.schema.now c.args.ranges.now)) in
+    c.new-in-Some.ensures ∙ ap (λ (w : WorkflowView). Some w) (c.new.ensures ∙ ap₂ idle c.most_of.ensures.keyspace slots)
+    ∙ ap (λ (o : Option ℕ). idle_in o free) (sym is)

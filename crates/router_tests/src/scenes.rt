@@ -1,0 +1,256 @@
+//! Scenes, played over a router of their own.
+ghost use denote.Param.Send.{IsSend, IsSync};
+ghost use Rattle.std.specs.Prelude.{◌≡◌, IsTrue};
+ghost use Rattle.vschema.specs.WellFormed.{is_vschema};
+ghost use Rattle.shard_contents.specs.Shards.{most_limits};
+ghost use Rattle.empty_opening.specs.Empty.{opening_of, sharded_keyspace, FitRanges};
+ghost use Rattle.administration.specs.Told.{keyspace_of};
+
+use crate::acts::{Act, Asked};
+use crate::common::SHOP;
+use crate::gate::{HoldsFirst, Signals, is_given};
+use crate::opening::{halves, read_schema};
+use crate::session::Session;
+use crate::stage::{Stage, ask, play_locked};
+use administration::{Administrator, administered_router};
+use journal::{Naming, Opened, Opener, Pass};
+use keyrange::KeyRange;
+use route_engine::Engine;
+use shard::{ShardLaw, World};
+use std::alloc::Global;
+use std::marker::Brand;
+use std::sync::{Arc, Wait};
+use std::thread::{Threads, join};
+use vschema::VSchema;
+use vt_value::Refusal;
+
+/// Acts over a VSchema and two shards without rows, part by part, and what a third session asks meanwhile.
+#[derive(Clone, Copy)]
+pub struct Scene<'t> {
+    pub schema: &'t str,
+    /// So many statements may wait in the buffer.
+    pub buffer: u64,
+    /// Whether a thread holds the lock of the first shard from the beginning.
+    pub locked: bool,
+    pub asked: Asked,
+    pub acts: &'t [&'t [Act<'t>]],
+}
+
+/// How a scene went.
+#[derive(Clone, Copy, PartialEq, Eq)]
+pub struct Played {
+    /// The first act that didn't give what it was to give: the number of its part, and its place there.
+    pub wrong: Option<(usize, usize)>,
+    /// What the third session was told.
+    pub told: Result<u64, Refusal>,
+    /// What was held went on without leave.
+    pub in_vain: bool,
+}
+
+impl Played {
+    /// Each act is right, and the third session is told this.
+    pub fn right(told: u64) -> Played {
+        Played {
+            wrong: None,
+            told: Ok(told),
+            in_vain: false,
+        }
+    }
+}
+
+// The acts, and beside them the third session in a thread of its own.
+fn play_beside<W: World + Send + Sync, J: Naming + Send + Sync, R: Threads + Wait + Sync>(
+    rt: &R,
+    stage: &mut Stage<'_, W, J, R>,
+    third: Session<'_, W, J, R>,
+    signals: &Signals,
+    scene: &Scene<'_>,
+) -> Played {
+    let Scene {
+        locked,
+        asked,
+        acts,
+        ..
+    } = *scene;
+    let (told, wrong) = join(
+        rt,
+        move || -> Result<u64, Refusal>
+            requires { IsSync R.row × IsSend W.row × IsSync W.row × IsSend J.row × IsSync J.row }
+        { ask(third, signals, asked) },
+        move || -> Option<(usize, usize)>
+            requires { IsSync R.row × IsSend W.row × IsSync W.row × IsSend J.row × IsSync J.row }
+        {
+            if locked {
+                play_locked(stage, acts)
+            } else {
+                stage.play(acts)
+            }
+        },
+    );
+    Played {
+        wrong,
+        told,
+        in_vain: is_given(&signals.in_vain),
+    }
+}
+
+// The sessions come, and the scene is played.
+fn play_on<W: World + Send + Sync, J: Naming + Send + Sync, R: Threads + Wait + Sync>(
+    stage: &mut Stage<'_, W, J, R>,
+    opener: &mut Opener<ShardLaw<W>, J>,
+    scene: &Scene<'_>,
+) -> Result<Played, Refusal> {
+    stage.open(opener)?;
+    let third = stage.session(opener)?;
+    let (rt, signals) = (stage.rt, stage.signals);
+    Ok(play_beside(rt, stage, third, signals, scene))
+}
+
+// The scene over a new engine.
+fn play_opened<'e, W: World + Send + Sync, J: Naming + Send + Sync, R: Threads + Wait + Sync>(
+    rt: &'e R,
+    alloc: Global,
+    engine: &'e Engine<W, J, HoldsFirst>,
+    administrator: Administrator<W, J>,
+    opener: &mut Opener<ShardLaw<W>, J>,
+    admin: Pass<ShardLaw<W>, J>,
+    signals: &'e Signals,
+    scene: &Scene<'_>,
+) -> Result<Played, Refusal>
+    requires home { keyspace_of administrator ≡ sharded_keyspace engine.now }
+{
+    let mut stage = Stage {
+        rt,
+        alloc,
+        engine,
+        signals,
+        administrator,
+        admin,
+        sessions: Vec::new(alloc),
+    };
+    play_on(&mut stage, opener, scene)
+}
+
+fn play_over<W: World + Send + Sync, J: Naming + Send + Sync, R: Threads + Wait + Sync>(
+    rt: &R,
+    alloc: Global,
+    schema: VSchema,
+    ranges: &[KeyRange],
+    opened: Opened<ShardLaw<W>>,
+    gate: HoldsFirst,
+    signals: &Signals,
+    scene: &Scene<'_>,
+) -> Result<Played, Refusal>
+    requires name { opened ≡ J.table }
+    requires opening { W.opening ≡ opening_of schema ranges.now }
+    requires limits { W.limits ≡ most_limits }
+    requires schema { IsTrue (is_vschema schema) }
+    requires ranges { FitRanges schema ranges.now }
+{
+    let buffer = scene.buffer;
+    match administered_router::<W, J, HoldsFirst>(alloc, schema, ranges, opened, buffer, gate) {
+        Ok((engine, administrator, mut opener, admin)) => {
+            play_opened(
+                rt,
+                alloc,
+                &engine,
+                administrator,
+                &mut opener,
+                admin,
+                signals,
+                scene,
+            )
+        }
+        Err(refusal) => Err(refusal),
+    }
+}
+
+// The same in the world that has this VSchema and these ranges, and no rows.
+fn play_in_world<W: World + Send + Sync, R: Threads + Wait + Sync>(
+    rt: &R,
+    alloc: Global,
+    schema: VSchema,
+    ranges: &[KeyRange],
+    gate: HoldsFirst,
+    signals: &Signals,
+    scene: &Scene<'_>,
+) -> Result<Played, Refusal>
+    requires opening { W.opening ≡ opening_of schema ranges.now }
+    requires limits { W.limits ≡ most_limits }
+    requires schema { IsTrue (is_vschema schema) }
+    requires ranges { FitRanges schema ranges.now }
+{
+    match Opened::<ShardLaw<W>>::new(alloc) {
+        Ok(opened) => {
+            play_over::<W, Brand, R>(rt, alloc, schema, ranges, opened, gate, signals, scene)
+        }
+        Err(refusal) => Err(refusal),
+    }
+}
+
+// The same with these signals.
+fn play_by<R: Threads + Wait + Sync>(
+    rt: &R,
+    alloc: Global,
+    gate: HoldsFirst,
+    signals: &Signals,
+    scene: &Scene<'_>,
+) -> Result<Played, Refusal> {
+    let Some(ranges) = halves() else {
+        return Err(Refusal::SyntaxError);
+    };
+    match read_schema(alloc, scene.schema, &ranges) {
+        Ok(schema) => {
+            play_in_world::<Brand, R>(rt, alloc, schema, &ranges, gate, signals, scene)
+        }
+        Err(refusal) => Err(refusal),
+    }
+}
+
+/// Plays a scene over a router of its own, with the shards `-80` and `80-` of its sharded keyspace.
+pub fn play<R: Threads + Wait + Sync>(
+    rt: &R,
+    alloc: Global,
+    scene: &Scene<'_>,
+) -> Result<Played, Refusal> {
+    let signals = Arc::new(alloc, Signals::new())?;
+    let gate = HoldsFirst {
+        signals: Arc::try_clone(&signals)?,
+    };
+    play_by(rt, alloc, gate, &signals, scene)
+}
+
+/// Whether the acts give what they are to give, where the third session asks nothing and nobody may wait.
+pub fn plays_alone<R: Threads + Wait + Sync>(
+    rt: &R,
+    alloc: Global,
+    schema: &str,
+    acts: &[&[Act<'_>]],
+) -> Result<bool, Refusal> {
+    let scene = Scene {
+        schema,
+        buffer: 0,
+        locked: false,
+        asked: Asked::Nothing,
+        acts,
+    };
+    Ok(play(rt, alloc, &scene)? == Played::right(0))
+}
+
+/// Whether they do in the shop, where one statement may wait, and the third session, beside them, is told this.
+pub fn plays_beside<R: Threads + Wait + Sync>(
+    rt: &R,
+    alloc: Global,
+    acts: &[&[Act<'_>]],
+    asked: Asked,
+    told: u64,
+) -> Result<bool, Refusal> {
+    let scene = Scene {
+        schema: SHOP,
+        buffer: 1,
+        locked: false,
+        asked,
+        acts,
+    };
+    Ok(play(rt, alloc, &scene)? == Played::right(told))
+}

@@ -1,0 +1,211 @@
+//! A client's lines, each answered.
+ghost use Rattle.std.specs.Prelude.{◌≡◌, ◌++◌, ◌<◌, ℕ, List, [], false, length, IfOk, OnOk, OnErr};
+ghost use Rattle.std.specs.Io.KnownBytes.{Appends, Consumes, IsAtEnd};
+ghost use Rattle.empty_opening.specs.Empty.{sharded_keyspace};
+ghost use Rattle.vtgate_lines.specs.Lines.{HasNoEnd};
+ghost use Rattle.session_replies.specs.Devices.{AppendsFront};
+ghost use Rattle.administration.specs.declared.reply.AdminReply.{AdminReply};
+ghost use Rattle.administration.specs.Told.{IsTold, keyspace_of};
+ghost use Rattle.administration.specs.Words.{reply_text};
+ghost use Rattle.vtgate_serve.specs.Conversations.{AllTold, BreaksOff, HasEndedEarly, HasAnsweredAll};
+
+use crate::lines::ended_line;
+use administration::{Administrator, administer};
+use journal::{Naming, Pass};
+use route_engine::{Engine, Gate};
+use session::{Sink, Source};
+use shard::{ShardLaw, World};
+use std::alloc::Global;
+use std::sync::Wait;
+
+/// The most bytes of a line, without the byte 0A that ends it.
+pub const LONGEST_LINE: usize = 8192;
+
+/// How many bytes are asked of a source at once.
+const PIECE: usize = 4096;
+
+/// A conversation can't go on: a device failed, a line is too long, or there is no memory for it.
+#[derive(Clone, Copy, Debug, PartialEq, Eq)]
+pub struct BrokenOff;
+
+// Puts more of a line behind what came before.
+fn put(line: &mut Vec<u8>, more: &[u8]) -> Result<(), BrokenOff>
+    ensures { OnOk result (line.new.items ≡ line.old.items ++ more.now) }
+{
+    if more.len() > LONGEST_LINE.saturating_sub(line.len()) {
+        return Err(BrokenOff);
+    }
+    match line.extend_from_slice(more) {
+        Ok(()) => Ok(()),
+        Err(_) => Err(BrokenOff),
+    }
+}
+
+// Answers a line.
+fn answer<W: World + Send + Sync, J: Naming + Send + Sync, G: Gate, O: Sink>(
+    rt: &impl Wait,
+    alloc: Global,
+    engine: &Engine<W, J, G>,
+    administrator: &mut Administrator<W, J>,
+    pass: &mut Pass<ShardLaw<W>, J>,
+    words: &[u8],
+    sink: &mut O,
+) -> Result<(), BrokenOff>
+    requires home { keyspace_of administrator.old ≡ sharded_keyspace engine.now }
+    ensures keyspace { keyspace_of administrator.new ≡ keyspace_of administrator.old }
+    ensures told { OnOk result ((reply : AdminReply) × IsTold W.opening W.limits words.now pass.old pass.new reply administrator.old administrator.new
+        × Appends (O.taken sink.old) (O.taken sink.new) (reply_text reply)) }
+    ensures untold { OnErr result ((reply : AdminReply) × IsTold W.opening W.limits words.now pass.old pass.new reply administrator.old administrator.new
+        × AppendsFront (O.taken sink.old) (O.taken sink.new) (reply_text reply)) }
+{
+    let reply = administer(rt, alloc, engine, administrator, pass, words);
+    match sink.write(reply.line()) {
+        Ok(()) => Ok(()),
+        Err(_) => Err(BrokenOff),
+    }
+}
+
+// Answers the lines that a piece ends behind the front of a line. What stands behind them waits for its end.
+fn answer_piece<W: World + Send + Sync, J: Naming + Send + Sync, G: Gate, O: Sink>(
+    rt: &impl Wait,
+    alloc: Global,
+    engine: &Engine<W, J, G>,
+    administrator: &mut Administrator<W, J>,
+    pass: &mut Pass<ShardLaw<W>, J>,
+    front: &mut Vec<u8>,
+    piece: &[u8],
+    sink: &mut O,
+) -> Result<(), BrokenOff>
+    requires home { keyspace_of administrator.old ≡ sharded_keyspace engine.now }
+    requires unended { HasNoEnd front.old.items }
+    ensures keyspace { keyspace_of administrator.new ≡ keyspace_of administrator.old }
+    ensures told { OnOk result (AllTold W.opening W.limits (record { pass = pass.old; workflow = administrator.old }) (front.old.items ++ piece.now) front.new.items
+        (O.taken sink.old) (O.taken sink.new) (record { pass = pass.new; workflow = administrator.new })) }
+    ensures broke { OnErr result (BreaksOff W.opening W.limits (record { pass = pass.old; workflow = administrator.old }) (front.old.items ++ piece.now)
+        (O.taken sink.old) (O.taken sink.new) (record { pass = pass.new; workflow = administrator.new })) }
+{
+    let mut rest = piece;
+    while let Some((more, behind)) = ended_line(rest) {
+        put(front, more)?;
+        answer(rt, alloc, engine, administrator, pass, front, sink)?;
+        front.clear();
+        rest = behind;
+    }
+    put(front, rest)
+}
+
+// Answers the lines that the next piece of the source ends, and tells whether there was one.
+fn answer_next<W: World + Send + Sync, J: Naming + Send + Sync, G: Gate, I: Source, O: Sink>(
+    rt: &impl Wait,
+    alloc: Global,
+    engine: &Engine<W, J, G>,
+    administrator: &mut Administrator<W, J>,
+    pass: &mut Pass<ShardLaw<W>, J>,
+    front: &mut Vec<u8>,
+    buffer: &mut [u8],
+    source: &mut I,
+    sink: &mut O,
+) -> Result<bool, BrokenOff>
+    requires home { keyspace_of administrator.old ≡ sharded_keyspace engine.now }
+    requires unended { HasNoEnd front.old.items }
+    requires room { 0 < length buffer.old }
+    ensures room { length buffer.new ≡ length buffer.old }
+    ensures keyspace { keyspace_of administrator.new ≡ keyspace_of administrator.old }
+    ensures told { IfOk result (λ more. (piece : List ℕ) × Consumes (I.unread source.old) (I.unread source.new) piece
+        × AllTold W.opening W.limits (record { pass = pass.old; workflow = administrator.old }) (front.old.items ++ piece) front.new.items
+        (O.taken sink.old) (O.taken sink.new) (record { pass = pass.new; workflow = administrator.new })) }
+    ensures end { IfOk result (λ more. more ≡ false → IsAtEnd (I.unread source.new)) }
+    ensures broke { OnErr result ((piece : List ℕ) × Consumes (I.unread source.old) (I.unread source.new) piece
+        × BreaksOff W.opening W.limits (record { pass = pass.old; workflow = administrator.old }) (front.old.items ++ piece)
+        (O.taken sink.old) (O.taken sink.new) (record { pass = pass.new; workflow = administrator.new })) }
+{
+    let Ok(n) = source.read(buffer) else {
+        return Err(BrokenOff);
+    };
+    answer_piece(
+        rt,
+        alloc,
+        engine,
+        administrator,
+        pass,
+        front,
+        &buffer[..n],
+        sink,
+    )?;
+    Ok(n > 0)
+}
+
+// Answers the lines that the source gives. What came of a line that has not ended is kept in front.
+fn answer_all<W: World + Send + Sync, J: Naming + Send + Sync, G: Gate, I: Source, O: Sink>(
+    rt: &impl Wait,
+    alloc: Global,
+    engine: &Engine<W, J, G>,
+    administrator: &mut Administrator<W, J>,
+    pass: &mut Pass<ShardLaw<W>, J>,
+    front: &mut Vec<u8>,
+    source: &mut I,
+    sink: &mut O,
+) -> Result<(), BrokenOff>
+    requires home { keyspace_of administrator.old ≡ sharded_keyspace engine.now }
+    requires none { front.old.items ≡ [] }
+    ensures keyspace { keyspace_of administrator.new ≡ keyspace_of administrator.old }
+    ensures talked { OnOk result (HasAnsweredAll W.opening W.limits (record { pass = pass.old; workflow = administrator.old })
+        (record { pass = pass.new; workflow = administrator.new }) (I.unread source.old) (I.unread source.new) (O.taken sink.old) (O.taken sink.new)) }
+    ensures broke { OnErr result (HasEndedEarly W.opening W.limits (record { pass = pass.old; workflow = administrator.old })
+        (record { pass = pass.new; workflow = administrator.new }) (I.unread source.old) (I.unread source.new) (O.taken sink.old) (O.taken sink.new)) }
+{
+    let mut buffer = [0u8; PIECE];
+    for _ in rt.forever() {
+        if !answer_next(
+            rt,
+            alloc,
+            engine,
+            administrator,
+            pass,
+            front,
+            &mut buffer,
+            source,
+            sink,
+        )? {
+            return Ok(());
+        }
+    }
+    unreachable!()
+}
+
+// Promise: Of the bytes that a client of the admin port sends, each line that has ended is answered, over what the lines before it left,
+// and that is written, in order; a rest that hasn't ended is no line. The conversation ends where its input does. Where it breaks off (a
+// device failed, a line is too long, or there is no memory for one) it does so behind a line that was told, or one that was answered and of
+// which a front was written, and nothing is done behind it
+// Refuses: unended_line_is_given_up, conversation_ends_unread, each_line_is_told_ok, line_is_kept_for_the_next
+/// Answers the lines of a client, each over what the lines before it left, until its input ends. The administrator is that of the engine's
+/// sharded keyspace. It breaks off where a device fails, where a line has more than `LONGEST_LINE` bytes, and where there is no memory for one;
+/// nothing more is done then. What the line before that asked for is done, even where its reply couldn't be written.
+pub fn talk<W: World + Send + Sync, J: Naming + Send + Sync, G: Gate, I: Source, O: Sink>(
+    rt: &impl Wait,
+    alloc: Global,
+    engine: &Engine<W, J, G>,
+    administrator: &mut Administrator<W, J>,
+    pass: &mut Pass<ShardLaw<W>, J>,
+    source: &mut I,
+    sink: &mut O,
+) -> Result<(), BrokenOff>
+    requires home { keyspace_of administrator.old ≡ sharded_keyspace engine.now }
+    ensures keyspace { keyspace_of administrator.new ≡ keyspace_of administrator.old }
+    ensures talked { OnOk result (HasAnsweredAll W.opening W.limits (record { pass = pass.old; workflow = administrator.old })
+        (record { pass = pass.new; workflow = administrator.new }) (I.unread source.old) (I.unread source.new) (O.taken sink.old) (O.taken sink.new)) }
+    ensures broke { OnErr result (HasEndedEarly W.opening W.limits (record { pass = pass.old; workflow = administrator.old })
+        (record { pass = pass.new; workflow = administrator.new }) (I.unread source.old) (I.unread source.new) (O.taken sink.old) (O.taken sink.new)) }
+{
+    let mut front = Vec::new(alloc);
+    answer_all(
+        rt,
+        alloc,
+        engine,
+        administrator,
+        pass,
+        &mut front,
+        source,
+        sink,
+    )
+}
