@@ -1,15 +1,15 @@
 //! Two workers over loopback sockets, in one process.
 ghost use denote.Param.Send.{IsSync};
-ghost use Rattle.std.specs.Prelude.{◌≡◌, IsTrue, IfOk, OnOk};
+ghost use Rattle.std.specs.Prelude.{◌≡◌, IsTrue, IfOk};
 ghost use Rattle.std.specs.List.{AllByRecursion};
 ghost use Rattle.keyrange.specs.Names.{IsNamed};
 ghost use Rattle.vschema.specs.WellFormed.{is_vschema};
 ghost use Rattle.shard_contents.specs.Shards.{most_limits};
 ghost use Rattle.empty_opening.specs.Empty.{opening_of, FitRanges};
 
-use empty_opening::opening_shards;
+use empty_opening::ranges_fit;
 use journal::{Naming, Opened};
-use keyrange::{KeyRange, covers_once};
+use keyrange::KeyRange;
 use route_engine::Gate;
 use serve_lines::Asked;
 use session::Writer;
@@ -329,19 +329,6 @@ fn halves() -> Result<[KeyRange; 2], Fail>
     Ok([low, high])
 }
 
-// The ranges hold each keyspace id once, and the shards fit into 64 slots.
-fn fits(alloc: Global, schema: &VSchema, ranges: &[KeyRange]) -> Result<(), Fail>
-    requires { AllByRecursion IsNamed ranges.now }
-    ensures { OnOk result (FitRanges schema.now ranges.now) }
-{
-    let shards = opening_shards(alloc, schema, ranges)?;
-    if shards.len() <= 64 && covers_once(ranges) {
-        Ok(())
-    } else {
-        Err(Fail::new("no opening"))
-    }
-}
-
 // Serves the keyspace over the ranges.
 fn serve_shop<R: Threads + Wait + Sync + Clock + Net<Listener = TcpListener, Stream = TcpStream>>(
     rt: &R,
@@ -353,7 +340,9 @@ fn serve_shop<R: Threads + Wait + Sync + Clock + Net<Listener = TcpListener, Str
 {
     let addresses = addresses_of(&setting.ports)?;
     let schema = VSchema::read(alloc, SHOP)?;
-    fits(alloc, &schema, ranges)?;
+    if !ranges_fit(alloc, &schema, ranges)? {
+        return Err(Fail::new("no opening"));
+    }
     serve_in_world::<Brand, R>(rt, alloc, schema, ranges, setting, addresses)
 }
 

@@ -2,8 +2,6 @@
 #![tactic(auto)]
 
 #[cfg(test)]
-mod failing_devices;
-#[cfg(test)]
 mod loopback;
 mod plan;
 mod running;

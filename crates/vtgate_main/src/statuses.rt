@@ -1,6 +1,6 @@
 //! Statuses of runs, and devices that fail.
-use crate::failing_devices::{FailingSink, FailingSource};
 use crate::running::run;
+use failing_devices::{FailingSink, FailingSource};
 use session::{Reader, Sink, Source, Writer};
 use std::alloc::Global;
 use std::net::{Net, TcpListener, TcpStream};
