@@ -1,6 +1,7 @@
 #!/usr/bin/env bash
 # Measures reading of texts, the journal, queries and writes, one after the other in one run, and writes docs/PERFORMANCE.md: what each
-# showed, and beside it the ratio to the first of its kind. What is measured is in bench/lines.py.
+# showed, and beside it the ratio to the first of its kind. What is measured is in bench/lines.py; where there is a rustc, the maps of Rust's
+# std are measured beside the store (bench/lookup).
 # Usage: bench/measure.sh [PROGRAM]   (built by `rt run` in crates/bench where none is given)
 # DOCUMENT: the page that is written, docs/PERFORMANCE.md where it is not set; the parts that other scripts write stay
 # TEXTS, COSTLY, ENTRIES, ROWS, STORE, WRITES: how often each is done, 20, 100000, 1000000, 1000, 1000000 and 4000 where they are not set
@@ -11,8 +12,13 @@ program=$(program_of bench "${1:-}")
 work=$(mktemp -d)
 trap 'rm -rf "$work"' EXIT
 document=${DOCUMENT:-$top/docs/PERFORMANCE.md}
-python3 "$top/bench/tables.py" "$(realpath "$program")" > "$work/page"
-for other in serve split before; do
+lookup=()
+if command -v rustc > /dev/null; then
+    rustc -O -o "$work/lookup" "$top/bench/lookup/main.rs"
+    lookup=("$work/lookup")
+fi
+python3 "$top/bench/tables.py" "$(realpath "$program")" "${lookup[@]}" > "$work/page"
+for other in serve worst split before; do
     sed -n "/^<!-- bench\/$other.sh begins/,/^<!-- bench\/$other.sh ends/p" "$document" >> "$work/page"
 done
 mv "$work/page" "$document"

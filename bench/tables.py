@@ -1,4 +1,5 @@
-"""Runs the lines of lines.py and writes how long they took as tables, with ratios. Called by measure.sh with the program of crates/bench."""
+"""Runs the lines of lines.py and writes how long they took as tables, with ratios. Called by measure.sh with the program of crates/bench,
+and with that of lookup/main.rs where there is a compiler for it."""
 
 import datetime
 import os
@@ -122,6 +123,18 @@ def store(program):
     table(("statement", "rows", "microseconds", "ratio"), rows)
 
 
+def maps(lookup):
+    print("\n## The maps of a store alone\n\nNanoseconds of a lookup in std's maps, compiled by `rustc -O` (`bench/lookup/main.rs`), among few keys and many: keys of 16 bytes, rows on")
+    print("the heap, and between two lookups as much memory written as a statement writes. What a key among many costs more is what the")
+    print("machine's memory takes: a SELECT or UPDATE by the key can't cost less than that more, whatever the router does.")
+    rows, first = [], {}
+    for line in subprocess.run([lookup], capture_output=True, text=True, check=True).stdout.splitlines():
+        name, each, nanos = line.split()
+        first.setdefault(name, int(nanos))
+        rows.append((f"`{name}`", each, nanos, int(nanos) - first[name]))
+    table(("map", "keys", "nanoseconds", "more than among few"), rows)
+
+
 def writes(program):
     print("\n## Writes and point queries\n\nStatements a second on one shard, by one session and by two in threads of their own.")
     rows, first = [], ()
@@ -139,8 +152,11 @@ def number_of(name, otherwise):
 
 def main():
     print(HEAD.format(day=datetime.date.today(), cores=os.cpu_count()), end="")
-    for write in (texts, costly, entries, queries, few, store, writes):
+    for write in (texts, costly, entries, queries, few, store):
         write(sys.argv[1])
+    if len(sys.argv) > 2:
+        maps(sys.argv[2])
+    writes(sys.argv[1])
 
 
 if __name__ == "__main__":

@@ -1,0 +1,19 @@
+#!/usr/bin/env bash
+# Measures the dearest statement of each kind through a socket: time, bytes of the reply, and the most memory that the router takes for it.
+# Prints the table; with --write puts it into docs/PERFORMANCE.md.
+# Usage: bench/worst.sh [--write] [--rows N] [--rounds N] [PROGRAM]   (built by `rt run` in crates/vtgate_main where none is given)
+set -euo pipefail
+top=$(cd "$(dirname "$0")/.." && pwd)
+. "$top/bench/program.sh"
+choices=() program=''
+while [ $# -gt 0 ]; do
+    case $1 in
+        --write) choices+=(--document "$top/docs/PERFORMANCE.md") ;;
+        --rows | --rounds) choices+=("$1" "$2") && shift ;;
+        -*) echo "no such choice: $1" >&2 && exit 2 ;;
+        *) program=$1 ;;
+    esac
+    shift
+done
+program=$(program_of vtgate_main "$program")
+python3 "$top/bench/worst/measure.py" "$(realpath "$program")" "${choices[@]}"
