@@ -1,5 +1,5 @@
 //! How a session stands.
-ghost use Rattle.std.specs.Prelude.{◌≡◌, false};
+ghost use Rattle.std.specs.Prelude.{◌≡◌, ◌↔◌, false};
 ghost use Rattle.session_replies.specs.Standings.{first_number, end_of, HasGreeted};
 
 use crate::end::End;
@@ -56,7 +56,7 @@ pub fn end_of(standing: Standing) -> Option<End>
 
 /// Whether the session has yet to greet its client.
 pub fn is_new(standing: Standing) -> bool
-    ensures { result ≡ false → HasGreeted standing }
+    ensures { result ≡ false ↔ HasGreeted standing }
 {
     match standing {
         Standing::New => true,

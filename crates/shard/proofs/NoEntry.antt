@@ -1,12 +1,12 @@
 -- A target of which nothing is stored, and that has no step, has no entry.
-use Rattle.std.proofs.Common.{◌≡◌, ℕ, Bool, true, false, cond, List, [], ◌∷◌, ◌++◌, ◌&&◌, refl, sym, ap, subst, ◌∙◌}
+use Rattle.std.proofs.Common.{◌≡◌, ℕ, Bool, true, false, cond, List, [], ◌∷◌, ◌++◌, ◌&&◌, length, refl, sym, ap, subst, ◌∙◌}
 use Rattle.journal.specs.Views.{SeatView}
 use Rattle.shard_run.specs.declared.Mode.{Mode}
 use Rattle.shard_run.specs.declared.Mode.TheVariants.{Following, Serving, Frozen, Retired}
 use Rattle.shard_run.specs.declared.Event.{Event}
 use Rattle.shard_run.specs.declared.Event.TheVariants.{Commit, Follow, Copy, Freeze, Thaw, Retire, Serve}
 use Rattle.shard_run.specs.declared.Entry.{Entry}
-use Rattle.shard_run.specs.Runs.{Run, Opening, is_on, is_stored, is_opening, entries_on, stored_on, mode_from, mode_after}
+use Rattle.shard_run.specs.Runs.{Run, Opening, is_on, is_stored, is_opening, entries_on, stored_on, mode, mode_from, mode_after}
 use Rattle.shard_contents.specs.declared.limits.Limits.{Limits}
 use Rattle.shard_contents.specs.declared.contents.Contents.{Contents}
 use Rattle.shard_contents.specs.Progress.{steps_of, steps_on}
@@ -92,3 +92,40 @@ module _ (o : Opening) (most : Limits) (seat : SeatView Entry) (c : Contents) (v
       subst (λ (v : ShardView). is_opening o v.shard.slot ≡ false) view
       (first_follows (is_opening o c.shard.slot)
       (sym (ap (mode_from (cond (is_opening o c.shard.slot) Serving Following)) fresh_here) ∙ sym h.mode ∙ follows))
+
+none_stored : (slot : ℕ) (run : Run) → entries_on slot run ≡ [] → stored_on slot run ≡ []
+none_stored slot [] none = refl
+none_stored slot (e ∷ run) none = by (is_on slot e) refl (none_stored slot run)
+  where
+    by : (b : Bool) → is_on slot e ≡ b → (entries_on slot run ≡ [] → stored_on slot run ≡ []) → stored_on slot (e ∷ run) ≡ []
+    by false i rest =
+        ap (λ c. cond (c && is_stored e.event) (e ∷ stored_on slot run) (stored_on slot run)) i
+        ∙ rest (sym (ap (λ c. cond c (e ∷ entries_on slot run) (entries_on slot run)) i) ∙ none)
+    by true i rest = absurd (cc (sym (ap (λ c. cond c (e ∷ entries_on slot run) (entries_on slot run)) i) ∙ none))
+
+not_dropped : (o : Opening) (most : Limits) (run : Run) (c : Contents) → Keeps o most run c → mode o run c.shard.slot ≡ Following → Holds o most run c
+not_dropped o most run c (holds h) is = h
+not_dropped o most run c (dropped gone m) is = absurd (cc (sym m ∙ is))
+
+-- a target without an entry follows, and has neither stored an entry nor made a step
+module _ (o : Opening) (most : Limits) (seat : SeatView Entry) (c : Contents) (v : ShardView) (after : IsAfter o most seat c)
+    (view : record { seen = seat.seen; shard = c.shard } ≡ v) (none : entries_on v.shard.slot v.seen ≡ []) (target : is_opening o v.shard.slot ≡ false) where
+  none_here : entries_on c.shard.slot seat.seen ≡ []
+  none_here = subst (λ (v : ShardView). entries_on v.shard.slot v.seen ≡ []) (sym view) none
+
+  follows_here : mode o seat.seen c.shard.slot ≡ Following
+  follows_here =
+      ap (mode_from (cond (is_opening o c.shard.slot) Serving Following)) none_here
+      ∙ ap (λ b. cond b Serving Following) (subst (λ (v : ShardView). is_opening o v.shard.slot ≡ false) (sym view) target)
+
+  kept : Holds o most seat.seen c
+  kept = not_dropped o most seat.seen c after.keeps follows_here
+
+  pub follows : c.mode ≡ Following
+  follows = kept.mode ∙ follows_here
+
+  pub nothing_stored : length c.stored.items ≡ 0
+  nothing_stored = ap length (kept.stored ∙ none_stored c.shard.slot seat.seen none_here)
+
+  pub no_step : length c.steps.items ≡ 0
+  no_step = ap length (kept.steps ∙ ap (λ (l : Run). Rattle.std.specs.Prelude.flat_map (λ e. steps_of e.event) l) none_here)

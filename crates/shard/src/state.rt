@@ -1,4 +1,4 @@
-ghost use Rattle.std.specs.Prelude.{◌≡◌, ◌⊎◌, ◌+◌, ◌<◌, ◌≤◌, ◌^◌, ◌++◌, ◌∷◌, [], ℕ, true, false, List, Some, IsSome, IfOk, IfErr, MatchOption, None, OnOk, OnErr, Contains, length, vec_len};
+ghost use Rattle.std.specs.Prelude.{◌≡◌, ◌↔◌, IsTrue, ◌⊎◌, ◌+◌, ◌<◌, ◌≤◌, ◌^◌, ◌++◌, ◌∷◌, [], ℕ, true, false, List, Some, IsSome, IfOk, IfErr, MatchOption, None, OnOk, OnErr, Contains, length, vec_len};
 ghost use Rattle.vschema.specs.TypedWrites.{IsTypedWrite};
 ghost use Rattle.sql_eval.specs.Queries.{Allowed};
 ghost use Rattle.journal.specs.Views.{IsLater};
@@ -167,7 +167,7 @@ impl<W: World, J: Naming> ShardState<W, J> {
 
     /// Whether it is the shard of this slot and place.
     pub fn stands_at(&self, slot: usize, place: &Place) -> bool
-        ensures { result ≡ true → (self.now.shard.slot ≡ slot) × (self.now.shard.place ≡ place.now) }
+        ensures { IsTrue result ↔ ((self.now.shard.slot ≡ slot) × (self.now.shard.place ≡ place.now)) }
     {
         let shard = &self.contents.shard;
         shard.slot == slot
@@ -177,7 +177,7 @@ impl<W: World, J: Naming> ShardState<W, J> {
 
     /// Whether it is this shard.
     pub fn is(&self, shard: &Shard) -> bool
-        ensures { result ≡ true → self.now.shard ≡ shard.now }
+        ensures { IsTrue result ↔ (self.now.shard ≡ shard.now) }
     {
         self.stands_at(shard.slot, &shard.place)
             && self.contents.shard.sources.as_slice() == shard.sources.as_slice()

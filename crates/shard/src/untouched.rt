@@ -1,5 +1,5 @@
 //! A shard on which nothing happened gives its seat back.
-ghost use Rattle.std.specs.Prelude.{◌≡◌, [], true, false};
+ghost use Rattle.std.specs.Prelude.{◌≡◌, ◌↔◌, [], true, false};
 ghost use Rattle.shard_run.specs.Runs.{entries_on, is_opening};
 ghost use Rattle.shard_contents.specs.Shards.{seat_view};
 
@@ -11,7 +11,7 @@ use shard_contents::Contents;
 use shard_run::Mode;
 
 fn follows(contents: &Contents) -> bool
-    ensures { result ≡ true → contents.now.mode ≡ Mode.Following }
+    ensures { result ≡ true ↔ (contents.now.mode ≡ Mode.Following) }
 {
     match contents.mode {
         Mode::Following => true,
@@ -38,6 +38,7 @@ impl<W: World, J: Naming> ShardState<W, J> {
     pub fn is_untouched(&self) -> bool
         ensures fresh { result ≡ true → entries_on self.now.shard.slot self.now.seen ≡ [] }
         ensures not_opening { result ≡ true → is_opening W.opening self.now.shard.slot ≡ false }
+        ensures only { entries_on self.now.shard.slot self.now.seen ≡ [] → is_opening W.opening self.now.shard.slot ≡ false → result ≡ true }
     {
         if !follows(&self.contents) {
             return false;

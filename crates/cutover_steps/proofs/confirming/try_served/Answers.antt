@@ -15,7 +15,7 @@ returns-clause-served g c e =
     let o = g.W.World.opening in
     let st = c.look.new.self in
     let which = c.args.which.now in
-    let same : st.shard ≡ which = c.is.ensures c.if-not-is.false in
+    let same : st.shard ≡ which = c.is.ensures.0 c.if-not-is.false in
     let seen : st.seen ≡ c.look.new.pass.seen = sym (ap (λ (x : PassView Entry). x.seen) c.look.ensures.pass) in
     subst (λ (r : Run). HasBegunToServe r which) seen
     (has_served o c.requires.opens st.seen (legal_is o st.seen c.look.ensures.seen.legal) which

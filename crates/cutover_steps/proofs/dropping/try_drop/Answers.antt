@@ -11,5 +11,5 @@ returns-in-Dropped-clause-out g c t =
     let o = g.W.World.opening in
     let s = c.look.new.self in
     ap (λ (r : Run). mode o r c.args.which.now.slot) (ap (λ (p : PassView Entry). p.seen) c.look.ensures.pass)
-    ∙ ap (λ (x : Shard). mode o s.seen x.slot) (sym (c.is.ensures c.if-not-is.false))
+    ∙ ap (λ (x : Shard). mode o s.seen x.slot) (sym (c.is.ensures.0 c.if-not-is.false))
     ∙ out_of_use o s.seen s.shard.slot c.mode.result c.mode.ensures c.in-Dropped.is

@@ -11,7 +11,7 @@ returns-clause-ok g c =
     let p = c.args.pass.now in
     let q = c.look-entries.new.pass in
     let st = c.look-entries.new.self in
-    let same = c.is.ensures c.if-not-is.false in
+    let same = c.is.ensures.0 c.if-not-is.false in
     let on = looked o p p q _ _ _ (still o p c.requires.legal) c.look-entries.ensures.seen c.look-entries.ensures.pass in (
       stepped o p q c.freeze.new.pass st c.args.which.now Freeze on c.freeze.ensures.appended same,
       c.stored-stored.ensures ∙ ap length (sym (stored_stays o st Freeze q c.freeze.new.pass c.freeze.ensures.appended refl))

@@ -8,7 +8,7 @@ use Rattle.cutover_steps.proofs.steps.try_retire.Goals as goal
 
 pub retire-requires : goal.retire-requires
 retire-requires g c =
-    let fit = subst (λ (s : Shard). FitTargets s c.args.targets) (sym (c.is.ensures c.if-is.true)) c.requires.fit in
+    let fit = subst (λ (s : Shard). FitTargets s c.args.targets) (sym (c.is.ensures.0 c.if-is.true)) c.requires.fit in
     record {
       may = record { frozen = c.is_frozen.ensures c.if-is_frozen.true; of_source = fit.of_source; apart = fit.apart; whole = fit.whole };
     }
@@ -17,4 +17,4 @@ pub returns-then-now-stored-clause-stored : goal.returns-then-now-stored-clause-
 returns-then-now-stored-clause-stored g c =
     sym c.if-now-stored.true ∙ c.stored-now.ensures
     ∙ ap length (sym (stored_stays g.W.World.opening c.look.new.self (Retire c.args.targets) c.look.new.pass c.retire.new.pass c.retire.ensures.appended refl))
-    ∙ ap (λ (s : Shard). length (stored_on s.slot c.retire.new.pass.seen)) (c.is.ensures c.if-is.true)
+    ∙ ap (λ (s : Shard). length (stored_on s.slot c.retire.new.pass.seen)) (c.is.ensures.0 c.if-is.true)

@@ -12,7 +12,7 @@ pub serve-requires-clause-may : goal.serve-requires-clause-may
 serve-requires-clause-may g c =
     let o = g.W.World.opening in
     let st = c.look.new.self in
-    let same : st.shard ≡ c.args.target.now = c.is.ensures c.if-is.true in
+    let same : st.shard ≡ c.args.target.now = c.is.ensures.0 c.if-is.true in
     let seen : st.seen ≡ c.look.new.pass.seen = sym (ap (λ (x : PassView Entry). x.seen) c.look.ensures.pass) in
     may_serve_looked (λ s. s.member.which) (λ s. s.stored) o c.requires.opens c.args.target.now st.shard same c.args.sources.now c.args.pass.now.seen st.seen
     c.look.new.pass.seen seen c.requires.of_sources c.requires.retired (c.is_level.ensures c.if-is_level.true) c.look.ensures.seen.pass

@@ -18,7 +18,7 @@ copy-requires-clause-next g c =
     let st = c.look-now.new.self in
     let target = c.args.target.now in
     let seen : st.seen ≡ c.look-now.new.pass.seen = sym (ap (λ (x : PassView Entry). x.seen) l.pass) in
-    let same : st.shard ≡ target = c.is.ensures c.if-is.true in
+    let same : st.shard ≡ target = c.is.ensures.0 c.if-is.true in
     let count : c.args.entries ≡ length (entries_on target.slot st.seen) =
     sym c.if-now-entries.true ∙ l.count ∙ ap (λ (s : Shard). length (entries_on s.slot st.seen)) (sym l.shard ∙ same) in
     let next = copy_next o c.args.pass.now.seen st.seen l.seen.pass (legal_is o st.seen l.seen.legal) target c.args.entries c.args.taken c.requires.next count in
@@ -31,7 +31,7 @@ returns-in_ok-copy-clause-copied g c e =
     let l = c.look-now.ensures in
     let st = c.look-now.new.self in
     let target = c.args.target.now in
-    let same : st.shard ≡ target = c.is.ensures c.if-is.true in
+    let same : st.shard ≡ target = c.is.ensures.0 c.if-is.true in
     let w = c.in_ok-copy.ensures.copied in
     let first = looked o c.args.pass.now c.args.pass.now c.look-now.new.pass (seat_view c.args.state.now) st.seen _ (still o c.args.pass.now c.requires.legal) l.seen l.pass in
     stepped o c.args.pass.now w.0 c.copy.new.pass (record { seen = w.0.seen; shard = st.shard }) target (Copy c.args.taken)

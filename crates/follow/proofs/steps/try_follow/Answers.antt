@@ -32,7 +32,7 @@ follow-requires-clause-next g c =
     let target = c.args.target.now in
     let f = c.args.taken.now in
     let seen : st.seen ≡ c.look-now.new.pass.seen = sym (ap (λ (x : PassView Entry). x.seen) l.pass) in
-    let same : st.shard ≡ target = c.is.ensures c.if-is.true in
+    let same : st.shard ≡ target = c.is.ensures.0 c.if-is.true in
     let count : c.args.entries ≡ length (entries_on target.slot st.seen) =
     sym c.if-now-entries.true ∙ l.count ∙ ap (λ (s : Shard). length (entries_on s.slot st.seen)) (sym l.shard ∙ same) in
     let taken_is = c.in_ok-taken.ensures.ok
@@ -47,7 +47,7 @@ returns-in_ok-follow-clause-followed g c e =
     let l = c.look-now.ensures in
     let st = c.look-now.new.self in
     let target = c.args.target.now in
-    let same : st.shard ≡ target = c.is.ensures c.if-is.true in
+    let same : st.shard ≡ target = c.is.ensures.0 c.if-is.true in
     let w = c.in_ok-follow.ensures.followed in
     let first = looked o c.args.pass.now c.args.pass.now c.look-now.new.pass (seat_view c.args.state.now) st.seen _ (still o c.args.pass.now c.requires.legal) l.seen l.pass in (
       c.in_ok-taken.taken,

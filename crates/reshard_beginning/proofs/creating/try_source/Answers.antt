@@ -14,7 +14,7 @@ pub returns-then-not-serves-clause-sight : goal.returns-then-not-serves-clause-s
 returns-then-not-serves-clause-sight g c =
     let o = g.W.World.opening in
     let st = c.look.new.self in
-    let at = c.stands_at.ensures c.if-not-stands_at.false in
+    let at = c.stands_at.ensures.0 c.if-not-stands_at.false in
     let seen : st.seen ≡ c.look.new.pass.seen = sym (ap (λ (x : PassView Entry). x.seen) c.look.ensures.pass) in
     does_not st.shard at.0 at.1
     (subst (λ (r : Run). IsOnItsSlot o r st.shard) seen (subst (IsOnItsSlot o st.seen) (sym c.look.ensures.shard) c.look.ensures.stands))
@@ -24,7 +24,7 @@ pub returns-clause-sight : goal.returns-clause-sight
 returns-clause-sight g c =
     let o = g.W.World.opening in
     let st = c.look.new.self in
-    let at = c.stands_at.ensures c.if-not-stands_at.false in
+    let at = c.stands_at.ensures.0 c.if-not-stands_at.false in
     let seen : st.seen ≡ c.look.new.pass.seen = sym (ap (λ (x : PassView Entry). x.seen) c.look.ensures.pass) in
     let same : c.in_ok-which.which ≡ st.shard = c.in_ok-which.ensures.ok ∙ c.shard.ensures.shard in
     serves (ap (λ (s : Shard). s.slot) same ∙ at.0) (ap (λ (s : Shard). s.place) same ∙ at.1)

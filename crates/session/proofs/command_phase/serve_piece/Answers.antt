@@ -28,7 +28,7 @@ returns-clause-write g c = λ is begin first s bytes out held before.
 
 pub returns-then-n-eq0-clause-talk : goal.returns-then-n-eq0-clause-talk
 returns-then-n-eq0-clause-talk g c begin first s bytes out held talked =
-    let has = rw c.standing.ensures at (c.is_new.ensures c.if-is_new.false) in
+    let has = rw c.standing.ensures at (c.is_new.ensures.0 c.if-is_new.false) in
     let none : Consumes (g.R.Source.unread c.args.source.now) (g.R.Source.unread c.read_piece.new.source) [] =
     subst (λ k. Consumes (g.R.Source.unread c.args.source.now) (g.R.Source.unread c.read_piece.new.source) (take k c.read_piece.new.buffer)) c.if-n-eq0.true
     c.in_ok-n.ensures.bytes.0 in (

@@ -10,7 +10,7 @@ use Rattle.shard.proofs.locked.Shard.read_in.Goals as goal
 pub read_in-requires-clause-tied : goal.read_in-requires-clause-tied
 read_in-requires-clause-tied g c =
     let same : c.deref_mut.result.now ≡ c.deref.result.now = c.deref_mut.ensures.value ∙ sym c.deref.ensures in
-    let at = c.stands_at.ensures c.if-stands_at.true in
+    let at = c.stands_at.ensures.0 c.if-stands_at.true in
     subst (λ (x : PendingView). IsPendingOf g.W.World.opening c.deref_mut.result.now.shard x c.loop.pass) (sym c.loop.invariant.3)
     (subst (λ (x : PassView Entry). IsPendingOf g.W.World.opening c.deref_mut.result.now.shard c.args.tx.now x) (sym c.loop.invariant.2)
     (c.requires.tied c.deref_mut.result.now.shard (ap (λ (v : ShardView). v.shard.slot) same ∙ at.0 ∙ ap (λ (v : Seat). v.0) c.self.view_is)
