@@ -143,18 +143,23 @@ impl<'e, W: World + Send + Sync, J: Naming + Send + Sync, R: Wait + Clock> Contr
         self.say(if is_back { back } else { there }, 1)
     }
 
-    // Puts shards in the place of others, or gives it up, once at least, until no slots are left, or it is to stop.
+    // Puts shards in the place of others, or gives it up. Whether there were slots for it, and it isn't to stop, once there was a cutover.
+    fn take_turn(&mut self) -> Result<bool, Fault> {
+        if !self.create()? {
+            return Ok(false);
+        }
+        let choice = self.choices.next_word();
+        self.play_script(script(choice))?;
+        self.keep_shards()?;
+        let is_over = self.watch.is_stopped() || self.watch.is_past(self.rt);
+        Ok(!is_over || self.done.tally.cutovers == 0)
+    }
+
+    // One turn at least, until no slots are left, or it is to stop.
     fn turns(&mut self) -> Result<(), Fault> {
         self.keep_shards()?;
         for _ in 0..u64::MAX {
-            if !self.create()? {
-                break;
-            }
-            let choice = self.choices.next_word();
-            self.play_script(script(choice))?;
-            self.keep_shards()?;
-            let is_over = self.watch.is_stopped() || self.watch.is_past(self.rt);
-            if is_over && self.done.tally.cutovers > 0 {
+            if !self.take_turn()? {
                 break;
             }
         }

@@ -22,7 +22,7 @@ use std::sync::Wait;
 use std::sync::atomic::AtomicU64;
 use std::thread::Threads;
 use std::time::{Clock, Instant};
-use std::{env, io};
+use std::{env, fmt, io};
 use tally::{Tally, count};
 use watch::Watch;
 use world::{Plan, play};
@@ -83,6 +83,33 @@ fn play_all<R: Threads + Wait + Clock + Sync + AllocGlobal>(
     Ok(())
 }
 
+/// How a soak has ended, as its last line says.
+#[derive(Clone, Copy)]
+struct Ending<'t> {
+    ended: Result<(), Fault>,
+    tally: &'t Tally,
+    is_quiet: bool,
+}
+
+impl fmt::Display for Ending<'_> {
+    fn fmt<W: fmt::Write>(&self, f: &mut fmt::Formatter<W>) -> fmt::Result {
+        match self.ended {
+            Err(Fault::Memory) => f.write_str("out of memory"),
+            Err(fault) => write!(f, "differs: {fault}"),
+            Ok(()) if self.tally.cutovers == 0 => f.write_str("soak: no cutover"),
+            Ok(()) if self.is_quiet => f.write_str("soak: nothing lost or doubled"),
+            Ok(()) => {
+                let statements = self.tally.all();
+                let cutovers = self.tally.cutovers;
+                write!(
+                    f,
+                    "soak: {statements} statements, {cutovers} cutovers, nothing lost or doubled"
+                )
+            }
+        }
+    }
+}
+
 // Prints the end, and tells whether nothing differs.
 fn print_end<R: Print>(
     rt: &R,
@@ -95,18 +122,13 @@ fn print_end<R: Print>(
         println!(rt; "seed: {seed}")?;
         tally.print(rt)?;
     }
-    let statements = tally.all();
-    let cutovers = tally.cutovers;
-    match ended {
-        Err(Fault::Memory) => println!(rt; "out of memory")?,
-        Err(fault) => println!(rt; "differs: {fault}")?,
-        Ok(()) if cutovers == 0 => println!(rt; "soak: no cutover")?,
-        Ok(()) if is_quiet => println!(rt; "soak: nothing lost or doubled")?,
-        Ok(()) => println!(rt;
-            "soak: {statements} statements, {cutovers} cutovers, nothing lost or doubled"
-        )?,
-    }
-    Ok(ended.is_ok() && cutovers > 0)
+    let ending = Ending {
+        ended,
+        tally,
+        is_quiet,
+    };
+    println!(rt; "{ending}")?;
+    Ok(ended.is_ok() && tally.cutovers > 0)
 }
 
 fn run<R: Threads + Wait + Clock + Print + Sync + AllocGlobal>(

@@ -90,28 +90,45 @@ impl Tally {
         self.given_up = self.given_up.wrapping_add(other.given_up);
     }
 
-    /// Prints how many statements of each kind were run, how many were refused by each number, and what the administrators did.
-    pub fn print(&self, rt: &impl Print) -> io::Result<()> {
+    // Prints how many statements of each kind were run.
+    fn print_statements(&self, rt: &impl Print) -> io::Result<()> {
         for (name, count) in NAMES.iter().zip(self.statements.iter()) {
             println!(rt; "{name}: {count}")?;
         }
+        Ok(())
+    }
+
+    // Prints how many were refused by each number.
+    fn print_refusals(&self, rt: &impl Print) -> io::Result<()> {
         for number in 0..25usize {
             let count = self.refusals[number];
             if count > 0 {
                 println!(rt; "refused F{number}: {count}")?;
             }
         }
+        Ok(())
+    }
+
+    // Prints what the administrators did.
+    fn print_done(&self, rt: &impl Print) -> io::Result<()> {
         let Tally {
-            entries,
             worlds,
             cutovers,
             undone,
             given_up,
             ..
         } = *self;
-        println!(rt; "entries of sessions: {entries}")?;
         println!(rt;
             "worlds: {worlds}, cutovers: {cutovers}, undone: {undone}, given up: {given_up}"
         )
+    }
+
+    /// Prints all counts.
+    pub fn print(&self, rt: &impl Print) -> io::Result<()> {
+        self.print_statements(rt)?;
+        self.print_refusals(rt)?;
+        let entries = self.entries;
+        println!(rt; "entries of sessions: {entries}")?;
+        self.print_done(rt)
     }
 }

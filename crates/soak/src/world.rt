@@ -1,8 +1,6 @@
 //! A world: a router over two shards without rows, eight sessions in threads of their own, and the administrator.
 ghost use denote.Param.Send.{IsSend, IsSync};
-ghost use Rattle.std.specs.Prelude.{◌≡◌, IsTrue, IfOk};
-ghost use Rattle.std.specs.List.{AllByRecursion};
-ghost use Rattle.keyrange.specs.Names.{IsNamed};
+ghost use Rattle.std.specs.Prelude.{◌≡◌, IsTrue};
 ghost use Rattle.vschema.specs.WellFormed.{is_vschema};
 ghost use Rattle.shard_contents.specs.Shards.{most_limits};
 ghost use Rattle.empty_opening.specs.Empty.{opening_of, sharded_keyspace, FitRanges};
@@ -16,9 +14,9 @@ use crate::session::{Client, Session, work};
 use crate::tally::Tally;
 use crate::watch::Watch;
 use administration::{Administrator, administered_router};
-use empty_opening::opening_shards;
+use empty_opening::ranges_fit;
 use journal::{Naming, Opened, Opener, Pass};
-use keyrange::{KeyRange, covers_once};
+use keyrange::KeyRange;
 use rand_pcg::Pcg32;
 use route_engine::{Engine, Open};
 use shard::{ShardLaw, World};
@@ -52,17 +50,6 @@ pub struct Plan<'s> {
     /// Whether each step of a cutover is a line of its own.
     pub by_step: bool,
     pub watch: Watch<'s>,
-}
-
-// Promise: Ranges that the soak tests and takes make an opening of at most 64 shards
-// Refuses: ranges_need_not_fit
-/// Whether the ranges hold each keyspace id once and the shards fit into 64 slots.
-fn fits(alloc: Global, schema: &VSchema, ranges: &[KeyRange]) -> Result<bool, Refusal>
-    requires { AllByRecursion IsNamed ranges.now }
-    ensures { IfOk result (λ b. IsTrue b → FitRanges schema.now ranges.now) }
-{
-    let shards = opening_shards(alloc, schema, ranges)?;
-    Ok(shards.len() <= 64 && covers_once(ranges))
 }
 
 // The clients of a world.
@@ -284,7 +271,7 @@ pub fn play<R: Threads + Wait + Clock + Sync>(
         return Err(Fault::Memory);
     };
     let ranges = [low, high];
-    match fits(alloc, &schema, &ranges) {
+    match ranges_fit(alloc, &schema, &ranges) {
         Ok(true) => play_in_world::<Brand, R>(rt, alloc, schema, &ranges, plan, tally),
         _ => Err(Fault::Memory),
     }
