@@ -1,12 +1,16 @@
 -- A small world, over which the tests run: the unsharded table t (id, c) without rows, on one shard that holds at most two rows and stores at
 -- most four entries.
-use Rattle.std.specs.Prelude.{[], ◌∷◌, codes, true, false, None}
+use Rattle.std.specs.Prelude.{List, [], ◌∷◌, codes, true, false, None}
 use Rattle.std.proofs.Common.{refl}
+use Rattle.vschema.specs.declared.schema.Column.{Column}
 use Rattle.vschema.specs.declared.schema.ColumnType.TheVariants.{BigIntUnsigned}
 use Rattle.vschema.specs.declared.schema.VSchema.{VSchema}
 use Rattle.shard_run.specs.declared.Shard.{Shard}
 use Rattle.shard_run.specs.Runs.{Opening}
 use Rattle.shard_contents.specs.declared.limits.Limits.{Limits}
+
+abbrev pub small_columns : List Column
+small_columns = record { name = codes "id"; kind = BigIntUnsigned; nullable = false } ∷ record { name = codes "c"; kind = BigIntUnsigned; nullable = true } ∷ []
 
 abbrev pub small_schema : VSchema
 small_schema = record {
@@ -14,7 +18,7 @@ small_schema = record {
   tables = record {
     name = codes "t";
     keyspace = 0;
-    columns = record { name = codes "id"; kind = BigIntUnsigned; nullable = false } ∷ record { name = codes "c"; kind = BigIntUnsigned; nullable = true } ∷ [];
+    columns = small_columns;
     primary_key = 0 ∷ [];
     vindex = None;
   }

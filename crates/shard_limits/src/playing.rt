@@ -1,10 +1,9 @@
-//! The small shard of a new journal, which tests act on.
-ghost use Rattle.std.specs.Prelude.{◌≡◌, []};
+//! The small shard of a new journal, and sessions of it, by which tests act.
+ghost use Rattle.std.specs.Prelude.{◌≡◌, [], IsSome};
 ghost use Rattle.shard_limits.specs.SmallWorld.{small_schema};
 ghost use Rattle.shard_limits.specs.inner.SmallWorld.{small_seat};
 
-use crate::transactions::transactions;
-use crate::writing::{Small, first_seat, schema, state, writes};
+use crate::writing::{Small, first_seat, schema, state};
 use journal::{Naming, Opened, Opener, Pass, ShardSeat};
 use shard::{Shard, ShardLaw};
 use std::alloc::Global;
@@ -21,6 +20,19 @@ pub(crate) enum Turn {
     Transactions,
 }
 
+/// A session of the small shard.
+#[derive(Drop)]
+pub(crate) struct Session<'e, J: Naming, R> {
+    pub(crate) rt: &'e R,
+    pub(crate) alloc: Global,
+    pub(crate) shard: &'e Shard<Small, J>,
+    pub(crate) schema: &'e VSchema,
+    pub(crate) pass: Pass<ShardLaw<Small>, J>,
+    ghost here: { shard.now ≡ small_seat },
+    ghost known: { schema.now ≡ small_schema },
+    ghost numbered: { IsSome pass.session },
+}
+
 fn act<J: Naming, R: Wait + Abort>(
     rt: &R,
     alloc: Global,
@@ -33,9 +45,23 @@ fn act<J: Naming, R: Wait + Abort>(
     requires here { shard.now ≡ small_seat }
     requires schema { schema.now ≡ small_schema }
 {
+    let mut session = Session {
+        rt,
+        alloc,
+        shard,
+        schema,
+        pass: opener.open(first)?,
+    };
+    let mut other = Session {
+        rt,
+        alloc,
+        shard,
+        schema,
+        pass: opener.open(first)?,
+    };
     match turn {
-        Turn::Writes => writes(rt, alloc, shard, schema, opener, first),
-        Turn::Transactions => transactions(rt, alloc, shard, schema, opener, first),
+        Turn::Writes => session.writes(),
+        Turn::Transactions => session.transactions(&mut other),
     }
 }
 

@@ -1,22 +1,20 @@
 //! Transactions on one small shard.
-ghost use Rattle.std.specs.Prelude.{◌≡◌, ◌<◌, ℕ, Some, IsSome};
+ghost use Rattle.std.specs.Prelude.{◌≡◌};
 ghost use Rattle.vschema.specs.TypedWrites.{IsTypedWrite};
-ghost use Rattle.journal.specs.Runs.{NumbersBelow};
 ghost use Rattle.shard_contents.specs.Commits.{IsPlaced};
-ghost use Rattle.shard_contents.specs.Shards.{commit_of};
 ghost use Rattle.shard_limits.specs.SmallWorld.{small_schema, small_shard};
-ghost use Rattle.shard_limits.specs.inner.SmallWorld.{small_seat, IsHere};
+ghost use Rattle.shard_limits.specs.inner.SmallWorld.{IsHere, IsNumbered};
 
-use crate::playing::{Turn, play};
-use crate::writing::{Small, counts, insert, insert_row, query};
-use journal::{Naming, Opener, Pass};
-use shard::{Pending, Shard, ShardLaw};
+use crate::playing::{Session, Turn, play};
+use crate::writing::{Act, Small, query, written};
+use journal::{Naming, Pass};
+use shard::{Pending, ShardLaw};
 use sql_tree::Item;
 use std::alloc::Global;
 use std::process::Abort;
 use std::sync::Wait;
 use std::test::Fail;
-use vschema::{Query, VSchema, Write};
+use vschema::{Query, Write};
 use vt_value::Refusal;
 
 // A transaction that has done nothing.
@@ -27,303 +25,131 @@ fn begin<J: Naming>(alloc: Global, pass: &Pass<ShardLaw<Small>, J>) -> Pending
     Pending::new(alloc)
 }
 
-// A write of the transaction's statement.
-fn write_in<J: Naming>(
-    rt: &impl Wait,
-    alloc: Global,
-    shard: &Shard<Small, J>,
-    schema: &VSchema,
-    pass: &mut Pass<ShardLaw<Small>, J>,
-    tx: &mut Pending,
-    write: Write,
-) -> Result<u64, Refusal>
-    requires here { shard.now ≡ small_seat }
-    requires schema { schema.now ≡ small_schema }
-    requires typed { IsTypedWrite small_schema write }
-    requires placed { IsPlaced small_schema small_shard.place write }
-    requires session { IsSome pass.old.session }
-    requires tied { IsHere tx.old pass.old }
-    ensures session { IsSome pass.new.session }
-    ensures tied { IsHere tx.new pass.new }
-{
-    shard.write_in(rt, alloc, pass, tx, schema, write)
-}
-
-// INSERT INTO t VALUES (id, NULL) as the next statement of the transaction.
-fn insert_in<J: Naming>(
-    rt: &impl Wait,
-    alloc: Global,
-    shard: &Shard<Small, J>,
-    schema: &VSchema,
-    pass: &mut Pass<ShardLaw<Small>, J>,
-    tx: &mut Pending,
-    id: u64,
-) -> Result<u64, Refusal>
-    requires here { shard.now ≡ small_seat }
-    requires schema { schema.now ≡ small_schema }
-    requires below { id < 4 }
-    requires session { IsSome pass.old.session }
-    requires tied { IsHere tx.old pass.old }
-    ensures session { IsSome pass.new.session }
-    ensures tied { IsHere tx.new pass.new }
-{
-    pass.next_statement()?;
-    let row = insert(alloc, id)?;
-    write_in(rt, alloc, shard, schema, pass, tx, row)
-}
-
-// How many rows a query gives as the statement of the transaction.
-fn rows_by<J: Naming>(
-    rt: &impl Wait,
-    alloc: Global,
-    shard: &Shard<Small, J>,
-    pass: &mut Pass<ShardLaw<Small>, J>,
-    tx: &mut Pending,
-    query: &Query,
-) -> Result<usize, Refusal>
-    requires here { shard.now ≡ small_seat }
-    requires there { query.now.table ≡ 0 }
-    requires session { IsSome pass.old.session }
-    requires above { (n : ℕ) → pass.old.session ≡ Some n → NumbersBelow commit_of n pass.old.statements pass.old.seen }
-    requires tied { IsHere tx.old pass.old }
-    ensures session { IsSome pass.new.session }
-    ensures tied { IsHere tx.new pass.new }
-{
-    match shard.read_in(rt, alloc, pass, tx, query) {
-        Ok(reading) => Ok(reading.rows.len()),
-        Err(refusal) => Err(refusal),
+impl<J: Naming, R: Wait + Abort> Session<'_, J, R> {
+    // A write of the transaction's statement.
+    fn write_in(&mut self, tx: &mut Pending, write: Write) -> Result<u64, Refusal>
+        requires typed { IsTypedWrite small_schema write }
+        requires placed { IsPlaced small_schema small_shard.place write }
+        requires tied { IsHere tx.old self.old.pass }
+        ensures tied { IsHere tx.new self.new.pass }
+    {
+        self.shard.write_in(self.rt, self.alloc, &mut self.pass, tx, self.schema, write)
     }
-}
 
-// How many rows SELECT id FROM t gives as the next statement of the transaction.
-fn rows_in<J: Naming>(
-    rt: &impl Wait,
-    alloc: Global,
-    shard: &Shard<Small, J>,
-    pass: &mut Pass<ShardLaw<Small>, J>,
-    tx: &mut Pending,
-) -> Result<usize, Refusal>
-    requires here { shard.now ≡ small_seat }
-    requires session { IsSome pass.old.session }
-    requires tied { IsHere tx.old pass.old }
-    ensures session { IsSome pass.new.session }
-    ensures tied { IsHere tx.new pass.new }
-{
-    pass.next_statement()?;
-    let query = query(alloc, Item::Column(0))?;
-    rows_by(rt, alloc, shard, pass, tx, &query)
-}
+    // INSERT INTO t VALUES (id, NULL) as the next statement of the transaction.
+    fn insert_in(&mut self, tx: &mut Pending, id: u64) -> Result<u64, Refusal>
+        requires tied { IsHere tx.old self.old.pass }
+        ensures tied { IsHere tx.new self.new.pass }
+    {
+        self.next_statement()?;
+        let row = written(self.alloc, Act::Insert(id))?;
+        self.write_in(tx, row)
+    }
 
-// COMMIT of what the transaction has written.
-fn commit_in<J: Naming>(
-    rt: &impl Wait,
-    alloc: Global,
-    shard: &Shard<Small, J>,
-    pass: &mut Pass<ShardLaw<Small>, J>,
-    tx: &mut Pending,
-) -> Result<(), Refusal>
-    requires here { shard.now ≡ small_seat }
-    requires session { IsSome pass.old.session }
-    requires tied { IsHere tx.old pass.old }
-    ensures session { IsSome pass.new.session }
-{
-    pass.next_statement()?;
-    shard.commit_in(rt, alloc, pass, tx)
-}
+    // How many rows a query gives as the statement of the transaction.
+    fn rows_by(&mut self, tx: &mut Pending, query: &Query) -> Result<usize, Refusal>
+        requires there { query.now.table ≡ 0 }
+        requires above { IsNumbered self.old.pass }
+        requires tied { IsHere tx.old self.old.pass }
+        ensures tied { IsHere tx.new self.new.pass }
+    {
+        match self
+            .shard
+            .read_in(self.rt, self.alloc, &mut self.pass, tx, query)
+        {
+            Ok(reading) => Ok(reading.rows.len()),
+            Err(refusal) => Err(refusal),
+        }
+    }
 
-// Its write is seen by it.
-fn insert_and_read<J: Naming, R: Wait + Abort>(
-    rt: &R,
-    alloc: Global,
-    shard: &Shard<Small, J>,
-    schema: &VSchema,
-    pass: &mut Pass<ShardLaw<Small>, J>,
-    tx: &mut Pending,
-) -> Result<(), Refusal>
-    requires here { shard.now ≡ small_seat }
-    requires schema { schema.now ≡ small_schema }
-    requires session { IsSome pass.old.session }
-    requires tied { IsHere tx.old pass.old }
-    ensures session { IsSome pass.new.session }
-    ensures tied { IsHere tx.new pass.new }
-{
-    let added = insert_in(rt, alloc, shard, schema, pass, tx, 1)?;
-    assert!(rt; added == 1);
-    let rows = rows_in(rt, alloc, shard, pass, tx)?;
-    assert!(rt; rows == 1);
-    Ok(())
-}
+    // How many rows SELECT id FROM t gives as the next statement of the transaction.
+    fn rows_in(&mut self, tx: &mut Pending) -> Result<usize, Refusal>
+        requires tied { IsHere tx.old self.old.pass }
+        ensures tied { IsHere tx.new self.new.pass }
+    {
+        self.next_statement()?;
+        let query = query(self.alloc, Item::Column(0))?;
+        let rows = self.rows_by(tx, &query);
+        drop(query);
+        rows
+    }
 
-// Another session sees it once it is committed.
-fn commit_beside<J: Naming, R: Wait + Abort>(
-    rt: &R,
-    alloc: Global,
-    shard: &Shard<Small, J>,
-    pass: &mut Pass<ShardLaw<Small>, J>,
-    other: &mut Pass<ShardLaw<Small>, J>,
-    tx: &mut Pending,
-) -> Result<(), Refusal>
-    requires here { shard.now ≡ small_seat }
-    requires session { IsSome pass.old.session }
-    requires other { IsSome other.old.session }
-    requires tied { IsHere tx.old pass.old }
-    ensures session { IsSome pass.new.session }
-    ensures other { IsSome other.new.session }
-{
-    let before = counts(rt, alloc, shard, other)?;
-    assert!(rt; before == (0, 0));
-    commit_in(rt, alloc, shard, pass, tx)?;
-    let behind = counts(rt, alloc, shard, other)?;
-    assert!(rt; behind == (1, 1));
-    Ok(())
-}
+    // COMMIT of what the transaction has written.
+    fn commit_in(&mut self, tx: &mut Pending) -> Result<(), Refusal>
+        requires tied { IsHere tx.old self.old.pass }
+    {
+        self.next_statement()?;
+        self.shard
+            .commit_in(self.rt, self.alloc, &mut self.pass, tx)
+    }
 
-fn write_and_commit<J: Naming, R: Wait + Abort>(
-    rt: &R,
-    alloc: Global,
-    shard: &Shard<Small, J>,
-    schema: &VSchema,
-    pass: &mut Pass<ShardLaw<Small>, J>,
-    other: &mut Pass<ShardLaw<Small>, J>,
-    tx: &mut Pending,
-) -> Result<(), Refusal>
-    requires here { shard.now ≡ small_seat }
-    requires schema { schema.now ≡ small_schema }
-    requires session { IsSome pass.old.session }
-    requires other { IsSome other.old.session }
-    requires tied { IsHere tx.old pass.old }
-    ensures session { IsSome pass.new.session }
-    ensures other { IsSome other.new.session }
-{
-    insert_and_read(rt, alloc, shard, schema, pass, tx)?;
-    commit_beside(rt, alloc, shard, pass, other, tx)
-}
+    // Whether its shard still is as it was, by how many entries the shard has.
+    fn checked(&mut self, tx: &Pending, given: Result<u64, Refusal>) {
+        let told = self.shard.check(self.rt, &mut self.pass, tx);
+        assert!(self.rt; told == given);
+    }
 
-// Whether its shard still is as it was, by how many entries the shard has.
-fn checked<J: Naming, R: Wait + Abort>(
-    rt: &R,
-    shard: &Shard<Small, J>,
-    pass: &mut Pass<ShardLaw<Small>, J>,
-    tx: &Pending,
-    given: Result<u64, Refusal>,
-)
-    requires here { shard.now ≡ small_seat }
-    requires session { IsSome pass.old.session }
-    ensures session { IsSome pass.new.session }
-{
-    let told = shard.check(rt, pass, tx);
-    assert!(rt; told == given);
-}
+    // Its write is seen by it.
+    fn insert_and_read(&mut self, tx: &mut Pending) -> Result<(), Refusal>
+        requires tied { IsHere tx.old self.old.pass }
+        ensures tied { IsHere tx.new self.new.pass }
+    {
+        let added = self.insert_in(tx, 1)?;
+        assert!(self.rt; added == 1);
+        let rows = self.rows_in(tx)?;
+        assert!(self.rt; rows == 1);
+        Ok(())
+    }
 
-// Another session's change of its table ends it.
-fn read_and_conflict<J: Naming, R: Wait + Abort>(
-    rt: &R,
-    alloc: Global,
-    shard: &Shard<Small, J>,
-    schema: &VSchema,
-    pass: &mut Pass<ShardLaw<Small>, J>,
-    other: &mut Pass<ShardLaw<Small>, J>,
-    tx: &mut Pending,
-) -> Result<(), Refusal>
-    requires here { shard.now ≡ small_seat }
-    requires schema { schema.now ≡ small_schema }
-    requires session { IsSome pass.old.session }
-    requires other { IsSome other.old.session }
-    requires tied { IsHere tx.old pass.old }
-{
-    let rows = rows_in(rt, alloc, shard, pass, tx)?;
-    assert!(rt; rows == 1);
-    checked(rt, shard, pass, tx, Ok(1));
-    let added = insert_row(rt, alloc, shard, schema, other, 2)?;
-    assert!(rt; added == 1);
-    checked(rt, shard, pass, tx, Err(Refusal::Conflict));
-    Ok(())
-}
+    // Another session sees it once it is committed.
+    fn commit_beside(
+        &mut self,
+        other: &mut Session<'_, J, R>,
+        tx: &mut Pending,
+    ) -> Result<(), Refusal>
+        requires tied { IsHere tx.old self.old.pass }
+    {
+        let before = other.counts()?;
+        assert!(self.rt; before == (0, 0));
+        self.commit_in(tx)?;
+        let behind = other.counts()?;
+        assert!(self.rt; behind == (1, 1));
+        Ok(())
+    }
 
-fn first_transaction<J: Naming, R: Wait + Abort>(
-    rt: &R,
-    alloc: Global,
-    shard: &Shard<Small, J>,
-    schema: &VSchema,
-    pass: &mut Pass<ShardLaw<Small>, J>,
-    other: &mut Pass<ShardLaw<Small>, J>,
-) -> Result<(), Refusal>
-    requires here { shard.now ≡ small_seat }
-    requires schema { schema.now ≡ small_schema }
-    requires session { IsSome pass.old.session }
-    requires other { IsSome other.old.session }
-    ensures session { IsSome pass.new.session }
-    ensures other { IsSome other.new.session }
-{
-    let mut tx = begin(alloc, pass);
-    write_and_commit(rt, alloc, shard, schema, pass, other, &mut tx)
-}
+    // Another session's change of its table ends it.
+    fn read_and_conflict(
+        &mut self,
+        other: &mut Session<'_, J, R>,
+        tx: &mut Pending,
+    ) -> Result<(), Refusal>
+        requires tied { IsHere tx.old self.old.pass }
+    {
+        let rows = self.rows_in(tx)?;
+        assert!(self.rt; rows == 1);
+        self.checked(tx, Ok(1));
+        let added = other.run(Act::Insert(2))?;
+        assert!(self.rt; added == 1);
+        self.checked(tx, Err(Refusal::Conflict));
+        Ok(())
+    }
 
-fn second_transaction<J: Naming, R: Wait + Abort>(
-    rt: &R,
-    alloc: Global,
-    shard: &Shard<Small, J>,
-    schema: &VSchema,
-    pass: &mut Pass<ShardLaw<Small>, J>,
-    other: &mut Pass<ShardLaw<Small>, J>,
-) -> Result<(), Refusal>
-    requires here { shard.now ≡ small_seat }
-    requires schema { schema.now ≡ small_schema }
-    requires session { IsSome pass.old.session }
-    requires other { IsSome other.old.session }
-{
-    let mut tx = begin(alloc, pass);
-    read_and_conflict(rt, alloc, shard, schema, pass, other, &mut tx)
-}
+    fn first_transaction(&mut self, other: &mut Session<'_, J, R>) -> Result<(), Refusal> {
+        let mut tx = begin(self.alloc, &self.pass);
+        self.insert_and_read(&mut tx)?;
+        self.commit_beside(other, &mut tx)
+    }
 
-fn both<J: Naming, R: Wait + Abort>(
-    rt: &R,
-    alloc: Global,
-    shard: &Shard<Small, J>,
-    schema: &VSchema,
-    pass: &mut Pass<ShardLaw<Small>, J>,
-    other: &mut Pass<ShardLaw<Small>, J>,
-) -> Result<(), Refusal>
-    requires here { shard.now ≡ small_seat }
-    requires schema { schema.now ≡ small_schema }
-    requires session { IsSome pass.old.session }
-    requires other { IsSome other.old.session }
-{
-    first_transaction(rt, alloc, shard, schema, pass, other)?;
-    second_transaction(rt, alloc, shard, schema, pass, other)
-}
+    fn second_transaction(&mut self, other: &mut Session<'_, J, R>) -> Result<(), Refusal> {
+        let mut tx = begin(self.alloc, &self.pass);
+        self.read_and_conflict(other, &mut tx)
+    }
 
-fn both_beside<J: Naming, R: Wait + Abort>(
-    rt: &R,
-    alloc: Global,
-    shard: &Shard<Small, J>,
-    schema: &VSchema,
-    opener: &mut Opener<ShardLaw<Small>, J>,
-    first: &mut Pass<ShardLaw<Small>, J>,
-    pass: &mut Pass<ShardLaw<Small>, J>,
-) -> Result<(), Refusal>
-    requires here { shard.now ≡ small_seat }
-    requires schema { schema.now ≡ small_schema }
-    requires session { IsSome pass.old.session }
-{
-    let mut other = opener.open(first)?;
-    both(rt, alloc, shard, schema, pass, &mut other)
-}
-
-// One session's transactions, and another session.
-pub(crate) fn transactions<J: Naming, R: Wait + Abort>(
-    rt: &R,
-    alloc: Global,
-    shard: &Shard<Small, J>,
-    schema: &VSchema,
-    opener: &mut Opener<ShardLaw<Small>, J>,
-    first: &mut Pass<ShardLaw<Small>, J>,
-) -> Result<(), Refusal>
-    requires here { shard.now ≡ small_seat }
-    requires schema { schema.now ≡ small_schema }
-{
-    let mut pass = opener.open(first)?;
-    both_beside(rt, alloc, shard, schema, opener, first, &mut pass)
+    // Two transactions of the session, and another session.
+    pub(crate) fn transactions(&mut self, other: &mut Session<'_, J, R>) -> Result<(), Refusal> {
+        self.first_transaction(other)?;
+        self.second_transaction(other)
+    }
 }
 
 #[test]

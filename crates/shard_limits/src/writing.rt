@@ -1,17 +1,15 @@
 //! Writes and reads of one small shard.
-ghost use Rattle.std.specs.Prelude.{◌≡◌, ◌<◌, ◌∷◌, [], ℕ, Some, IsSome, IfOk};
+ghost use Rattle.std.specs.Prelude.{◌≡◌, ◌∷◌, [], IfOk};
 ghost use Rattle.vschema.specs.TypedWrites.{IsTypedWrite};
-ghost use Rattle.journal.specs.Runs.{NumbersBelow};
 ghost use Rattle.journal.specs.Views.{fresh_seats};
 ghost use Rattle.shard_contents.specs.Commits.{IsPlaced};
-ghost use Rattle.shard_contents.specs.Shards.{commit_of};
-ghost use Rattle.shard_limits.specs.SmallWorld.{small_schema, small_shard};
-ghost use Rattle.shard_limits.specs.inner.SmallWorld.{small_seat, insert_of, update_all, delete_all};
+ghost use Rattle.shard_limits.specs.SmallWorld.{small_columns, small_schema, small_shard};
+ghost use Rattle.shard_limits.specs.inner.SmallWorld.{insert_of, update_all, delete_all, IsNumbered};
 
-use crate::playing::{Turn, play};
-use journal::{Naming, Opener, Pass, ShardSeat};
+use crate::playing::{Session, Turn, play};
+use journal::{Naming, ShardSeat};
 use keyrange::KeyRange;
-use shard::{Committed, Limits, Read, Shard, ShardLaw, ShardState, Store, World};
+use shard::{Committed, Limits, Read, ShardLaw, ShardState, Store, World};
 use shard_run::Mode;
 use sql_tree::{Assignment, Item};
 use std::alloc::Global;
@@ -59,30 +57,55 @@ fn column(alloc: Global, name: &[u8], nullable: bool) -> Result<Column, Refusal>
     })
 }
 
-pub(crate) fn schema(alloc: Global) -> Result<VSchema, Refusal>
-    ensures { IfOk result (λ schema. schema ≡ small_schema) }
+fn columns(alloc: Global) -> Result<Columns, Refusal>
+    ensures { IfOk result (λ columns. columns ≡ small_columns) }
 {
-    let keyspace = Keyspace {
-        name: Items::from_slice(alloc, b"shop")?,
-        sharded: false,
-    };
     let mut columns = Columns::new(alloc);
     columns.insert(column(alloc, b"id", false)?)?;
     columns.insert(column(alloc, b"c", true)?)?;
-    let table = Table {
-        name: Items::from_slice(alloc, b"t")?,
-        keyspace: 0,
-        columns,
-        primary_key: one(alloc, 0)?,
-        vindex: None,
-    };
-    Ok(VSchema {
-        keyspaces: one(alloc, keyspace)?,
-        tables: one(alloc, table)?,
-    })
+    Ok(columns)
 }
 
-pub(crate) fn insert(alloc: Global, id: u64) -> Result<Write, Refusal>
+fn tables(alloc: Global) -> Result<Items<Table>, Refusal>
+    ensures { IfOk result (λ tables. tables ≡ small_schema.tables) }
+{
+    let name = Items::from_slice(alloc, b"t")?;
+    let columns = columns(alloc)?;
+    let primary_key = one(alloc, 0)?;
+    one(
+        alloc,
+        Table {
+            name,
+            keyspace: 0,
+            columns,
+            primary_key,
+            vindex: None,
+        },
+    )
+}
+
+fn keyspaces(alloc: Global) -> Result<Items<Keyspace>, Refusal>
+    ensures { IfOk result (λ keyspaces. keyspaces ≡ small_schema.keyspaces) }
+{
+    let name = Items::from_slice(alloc, b"shop")?;
+    one(
+        alloc,
+        Keyspace {
+            name,
+            sharded: false,
+        },
+    )
+}
+
+pub(crate) fn schema(alloc: Global) -> Result<VSchema, Refusal>
+    ensures { IfOk result (λ schema. schema ≡ small_schema) }
+{
+    let tables = tables(alloc)?;
+    let keyspaces = keyspaces(alloc)?;
+    Ok(VSchema { keyspaces, tables })
+}
+
+fn insert(alloc: Global, id: u64) -> Result<Write, Refusal>
     ensures { IfOk result (λ w. w ≡ insert_of id) }
 {
     let row = two(alloc, Value::Int(id as i128), Value::Null)?;
@@ -105,7 +128,29 @@ fn delete() -> Write
     Write::Delete(0, None)
 }
 
-pub(crate) fn place() -> Place
+/// A statement.
+#[derive(Clone, Copy)]
+pub(crate) enum Act {
+    // of a row with this id, which is less than 4
+    Insert(u64),
+    Update,
+    Delete,
+}
+
+/// What a statement writes.
+pub(crate) fn written(alloc: Global, act: Act) -> Result<Write, Refusal>
+    ensures typed { IfOk result (λ w. IsTypedWrite small_schema w) }
+    ensures placed { IfOk result (λ w. IsPlaced small_schema small_shard.place w) }
+{
+    match act {
+        Act::Insert(id) if id < 4 => insert(alloc, id),
+        Act::Insert(_) => Err(Refusal::NotSupported),
+        Act::Update => update(alloc),
+        Act::Delete => Ok(delete()),
+    }
+}
+
+fn place() -> Place
     ensures { result ≡ small_shard.place }
 {
     Place {
@@ -147,112 +192,6 @@ pub(crate) fn state<J: Naming>(
     Ok(ShardState::new(alloc, seat, shard(alloc), store, Mode::Serving, limits))
 }
 
-// A write that the shard, which always serves, gave back.
-fn not_taken(_write: Write) -> Result<u64, Refusal> {
-    Err(Refusal::NotSupported)
-}
-
-// A write of the session's statement.
-fn write<J: Naming>(
-    rt: &impl Wait,
-    alloc: Global,
-    shard: &Shard<Small, J>,
-    schema: &VSchema,
-    pass: &mut Pass<ShardLaw<Small>, J>,
-    write: Write,
-) -> Result<u64, Refusal>
-    requires here { shard.now ≡ small_seat }
-    requires schema { schema.now ≡ small_schema }
-    requires typed { IsTypedWrite small_schema write }
-    requires placed { IsPlaced small_schema small_shard.place write }
-    requires session { IsSome pass.old.session }
-    requires above { (n : ℕ) → pass.old.session ≡ Some n → NumbersBelow commit_of n pass.old.statements pass.old.seen }
-    ensures session { IsSome pass.new.session }
-{
-    match shard.commit(rt, alloc, pass, schema, write) {
-        Ok(Committed::Count(count)) => Ok(count),
-        Ok(Committed::Frozen(write)) => not_taken(write),
-        Ok(Committed::NotServing(write)) => not_taken(write),
-        Err(refusal) => Err(refusal),
-    }
-}
-
-// INSERT INTO t VALUES (id, NULL)
-pub(crate) fn insert_row<J: Naming>(
-    rt: &impl Wait,
-    alloc: Global,
-    shard: &Shard<Small, J>,
-    schema: &VSchema,
-    pass: &mut Pass<ShardLaw<Small>, J>,
-    id: u64,
-) -> Result<u64, Refusal>
-    requires here { shard.now ≡ small_seat }
-    requires schema { schema.now ≡ small_schema }
-    requires below { id < 4 }
-    requires session { IsSome pass.old.session }
-    ensures session { IsSome pass.new.session }
-{
-    pass.next_statement()?;
-    let row = insert(alloc, id)?;
-    write(rt, alloc, shard, schema, pass, row)
-}
-
-// The same, once more where the first had no memory: a commit that was refused for it has changed nothing.
-fn insert_again<J: Naming>(
-    rt: &impl Wait,
-    alloc: Global,
-    shard: &Shard<Small, J>,
-    schema: &VSchema,
-    pass: &mut Pass<ShardLaw<Small>, J>,
-    id: u64,
-) -> Result<u64, Refusal>
-    requires here { shard.now ≡ small_seat }
-    requires schema { schema.now ≡ small_schema }
-    requires below { id < 4 }
-    requires session { IsSome pass.old.session }
-    ensures session { IsSome pass.new.session }
-{
-    match insert_row(rt, alloc, shard, schema, pass, id) {
-        Err(Refusal::OutOfMemory) => insert_row(rt, alloc, shard, schema, pass, id),
-        done => done,
-    }
-}
-
-// UPDATE t SET c = 7
-fn update_rows<J: Naming>(
-    rt: &impl Wait,
-    alloc: Global,
-    shard: &Shard<Small, J>,
-    schema: &VSchema,
-    pass: &mut Pass<ShardLaw<Small>, J>,
-) -> Result<u64, Refusal>
-    requires here { shard.now ≡ small_seat }
-    requires schema { schema.now ≡ small_schema }
-    requires session { IsSome pass.old.session }
-    ensures session { IsSome pass.new.session }
-{
-    pass.next_statement()?;
-    let sevens = update(alloc)?;
-    write(rt, alloc, shard, schema, pass, sevens)
-}
-
-// DELETE FROM t
-fn delete_rows<J: Naming>(
-    rt: &impl Wait,
-    alloc: Global,
-    shard: &Shard<Small, J>,
-    schema: &VSchema,
-    pass: &mut Pass<ShardLaw<Small>, J>,
-) -> Result<u64, Refusal>
-    requires here { shard.now ≡ small_seat }
-    requires schema { schema.now ≡ small_schema }
-    requires session { IsSome pass.old.session }
-    ensures session { IsSome pass.new.session }
-{
-    pass.next_statement()?;
-    write(rt, alloc, shard, schema, pass, delete())
-}
-
 // SELECT item FROM t
 pub(crate) fn query(alloc: Global, item: Item<usize>) -> Result<Query, Refusal>
     ensures { IfOk result (λ query. query.table ≡ 0) }
@@ -265,21 +204,6 @@ pub(crate) fn query(alloc: Global, item: Item<usize>) -> Result<Query, Refusal>
         order_by: Items::new(alloc),
         limit: None,
     })
-}
-
-// What the shard, which always serves, gives for SELECT item FROM t.
-fn read<J: Naming>(
-    rt: &impl Wait,
-    alloc: Global,
-    shard: &Shard<Small, J>,
-    pass: &mut Pass<ShardLaw<Small>, J>,
-    item: Item<usize>,
-) -> Result<Read, Refusal>
-    requires { IsSome pass.old.session }
-    ensures { IsSome pass.new.session }
-{
-    let query = query(alloc, item)?;
-    shard.read(rt, alloc, pass, &query)
 }
 
 // The number of a row that has nothing else.
@@ -309,132 +233,107 @@ fn counts_of(read: &Read) -> (usize, u64) {
     }
 }
 
-// What COUNT(*) gives.
-fn counted<J: Naming>(
-    rt: &impl Wait,
-    alloc: Global,
-    shard: &Shard<Small, J>,
-    pass: &mut Pass<ShardLaw<Small>, J>,
-) -> Result<Option<i128>, Refusal>
-    requires session { IsSome pass.old.session }
-    ensures session { IsSome pass.new.session }
-{
-    let read = read(rt, alloc, shard, pass, Item::CountRows)?;
-    Ok(number_of(&read))
+// A write that the shard, which always serves, gave back.
+fn not_taken(write: Write) -> Result<u64, Refusal> {
+    drop(write);
+    Err(Refusal::NotSupported)
 }
 
-// How many rows the shard has, and how many entries.
-pub(crate) fn counts<J: Naming>(
-    rt: &impl Wait,
-    alloc: Global,
-    shard: &Shard<Small, J>,
-    pass: &mut Pass<ShardLaw<Small>, J>,
-) -> Result<(usize, u64), Refusal>
-    requires session { IsSome pass.old.session }
-    ensures session { IsSome pass.new.session }
-{
-    let read = read(rt, alloc, shard, pass, Item::Column(0))?;
-    Ok(counts_of(&read))
-}
-
-/// A statement.
-#[derive(Clone, Copy)]
-enum Act {
-    // of a row with this id, which is less than 4
-    Insert(u64),
-    Update,
-    Delete,
-}
-
-// What the session's next statement gives.
-fn take<J: Naming>(
-    rt: &impl Wait,
-    alloc: Global,
-    shard: &Shard<Small, J>,
-    schema: &VSchema,
-    pass: &mut Pass<ShardLaw<Small>, J>,
-    act: Act,
-) -> Result<u64, Refusal>
-    requires here { shard.now ≡ small_seat }
-    requires schema { schema.now ≡ small_schema }
-    requires session { IsSome pass.old.session }
-    ensures session { IsSome pass.new.session }
-{
-    match act {
-        Act::Insert(id) if id < 4 => insert_again(rt, alloc, shard, schema, pass, id),
-        Act::Insert(_) => Err(Refusal::NotSupported),
-        Act::Update => update_rows(rt, alloc, shard, schema, pass),
-        Act::Delete => delete_rows(rt, alloc, shard, schema, pass),
+impl<J: Naming, R: Wait + Abort> Session<'_, J, R> {
+    /// Numbers the session's next statement. What it has seen stays, so a transaction is where it was.
+    pub(crate) fn next_statement(&mut self) -> Result<(), Refusal>
+        ensures seen { self.new.pass.seen ≡ self.old.pass.seen }
+        ensures above { IfOk result (λ _. IsNumbered self.new.pass) }
+    {
+        self.pass.next_statement()?;
+        Ok(())
     }
-}
 
-// A statement gives this, and leaves so many rows and entries.
-fn step<J: Naming, R: Wait + Abort>(
-    rt: &R,
-    alloc: Global,
-    shard: &Shard<Small, J>,
-    schema: &VSchema,
-    pass: &mut Pass<ShardLaw<Small>, J>,
-    act: Act,
-    given: Result<u64, Refusal>,
-    after: (u8, u64),
-) -> Result<(), Refusal>
-    requires here { shard.now ≡ small_seat }
-    requires schema { schema.now ≡ small_schema }
-    requires session { IsSome pass.old.session }
-    ensures session { IsSome pass.new.session }
-{
-    let (rows, entries) = after;
-    let told = take(rt, alloc, shard, schema, pass, act);
-    assert!(rt; told == given);
-    let counts = counts(rt, alloc, shard, pass)?;
-    assert!(rt; counts == (usize::from(rows), entries));
-    let counted = counted(rt, alloc, shard, pass)?;
-    assert!(rt; counted == Some(i128::from(rows)));
-    Ok(())
-}
-
-// A key that is there, the limit of rows and the limit of stored entries refuse, and then nothing has changed.
-fn steps<J: Naming, R: Wait + Abort>(
-    rt: &R,
-    alloc: Global,
-    shard: &Shard<Small, J>,
-    schema: &VSchema,
-    pass: &mut Pass<ShardLaw<Small>, J>,
-) -> Result<(), Refusal>
-    requires here { shard.now ≡ small_seat }
-    requires schema { schema.now ≡ small_schema }
-    requires session { IsSome pass.old.session }
-{
-    let steps = [
-        (Act::Insert(1), Ok(1), (1, 1)),
-        (Act::Insert(1), Err(Refusal::DuplicateKey), (1, 1)),
-        (Act::Insert(2), Ok(1), (2, 2)),
-        (Act::Insert(3), Err(Refusal::ShardFull), (2, 2)),
-        (Act::Update, Ok(2), (2, 3)),
-        (Act::Delete, Ok(2), (0, 4)),
-        (Act::Insert(1), Err(Refusal::ShardFull), (0, 4)),
-    ];
-    for (act, given, after) in steps {
-        step(rt, alloc, shard, schema, pass, act, given, after)?;
+    // A write of the session's statement.
+    fn write(&mut self, write: Write) -> Result<u64, Refusal>
+        requires typed { IsTypedWrite small_schema write }
+        requires placed { IsPlaced small_schema small_shard.place write }
+        requires above { IsNumbered self.old.pass }
+    {
+        match self
+            .shard
+            .commit(self.rt, self.alloc, &mut self.pass, self.schema, write)
+        {
+            Ok(Committed::Count(count)) => Ok(count),
+            Ok(Committed::Frozen(write)) => not_taken(write),
+            Ok(Committed::NotServing(write)) => not_taken(write),
+            Err(refusal) => Err(refusal),
+        }
     }
-    Ok(())
-}
 
-// The same by a session of its own.
-pub(crate) fn writes<J: Naming, R: Wait + Abort>(
-    rt: &R,
-    alloc: Global,
-    shard: &Shard<Small, J>,
-    schema: &VSchema,
-    opener: &mut Opener<ShardLaw<Small>, J>,
-    first: &mut Pass<ShardLaw<Small>, J>,
-) -> Result<(), Refusal>
-    requires here { shard.now ≡ small_seat }
-    requires schema { schema.now ≡ small_schema }
-{
-    let mut pass = opener.open(first)?;
-    steps(rt, alloc, shard, schema, &mut pass)
+    /// What the session's next statement gives.
+    pub(crate) fn run(&mut self, act: Act) -> Result<u64, Refusal> {
+        self.next_statement()?;
+        let write = written(self.alloc, act)?;
+        self.write(write)
+    }
+
+    // The same, once more where the first had no memory: a commit that was refused for it has changed nothing.
+    fn run_again(&mut self, act: Act) -> Result<u64, Refusal> {
+        match self.run(act) {
+            Err(Refusal::OutOfMemory) => self.run(act),
+            done => done,
+        }
+    }
+
+    // What the shard, which always serves, gives for SELECT item FROM t.
+    fn read(&mut self, item: Item<usize>) -> Result<Read, Refusal> {
+        let query = query(self.alloc, item)?;
+        let read = self.shard.read(self.rt, self.alloc, &mut self.pass, &query);
+        drop(query);
+        read
+    }
+
+    // What COUNT(*) gives.
+    fn counted(&mut self) -> Result<Option<i128>, Refusal> {
+        let read = self.read(Item::CountRows)?;
+        Ok(number_of(&read))
+    }
+
+    /// How many rows the shard has, and how many entries.
+    pub(crate) fn counts(&mut self) -> Result<(usize, u64), Refusal> {
+        let read = self.read(Item::Column(0))?;
+        Ok(counts_of(&read))
+    }
+
+    // A statement gives this, and leaves so many rows and entries.
+    fn step(
+        &mut self,
+        act: Act,
+        given: Result<u64, Refusal>,
+        after: (u8, u64),
+    ) -> Result<(), Refusal> {
+        let (rows, entries) = after;
+        let told = self.run_again(act);
+        assert!(self.rt; told == given);
+        let counts = self.counts()?;
+        assert!(self.rt; counts == (usize::from(rows), entries));
+        let counted = self.counted()?;
+        assert!(self.rt; counted == Some(i128::from(rows)));
+        Ok(())
+    }
+
+    /// A key that is there, the limit of rows and the limit of stored entries refuse, and then nothing has changed.
+    pub(crate) fn writes(&mut self) -> Result<(), Refusal> {
+        let steps = [
+            (Act::Insert(1), Ok(1), (1, 1)),
+            (Act::Insert(1), Err(Refusal::DuplicateKey), (1, 1)),
+            (Act::Insert(2), Ok(1), (2, 2)),
+            (Act::Insert(3), Err(Refusal::ShardFull), (2, 2)),
+            (Act::Update, Ok(2), (2, 3)),
+            (Act::Delete, Ok(2), (0, 4)),
+            (Act::Insert(1), Err(Refusal::ShardFull), (0, 4)),
+        ];
+        for (act, given, after) in steps {
+            self.step(act, given, after)?;
+        }
+        Ok(())
+    }
 }
 
 #[test]

@@ -1,12 +1,14 @@
 -- Statements of the tests over the small shard.
-use Rattle.std.specs.Prelude.{◌≡◌, ℕ, [], ◌∷◌, pos, None}
+use Rattle.std.specs.Prelude.{◌≡◌, ℕ, [], ◌∷◌, pos, None, Some}
 use Rattle.vt_value.specs.declared.value.Value.TheVariants.{Null, Int}
 use Rattle.vschema.specs.declared.changes.Write.{Write}
 use Rattle.vschema.specs.declared.changes.Write.TheVariants.{Insert, Update, Delete}
 use Rattle.serving.specs.Partitions.{Seat}
 use Rattle.shard_run.specs.declared.Shard.{Shard}
 use Rattle.shard_run.specs.declared.Entry.{Entry}
+use Rattle.journal.specs.Runs.{NumbersBelow}
 use Rattle.journal.specs.Views.{PassView}
+use Rattle.shard_contents.specs.Shards.{commit_of}
 use Rattle.shard_contents.specs.Transactions.{PendingView, IsPendingOf}
 use Rattle.shard_limits.specs.SmallWorld.{small_shard, small_opening}
 
@@ -29,3 +31,7 @@ delete_all = Delete 0 None
 -- what is kept of a transaction is one of the pass's session on the small shard
 abbrev pub IsHere : PendingView → PassView Entry → Type 0
 IsHere tx p = (s : Shard) → s.slot ≡ 0 → s.place ≡ small_shard.place → IsPendingOf small_opening s tx p
+
+-- the statement of the pass's session is above those of all commits of the session that the pass has seen
+abbrev pub IsNumbered : PassView Entry → Type 0
+IsNumbered p = (n : ℕ) → p.session ≡ Some n → NumbersBelow commit_of n p.statements p.seen

@@ -1,4 +1,4 @@
-use Rattle.std.proofs.Common.{[], refl, lit<}
+use Rattle.std.proofs.Common.{[], refl}
 use Rattle.shard_law.proofs.Lists.{Contains-from_In}
 use Rattle.shard_contents.proofs.Legality.{on_its_slot}
 use Rattle.shard_contents.specs.Shards.{opening_shards}

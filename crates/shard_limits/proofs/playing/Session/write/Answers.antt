@@ -1,5 +1,4 @@
-use Rattle.std.proofs.Common.{◌≡◌, ℕ, Option, sym, ap, subst, ◌∙◌, rules}
-use Rattle.std.specs.Prelude.{IsSome}
+use Rattle.std.proofs.Common.{◌≡◌, ap, ◌∙◌}
 use Rattle.vschema.specs.declared.changes.Write.{Write}
 use Rattle.journal.specs.Views.{PassView}
 use Rattle.shard_run.specs.declared.Entry.{Entry}
@@ -9,7 +8,7 @@ use Rattle.shard_contents.specs.declared.limits.Limits.{Limits}
 use Rattle.shard_contents.specs.declared.outcomes.Committed.{Committed}
 use Rattle.shard_contents.specs.Commits as a
 use Rattle.shard_contents.specs.Commits.{HasAnswered}
-use Rattle.shard_limits.proofs.writing.write.Goals as goal
+use Rattle.shard_limits.proofs.playing.Session.write.Goals as goal
 
 -- what a shard answers leaves the session
 same_session : (o : Opening) (l : Limits) (s : Shard) (p : PassView Entry) (w : Write) (c : Committed) (now : PassView Entry) → HasAnswered o l s p w c now
@@ -19,4 +18,4 @@ same_session o l s p w _ now (a.frozen look m) = ap (λ (v : PassView Entry). v.
 same_session o l s p w _ now (a.not_serving look m) = ap (λ (v : PassView Entry). v.session) look.pass
 
 pub commit-requires-clause-placed : goal.commit-requires-clause-placed
-commit-requires-clause-placed g c = rw c.requires.here c.requires.placed
+commit-requires-clause-placed g c = rw c.args.self.now.here c.requires.placed
