@@ -3,10 +3,14 @@ and with that of lookup/main.rs where there is a compiler for it."""
 
 import datetime
 import os
+import statistics
 import subprocess
 import sys
 
 import lines
+
+# How often the store is loaded and asked.
+STORES = 7
 
 HEAD = """# Performance
 
@@ -115,9 +119,13 @@ def few(program):
 def store(program):
     print("\n## A store of rows\n\nMicroseconds a statement on one shard of few rows and on one of many, and a row of its loading by INSERTs of 1,000 rows. A SELECT")
     print("and an UPDATE by the whole primary key, and an INSERT of one row, look the key up; LIMIT 1 ends with its row, COUNT(*) walks all rows.")
+    print(f"Each figure is the middle one of {STORES} runs, in which few and many rows take turns.")
     rows, first, many = [], {}, number_of("STORE", 1_000_000)
-    for each in (max(many // 1000, 1), many):
-        for name, nanos in run_statements(program, 1, lines.asked(1, each, lines.BY_KEY)).items():
+    sizes = (max(many // 1000, 1), many)
+    runs = [{each: run_statements(program, 1, lines.asked(1, each, lines.BY_KEY)) for each in sizes} for _ in range(STORES)]
+    for each in sizes:
+        for name in runs[0][each]:
+            nanos = statistics.median(run[each][name] for run in runs)
             first.setdefault(name, nanos)
             rows.append((name, each, f"{nanos / 1000:.1f}", ratio(nanos, first[name])))
     table(("statement", "rows", "microseconds", "ratio"), rows)
