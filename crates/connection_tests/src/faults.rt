@@ -1,9 +1,13 @@
 //! Sessions whose devices are interrupted or fail.
-use crate::devices::{FailingSink, FailingSource, InterruptedReader};
-use crate::sessions::{DELETE_FIRST, serve_and_delete};
+use crate::devices::InterruptedReader;
+use crate::sessions::{DELETE_FIRST, Told, serve_and_delete};
+use failing_devices::{FailingSink, FailingSource};
 use session::{End, Reader, SessionFault, Writer};
 use std::alloc::Global;
+use std::process::Abort;
+use std::sync::Wait;
 use std::test::Fail;
+use std::thread::Threads;
 
 /// The response to the greeting of the user u without a password.
 const RESPONSE: &[u8] =
@@ -62,37 +66,47 @@ fn a_session_that_fails_drops_its_transaction(rt: HostRuntime) -> Result<(), Fai
     Ok(())
 }
 
-#[test]
-fn a_commit_whose_reply_is_not_written_stands(rt: HostRuntime) -> Result<(), Fail> {
-    let alloc = rt.alloc();
+/// What a session is told that deletes the first row, and whose sink fails behind so many writes; and how often the sink failed.
+fn told_behind<R: Threads + Wait + Sync>(
+    rt: &R,
+    alloc: Global,
+    writes_left: u32,
+) -> Result<(Told, u64), Fail> {
     let input = sent(alloc, &[DELETE_FIRST])?;
     let mut sink = FailingSink {
-        // the greeting, and the OK to the response
-        writes_left: 2,
+        writes_left,
         failures: 0,
     };
-    let told = serve_and_delete(&rt, alloc, &mut Reader::new(input.as_slice()), &mut sink)?;
+    let told = serve_and_delete(rt, alloc, &mut Reader::new(input.as_slice()), &mut sink)?;
+    Ok((told, sink.failures))
+}
+
+#[test]
+fn a_commit_whose_reply_is_not_written_stands(rt: HostRuntime) -> Result<(), Fail> {
+    // the greeting, and the OK to the response
+    let (told, _) = told_behind(&rt, rt.alloc(), 2)?;
     assert_eq!(rt; told.end, Err(SessionFault::Write));
     assert_eq!(rt; told.deleted.as_slice(), NONE_CHANGED);
     Ok(())
 }
 
+// Where the sink fails in the connection phase, nothing is written or run behind it.
+fn ends_behind<R: Threads + Wait + Sync + Abort>(
+    rt: &R,
+    alloc: Global,
+    writes_left: u32,
+) -> Result<(), Fail> {
+    let (told, failures) = told_behind(rt, alloc, writes_left)?;
+    assert_eq!(rt; told.end, Err(SessionFault::Write));
+    assert_eq!(rt; failures, 1);
+    assert_eq!(rt; told.deleted.as_slice(), ONE_CHANGED);
+    Ok(())
+}
+
 #[test]
 fn a_failing_sink_ends_a_session(rt: HostRuntime) -> Result<(), Fail> {
-    let alloc = rt.alloc();
-    let input = sent(alloc, &[DELETE_FIRST])?;
-    for writes_left in 0..2 {
-        let mut sink = FailingSink {
-            writes_left,
-            failures: 0,
-        };
-        let told = serve_and_delete(&rt, alloc, &mut Reader::new(input.as_slice()), &mut sink)?;
-        assert_eq!(rt; told.end, Err(SessionFault::Write));
-        // Nothing is written or run behind it.
-        assert_eq!(rt; sink.failures, 1);
-        assert_eq!(rt; told.deleted.as_slice(), ONE_CHANGED);
-    }
-    Ok(())
+    ends_behind(&rt, rt.alloc(), 0)?;
+    ends_behind(&rt, rt.alloc(), 1)
 }
 
 #[test]

@@ -1,14 +1,13 @@
 //! Sessions over one table of six rows, by devices of a test.
-ghost use Rattle.std.specs.Prelude.{◌≡◌, IsSome, IsTrue, IfOk};
-ghost use Rattle.std.specs.List.{AllByRecursion};
+ghost use Rattle.std.specs.Prelude.{◌≡◌, None, IsSome, IsTrue, IfOk};
 ghost use Rattle.keyrange.specs.Names.{IsNamed};
 ghost use Rattle.vschema.specs.WellFormed.{is_vschema};
 ghost use Rattle.shard_contents.specs.Shards.{most_limits};
 ghost use Rattle.empty_opening.specs.Empty.{opening_of, FitRanges};
 
-use empty_opening::opening_shards;
+use empty_opening::ranges_fit;
 use journal::{Naming, Opened, Opener, Pass};
-use keyrange::{KeyRange, covers_once};
+use keyrange::KeyRange;
 use route_engine::{Engine, Open};
 use router_opening::empty_router;
 use session::{Access, Core, End, SessionFault, Sink, Source, Writer, serve};
@@ -42,82 +41,82 @@ pub(crate) struct Told {
     pub(crate) deleted: Vec<u8>,
 }
 
-// Writes the replies to one command of a session in its command phase.
-fn command<W: World + Send + Sync, J: Naming + Send + Sync, R: Threads + Wait + Sync>(
-    rt: &R,
+/// A session of a router.
+#[derive(Drop)]
+struct Client<'e, W: World, J: Naming, R> {
+    rt: &'e R,
     alloc: Global,
-    engine: &Engine<W, J, Open>,
-    pass: &mut Pass<ShardLaw<W>, J>,
-    packet: &[u8],
-    reply: &mut Writer<Vec<u8>>,
-) -> Result<(), Refusal>
-    requires { IsSome pass.old.session }
-    ensures { IsSome pass.new.session }
-{
-    match Core::commands(alloc, 2, 0) {
-        Ok(mut core) => match core.feed(rt, alloc, engine, pass, packet, reply) {
+    engine: &'e Engine<W, J, Open>,
+    pass: Pass<ShardLaw<W>, J>,
+    ghost known: { IsSome pass.session },
+}
+
+impl<W: World + Send + Sync, J: Naming + Send + Sync, R: Threads + Wait + Sync> Client<
+    '_,
+    W,
+    J,
+    R,
+> {
+    // Writes the replies to a packet.
+    fn feed(
+        &mut self,
+        core: &mut Core<W, J>,
+        packet: &[u8],
+        reply: &mut Writer<Vec<u8>>,
+    ) -> Result<(), Refusal>
+        requires { core.old.tx ≡ None }
+    {
+        match core.feed(
+            self.rt,
+            self.alloc,
+            self.engine,
+            &mut self.pass,
+            packet,
+            reply,
+        ) {
             Ok(_) => Ok(()),
             Err(_) => Err(Refusal::OutOfMemory),
-        },
-        Err(refusal) => Err(refusal),
+        }
     }
-}
 
-// Serves the user u without a password, who is greeted by twenty A.
-fn serve_by<
-    W: World + Send + Sync,
-    J: Naming + Send + Sync,
-    R: Threads + Wait + Sync,
-    I: Source,
-    O: Sink,
->(
-    rt: &R,
-    alloc: Global,
-    engine: &Engine<W, J, Open>,
-    pass: &mut Pass<ShardLaw<W>, J>,
-    source: &mut I,
-    sink: &mut O,
-) -> Ended
-    requires { IsSome pass.old.session }
-{
-    let Ok(user) = Items::from_slice(alloc, b"u") else {
-        return Err(SessionFault::Memory);
-    };
-    let access = Access { user, stage2: None };
-    serve(
-        rt,
-        alloc,
-        engine,
-        pass,
-        &access,
-        &[0x41; 20],
-        1,
-        source,
-        sink,
-    )
-}
+    // Writes the replies to one command in the command phase.
+    fn command(&mut self, packet: &[u8], reply: &mut Writer<Vec<u8>>) -> Result<(), Refusal> {
+        let mut core = Core::commands(self.alloc, 2, 0)?;
+        let fed = self.feed(&mut core, packet, reply);
+        drop(core);
+        fed
+    }
 
-// Serves one session, once the rows are in the table.
-fn serve_first<
-    W: World + Send + Sync,
-    J: Naming + Send + Sync,
-    R: Threads + Wait + Sync,
-    I: Source,
-    O: Sink,
->(
-    rt: &R,
-    alloc: Global,
-    engine: &Engine<W, J, Open>,
-    pass: &mut Pass<ShardLaw<W>, J>,
-    source: &mut I,
-    sink: &mut O,
-    reply: &mut Writer<Vec<u8>>,
-) -> Result<Ended, Refusal>
-    requires { IsSome pass.old.session }
-{
-    command(rt, alloc, engine, pass, ROWS, reply)?;
-    reply.writer.clear();
-    Ok(serve_by(rt, alloc, engine, pass, source, sink))
+    // Serves the user u without a password, who is greeted by twenty A.
+    fn serve<I: Source, O: Sink>(&mut self, source: &mut I, sink: &mut O) -> Ended {
+        let Ok(user) = Items::from_slice(self.alloc, b"u") else {
+            return Err(SessionFault::Memory);
+        };
+        let access = Access { user, stage2: None };
+        serve(
+            self.rt,
+            self.alloc,
+            self.engine,
+            &mut self.pass,
+            &access,
+            &[0x41; 20],
+            1,
+            source,
+            sink,
+        )
+    }
+
+    // Serves the session, once the rows are in the table.
+    fn serve_over_rows<I: Source, O: Sink>(
+        &mut self,
+        source: &mut I,
+        sink: &mut O,
+        reply: &mut Writer<Vec<u8>>,
+    ) -> Result<Ended, Refusal> {
+        self.command(ROWS, reply)?;
+        reply.writer.clear();
+        Ok(self.serve(source, sink))
+    }
 }
 
 // Serves one session, and then has another delete the first row.
@@ -137,14 +136,23 @@ fn serve_two<
     sink: &mut O,
     reply: &mut Writer<Vec<u8>>,
 ) -> Result<Ended, Refusal> {
-    let ended = match opener.open(seen) {
-        Ok(mut pass) => serve_first(rt, alloc, engine, &mut pass, source, sink, reply),
-        Err(refusal) => Err(refusal),
+    let mut first = Client {
+        rt,
+        alloc,
+        engine,
+        pass: opener.open(seen)?,
     };
-    match opener.open(seen) {
-        Ok(mut pass) => command(rt, alloc, engine, &mut pass, DELETE_FIRST, reply)?,
-        Err(refusal) => return Err(refusal),
-    }
+    let ended = first.serve_over_rows(source, sink, reply);
+    drop(first);
+    let mut second = Client {
+        rt,
+        alloc,
+        engine,
+        pass: opener.open(seen)?,
+    };
+    let deleted = second.command(DELETE_FIRST, reply);
+    drop(second);
+    deleted?;
     ended
 }
 
@@ -205,13 +213,32 @@ fn serve_in_world<W: World + Send + Sync, R: Threads + Wait + Sync, I: Source, O
     serve_opened::<W, Brand, R, I, O>(rt, alloc, schema, ranges, opened, source, sink, reply)
 }
 
-// Whether the ranges hold each keyspace id once and the shards fit into 64 slots.
-fn fits(alloc: Global, schema: &VSchema, ranges: &[KeyRange]) -> Result<bool, Refusal>
-    requires { AllByRecursion IsNamed ranges.now }
-    ensures { IfOk result (λ b. IsTrue b → FitRanges schema.now ranges.now) }
+// The range of all keyspace ids.
+fn whole() -> Result<KeyRange, Fail>
+    ensures { IfOk result IsNamed }
 {
-    let shards = opening_shards(alloc, schema, ranges)?;
-    Ok(shards.len() <= 64 && covers_once(ranges))
+    Ok(KeyRange::read("-").ok_or("no range")?)
+}
+
+// The same in the world of the table, whose six rows are put in.
+fn serve_in_shop<R: Threads + Wait + Sync, I: Source, O: Sink>(
+    rt: &R,
+    alloc: Global,
+    source: &mut I,
+    sink: &mut O,
+    reply: &mut Writer<Vec<u8>>,
+) -> Result<Ended, Fail> {
+    let ranges = [whole()?];
+    let schema = VSchema::read(alloc, SHOP)?;
+    match ranges_fit(alloc, &schema, &ranges) {
+        Ok(true) => Ok(serve_in_world::<Brand, R, I, O>(
+            rt, alloc, schema, &ranges, source, sink, reply,
+        )?),
+        _ => {
+            drop(schema);
+            Err(Fail::new("no opening"))
+        }
+    }
 }
 
 /// How a session over the six rows ends that is served by these devices, and what another deletes then.
@@ -221,15 +248,8 @@ pub(crate) fn serve_and_delete<R: Threads + Wait + Sync, I: Source, O: Sink>(
     source: &mut I,
     sink: &mut O,
 ) -> Result<Told, Fail> {
-    let ranges = [KeyRange::read("-").ok_or("no range")?];
-    let schema = VSchema::read(alloc, SHOP)?;
-    if !fits(alloc, &schema, &ranges)? {
-        return Err(Fail::new("no opening"));
-    }
     let mut reply = Writer::new(Vec::new(alloc));
-    let end = serve_in_world::<Brand, R, I, O>(
-        rt, alloc, schema, &ranges, source, sink, &mut reply,
-    )?;
+    let end = serve_in_shop(rt, alloc, source, sink, &mut reply)?;
     let Writer {
         writer: deleted,
         failures: _,

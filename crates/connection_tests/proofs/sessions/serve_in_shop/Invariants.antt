@@ -1,6 +1,6 @@
 use Rattle.shard_contents.specs.Shards.{most_limits}
 use Rattle.empty_opening.specs.Empty.{opening_of}
-use Rattle.connection_tests.proofs.sessions.serve_and_delete.Given as goal
+use Rattle.connection_tests.proofs.sessions.serve_in_shop.Given as goal
 
 -- the world of this VSchema and these ranges
 abbrev pub ghosts-serve_in_world : goal.ghosts-serve_in_world
