@@ -113,7 +113,7 @@ impl<W: World, J: Naming> ShardState<W, J> {
     // Refuses: shard_contents::follows_without_range_filter, shard_contents::copies_one_row_too_few,
     // shard_contents::copies_rows_out_of_order, shard_contents::copies_beyond_the_place, shard_contents::walk_ends_at_a_row_with_a_place,
     // shard_contents::walk_ends_out_of_order, shard_contents::last_copy_is_forgotten, shard_contents::position_of_an_entry_before,
-    // all_tables_are_copied, shard_contents::copies_a_row_again, shard_contents::copy_adds_no_rows, shard_contents::tables_in_any_order
+    // tables_of_another_source_are_copied, shard_contents::copies_a_row_again, shard_contents::copy_adds_no_rows, shard_contents::tables_in_any_order
     /// How far a target that follows has come with a source, by its slot. Refuses for want of memory.
     pub fn progress(
         &self,
