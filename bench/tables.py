@@ -134,7 +134,7 @@ def store(program):
 def maps(lookup):
     print("\n## The maps of a store alone\n\nNanoseconds of a lookup in std's maps, compiled by `rustc -O` (`bench/lookup/main.rs`), among few keys and many: keys of 16 bytes, rows on")
     print("the heap, and between two lookups as much memory written as a statement writes. What a key among many costs more is what the")
-    print("machine's memory takes: a SELECT or UPDATE by the key can't cost less than that more, whatever the router does.")
+    print("machine's memory takes: a SELECT or UPDATE by the key over such a map costs at least that more.")
     rows, first = [], {}
     for line in subprocess.run([lookup], capture_output=True, text=True, check=True).stdout.splitlines():
         name, each, nanos = line.split()
