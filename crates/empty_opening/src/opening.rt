@@ -94,8 +94,10 @@ pub fn ranges_fit(alloc: Global, schema: &VSchema, ranges: &[KeyRange]) -> Resul
     ensures err { IfErr result (λ e. e ≡ Refusal.OutOfMemory) }
 {
     let shards = opening_shards(alloc, schema, ranges)?;
-    let covers = sharded_keyspace(schema).is_none() || covers_once(ranges);
-    Ok(shards.len() <= 64 && covers)
+    if shards.len() > 64 {
+        return Ok(false);
+    }
+    Ok(sharded_keyspace(schema).is_none() || covers_once(ranges))
 }
 
 /// The number of empty lists of rows with which a shard of that opening begins: one for each table.
