@@ -2,9 +2,8 @@
 ghost use Rattle.std.specs.Prelude.{◌≡◌, ◌+◌, IsTrue, IfSome};
 ghost use Rattle.aggregate.specs.Aggregates.{size, sizes, IsHeld};
 
-use crate::fields::{Unanswered, fields, row_of};
-use crate::told::Told;
 use aggregate::{Count, CountStar, Max, Min, Sum, evaluate};
+use case_fields::{Told, Unanswered, fields, row_of};
 use std::alloc::Global;
 use vt_value::Value;
 

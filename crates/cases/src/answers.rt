@@ -1,31 +1,20 @@
 //! The answer of a case.
-use crate::fields::Unanswered;
-use crate::told::Told;
 use crate::{
     aggregates, handshakes, ids, lines, packets, pulled, ranges, results, schemas, statements,
-    talks, values,
+    values,
 };
+use case_fields::{Told, Unanswered};
 use keyrange::one_range;
 use mysql_packet::{bounded_rest, one_framing, read_back};
 use resultset::SetEnd;
 use sql_lexer::{longest, one_lexing};
 use sql_parser::{one_tree, print_reads};
 use std::alloc::Global;
-use std::sync::Wait;
-use std::thread::Threads;
 
 /// Tells what the case of a line answers.
-pub(crate) fn answer<R: Threads + Wait + Sync>(
-    rt: &R,
-    alloc: Global,
-    line: &str,
-    told: &mut Told,
-) -> Result<(), Unanswered> {
+pub(crate) fn answer(alloc: Global, line: &str, told: &mut Told) -> Result<(), Unanswered> {
     let (area, case) = line.split_once('\t').unwrap_or((line, ""));
-    match area {
-        "talk" => talks::conversation(rt, alloc, case, told),
-        _ => answer_texts(alloc, area, case, told),
-    }
+    answer_texts(alloc, area, case, told)
 }
 
 // Tells what a case of texts answers.
@@ -36,6 +25,7 @@ fn answer_texts(alloc: Global, area: &str, case: &str, told: &mut Told) -> Resul
         "keyword" => statements::keyword(case, told),
         "schema" => schemas::schema(alloc, case, told),
         "plan" => schemas::plan(alloc, case, told),
+        "opening" => schemas::opening(alloc, case, told),
         "lines" => lines::split(alloc, case, told),
         "line" => lines::said(alloc, case, told),
         "rows" => lines::rows(alloc, case, told),

@@ -1,24 +1,9 @@
 //! The messages of the connection phase.
-use crate::fields::{Unanswered, bytes_of, fields, small_number};
 use crate::packets::put_packets;
-use crate::told::Told;
 use bytes::BytesMut;
-use hex::FromHex;
+use case_fields::{Told, Unanswered, bytes_of, fields, salt_of, small_number, stage2_of};
 use mysql_handshake::{Response, put_auth_switch, put_greeting, read_response, verify_native};
 use std::alloc::Global;
-
-/// The stage 2 of a password, or none.
-pub(crate) fn stage2_of(field: &str) -> Result<Option<[u8; 20]>, Unanswered> {
-    if field == "-" {
-        return Ok(None);
-    }
-    Ok(Some(<[u8; 20] as FromHex>::from_hex(field)?))
-}
-
-/// A salt.
-pub(crate) fn salt_of(field: &str) -> Result<[u8; 20], Unanswered> {
-    Ok(<[u8; 20] as FromHex>::from_hex(field)?)
-}
 
 /// Whether a response to the salt is right for the stage 2.
 pub(crate) fn native(alloc: Global, case: &str, told: &mut Told) -> Result<(), Unanswered> {

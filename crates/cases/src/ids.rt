@@ -1,6 +1,5 @@
 //! Keyspace ids.
-use crate::fields::{Unanswered, bytes_of, fields, value_of};
-use crate::told::Told;
+use case_fields::{Told, Unanswered, bytes_of, fields, value_of};
 use std::alloc::Global;
 use vindex::{
     AnyVindex, Binary, BinaryMd5, Ksid, Numeric, ReverseBits, Reversible, Vindex, map_and_reverse,

@@ -1,7 +1,6 @@
 //! Lines of a script, and of results.
-use crate::fields::{Unanswered, number, rows_of, text_of};
-use crate::told::Told;
 use crate::values::refusal_of;
+use case_fields::{Told, Unanswered, number, rows_of, text_of};
 use std::alloc::Global;
 use vtgate_lines::{Line, count_line, next_line, put_rows, read_line, refusal_line};
 

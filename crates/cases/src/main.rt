@@ -12,6 +12,7 @@
 //! | `keyword` | a word | whether it is a keyword |
 //! | `schema` | a VSchema | its keyspaces and tables, or the number of its fault |
 //! | `plan` | ranges, a VSchema, a text of SQL | the line of its plan, or of its refusal |
+//! | `opening` | ranges, a VSchema | slot, place of the keyspace and range of each shard without rows, and how many tables it has |
 //! | `keyrange` | a name | begin and end |
 //! | `covers` | names with commas between them | whether each id lies in just one range, and whether some two overlap |
 //! | `contains` | a range's name, an id | whether the id lies in the range |
@@ -39,7 +40,6 @@
 //! | `greeting` | a connection's number, a salt | the greeting, and the next number |
 //! | `switch` | a number, a salt | the request to switch to native passwords, and the next number |
 //! | `response` | a payload | capabilities, and in brackets user, answer, database and plugin of a response to a greeting |
-//! | `talk` | how a session begins, a text | how it ends where its client sends the text, and what is written |
 //! | `result` | the bytes of a result from number 1, status 2 | the result, and its bytes as they are spelled again |
 //! | `result_to_ok` | the same of a result whose sets end with an OK packet | the same |
 //! | `lines` | a text | its lines, each in brackets |
@@ -54,15 +54,10 @@
 //! `\x` and two digits; a VSchema and a word stand as they are. A value is `NULL`, a decimal number, or a text as `x` and hexadecimal. What
 //! isn't there is told as `none`, a syntax error as `refused`, another refusal as `refused` and its number. A line that is no case answers
 //! `unknown`.
-//!
-//! A session of `talk` begins with `commands`, or with the handshake: then the field is stage 2, or `-`, of the user `u`, a blank and a salt.
-//! It is that of connection 1, over the unsharded keyspace `shop` with the table `t (id, c)` of the rows (1, NULL), (2, NULL), (3, 7), (4, 7),
-//! (5, 9) and (6, 1). Each is held twice, the second time by pieces of one byte; another answer to these is told behind the first.
 #![tactic(auto)]
 
 mod aggregates;
 mod answers;
-mod fields;
 mod handshakes;
 mod ids;
 mod lines;
@@ -72,33 +67,18 @@ mod ranges;
 mod results;
 mod schemas;
 mod statements;
-mod talks;
-mod told;
 mod values;
 
 use answers::answer;
-use fields::Unanswered;
+use case_fields::{Told, print_answer};
 use std::alloc::Global;
 use std::io;
-use std::sync::Wait;
-use std::thread::Threads;
-use told::Told;
-use vt_value::Refusal;
 
 // Prints the answer of a line.
-fn answer_line<R: Print + Threads + Wait + Sync>(
-    rt: &R,
-    alloc: Global,
-    line: &str,
-) -> io::Result<()> {
+fn answer_line<R: Print>(rt: &R, alloc: Global, line: &str) -> io::Result<()> {
     let mut told = Told::new(alloc);
-    match answer(rt, alloc, line, &mut told) {
-        Ok(()) if told.has_failed => println!(rt; "refused 1"),
-        Ok(()) => println!(rt; "{}", told.text),
-        Err(Unanswered::BadLine) => println!(rt; "unknown"),
-        Err(Unanswered::Refused(Refusal::SyntaxError)) => println!(rt; "refused"),
-        Err(Unanswered::Refused(refusal)) => println!(rt; "refused {}", refusal.number()),
-    }
+    let answered = answer(alloc, line, &mut told);
+    print_answer(rt, answered, &told)
 }
 
 fn main(rt: HostRuntime) -> io::Result<()> {

@@ -1,8 +1,7 @@
 //! Packets, and the messages in them.
-use crate::fields::{Unanswered, bytes_of, count, fields, number, small_number, text_of};
-use crate::told::Told;
 use crate::values::refusal_of;
 use bytes::BytesMut;
+use case_fields::{Told, Unanswered, bytes_of, count, fields, number, small_number, text_of};
 use mysql_message::{Command, numbers, put_eof, put_err, put_ok, read_command};
 use mysql_packet::{Fault, Framer, Payload, put_payload};
 use std::alloc::Global;

@@ -1,6 +1,5 @@
 //! Rows that operators give.
-use crate::fields::{Unanswered, count, fields, rows_of};
-use crate::told::Told;
+use case_fields::{Told, Unanswered, count, fields, rows_of};
 use operators::{MergeSort, Operator, Project, Rows, collect};
 use sql_tree::Key;
 use std::alloc::Global;

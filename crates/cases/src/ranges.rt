@@ -1,6 +1,5 @@
 //! Key ranges.
-use crate::fields::{Unanswered, bytes_of, fields};
-use crate::told::Told;
+use case_fields::{Told, Unanswered, bytes_of, fields};
 use keyrange::{KeyRange, covers_once};
 use std::alloc::Global;
 use vtgate_lines::read_ranges;

@@ -1,7 +1,6 @@
 //! Results and their bytes.
-use crate::fields::{Unanswered, bytes_of};
-use crate::told::Told;
 use bytes::BytesMut;
+use case_fields::{Told, Unanswered, bytes_of};
 use resultset::{Column, Kind, Outcome, SetEnd, decode, encode};
 use std::alloc::Global;
 

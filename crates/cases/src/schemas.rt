@@ -1,8 +1,9 @@
 //! VSchemas, and plans under them.
-use crate::fields::{Unanswered, fields, text_of};
 use crate::lines::without_end;
-use crate::told::Told;
+use case_fields::{Told, Unanswered, fields, text_of};
+use empty_opening::{empty_tables, opening_shards};
 use keyrange::KeyRange;
+use shard_run::Shard;
 use std::alloc::Global;
 use vindex::AnyVindex;
 use vschema::{Column, ColumnType, Keyspace, Table, VSchema};
@@ -89,6 +90,44 @@ fn vindex_name(vindex: AnyVindex) -> &'static str {
         AnyVindex::Binary => "binary",
         AnyVindex::BinaryMd5 => "binary_md5",
     }
+}
+
+/// The shards of the opening that has no rows, and how many tables each has.
+pub(crate) fn opening(alloc: Global, case: &str, told: &mut Told) -> Result<(), Unanswered> {
+    let (shards, declared) = fields(case)?;
+    let Some(ranges) = read_ranges(alloc, shards)? else {
+        return Err(Unanswered::BadLine);
+    };
+    match VSchema::read(alloc, declared) {
+        Ok(schema) => put_opening(alloc, &schema, &ranges, told),
+        Err(fault) => {
+            told.show(&fault);
+            Ok(())
+        }
+    }
+}
+
+fn put_opening(
+    alloc: Global,
+    schema: &VSchema,
+    ranges: &[KeyRange],
+    told: &mut Told,
+) -> Result<(), Unanswered> {
+    for shard in opening_shards(alloc, schema, ranges)?.as_slice() {
+        put_shard(told, shard);
+        told.put("; ");
+    }
+    told.show(&empty_tables(schema));
+    told.put(" tables");
+    Ok(())
+}
+
+fn put_shard(told: &mut Told, shard: &Shard) {
+    told.show(&shard.slot);
+    told.put(" ");
+    told.show(&shard.place.keyspace);
+    told.put(" ");
+    told.show(&shard.place.range);
 }
 
 /// The line of a plan.

@@ -1,6 +1,5 @@
 //! Texts of SQL.
-use crate::fields::{Unanswered, text_of};
-use crate::told::Told;
+use case_fields::{Told, Unanswered, text_of};
 use sql_lexer::{Token, TokenKind, is_keyword, lex};
 use sql_parser::parse;
 use sql_tree::print;

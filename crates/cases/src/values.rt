@@ -1,6 +1,5 @@
 //! Values and refusals.
-use crate::fields::{Unanswered, fields, row_of, small_number, value_of};
-use crate::told::Told;
+use case_fields::{Told, Unanswered, fields, row_of, small_number, value_of};
 use std::alloc::Global;
 use std::cmp::Ordering;
 use vt_value::{Comparison, REFUSALS, Refusal, Truth, Value, compare, copy, copy_row, sort_order};

@@ -1,21 +1,23 @@
-//! Sessions over one table of six rows, by devices of a test.
+//! Sessions over one unsharded table of six rows, of which another session deletes the first behind them.
 ghost use Rattle.std.specs.Prelude.{◌≡◌, None, IsSome, IsTrue, IfOk};
 ghost use Rattle.keyrange.specs.Names.{IsNamed};
 ghost use Rattle.vschema.specs.WellFormed.{is_vschema};
 ghost use Rattle.shard_contents.specs.Shards.{most_limits};
+ghost use Rattle.shard_calls.specs.Pendings.{IsOf};
 ghost use Rattle.empty_opening.specs.Empty.{opening_of, FitRanges};
 
+use crate::devices::InterruptedReader;
 use empty_opening::ranges_fit;
+use failing_devices::{FailingSink, FailingSource};
 use journal::{Naming, Opened, Opener, Pass};
 use keyrange::KeyRange;
 use route_engine::{Engine, Open};
 use router_opening::empty_router;
-use session::{Access, Core, End, SessionFault, Sink, Source, Writer, serve};
+use session::{Access, Core, End, Reader, SessionFault, Sink, Source, Writer, serve};
 use shard::{ShardLaw, World};
 use std::alloc::Global;
 use std::marker::Brand;
 use std::sync::Wait;
-use std::test::Fail;
 use std::thread::Threads;
 use vschema::VSchema;
 use vt_value::{Items, Refusal};
@@ -29,16 +31,98 @@ const ROWS: &[u8] =
     b"\x52\0\0\0\x03INSERT INTO t (id, c) VALUES (1, NULL), (2, NULL), (3, 7), (4, 7), (5, 9), (6, 1)";
 
 /// The command that deletes the first of them.
-pub(crate) const DELETE_FIRST: &[u8] = b"\x1b\0\0\0\x03DELETE FROM t WHERE id = 1";
+const DELETE_FIRST: &[u8] = b"\x1b\0\0\0\x03DELETE FROM t WHERE id = 1";
+
+/// How many bytes a large piece has.
+const LARGE: usize = 1 << 20;
+
+/// How a session begins.
+#[derive(Drop)]
+pub(crate) enum Beginning {
+    /// In its command phase.
+    Commands,
+    /// With a greeting by the salt, for whom is to be let in.
+    Greeting(Access, [u8; 20]),
+}
+
+/// A session that is fed with what its client sends.
+#[derive(Clone, Copy)]
+pub(crate) struct Fed<'a> {
+    pub(crate) beginning: &'a Beginning,
+    pub(crate) input: &'a [u8],
+    /// Whether it comes byte by byte, or else in large pieces.
+    pub(crate) is_by_bytes: bool,
+}
+
+/// What a session's devices do that another's don't.
+#[derive(Clone, Copy)]
+pub(crate) enum Device {
+    /// The source fails once its bytes are read.
+    FailingSource,
+    /// The sink fails behind so many writes.
+    FailingSink(u32),
+    /// The source is interrupted before each byte.
+    InterruptedSource,
+}
+
+/// What a session does.
+#[derive(Clone, Copy)]
+pub(crate) enum Talk<'a> {
+    /// It is fed.
+    Fed(Fed<'a>),
+    /// It serves the user u, who has no password and is greeted by twenty A, and who sends this.
+    Served(Device, &'a [u8]),
+}
 
 /// How a session ends.
 pub(crate) type Ended = Result<End, SessionFault>;
 
-/// How a session ended, and the reply to another that deletes the first row then.
-#[derive(Drop)]
-pub(crate) struct Told {
-    pub(crate) end: Ended,
-    pub(crate) deleted: Vec<u8>,
+// The session of connection 1 that begins so.
+fn core_of<W: World, J: Naming>(alloc: Global, beginning: &Beginning) -> Result<Core<W, J>, Refusal>
+    ensures { IfOk result (λ core. core.tx ≡ None) }
+{
+    match beginning {
+        Beginning::Commands => Core::commands(alloc, 1, 0),
+        Beginning::Greeting(access, salt) => Core::new(alloc, access, salt, 1),
+    }
+}
+
+// Feeds a session an empty piece and its input.
+fn feed<W: World + Send + Sync, J: Naming + Send + Sync, R: Threads + Wait + Sync>(
+    rt: &R,
+    alloc: Global,
+    engine: &Engine<W, J, Open>,
+    pass: &mut Pass<ShardLaw<W>, J>,
+    core: &mut Core<W, J>,
+    talk: &Fed<'_>,
+    sink: &mut Writer<Vec<u8>>,
+) -> Ended
+    requires session { IsSome pass.old.session }
+    requires tx { IsOf W.opening core.old.tx pass.old }
+    ensures { IsSome pass.new.session }
+{
+    let piece_len = if talk.is_by_bytes { 1 } else { LARGE };
+    core.feed(rt, alloc, engine, pass, &[], sink)?;
+    for piece in talk.input.chunks(piece_len) {
+        core.feed(rt, alloc, engine, pass, piece, sink)?;
+    }
+    Ok(core.end_of_input())
+}
+
+// Holds a conversation.
+fn converse<W: World + Send + Sync, J: Naming + Send + Sync, R: Threads + Wait + Sync>(
+    rt: &R,
+    alloc: Global,
+    engine: &Engine<W, J, Open>,
+    pass: &mut Pass<ShardLaw<W>, J>,
+    talk: &Fed<'_>,
+    sink: &mut Writer<Vec<u8>>,
+) -> Result<Ended, Refusal>
+    requires { IsSome pass.old.session }
+    ensures { IsSome pass.new.session }
+{
+    let mut core = core_of(alloc, talk.beginning)?;
+    Ok(feed(rt, alloc, engine, pass, &mut core, talk, sink))
 }
 
 /// A session of a router.
@@ -57,37 +141,24 @@ impl<W: World + Send + Sync, J: Naming + Send + Sync, R: Threads + Wait + Sync> 
     J,
     R,
 > {
-    // Writes the replies to a packet.
-    fn feed(
-        &mut self,
-        core: &mut Core<W, J>,
-        packet: &[u8],
-        reply: &mut Writer<Vec<u8>>,
-    ) -> Result<(), Refusal>
-        requires { core.old.tx ≡ None }
-    {
-        match core.feed(
-            self.rt,
-            self.alloc,
-            self.engine,
-            &mut self.pass,
-            packet,
-            reply,
-        ) {
+    fn converse(&mut self, talk: &Fed<'_>, sink: &mut Writer<Vec<u8>>) -> Result<Ended, Refusal> {
+        converse(self.rt, self.alloc, self.engine, &mut self.pass, talk, sink)
+    }
+
+    // Writes the replies to one command in the command phase.
+    fn command(&mut self, packet: &[u8], reply: &mut Writer<Vec<u8>>) -> Result<(), Refusal> {
+        let talk = Fed {
+            beginning: &Beginning::Commands,
+            input: packet,
+            is_by_bytes: false,
+        };
+        match self.converse(&talk, reply)? {
             Ok(_) => Ok(()),
             Err(_) => Err(Refusal::OutOfMemory),
         }
     }
 
-    // Writes the replies to one command in the command phase.
-    fn command(&mut self, packet: &[u8], reply: &mut Writer<Vec<u8>>) -> Result<(), Refusal> {
-        let mut core = Core::commands(self.alloc, 2, 0)?;
-        let fed = self.feed(&mut core, packet, reply);
-        drop(core);
-        fed
-    }
-
-    // Serves the user u without a password, who is greeted by twenty A.
+    // Serves the user u.
     fn serve<I: Source, O: Sink>(&mut self, source: &mut I, sink: &mut O) -> Ended {
         let Ok(user) = Items::from_slice(self.alloc, b"u") else {
             return Err(SessionFault::Memory);
@@ -106,34 +177,74 @@ impl<W: World + Send + Sync, J: Naming + Send + Sync, R: Threads + Wait + Sync> 
         )
     }
 
-    // Serves the session, once the rows are in the table.
-    fn serve_over_rows<I: Source, O: Sink>(
+    fn serve_failing_source(&mut self, input: &[u8], sink: &mut Writer<Vec<u8>>) -> Ended {
+        let mut source = FailingSource {
+            unread: input,
+            failures: 0,
+        };
+        self.serve(&mut source, sink)
+    }
+
+    // The failures of the sink are told as those of the other.
+    fn serve_failing_sink(
         &mut self,
-        source: &mut I,
-        sink: &mut O,
-        reply: &mut Writer<Vec<u8>>,
+        input: &[u8],
+        writes_left: u32,
+        sink: &mut Writer<Vec<u8>>,
+    ) -> Ended {
+        let mut failing = FailingSink {
+            writes_left,
+            failures: 0,
+        };
+        let ended = self.serve(&mut Reader::new(input), &mut failing);
+        sink.failures = failing.failures;
+        ended
+    }
+
+    fn serve_interrupted(&mut self, input: &[u8], sink: &mut Writer<Vec<u8>>) -> Ended {
+        let mut source = Reader::new(InterruptedReader {
+            unread: input,
+            is_interrupted: false,
+        });
+        self.serve(&mut source, sink)
+    }
+
+    fn talk(&mut self, talk: Talk<'_>, sink: &mut Writer<Vec<u8>>) -> Result<Ended, Refusal> {
+        match talk {
+            Talk::Fed(fed) => self.converse(&fed, sink),
+            Talk::Served(Device::FailingSource, input) => {
+                Ok(self.serve_failing_source(input, sink))
+            }
+            Talk::Served(Device::FailingSink(writes_left), input) => {
+                Ok(self.serve_failing_sink(input, writes_left, sink))
+            }
+            Talk::Served(Device::InterruptedSource, input) => {
+                Ok(self.serve_interrupted(input, sink))
+            }
+        }
+    }
+
+    // Talks, once the rows are in the table.
+    fn talk_over_rows(
+        &mut self,
+        talk: Talk<'_>,
+        sink: &mut Writer<Vec<u8>>,
     ) -> Result<Ended, Refusal> {
-        self.command(ROWS, reply)?;
-        reply.writer.clear();
-        Ok(self.serve(source, sink))
+        self.command(ROWS, sink)?;
+        sink.writer.clear();
+        self.talk(talk, sink)
     }
 }
 
-// Serves one session, and then has another delete the first row.
-fn serve_two<
-    W: World + Send + Sync,
-    J: Naming + Send + Sync,
-    R: Threads + Wait + Sync,
-    I: Source,
-    O: Sink,
->(
+// One session talks, and then another deletes the first row.
+fn serve_two<W: World + Send + Sync, J: Naming + Send + Sync, R: Threads + Wait + Sync>(
     rt: &R,
     alloc: Global,
     engine: &Engine<W, J, Open>,
     opener: &mut Opener<ShardLaw<W>, J>,
     seen: &mut Pass<ShardLaw<W>, J>,
-    source: &mut I,
-    sink: &mut O,
+    talk: Talk<'_>,
+    sink: &mut Writer<Vec<u8>>,
     reply: &mut Writer<Vec<u8>>,
 ) -> Result<Ended, Refusal> {
     let mut first = Client {
@@ -142,7 +253,7 @@ fn serve_two<
         engine,
         pass: opener.open(seen)?,
     };
-    let ended = first.serve_over_rows(source, sink, reply);
+    let ended = first.talk_over_rows(talk, sink);
     drop(first);
     let mut second = Client {
         rt,
@@ -156,20 +267,14 @@ fn serve_two<
     ended
 }
 
-fn serve_opened<
-    W: World + Send + Sync,
-    J: Naming + Send + Sync,
-    R: Threads + Wait + Sync,
-    I: Source,
-    O: Sink,
->(
+fn serve_opened<W: World + Send + Sync, J: Naming + Send + Sync, R: Threads + Wait + Sync>(
     rt: &R,
     alloc: Global,
     schema: VSchema,
     ranges: &[KeyRange],
     opened: Opened<ShardLaw<W>>,
-    source: &mut I,
-    sink: &mut O,
+    talk: Talk<'_>,
+    sink: &mut Writer<Vec<u8>>,
     reply: &mut Writer<Vec<u8>>,
 ) -> Result<Ended, Refusal>
     requires name { opened ≡ J.table }
@@ -188,20 +293,20 @@ fn serve_opened<
         &engine,
         &mut opener,
         &mut first,
-        source,
+        talk,
         sink,
         reply,
     )
 }
 
 // The same in the world that has this VSchema and these ranges.
-fn serve_in_world<W: World + Send + Sync, R: Threads + Wait + Sync, I: Source, O: Sink>(
+fn serve_in_world<W: World + Send + Sync, R: Threads + Wait + Sync>(
     rt: &R,
     alloc: Global,
     schema: VSchema,
     ranges: &[KeyRange],
-    source: &mut I,
-    sink: &mut O,
+    talk: Talk<'_>,
+    sink: &mut Writer<Vec<u8>>,
     reply: &mut Writer<Vec<u8>>,
 ) -> Result<Ended, Refusal>
     requires opening { W.opening ≡ opening_of schema ranges.now }
@@ -210,49 +315,28 @@ fn serve_in_world<W: World + Send + Sync, R: Threads + Wait + Sync, I: Source, O
     requires ranges { FitRanges schema ranges.now }
 {
     let opened = Opened::<ShardLaw<W>>::new(alloc)?;
-    serve_opened::<W, Brand, R, I, O>(rt, alloc, schema, ranges, opened, source, sink, reply)
+    serve_opened::<W, Brand, R>(rt, alloc, schema, ranges, opened, talk, sink, reply)
 }
 
-// The range of all keyspace ids.
-fn whole() -> Result<KeyRange, Fail>
-    ensures { IfOk result IsNamed }
-{
-    Ok(KeyRange::read("-").ok_or("no range")?)
-}
-
-// The same in the world of the table, whose six rows are put in.
-fn serve_in_shop<R: Threads + Wait + Sync, I: Source, O: Sink>(
+/// How a session ends over a new router with the table; the sink has what is written, and the reply what is told to another that deletes
+/// the first row then.
+pub(crate) fn serve_in_shop<R: Threads + Wait + Sync>(
     rt: &R,
     alloc: Global,
-    source: &mut I,
-    sink: &mut O,
+    talk: Talk<'_>,
+    sink: &mut Writer<Vec<u8>>,
     reply: &mut Writer<Vec<u8>>,
-) -> Result<Ended, Fail> {
-    let ranges = [whole()?];
-    let schema = VSchema::read(alloc, SHOP)?;
+) -> Result<Ended, Refusal> {
+    let Some(range) = KeyRange::read("-") else {
+        return Err(Refusal::NotSupported);
+    };
+    let Ok(schema) = VSchema::read(alloc, SHOP) else {
+        return Err(Refusal::OutOfMemory);
+    };
+    let ranges = [range];
     match ranges_fit(alloc, &schema, &ranges) {
-        Ok(true) => Ok(serve_in_world::<Brand, R, I, O>(
-            rt, alloc, schema, &ranges, source, sink, reply,
-        )?),
-        _ => {
-            drop(schema);
-            Err(Fail::new("no opening"))
-        }
+        Ok(true) => serve_in_world::<Brand, R>(rt, alloc, schema, &ranges, talk, sink, reply),
+        Ok(false) => Err(Refusal::NotSupported),
+        Err(refusal) => Err(refusal),
     }
-}
-
-/// How a session over the six rows ends that is served by these devices, and what another deletes then.
-pub(crate) fn serve_and_delete<R: Threads + Wait + Sync, I: Source, O: Sink>(
-    rt: &R,
-    alloc: Global,
-    source: &mut I,
-    sink: &mut O,
-) -> Result<Told, Fail> {
-    let mut reply = Writer::new(Vec::new(alloc));
-    let end = serve_in_shop(rt, alloc, source, sink, &mut reply)?;
-    let Writer {
-        writer: deleted,
-        failures: _,
-    } = reply;
-    Ok(Told { end, deleted })
 }

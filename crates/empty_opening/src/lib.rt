@@ -2,7 +2,5 @@
 #![tactic(auto)]
 
 mod opening;
-#[cfg(test)]
-mod tests;
 
 pub use opening::{empty_tables, opening_shards, ranges_fit, sharded_keyspace};

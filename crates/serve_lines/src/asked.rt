@@ -101,9 +101,9 @@ fn is_word(word: &String, bytes: &[u8]) -> bool
 }
 
 // Promise: Words ask `serve` for something exactly where they write it; what `serve` reads and prints; wrong words touch neither
-// With: vtgate_main::run
+// With: vtgate_main::run, vtgate_serve::run_serve
 // Clauses: found, none, serve, unserved, wrong
-// Refuses: leading_zeros_are_read, upper_case_digits_are_read, vtgate_main::wrong_words_succeed, vtgate_main::another_word_is_taken,
+// Refuses: leading_zeros_are_read, upper_case_digits_are_read, vtgate_serve::wrong_words_succeed, vtgate_main::another_word_is_taken,
 // vtgate_serve::serve_says_nothing
 /// What the words ask for, where they are the words of `serve`.
 pub fn read_words(words: &[String]) -> Option<Asked<'_>>

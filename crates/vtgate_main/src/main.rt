@@ -1,12 +1,7 @@
 //! The router's program.
 #![tactic(auto)]
 
-#[cfg(test)]
-mod loopback;
-mod plan;
 mod running;
-#[cfg(test)]
-mod statuses;
 
 use running::run;
 use session::{Reader, Sink, Writer};

@@ -5,20 +5,18 @@ ghost use Rattle.keyrange.specs.declared.KeyRange.{KeyRange};
 ghost use Rattle.serve_lines.specs.Asking.{Asking, Asks};
 ghost use Rattle.vtgate_lines.specs.Partitions.{NamesPartition};
 ghost use Rattle.vtgate_main.specs.Words.{is_plan, is_script};
-ghost use Rattle.vtgate_main.specs.Planned.{HasPlanned};
+ghost use Rattle.vtgate_script.specs.Planned.{HasPlanned};
 ghost use Rattle.vtgate_script.specs.Scripted.{HasScripted};
 ghost use Rattle.vtgate_serve.specs.Served.{HasServed};
 
-use crate::plan::run_plan;
-use serve_lines::read_words;
 use session::{Sink, Source};
 use std::alloc::Global;
 use std::net::{Net, TcpListener, TcpStream};
 use std::sync::Wait;
 use std::thread::Threads;
 use std::time::Clock;
-use vtgate_input::{SUCCESS, USAGE, WRONG_WORDS};
-use vtgate_script::run_script;
+use vtgate_input::{SUCCESS, WRONG_WORDS};
+use vtgate_script::{run_plan, run_script};
 use vtgate_serve::run_serve;
 
 fn is_word(word: &String, bytes: &[u8]) -> bool
@@ -51,7 +49,7 @@ fn script_words(words: &[String]) -> Option<&str>
 
 // Promise: `vtgate plan` reads its whole input and writes exactly that line; wrong ranges are refused before anything is read
 // Clauses: plan, untouched, wrong
-// Refuses: plan_of_the_shards, vtgate_input::plan_under_half_the_input, refused_plan_succeeds
+// Refuses: plan_of_the_shards, vtgate_input::plan_under_half_the_input, vtgate_script::refused_plan_succeeds
 // Promise: `vtgate script` reads its whole input; its first line is the VSchema, and for each line behind it exactly what it gives is
 // written, in order: for a statement what its text may give its session, behind all that the lines before it have seen and in its open
 // transaction; for an admin line what it did to the workflow of the sharded keyspace, by the controller's pass, which has seen what all
@@ -101,9 +99,5 @@ pub fn run<
     if let Some(shards) = script_words(words) {
         return run_script(rt, alloc, shards, input, output, errors);
     }
-    let Some(asked) = read_words(words) else {
-        let _ = errors.write(USAGE);
-        return WRONG_WORDS;
-    };
-    run_serve(rt, alloc, &asked, input, output, errors)
+    run_serve(rt, alloc, words, input, output, errors)
 }

@@ -1,7 +1,10 @@
-//! `vtgate script`: lines that are run in order, over an opened router and the administrator of its sharded keyspace.
+//! `vtgate script`: lines that are run in order, over an opened router and the administrator of its sharded keyspace. And `vtgate plan`, which
+//! opens none.
 #![tactic(auto)]
 
+mod plan;
 mod script;
 mod sessions;
 
+pub use plan::run_plan;
 pub use script::run_script;

@@ -1,5 +1,6 @@
 //! What `vtgate serve` reads, and what it serves over.
-ghost use Rattle.std.specs.Prelude.{◌≡◌, ℕ, List, [], None, IsTrue, IfOk, OnOk};
+ghost use Rattle.std.specs.Prelude.{◌≡◌, ◌≢◌, ℕ, List, [], None, IsTrue, IfOk, OnOk, map};
+ghost use Rattle.std.specs.String.{string_bytes};
 ghost use Rattle.std.specs.Io.KnownBytes.{Appends};
 ghost use Rattle.keyrange.specs.declared.KeyRange.{KeyRange};
 ghost use Rattle.vschema.specs.WellFormed.{is_vschema};
@@ -7,6 +8,7 @@ ghost use Rattle.journal.specs.Views.{new_pass};
 ghost use Rattle.shard_contents.specs.Shards.{most_limits};
 ghost use Rattle.empty_opening.specs.Empty.{opening_of, sharded_keyspace, FitRanges};
 ghost use Rattle.administration.specs.Told.{keyspace_of};
+ghost use Rattle.serve_lines.specs.Asking.{Asking, Asks};
 ghost use Rattle.vtgate_lines.specs.Partitions.{NamesPartition};
 ghost use Rattle.vtgate_input.specs.Inputs.{HasDeclared};
 ghost use Rattle.vtgate_serve.specs.Served.{HasServed, listening_text};
@@ -18,7 +20,7 @@ use administration::{Administrator, administered_router};
 use journal::{Naming, Opened, Opener, Pass};
 use keyrange::KeyRange;
 use route_engine::{Engine, Gate, Open};
-use serve_lines::Asked;
+use serve_lines::{Asked, read_words};
 use session::{Access, Sink, Source};
 use shard::{ShardLaw, World};
 use std::alloc::Global;
@@ -29,7 +31,9 @@ use std::thread::Threads;
 use std::time::Clock;
 use vschema::VSchema;
 use vt_value::Items;
-use vtgate_input::{Fault, SUCCESS, has_too_many, ranges_of, read_all, refuse, schema_of};
+use vtgate_input::{
+    Fault, SUCCESS, USAGE, WRONG_WORDS, has_too_many, ranges_of, read_all, refuse, schema_of,
+};
 
 /// What is told once both ports are bound.
 const LISTENING: &[u8] = b"listening\n";
@@ -330,11 +334,8 @@ fn served<
     serve_over(rt, alloc, asked, schema, &ranges, output)
 }
 
-/// Serves connections as the words ask, under the VSchema that the whole input declares, and gives the status 0 after the last one. The
-/// status is 1 where a port can't be bound, which is told, where no thread could be started, where a device fails and where there is no
-/// memory for what it runs over; and 2 where the word of the shards tells no ranges, or more than 63 beside an unsharded keyspace, and
-/// where the input declares no VSchema.
-pub fn run_serve<
+// Serves connections as the words ask, and gives the status.
+fn run_asked<
     R: Threads + Wait + Sync + Clock + Net<Listener = TcpListener, Stream = TcpStream>,
     I: Source,
     O: Sink,
@@ -349,4 +350,29 @@ pub fn run_serve<
         Err(Fault::OutOfMemory) => refuse(Fault::Failed, output, errors),
         Err(fault) => refuse(fault, output, errors),
     }
+}
+
+/// Serves connections as the words of the command line ask, under the VSchema that the whole input declares, and gives the status 0 after the
+/// last one. The status is 1 where a port can't be bound, which is told, where no thread could be started, where a device fails and where
+/// there is no memory for what it runs over; and 2 where the word of the shards tells no ranges, or more than 63 beside an unsharded
+/// keyspace, and where the input declares no VSchema. Words that aren't those of `serve` are wrong: the usage is told, and the status is 2.
+pub fn run_serve<
+    R: Threads + Wait + Sync + Clock + Net<Listener = TcpListener, Stream = TcpStream>,
+    I: Source,
+    O: Sink,
+    E: Sink,
+>(rt: &R, alloc: Global, words: &[String], input: &mut I, output: &mut O, errors: &mut E) -> u8
+    ensures serve { (asking : Asking) → Asks (map string_bytes words.now) asking → result ≡ SUCCESS
+        → HasServed asking.shards (I.unread input.old) (I.unread input.new) (O.taken output.old) (O.taken output.new) }
+    // A wrong word is refused before anything is read.
+    ensures unserved { (asking : Asking) → Asks (map string_bytes words.now) asking
+        → ((ranges : List KeyRange) → NamesPartition asking.shards ranges → ⊥) → (result ≢ SUCCESS) × (input.new ≡ input.old) }
+    ensures wrong { ((asking : Asking) → Asks (map string_bytes words.now) asking → ⊥)
+        → (result ≡ WRONG_WORDS) × (input.new ≡ input.old) × (output.new ≡ output.old) }
+{
+    let Some(asked) = read_words(words) else {
+        let _ = errors.write(USAGE);
+        return WRONG_WORDS;
+    };
+    run_asked(rt, alloc, &asked, input, output, errors)
 }

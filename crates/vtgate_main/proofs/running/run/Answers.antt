@@ -22,14 +22,3 @@ returns-in-Some-script_words-clause-unread g c shards words none =
       λ done. let h = c.run_script.ensures.scripted done in none_there h.ranges h.partition,
       c.run_script.ensures.untouched none_there,
     )
-
-pub returns-clause-unserved : goal.returns-clause-unserved
-returns-clause-unserved g c asking asks none =
-    let found = c.in-Some-read_words.ensures.found.words in
-    let words = asks.words in
-    let same : c.in-Some-read_words.asked.shards ≡ asking.shards = cc (found, words) in
-    let none_there : (ranges : List KeyRange) → NamesPartition c.in-Some-read_words.asked.shards ranges → ⊥ =
-    λ ranges p. none ranges (subst (λ (s : List ℕ). NamesPartition s ranges) same p) in (
-      λ done. let h = c.run_serve.ensures.served done in none_there h.ranges h.partition,
-      c.run_serve.ensures.untouched none_there,
-    )

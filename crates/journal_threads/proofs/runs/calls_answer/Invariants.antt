@@ -1,5 +1,0 @@
-use Rattle.journal_threads.proofs.runs.calls_answer.Given as goal
-
--- the table that was just opened
-abbrev pub ghosts-answers : goal.ghosts-answers
-ghosts-answers g a = record { table = a.opened }

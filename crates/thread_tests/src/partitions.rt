@@ -1,0 +1,112 @@
+//! The partition that was published last is the one that is read.
+ghost use Rattle.std.specs.Prelude.{◌≡◌, [], ◌∷◌, IfOk};
+ghost use Rattle.keyrange.specs.Names.{IsNamed};
+ghost use Rattle.serving.specs.Partitions.{IsPartition, AreOf};
+
+use keyrange::{KeyRange, covers_once};
+use serving::{MOST_PUBLISHED, Part, Partition, Seated, Serving};
+use std::alloc::{AllocError, Global};
+use std::sync::Arc;
+use std::test::Fail;
+
+// A slot and a range in the place of a shard.
+#[derive(Drop)]
+struct Chair {
+    slot: usize,
+    range: KeyRange,
+}
+
+impl Seated for Chair {
+    ghost seat = { λ chair. (chair.slot, chair.range, 0) };
+
+    fn slot(&self) -> usize {
+        self.slot
+    }
+
+    fn range(&self) -> KeyRange {
+        self.range
+    }
+
+    fn keyspace(&self) -> usize {
+        0
+    }
+}
+
+fn one_part(alloc: Global, slot: usize, range: KeyRange) -> Result<Vec<Part<Chair>>, AllocError>
+    ensures { IfOk result (λ parts. parts.items ≡ (slot, range, 0) ∷ []) }
+{
+    let chair = Arc::new(alloc, Chair { slot, range })?;
+    let mut parts = Vec::new(alloc);
+    parts.push(Part::new(chair))?;
+    Ok(parts)
+}
+
+// All keyspace ids on one slot.
+fn whole(alloc: Global, slot: usize) -> Result<Partition<Chair>, Fail>
+    ensures { IfOk result (λ p. AreOf 0 p) }
+{
+    let range = KeyRange::read("-").ok_or("no range")?;
+    if !covers_once(&[range]) {
+        return Err(Fail::new("no cover"));
+    }
+    Ok(Partition::new(0, one_part(alloc, slot, range)?))
+}
+
+fn current_slot(serving: &Serving<Chair>) -> Option<usize> {
+    let [part] = serving.current().parts() else {
+        return None;
+    };
+    Some(part.slot())
+}
+
+// Whether the next partition, on the slot, is taken.
+fn is_published(alloc: Global, serving: &Serving<Chair>, slot: usize) -> Result<bool, Fail>
+    requires { serving.now ≡ 0 }
+{
+    let next = Box::new(alloc, whole(alloc, slot)?)?;
+    Ok(serving.publish(next).is_ok())
+}
+
+// The slots of the partitions that were present behind each that was published, and the last behind one more, which isn't taken.
+fn present_slots(alloc: Global, serving: &Serving<Chair>) -> Result<Vec<Option<usize>>, Fail>
+    requires { serving.now ≡ 0 }
+{
+    let mut slots = Vec::new(alloc);
+    let done = push_slots(alloc, serving, &mut slots);
+    match done {
+        Ok(()) => Ok(slots),
+        Err(fail) => Err(fail),
+    }
+}
+
+fn push_slots(
+    alloc: Global,
+    serving: &Serving<Chair>,
+    slots: &mut Vec<Option<usize>>,
+) -> Result<(), Fail>
+    requires { serving.now ≡ 0 }
+{
+    for slot in 1..=MOST_PUBLISHED.saturating_add(1) {
+        let is_taken = is_published(alloc, serving, slot)?;
+        if is_taken != (slot <= MOST_PUBLISHED) {
+            return Err(Fail::new("taken or handed back wrongly"));
+        }
+        slots.push(current_slot(serving))?;
+    }
+    Ok(())
+}
+
+#[test]
+fn current_is_opening_partition(rt: HostRuntime) -> Result<(), Fail> {
+    let alloc = rt.alloc();
+    let serving = Serving::new(alloc, 0, whole(alloc, 0)?)?;
+    assert_eq!(rt; current_slot(&serving), Some(0));
+    let slots = present_slots(alloc, &serving)?;
+    for (before, present) in slots.as_slice().iter().enumerate() {
+        assert_eq!(rt;
+            *present,
+            Some(before.saturating_add(1).min(MOST_PUBLISHED))
+        );
+    }
+    Ok(())
+}
