@@ -26,6 +26,10 @@ use Rattle.administration.specs.declared.reply.AdminReply.{AdminReply}
 use Rattle.administration.specs.declared.reply.AdminReply.TheVariants.{Done, Moved, Took, Refused, Status, Unknown}
 use Rattle.administration.specs.Words.{status_text}
 
+-- what an administrator has: the workflow of the sharded keyspace, where there is one
+abbrev pub AdministratorView : Type 0
+AdministratorView = Option WorkflowView
+
 -- the ranges of a partition of the keyspace, in the order of their begins, and the stage
 pub record IsStatus (keyspace : ℕ) (stage : Stage) (text : List ℕ) : Type 0 where
   pub seats : List Seat
@@ -113,11 +117,11 @@ pub data IsAnsweredWithout (words : List ℕ) : AdminReply → Type 0 where
   unknown : AsksFor words lines.Unknown → IsAnsweredWithout words Unknown
 
 -- what the words of a line did, over the workflow of the sharded keyspace, where there is one
-pub data IsTold (o : Opening) (most : Limits) (words : List ℕ) (p q : PassView Entry) (reply : AdminReply) : Option WorkflowView → Option WorkflowView → Type 0 where
+pub data IsTold (o : Opening) (most : Limits) (words : List ℕ) (p q : PassView Entry) (reply : AdminReply) : AdministratorView → AdministratorView → Type 0 where
   over : {w now : WorkflowView} → IsAnswered o most words w now p q reply → IsTold o most words p q reply (Some w) (Some now)
   without : IsAnsweredWithout words reply → q ≡ p → IsTold o most words p q reply None None
 
 -- the keyspace of the workflow
-abbrev pub keyspace_of : Option WorkflowView → Option ℕ
+abbrev pub keyspace_of : AdministratorView → Option ℕ
 keyspace_of None = None
 keyspace_of (Some w) = Some w.keyspace

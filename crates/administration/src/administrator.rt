@@ -93,10 +93,9 @@ pub struct Administrator<W: World, J: Naming> {
 }
 
 impl<W: World, J: Naming> Model for Administrator<W, J> {
-    ghost use Rattle.std.specs.Prelude.{Option};
-    ghost use Rattle.reshard.specs.Workflows.{WorkflowView};
+    ghost use Rattle.administration.specs.Told.{AdministratorView};
 
-    ghost Value = { Option WorkflowView };
+    ghost Value = { AdministratorView };
 
     ghost view = { λ a. a.workflow };
 }

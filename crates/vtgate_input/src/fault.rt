@@ -2,7 +2,7 @@
 ghost use Rattle.std.specs.Prelude.{◌≢◌};
 
 use itoa::Buffer;
-use session::Sink;
+use session_replies::Sink;
 use vschema::SchemaFault;
 use vt_value::Refusal;
 use vtgate_lines::refusal_line;

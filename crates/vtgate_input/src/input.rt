@@ -3,7 +3,7 @@ ghost use Rattle.std.specs.Prelude.{◌≡◌, ℕ, ◌<◌, List, ◌++◌, fal
 ghost use Rattle.std.specs.Io.KnownBytes.{Consumes, IsAtEnd};
 
 use crate::fault::Fault;
-use session::Source;
+use session_replies::Source;
 use std::alloc::Global;
 
 /// How many bytes are asked of an input at once.

@@ -23,9 +23,8 @@ use Rattle.session.specs.Alone.{Told}
 use Rattle.session.specs.Among.{AnswersAmong, told_in}
 use Rattle.vtgate_lines.specs.Lines.{IsStatementLine, IsAdminLine, IsNextLine}
 use Rattle.vtgate_lines.specs.Partitions.{NamesPartition}
-use Rattle.reshard.specs.Workflows.{WorkflowView}
 use Rattle.administration.specs.declared.reply.AdminReply.{AdminReply}
-use Rattle.administration.specs.Told.{IsTold}
+use Rattle.administration.specs.Told.{AdministratorView, IsTold}
 use Rattle.administration.specs.Words.{reply_text}
 use Rattle.administration.specs.Idle.{opening_workflow}
 use Rattle.vtgate_lines.specs.Printed.{rows_text, count_text, refusal_text}
@@ -97,25 +96,25 @@ unknown_text = codes "unknown\n"
 
 -- What is printed for a line, over a workflow of the sharded keyspace, where there is one. An admin line is the controller's, whose pass has
 -- seen what all lines before it have; nobody commits meanwhile, so that the one database stays.
-pub data PrintsLine (o : Opening) (s : Progress) (workflow : Option WorkflowView) (text : List ℕ) : List ℕ → Progress → Option WorkflowView → Type 0 where
+pub data PrintsLine (o : Opening) (s : Progress) (workflow : AdministratorView) (text : List ℕ) : List ℕ → Progress → AdministratorView → Type 0 where
   statement : {printed : List ℕ} {now : Progress} (name sql : List ℕ) → IsStatementLine text name sql → Runs o s name sql printed now
       → PrintsLine o s workflow text printed now workflow
-  admin : {reply : AdminReply} {after : Option WorkflowView} (words : List ℕ) (p q : PassView Entry) → IsAdminLine text words → p.seen ≡ s.seen
+  admin : {reply : AdminReply} {after : AdministratorView} (words : List ℕ) (p q : PassView Entry) → IsAdminLine text words → p.seen ≡ s.seen
       → NoCommits s.seen q.seen → IsTold o most_limits words p q reply workflow after → PrintsLine o s workflow text (reply_text reply) (record s { seen = q.seen }) after
   unknown : ((name sql : List ℕ) → IsStatementLine text name sql → ⊥) → ((words : List ℕ) → IsAdminLine text words → ⊥)
       → PrintsLine o s workflow text unknown_text s workflow
 
 -- what is printed for all lines of an input, in order
-pub data AllGive (o : Opening) : Progress → Option WorkflowView → List ℕ → List ℕ → Progress → Option WorkflowView → Type 0 where
-  none : {s : Progress} {workflow : Option WorkflowView} → AllGive o s workflow [] [] s workflow
-  next : {s mid now : Progress} {workflow amid after : Option WorkflowView} {input text rest printed out : List ℕ} → IsNextLine input text rest
+pub data AllGive (o : Opening) : Progress → AdministratorView → List ℕ → List ℕ → Progress → AdministratorView → Type 0 where
+  none : {s : Progress} {workflow : AdministratorView} → AllGive o s workflow [] [] s workflow
+  next : {s mid now : Progress} {workflow amid after : AdministratorView} {input text rest printed out : List ℕ} → IsNextLine input text rest
       → PrintsLine o s workflow text printed mid amid → AllGive o mid amid rest out now after → AllGive o s workflow input (printed ++ out) now after
 
 -- exactly that was printed, from this workflow on
-pub record HasGiven (o : Opening) (workflow : Option WorkflowView) (input : List ℕ) (taken now : Known) : Type 0 where
+pub record HasGiven (o : Opening) (workflow : AdministratorView) (input : List ℕ) (taken now : Known) : Type 0 where
   pub out : List ℕ
   pub last : Progress
-  pub after : Option WorkflowView
+  pub after : AdministratorView
   pub gives : AllGive o at_first workflow input out last after
   pub printed : Appends taken now out
 

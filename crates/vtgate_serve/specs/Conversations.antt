@@ -5,18 +5,17 @@ use Rattle.journal.specs.Views.{PassView}
 use Rattle.shard_run.specs.declared.Entry.{Entry}
 use Rattle.shard_run.specs.Runs.{Opening}
 use Rattle.shard_contents.specs.declared.limits.Limits.{Limits}
-use Rattle.reshard.specs.Workflows.{WorkflowView}
 use Rattle.vtgate_lines.specs.Lines.{HasNoEnd}
 use Rattle.vtgate_lines.specs.Printed.{line}
 use Rattle.session_replies.specs.Devices.{AppendsFront}
 use Rattle.administration.specs.declared.reply.AdminReply.{AdminReply}
-use Rattle.administration.specs.Told.{IsTold}
+use Rattle.administration.specs.Told.{AdministratorView, IsTold}
 use Rattle.administration.specs.Words.{reply_text}
 
 -- what the controller has: its pass, and the workflow of the sharded keyspace, where there is one
 pub record Controller : Type 0 where
   pub pass : PassView Entry
-  pub workflow : Option WorkflowView
+  pub workflow : AdministratorView
 
 -- Lines that were answered in turn, each over what the lines before it left: the bytes that came, and the lines that answer them.
 pub data AreAnswered (o : Opening) (most : Limits) (from : Controller) : List ℕ → List ℕ → Controller → Type 0 where
