@@ -7,7 +7,7 @@ use Rattle.std.proofs.Common.{ℕ, List}
 use Rattle.journal.specs.declared.law.Naming as naming
 use Rattle.shard_calls.proofs.Sent.{pass_send}
 use Rattle.shard.specs.declared.world.World as world
-use Rattle.soak.proofs.book.Book.TheSendSync as book
+use Rattle.soak_book.proofs.book.Book.TheSendSync as book
 use Rattle.soak.specs.contracts.session.Client as client
 
 -- captures that threads may each share

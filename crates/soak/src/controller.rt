@@ -3,8 +3,6 @@ ghost use Rattle.std.specs.Prelude.{◌≡◌};
 ghost use Rattle.empty_opening.specs.Empty.{sharded_keyspace};
 ghost use Rattle.administration.specs.Told.{keyspace_of};
 
-use crate::book::Book;
-use crate::fault::Fault;
 use crate::lines::{Done, Next, TURNS, script};
 use crate::session::Client;
 use crate::watch::Watch;
@@ -15,6 +13,7 @@ use rand_pcg::Pcg32;
 use route_engine::{Engine, Open};
 use serving::Seated;
 use shard::{Shard, ShardLaw, World};
+use soak_book::{Book, Fault};
 use std::alloc::Global;
 use std::sync::{Arc, Wait};
 use std::thread;

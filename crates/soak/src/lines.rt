@@ -1,8 +1,7 @@
 //! The lines of the administrator, and what their replies say.
-use crate::fault::Fault;
-use crate::tally::{Tally, count};
 use administration::AdminReply;
 use reshard::{CutoverStep, ReshardFault};
+use soak_book::{Fault, Tally, count};
 
 /// What is begun again and again: shards are split, or merged, and put back.
 pub const TURNS: [[&str; 2]; 3] = [

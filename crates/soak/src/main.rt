@@ -4,18 +4,13 @@
 //! prints no counts.
 #![tactic(auto)]
 
-mod book;
 mod controller;
-mod fault;
 mod lines;
-mod rows;
 mod session;
-mod statement;
-mod tally;
 mod watch;
 mod world;
 
-use fault::Fault;
+use soak_book::{Fault, Tally, count};
 use std::process::ExitCode;
 use std::rt::Env;
 use std::sync::Wait;
@@ -23,7 +18,6 @@ use std::sync::atomic::AtomicU64;
 use std::thread::Threads;
 use std::time::{Clock, Instant};
 use std::{env, fmt, io};
-use tally::{Tally, count};
 use watch::Watch;
 use world::{Plan, play};
 

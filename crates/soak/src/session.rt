@@ -2,13 +2,11 @@
 ghost use Rattle.std.specs.Prelude.{IsSome};
 ghost use Rattle.shard_calls.specs.Pendings.{IsOf};
 
-use crate::book::{Book, check_whole};
-use crate::fault::Fault;
-use crate::statement::{Ids, Statement, Verb};
 use crate::watch::Watch;
 use journal::{Naming, Pass};
 use route_engine::{Answer, Engine, Open, Tx};
 use shard::{ShardLaw, World};
+use soak_book::{Book, Fault, Ids, Statement, Verb, check_whole};
 use std::alloc::Global;
 use std::sync::Wait;
 use std::thread::Threads;

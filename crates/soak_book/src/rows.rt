@@ -1,7 +1,7 @@
 //! The rows of a session by its accepted commands.
 use crate::fault::Fault;
 use crate::statement::{Ids, Statement, Verb, number};
-use route_engine::Answer;
+use shard_calls::Answer;
 use vt_value::Row;
 
 /// How many keys a session has.

@@ -1,6 +1,6 @@
 //! A session's statements.
 use crate::fault::Fault;
-use route_engine::Answer;
+use shard_calls::Answer;
 use std::fmt;
 use vt_value::{Refusal, Row, Value};
 

@@ -5,7 +5,7 @@ use crate::statement::{Ids, Statement, Verb};
 use crate::tally::{Tally, count};
 use rand_core::utils::NextWord;
 use rand_pcg::Pcg32;
-use route_engine::Answer;
+use shard_calls::Answer;
 use vt_value::Refusal;
 
 /// Keys that have the same low bits of their ids: with two such bits they lie on one shard, whatever shards there are; with fewer a split may

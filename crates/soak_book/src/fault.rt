@@ -1,6 +1,6 @@
 //! Why a soak ends early.
 use crate::statement::Statement;
-use reshard::ReshardFault;
+use reshard_beginning::ReshardFault;
 use std::fmt;
 use vt_value::Refusal;
 
