@@ -136,7 +136,8 @@ impl<W: World, J: Naming> Workflow<W, J> {
     // has begun (else N4, and nothing changed). For want of memory, and where a source or a target would pass a limit (F24), which it tells
     // only where the pass came by it, the cutover is given up, of which no source is retired: each source serves again, and the targets
     // follow
-    // Refuses: failed_cutover_leaves_frozen, switch_step_takes_two, cutover_without_looking_for_room
+    // Refuses: given_up_cutover_thaws_none, cutover_steps::failed_cutover_leaves_frozen, switch_step_takes_two,
+    // cutover_without_looking_for_room
     /// Takes the next step of the cutover, and tells which: the next source is frozen; once all are, the first target moves that isn't level,
     /// else the next source is retired; then the targets serve, the next partition is published, and the statements that waited go on.
     /// Refuses where no targets follow and no cutover has begun. For want of memory, and where a shard would have more rows or entries than

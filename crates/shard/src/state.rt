@@ -333,7 +333,7 @@ impl<W: World, J: Naming> ShardState<W, J> {
     // the write and its changes; its count is what the write gives over the one database before the entry, in the shard's place. Where the
     // shard is frozen or doesn't serve, the write comes back after one look
     // Clauses: answered, seen, later, shard, stands
-    // Refuses: write_appends_nothing, shard_contents::write_appends_another_change, shard_contents::commit_leaves_out_a_write,
+    // Refuses: write_appends_nothing, shard_contents::write_appends_another_change, shard_contents::write_commits_no_statement,
     // number_of_another_statement, shard_contents::rows_forget_the_commit
     // Promise: It is refused only for its cause at the look's run, and then nothing is appended: a primary key that is there (F12), a limit
     // of rows, stored entries or entries (F24), or memory

@@ -109,11 +109,12 @@ impl<W: World, J: Naming> ShardState<W, J> {
     // at a place, cut to the target's place, or that none is left; else at most 100 rows of a table of that place, in the order of their
     // keys, behind the last that was copied, and whether they are the last. What is followed is cut to what is copied, and a Copy is
     // exactly one entry, refused for want of memory or for the limit of entries alone
-    // With: ShardState::{copied_changes, entry_for, rows_to_copy, copy}
+    // With: ShardState::{behind, copied_changes, entry_for, rows_to_copy, copy}
     // Refuses: shard_contents::follows_without_range_filter, shard_contents::copies_one_row_too_few,
     // shard_contents::copies_rows_out_of_order, shard_contents::copies_beyond_the_place, shard_contents::walk_ends_at_a_row_with_a_place,
     // shard_contents::walk_ends_out_of_order, shard_contents::last_copy_is_forgotten, shard_contents::position_of_an_entry_before,
-    // tables_of_another_source_are_copied, shard_contents::copies_a_row_again, shard_contents::copy_adds_no_rows, shard_contents::tables_in_any_order
+    // tables_of_another_source_are_copied, shard_contents::copies_a_row_again, shard_contents::copy_adds_no_rows,
+    // shard_contents::tables_in_any_order
     /// How far a target that follows has come with a source, by its slot. Refuses for want of memory.
     pub fn progress(
         &self,

@@ -36,7 +36,7 @@ impl<W: World, J: Naming> ShardState<W, J> {
     // exactly then), a primary key (F12), a limit at the commit (F24), or memory; where it is refused, the transaction is as it was
     // With: ShardState::{read_in, write_in, commit_in}, Shard::{check, read_in, write_in, commit_in}
     // Refuses: shard_contents::commit_without_conflict_test, shard_contents::conflict_for_every_commit,
-    // shard_contents::commit_leaves_out_a_write_2, shard_contents::conflict_looks_one_entry_too_late, frozen_shard_takes_a_transaction,
+    // shard_contents::commit_leaves_out_a_write, shard_contents::conflict_looks_one_entry_too_late, frozen_shard_takes_a_transaction,
     // shard_contents::own_removal_is_not_seen, shard_contents::query_sees_no_own_writes, shard_contents::refused_commit_loses_its_writes,
     // shard_contents::transaction_commits_no_changes, shard_contents::transaction_counts_removed_as_added,
     // shard_contents::transaction_keeps_no_write, shard_contents::write_sees_no_own_writes
