@@ -96,17 +96,28 @@ fn push_slots(
     Ok(())
 }
 
+// Whether each is the slot of the partition published last: they begin behind the first, and end behind one that wasn't taken.
+fn are_last(slots: &[Option<usize>]) -> bool {
+    for (before, present) in slots.iter().enumerate() {
+        if *present != Some(before.saturating_add(1).min(MOST_PUBLISHED)) {
+            return false;
+        }
+    }
+    slots.len() > MOST_PUBLISHED
+}
+
+// Whether the opening partition is present first, and then each that is published.
+fn is_present_last(alloc: Global) -> Result<bool, Fail> {
+    let serving = Serving::new(alloc, 0, whole(alloc, 0)?)?;
+    if current_slot(&serving) != Some(0) {
+        return Ok(false);
+    }
+    let slots = present_slots(alloc, &serving)?;
+    Ok(are_last(slots.as_slice()))
+}
+
 #[test]
 fn current_is_opening_partition(rt: HostRuntime) -> Result<(), Fail> {
-    let alloc = rt.alloc();
-    let serving = Serving::new(alloc, 0, whole(alloc, 0)?)?;
-    assert_eq!(rt; current_slot(&serving), Some(0));
-    let slots = present_slots(alloc, &serving)?;
-    for (before, present) in slots.as_slice().iter().enumerate() {
-        assert_eq!(rt;
-            *present,
-            Some(before.saturating_add(1).min(MOST_PUBLISHED))
-        );
-    }
+    assert!(rt; is_present_last(rt.alloc())?);
     Ok(())
 }
