@@ -21,7 +21,7 @@ for rows in ${ROWS:-20 1000}; do
     before=$!
     for shards in 1 2 4 8; do
         python3 "$top/bench/lines.py" "$shards" "$rows" > "$work/lines"
-        (cd "$top/crates/bench" && rt try --seconds 1200 < "$work/lines" > "$work/given" 2> "$work/now.log") || { cat "$work/now.log" >&2; exit 1; }
+        (cd "$top/crates/testbed" && rt try --seconds 1200 < "$work/lines" > "$work/given" 2> "$work/now.log") || { cat "$work/now.log" >&2; exit 1; }
         sed -n "s/^\(.*: [0-9]* nanoseconds\)$/shards $shards, rows $rows: \1/p" "$work/now.log" >> "$work/now"
     done
     wait $before || { cat "$work/before.log" >&2; exit 1; }

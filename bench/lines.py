@@ -1,4 +1,4 @@
-"""What is measured, as lines for the program of crates/bench. With a number of shards and one of rows, prints those of the queries."""
+"""What is measured, as a line for the program of crates/testbed. With a number of shards and one of rows, prints that of the queries."""
 
 import sys
 
@@ -38,7 +38,7 @@ BY_KEY = (
 
 
 class Line:
-    """A line for the program: what is measured, by how many threads, how often by each, its name and its text."""
+    """A measurement: what is measured, by how many threads, how often by each, its name and its text."""
 
     def __init__(self, measured, threads, rounds, name, text):
         self.measured, self.threads, self.rounds, self.name, self.text = measured, threads, rounds, name, text
@@ -54,7 +54,7 @@ def names_of(shards):
 
 
 def program_input(shards, lines):
-    return "".join(f"{line}\n" for line in [SCHEMA, names_of(shards), *lines])
+    return "\t".join(str(it) for it in ["measure", SCHEMA, names_of(shards), *lines]) + "\n"
 
 
 def number(step, first, bound):

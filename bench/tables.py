@@ -1,4 +1,4 @@
-"""Runs the lines of lines.py and writes how long they took as tables, with ratios. Called by measure.sh with the program of crates/bench,
+"""Runs the lines of lines.py and writes how long they took as tables, with ratios. Called by measure.sh with the program of crates/testbed,
 and with that of lookup/main.rs where there is a compiler for it."""
 
 import datetime
@@ -32,7 +32,7 @@ def table(head, rows):
 def run(program, shards, asked):
     """What each line gave over so many shards, as the program prints it, and the nanoseconds of all its rounds."""
     ran = subprocess.run([program], input=lines.program_input(shards, asked), capture_output=True, text=True)
-    given, took = ran.stdout.splitlines(), ran.stderr.splitlines()
+    given, took = ran.stdout.rstrip("\n").split("\t"), ran.stderr.splitlines()
     if ran.returncode or len(given) != len(asked) or len(took) != len(asked):
         sys.exit(f"{program} failed with status {ran.returncode} behind {given[-1:]}: {took[-1:]}")
     return [

@@ -1,4 +1,4 @@
-//! The lines of the input.
+//! The lines of a case.
 
 /// What is measured.
 #[derive(Clone, Copy)]

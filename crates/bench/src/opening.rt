@@ -6,7 +6,8 @@ ghost use Rattle.vschema.specs.WellFormed.{is_vschema};
 ghost use Rattle.shard_contents.specs.Shards.{most_limits};
 ghost use Rattle.empty_opening.specs.Empty.{opening_of, FitRanges};
 
-use crate::router::{Router, refused};
+use crate::router::Router;
+use case_fields::{Told, Unanswered, fields};
 use empty_opening::ranges_fit;
 use journal::{Naming, Opened};
 use keyrange::KeyRange;
@@ -14,7 +15,6 @@ use route_engine::Open;
 use router_opening::empty_router;
 use shard::{ShardLaw, World};
 use std::alloc::Global;
-use std::io;
 use std::marker::Brand;
 use std::sync::Wait;
 use std::thread::Threads;
@@ -67,7 +67,7 @@ fn read_schema(alloc: Global, text: &str, ranges: &[KeyRange]) -> Result<VSchema
 fn run_opened<
     W: World + Send + Sync,
     J: Naming + Send + Sync,
-    R: Threads + Wait + Clock + Print + Eprint + Sync,
+    R: Threads + Wait + Clock + Eprint + Sync,
 >(
     rt: &R,
     alloc: Global,
@@ -75,7 +75,8 @@ fn run_opened<
     ranges: &[KeyRange],
     opened: Opened<ShardLaw<W>>,
     lines: &[u8],
-) -> io::Result<()>
+    told: &mut Told,
+) -> Result<(), Unanswered>
     requires opened { opened ≡ J.table }
     requires opening { W.opening ≡ opening_of schema ranges.now }
     requires limits { W.limits ≡ most_limits }
@@ -83,7 +84,7 @@ fn run_opened<
     requires fit { FitRanges schema ranges.now }
 {
     match empty_router::<W, J, Open>(alloc, schema, ranges, opened, 0, Open) {
-        Err(refusal) => Err(refused(refusal)),
+        Err(refusal) => Err(Unanswered::Refused(refusal)),
         Ok((engine, opener, first, free)) => {
             drop(free);
             let mut router = Router {
@@ -92,41 +93,43 @@ fn run_opened<
                 first,
                 ranges,
             };
-            router.run_lines(rt, alloc, lines)
+            router.run_lines(rt, alloc, lines, told)
         }
     }
 }
 
 // The same in the world that has this VSchema and these ranges, and no rows.
-fn run_in_empty_world<W: World + Send + Sync, R: Threads + Wait + Clock + Print + Eprint + Sync>(
+fn run_in_empty_world<W: World + Send + Sync, R: Threads + Wait + Clock + Eprint + Sync>(
     rt: &R,
     alloc: Global,
     schema: VSchema,
     ranges: &[KeyRange],
     lines: &[u8],
-) -> io::Result<()>
+    told: &mut Told,
+) -> Result<(), Unanswered>
     requires opening { W.opening ≡ opening_of schema ranges.now }
     requires limits { W.limits ≡ most_limits }
     requires formed { IsTrue (is_vschema schema) }
     requires fit { FitRanges schema ranges.now }
 {
-    let opened = Opened::<ShardLaw<W>>::new(alloc).map_err(refused)?;
-    run_opened::<W, Brand, R>(rt, alloc, schema, ranges, opened, lines)
+    let opened = Opened::<ShardLaw<W>>::new(alloc)?;
+    run_opened::<W, Brand, R>(rt, alloc, schema, ranges, opened, lines, told)
 }
 
-/// Runs the lines of an input behind the first two, which say over what.
-pub fn run_input<R: Threads + Wait + Clock + Print + Eprint + Sync>(
+/// Runs the lines of a case behind its first two fields, which say over what: a VSchema, and the ranges of its shards with commas between them.
+pub fn answer<R: Threads + Wait + Clock + Eprint + Sync>(
     rt: &R,
     alloc: Global,
-    input: &str,
-) -> io::Result<()> {
-    let (declared, rest) = input.split_once('\n').unwrap_or((input, ""));
-    let (names, lines) = rest.split_once('\n').unwrap_or((rest, ""));
-    let ranges = read_ranges(alloc, names).map_err(refused)?;
+    case: &str,
+    told: &mut Told,
+) -> Result<(), Unanswered> {
+    let (declared, rest) = fields(case)?;
+    let (names, lines) = fields(rest)?;
+    let ranges = read_ranges(alloc, names)?;
     // as bytes: the check lets no world be picked for a call that is passed a `&str`
     let lines = lines.as_bytes();
     match read_schema(alloc, declared, &ranges) {
-        Ok(schema) => run_in_empty_world::<Brand, R>(rt, alloc, schema, &ranges, lines),
-        Err(refusal) => Err(refused(refusal)),
+        Ok(schema) => run_in_empty_world::<Brand, R>(rt, alloc, schema, &ranges, lines, told),
+        Err(refusal) => Err(Unanswered::Refused(refusal)),
     }
 }

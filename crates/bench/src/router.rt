@@ -4,15 +4,16 @@ use crate::line::{Line, Measured};
 use crate::sessions::run_sessions;
 use crate::statement::Statement;
 use crate::texts::read_text;
+use case_fields::{Told, Unanswered};
 use journal::{Naming, Opener, Pass};
 use keyrange::KeyRange;
 use route_engine::{Engine, Open};
 use shard::{ShardLaw, World};
 use std::alloc::Global;
+use std::str;
 use std::sync::Wait;
 use std::thread::Threads;
 use std::time::{Clock, Duration, Instant};
-use std::{io, str};
 use vt_value::Refusal;
 
 /// A router over these ranges, with what opens its sessions.
@@ -24,26 +25,30 @@ pub struct Router<'r, W: World, J: Naming> {
     pub ranges: &'r [KeyRange],
 }
 
-/// What a refusal is to the program.
-pub fn refused(refusal: Refusal) -> io::Error {
-    match refusal {
-        Refusal::OutOfMemory => io::Error::from(io::ErrorKind::OutOfMemory),
-        _ => io::Error::from(io::ErrorKind::InvalidInput),
+// Tells what a line gave.
+fn put_given(told: &mut Told, name: &str, given: Result<u64, Refusal>) {
+    told.put(name);
+    match given {
+        Ok(amount) => {
+            told.put(": ");
+            told.put_number(amount);
+        }
+        Err(refusal) => {
+            told.put(": refused by ");
+            told.put_number(u64::from(refusal.code()));
+        }
     }
 }
 
-fn print_given<R: Print + Eprint>(
-    rt: &R,
-    name: &str,
-    given: Result<u64, Refusal>,
-    time: Duration,
-) -> io::Result<()> {
-    match given {
-        Ok(amount) => println!(rt; "{name}: {amount}")?,
-        Err(refusal) => println!(rt; "{name}: refused by {}", refusal.code())?,
-    }
+// Says on standard error how long a line took. Where nobody reads that, nothing is said.
+fn say_time<R: Eprint>(rt: &R, name: &str, time: Duration) {
     let nanos = u64::try_from(time.as_nanos()).unwrap_or(u64::MAX);
-    eprintln!(rt; "{name}: {nanos} nanoseconds")
+    let _ = eprintln!(rt; "{name}: {nanos} nanoseconds");
+}
+
+// Without a clock nothing is measured.
+fn timed<T>(time: std::io::Result<T>) -> Result<T, Unanswered> {
+    time.ok().ok_or(Unanswered::BadLine)
 }
 
 impl<W: World + Send + Sync, J: Naming + Send + Sync> Router<'_, W, J> {
@@ -69,29 +74,34 @@ impl<W: World + Send + Sync, J: Naming + Send + Sync> Router<'_, W, J> {
     }
 
     // Tells what a line gives.
-    fn run_line<R: Threads + Wait + Clock + Print + Eprint + Sync>(
+    fn run_line<R: Threads + Wait + Clock + Eprint + Sync>(
         &mut self,
         rt: &R,
         alloc: Global,
         line: Line<'_>,
-    ) -> io::Result<()> {
-        let statement = Statement::read(alloc, line.text).map_err(refused)?;
-        let begun = Instant::now(rt)?;
+        told: &mut Told,
+    ) -> Result<(), Unanswered> {
+        let statement = Statement::read(alloc, line.text)?;
+        let begun = timed(Instant::now(rt))?;
         let given = self.measure(rt, alloc, line, &statement);
-        print_given(rt, line.name, given, begun.elapsed(rt)?)
+        say_time(rt, line.name, timed(begun.elapsed(rt))?);
+        put_given(told, line.name, given);
+        Ok(())
     }
 
-    /// Runs the lines of a text, one after the other.
-    pub fn run_lines<R: Threads + Wait + Clock + Print + Eprint + Sync>(
+    /// Runs the lines of a text, between which tabs stand, one after the other.
+    pub fn run_lines<R: Threads + Wait + Clock + Eprint + Sync>(
         &mut self,
         rt: &R,
         alloc: Global,
         text: &[u8],
-    ) -> io::Result<()> {
-        for line in str::from_utf8(text).unwrap_or("").lines() {
+        told: &mut Told,
+    ) -> Result<(), Unanswered> {
+        for (i, line) in str::from_utf8(text).unwrap_or("").split('\t').enumerate() {
+            told.put(if i == 0 { "" } else { "\t" });
             match Line::read(line) {
-                Some(line) => self.run_line(rt, alloc, line)?,
-                None => return Err(refused(Refusal::SyntaxError)),
+                Some(line) => self.run_line(rt, alloc, line, told)?,
+                None => return Err(Unanswered::BadLine),
             }
         }
         Ok(())

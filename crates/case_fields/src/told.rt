@@ -1,7 +1,8 @@
 //! An answer while it is written.
+use crate::reading::Unanswered;
 use std::alloc::{AllocError, Global};
 use std::fmt::{Display, Write};
-use vt_value::{Row, Value};
+use vt_value::{Refusal, Row, Value};
 
 /// How many equal bytes are told as a run.
 const LONG_RUN: usize = 64;
@@ -43,6 +44,12 @@ impl Told {
     /// Puts a number.
     pub fn put_number(&mut self, number: u64) {
         self.show(&number);
+    }
+
+    /// Puts how a scene went: `ok` where each thing was as it is to be, else `WRONG`.
+    pub fn put_went(&mut self, went: Result<bool, Refusal>) -> Result<(), Unanswered> {
+        self.put(if went? { "ok" } else { "WRONG" });
+        Ok(())
     }
 
     /// Puts one of two words.

@@ -11,14 +11,8 @@ use sql_lexer::{longest, one_lexing};
 use sql_parser::{one_tree, print_reads};
 use std::alloc::Global;
 
-/// Tells what the case of a line answers.
-pub(crate) fn answer(alloc: Global, line: &str, told: &mut Told) -> Result<(), Unanswered> {
-    let (area, case) = line.split_once('\t').unwrap_or((line, ""));
-    answer_texts(alloc, area, case, told)
-}
-
-// Tells what a case of texts answers.
-fn answer_texts(alloc: Global, area: &str, case: &str, told: &mut Told) -> Result<(), Unanswered> {
+/// Tells what a case of this area answers.
+pub fn answer(alloc: Global, area: &str, case: &str, told: &mut Told) -> Result<(), Unanswered> {
     match area {
         "print" => statements::printed(alloc, case, told),
         "tokens" => statements::tokens(alloc, case, told),

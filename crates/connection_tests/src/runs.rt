@@ -1,6 +1,6 @@
 //! Runs of the program by its words.
+use crate::failing::{FailingSink, FailingSource};
 use case_fields::{Told, Unanswered, fields, text_of};
-use failing_devices::{FailingSink, FailingSource};
 use session::{Reader, Sink, Source, Writer};
 use std::alloc::Global;
 use std::net::{Net, TcpListener, TcpStream};

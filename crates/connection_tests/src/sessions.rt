@@ -7,8 +7,8 @@ ghost use Rattle.shard_calls.specs.Pendings.{IsOf};
 ghost use Rattle.empty_opening.specs.Empty.{opening_of, FitRanges};
 
 use crate::devices::InterruptedReader;
+use crate::failing::{FailingSink, FailingSource};
 use empty_opening::ranges_fit;
-use failing_devices::{FailingSink, FailingSource};
 use journal::{Naming, Opened, Opener, Pass};
 use keyrange::KeyRange;
 use route_engine::{Engine, Open};

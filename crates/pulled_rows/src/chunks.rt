@@ -6,14 +6,13 @@ use resultset::{
     CHUNK_LIMIT, Chunks, Column, Kind, Outcome, ResultSet, SetEnd, encode, encode_rows,
 };
 use std::alloc::Global;
-use std::test::Fail;
 use vt_value::{Items, Refusal, Row, Value};
 
 /// The status of each reply.
 const STATUS: u16 = 2;
 
 /// One column of texts.
-fn columns(alloc: Global) -> Result<Items<Column>, Fail> {
+fn columns(alloc: Global) -> Result<Items<Column>, Refusal> {
     let mut columns = Items::new(alloc);
     columns.push(Column {
         schema: Items::from_slice(alloc, b"shop")?,
@@ -27,7 +26,7 @@ fn columns(alloc: Global) -> Result<Items<Column>, Fail> {
 }
 
 /// Rows of one text each, of these lengths.
-fn texts(alloc: Global, lengths: &[usize]) -> Result<Items<Row>, Fail> {
+fn texts(alloc: Global, lengths: &[usize]) -> Result<Items<Row>, Refusal> {
     let mut rows = Items::new(alloc);
     for length in lengths {
         let text = vec![in alloc; b'x'; *length]?;
@@ -39,7 +38,7 @@ fn texts(alloc: Global, lengths: &[usize]) -> Result<Items<Row>, Fail> {
 }
 
 /// The bytes of `encode` for rows of texts, and the number after them.
-fn whole(alloc: Global, lengths: &[usize], end: SetEnd) -> Result<(BytesMut, u8), Fail> {
+fn whole(alloc: Global, lengths: &[usize], end: SetEnd) -> Result<(BytesMut, u8), Refusal> {
     let set = ResultSet {
         columns: columns(alloc)?,
         rows: texts(alloc, lengths)?,
@@ -50,7 +49,7 @@ fn whole(alloc: Global, lengths: &[usize], end: SetEnd) -> Result<(BytesMut, u8)
 }
 
 /// The chunks of `encode_rows` for rows of texts, and the number after them.
-fn pulled(alloc: Global, lengths: &[usize], end: SetEnd) -> Result<(Chunks, u8), Fail> {
+fn pulled(alloc: Global, lengths: &[usize], end: SetEnd) -> Result<(Chunks, u8), Refusal> {
     let columns = columns(alloc)?;
     let rows = Rows::new(alloc, texts(alloc, lengths)?)?;
     let mut chunks = Chunks::new(alloc);
@@ -59,7 +58,7 @@ fn pulled(alloc: Global, lengths: &[usize], end: SetEnd) -> Result<(Chunks, u8),
     Ok((chunks, next))
 }
 
-fn joined(alloc: Global, chunks: &Chunks) -> Result<Vec<u8>, Fail> {
+fn joined(alloc: Global, chunks: &Chunks) -> Result<Vec<u8>, Refusal> {
     let mut bytes = Vec::new(alloc);
     for chunk in chunks.as_slice() {
         bytes.extend_from_slice(chunk.as_slice())?;
@@ -67,20 +66,27 @@ fn joined(alloc: Global, chunks: &Chunks) -> Result<Vec<u8>, Fail> {
     Ok(bytes)
 }
 
-fn are_joined(alloc: Global, chunks: &Chunks, bytes: &[u8]) -> Result<bool, Fail> {
+fn are_joined(alloc: Global, chunks: &Chunks, bytes: &[u8]) -> Result<bool, Refusal> {
     Ok(joined(alloc, chunks)?.as_slice() == bytes)
 }
 
 /// Whether both ways give the same bytes and number, and how many chunks there are.
-fn compared(alloc: Global, lengths: &[usize], end: SetEnd) -> Result<(bool, usize), Fail> {
+fn compared(alloc: Global, lengths: &[usize], end: SetEnd) -> Result<(bool, usize), Refusal> {
     let (chunks, next) = pulled(alloc, lengths, end)?;
     let (bytes, wanted) = whole(alloc, lengths, end)?;
     let same = are_joined(alloc, &chunks, bytes.as_slice())?;
     Ok((same && next == wanted, chunks.as_slice().len()))
 }
 
-#[test]
-fn rows_in_chunks_are_the_same_bytes(rt: HostRuntime) -> Result<(), Fail> {
+// Whether rows of these lengths are the same bytes both ways, in so many chunks, however result sets end.
+fn are_the_same(alloc: Global, lengths: &[usize], count: usize) -> Result<bool, Refusal> {
+    let (same, chunks) = compared(alloc, lengths, SetEnd::EofPackets)?;
+    let (also, again) = compared(alloc, lengths, SetEnd::OkPacket)?;
+    Ok(same && also && chunks == count && again == count)
+}
+
+/// Rows that are encoded as they are pulled have the bytes of the whole result.
+pub(crate) fn rows_in_chunks_are_the_same_bytes(alloc: Global) -> Result<bool, Refusal> {
     // how long the texts are, and how many chunks there are
     let cases: [(&[usize], usize); 5] = [
         (&[], 1),
@@ -90,27 +96,27 @@ fn rows_in_chunks_are_the_same_bytes(rt: HostRuntime) -> Result<(), Fail> {
         (&[70_000], 5),
     ];
     for (lengths, count) in &cases {
-        for end in [SetEnd::EofPackets, SetEnd::OkPacket] {
-            let (same, chunks) = compared(rt.alloc(), lengths, end)?;
-            assert!(rt; same);
-            assert_eq!(rt; chunks, *count);
+        if !are_the_same(alloc, lengths, *count)? {
+            return Ok(false);
         }
     }
-    Ok(())
+    Ok(true)
 }
 
-#[test]
-fn all_chunks_but_the_last_are_full(rt: HostRuntime) -> Result<(), Fail> {
-    let (chunks, _next) = pulled(rt.alloc(), &[255; 128], SetEnd::OkPacket)?;
+/// All chunks but the last are full.
+pub(crate) fn all_chunks_but_the_last_are_full(alloc: Global) -> Result<bool, Refusal> {
+    let (chunks, _next) = pulled(alloc, &[255; 128], SetEnd::OkPacket)?;
     let sizes: [usize; 2] = [CHUNK_LIMIT, CHUNK_LIMIT];
     for (chunk, size) in chunks.as_slice().iter().zip(&sizes) {
-        assert_eq!(rt; chunk.len(), *size);
+        if chunk.len() != *size {
+            return Ok(false);
+        }
     }
-    Ok(())
+    Ok(true)
 }
 
 /// Whether rows that fail are told so.
-fn is_refused(alloc: Global, rows: Failing, chunks: &mut Chunks) -> Result<bool, Fail> {
+fn is_refused(alloc: Global, rows: Failing, chunks: &mut Chunks) -> Result<bool, Refusal> {
     let columns = columns(alloc)?;
     let end = SetEnd::OkPacket;
     let done = encode_rows(alloc, columns.as_slice(), rows, 1, STATUS, end, chunks);
@@ -118,22 +124,23 @@ fn is_refused(alloc: Global, rows: Failing, chunks: &mut Chunks) -> Result<bool,
 }
 
 /// Whether rows that fail are told so, and leave the chunks as they were.
-fn leave(alloc: Global, rows: Failing, chunks: &mut Chunks) -> Result<bool, Fail> {
+fn leave(alloc: Global, rows: Failing, chunks: &mut Chunks) -> Result<bool, Refusal> {
     let before = joined(alloc, chunks)?;
     let refused = is_refused(alloc, rows, chunks)?;
     Ok(refused && are_joined(alloc, chunks, before.as_slice())?)
 }
 
-#[test]
-fn rows_that_fail_leave_the_stream_as_it_was(rt: HostRuntime) -> Result<(), Fail> {
-    let alloc = rt.alloc();
+/// Rows that fail leave the chunks as they were.
+pub(crate) fn rows_that_fail_leave_the_stream_as_it_was(alloc: Global) -> Result<bool, Refusal> {
     let (mut chunks, _next) = pulled(alloc, &[3], SetEnd::OkPacket)?;
     for left in [0, 9, 5_000] {
         let rows = Failing {
             left,
             failed: false,
         };
-        assert!(rt; leave(alloc, rows, &mut chunks)?);
+        if !leave(alloc, rows, &mut chunks)? {
+            return Ok(false);
+        }
     }
-    Ok(())
+    Ok(true)
 }

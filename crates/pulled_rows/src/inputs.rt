@@ -7,7 +7,6 @@ use operators::*;
 use sql_tree::Key;
 use std::alloc::Global;
 use std::cell::Cell;
-use std::test::Fail;
 use vt_value::{Items, Refusal, Row, Value};
 
 /// Counts the calls of `next`.
@@ -29,7 +28,7 @@ impl Operator for Counting<'_> {
 }
 
 /// Rows of one number each.
-fn given(alloc: Global, numbers: &[i128]) -> Result<Rows, Fail> {
+fn given(alloc: Global, numbers: &[i128]) -> Result<Rows, Refusal> {
     let mut rows = Items::new(alloc);
     for number in numbers {
         let mut row = Items::new(alloc);
@@ -47,7 +46,7 @@ fn number_in(row: &Row) -> i128 {
     }
 }
 
-fn pulled<O: Operator>(alloc: Global, mut input: O) -> Result<Vec<i128>, Fail> {
+fn pulled<O: Operator>(alloc: Global, mut input: O) -> Result<Vec<i128>, Refusal> {
     let mut numbers = Vec::new(alloc);
     for row in collect(alloc, &mut input)?.as_slice() {
         numbers.push(number_in(row))?;
@@ -56,14 +55,18 @@ fn pulled<O: Operator>(alloc: Global, mut input: O) -> Result<Vec<i128>, Fail> {
 }
 
 /// What a limit gives of six rows, whose calls are counted.
-fn limited(alloc: Global, limit: Option<(u64, u64)>, calls: &Cell<u64>) -> Result<Vec<i128>, Fail> {
+fn limited(
+    alloc: Global,
+    limit: Option<(u64, u64)>,
+    calls: &Cell<u64>,
+) -> Result<Vec<i128>, Refusal> {
     let limit = limit.map(|(count, offset)| sql_tree::Limit { count, offset });
     let input = given(alloc, &[2, 3, 1, 7, 7, 9])?;
     pulled(alloc, Limit::new(Counting { input, calls }, limit))
 }
 
-#[test]
-fn a_limit_pulls_no_row_behind_its_last(rt: HostRuntime) -> Result<(), Fail> {
+/// A limit asks for no row behind its last one.
+pub(crate) fn a_limit_pulls_no_row_behind_its_last(alloc: Global) -> Result<bool, Refusal> {
     let cases = [
         (Some((2, 3)), [7, 7].as_slice(), 5),
         (Some((0, 3)), [].as_slice(), 0),
@@ -73,15 +76,16 @@ fn a_limit_pulls_no_row_behind_its_last(rt: HostRuntime) -> Result<(), Fail> {
     ];
     for (limit, wanted, most) in cases {
         let calls = Cell::new(0);
-        let numbers = limited(rt.alloc(), limit, &calls)?;
-        assert!(rt; numbers.as_slice() == wanted);
-        assert!(rt; calls.get() <= most);
+        let numbers = limited(alloc, limit, &calls)?;
+        if numbers.as_slice() != wanted || calls.get() > most {
+            return Ok(false);
+        }
     }
-    Ok(())
+    Ok(true)
 }
 
 /// Inputs whose calls are counted together, each in order.
-fn counted<'a>(alloc: Global, calls: &'a Cell<u64>) -> Result<Vec<Counting<'a>>, Fail> {
+fn counted<'a>(alloc: Global, calls: &'a Cell<u64>) -> Result<Vec<Counting<'a>>, Refusal> {
     let mut inputs = Vec::new(alloc);
     for numbers in [[1, 4, 9].as_slice(), &[2, 2, 5], &[3], &[]] {
         let input = given(alloc, numbers)?;
@@ -91,7 +95,7 @@ fn counted<'a>(alloc: Global, calls: &'a Cell<u64>) -> Result<Vec<Counting<'a>>,
 }
 
 /// The number of each row that a merge gives, -1 once it gives none, and how often its inputs were called until then; 0 before the first.
-fn merged(alloc: Global, calls: &Cell<u64>) -> Result<Vec<(i128, u64)>, Fail> {
+fn merged(alloc: Global, calls: &Cell<u64>) -> Result<Vec<(i128, u64)>, Refusal> {
     let keys = [Key {
         column: 0,
         descending: false,
@@ -108,7 +112,7 @@ fn put_calls<O: Operator>(
     input: &mut O,
     calls: &Cell<u64>,
     told: &mut Vec<(i128, u64)>,
-) -> Result<(), Fail> {
+) -> Result<(), Refusal> {
     for _ in 0..8 {
         let number = input.next(alloc)?.as_ref().map_or(-1, number_in);
         told.push((number, calls.get()))?;
@@ -116,12 +120,12 @@ fn put_calls<O: Operator>(
     Ok(())
 }
 
-#[test]
-fn a_merge_pulls_a_row_of_each_input_and_one_for_each_that_it_gave(
-    rt: HostRuntime,
-) -> Result<(), Fail> {
+/// A merge of n inputs has pulled at most n + k rows once it gave k.
+pub(crate) fn a_merge_pulls_a_row_of_each_input_and_one_for_each_that_it_gave(
+    alloc: Global,
+) -> Result<bool, Refusal> {
     let calls = Cell::new(0);
-    let told = merged(rt.alloc(), &calls)?;
+    let told = merged(alloc, &calls)?;
     let wanted = [
         (0, 4),
         (1, 5),
@@ -133,16 +137,16 @@ fn a_merge_pulls_a_row_of_each_input_and_one_for_each_that_it_gave(
         (9, 11),
         (-1, 11),
     ];
-    assert!(rt; told.len() == wanted.len());
     for ((number, called), (wanted, most)) in told.as_slice().iter().zip(wanted) {
-        assert!(rt; *number == wanted);
-        assert!(rt; *called <= most);
+        if *number != wanted || *called > most {
+            return Ok(false);
+        }
     }
-    Ok(())
+    Ok(told.len() == wanted.len())
 }
 
 /// What calls of `next` give: `r` for a row, `e` at the end, and `f` where they fail.
-fn outcomes<O: Operator>(alloc: Global, mut input: O, calls: u32) -> Result<Vec<u8>, Fail> {
+fn outcomes<O: Operator>(alloc: Global, mut input: O, calls: u32) -> Result<Vec<u8>, Refusal> {
     let mut told = Vec::new(alloc);
     for _ in 0..calls {
         told.push(match input.next(alloc) {
@@ -155,7 +159,7 @@ fn outcomes<O: Operator>(alloc: Global, mut input: O, calls: u32) -> Result<Vec<
 }
 
 /// Inputs that fail after so many rows.
-fn inputs_of(alloc: Global, rows: &[u32]) -> Result<Vec<Failing>, Fail> {
+fn inputs_of(alloc: Global, rows: &[u32]) -> Result<Vec<Failing>, Refusal> {
     let mut inputs = Vec::new(alloc);
     for left in rows {
         inputs.push(Failing {
@@ -166,33 +170,29 @@ fn inputs_of(alloc: Global, rows: &[u32]) -> Result<Vec<Failing>, Fail> {
     Ok(inputs)
 }
 
-#[test]
-fn a_merge_stays_failed_where_an_input_does(rt: HostRuntime) -> Result<(), Fail> {
-    let alloc = rt.alloc();
+/// A merge stays failed where one of its inputs fails.
+pub(crate) fn a_merge_stays_failed_where_an_input_does(alloc: Global) -> Result<bool, Refusal> {
     let merge = MergeSort::new(alloc, inputs_of(alloc, &[3, 2])?, &[])?;
-    assert!(rt; outcomes(alloc, merge, 5)?.as_slice() == b"rrfff".as_slice());
-    Ok(())
+    Ok(outcomes(alloc, merge, 5)?.as_slice() == b"rrfff".as_slice())
 }
 
-#[test]
-fn a_failed_input_stays_failed(rt: HostRuntime) -> Result<(), Fail> {
-    let alloc = rt.alloc();
+/// What other operators make of an input that fails stays failed.
+pub(crate) fn a_failed_input_stays_failed(alloc: Global) -> Result<bool, Refusal> {
     let limit = sql_tree::Limit {
         count: 5,
         offset: 0,
     };
     let limited = Limit::new(Concat::new(inputs_of(alloc, &[1])?), Some(limit));
     let project = Project::new(limited, Items::new(alloc));
-    assert!(rt; outcomes(alloc, project, 4)?.as_slice() == b"rfff".as_slice());
-    Ok(())
+    Ok(outcomes(alloc, project, 4)?.as_slice() == b"rfff".as_slice())
 }
 
-#[test]
-fn a_failed_input_gives_no_groups(rt: HostRuntime) {
+/// No groups are made of an input that fails.
+pub(crate) fn a_failed_input_gives_no_groups(alloc: Global) -> bool {
     let input = Failing {
         left: 0,
         failed: false,
     };
-    let merge = GroupMerge::new(rt.alloc(), input, &[], 0);
-    assert!(rt; matches!(merge, Err(Refusal::OutOfMemory)));
+    let merge = GroupMerge::new(alloc, input, &[], 0);
+    matches!(merge, Err(Refusal::OutOfMemory))
 }

@@ -1,8 +1,9 @@
-//! Tests of rows that are pulled: operators over inputs that count their calls or fail, and result sets in chunks.
+//! Rows that are pulled: operators over inputs that count their calls or fail, and result sets in chunks.
 #![tactic(auto)]
 
-#[cfg(test)]
+mod answers;
 mod chunks;
-pub mod failing;
-#[cfg(test)]
+mod failing;
 mod inputs;
+
+pub use answers::answer;

@@ -1,4 +1,4 @@
-//! The small shard of a new journal, and sessions of it, by which tests act.
+//! The small shard of a new journal, and sessions of it, which act.
 ghost use Rattle.std.specs.Prelude.{◌≡◌, [], IsSome};
 ghost use Rattle.shard_limits.specs.SmallWorld.{small_schema};
 ghost use Rattle.shard_limits.specs.inner.SmallWorld.{small_seat};
@@ -8,7 +8,6 @@ use journal::{Naming, Opened, Opener, Pass, ShardSeat};
 use shard::{Shard, ShardLaw};
 use std::alloc::Global;
 use std::marker::Brand;
-use std::process::Abort;
 use std::sync::Wait;
 use vschema::VSchema;
 use vt_value::Refusal;
@@ -33,7 +32,7 @@ pub(crate) struct Session<'e, J: Naming, R> {
     ghost numbered: { IsSome pass.session },
 }
 
-fn act<J: Naming, R: Wait + Abort>(
+fn act<J: Naming, R: Wait>(
     rt: &R,
     alloc: Global,
     shard: &Shard<Small, J>,
@@ -41,7 +40,7 @@ fn act<J: Naming, R: Wait + Abort>(
     opener: &mut Opener<ShardLaw<Small>, J>,
     first: &mut Pass<ShardLaw<Small>, J>,
     turn: Turn,
-) -> Result<(), Refusal>
+) -> Result<bool, Refusal>
     requires here { shard.now ≡ small_seat }
     requires schema { schema.now ≡ small_schema }
 {
@@ -65,48 +64,48 @@ fn act<J: Naming, R: Wait + Abort>(
     }
 }
 
-fn act_by_schema<J: Naming, R: Wait + Abort>(
+fn act_by_schema<J: Naming, R: Wait>(
     rt: &R,
     alloc: Global,
     shard: &Shard<Small, J>,
     opener: &mut Opener<ShardLaw<Small>, J>,
     first: &mut Pass<ShardLaw<Small>, J>,
     turn: Turn,
-) -> Result<(), Refusal>
+) -> Result<bool, Refusal>
     requires here { shard.now ≡ small_seat }
 {
     let schema = schema(alloc)?;
     act(rt, alloc, shard, &schema, opener, first, turn)
 }
 
-fn act_on<J: Naming, R: Wait + Abort>(
+fn act_on<J: Naming, R: Wait>(
     rt: &R,
     alloc: Global,
     seat: ShardSeat<ShardLaw<Small>, J>,
     opener: &mut Opener<ShardLaw<Small>, J>,
     first: &mut Pass<ShardLaw<Small>, J>,
     turn: Turn,
-) -> Result<(), Refusal>
+) -> Result<bool, Refusal>
     requires { seat ≡ record { seen = []; slot = 0 } }
 {
     let shard = Shard::new(state(alloc, seat)?);
     act_by_schema(rt, alloc, &shard, opener, first, turn)
 }
 
-fn act_in<J: Naming, R: Wait + Abort>(
+fn act_in<J: Naming, R: Wait>(
     rt: &R,
     alloc: Global,
     opened: Opened<ShardLaw<Small>>,
     turn: Turn,
-) -> Result<(), Refusal>
+) -> Result<bool, Refusal>
     requires { opened ≡ J.table }
 {
     let (seats, mut opener, mut first) = opened.named::<J>(alloc)?;
     act_on(rt, alloc, first_seat(seats), &mut opener, &mut first, turn)
 }
 
-/// Acts on the small shard of a new journal.
-pub(crate) fn play<R: Wait + Abort>(rt: &R, alloc: Global, turn: Turn) -> Result<(), Refusal> {
+/// Acts on the small shard of a new journal, and tells whether all went as it is to go.
+pub(crate) fn play<R: Wait>(rt: &R, alloc: Global, turn: Turn) -> Result<bool, Refusal> {
     let opened = Opened::<ShardLaw<Small>>::new(alloc)?;
     act_in::<Brand, R>(rt, alloc, opened, turn)
 }

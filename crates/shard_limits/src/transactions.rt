@@ -5,15 +5,13 @@ ghost use Rattle.shard_contents.specs.Commits.{IsPlaced};
 ghost use Rattle.shard_limits.specs.SmallWorld.{small_schema, small_shard};
 ghost use Rattle.shard_limits.specs.inner.SmallWorld.{IsHere, IsNumbered};
 
-use crate::playing::{Session, Turn, play};
+use crate::playing::Session;
 use crate::writing::{Act, Small, query, written};
 use journal::{Naming, Pass};
 use shard::{Pending, ShardLaw};
 use sql_tree::Item;
 use std::alloc::Global;
-use std::process::Abort;
 use std::sync::Wait;
-use std::test::Fail;
 use vschema::{Query, Write};
 use vt_value::Refusal;
 
@@ -25,7 +23,7 @@ fn begin<J: Naming>(alloc: Global, pass: &Pass<ShardLaw<Small>, J>) -> Pending
     Pending::new(alloc)
 }
 
-impl<J: Naming, R: Wait + Abort> Session<'_, J, R> {
+impl<J: Naming, R: Wait> Session<'_, J, R> {
     // A write of the transaction's statement.
     fn write_in(&mut self, tx: &mut Pending, write: Write) -> Result<u64, Refusal>
         requires typed { IsTypedWrite small_schema write }
@@ -84,21 +82,19 @@ impl<J: Naming, R: Wait + Abort> Session<'_, J, R> {
     }
 
     // Whether its shard still is as it was, by how many entries the shard has.
-    fn checked(&mut self, tx: &Pending, given: Result<u64, Refusal>) {
+    fn is_checked(&mut self, tx: &Pending, given: Result<u64, Refusal>) -> bool {
         let told = self.shard.check(self.rt, &mut self.pass, tx);
-        assert!(self.rt; told == given);
+        told == given
     }
 
     // Its write is seen by it.
-    fn insert_and_read(&mut self, tx: &mut Pending) -> Result<(), Refusal>
+    fn insert_and_read(&mut self, tx: &mut Pending) -> Result<bool, Refusal>
         requires tied { IsHere tx.old self.old.pass }
         ensures tied { IsHere tx.new self.new.pass }
     {
         let added = self.insert_in(tx, 1)?;
-        assert!(self.rt; added == 1);
         let rows = self.rows_in(tx)?;
-        assert!(self.rt; rows == 1);
-        Ok(())
+        Ok(added == 1 && rows == 1)
     }
 
     // Another session sees it once it is committed.
@@ -106,15 +102,13 @@ impl<J: Naming, R: Wait + Abort> Session<'_, J, R> {
         &mut self,
         other: &mut Session<'_, J, R>,
         tx: &mut Pending,
-    ) -> Result<(), Refusal>
+    ) -> Result<bool, Refusal>
         requires tied { IsHere tx.old self.old.pass }
     {
         let before = other.counts()?;
-        assert!(self.rt; before == (0, 0));
         self.commit_in(tx)?;
         let behind = other.counts()?;
-        assert!(self.rt; behind == (1, 1));
-        Ok(())
+        Ok(before == (0, 0) && behind == (1, 1))
     }
 
     // Another session's change of its table ends it.
@@ -122,37 +116,32 @@ impl<J: Naming, R: Wait + Abort> Session<'_, J, R> {
         &mut self,
         other: &mut Session<'_, J, R>,
         tx: &mut Pending,
-    ) -> Result<(), Refusal>
+    ) -> Result<bool, Refusal>
         requires tied { IsHere tx.old self.old.pass }
     {
         let rows = self.rows_in(tx)?;
-        assert!(self.rt; rows == 1);
-        self.checked(tx, Ok(1));
+        let is_open = self.is_checked(tx, Ok(1));
         let added = other.run(Act::Insert(2))?;
-        assert!(self.rt; added == 1);
-        self.checked(tx, Err(Refusal::Conflict));
-        Ok(())
+        let is_refused = self.is_checked(tx, Err(Refusal::Conflict));
+        Ok(rows == 1 && is_open && added == 1 && is_refused)
     }
 
-    fn first_transaction(&mut self, other: &mut Session<'_, J, R>) -> Result<(), Refusal> {
+    fn first_transaction(&mut self, other: &mut Session<'_, J, R>) -> Result<bool, Refusal> {
         let mut tx = begin(self.alloc, &self.pass);
-        self.insert_and_read(&mut tx)?;
-        self.commit_beside(other, &mut tx)
+        let is_seen = self.insert_and_read(&mut tx)?;
+        let is_committed = self.commit_beside(other, &mut tx)?;
+        Ok(is_seen && is_committed)
     }
 
-    fn second_transaction(&mut self, other: &mut Session<'_, J, R>) -> Result<(), Refusal> {
+    fn second_transaction(&mut self, other: &mut Session<'_, J, R>) -> Result<bool, Refusal> {
         let mut tx = begin(self.alloc, &self.pass);
         self.read_and_conflict(other, &mut tx)
     }
 
-    // Two transactions of the session, and another session.
-    pub(crate) fn transactions(&mut self, other: &mut Session<'_, J, R>) -> Result<(), Refusal> {
-        self.first_transaction(other)?;
-        self.second_transaction(other)
+    /// Two transactions of the session, and another session.
+    pub(crate) fn transactions(&mut self, other: &mut Session<'_, J, R>) -> Result<bool, Refusal> {
+        let first = self.first_transaction(other)?;
+        let second = self.second_transaction(other)?;
+        Ok(first && second)
     }
-}
-
-#[test]
-fn transactions_are_one_entry_each(rt: HostRuntime) -> Result<(), Fail> {
-    Ok(play(&rt, rt.alloc(), Turn::Transactions)?)
 }

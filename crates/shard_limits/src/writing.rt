@@ -6,16 +6,14 @@ ghost use Rattle.shard_contents.specs.Commits.{IsPlaced};
 ghost use Rattle.shard_limits.specs.SmallWorld.{small_columns, small_schema, small_shard};
 ghost use Rattle.shard_limits.specs.inner.SmallWorld.{insert_of, update_all, delete_all, IsNumbered};
 
-use crate::playing::{Session, Turn, play};
+use crate::playing::Session;
 use journal::{Naming, ShardSeat};
 use keyrange::KeyRange;
 use shard::{Committed, Limits, Read, ShardLaw, ShardState, Store, World};
 use shard_run::Mode;
 use sql_tree::{Assignment, Item};
 use std::alloc::Global;
-use std::process::Abort;
 use std::sync::Wait;
-use std::test::Fail;
 use vschema::{Column, ColumnType, Columns, Keyspace, Place, Query, Table, VSchema, Write};
 use vt_value::{Items, Refusal, Row, Value};
 
@@ -239,7 +237,7 @@ fn not_taken(write: Write) -> Result<u64, Refusal> {
     Err(Refusal::NotSupported)
 }
 
-impl<J: Naming, R: Wait + Abort> Session<'_, J, R> {
+impl<J: Naming, R: Wait> Session<'_, J, R> {
     /// Numbers the session's next statement. What it has seen stays, so a transaction is where it was.
     pub(crate) fn next_statement(&mut self) -> Result<(), Refusal>
         ensures seen { self.new.pass.seen ≡ self.old.pass.seen }
@@ -301,25 +299,26 @@ impl<J: Naming, R: Wait + Abort> Session<'_, J, R> {
         Ok(counts_of(&read))
     }
 
-    // A statement gives this, and leaves so many rows and entries.
+    // Whether a statement gives this, and leaves so many rows and entries.
     fn step(
         &mut self,
         act: Act,
         given: Result<u64, Refusal>,
         after: (u8, u64),
-    ) -> Result<(), Refusal> {
+    ) -> Result<bool, Refusal> {
         let (rows, entries) = after;
         let told = self.run_again(act);
-        assert!(self.rt; told == given);
         let counts = self.counts()?;
-        assert!(self.rt; counts == (usize::from(rows), entries));
         let counted = self.counted()?;
-        assert!(self.rt; counted == Some(i128::from(rows)));
-        Ok(())
+        Ok(
+            told == given
+                && counts == (usize::from(rows), entries)
+                && counted == Some(i128::from(rows)),
+        )
     }
 
     /// A key that is there, the limit of rows and the limit of stored entries refuse, and then nothing has changed.
-    pub(crate) fn writes(&mut self) -> Result<(), Refusal> {
+    pub(crate) fn writes(&mut self) -> Result<bool, Refusal> {
         let steps = [
             (Act::Insert(1), Ok(1), (1, 1)),
             (Act::Insert(1), Err(Refusal::DuplicateKey), (1, 1)),
@@ -330,13 +329,10 @@ impl<J: Naming, R: Wait + Abort> Session<'_, J, R> {
             (Act::Insert(1), Err(Refusal::ShardFull), (0, 4)),
         ];
         for (act, given, after) in steps {
-            self.step(act, given, after)?;
+            if !self.step(act, given, after)? {
+                return Ok(false);
+            }
         }
-        Ok(())
+        Ok(true)
     }
-}
-
-#[test]
-fn writes_are_one_entry_each(rt: HostRuntime) -> Result<(), Fail> {
-    Ok(play(&rt, rt.alloc(), Turn::Writes)?)
 }

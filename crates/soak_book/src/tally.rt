@@ -1,6 +1,6 @@
 //! What is counted.
 use crate::statement::Verb;
-use std::io;
+use std::fmt;
 use vt_value::Refusal;
 
 /// The kinds of statements by their names, in their order.
@@ -90,45 +90,41 @@ impl Tally {
         self.given_up = self.given_up.wrapping_add(other.given_up);
     }
 
-    // Prints how many statements of each kind were run.
-    fn print_statements(&self, rt: &impl Print) -> io::Result<()> {
+    // Shows how many statements of each kind were run.
+    fn show_statements<W: fmt::Write>(&self, f: &mut fmt::Formatter<W>) -> fmt::Result {
         for (name, count) in NAMES.iter().zip(self.statements.iter()) {
-            println!(rt; "{name}: {count}")?;
+            write!(f, "{name}: {count}, ")?;
         }
         Ok(())
     }
 
-    // Prints how many were refused by each number.
-    fn print_refusals(&self, rt: &impl Print) -> io::Result<()> {
+    // Shows how many were refused by each number.
+    fn show_refusals<W: fmt::Write>(&self, f: &mut fmt::Formatter<W>) -> fmt::Result {
         for number in 0..25usize {
             let count = self.refusals[number];
             if count > 0 {
-                println!(rt; "refused F{number}: {count}")?;
+                write!(f, "refused F{number}: {count}, ")?;
             }
         }
         Ok(())
     }
+}
 
-    // Prints what the administrators did.
-    fn print_done(&self, rt: &impl Print) -> io::Result<()> {
+impl fmt::Display for Tally {
+    fn fmt<W: fmt::Write>(&self, f: &mut fmt::Formatter<W>) -> fmt::Result {
+        self.show_statements(f)?;
+        self.show_refusals(f)?;
         let Tally {
+            entries,
             worlds,
             cutovers,
             undone,
             given_up,
             ..
         } = *self;
-        println!(rt;
-            "worlds: {worlds}, cutovers: {cutovers}, undone: {undone}, given up: {given_up}"
+        write!(
+            f,
+            "entries of sessions: {entries}, worlds: {worlds}, cutovers: {cutovers}, undone: {undone}, given up: {given_up}"
         )
-    }
-
-    /// Prints all counts.
-    pub fn print(&self, rt: &impl Print) -> io::Result<()> {
-        self.print_statements(rt)?;
-        self.print_refusals(rt)?;
-        let entries = self.entries;
-        println!(rt; "entries of sessions: {entries}")?;
-        self.print_done(rt)
     }
 }

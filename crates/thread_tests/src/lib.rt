@@ -1,11 +1,10 @@
-//! Tests of what threads share: a journal's run, a keyspace's partitions, the queue of connections, and the workers that take from it.
+//! What threads share: a journal's run, a keyspace's partitions, the queue of connections, and the workers that take from it.
 #![tactic(auto)]
 
-#[cfg(test)]
+mod answers;
 mod partitions;
-#[cfg(test)]
 mod queues;
-#[cfg(test)]
 mod runs;
-#[cfg(test)]
 mod workers;
+
+pub use answers::answer;

@@ -5,9 +5,9 @@ ghost use Rattle.serving.specs.Partitions.{IsPartition, AreOf};
 
 use keyrange::{KeyRange, covers_once};
 use serving::{MOST_PUBLISHED, Part, Partition, Seated, Serving};
-use std::alloc::{AllocError, Global};
+use std::alloc::Global;
 use std::sync::Arc;
-use std::test::Fail;
+use vt_value::Refusal;
 
 // A slot and a range in the place of a shard.
 #[derive(Drop)]
@@ -32,7 +32,7 @@ impl Seated for Chair {
     }
 }
 
-fn one_part(alloc: Global, slot: usize, range: KeyRange) -> Result<Vec<Part<Chair>>, AllocError>
+fn one_part(alloc: Global, slot: usize, range: KeyRange) -> Result<Vec<Part<Chair>>, Refusal>
     ensures { IfOk result (λ parts. parts.items ≡ (slot, range, 0) ∷ []) }
 {
     let chair = Arc::new(alloc, Chair { slot, range })?;
@@ -42,12 +42,12 @@ fn one_part(alloc: Global, slot: usize, range: KeyRange) -> Result<Vec<Part<Chai
 }
 
 // All keyspace ids on one slot.
-fn whole(alloc: Global, slot: usize) -> Result<Partition<Chair>, Fail>
+fn whole(alloc: Global, slot: usize) -> Result<Partition<Chair>, Refusal>
     ensures { IfOk result (λ p. AreOf 0 p) }
 {
-    let range = KeyRange::read("-").ok_or("no range")?;
+    let range = KeyRange::read("-").ok_or(Refusal::SyntaxError)?;
     if !covers_once(&[range]) {
-        return Err(Fail::new("no cover"));
+        return Err(Refusal::SyntaxError);
     }
     Ok(Partition::new(0, one_part(alloc, slot, range)?))
 }
@@ -60,22 +60,23 @@ fn current_slot(serving: &Serving<Chair>) -> Option<usize> {
 }
 
 // Whether the next partition, on the slot, is taken.
-fn is_published(alloc: Global, serving: &Serving<Chair>, slot: usize) -> Result<bool, Fail>
+fn is_published(alloc: Global, serving: &Serving<Chair>, slot: usize) -> Result<bool, Refusal>
     requires { serving.now ≡ 0 }
 {
     let next = Box::new(alloc, whole(alloc, slot)?)?;
     Ok(serving.publish(next).is_ok())
 }
 
-// The slots of the partitions that were present behind each that was published, and the last behind one more, which isn't taken.
-fn present_slots(alloc: Global, serving: &Serving<Chair>) -> Result<Vec<Option<usize>>, Fail>
+// The slots of the partitions that were present behind each that was published, and the last behind one more, which isn't taken; none where
+// one is taken that isn't to be, or handed back.
+fn present_slots(alloc: Global, serving: &Serving<Chair>) -> Result<Vec<Option<usize>>, Refusal>
     requires { serving.now ≡ 0 }
 {
     let mut slots = Vec::new(alloc);
     let done = push_slots(alloc, serving, &mut slots);
     match done {
         Ok(()) => Ok(slots),
-        Err(fail) => Err(fail),
+        Err(refusal) => Err(refusal),
     }
 }
 
@@ -83,15 +84,17 @@ fn push_slots(
     alloc: Global,
     serving: &Serving<Chair>,
     slots: &mut Vec<Option<usize>>,
-) -> Result<(), Fail>
+) -> Result<(), Refusal>
     requires { serving.now ≡ 0 }
 {
     for slot in 1..=MOST_PUBLISHED.saturating_add(1) {
         let is_taken = is_published(alloc, serving, slot)?;
-        if is_taken != (slot <= MOST_PUBLISHED) {
-            return Err(Fail::new("taken or handed back wrongly"));
-        }
-        slots.push(current_slot(serving))?;
+        let is_right = is_taken == (slot <= MOST_PUBLISHED);
+        slots.push(if is_right {
+            current_slot(serving)
+        } else {
+            None
+        })?;
     }
     Ok(())
 }
@@ -106,18 +109,12 @@ fn are_last(slots: &[Option<usize>]) -> bool {
     slots.len() > MOST_PUBLISHED
 }
 
-// Whether the opening partition is present first, and then each that is published.
-fn is_present_last(alloc: Global) -> Result<bool, Fail> {
+/// The opening partition is present first, and then each that is published.
+pub(crate) fn current_is_opening_partition(alloc: Global) -> Result<bool, Refusal> {
     let serving = Serving::new(alloc, 0, whole(alloc, 0)?)?;
     if current_slot(&serving) != Some(0) {
         return Ok(false);
     }
     let slots = present_slots(alloc, &serving)?;
     Ok(are_last(slots.as_slice()))
-}
-
-#[test]
-fn current_is_opening_partition(rt: HostRuntime) -> Result<(), Fail> {
-    assert!(rt; is_present_last(rt.alloc())?);
-    Ok(())
 }

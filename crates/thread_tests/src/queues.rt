@@ -3,29 +3,30 @@ ghost use Rattle.std.specs.Prelude.{◌≡◌, true};
 ghost use Rattle.crossbeam_queue.specs.Passes.{view, IsPassOf};
 
 use connection_queue::{ConnectionQueue, Known, absorb, new_taker, open, put, take};
-use std::process::Abort;
+use std::alloc::Global;
 use std::sync::Wait;
-use std::test::Fail;
+use vt_value::Refusal;
 
-/// Two fit in, and a third is handed back.
-fn fill<R: Wait + Abort>(rt: &R, queue: &ConnectionQueue<u8>, acceptor: &mut Known<u8>)
+/// Whether two fit in, and a third is handed back.
+fn fill<R: Wait>(rt: &R, queue: &ConnectionQueue<u8>, acceptor: &mut Known<u8>) -> bool
     requires of { IsPassOf queue.now acceptor.old }
     requires puts { (view acceptor.old).puts ≡ true }
     ensures of { IsPassOf queue.now acceptor.new }
     ensures puts { (view acceptor.new).puts ≡ true }
 {
-    assert!(rt; put(rt, queue, acceptor, 1).is_ok());
-    assert!(rt; put(rt, queue, acceptor, 2).is_ok());
-    assert_eq!(rt; put(rt, queue, acceptor, 4), Err(4));
+    let first = put(rt, queue, acceptor, 1);
+    let second = put(rt, queue, acceptor, 2);
+    let third = put(rt, queue, acceptor, 4);
+    first.is_ok() && second.is_ok() && third == Err(4)
 }
 
-/// Each of two takes one in turn, and then there is none.
-fn drain<R: Wait + Abort>(
+/// Whether each of two takes one in turn, and then there is none.
+fn drain<R: Wait>(
     rt: &R,
     queue: &ConnectionQueue<u8>,
     first: &mut Known<u8>,
     second: &mut Known<u8>,
-)
+) -> bool
     requires first { IsPassOf queue.now first.old }
     requires first_takes { (view first.old).takes ≡ true }
     requires second { IsPassOf queue.now second.old }
@@ -35,19 +36,20 @@ fn drain<R: Wait + Abort>(
     ensures second { IsPassOf queue.now second.new }
     ensures second_takes { (view second.new).takes ≡ true }
 {
-    assert_eq!(rt; take(rt, queue, first), Some(1));
-    assert_eq!(rt; take(rt, queue, second), Some(2));
-    assert_eq!(rt; take(rt, queue, first), None);
+    let one = take(rt, queue, first);
+    let two = take(rt, queue, second);
+    let none = take(rt, queue, first);
+    one == Some(1) && two == Some(2) && none == None
 }
 
-#[test]
-fn each_is_taken_once(rt: HostRuntime) -> Result<(), Fail> {
-    let (queue, mut acceptor) = open::<u8>(rt.alloc(), 2)?;
-    fill(&rt, &queue, &mut acceptor);
+/// What one pass puts into a queue two others take out of it, each once.
+pub(crate) fn each_is_taken_once<R: Wait>(rt: &R, alloc: Global) -> Result<bool, Refusal> {
+    let (queue, mut acceptor) = open::<u8>(alloc, 2)?;
+    let is_full = fill(rt, &queue, &mut acceptor);
     let mut first = new_taker(&queue, &mut acceptor);
     let mut second = new_taker(&queue, &mut acceptor);
-    drain(&rt, &queue, &mut first, &mut second);
+    let is_empty = drain(rt, &queue, &mut first, &mut second);
     absorb(&queue, &mut acceptor, first);
     absorb(&queue, &mut acceptor, second);
-    Ok(())
+    Ok(is_full && is_empty)
 }

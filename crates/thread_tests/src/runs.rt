@@ -5,7 +5,6 @@ use journal::*;
 use std::alloc::Global;
 use std::marker::Brand;
 use std::sync::{Mutex, Wait};
-use std::test::*;
 use std::thread::{Threads, join};
 use vt_value::Refusal;
 
@@ -179,17 +178,14 @@ fn count_by_four<J: Naming + Send + Sync, R: Threads + Wait + Sync>(
     count_locked(rt, alloc, &locked, &mut opener, &mut first, rounds)
 }
 
-#[test]
-fn four_threads_append_to_one_run(rt: HostRuntime) -> Result<(), Fail> {
-    let opened = Opened::<Rising>::new(rt.alloc()).ok().ok_or("a table")?;
-    let counts = count_by_four::<Brand, _>(&rt, rt.alloc(), opened, 25)
-        .ok()
-        .ok_or("all commit")?;
-    assert_eq!(rt; counts.len(), 4);
-    for count in counts {
-        assert_eq!(rt; count, 100);
-    }
-    Ok(())
+/// Four passes in threads of their own append 25 entries each to four slots, and the words count them.
+pub(crate) fn four_threads_append_to_one_run<R: Threads + Wait + Sync>(
+    rt: &R,
+    alloc: Global,
+) -> Result<bool, Refusal> {
+    let opened = Opened::<Rising>::new(alloc)?;
+    let counts = count_by_four::<Brand, R>(rt, alloc, opened, 25)?;
+    Ok(counts.as_slice() == [100, 100, 100, 100].as_slice())
 }
 
 fn session_of<J: Naming>(pass: &Pass<Rising, J>) -> u64 {
@@ -284,12 +280,11 @@ fn answers<J: Naming>(alloc: Global, opened: Opened<Rising>) -> Result<Vec<u64>,
     }
 }
 
-#[test]
-fn calls_answer(rt: HostRuntime) -> Result<(), Fail> {
-    let opened = Opened::<Rising>::new(rt.alloc()).ok().ok_or("a table")?;
-    let answers = answers::<Brand>(rt.alloc(), opened).ok().ok_or("memory")?;
+/// Each call of a table answers.
+pub(crate) fn calls_answer(alloc: Global) -> Result<bool, Refusal> {
+    let opened = Opened::<Rising>::new(alloc)?;
+    let answers = answers::<Brand>(alloc, opened)?;
     // seats; next session; sessions; statements; slot and count of two; the fifth statement
     let wanted = [64, 2, 99, 0, 1, 99, 1, 2, 1, 0, 1, 1, 1, 5];
-    assert_eq!(rt; answers.as_slice(), wanted.as_slice());
-    Ok(())
+    Ok(answers.as_slice() == wanted.as_slice())
 }

@@ -3,10 +3,8 @@ ghost use Rattle.std.specs.Prelude.{◌≡◌};
 
 use connection_workers::{Entrance, run};
 use std::alloc::Global;
-use std::process::Abort;
 use std::sync::Wait;
 use std::sync::atomic::{AtomicU64, Ordering};
-use std::test::Fail;
 use std::thread::Threads;
 
 /// Gives the numbers from 1 on.
@@ -53,11 +51,13 @@ fn served<R: Threads + Wait + Sync>(
     Some((count.load(Ordering::SeqCst), sum.load(Ordering::SeqCst)))
 }
 
-#[test]
-fn each_connection_is_served_once(rt: HostRuntime) -> Result<(), Fail> {
-    assert_eq!(rt; served(&rt, rt.alloc(), 300, 3), Some((300, 45_150)));
-    assert_eq!(rt; served(&rt, rt.alloc(), 50, 1), Some((50, 1275)));
-    assert_eq!(rt; served(&rt, rt.alloc(), 0, 2), Some((0, 0)));
-    assert_eq!(rt; served(&rt, rt.alloc(), 1, 0), None);
-    Ok(())
+/// Each connection is served once, however many workers there are; without one nothing is.
+pub(crate) fn each_connection_is_served_once<R: Threads + Wait + Sync>(
+    rt: &R,
+    alloc: Global,
+) -> bool {
+    served(rt, alloc, 300, 3) == Some((300, 45_150))
+        && served(rt, alloc, 50, 1) == Some((50, 1275))
+        && served(rt, alloc, 0, 2) == Some((0, 0))
+        && served(rt, alloc, 1, 0) == None
 }

@@ -2,4 +2,4 @@ use Rattle.thread_tests.proofs.runs.calls_answer.Given as goal
 
 -- the table that was just opened
 abbrev pub ghosts-answers : goal.ghosts-answers
-ghosts-answers g a = record { table = a.opened }
+ghosts-answers a = record { table = a.opened }

@@ -1,9 +1,4 @@
-//! Cases of the public calls that a text can reach, a case a line: its area, a tab, and its fields with tabs between them. Line N of the
-//! output answers line N of the input, so the first line at which they differ is that of a case that fails.
-//!
-//! A case costs nothing to add: write its line into `stdin`, and what it must give into the same line of `stdout`. What it must give comes
-//! from outside: a standard's table, another implementation, or a definition worked by hand, and never from this program.
-//! `scripts/cases` prints each case that fails.
+//! Cases of the public calls below a shard that a text can reach.
 //!
 //! | Area | Fields | Answer |
 //! |---|---|---|
@@ -69,21 +64,4 @@ mod schemas;
 mod statements;
 mod values;
 
-use answers::answer;
-use case_fields::{Told, print_answer};
-use std::alloc::Global;
-use std::io;
-
-// Prints the answer of a line.
-fn answer_line<R: Print>(rt: &R, alloc: Global, line: &str) -> io::Result<()> {
-    let mut told = Told::new(alloc);
-    let answered = answer(alloc, line, &mut told);
-    print_answer(rt, answered, &told)
-}
-
-fn main(rt: HostRuntime) -> io::Result<()> {
-    for line in rt.lines(rt.alloc()) {
-        answer_line(&rt, rt.alloc(), line?.as_str())?;
-    }
-    Ok(())
-}
+pub use answers::answer;

@@ -1,6 +1,6 @@
 use Rattle.shard_contents.specs.Shards.{most_limits}
 use Rattle.empty_opening.specs.Empty.{opening_of}
-use Rattle.bench.proofs.opening.run_input.Given as goal
+use Rattle.bench.proofs.opening.answer.Given as goal
 
 -- the world of this VSchema and these ranges
 abbrev pub ghosts-run_in_empty_world : goal.ghosts-run_in_empty_world

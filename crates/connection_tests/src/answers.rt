@@ -1,0 +1,36 @@
+//! The answer of a case.
+use crate::{loopback, runs, talks};
+use case_fields::{Told, Unanswered};
+use std::alloc::Global;
+use std::net::{Net, TcpListener, TcpStream};
+use std::sync::Wait;
+use std::thread::Threads;
+use std::time::Clock;
+
+/// Tells what a case of this area answers.
+pub fn answer<R: Threads + Wait + Sync + Clock + Net<Listener = TcpListener, Stream = TcpStream>>(
+    rt: &R,
+    alloc: Global,
+    area: &str,
+    case: &str,
+    told: &mut Told,
+) -> Result<(), Unanswered> {
+    match area {
+        "talk" => talks::conversation(rt, alloc, case, told),
+        "served" => talks::service(rt, alloc, case, told),
+        "run" => runs::whole(rt, alloc, case, told),
+        "failing_run" => runs::failing(rt, alloc, case, told),
+        "loopback" => sockets(rt, alloc, told),
+        _ => Err(Unanswered::BadLine),
+    }
+}
+
+fn sockets<R: Threads + Wait + Sync + Clock + Net<Listener = TcpListener, Stream = TcpStream>>(
+    rt: &R,
+    alloc: Global,
+    told: &mut Told,
+) -> Result<(), Unanswered> {
+    let is_served = loopback::serves_beside_a_held_scatter(rt, alloc)?;
+    told.put(if is_served { "served" } else { "not served" });
+    Ok(())
+}

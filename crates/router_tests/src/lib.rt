@@ -1,0 +1,24 @@
+//! Scenes over a new router, each played once: an administrator and two sessions act in turn, each act with what it is to give, beside a third
+//! session's statement in a thread of its own. A gate holds reads, and one more thread a shard's lock, until the acts let them go.
+#![tactic(auto)]
+
+mod acts;
+mod answers;
+mod common;
+mod gate;
+mod gates;
+mod lines;
+mod locks;
+mod opened;
+mod opening;
+mod reads;
+mod reopening;
+mod scenes;
+mod session;
+mod stage;
+mod steps;
+mod stops;
+mod waiting;
+mod writes;
+
+pub use answers::answer;

@@ -1,0 +1,66 @@
+//! Cases, conversations, scenes of threads, soaks and measurements, each a line: its area, a tab, and its fields with tabs between them. Line N of
+//! the output answers line N of the input, so the first line at which they differ is that of a case that fails.
+//!
+//! A case costs nothing to add: write its line into `stdin`, and what it must give into the same line of `stdout`. What it must give comes
+//! from outside: a standard's table, another implementation, or a definition worked by hand, and never from this program.
+//! `scripts/cases` prints each case that fails.
+//!
+//! | Area | Fields | Answer |
+//! |---|---|---|
+//! | those of `cases` | | |
+//! | those of `connection_tests` | | |
+//! | `pulled`, `threads`, `limits`, `scene` | the name of a scene of `pulled_rows`, `thread_tests`, `shard_limits` or `router_tests` | `ok`, where it went as it is to go |
+//! | `soak` | seconds, a seed, and maybe `counts`, with blanks between them | `nothing lost or doubled`, and what was done where that is asked for |
+//! | `measure` | a VSchema, the ranges of its shards with commas between them, measurements of `bench` | what each gave; standard error has how long it took |
+//!
+//! A line that is no case answers `unknown`, and one whose call is refused `refused`.
+#![tactic(auto)]
+
+use case_fields::{Told, Unanswered, print_answer};
+use std::alloc::Global;
+use std::io;
+use std::net::{Net, TcpListener, TcpStream};
+use std::sync::Wait;
+use std::thread::Threads;
+use std::time::Clock;
+
+// Tells what a case of this area answers.
+fn answer<
+    R: Threads + Wait + Sync + Clock + Eprint + Net<Listener = TcpListener, Stream = TcpStream>,
+>(rt: &R, alloc: Global, area: &str, case: &str, told: &mut Told) -> Result<(), Unanswered> {
+    match area {
+        "pulled" => pulled_rows::answer(alloc, case, told),
+        "threads" => thread_tests::answer(rt, alloc, case, told),
+        "limits" => shard_limits::answer(rt, alloc, case, told),
+        "scene" => router_tests::answer(rt, alloc, case, told),
+        "soak" => soak::answer(rt, alloc, case, told),
+        "measure" => bench::answer(rt, alloc, case, told),
+        "talk" | "served" | "run" | "failing_run" | "loopback" => {
+            connection_tests::answer(rt, alloc, area, case, told)
+        }
+        _ => cases::answer(alloc, area, case, told),
+    }
+}
+
+// Prints the answer of a line.
+fn answer_line<
+    R: Print
+        + Threads
+        + Wait
+        + Sync
+        + Clock
+        + Eprint
+        + Net<Listener = TcpListener, Stream = TcpStream>,
+>(rt: &R, alloc: Global, line: &str) -> io::Result<()> {
+    let (area, case) = line.split_once('\t').unwrap_or((line, ""));
+    let mut told = Told::new(alloc);
+    let answered = answer(rt, alloc, area, case, &mut told);
+    print_answer(rt, answered, &told)
+}
+
+fn main(rt: HostRuntime) -> io::Result<()> {
+    for line in rt.lines(rt.alloc()) {
+        answer_line(&rt, rt.alloc(), line?.as_str())?;
+    }
+    Ok(())
+}
