@@ -27,6 +27,11 @@ pub looked : (o : Opening) (p q now : PassView Entry) (seat : SeatView Entry) (r
     → IsLater slot_of commit_of (MayFollow o) seat q run → now ≡ record q { seen = run; looks = looks } → IsOnward o p now
 looked o p q now seat run looks on later is = follows.looked o p q now seat run looks on later is
 
+-- the first look of a pass that has seen a legal run
+pub looked_first : (o : Opening) (p now : PassView Entry) (seat : SeatView Entry) (run : Run) (looks : List (ℕ × ℕ)) → IsLegal (MayFollow o) p.seen
+    → IsLater slot_of commit_of (MayFollow o) seat p run → now ≡ record p { seen = run; looks = looks } → IsOnward o p now
+looked_first o p now seat run looks legal later is = looked o p p now seat run looks (still o p legal) later is
+
 pub stepped : (o : Opening) (p q now : PassView Entry) (v : ShardView) (which : Shard) (ev : Event) → IsOnward o p q → HasAppended o v ev q now
     → v.shard ≡ which → HasStepped o which ev p now
 stepped o p q now v which ev on is same = follows.stepped o p q now v which ev on is same

@@ -22,3 +22,11 @@ returns-then-not-fits-clause-many g c e =
         many = c.fits.ensures.many c.if-not-fits.true;
       },
     )
+
+pub returns-then-not-fits-clause-onward : goal.returns-then-not-fits-clause-onward
+returns-then-not-fits-clause-onward g c =
+    onward_trans g.W.World.opening c.args.pass.now c.loop-target.pass c.fits.new.pass c.loop-target.invariant c.fits.ensures.onward
+
+pub loop-target-preserved : goal.loop-target-preserved
+loop-target-preserved g c =
+    onward_trans g.W.World.opening c.args.pass.now c.loop-target.pass c.fits.new.pass c.loop-target.invariant c.fits.ensures.onward

@@ -1,9 +1,36 @@
-use Rattle.std.proofs.Common.{length, refl, sym, ap, ◌∙◌}
+use Rattle.std.proofs.Common.{ℕ, ◌^◌, ◌<◌, ◌≤◌, length, refl, sym, ap, subst, ◌∙◌}
+use Rattle.journal.specs.Views.{PassView}
 use Rattle.shard_run.specs.declared.Shard.{Shard}
+use Rattle.shard_run.specs.declared.Entry.{Entry}
 use Rattle.shard_run.specs.declared.Event.TheVariants.{Freeze}
-use Rattle.shard_run.specs.Runs.{stored_on}
-use Rattle.cutover_steps.proofs.Onward.{still, looked, stepped, stored_stays}
+use Rattle.shard_run.specs.Runs.{stored_on, entries_on}
+use Rattle.cutover_steps.proofs.Onward.{still, looked, looked_first, stepped, stored_stays}
 use Rattle.cutover_steps.proofs.steps.try_freeze.Goals as goal
+
+pub returns-then-not-is-clause-onward : goal.returns-then-not-is-clause-onward
+returns-then-not-is-clause-onward g c =
+    looked_first g.W.World.opening c.args.pass.now c.look-entries.new.pass _ _ _ c.requires.legal c.look-entries.ensures.seen c.look-entries.ensures.pass
+
+pub returns-then-ne-clause-onward : goal.returns-then-ne-clause-onward
+returns-then-ne-clause-onward g c =
+    looked_first g.W.World.opening c.args.pass.now c.look-entries.new.pass _ _ _ c.requires.legal c.look-entries.ensures.seen c.look-entries.ensures.pass
+
+pub returns-then-entries-ge-MOST_ENTRIES-clause-full : goal.returns-then-entries-ge-MOST_ENTRIES-clause-full
+returns-then-entries-ge-MOST_ENTRIES-clause-full g c =
+    let count =
+    c.look-entries.ensures.count ∙ ap (λ (s : Shard). length (entries_on s.slot c.look-entries.new.self.seen)) (sym c.look-entries.ensures.shard ∙ c.is.ensures.0 c.if-not-is.false)
+    ∙ ap (λ (x : PassView Entry). length (entries_on c.args.which.now.slot x.seen)) (sym c.look-entries.ensures.pass) in
+    (refl, subst (λ (n : ℕ). 2 ^ 40 ≤ n) count c.if-entries-ge-MOST_ENTRIES.true)
+
+pub returns-then-entries-ge-MOST_ENTRIES-clause-onward : goal.returns-then-entries-ge-MOST_ENTRIES-clause-onward
+returns-then-entries-ge-MOST_ENTRIES-clause-onward g c =
+    looked_first g.W.World.opening c.args.pass.now c.look-entries.new.pass _ _ _ c.requires.legal c.look-entries.ensures.seen c.look-entries.ensures.pass
+
+pub freeze-requires-clause-room : goal.freeze-requires-clause-room
+freeze-requires-clause-room g c =
+    subst (λ (n : ℕ). n < 2 ^ 40)
+    (c.look-entries.ensures.count ∙ ap (λ (s : Shard). length (entries_on s.slot c.look-entries.new.self.seen)) (sym c.look-entries.ensures.shard))
+    c.if-entries-ge-MOST_ENTRIES.false
 
 pub returns-clause-ok : goal.returns-clause-ok
 returns-clause-ok g c =

@@ -1,10 +1,16 @@
-use Rattle.std.proofs.Common.{length, refl, sym, ap, subst, ◌∙◌}
+use Rattle.std.proofs.Common.{◌≡◌, length, refl, sym, ap, subst, ◌∙◌}
 use Rattle.shard_run.specs.declared.Shard.{Shard}
+use Rattle.shard_run.specs.declared.Mode.TheVariants.{Frozen, Retired}
 use Rattle.shard_run.specs.declared.Event.TheVariants.{Retire}
 use Rattle.shard_run.specs.Runs.{stored_on}
 use Rattle.cutover_steps.specs.Steps.{FitTargets}
-use Rattle.cutover_steps.proofs.Onward.{stored_stays}
+use Rattle.cutover_steps.proofs.Onward.{looked_first, stored_stays}
 use Rattle.cutover_steps.proofs.steps.try_retire.Goals as goal
+
+pub stored-now-requires : goal.stored-now-requires
+stored-now-requires g c = record {
+  lives = λ retired. let e : Frozen ≡ Retired = sym (c.is_frozen.ensures c.if-is_frozen.true) ∙ retired in cc;
+}
 
 pub retire-requires : goal.retire-requires
 retire-requires g c =
@@ -18,3 +24,7 @@ returns-then-now-stored-clause-stored g c =
     sym c.if-now-stored.true ∙ c.stored-now.ensures
     ∙ ap length (sym (stored_stays g.W.World.opening c.look.new.self (Retire c.args.targets) c.look.new.pass c.retire.new.pass c.retire.ensures.appended refl))
     ∙ ap (λ (s : Shard). length (stored_on s.slot c.retire.new.pass.seen)) (c.is.ensures.0 c.if-is.true)
+
+pub returns-clause-onward : goal.returns-clause-onward
+returns-clause-onward g c =
+    looked_first g.W.World.opening c.args.pass.now c.look.new.pass _ _ _ c.requires.legal c.look.ensures.seen c.look.ensures.pass

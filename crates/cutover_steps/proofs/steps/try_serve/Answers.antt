@@ -2,9 +2,12 @@ use Rattle.std.proofs.Common.{◌≡◌, sym, ap, ◌∙◌}
 use Rattle.std.proofs.lemmas.Bool.{leb-true}
 use Rattle.journal.specs.Views.{PassView}
 use Rattle.shard_run.specs.declared.Entry.{Entry}
+use Rattle.shard_run.specs.declared.Mode.TheVariants.{Following, Retired}
+use Rattle.shard_run.specs.declared.Event.TheVariants.{Serve}
 use Rattle.shard_run.specs.Runs.{held, entries_on}
 use Rattle.shard_run.specs.Openings.{row_count}
 use Rattle.shard_contents.proofs.Legality.{legal_is}
+use Rattle.cutover_steps.proofs.Onward.{looked_first, stepped}
 use Rattle.cutover_steps.proofs.Retiring.{may_serve_looked}
 use Rattle.cutover_steps.proofs.steps.try_serve.Goals as goal
 
@@ -25,3 +28,33 @@ serve-requires-clause-looked g c =
 pub serve-requires-clause-within : goal.serve-requires-clause-within
 serve-requires-clause-within g c =
     leb-true (row_count (held g.W.World.opening c.look.new.self.seen c.look.new.self.shard)) g.W.World.limits.rows (sym c.fits.ensures ∙ c.if-fits.true)
+
+pub is_level-requires-clause-lives : goal.is_level-requires-clause-lives
+is_level-requires-clause-lives g c retired =
+    let e : Following ≡ Retired = sym (c.follows.ensures c.if-follows.true) ∙ retired in
+    cc
+
+pub returns-then-fits-clause-served : goal.returns-then-fits-clause-served
+returns-then-fits-clause-served g c e =
+    let o = g.W.World.opening in
+    let p = c.args.pass.now in
+    let q = c.look.new.pass in
+    let on = looked_first o p q _ _ _ c.requires.legal c.look.ensures.seen c.look.ensures.pass in
+    stepped o p q c.serve.new.pass c.look.new.self c.args.target.now Serve on c.serve.ensures.appended (c.is.ensures.0 c.if-is.true)
+
+pub returns-then-fits-clause-onward : goal.returns-then-fits-clause-onward
+returns-then-fits-clause-onward g c =
+    let o = g.W.World.opening in
+    let p = c.args.pass.now in
+    let q = c.look.new.pass in
+    let on = looked_first o p q _ _ _ c.requires.legal c.look.ensures.seen c.look.ensures.pass in
+    (stepped o p q c.serve.new.pass c.look.new.self c.args.target.now Serve on c.serve.ensures.appended (c.is.ensures.0 c.if-is.true)).onward
+
+pub returns-else-is-clause-onward : goal.returns-else-is-clause-onward
+returns-else-is-clause-onward g c =
+    looked_first g.W.World.opening c.args.pass.now c.look.new.pass _ _ _ c.requires.legal c.look.ensures.seen c.look.ensures.pass
+
+pub fits-requires : goal.fits-requires
+fits-requires g c = record {
+  lives = λ retired. let e : Following ≡ Retired = sym (c.follows.ensures c.if-follows.true) ∙ retired in cc;
+}

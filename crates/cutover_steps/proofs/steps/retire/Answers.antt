@@ -1,0 +1,29 @@
+use Rattle.std.proofs.Common.{List, subst, sym, ◌∙◌}
+use Rattle.shard_run.specs.declared.Shard.{Shard}
+use Rattle.shard_run.specs.declared.Event.TheVariants.{Retire}
+use Rattle.follow.specs.Steps.{HasStepped}
+use Rattle.cutover_steps.specs.Steps.{FitTargets}
+use Rattle.cutover_steps.proofs.Onward.{onward_trans, stepped_after}
+use Rattle.cutover_steps.proofs.steps.retire.Goals as goal
+
+pub try_retire-requires-clause-legal : goal.try_retire-requires-clause-legal
+try_retire-requires-clause-legal g c = c.loop.invariant.onward.legal
+
+pub try_retire-requires-clause-fit : goal.try_retire-requires-clause-fit
+try_retire-requires-clause-fit g c = subst (FitTargets c.args.which.now) (sym c.loop.invariant.same) c.requires.fit
+
+pub returns-in-Ok-clause-retired : goal.returns-in-Ok-clause-retired
+returns-in-Ok-clause-retired g c =
+    subst (λ (ts : List Shard). HasStepped g.W.World.opening c.args.which.now (Retire ts) c.args.pass.now c.try_retire.new.pass) c.loop.invariant.same
+    (stepped_after _ _ _ _ _ _ c.loop.invariant.onward c.in-Ok.ensures.retired)
+
+pub returns-in-Ok-clause-stored : goal.returns-in-Ok-clause-stored
+returns-in-Ok-clause-stored g c = c.in-Ok.ensures.stored
+
+pub loop-preserved : goal.loop-preserved
+loop-preserved g c = record {
+  next = tt;
+  finite = tt;
+  onward = onward_trans g.W.World.opening c.args.pass.now c.loop.pass c.try_retire.new.pass c.loop.invariant.onward c.in-Err.ensures.onward;
+  same = c.in-Err.ensures.back ∙ c.loop.invariant.same;
+}
