@@ -6,6 +6,17 @@ use Rattle.follow.proofs.Onward.{onward_trans}
 use Rattle.follow.proofs.Moves.{moved_with, level_with, all_level_with}
 use Rattle.follow.proofs.steps.bring_forward_with.Goals as goal
 
+pub bring_forward-requires-clause-legal : goal.bring_forward-requires-clause-legal
+bring_forward-requires-clause-legal g c = c.loop-source.invariant.onward.legal
+
+pub returns-in_err-step-clause-onward : goal.returns-in_err-step-clause-onward
+returns-in_err-step-clause-onward g c =
+    onward_trans g.W.World.opening c.args.pass.now c.loop-source.pass c.bring_forward.new.pass c.loop-source.invariant.onward c.bring_forward.ensures.onward
+
+pub returns-then-ne-clause-onward : goal.returns-then-ne-clause-onward
+returns-then-ne-clause-onward g c =
+    onward_trans g.W.World.opening c.args.pass.now c.loop-source.pass c.bring_forward.new.pass c.loop-source.invariant.onward c.bring_forward.ensures.onward
+
 pub returns-then-ne-clause-moved : goal.returns-then-ne-clause-moved
 returns-then-ne-clause-moved g c =
     moved_with (λ s. s.which) g.W.World.opening c.args.target.now.which c.args.pass.now c.args.sources.now c.loop-source.source-index c.source-item.result
@@ -24,6 +35,9 @@ loop-source-preserved g c =
           c.loop-source.invariant.level
           (subst (HasMoved o c.source-item.result.which c.args.target.now.which c.loop-source.pass c.bring_forward.new.pass) same c.in_ok-step.ensures.moved);
     }
+
+pub returns-clause-onward : goal.returns-clause-onward
+returns-clause-onward g c = c.loop-source.invariant.onward
 
 pub returns-clause-moved : goal.returns-clause-moved
 returns-clause-moved g c =

@@ -36,3 +36,8 @@ returns-in_ok-copy-clause-copied g c e =
     let first = looked o c.args.pass.now c.args.pass.now c.look-now.new.pass (seat_view c.args.state.now) st.seen _ (still o c.args.pass.now c.requires.legal) l.seen l.pass in
     stepped o c.args.pass.now w.0 c.copy.new.pass (record { seen = w.0.seen; shard = st.shard }) target (Copy c.args.taken)
     (has_looked o c.args.pass.now c.look-now.new.pass w.0 st.shard.slot first w.1) w.2 same
+
+pub returns-else-is-clause-onward : goal.returns-else-is-clause-onward
+returns-else-is-clause-onward g c =
+    looked g.W.World.opening c.args.pass.now c.args.pass.now c.look-now.new.pass _ _ _ (still g.W.World.opening c.args.pass.now c.requires.legal) c.look-now.ensures.seen
+    c.look-now.ensures.pass

@@ -55,3 +55,8 @@ returns-in_ok-follow-clause-followed g c e =
       stepped o c.args.pass.now w.0 c.follow.new.pass (record { seen = w.0.seen; shard = st.shard }) target (Follow c.in_ok-taken.taken)
           (has_looked o c.args.pass.now c.look-now.new.pass w.0 st.shard.slot first w.1) w.2 same,
     )
+
+pub returns-else-is-clause-onward : goal.returns-else-is-clause-onward
+returns-else-is-clause-onward g c =
+    looked g.W.World.opening c.args.pass.now c.args.pass.now c.look-now.new.pass _ _ _ (still g.W.World.opening c.args.pass.now c.requires.legal) c.look-now.ensures.seen
+    c.look-now.ensures.pass
