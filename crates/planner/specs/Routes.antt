@@ -15,9 +15,9 @@ use Rattle.sql_tree.specs.declared.Condition.{Condition, Condition-F, fold-Condi
 use Rattle.sql_tree.specs.declared.Condition.TheOpen.{Compare, In, IsNull, Not, And, Or}
 use Rattle.vschema.specs.declared.schema.Table.{Table}
 use Rattle.vschema.specs.declared.schema.VSchema.{VSchema}
-use Rattle.vschema.specs.declared.schema.Column as schema
-use Rattle.vschema.specs.declared.schema.ColumnType.{ColumnType}
-use Rattle.vschema.specs.declared.schema.ColumnType.TheVariants.{BigInt}
+use Rattle.vschema_document.specs.declared.column.Column as schema
+use Rattle.vschema_document.specs.declared.column.ColumnType.{ColumnType}
+use Rattle.vschema_document.specs.declared.column.ColumnType.TheVariants.{BigInt}
 use Rattle.vschema.specs.declared.schema.ColumnVindex.{ColumnVindex}
 use Rattle.vschema.specs.declared.changes.Write.{Write}
 use Rattle.vschema.specs.declared.changes.Write.TheVariants.{Insert, Update, Delete}

@@ -4,12 +4,12 @@ use Rattle.std.specs.List.{list_any}
 use Rattle.sql_tree.specs.declared.Item.{Item}
 use Rattle.sql_tree.specs.declared.Item.TheVariants as item
 use Rattle.sql_tree.specs.Printing.{item_text}
-use Rattle.vschema.specs.declared.schema.ColumnType.{ColumnType}
-use Rattle.vschema.specs.declared.schema.ColumnType.TheVariants as type
+use Rattle.vschema_document.specs.declared.column.ColumnType.{ColumnType}
+use Rattle.vschema_document.specs.declared.column.ColumnType.TheVariants as type
 use Rattle.vschema.specs.declared.schema.Keyspace.{Keyspace}
 use Rattle.vschema.specs.declared.schema.Table.{Table}
 use Rattle.vschema.specs.declared.schema.VSchema.{VSchema}
-use Rattle.vschema.specs.declared.schema.Column as C
+use Rattle.vschema_document.specs.declared.column.Column as C
 use Rattle.vschema.specs.Schema.{no_table}
 use Rattle.resultset.specs.declared.Kind.{Kind}
 use Rattle.resultset.specs.declared.Kind.TheVariants.{BigInt, BigIntUnsigned, VarBinary, Count, Sum}

@@ -8,9 +8,9 @@ use Rattle.vt_value.specs.declared.value.Value.TheVariants.{Null}
 use Rattle.vt_value.specs.declared.refusal.Refusal.TheVariants.{WrongValueCount, NotSupported, NoDefaultValue, NullNotAllowed, OutOfRange, TooLong}
 use Rattle.vt_value.specs.Values.{is_null}
 use Rattle.sql_tree.specs.declared.Assignment.{Assignment}
-use Rattle.vschema.specs.declared.schema.Column.{Column}
-use Rattle.vschema.specs.declared.schema.ColumnType.{ColumnType}
-use Rattle.vschema.specs.declared.schema.ColumnType.TheVariants.{BigInt, BigIntUnsigned, VarBinary}
+use Rattle.vschema_document.specs.declared.column.Column.{Column}
+use Rattle.vschema_document.specs.declared.column.ColumnType.{ColumnType}
+use Rattle.vschema_document.specs.declared.column.ColumnType.TheVariants.{BigInt, BigIntUnsigned, VarBinary}
 use Rattle.vschema.specs.declared.schema.Table.{Table}
 use Rattle.vschema.specs.declared.schema.VSchema.{VSchema}
 use Rattle.vschema.specs.declared.changes.Write.{Write}

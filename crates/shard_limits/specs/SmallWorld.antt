@@ -2,8 +2,8 @@
 -- most four entries.
 use Rattle.std.specs.Prelude.{List, [], ◌∷◌, codes, true, false, None}
 use Rattle.std.proofs.Common.{refl}
-use Rattle.vschema.specs.declared.schema.Column.{Column}
-use Rattle.vschema.specs.declared.schema.ColumnType.TheVariants.{BigIntUnsigned}
+use Rattle.vschema_document.specs.declared.column.Column.{Column}
+use Rattle.vschema_document.specs.declared.column.ColumnType.TheVariants.{BigIntUnsigned}
 use Rattle.vschema.specs.declared.schema.VSchema.{VSchema}
 use Rattle.shard_run.specs.declared.Shard.{Shard}
 use Rattle.shard_run.specs.Runs.{Opening}

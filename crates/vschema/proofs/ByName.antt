@@ -3,10 +3,10 @@ use Rattle.std.proofs.Common.{◌≡◌, ℕ, suc, zero, ◌+◌, ◌<◌, lengt
 use Rattle.std.specs.List.{list_any, position, position_from}
 use Rattle.std.proofs.lemmas.Iterator.Adapters.{position_from-zero}
 use Rattle.std.specs.Cmp.Lexicographic.{nat_list_eq_equiv}
-use Rattle.vschema.specs.declared.schema.Column.{Column}
+use Rattle.vschema_document.specs.declared.column.Column.{Column}
 use Rattle.vschema.specs.Schema.{place_from}
 use Rattle.vschema.specs.WriteChecks.{has_twice}
-use Rattle.vschema.proofs.Options.{neither}
+use Rattle.vschema_document.proofs.Options.{neither}
 
 placed_from : {X : Type 0} (p q : X → Bool) → ((x : X) → p x ≡ q x) → (n : ℕ) (xs : List X) → position_from p n xs ≡ place_from q n xs
 placed_from p q e n [] = refl

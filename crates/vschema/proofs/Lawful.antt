@@ -10,16 +10,17 @@ use Rattle.sql_lexer.specs.Lexemes.{is_word}
 use Rattle.vindex.specs.declared.AnyVindex.{AnyVindex}
 use Rattle.vschema.specs.declared.schema.ColumnVindex.{ColumnVindex}
 use Rattle.vschema.specs.declared.schema.Keyspace.{Keyspace}
-use Rattle.vschema.specs.declared.document.DeclaredKey.{DeclaredKey}
-use Rattle.vschema.specs.declared.document.DeclaredTable.{DeclaredTable}
-use Rattle.vschema.specs.declared.document.DeclaredKeyspace.{DeclaredKeyspace}
-use Rattle.vschema.specs.declared.fault.SchemaFault.{SchemaFault}
-use Rattle.vschema.specs.declared.fault.SchemaFault.TheVariants.{OutOfMemory, NotJson, IllFormed, UnknownVindex, MissingColumn, WrongKeyType, NullableKey, KeyWithoutVindex, NamedTwice, AboveLimit}
+use Rattle.vschema_document.specs.declared.document.DeclaredKey.{DeclaredKey}
+use Rattle.vschema_document.specs.declared.document.DeclaredTable.{DeclaredTable}
+use Rattle.vschema_document.specs.declared.document.DeclaredKeyspace.{DeclaredKeyspace}
+use Rattle.vschema_document.specs.declared.fault.SchemaFault.{SchemaFault}
+use Rattle.vschema_document.specs.declared.fault.SchemaFault.TheVariants.{OutOfMemory, NotJson, IllFormed, UnknownVindex, MissingColumn, WrongKeyType, NullableKey, KeyWithoutVindex, NamedTwice, AboveLimit}
 use Rattle.vschema.specs.WriteChecks.{has_twice}
 use Rattle.vschema.specs.WellFormed.{is_formed, is_table, is_in_keyspace, is_sharded_at, is_vindex_right, fits_vindex, takes_type, has_number_twice}
-use Rattle.vschema.specs.Faults.{keys, vindex_of, column_of, lacks_column, is_nullable, mismatch, is_misplaced, table_has, keyspace_has, whole_has, all_tables, has, faults, first_fault, place_in, vindex_on, meant_table, meant_tables, meant_keyspace, meant}
-use Rattle.vschema.proofs.Formats.{good_column, good_table, good_keyspace}
-use Rattle.vschema.proofs.Options.{some_same, never, both, neither, join, turned, unturned, unfound, any_never}
+use Rattle.vschema_document.specs.Faults.{keys, vindex_of, column_of, lacks_column, is_nullable, mismatch, is_misplaced, table_has, keyspace_has, whole_has, all_tables, has, faults, first_fault}
+use Rattle.vschema.specs.Meant.{place_in, vindex_on, meant_table, meant_tables, meant_keyspace, meant}
+use Rattle.vschema_document.proofs.Formats.{good_column, good_table, good_keyspace}
+use Rattle.vschema_document.proofs.Options.{some_same, never, both, neither, join, turned, unturned, unfound, any_never}
 use Rattle.vschema.proofs.Places.{has_column, places_apart, place_among, present, needed, all_needed}
 
 -- no fault lies in a table

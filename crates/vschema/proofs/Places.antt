@@ -2,16 +2,17 @@
 use Rattle.std.proofs.Common.{◌≡◌, ℕ, zero, suc, ◌+◌, ◌==◌, List, [], ◌∷◌, map, slice_get, Option, Some, None, option_map, option_and_then, unwrap_or, is_none, Bool, true, false, ◌||◌, bytes_eq, refl, sym, ap, ◌∙◌, true≢false, arith, eqb-true, eq-eqb, if◌then◌else◌}
 use Rattle.std.proofs.lemmas.Slice.Eq.{bytes_eq-Decides}
 use Rattle.std.specs.List.{list_all, list_any}
-use Rattle.vschema.specs.declared.schema.Column.{Column}
+use Rattle.vschema_document.specs.declared.column.Column.{Column}
 use Rattle.vschema.specs.declared.schema.Table.{Table}
-use Rattle.vschema.specs.declared.document.DeclaredTable.{DeclaredTable}
+use Rattle.vschema_document.specs.declared.document.DeclaredTable.{DeclaredTable}
 use Rattle.vschema.specs.Schema.{place_from}
 use Rattle.vschema.specs.Resolved.{Name}
 use Rattle.vschema.specs.Checks.{has_number}
 use Rattle.vschema.specs.WriteChecks.{has_twice}
 use Rattle.vschema.specs.WellFormed.{has_number_twice, is_needed}
-use Rattle.vschema.specs.Faults.{place_of, column_of, lacks_column, is_nullable, place_in}
-use Rattle.vschema.proofs.Options.{some_same, never, neither, join}
+use Rattle.vschema_document.specs.Faults.{place_of, column_of, lacks_column, is_nullable}
+use Rattle.vschema.specs.Meant.{place_in}
+use Rattle.vschema_document.proofs.Options.{some_same, never, neither, join}
 
 -- an element that passes the test, at its place behind a number
 abbrev Found : {X : Type 0} → (X → Bool) → ℕ → List X → ℕ → Type 0

@@ -7,7 +7,7 @@ use Rattle.std.specs.List.{list_any}
 use Rattle.sql_tree.specs.declared.Assignment.{Assignment}
 use Rattle.vschema.specs.Resolved.{Name}
 use Rattle.vschema.specs.WriteChecks.{has_twice, sets_twice}
-use Rattle.vschema.proofs.Lists.{list_any_map}
+use Rattle.vschema_document.proofs.Lists.{list_any_map}
 
 -- the element before a place, and those from there on
 pub from_before : {X : Type 0} (f : X → List ℕ) (xs : List X) (i : ℕ) (d : X) → 0 < i → i ≤ length xs

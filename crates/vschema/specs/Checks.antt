@@ -12,13 +12,13 @@ use Rattle.sql_tree.specs.declared.SelectList.{SelectList}
 use Rattle.sql_tree.specs.declared.SelectList.TheVariants.{All, Items}
 use Rattle.sql_tree.specs.declared.Item.{Item}
 use Rattle.sql_tree.specs.declared.Item.TheVariants as item
-use Rattle.vschema.specs.declared.schema.ColumnType.{ColumnType}
-use Rattle.vschema.specs.declared.schema.ColumnType.TheVariants.{BigInt, BigIntUnsigned, VarBinary}
+use Rattle.vschema_document.specs.declared.column.ColumnType.{ColumnType}
+use Rattle.vschema_document.specs.declared.column.ColumnType.TheVariants.{BigInt, BigIntUnsigned, VarBinary}
 use Rattle.vschema.specs.declared.schema.Table.{Table}
 use Rattle.vschema.specs.declared.schema.Query.{Query}
 use Rattle.vschema.specs.Schema.{column_place}
 use Rattle.vschema.specs.Resolved.{Name, place}
-pub use Rattle.vschema.specs.Twice.{has_number}
+pub use Rattle.vschema_document.specs.Twice.{has_number}
 
 -- a name that is no column of the table
 abbrev pub is_unknown : Table → Name → Bool

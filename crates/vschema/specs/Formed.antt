@@ -2,29 +2,12 @@
 use Rattle.std.specs.Prelude.{ℕ, Bool, true, false, not, ◌&&◌, ◌||◌, nat_le, List, [], ◌∷◌, length, map, filter, slice_get, option_map, Option, Some, None}
 use Rattle.std.specs.List.{list_all}
 use Rattle.sql_lexer.specs.Lexemes.{is_word}
-use Rattle.vindex.specs.declared.AnyVindex.{AnyVindex}
-use Rattle.vindex.specs.declared.AnyVindex.TheVariants.{Numeric, ReverseBits, Binary, BinaryMd5}
-use Rattle.vschema.specs.declared.schema.Column.{Column}
-use Rattle.vschema.specs.declared.schema.ColumnType.{ColumnType}
-use Rattle.vschema.specs.declared.schema.ColumnType.TheVariants.{BigInt, BigIntUnsigned, VarBinary}
+use Rattle.vschema_document.specs.declared.column.Column.{Column}
 use Rattle.vschema.specs.declared.schema.ColumnVindex.{ColumnVindex}
 use Rattle.vschema.specs.declared.schema.Keyspace.{Keyspace}
 use Rattle.vschema.specs.declared.schema.Table.{Table}
-use Rattle.vschema.specs.Twice.{has_number, has_number_twice, has_twice}
-
--- a column of texts takes up to a number of bytes from 1 to 255
-abbrev pub is_type : ColumnType → Bool
-is_type BigInt = true
-is_type BigIntUnsigned = true
-is_type (VarBinary n) = nat_le 1 n && nat_le n 255
-
--- the columns that a vindex takes
-abbrev pub takes_type : AnyVindex → ColumnType → Bool
-takes_type Numeric BigIntUnsigned = true
-takes_type ReverseBits BigIntUnsigned = true
-takes_type Binary (VarBinary n) = true
-takes_type BinaryMd5 (VarBinary n) = true
-takes_type _ _ = false
+use Rattle.vschema_document.specs.Twice.{has_number, has_number_twice, has_twice}
+pub use Rattle.vschema_document.specs.ColumnTypes.{is_type, takes_type}
 
 -- a column of the table that is NOT NULL
 abbrev pub is_needed : Table → ℕ → Bool

@@ -6,12 +6,8 @@ pub mod TypedWrites
 pub mod TypedStatement
 pub mod Database
 pub mod Storable
-pub mod Twice
 pub mod Formed
 pub mod WellFormed
-pub mod Json
-pub mod Documents
-pub mod Faults
-pub mod Refused
+pub mod Meant
 pub mod FirstPlaces
 pub mod inner

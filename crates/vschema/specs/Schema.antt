@@ -1,16 +1,12 @@
 -- Tables and columns by name, and the keyspace id of a row.
-use Rattle.std.specs.Prelude.{ℕ, ◌+◌, Bool, List, [], ◌∷◌, bytes_eq, map, slice_index_or, Option, Some, None, if◌then◌else◌}
+use Rattle.std.specs.Prelude.{ℕ, List, [], bytes_eq, map, slice_index_or, Option, Some, None}
 use Rattle.vt_value.specs.declared.value.Value.{Value}
 use Rattle.vt_value.specs.Values.{Row, value_at}
 use Rattle.vindex.specs.KeyspaceIds.{keyspace_id}
 use Rattle.vschema.specs.declared.schema.ColumnVindex.{ColumnVindex}
 use Rattle.vschema.specs.declared.schema.Table.{Table}
 use Rattle.vschema.specs.declared.schema.VSchema.{VSchema}
-
--- the place of the first element that passes the test, counted from a number
-abbrev pub place_from : {X : Type 0} → (X → Bool) → ℕ → List X → Option ℕ
-place_from test n [] = None
-place_from test n (x ∷ xs) = if test x then Some n else place_from test (n + 1) xs
+pub use Rattle.vschema_document.specs.Places.{place_from}
 
 -- names are compared byte by byte
 abbrev pub column_place : Table → List ℕ → Option ℕ

@@ -8,14 +8,14 @@ use Rattle.sql_tree.specs.declared.Assignment.{Assignment}
 use Rattle.sql_tree.specs.declared.Insert.{Insert}
 use Rattle.sql_tree.specs.declared.Update.{Update}
 use Rattle.sql_tree.specs.declared.Delete.{Delete}
-use Rattle.vschema.specs.declared.schema.Column.{Column}
-use Rattle.vschema.specs.declared.schema.ColumnType.{ColumnType}
-use Rattle.vschema.specs.declared.schema.ColumnType.TheVariants.{BigInt, BigIntUnsigned, VarBinary}
+use Rattle.vschema_document.specs.declared.column.Column.{Column}
+use Rattle.vschema_document.specs.declared.column.ColumnType.{ColumnType}
+use Rattle.vschema_document.specs.declared.column.ColumnType.TheVariants.{BigInt, BigIntUnsigned, VarBinary}
 use Rattle.vschema.specs.declared.schema.ColumnVindex.{ColumnVindex}
 use Rattle.vschema.specs.declared.schema.Table.{Table}
 use Rattle.vschema.specs.Resolved.{Name, place, places_from}
 use Rattle.vschema.specs.Checks.{is_unknown, filter_has, condition_names_unknown, condition_mixes, is_text_type, value_is_text, differ, has_number}
-pub use Rattle.vschema.specs.Twice.{has_twice}
+pub use Rattle.vschema_document.specs.Twice.{has_twice}
 
 -- SET names a column twice
 abbrev pub sets_twice : List (Assignment Name) → Bool

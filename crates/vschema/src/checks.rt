@@ -9,9 +9,10 @@ ghost use Rattle.vschema.specs.inner.FirstPlaces.{shows_other};
 
 use crate::first_places::FirstPlaces;
 use crate::names::{column_place, is_unknown};
-use crate::schema::{ColumnType, Query, Table};
+use crate::schema::{Query, Table};
 use sql_tree::{Condition, Item, Key, Name, Operand, Select, SelectList};
 use std::alloc::{AllocError, Global};
+use vschema_document::ColumnType;
 use vt_value::Value;
 
 fn operand_is_unknown(table: &Table, operand: &Operand<Name>) -> bool

@@ -3,71 +3,14 @@ ghost use Rattle.std.specs.List.{list_any};
 ghost use Rattle.std.specs.Option.{option_copied};
 ghost use Rattle.vschema.specs.Schema.{place_from};
 
-use crate::names::place_among;
-use crate::schema::Column;
-use indexmap::{Equivalent, IndexSet};
+use indexmap::IndexSet;
 use sql_tree::Name;
 use std::alloc::{AllocError, Global};
-use std::hash::{Hash, Hasher};
 use std::marker::Model;
+use vschema_document::{Column, place_among};
 
 /// Up to so many columns a name is compared with each, which takes less time than its hash.
 const FEW: usize = 8;
-
-/// Columns of one table are the same where their names are.
-impl PartialEq for Column {
-    ghost use Rattle.std.specs.Prelude.{bytes_eq};
-    ghost use Rattle.std.specs.Cmp.{partial_equiv_from_equiv};
-    ghost use Rattle.std.specs.Cmp.Lexicographic.{nat_list_eq_equiv};
-    ghost use Rattle.std.proofs.lemmas.Cmp.{on_equiv};
-
-    ghost eq = { λ a b. bytes_eq a.name b.name };
-
-    ghost laws = { partial_equiv_from_equiv (on_equiv (λ c. c.name) nat_list_eq_equiv) };
-
-    fn eq(&self, other: &Column) -> bool {
-        self.name.as_slice() == other.name.as_slice()
-    }
-}
-
-impl Eq for Column {
-    ghost use Rattle.std.specs.Cmp.Lexicographic.{nat_list_eq_equiv};
-    ghost use Rattle.std.proofs.lemmas.Cmp.{on_equiv};
-
-    ghost laws = { on_equiv (λ c. c.name) nat_list_eq_equiv };
-}
-
-impl Hash for Column {
-    ghost use Rattle.std.proofs.Common.{ap};
-    ghost use Rattle.std.specs.Cmp.Lexicographic.{bytes_decides};
-    ghost use Rattle.std.specs.Hash as fed;
-
-    ghost hash_input = { λ c. fed.slice fed.u8 c.name };
-
-    ghost respects_eq = { λ a b same. ap (fed.slice fed.u8) ((bytes_decides a.name b.name).0 same) };
-
-    fn hash<H: Hasher>(&self, state: &mut H) {
-        self.name.as_slice().hash(state);
-    }
-}
-
-/// A name stands for the column that has it.
-impl Equivalent<Column> for &[u8] {
-    ghost use Rattle.std.specs.Prelude.{bytes_eq};
-    ghost use Rattle.std.proofs.Common.{ap};
-    ghost use Rattle.std.specs.Cmp.Lexicographic.{bytes_decides, nat_list_eq_equiv};
-    ghost use Rattle.std.specs.Hash as fed;
-
-    ghost equivalent = { λ name c. bytes_eq name.now c.name };
-
-    ghost respects_hash = { λ name c same. ap (fed.slice fed.u8) ((bytes_decides name.now c.name).0 same) };
-
-    ghost respects_eq = { λ name a b. nat_list_eq_equiv.congr name.now a.name b.name };
-
-    fn equivalent(&self, column: &Column) -> bool {
-        *self == column.name.as_slice()
-    }
-}
 
 /// The columns of a table in their order, each name once, found by name. Contracts see the list of the columns.
 #[derive(Drop)]
@@ -78,8 +21,8 @@ pub struct Columns {
 impl Model for Columns {
     ghost use Rattle.std.specs.Prelude.{List};
     ghost use Rattle.std.specs.Coded.{coded_list};
-    ghost use Rattle.vschema.specs.declared.schema.Column.{Column};
-    ghost use Rattle.vschema.specs.contracts.schema.Column as column;
+    ghost use Rattle.vschema_document.specs.declared.column.Column.{Column};
+    ghost use Rattle.vschema_document.specs.contracts.column.Column as column;
 
     ghost Value = { List Column };
 

@@ -1,16 +1,17 @@
 ghost use Rattle.std.specs.Prelude.{◌≡◌, ◌++◌, ◌+◌, ◌≤◌, ◌<◌, ◌^◌, false, map, length, slice_get, option_and_then, IfOk, IfErr, IsTrue};
 ghost use Rattle.std.specs.List.{list_any};
-ghost use Rattle.vschema.specs.Faults.{keys, place_in, vindex_on, meant_table, meant_tables, meant_keyspace, meant, contents, table_has, has};
+ghost use Rattle.vschema_document.specs.Faults.{keys, table_has, has};
+ghost use Rattle.vschema.specs.Meant.{place_in, vindex_on, meant_table, meant_tables, meant_keyspace, meant, contents};
 ghost use Rattle.vschema.specs.Formed.{is_formed};
 ghost use Rattle.vschema.specs.WriteChecks.{has_twice};
 
 use crate::columns::Columns;
-use crate::document::{DeclaredKey, DeclaredKeyspace, DeclaredTable};
-use crate::fault::SchemaFault;
-use crate::lookups::{keys, place_of, vindex_of};
-use crate::schema::{Column, ColumnVindex, Keyspace, Table, VSchema};
+use crate::schema::{ColumnVindex, Keyspace, Table, VSchema};
 use sql_tree::Name;
 use std::alloc::Global;
+use vschema_document::{
+    Column, DeclaredKey, DeclaredKeyspace, DeclaredTable, SchemaFault, keys, place_of, vindex_of,
+};
 use vt_value::Items;
 
 fn copy_column(alloc: Global, column: &Column) -> Result<Column, SchemaFault>

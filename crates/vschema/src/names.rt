@@ -1,27 +1,10 @@
 ghost use Rattle.std.specs.Prelude.{◌≡◌, bytes_eq};
-ghost use Rattle.vschema.specs.Schema.{place_from, column_place, table_place};
+ghost use Rattle.vschema.specs.Schema.{column_place, table_place};
 ghost use Rattle.vschema.specs.Checks.{is_unknown};
 
-use crate::schema::{Column, Table, VSchema};
+use crate::schema::{Table, VSchema};
 use sql_tree::Name;
-
-pub fn is_name(name: &Name, wanted: &Name) -> bool
-    ensures { result ≡ bytes_eq name.now wanted.now }
-{
-    name.as_slice() == wanted.as_slice()
-}
-
-/// The place of the first column with this name.
-pub fn place_among(columns: &[Column], name: &Name) -> Option<usize>
-    ensures { result ≡ place_from (λ c. bytes_eq c.name name.now) 0 columns.now }
-{
-    for (place, column) in columns.iter().enumerate() {
-        if is_name(&column.name, name) {
-            return Some(place);
-        }
-    }
-    None
-}
+use vschema_document::is_name;
 
 pub fn column_place(table: &Table, name: &Name) -> Option<usize>
     ensures { result ≡ column_place table.now name.now }

@@ -8,23 +8,6 @@ use sql_tree::{Condition, Item, Key, Limit, Name};
 use vindex::AnyVindex;
 use vt_value::Items;
 
-/// The type of a column.
-#[derive(Clone, Copy, Debug, PartialEq, Eq)]
-pub enum ColumnType {
-    BigInt,
-    BigIntUnsigned,
-    /// Texts of at most so many bytes.
-    VarBinary(u8),
-}
-
-/// A column of a table. It may hold NULL only where it is nullable.
-#[derive(Drop)]
-pub struct Column {
-    pub name: Name,
-    pub kind: ColumnType,
-    pub nullable: bool,
-}
-
 /// The column that decides the shard of a row, by its place, and how.
 #[derive(Clone, Copy, Debug, PartialEq, Eq)]
 pub struct ColumnVindex {

@@ -6,10 +6,11 @@ ghost use Rattle.vschema.specs.WriteChecks.{beside, is_out_of_range, is_too_long
 ghost use Rattle.vschema.specs.inner.StoredChecks.{fails};
 
 use crate::checks::{differ, has_number, is_text_type, value_is_text};
-use crate::names::{is_name, is_unknown};
+use crate::names::is_unknown;
 use crate::resolve::place;
-use crate::schema::{Column, ColumnType, Table};
+use crate::schema::Table;
 use sql_tree::{Assignment, Name};
+use vschema_document::{Column, ColumnType};
 use vt_value::{Items, Value};
 
 /// What is asked of each value that is stored.
@@ -19,13 +20,6 @@ pub enum StoredCheck {
     WrongNull,
     OutOfRange,
     TooLong,
-}
-
-/// Whether the name is one of these.
-pub fn has_name(names: &[Name], name: &Name) -> bool
-    ensures { result ≡ list_any (bytes_eq name.now) names.now }
-{
-    names.iter().any(|other| is_name(name, other))
 }
 
 /// Whether a row has another number of values than these.

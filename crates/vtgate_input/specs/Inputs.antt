@@ -2,7 +2,7 @@
 use Rattle.std.specs.Prelude.{◌≡◌, ℕ, List, Option, Ok}
 use Rattle.std.specs.Io.KnownBytes.{Consumes, IsAtEnd}
 use Rattle.vschema.specs.declared.schema.VSchema.{VSchema}
-use Rattle.vschema.specs.Faults.{contents, schema_read}
+use Rattle.vschema.specs.Meant.{contents, schema_read}
 
 -- the bytes that a device has left or has taken, where they are known
 abbrev pub Known : Type 0

@@ -1,7 +1,7 @@
 //! What a run stands on: the ranges that its words tell, and the VSchema that its input declares.
 ghost use Rattle.std.specs.Prelude.{◌≡◌, ◌≤◌, false, not, length, Ok, IsTrue, IfOk};
 ghost use Rattle.std.specs.List.{list_any};
-ghost use Rattle.vschema.specs.Faults.{contents, schema_read};
+ghost use Rattle.vschema.specs.Meant.{contents, schema_read};
 ghost use Rattle.vschema.specs.WellFormed.{is_vschema};
 ghost use Rattle.empty_opening.specs.Empty.{empty_shards};
 ghost use Rattle.vtgate_lines.specs.Partitions.{NamesPartition};

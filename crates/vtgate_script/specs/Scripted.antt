@@ -7,7 +7,7 @@ use Rattle.vt_value.specs.declared.refusal.Refusal.TheVariants.{OutOfMemory}
 use Rattle.keyrange.specs.declared.KeyRange.{KeyRange}
 use Rattle.vschema.specs.declared.schema.VSchema.{VSchema}
 use Rattle.vschema.specs.Database.{Database}
-use Rattle.vschema.specs.Faults.{contents, schema_read}
+use Rattle.vschema.specs.Meant.{contents, schema_read}
 use Rattle.journal.specs.Views.{PassView, new_pass}
 use Rattle.shard_run.specs.declared.Entry.{Entry}
 use Rattle.shard_run.specs.Runs.{Run, Opening, one}

@@ -1,7 +1,7 @@
 //! `vtgate script`: lines that are run in order, on one thread.
 ghost use Rattle.std.specs.Prelude.{◌≡◌, ℕ, List, [], None, IsTrue, IfOk, OnOk, Ok};
 ghost use Rattle.keyrange.specs.declared.KeyRange.{KeyRange};
-ghost use Rattle.vschema.specs.Faults.{contents, schema_read};
+ghost use Rattle.vschema.specs.Meant.{contents, schema_read};
 ghost use Rattle.vschema.specs.WellFormed.{is_vschema};
 ghost use Rattle.shard_contents.specs.Shards.{most_limits};
 ghost use Rattle.journal.specs.Views.{new_pass};

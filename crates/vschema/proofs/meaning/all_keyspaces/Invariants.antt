@@ -1,5 +1,5 @@
 use Rattle.std.proofs.Common.{◌≡◌, take, map}
-use Rattle.vschema.specs.Faults.{meant_keyspace}
+use Rattle.vschema.specs.Meant.{meant_keyspace}
 use Rattle.vschema.proofs.meaning.all_keyspaces.Given as goal
 
 abbrev pub invariant-loop-keyspace : goal.invariant-loop-keyspace

@@ -1,5 +1,5 @@
 use Rattle.std.proofs.Common.{◌≡◌, ◌++◌, drop}
-use Rattle.vschema.specs.Faults.{meant_tables}
+use Rattle.vschema.specs.Meant.{meant_tables}
 use Rattle.vschema.proofs.meaning.all_tables.Given as goal
 
 abbrev pub invariant-loop-place : goal.invariant-loop-place

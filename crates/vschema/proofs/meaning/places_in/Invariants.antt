@@ -1,5 +1,5 @@
 use Rattle.std.proofs.Common.{◌≡◌, take, map}
-use Rattle.vschema.specs.Faults.{place_in}
+use Rattle.vschema.specs.Meant.{place_in}
 use Rattle.vschema.proofs.meaning.places_in.Given as goal
 
 abbrev pub invariant-loop-name : goal.invariant-loop-name

@@ -1,5 +1,5 @@
 use Rattle.std.proofs.Common.{◌≡◌, take, map}
-use Rattle.vschema.specs.Faults.{meant_table}
+use Rattle.vschema.specs.Meant.{meant_table}
 use Rattle.vschema.proofs.meaning.tables_of.Given as goal
 
 abbrev pub invariant-loop-table : goal.invariant-loop-table

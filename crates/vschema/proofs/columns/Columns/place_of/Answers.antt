@@ -1,5 +1,5 @@
 use Rattle.std.proofs.Common.{bytes_eq, ◌∙◌}
-use Rattle.vschema.specs.declared.schema.Column.{Column}
+use Rattle.vschema_document.specs.declared.column.Column.{Column}
 use Rattle.vschema.specs.Schema.{place_from}
 use Rattle.vschema.proofs.ByName.{place_by_name}
 use Rattle.vschema.proofs.columns.Columns.place_of.Goals as goal

@@ -1,0 +1,5 @@
+pub mod Lists
+pub mod Sizes
+pub mod Formats
+pub mod Options
+pub mod Tables

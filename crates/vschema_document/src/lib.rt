@@ -1,0 +1,23 @@
+//! The document that declares a VSchema, read from JSON, and the faults that a VSchema may have.
+#![tactic(auto)]
+
+mod column;
+mod document;
+mod fault;
+mod faults;
+mod json;
+mod lookups;
+mod names;
+mod parts;
+mod reading;
+mod whole;
+mod words;
+
+pub use column::{Column, ColumnType};
+pub use document::{DeclaredKey, DeclaredKeyspace, DeclaredTable, DeclaredVindex};
+pub use fault::SchemaFault;
+pub use faults::first_fault;
+pub use lookups::{keys, place_of, vindex_of};
+pub use names::{is_name, place_among};
+pub use reading::{parse, read_document};
+pub use words::is_word;

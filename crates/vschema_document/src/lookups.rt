@@ -1,0 +1,95 @@
+ghost use Rattle.std.specs.Prelude.{◌≡◌};
+ghost use Rattle.std.specs.Option.{option_copied};
+ghost use Rattle.vschema_document.specs.Faults.{keys, vindexes, place_of, column_of, vindex_of, lacks_column, is_nullable, mismatch};
+ghost use Rattle.vschema_document.specs.ColumnTypes.{takes_type};
+
+use crate::column::{Column, ColumnType};
+use crate::document::{DeclaredKey, DeclaredKeyspace, DeclaredTable, DeclaredVindex};
+use crate::names::{is_name, place_among};
+use sql_tree::Name;
+use vindex::AnyVindex;
+
+/// The column vindexes of a table.
+pub fn keys(table: &DeclaredTable) -> &[DeclaredKey]
+    ensures { result.now ≡ keys table.now }
+{
+    match &table.column_vindexes {
+        Some(keys) => keys.as_slice(),
+        None => &[],
+    }
+}
+
+/// The vindexes of a keyspace.
+pub fn vindexes(keyspace: &DeclaredKeyspace) -> &[DeclaredVindex]
+    ensures { result.now ≡ vindexes keyspace.now }
+{
+    match &keyspace.vindexes {
+        Some(vindexes) => vindexes.as_slice(),
+        None => &[],
+    }
+}
+
+/// The place of the first column with this name.
+pub fn place_of(table: &DeclaredTable, name: &Name) -> Option<usize>
+    ensures { result ≡ place_of table.now name.now }
+{
+    place_among(table.columns.as_slice(), name)
+}
+
+pub fn column_of<'t>(table: &'t DeclaredTable, name: &Name) -> Option<&'t Column>
+    ensures { option_copied result ≡ column_of table.now name.now }
+{
+    table.columns.get(place_of(table, name)?)
+}
+
+/// The vindex that a keyspace declares under this name, where its type is known.
+pub fn vindex_of(keyspace: &DeclaredKeyspace, name: &Name) -> Option<AnyVindex>
+    ensures { result ≡ vindex_of keyspace.now name.now }
+{
+    let declared = vindexes(keyspace);
+    for vindex in declared {
+        if is_name(&vindex.name, name) {
+            return vindex.kind;
+        }
+    }
+    None
+}
+
+/// Whether the table has no column of this name.
+pub fn lacks_column(table: &DeclaredTable, name: &Name) -> bool
+    ensures { result ≡ lacks_column table.now name.now }
+{
+    place_of(table, name).is_none()
+}
+
+/// Whether the column with this name may be NULL.
+pub fn is_nullable(table: &DeclaredTable, name: &Name) -> bool
+    ensures { result ≡ is_nullable table.now name.now }
+{
+    match column_of(table, name) {
+        Some(column) => column.nullable,
+        None => false,
+    }
+}
+
+fn takes_type(vindex: AnyVindex, kind: ColumnType) -> bool
+    ensures { result ≡ takes_type vindex kind }
+{
+    match vindex {
+        AnyVindex::Numeric | AnyVindex::ReverseBits => kind == ColumnType::BigIntUnsigned,
+        AnyVindex::Binary | AnyVindex::BinaryMd5 => matches!(kind, ColumnType::VarBinary(_)),
+    }
+}
+
+/// Whether the vindex of a column can't take its type.
+pub fn mismatch(keyspace: &DeclaredKeyspace, table: &DeclaredTable, key: &DeclaredKey) -> bool
+    ensures { result ≡ mismatch (vindex_of keyspace.now key.now.vindex) (column_of table.now key.now.column) }
+{
+    match (
+        vindex_of(keyspace, &key.vindex),
+        column_of(table, &key.column),
+    ) {
+        (Some(vindex), Some(column)) => !takes_type(vindex, column.kind),
+        _ => false,
+    }
+}

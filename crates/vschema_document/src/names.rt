@@ -1,0 +1,33 @@
+//! Names, which are compared byte by byte.
+ghost use Rattle.std.specs.Prelude.{◌≡◌, bytes_eq};
+ghost use Rattle.std.specs.List.{list_any};
+ghost use Rattle.vschema_document.specs.Places.{place_from};
+
+use crate::column::Column;
+use sql_tree::Name;
+
+/// Whether the name is this one.
+pub fn is_name(name: &Name, wanted: &Name) -> bool
+    ensures { result ≡ bytes_eq name.now wanted.now }
+{
+    name.as_slice() == wanted.as_slice()
+}
+
+/// Whether the name is one of these.
+pub fn has_name(names: &[Name], name: &Name) -> bool
+    ensures { result ≡ list_any (bytes_eq name.now) names.now }
+{
+    names.iter().any(|other| is_name(name, other))
+}
+
+/// The place of the first column with this name.
+pub fn place_among(columns: &[Column], name: &Name) -> Option<usize>
+    ensures { result ≡ place_from (λ c. bytes_eq c.name name.now) 0 columns.now }
+{
+    for (place, column) in columns.iter().enumerate() {
+        if is_name(&column.name, name) {
+            return Some(place);
+        }
+    }
+    None
+}
