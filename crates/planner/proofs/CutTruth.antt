@@ -1,8 +1,7 @@
 -- The cut condition is true where the whole one is.
-use Rattle.std.proofs.Common.{◌≡◌, ℕ, Bool, true, false, cond, List, [], ◌∷◌, map, filter, refl, sym, ap, subst, ◌∙◌, ◌==◌}
+use Rattle.std.proofs.Common.{◌≡◌, ℕ, Bool, true, false, cond, List, [], ◌∷◌, map, filter, Option, Some, None, refl, sym, ap, subst, ◌∙◌}
 use Rattle.std.specs.Prelude.{◌||◌, ◌&&◌}
 use Rattle.std.specs.List.{list_any}
-use Rattle.std.proofs.lemmas.Bool.{eqb-true}
 use Rattle.vt_value.specs.declared.value.Value.{Value}
 use Rattle.vt_value.specs.declared.value.Truth.{Truth}
 use Rattle.vt_value.specs.declared.value.Truth.TheVariants.{True, False, Unknown}
@@ -17,7 +16,10 @@ use Rattle.sql_tree.specs.declared.Condition.TheOpen.{Compare, In, IsNull, Not, 
 use Rattle.sql_tree.specs.declared.Condition.TheFolds.{ind-Condition}
 use Rattle.sql_eval.specs.Conditions.{truth_at, operand_value}
 use Rattle.sql_eval.proofs.ConditionLemmas.{truth_at-In, truth_at-And}
-use Rattle.planner.specs.Plans.{has_among, first_cut, cut_in, cut_by, cut_of}
+use Rattle.vschema_document.specs.declared.column.ColumnType.{ColumnType}
+use Rattle.planner.specs.declared.keys.Keys.{Keys}
+use Rattle.planner.specs.Routes.{kind_in}
+use Rattle.planner.specs.Plans.{has_among, first_cut, cut_members, cut_in, cut_by, cut_of}
 use Rattle.planner.proofs.TrueConditions.{equals_one, same_values}
 use Rattle.planner.proofs.Skips.{not_null}
 use Rattle.planner.proofs.Cuts.{first_cut-cons, cut_of-Compare, cut_of-In, cut_of-IsNull, cut_of-Not, cut_of-And, cut_of-Or}
@@ -52,62 +54,61 @@ same_members kept v h (m ∷ members) = by (kept m) refl (is_true (compare Eq v 
         cc
     by false is false same rest = rw same rest
 
-module _ (row : Row) (column : ℕ) (kept : Value → Bool) (h : is_null (value_at row column) ≡ false → kept (value_at row column) ≡ true) where
+module _ (row : Row) (keys : Keys) (kept : ColumnType → Value → Bool)
+    (h : (c : ℕ) (kind : ColumnType) → kind_in keys c ≡ Some kind → is_null (value_at row c) ≡ false → kept kind (value_at row c) ≡ true) where
   abbrev Keeps : Condition ℕ → Type 0
-  Keeps c = is_true (truth_at row (cut_of column kept c)) ≡ is_true (truth_at row c)
+  Keeps c = is_true (truth_at row (cut_of keys kept c)) ≡ is_true (truth_at row c)
 
   abbrev Entry : Type 0
   Entry = (c : Condition ℕ) × Keeps c
 
-  keeps-same : (c : Condition ℕ) → cut_of column kept c ≡ c → Keeps c
+  keeps-same : (c : Condition ℕ) → cut_of keys kept c ≡ c → Keeps c
   keeps-same c e = ap (λ d. is_true (truth_at row d)) e
 
   in_true_at : (a : Operand ℕ) (members : List Value) → is_true (truth_at row (N.In a members)) ≡ equals_one (operand_value row a) members
   in_true_at a members = ap is_true (truth_at-In row a members) ∙ in_true (operand_value row a) members
 
-  keeps-In : (a : Operand ℕ) (members : List Value) → is_true (truth_at row (cut_in column kept a members)) ≡ is_true (truth_at row (N.In a members))
+  keeps-In : (a : Operand ℕ) (members : List Value) → is_true (truth_at row (cut_in keys kept a members)) ≡ is_true (truth_at row (N.In a members))
   keeps-In (Literal x) members = refl
-  keeps-In (Column c) members = by (c == column) refl
+  keeps-In (Column c) members = by (kind_in keys c) refl
     where
-      by : (b : Bool) → (c == column) ≡ b
-          → is_true (truth_at row (N.In (Column c) (cond b (filter kept members) members))) ≡ is_true (truth_at row (N.In (Column c) members))
-      by true e =
-          in_true_at (Column c) (filter kept members)
-          ∙ subst (λ n. equals_one (value_at row n) (filter kept members) ≡ equals_one (value_at row n) members) (sym (eqb-true c column e))
-          (same_members kept (value_at row column) h members) ∙ sym (in_true_at (Column c) members)
-      by false e = refl
+      by : (kind : Option ColumnType) → kind_in keys c ≡ kind
+          → is_true (truth_at row (N.In (Column c) (cut_members kind kept members))) ≡ is_true (truth_at row (N.In (Column c) members))
+      by None e = refl
+      by (Some kind) e =
+          in_true_at (Column c) (filter (kept kind) members) ∙ same_members (kept kind) (value_at row c) (h c kind e) members ∙ sym (in_true_at (Column c) members)
 
   and_true_at : (c : Condition ℕ) (cs : List (Condition ℕ)) →
       is_true (all_true (map (truth_at row) (c ∷ cs))) ≡ (is_true (truth_at row c) && is_true (all_true (map (truth_at row) cs)))
   and_true_at c cs = and_true (truth_at row c) (all_true (map (truth_at row) cs))
 
   members : (es : List Entry) →
-      is_true (all_true (map (truth_at row) (first_cut column (map (cut_by column kept) (map (λ e. e.0) es))))) ≡ is_true (all_true (map (truth_at row) (map (λ e. e.0) es)))
+      is_true (all_true (map (truth_at row) (first_cut keys (map (cut_by keys kept) (map (λ e. e.0) es))))) ≡ is_true (all_true (map (truth_at row) (map (λ e. e.0) es)))
   members [] = refl
   members (e ∷ es) =
-      ap (λ l. is_true (all_true (map (truth_at row) l))) (first_cut-cons column kept e.0 (map (λ e. e.0) es))
-      ∙ by (has_among column e.0) (members es) ∙ sym (and_true_at e.0 (map (λ e. e.0) es))
+      ap (λ l. is_true (all_true (map (truth_at row) l))) (first_cut-cons keys kept e.0 (map (λ e. e.0) es))
+      ∙ by (has_among keys e.0) (members es) ∙ sym (and_true_at e.0 (map (λ e. e.0) es))
     where
       by : (b : Bool)
-          → is_true (all_true (map (truth_at row) (first_cut column (map (cut_by column kept) (map (λ e. e.0) es))))) ≡ is_true (all_true (map (truth_at row) (map (λ e. e.0) es)))
-          → is_true (all_true (map (truth_at row) (cond b (cut_of column kept e.0 ∷ map (λ e. e.0) es) (e.0 ∷ first_cut column (map (cut_by column kept) (map (λ e. e.0) es))))))
+          → is_true (all_true (map (truth_at row) (first_cut keys (map (cut_by keys kept) (map (λ e. e.0) es))))) ≡ is_true (all_true (map (truth_at row) (map (λ e. e.0) es)))
+          → is_true (all_true (map (truth_at row) (cond b (cut_of keys kept e.0 ∷ map (λ e. e.0) es) (e.0 ∷ first_cut keys (map (cut_by keys kept) (map (λ e. e.0) es))))))
           ≡ (is_true (truth_at row e.0) && is_true (all_true (map (truth_at row) (map (λ e. e.0) es))))
       by true rest =
-          and_true_at (cut_of column kept e.0) (map (λ e. e.0) es) ∙ ap (λ b. b && is_true (all_true (map (truth_at row) (map (λ e. e.0) es)))) e.1
+          and_true_at (cut_of keys kept e.0) (map (λ e. e.0) es) ∙ ap (λ b. b && is_true (all_true (map (truth_at row) (map (λ e. e.0) es)))) e.1
       by false rest =
-          and_true_at e.0 (first_cut column (map (cut_by column kept) (map (λ e. e.0) es))) ∙ ap (λ b. is_true (truth_at row e.0) && b) rest
+          and_true_at e.0 (first_cut keys (map (cut_by keys kept) (map (λ e. e.0) es))) ∙ ap (λ b. is_true (truth_at row e.0) && b) rest
 
   node : (y : Condition-F ℕ Entry) → Keeps (roll-Condition ℕ (map-Condition ℕ Entry (Condition ℕ) (λ e. e.0) y))
-  node (Compare op a b) = subst Keeps (sym (rolls-Compare op a b)) (keeps-same (N.Compare op a b) (cut_of-Compare column kept op a b))
-  node (In a ms) = subst Keeps (sym (rolls-In a ms)) (ap (λ d. is_true (truth_at row d)) (cut_of-In column kept a ms) ∙ keeps-In a ms)
-  node (IsNull a) = subst Keeps (sym (rolls-IsNull a)) (keeps-same (N.IsNull a) (cut_of-IsNull column kept a))
-  node (Not e) = subst Keeps (sym (rolls-Not e.0)) (keeps-same (N.Not e.0) (cut_of-Not column kept e.0))
+  node (Compare op a b) = subst Keeps (sym (rolls-Compare op a b)) (keeps-same (N.Compare op a b) (cut_of-Compare keys kept op a b))
+  node (In a ms) = subst Keeps (sym (rolls-In a ms)) (ap (λ d. is_true (truth_at row d)) (cut_of-In keys kept a ms) ∙ keeps-In a ms)
+  node (IsNull a) = subst Keeps (sym (rolls-IsNull a)) (keeps-same (N.IsNull a) (cut_of-IsNull keys kept a))
+  node (Not e) = subst Keeps (sym (rolls-Not e.0)) (keeps-same (N.Not e.0) (cut_of-Not keys kept e.0))
   node (And es) =
       let cs = map (λ (e : Entry). e.0) es in
       subst Keeps (sym (rolls-And cs))
-      (ap (λ d. is_true (truth_at row d)) (cut_of-And column kept cs) ∙ ap is_true (truth_at-And row (first_cut column (map (cut_by column kept) cs)))
+      (ap (λ d. is_true (truth_at row d)) (cut_of-And keys kept cs) ∙ ap is_true (truth_at-And row (first_cut keys (map (cut_by keys kept) cs)))
       ∙ members es ∙ ap is_true (sym (truth_at-And row cs)))
-  node (Or es) = let cs = map (λ (e : Entry). e.0) es in subst Keeps (sym (rolls-Or cs)) (keeps-same (N.Or cs) (cut_of-Or column kept cs))
+  node (Or es) = let cs = map (λ (e : Entry). e.0) es in subst Keeps (sym (rolls-Or cs)) (keeps-same (N.Or cs) (cut_of-Or keys kept cs))
 
   pub keeps : (c : Condition ℕ) → Keeps c
   keeps = ind-Condition ℕ Keeps (λ x y is. subst (λ z. Keeps (roll-Condition ℕ z)) is (node y))

@@ -1,5 +1,5 @@
 -- A plan of an aggregated query is right: the groups of the pieces, joined, are those of all rows.
-use Rattle.std.proofs.Common.{◌≡◌, ℕ, Bool, true, false, cond, List, [], ◌∷◌, ◌++◌, length, map, filter, flat_map, IsPermutation, refl, sym, ap, subst, ◌∙◌, arith, ◌==◌, length-append}
+use Rattle.std.proofs.Common.{◌≡◌, ℕ, Bool, true, false, cond, List, [], ◌∷◌, ◌++◌, length, map, filter, flat_map, IsPermutation, Option, Some, None, refl, sym, ap, subst, ◌∙◌, arith, ◌==◌, length-append}
 use Rattle.std.specs.Prelude.{◌||◌}
 use Rattle.std.specs.List.{AllByRecursion, list_any}
 use Rattle.std.proofs.lemmas.Bool.{eq-eqb}
@@ -15,7 +15,8 @@ use Rattle.vschema.specs.declared.schema.Query.{Query}
 use Rattle.vschema.specs.declared.schema.Table.{Table}
 use Rattle.vschema.specs.declared.schema.VSchema.{VSchema}
 use Rattle.vschema.specs.Checks.{is_aggregate, is_aggregated, has_number}
-use Rattle.vschema.specs.Database.{rows_of}
+use Rattle.vschema.specs.declared.schema.Join.{Join}
+use Rattle.vschema.specs.Sources.{source_rows, source_tables, IsInPlace, JoinsInPlace}
 use Rattle.sql_eval.specs.Conditions.{is_kept}
 use Rattle.sql_eval.specs.Groups.{group_values, group_rows, group_value, item_value}
 use Rattle.sql_eval.specs.Grouping.{aggregates_of}
@@ -24,12 +25,13 @@ use Rattle.sql_eval.specs.Queries.{Keyed, keyed_group, keyed_groups, kept_rows, 
 use Rattle.sql_eval.proofs.AnswerLemmas.{kept_grouped, group_answer}
 use Rattle.sql_eval.proofs.GroupLemmas.{map_both, shares, IsKey, all_keys, group_row, grouped_is}
 use Rattle.planner.specs.declared.plans.Plan.{Plan}
-use Rattle.planner.specs.Routes.{takes, route_of, table_at}
+use Rattle.planner.specs.Routes.{takes, keys_of, route_of, table_at}
 use Rattle.planner.specs.Plans.{pushed_groups, piece_of, Shard, Pieces, routed}
 use Rattle.planner.specs.Right.{rows_of_shards, LiesInPlace, IsRightPlan}
 use Rattle.planner.proofs.Aggregated.{groups_plan, same_aggregated}
-use Rattle.planner.proofs.KeptRows.{rows-all, piece_kept, same_filter, no_filter, all_rows_are}
-use Rattle.planner.proofs.Placed.{IsHome, rows_home}
+use Rattle.planner.proofs.KeptRows.{piece_kept, same_filter, no_filter, all_rows_are}
+use Rattle.planner.proofs.Placed.{IsHome, sources_home}
+use Rattle.planner.proofs.ShardPairs.{sources_plain}
 use Rattle.sql_eval.proofs.Rejoined.{AreWide, rows_permuted, rejoined}
 use Rattle.planner.proofs.Skips.{skipped}
 
@@ -68,7 +70,15 @@ some_aggregate (i ∷ items) = by (is_aggregate i) refl (some_aggregate items)
     by true e rest = ap (λ b. b || list_any is_aggregate (aggregates_of items)) e
     by false e rest = rest
 
-module _ (schema : VSchema) (q : Query) (aggregated : is_aggregated q ≡ true) where
+-- an aggregated query is over one table
+pub no_join : (schema : VSchema) (q : Query) → JoinsInPlace schema q → is_aggregated q ≡ true → q.join ≡ None
+no_join schema q joins aggregated = by q.join refl
+  where
+    by : (join : Option Join) → q.join ≡ join → join ≡ None
+    by None e = refl
+    by (Some j) e = let wrong : true ≡ false = sym aggregated ∙ (joins j e).plain in cc
+
+module _ (schema : VSchema) (q : Query) (joins : JoinsInPlace schema q) (aggregated : is_aggregated q ≡ true) where
   abbrev t : Table
   t = table_at schema q.table
 
@@ -76,7 +86,7 @@ module _ (schema : VSchema) (q : Query) (aggregated : is_aggregated q ≡ true) 
   p = groups_plan t q
 
   abbrev rows_on : Shard → List Row
-  rows_on s = rows_of s.1 q.table
+  rows_on s = source_rows q s.1
 
   abbrev kept_of : List Row → List Row
   kept_of rows = filter (is_kept q.filter) rows
@@ -108,14 +118,14 @@ module _ (schema : VSchema) (q : Query) (aggregated : is_aggregated q ≡ true) 
   shown_groups rows = shown_each rows (group_values q.group_by rows) (all_keys q.group_by rows) ∙ sym (grouped_is q.group_by q.items rows)
 
   -- a shard's list has the groups of what the query keeps there
-  pub first : (shard : Shard) → LiesInPlace schema t.keyspace q.table shard → (list : List Row) → Allowed (piece_of t p shard.0) shard.1 list
+  pub first : (shard : Shard) → LiesInPlace schema t.keyspace (source_tables q) shard → (list : List Row) → Allowed (piece_of t p shard.0) shard.1 list
       → IsPermutation (joined (map part (kept_of (rows_on shard)))) list
   first shard placed list (arranged, permuted, ascending, is) =
       let pq = piece_of t p shard.0 in
       let kept : filter (is_kept pq.filter) (rows_on shard) ≡ kept_of (rows_on shard) =
       same_filter (is_kept pq.filter) (is_kept q.filter) (rows_on shard)
-      (all_rows_are (IsHome t shard) (λ row. is_kept pq.filter row ≡ is_kept q.filter row)
-      (λ row home. piece_kept t shard row home (route_of t q.filter) q.filter) (rows_on shard) (rows_home schema q.table shard placed))
+      (all_rows_are (IsHome t (keys_of t q.join) shard) (λ row. is_kept pq.filter row ≡ is_kept q.filter row)
+      (λ row home. piece_kept t q.join shard row home (route_of t q.join q.filter) q.filter) (rows_on shard) (sources_home schema q joins shard placed))
       in
       let all : kept_rows pq (rows_on shard) ≡ keyed_groups (pushed_groups q) (kept_of (rows_on shard)) =
       kept_grouped pq (rows_on shard) (aggregated_piece shard) ∙ ap (keyed_groups (pushed_groups q)) kept
@@ -150,7 +160,7 @@ module _ (schema : VSchema) (q : Query) (aggregated : is_aggregated q ≡ true) 
         IsPermutation-append (joined (map part (kept_of (rows_on s)))) list (flat_map (λ rows. joined (map part rows)) rest.kept) (flat_map (λ l. l) lists) f rest.groups;
   }
 
-  lists_of : (shards : List Shard) → AllByRecursion (LiesInPlace schema t.keyspace q.table) shards → (lists : List (List Row))
+  lists_of : (shards : List Shard) → AllByRecursion (LiesInPlace schema t.keyspace (source_tables q)) shards → (lists : List (List Row))
       → Pieces t p (routed t p shards) lists → Lists shards lists
   lists_of [] placed [] pieces = record { kept = []; all = refl; groups = IsPermutation-refl [] }
   lists_of [] placed (list ∷ lists) pieces = absurd pieces
@@ -162,7 +172,7 @@ module _ (schema : VSchema) (q : Query) (aggregated : is_aggregated q ≡ true) 
       by true e (list ∷ lists) pieces rest = add_one s shards list lists (first s placed.0 list pieces.0) (rest lists pieces.1)
       by false e lists pieces rest =
           skip_one s shards lists
-          (all_rows_are (IsHome t s) (λ row. is_kept q.filter row ≡ false) (λ row home. skipped t s q.filter row home e) (rows_on s) (rows_home schema q.table s placed.0))
+          (all_rows_are (IsHome t (keys_of t q.join) s) (λ row. is_kept q.filter row ≡ false) (λ row home. skipped t q.join s q.filter row home e) (rows_on s) (sources_home schema q joins s placed.0))
           (rest lists pieces)
 
   pub wide_parts : (rows : List Row) → AreWide (length q.group_by) (map part rows)
@@ -183,10 +193,10 @@ module _ (schema : VSchema) (q : Query) (aggregated : is_aggregated q ≡ true) 
   joined_together (rows ∷ kept) = ap (λ l. joined (map part rows) ++ l) (joined_together kept)
 
   pub groups_right : IsRightPlan schema q (groups_plan t q)
-  groups_right shards placed few list (lists, pieces, (arranged, permuted, ascending, is)) =
+  groups_right _ shards placed apart few list (lists, pieces, (arranged, permuted, ascending, is)) =
       let a = lists_of shards placed lists pieces in
-      let rows = rows_of (rows_of_shards shards) q.table in
-      let kept : kept_of rows ≡ flat_map (λ r. r) a.kept = ap kept_of (rows-all shards q.table) ∙ sym a.all in
+      let rows = source_rows q (rows_of_shards shards) in
+      let kept : kept_of rows ≡ flat_map (λ r. r) a.kept = ap kept_of (sources_plain q (no_join schema q joins aggregated) shards) ∙ sym a.all in
       let whole : joined (map part (kept_of rows)) ≡ joined (flat_map (λ r. joined (map part r)) a.kept) =
       ap (λ l. joined (map part l)) kept ∙ ap joined (parts_together a.kept)
       ∙ sym (rejoined (aggregates_of q.items) (length q.group_by) (map (map part) a.kept) (all_parts a.kept)) ∙ ap joined (joined_together a.kept)

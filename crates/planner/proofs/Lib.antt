@@ -11,6 +11,7 @@ pub mod CutTruth
 pub mod Mapped
 pub mod Aggregated
 pub mod KeptRows
+pub mod ShardPairs
 pub mod RowRights
 pub mod GroupRights
 pub mod PieceSums

@@ -19,6 +19,8 @@ use Rattle.vschema.specs.declared.schema.Table.{Table}
 use Rattle.vschema.specs.declared.schema.VSchema.{VSchema}
 use Rattle.vschema.specs.Checks.{is_aggregated}
 use Rattle.vschema.specs.Database.{rows_of}
+use Rattle.vschema.specs.Storable.{is_storable}
+use Rattle.vschema.specs.Sources.{with_pairs, source_rows, source_tables, JoinsInPlace}
 use Rattle.sql_eval.specs.Conditions.{is_kept}
 use Rattle.sql_eval.specs.Groups.{CanBeSummed}
 use Rattle.sql_eval.specs.declared.groups.Grouping.{Grouping}
@@ -31,7 +33,7 @@ use Rattle.planner.specs.Routes.{takes, table_at}
 use Rattle.planner.specs.Plans.{planned, Shard, Pieces, routed, CanJoin}
 use Rattle.planner.specs.Right.{LiesInPlace}
 use Rattle.planner.proofs.Aggregated.{groups_plan, planned_rows, planned_groups}
-use Rattle.planner.proofs.GroupRights.{first, wide_parts}
+use Rattle.planner.proofs.GroupRights.{first, wide_parts, no_join}
 use Rattle.sql_eval.proofs.Rejoined.{AreWide, some_keys, key_lengths, one}
 
 size_sum : (vs : List Value) → size (sum_of vs) ≤ sizes vs
@@ -109,7 +111,7 @@ module _ (aggregates : List (Item ℕ)) (w : ℕ) (rows : List Row) (small : (m 
   groups_below : AreWide w rows → length rows ≤ 2 ^ 20 → column_size n (joined_rows aggregates w rows) ≤ 2 ^ 105
   groups_below wide few = omega (arith, keys_below (group_keys w rows) (key_lengths w rows wide), few_keys w rows, few)
 
-module _ (schema : VSchema) (q : Query) (aggregated : is_aggregated q ≡ true) where
+module _ (schema : VSchema) (q : Query) (joins : JoinsInPlace schema q) (aggregated : is_aggregated q ≡ true) where
   abbrev t : Table
   t = table_at schema q.table
 
@@ -120,20 +122,23 @@ module _ (schema : VSchema) (q : Query) (aggregated : is_aggregated q ≡ true) 
   abbrev IsSmallShard : Shard → Type 0
   IsSmallShard shard = length (rows_of shard.1 q.table) ≤ 2 ^ 20
 
-  list_below : (shard : Shard) → LiesInPlace schema t.keyspace q.table shard → IsSmallShard shard → (list : List Row)
-      → IsPermutation (joined_rows (aggregates_of q.items) (length q.group_by) (map (part_row q.group_by (aggregates_of q.items)) (filter (is_kept q.filter) (rows_of shard.1 q.table)))) list
+  list_below : (shard : Shard) → LiesInPlace schema t.keyspace (source_tables q) shard → IsSmallShard shard → (list : List Row)
+      → IsPermutation (joined_rows (aggregates_of q.items) (length q.group_by) (map (part_row q.group_by (aggregates_of q.items)) (filter (is_kept q.filter) (source_rows q shard.1)))) list
       → (n : ℕ) → length q.group_by ≤ n → column_size n list ≤ 2 ^ 105
   list_below shard placed few list permuted n behind =
-      let rows = rows_of shard.1 q.table in
+      let rows = source_rows q shard.1 in
+      let plain : rows_of shard.1 q.table ≡ rows = sym (ap (λ join. with_pairs join (rows_of shard.1 q.table) shard.1) (no_join schema q joins aggregated)) in
+      let fits : AllByRecursion (λ row. is_storable t row ≡ true) rows = subst (AllByRecursion (λ row. is_storable t row ≡ true)) plain placed.storable.0 in
+      let few' : length rows ≤ 2 ^ 20 = subst (λ l. length l ≤ 2 ^ 20) plain few in
       let kept = filter (is_kept q.filter) rows in
       let parts = map (part_row q.group_by (aggregates_of q.items)) kept in
-      let summed = filter_summed (is_kept q.filter) rows (storable_summed t rows placed.storable (omega (arith, few))) in
-      let short : length kept ≤ 2 ^ 20 = omega (arith, filter_short (is_kept q.filter) rows, few) in
+      let summed = filter_summed (is_kept q.filter) rows (storable_summed t rows fits (omega (arith, few'))) in
+      let short : length kept ≤ 2 ^ 20 = omega (arith, filter_short (is_kept q.filter) rows, few') in
       let small : (m : ℕ) → column_size m parts ≤ 2 ^ 84 = λ m. omega (arith, sizes_small q.group_by (aggregates_of q.items) kept m summed.1, short) in
-      let below = groups_below (aggregates_of q.items) (length q.group_by) parts small n behind (wide_parts schema q aggregated kept) (omega (arith, length-map kept (part_row q.group_by (aggregates_of q.items)), short)) in
+      let below = groups_below (aggregates_of q.items) (length q.group_by) parts small n behind (wide_parts schema q joins aggregated kept) (omega (arith, length-map kept (part_row q.group_by (aggregates_of q.items)), short)) in
       omega (arith, below, sum_by-IsPermutation (λ r. size (value_at r n)) (joined_rows (aggregates_of q.items) (length q.group_by) parts) list permuted)
 
-  lists_below : (shards : List Shard) → AllByRecursion (LiesInPlace schema t.keyspace q.table) shards → AllByRecursion IsSmallShard shards → (lists : List (List Row))
+  lists_below : (shards : List Shard) → AllByRecursion (LiesInPlace schema t.keyspace (source_tables q)) shards → AllByRecursion IsSmallShard shards → (lists : List (List Row))
       → Pieces t p (routed t p shards) lists → (n : ℕ) → length q.group_by ≤ n → column_size n (flat_map (λ l. l) lists) ≤ length shards * 2 ^ 105
   lists_below [] placed few [] pieces n behind = omega arith
   lists_below [] placed few (list ∷ lists) pieces n behind = absurd pieces
@@ -144,12 +149,12 @@ module _ (schema : VSchema) (q : Query) (aggregated : is_aggregated q ≡ true) 
           → column_size n (flat_map (λ l. l) lists) ≤ length (s ∷ shards) * 2 ^ 105
       by true [] pieces rest = absurd pieces
       by true (list ∷ lists) pieces rest =
-          let here = list_below s placed.0 few.0 list (first schema q aggregated s placed.0 list pieces.0) n behind in
+          let here = list_below s placed.0 few.0 list (first schema q joins aggregated s placed.0 list pieces.0) n behind in
           let others = rest lists pieces.1 in
           omega (arith, here, others, sum_by-append (λ r. size (value_at r n)) list (flat_map (λ l. l) lists))
       by false lists pieces rest = omega (arith, rest lists pieces)
 
-  groups_fit : (shards : List Shard) → AllByRecursion (LiesInPlace schema t.keyspace q.table) shards → AllByRecursion IsSmallShard shards → length shards ≤ 64
+  groups_fit : (shards : List Shard) → AllByRecursion (LiesInPlace schema t.keyspace (source_tables q)) shards → AllByRecursion IsSmallShard shards → length shards ≤ 64
       → (lists : List (List Row)) → Pieces t p (routed t p shards) lists → AreSummable (length q.group_by) (flat_map (λ l. l) lists)
   groups_fit shards placed few most lists pieces = λ n behind. (let below = lists_below shards placed few lists pieces n behind in omega (arith, below, most))
 
@@ -157,14 +162,14 @@ abbrev Fits : Table → List Shard → List (List Row) → Plan → Type 0
 Fits t shards lists p = Pieces t p (routed t p shards) lists → CanJoin p.finish.grouping (flat_map (λ l. l) lists)
 
 -- What the shards of a plan give may be joined, where they are at most 64 and each has at most 2^20 rows.
-pub pieces_fit : (schema : VSchema) (q : Query) (p : Plan) → p ≡ planned (table_at schema q.table) q → (shards : List Shard)
-    → AllByRecursion (LiesInPlace schema (table_at schema q.table).keyspace q.table) shards → AllByRecursion (λ shard. length (rows_of shard.1 q.table) ≤ 2 ^ 20) shards
+pub pieces_fit : (schema : VSchema) (q : Query) (p : Plan) → p ≡ planned (table_at schema q.table) q → JoinsInPlace schema q → (shards : List Shard)
+    → AllByRecursion (LiesInPlace schema (table_at schema q.table).keyspace (source_tables q)) shards → AllByRecursion (λ shard. length (rows_of shard.1 q.table) ≤ 2 ^ 20) shards
     → length shards ≤ 64 → (lists : List (List Row)) → Pieces (table_at schema q.table) p (routed (table_at schema q.table) p shards) lists
     → CanJoin p.finish.grouping (flat_map (λ l. l) lists)
-pieces_fit schema q p is shards placed few most lists = by (is_aggregated q) refl
+pieces_fit schema q p is joins shards placed few most lists = by (is_aggregated q) refl
   where
     by : (b : Bool) → is_aggregated q ≡ b → Fits (table_at schema q.table) shards lists p
-    by true e = subst (Fits (table_at schema q.table) shards lists) (sym (is ∙ planned_groups (table_at schema q.table) q e)) (groups_fit schema q e shards placed few most lists)
+    by true e = subst (Fits (table_at schema q.table) shards lists) (sym (is ∙ planned_groups (table_at schema q.table) q e)) (groups_fit schema q joins e shards placed few most lists)
     by false e = subst (Fits (table_at schema q.table) shards lists) (sym (is ∙ planned_rows (table_at schema q.table) q e)) (λ pieces. tt)
 
 stored_sizes : (rows : List Row) (n : ℕ) → AllByRecursion (AllByRecursion IsColumnValue) rows → column_size n rows ≤ length rows * 2 ^ 64

@@ -12,8 +12,8 @@ use Rattle.planner.proofs.GroupRights.{groups_right}
 use Rattle.planner.proofs.RowRights.{rows_right}
 
 pub rights : (schema : VSchema) (q : Query) (p : Plan) → p ≡ planned (table_at schema q.table) q → IsRightPlan schema q p
-rights schema q p is = by (is_aggregated q) refl
+rights schema q p is joins = by (is_aggregated q) refl joins
   where
     by : (b : Bool) → is_aggregated q ≡ b → IsRightPlan schema q p
-    by true e = subst (IsRightPlan schema q) (sym (is ∙ planned_groups (table_at schema q.table) q e)) (groups_right schema q e)
-    by false e = subst (IsRightPlan schema q) (sym (is ∙ planned_rows (table_at schema q.table) q e)) (rows_right schema q e)
+    by true e = subst (IsRightPlan schema q) (sym (is ∙ planned_groups (table_at schema q.table) q e)) (groups_right schema q joins e)
+    by false e = subst (IsRightPlan schema q) (sym (is ∙ planned_rows (table_at schema q.table) q e)) (rows_right schema q joins e)

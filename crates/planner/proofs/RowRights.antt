@@ -20,17 +20,19 @@ use Rattle.vschema.specs.declared.schema.Query.{Query}
 use Rattle.vschema.specs.declared.schema.Table.{Table}
 use Rattle.vschema.specs.declared.schema.VSchema.{VSchema}
 use Rattle.vschema.specs.Resolved.{places_from}
-use Rattle.vschema.specs.Database.{rows_of}
+use Rattle.vschema.specs.Sources.{source_rows, source_tables, JoinsInPlace}
 use Rattle.vschema.specs.Checks.{is_aggregate, is_aggregated}
 use Rattle.sql_eval.specs.Conditions.{is_kept}
 use Rattle.sql_eval.proofs.AnswerLemmas.{kept_plain}
 use Rattle.sql_eval.specs.Queries.{Keyed, shown, keyed_row, Allowed}
 use Rattle.planner.specs.declared.plans.Plan.{Plan}
-use Rattle.planner.specs.Routes.{takes, route_of, table_at}
+use Rattle.planner.specs.Routes.{takes, keys_of, route_of, table_at}
 use Rattle.planner.specs.Plans.{pushed_limit, key_item, keys_from, piece_of, Shard, Pieces, routed}
 use Rattle.planner.specs.Right.{rows_of_shards, LiesInPlace, HasFewRows, IsRightPlan}
-use Rattle.planner.proofs.KeptRows.{rows-all, piece_kept, same_filter, no_filter, all_rows_are}
-use Rattle.planner.proofs.Placed.{IsHome, rows_home}
+use Rattle.planner.proofs.KeptRows.{piece_kept, same_filter, no_filter, all_rows_are}
+use Rattle.planner.proofs.Placed.{IsHome, sources_home}
+use Rattle.planner.proofs.ShardPairs.{sources_all}
+use Rattle.sql_eval.proofs.Permutations.{IsPermutation-filter}
 use Rattle.planner.proofs.Skips.{skipped}
 use Rattle.planner.proofs.Aggregated.{rows_plan, same_aggregated}
 use Rattle.planner.proofs.PieceRows.{wide, columns_wide, cmp_wide}
@@ -42,7 +44,7 @@ plain_items [] [] = refl
 plain_items [] (k ∷ keys) = plain_items [] keys
 plain_items (i ∷ items) keys = ap (λ b. is_aggregate i || b) (plain_items items keys)
 
-module _ (schema : VSchema) (q : Query) (plain : is_aggregated q ≡ false) where
+module _ (schema : VSchema) (q : Query) (joins : JoinsInPlace schema q) (plain : is_aggregated q ≡ false) where
   abbrev t : Table
   t = table_at schema q.table
 
@@ -59,7 +61,7 @@ module _ (schema : VSchema) (q : Query) (plain : is_aggregated q ≡ false) wher
   o = ranks_by (keys_cmp-total q.order_by) (sort_values q.order_by)
 
   abbrev rows_on : Shard → List Row
-  rows_on s = rows_of s.1 q.table
+  rows_on s = source_rows q s.1
 
   abbrev pushed_rows : List Row → List Row
   pushed_rows rows = sliced (option_map pushed_limit q.limit) rows
@@ -75,15 +77,15 @@ module _ (schema : VSchema) (q : Query) (plain : is_aggregated q ≡ false) wher
     few : length rows < 2 ^ 64
     is : list ≡ map row_wide (pushed_rows rows)
 
-  first : (shard : Shard) → LiesInPlace schema t.keyspace q.table shard → length (rows_on shard) < 2 ^ 64 → (list : List Row) → Allowed (piece_of t p shard.0) shard.1 list → First shard list
+  first : (shard : Shard) → LiesInPlace schema t.keyspace (source_tables q) shard → length (rows_on shard) < 2 ^ 64 → (list : List Row) → Allowed (piece_of t p shard.0) shard.1 list → First shard list
   first shard placed few list (arranged, permuted, ascending, is) =
       let pq = piece_of t p shard.0 in
       let a = arranged_map (keyed_row pq) (filter (is_kept pq.filter) (rows_on shard)) arranged
       (subst (λ l. IsPermutation l arranged) (kept_plain pq (rows_on shard) (plain_piece shard)) permuted) in
       let kept : filter (is_kept pq.filter) (rows_on shard) ≡ filter (is_kept q.filter) (rows_on shard) =
       same_filter (is_kept pq.filter) (is_kept q.filter) (rows_on shard)
-      (all_rows_are (IsHome t shard) (λ row. is_kept pq.filter row ≡ is_kept q.filter row)
-      (λ row home. piece_kept t shard row home (route_of t q.filter) q.filter) (rows_on shard) (rows_home schema q.table shard placed))
+      (all_rows_are (IsHome t (keys_of t q.join) shard) (λ row. is_kept pq.filter row ≡ is_kept q.filter row)
+      (λ row home. piece_kept t q.join shard row home (route_of t q.join q.filter) q.filter) (rows_on shard) (sources_home schema q joins shard placed))
       in
       let all : IsPermutation (filter (is_kept q.filter) (rows_on shard)) a.arranged = subst (λ l. IsPermutation l a.arranged) kept a.all in
       let shorter = count_by-le-length (is_kept q.filter) (rows_on shard) in
@@ -135,7 +137,7 @@ module _ (schema : VSchema) (q : Query) (plain : is_aggregated q ≡ false) wher
     is = (λ i. f.is i ++ rest.is i) ∙ sym (map-append row_wide (pushed_rows f.rows) (flat_map pushed_rows rest.rows));
   }
 
-  lists_of : (shards : List Shard) → AllByRecursion (LiesInPlace schema t.keyspace q.table) shards → AllByRecursion (HasFewRows t p q.table) shards
+  lists_of : (shards : List Shard) → AllByRecursion (LiesInPlace schema t.keyspace (source_tables q)) shards → AllByRecursion (HasFewRows t p q) shards
       → (lists : List (List Row)) → Pieces t p (routed t p shards) lists → Lists shards lists
   lists_of [] placed few [] pieces = record { rows = []; all = IsPermutation-refl []; sorted = tt; few = tt; is = refl }
   lists_of [] placed few (list ∷ lists) pieces = absurd pieces
@@ -147,7 +149,7 @@ module _ (schema : VSchema) (q : Query) (plain : is_aggregated q ≡ false) wher
       by true e (list ∷ lists) pieces rest = add_one s shards list lists (first s placed.0 (few.0 e) list pieces.0) (rest lists pieces.1)
       by false e lists pieces rest =
           skip_one s shards lists
-          (all_rows_are (IsHome t s) (λ row. is_kept q.filter row ≡ false) (λ row home. skipped t s q.filter row home e) (rows_on s) (rows_home schema q.table s placed.0))
+          (all_rows_are (IsHome t (keys_of t q.join) s) (λ row. is_kept q.filter row ≡ false) (λ row home. skipped t q.join s q.filter row home e) (rows_on s) (sources_home schema q joins s placed.0))
           (rest lists pieces)
 
   -- an arrangement of all rows, of which the limit leaves what it leaves of the first ones
@@ -188,7 +190,7 @@ module _ (schema : VSchema) (q : Query) (plain : is_aggregated q ≡ false) wher
           }
 
   pub rows_right : IsRightPlan schema q (rows_plan t q)
-  rows_right shards placed few list (lists, pieces, (arranged, permuted, ascending, is)) =
+  rows_right _ shards placed apart few list (lists, pieces, (arranged, permuted, ascending, is)) =
       let a = lists_of shards placed few lists pieces in
       let m = arranged_map row_wide (flat_map pushed_rows a.rows) arranged (subst (λ l. IsPermutation l arranged) a.is permuted) in
       let up : Up lt o m.arranged =
@@ -196,11 +198,14 @@ module _ (schema : VSchema) (q : Query) (plain : is_aggregated q ≡ false) wher
       (sorted_unmapped row_wide lt (λ (x : Row) (y : Row). is_lt (row_cmp (keys_from (length q.items) q.order_by) x y)) (λ x y. ap is_lt (cmp_wide q.items q.order_by x y)) m.arranged
       (subst (IsSorted (row_cmp (keys_from (length q.items) q.order_by))) m.is ascending))
       in
-      let s = with_limit q.limit a.rows m.arranged a.sorted a.few m.all up in (
+      let s = with_limit q.limit a.rows m.arranged a.sorted a.few m.all up in
+      let all_kept : IsPermutation (filter (is_kept q.filter) (source_rows q (rows_of_shards shards))) (filter (is_kept q.filter) (flat_map rows_on shards)) =
+      IsPermutation-filter (is_kept q.filter) (source_rows q (rows_of_shards shards)) (flat_map rows_on shards) (sources_all schema q joins shards placed apart)
+      in (
         map (keyed_row q) s.arranged,
-        subst (λ l. IsPermutation l (map (keyed_row q) s.arranged)) (sym (kept_plain q (rows_of (rows_of_shards shards) q.table) plain))
-            (IsPermutation-map (keyed_row q) (filter (is_kept q.filter) (rows_of (rows_of_shards shards) q.table)) s.arranged
-            (subst (λ l. IsPermutation (filter (is_kept q.filter) l) s.arranged) (sym (rows-all shards q.table)) (IsPermutation-trans _ _ _ a.all s.all))),
+        subst (λ l. IsPermutation l (map (keyed_row q) s.arranged)) (sym (kept_plain q (source_rows q (rows_of_shards shards)) plain))
+            (IsPermutation-map (keyed_row q) (filter (is_kept q.filter) (source_rows q (rows_of_shards shards))) s.arranged
+            (IsPermutation-trans _ _ _ all_kept (IsPermutation-trans _ _ _ a.all s.all))),
         sorted_mapped (keyed_row q) lt (λ (x : Keyed) (y : Keyed). is_lt (keys_cmp q.order_by x.1 y.1)) (λ x y. refl) s.arranged (sorted_from_up lt o s.arranged s.sorted),
         is ∙ ap (λ l. map (columns_of (places_from 0 q.items)) (sliced q.limit l)) m.is
             ∙ ap (map (columns_of (places_from 0 q.items))) (sliced-map row_wide q.limit m.arranged)

@@ -9,18 +9,20 @@ use Rattle.vt_value.specs.Values.{Row, value_at, is_null, is_true, compare}
 use Rattle.keyrange.specs.declared.KeyRange.{KeyRange}
 use Rattle.keyrange.specs.Ranges.{has_id}
 use Rattle.sql_tree.specs.declared.Condition.{Condition}
-use Rattle.vschema.specs.declared.schema.ColumnVindex.{ColumnVindex}
+use Rattle.vschema_document.specs.declared.column.ColumnType.{ColumnType}
+use Rattle.vschema.specs.declared.schema.Join.{Join}
 use Rattle.vschema.specs.declared.schema.Query.{Query}
 use Rattle.vschema.specs.declared.schema.Table.{Table}
 use Rattle.vschema.specs.declared.schema.VSchema.{VSchema}
-use Rattle.vschema.specs.Database.{rows_of}
+use Rattle.vschema.specs.Sources.{source_rows}
 use Rattle.sql_eval.specs.Conditions.{truth_at, is_kept}
 use Rattle.planner.specs.declared.plans.Plan.{Plan}
-use Rattle.planner.specs.Routes.{equals, among, first_of, type_at, is_held, route_among, route_by, filter_route, route_through, route_of, id_of, takes, table_at}
+use Rattle.planner.specs.declared.keys.Keys.{Keys}
+use Rattle.planner.specs.Routes.{equals, among, first_of, is_held, route_among, route_by, filter_route, keys_of, route_through, route_of, id_of, takes, table_at}
 use Rattle.planner.specs.Plans.{Shard}
 use Rattle.planner.specs.Right.{SkipsNothing}
-use Rattle.planner.proofs.TrueConditions.{equals_one, says, same_values}
-use Rattle.planner.proofs.Placed.{at_contains, IsHome, rows_home}
+use Rattle.planner.proofs.TrueConditions.{equals_one, IsSaid, IsSaidAmong, says, same_values}
+use Rattle.planner.proofs.Placed.{at_contains, AreKeysHome, IsHome, key_home, sources_home}
 
 pub not_null : (a b : Value) → is_true (compare Eq a b) ≡ true → is_null a ≡ false
 not_null Null b e = cc
@@ -64,65 +66,56 @@ takes_some : (t : Table) (range : KeyRange) (values : List Value) → list_any (
 takes_some t range [] e = cc
 takes_some t range (v ∷ values) e = e
 
-module _ (t : Table) (shard : Shard) (row : Row) (home : IsHome t shard row) (v : ColumnVindex) (is : t.vindex ≡ Some v) where
-  value : Value
-  value = value_at row v.column
-
-  in_range : has_id shard.0 (id_of t (value_at row v.column)) ≡ true
-  in_range = ap (has_id shard.0) (home.same_id v is) ∙ home.lies
-
-  by_literal : (x : Value) (lists : Option (List Value)) → is_true (compare Eq (value_at row v.column) x) ≡ true
-      → takes t (route_by (type_at t v.column) (Some x) lists) shard.0 ≡ true
-  by_literal x lists e =
-      let same = same_values (value_at row v.column) x e in
-      let held : is_held (type_at t v.column) x ≡ true =
-      subst (λ y. is_held (type_at t v.column) y ≡ true) same (home.holds v.column (not_null (value_at row v.column) x e)) in
-      let inside : has_id shard.0 (id_of t x) ≡ true = subst (λ y. has_id shard.0 (id_of t y) ≡ true) same in_range in
+module _ (t : Table) (shard : Shard) (row : Row) (keys : Keys) (home : AreKeysHome t shard row keys) where
+  by_literal : (p : ColumnType × Value) (lists : Option (ColumnType × List Value)) → IsSaid row keys p → takes t (route_by (Some p) lists) shard.0 ≡ true
+  by_literal p lists said =
+      let key = key_home t shard row keys home said.column p.0 said.is in
+      let same = same_values (value_at row said.column) p.1 said.equal in
+      let held : is_held p.0 p.1 ≡ true =
+      subst (λ y. is_held p.0 y ≡ true) same (key.holds (not_null (value_at row said.column) p.1 said.equal)) in
+      let inside : has_id shard.0 (id_of t p.1) ≡ true = subst (λ y. has_id shard.0 (id_of t y) ≡ true) same key.lies in
       rw held inside
 
-  by_members : (members : List Value) → equals_one (value_at row v.column) members ≡ true
-      → takes t (route_by (type_at t v.column) None (Some members)) shard.0 ≡ true
-  by_members members e =
-      takes_some t shard.0 (filter (is_held (type_at t v.column)) members)
-      (found (is_held (type_at t v.column)) (λ x. has_id shard.0 (id_of t x)) (value_at row v.column) members
-      (home.holds v.column (some_not_null (value_at row v.column) members e)) in_range e)
+  by_members : (p : ColumnType × List Value) → IsSaidAmong row keys p → takes t (route_by None (Some p)) shard.0 ≡ true
+  by_members p said =
+      let key = key_home t shard row keys home said.column p.0 said.is in
+      takes_some t shard.0 (filter (is_held p.0) p.1)
+      (found (is_held p.0) (λ x. has_id shard.0 (id_of t x)) (value_at row said.column) p.1
+      (key.holds (some_not_null (value_at row said.column) p.1 said.inside)) key.lies said.inside)
 
-  by_conjuncts : (literals : List Value) (lists : List (List Value)) → AllByRecursion (λ x. is_true (compare Eq (value_at row v.column) x) ≡ true) literals
-      → AllByRecursion (λ members. equals_one (value_at row v.column) members ≡ true) lists
-      → takes t (route_by (type_at t v.column) (first_of literals) (first_of lists)) shard.0 ≡ true
+  by_conjuncts : (literals : List (ColumnType × Value)) (lists : List (ColumnType × List Value)) → AllByRecursion (IsSaid row keys) literals
+      → AllByRecursion (IsSaidAmong row keys) lists → takes t (route_by (first_of literals) (first_of lists)) shard.0 ≡ true
   by_conjuncts [] [] equal inside = refl
-  by_conjuncts [] (members ∷ lists) equal inside = by_members members inside.0
-  by_conjuncts (x ∷ literals) lists equal inside = by_literal x (first_of lists) equal.0
+  by_conjuncts [] (p ∷ lists) equal inside = by_members p inside.0
+  by_conjuncts (p ∷ literals) lists equal inside = by_literal p (first_of lists) equal.0
 
-  by_condition : (c : Condition ℕ) → is_true (truth_at row c) ≡ true → takes t (filter_route v.column (type_at t v.column) (Some c)) shard.0 ≡ true
+  by_condition : (c : Condition ℕ) → is_true (truth_at row c) ≡ true → takes t (filter_route keys (Some c)) shard.0 ≡ true
   by_condition c e =
       let facts = says row c e in
       let possible = facts.possible in
-      rw possible (by_conjuncts (equals v.column c) (among v.column c) (facts.equal v.column) (facts.inside v.column))
+      rw possible (by_conjuncts (equals keys c) (among keys c) (facts.equal keys) (facts.inside keys))
 
-  by_filter : (filter' : Option (Condition ℕ)) → is_kept filter' row ≡ true → takes t (filter_route v.column (type_at t v.column) filter') shard.0 ≡ true
+  by_filter : (filter' : Option (Condition ℕ)) → is_kept filter' row ≡ true → takes t (filter_route keys filter') shard.0 ≡ true
   by_filter None e = refl
   by_filter (Some c) e = by_condition c e
 
 -- a shard with a row that is kept is taken
-taken : (t : Table) (shard : Shard) (row : Row) → IsHome t shard row → (filter' : Option (Condition ℕ)) → is_kept filter' row ≡ true
-    → takes t (route_of t filter') shard.0 ≡ true
-taken t shard row home filter' e = by t.vindex refl
-  where
-    by : (vindex : Option ColumnVindex) → t.vindex ≡ vindex → takes t (route_through t vindex filter') shard.0 ≡ true
-    by None is = refl
-    by (Some v) is = by_filter t shard row home v is filter' e
+taken : (t : Table) (keys : Option Keys) (shard : Shard) (row : Row) → IsHome t keys shard row → (filter' : Option (Condition ℕ)) → is_kept filter' row ≡ true
+    → takes t (route_through keys filter') shard.0 ≡ true
+taken t None shard row home filter' e = refl
+taken t (Some keys) shard row home filter' e = by_filter t shard row keys home filter' e
 
 none_kept : (kept taken : Bool) → (kept ≡ true → taken ≡ true) → taken ≡ false → kept ≡ false
 none_kept true taken h e = sym (h refl) ∙ e
 none_kept false taken h e = refl
 
-pub skipped : (t : Table) (shard : Shard) (filter' : Option (Condition ℕ)) (row : Row) → IsHome t shard row
-    → takes t (route_of t filter') shard.0 ≡ false → is_kept filter' row ≡ false
-skipped t shard filter' row home e = none_kept (is_kept filter' row) (takes t (route_of t filter') shard.0) (taken t shard row home filter') e
+pub skipped : (t : Table) (join : Option Join) (shard : Shard) (filter' : Option (Condition ℕ)) (row : Row) → IsHome t (keys_of t join) shard row
+    → takes t (route_of t join filter') shard.0 ≡ false → is_kept filter' row ≡ false
+skipped t join shard filter' row home e =
+    none_kept (is_kept filter' row) (takes t (route_of t join filter') shard.0) (taken t (keys_of t join) shard row home filter') e
 
-pub skips : (schema : VSchema) (q : Query) (p : Plan) → p.route ≡ route_of (table_at schema q.table) q.filter → SkipsNothing schema q p
-skips schema q p by shard placed e row h =
-    skipped (table_at schema q.table) shard q.filter row
-    (at_contains (IsHome (table_at schema q.table) shard) (rows_of shard.1 q.table) row (rows_home schema q.table shard placed) h)
+pub skips : (schema : VSchema) (q : Query) (p : Plan) → p.route ≡ route_of (table_at schema q.table) q.join q.filter → SkipsNothing schema q p
+skips schema q p by joins shard placed e row h =
+    skipped (table_at schema q.table) q.join shard q.filter row
+    (at_contains (IsHome (table_at schema q.table) (keys_of (table_at schema q.table) q.join) shard) (source_rows q shard.1) row (sources_home schema q joins shard placed) h)
     (subst (λ r. takes (table_at schema q.table) r shard.0 ≡ false) by e)

@@ -13,7 +13,7 @@ use Rattle.operators.specs.Slices.{sliced}
 use Rattle.operators.proofs.OrderLemmas.{keys_cmp-total}
 use Rattle.vschema.specs.declared.schema.Query.{Query}
 use Rattle.vschema.specs.declared.schema.Table.{Table}
-use Rattle.vschema.specs.Database.{rows_of}
+use Rattle.vschema.specs.Sources.{source_rows}
 use Rattle.vschema.specs.Checks.{is_aggregated}
 use Rattle.sql_eval.specs.Conditions.{is_kept}
 use Rattle.sql_eval.proofs.AnswerLemmas.{kept_plain}
@@ -62,7 +62,7 @@ module _ (t : Table) (q : Query) (plain : is_aggregated q ≡ false) where
   piece_in_order : (shard : Shard) (list : List Row) → Allowed (piece_of t (rows_plan t q) shard.0) shard.1 list → IsSorted (row_cmp (keys_from (length q.items) q.order_by)) list
   piece_in_order shard list (arranged, permuted, ascending, is) =
       let pq = piece_of t (rows_plan t q) shard.0 in
-      let rows = rows_of shard.1 q.table in
+      let rows = source_rows q shard.1 in
       let plain_piece : is_aggregated pq ≡ false = same_aggregated pq q (plain_items q.items q.order_by) refl ∙ plain in
       let a = arranged_map (keyed_row pq) (filter (is_kept pq.filter) rows) arranged (subst (λ l. IsPermutation l arranged) (kept_plain pq rows plain_piece) permuted) in
       let sorted =

@@ -1,12 +1,11 @@
 -- What a condition that is true at a row says of its conjuncts.
-use Rattle.std.proofs.Common.{◌≡◌, ℕ, Bool, true, false, cond, List, [], ◌∷◌, ◌++◌, map, refl, sym, ap, subst, ◌∙◌, ◌==◌}
+use Rattle.std.proofs.Common.{◌≡◌, ℕ, Bool, true, false, cond, List, [], ◌∷◌, ◌++◌, map, Option, Some, None, refl, sym, ap, subst, ◌∙◌}
 use Rattle.std.specs.Prelude.{◌||◌}
 use Rattle.std.specs.List.{AllByRecursion, list_any, list_all}
 use Rattle.std.specs.declared.cmp.Ordering.{Ordering}
 use Rattle.std.specs.declared.cmp.Ordering.TheVariants.{Less, Equal, Greater}
 use Rattle.std.specs.Ordering.{int_cmp, nat_cmp}
 use Rattle.std.specs.Cmp.Lexicographic.{slice_cmp}
-use Rattle.std.proofs.lemmas.Bool.{eqb-true}
 use Rattle.vt_value.specs.declared.value.Value.{Value}
 use Rattle.vt_value.specs.declared.value.Value.TheVariants.{Null, Int, Bytes}
 use Rattle.vt_value.specs.declared.value.Truth.{Truth}
@@ -21,19 +20,33 @@ use Rattle.sql_tree.specs.declared.Condition.TheOpen.{Compare, In, IsNull, Not, 
 use Rattle.sql_tree.specs.declared.Condition.TheFolds.{ind-Condition}
 use Rattle.operators.proofs.OrderLemmas.{value_cmp-same}
 use Rattle.sql_eval.specs.Conditions.{truth_at, node_truth, operand_value}
-use Rattle.planner.specs.Routes.{is_null_literal, node_never, is_never, is_equality, literal_beside, node_equals, equals, members_beside, node_among, among}
+use Rattle.vschema_document.specs.declared.column.ColumnType.{ColumnType}
+use Rattle.planner.specs.declared.keys.Keys.{Keys}
+use Rattle.planner.specs.Routes.{is_null_literal, node_never, is_never, is_equality, kind_in, of_kind, literal_beside, node_equals, equals, members_beside, node_among, among}
 
 abbrev pub equals_one : Value → List Value → Bool
 equals_one v members = list_any (λ m. is_true (compare Eq v m)) members
 
+-- a deciding column of this type has the literal's value
+pub record IsSaid (row : Row) (keys : Keys) (p : ColumnType × Value) : Type 0 where
+  pub column : ℕ
+  pub is : kind_in keys column ≡ Some p.0
+  pub equal : is_true (compare Eq (value_at row column) p.1) ≡ true
+
+-- a deciding column of this type has the value of a member
+pub record IsSaidAmong (row : Row) (keys : Keys) (p : ColumnType × List Value) : Type 0 where
+  pub column : ℕ
+  pub is : kind_in keys column ≡ Some p.0
+  pub inside : equals_one (value_at row column) p.1 ≡ true
+
 -- what holds of a row for which the condition is true
-pub record Facts (row : Row) (never : Bool) (literals : ℕ → List Value) (lists : ℕ → List (List Value)) : Type 0 where
+pub record Facts (row : Row) (never : Bool) (literals : Keys → List (ColumnType × Value)) (lists : Keys → List (ColumnType × List Value)) : Type 0 where
   pub possible : never ≡ false
-  pub equal : (n : ℕ) → AllByRecursion (λ x. is_true (compare Eq (value_at row n) x) ≡ true) (literals n)
-  pub inside : (n : ℕ) → AllByRecursion (λ members. equals_one (value_at row n) members ≡ true) (lists n)
+  pub equal : (keys : Keys) → AllByRecursion (IsSaid row keys) (literals keys)
+  pub inside : (keys : Keys) → AllByRecursion (IsSaidAmong row keys) (lists keys)
 
 abbrev pub Says : Row → Condition ℕ → Type 0
-Says row c = is_true (truth_at row c) ≡ true → Facts row (is_never c) (λ n. equals n c) (λ n. among n c)
+Says row c = is_true (truth_at row c) ≡ true → Facts row (is_never c) (λ keys. equals keys c) (λ keys. among keys c)
 
 null_right : (op : Comparison) (v : Value) → compare op v Null ≡ Unknown
 null_right op Null = refl
@@ -63,9 +76,6 @@ turned a b e =
     let same = same_values a b e in
     subst (λ z. is_true (compare Eq z a) ≡ true) same (subst (λ z. is_true (compare Eq a z) ≡ true) (sym same) e)
 
-abbrev IsEqual : Row → ℕ → Value → Type 0
-IsEqual row n x = is_true (compare Eq (value_at row n) x) ≡ true
-
 left_null : (row : Row) (op : Comparison) (a : Operand ℕ) (v : Value) → is_true (compare op (operand_value row a) v) ≡ true → is_null_literal a ≡ false
 left_null row op (Column c) v e = refl
 left_null row op (Literal Null) v e = cc
@@ -82,29 +92,29 @@ neither : (a b : Bool) → a ≡ false → b ≡ false → (a || b) ≡ false
 neither true b e f = e
 neither false b e f = f
 
--- one literal, where the column is the wanted one
-beside : (row : Row) (c n : ℕ) (x : Value) → is_true (compare Eq (value_at row c) x) ≡ true → AllByRecursion (IsEqual row n) (cond (c == n) (x ∷ []) [])
-beside row c n x e = by (c == n) refl
+-- one literal, where the column decides
+beside : (row : Row) (c : ℕ) (keys : Keys) (x : Value) → is_true (compare Eq (value_at row c) x) ≡ true → AllByRecursion (IsSaid row keys) (of_kind (kind_in keys c) x)
+beside row c keys x e = by (kind_in keys c) refl
   where
-    by : (b : Bool) → (c == n) ≡ b → AllByRecursion (IsEqual row n) (cond b (x ∷ []) [])
-    by true same = (subst (λ k. IsEqual row k x) (eqb-true c n same) e, tt)
-    by false same = tt
+    by : (kind : Option ColumnType) → kind_in keys c ≡ kind → AllByRecursion (IsSaid row keys) (of_kind kind x)
+    by None is = tt
+    by (Some kind) is = (record { column = c; is = is; equal = e }, tt)
 
-literals : (row : Row) (a b : Operand ℕ) (n : ℕ) → is_true (compare Eq (operand_value row a) (operand_value row b)) ≡ true
-    → AllByRecursion (IsEqual row n) (literal_beside n a b)
-literals row (Column c) (Column d) n e = tt
-literals row (Column c) (Literal x) n e = beside row c n x e
-literals row (Literal x) (Column c) n e = beside row c n x (turned x (value_at row c) e)
-literals row (Literal x) (Literal y) n e = tt
+literals : (row : Row) (a b : Operand ℕ) (keys : Keys) → is_true (compare Eq (operand_value row a) (operand_value row b)) ≡ true
+    → AllByRecursion (IsSaid row keys) (literal_beside keys a b)
+literals row (Column c) (Column d) keys e = tt
+literals row (Column c) (Literal x) keys e = beside row c keys x e
+literals row (Literal x) (Column c) keys e = beside row c keys x (turned x (value_at row c) e)
+literals row (Literal x) (Literal y) keys e = tt
 
-by_operator : (row : Row) (op : Comparison) (a b : Operand ℕ) (n : ℕ) → is_true (compare op (operand_value row a) (operand_value row b)) ≡ true
-    → AllByRecursion (IsEqual row n) (cond (is_equality op) (literal_beside n a b) [])
-by_operator row Eq a b n e = literals row a b n e
-by_operator row Ne a b n e = tt
-by_operator row Lt a b n e = tt
-by_operator row Le a b n e = tt
-by_operator row Gt a b n e = tt
-by_operator row Ge a b n e = tt
+by_operator : (row : Row) (op : Comparison) (a b : Operand ℕ) (keys : Keys) → is_true (compare op (operand_value row a) (operand_value row b)) ≡ true
+    → AllByRecursion (IsSaid row keys) (cond (is_equality op) (literal_beside keys a b) [])
+by_operator row Eq a b keys e = literals row a b keys e
+by_operator row Ne a b keys e = tt
+by_operator row Lt a b keys e = tt
+by_operator row Le a b keys e = tt
+by_operator row Gt a b keys e = tt
+by_operator row Ge a b keys e = tt
 
 in_true : (v : Value) (members : List Value) → is_true (in_list v members) ≡ true → equals_one v members ≡ true
 in_true v members e = by (equals_one v members) (is_null v || list_any is_null members) e
@@ -124,14 +134,14 @@ nulls v (Null ∷ members) e = nulls v members (one_more _ _ e (ap is_true (null
 nulls v (Int n ∷ members) e = refl
 nulls v (Bytes t ∷ members) e = refl
 
-lists : (row : Row) (a : Operand ℕ) (members : List Value) (n : ℕ) → equals_one (operand_value row a) members ≡ true
-    → AllByRecursion (λ ms. equals_one (value_at row n) ms ≡ true) (members_beside n a members)
-lists row (Literal x) members n e = tt
-lists row (Column c) members n e = by (c == n) refl
+lists : (row : Row) (a : Operand ℕ) (members : List Value) (keys : Keys) → equals_one (operand_value row a) members ≡ true
+    → AllByRecursion (IsSaidAmong row keys) (members_beside keys a members)
+lists row (Literal x) members keys e = tt
+lists row (Column c) members keys e = by (kind_in keys c) refl
   where
-    by : (b : Bool) → (c == n) ≡ b → AllByRecursion (λ ms. equals_one (value_at row n) ms ≡ true) (cond b (members ∷ []) [])
-    by true same = (subst (λ k. equals_one (value_at row k) members ≡ true) (eqb-true c n same) e, tt)
-    by false same = tt
+    by : (kind : Option ColumnType) → kind_in keys c ≡ kind → AllByRecursion (IsSaidAmong row keys) (of_kind kind members)
+    by None is = tt
+    by (Some kind) is = (record { column = c; is = is; inside = e }, tt)
 
 all_join : {X : Type 0} (P : X → Type 0) (xs ys : List X) → AllByRecursion P xs → AllByRecursion P ys → AllByRecursion P (xs ++ ys)
 all_join P [] ys a b = b
@@ -155,18 +165,18 @@ module _ (row : Row) where
   FactsOf x =
       is_true (node_truth row (map-Condition ℕ (Condition ℕ) Truth (truth_at row) x)) ≡ true
       → Facts row (node_never (map-Condition ℕ (Condition ℕ) Bool is_never x))
-      (λ n. node_equals n (map-Condition ℕ (Condition ℕ) (List Value) (equals n) x))
-      (λ n. node_among n (map-Condition ℕ (Condition ℕ) (List (List Value)) (among n) x))
+      (λ keys. node_equals keys (map-Condition ℕ (Condition ℕ) (List (ColumnType × Value)) (equals keys) x))
+      (λ keys. node_among keys (map-Condition ℕ (Condition ℕ) (List (ColumnType × List Value)) (among keys) x))
 
   rolled : (x : Condition-F ℕ (Condition ℕ)) → FactsOf x → Says row (roll-Condition ℕ x)
   rolled x f h =
       let facts = f (subst (λ t. is_true t ≡ true) (fold-roll-Condition ℕ Truth (node_truth row) x) h) in
       record {
         possible = fold-roll-Condition ℕ Bool node_never x ∙ facts.possible;
-        equal = λ n. subst (AllByRecursion (IsEqual row n)) (sym (fold-roll-Condition ℕ (List Value) (node_equals n) x)) (facts.equal n);
-        inside = λ n.
-            subst (AllByRecursion (λ ms. equals_one (value_at row n) ms ≡ true)) (sym (fold-roll-Condition ℕ (List (List Value)) (node_among n) x))
-            (facts.inside n);
+        equal = λ keys. subst (AllByRecursion (IsSaid row keys)) (sym (fold-roll-Condition ℕ (List (ColumnType × Value)) (node_equals keys) x)) (facts.equal keys);
+        inside = λ keys.
+            subst (AllByRecursion (IsSaidAmong row keys)) (sym (fold-roll-Condition ℕ (List (ColumnType × List Value)) (node_among keys) x))
+            (facts.inside keys);
       }
 
   nothing : Facts row false (λ n. []) (λ n. [])
@@ -180,19 +190,19 @@ module _ (row : Row) where
       let rest = members es both.1 in
       record {
         possible = neither _ _ this.possible rest.possible;
-        equal = λ n. all_join (IsEqual row n) (equals n e.0) _ (this.equal n) (rest.equal n);
-        inside = λ n. all_join (λ ms. equals_one (value_at row n) ms ≡ true) (among n e.0) _ (this.inside n) (rest.inside n);
+        equal = λ keys. all_join (IsSaid row keys) (equals keys e.0) _ (this.equal keys) (rest.equal keys);
+        inside = λ keys. all_join (IsSaidAmong row keys) (among keys e.0) _ (this.inside keys) (rest.inside keys);
       }
 
   node : (y : Condition-F ℕ Entry) → FactsOf (layer y)
   node (Compare op a b) h = record {
     possible = neither _ _ (left_null row op a _ h) (right_null row op _ b h);
-    equal = λ n. by_operator row op a b n h;
+    equal = λ keys. by_operator row op a b keys h;
     inside = λ n. tt;
   }
   node (In a ms) h =
       let one = in_true (operand_value row a) ms h in
-      record { possible = nulls (operand_value row a) ms one; equal = λ n. tt; inside = λ n. lists row a ms n one }
+      record { possible = nulls (operand_value row a) ms one; equal = λ n. tt; inside = λ keys. lists row a ms keys one }
   node (IsNull a) h = nothing
   node (Not e) h = nothing
   node (And es) h = members es h

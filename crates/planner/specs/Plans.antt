@@ -14,7 +14,8 @@ use Rattle.sql_tree.specs.declared.Condition.{Condition, Condition-F, fold-Condi
 use Rattle.sql_tree.specs.declared.Condition.TheOpen.{Compare, In, IsNull, Not, And, Or}
 use Rattle.keyrange.specs.declared.KeyRange.{KeyRange}
 use Rattle.keyrange.specs.Ranges.{has_id}
-use Rattle.vschema.specs.declared.schema.ColumnVindex.{ColumnVindex}
+use Rattle.vschema_document.specs.declared.column.ColumnType.{ColumnType}
+use Rattle.vschema.specs.declared.schema.Join.{Join}
 use Rattle.vschema.specs.declared.schema.Query.{Query}
 use Rattle.vschema.specs.declared.schema.Table.{Table}
 use Rattle.vschema.specs.Resolved.{places_from}
@@ -24,11 +25,12 @@ use Rattle.vschema.specs.Checks.{is_aggregated}
 use Rattle.sql_eval.specs.declared.groups.Grouping.{Grouping}
 use Rattle.sql_eval.specs.Grouping.{aggregates_of, grouping_of, group_columns, group_order, grouped, IsSortedSlice}
 use Rattle.sql_eval.specs.Queries.{Allowed}
+use Rattle.planner.specs.declared.keys.Keys.{Keys}
 use Rattle.planner.specs.declared.routes.Route.{Route}
 use Rattle.planner.specs.declared.routes.Route.TheVariants as route
 use Rattle.planner.specs.declared.plans.Finish.{Finish}
 use Rattle.planner.specs.declared.plans.Plan.{Plan}
-use Rattle.planner.specs.Routes.{among, first_of, route_of, type_at, is_held, id_of, takes}
+use Rattle.planner.specs.Routes.{kind_in, among, first_of, keys_of, route_of, is_held, id_of, takes}
 
 -- a limit as each shard gets it: as many rows as the whole answer may need, the offset's too, at most 2^64 - 1
 abbrev pub pushed_limit : Limit → Limit
@@ -70,11 +72,11 @@ abbrev pub finish_of : Query → Finish
 finish_of q = if is_aggregated q then groups_finish q else rows_finish q
 
 abbrev pub planned : Table → Query → Plan
-planned t q = record { route = route_of t q.filter; piece = pushed q; finish = finish_of q; items = q.items }
+planned t q = record { route = route_of t q.join q.filter; piece = pushed q; finish = finish_of q; items = q.items }
 
--- whether an IN on the column is one of the conjuncts
-abbrev pub has_among : ℕ → Condition ℕ → Bool
-has_among column c = is_some (first_of (among column c))
+-- whether an IN on a deciding column is one of the conjuncts
+abbrev pub has_among : Keys → Condition ℕ → Bool
+has_among keys c = is_some (first_of (among keys c))
 
 -- a condition, and what the cut makes of it
 pub record Cut : Type 0 where
@@ -85,49 +87,53 @@ abbrev pub uncut : Condition ℕ → Cut
 uncut c = record { whole = c; cut = c }
 
 -- the members of an AND: of those that have such an IN, the leftmost alone is cut
-abbrev pub first_cut : ℕ → List Cut → List (Condition ℕ)
-first_cut column [] = []
-first_cut column (c ∷ cuts) =
-    if has_among column c.whole then c.cut ∷ map (λ d. d.whole) cuts else c.whole ∷ first_cut column cuts
+abbrev pub first_cut : Keys → List Cut → List (Condition ℕ)
+first_cut keys [] = []
+first_cut keys (c ∷ cuts) =
+    if has_among keys c.whole then c.cut ∷ map (λ d. d.whole) cuts else c.whole ∷ first_cut keys cuts
 
-abbrev pub cut_in : ℕ → (Value → Bool) → Operand ℕ → List Value → Condition ℕ
-cut_in column kept (Column c) members = N.In (Column c) (if c == column then filter kept members else members)
-cut_in column kept (Literal x) members = N.In (Literal x) members
+abbrev pub cut_members : Option ColumnType → (ColumnType → Value → Bool) → List Value → List Value
+cut_members None kept members = members
+cut_members (Some kind) kept members = filter (kept kind) members
 
-abbrev pub node_cut : ℕ → (Value → Bool) → Condition-F ℕ Cut → Cut
-node_cut column kept (Compare op a b) = uncut (N.Compare op a b)
-node_cut column kept (In a members) = record { whole = N.In a members; cut = cut_in column kept a members }
-node_cut column kept (IsNull a) = uncut (N.IsNull a)
-node_cut column kept (Not c) = uncut (N.Not c.whole)
-node_cut column kept (And cuts) = record { whole = N.And (map (λ c. c.whole) cuts); cut = N.And (first_cut column cuts) }
-node_cut column kept (Or cuts) = uncut (N.Or (map (λ c. c.whole) cuts))
+abbrev pub cut_in : Keys → (ColumnType → Value → Bool) → Operand ℕ → List Value → Condition ℕ
+cut_in keys kept (Column c) members = N.In (Column c) (cut_members (kind_in keys c) kept members)
+cut_in keys kept (Literal x) members = N.In (Literal x) members
 
-abbrev pub cut_by : ℕ → (Value → Bool) → Condition ℕ → Cut
-cut_by column kept c = fold-Condition ℕ Cut (node_cut column kept) c
+abbrev pub node_cut : Keys → (ColumnType → Value → Bool) → Condition-F ℕ Cut → Cut
+node_cut keys kept (Compare op a b) = uncut (N.Compare op a b)
+node_cut keys kept (In a members) = record { whole = N.In a members; cut = cut_in keys kept a members }
+node_cut keys kept (IsNull a) = uncut (N.IsNull a)
+node_cut keys kept (Not c) = uncut (N.Not c.whole)
+node_cut keys kept (And cuts) = record { whole = N.And (map (λ c. c.whole) cuts); cut = N.And (first_cut keys cuts) }
+node_cut keys kept (Or cuts) = uncut (N.Or (map (λ c. c.whole) cuts))
 
--- the condition with the members of the leftmost conjunct `column IN (..)` cut to those that pass a test
-abbrev pub cut_of : ℕ → (Value → Bool) → Condition ℕ → Condition ℕ
-cut_of column kept c = (cut_by column kept c).cut
+abbrev pub cut_by : Keys → (ColumnType → Value → Bool) → Condition ℕ → Cut
+cut_by keys kept c = fold-Condition ℕ Cut (node_cut keys kept) c
 
--- the members that lie in the range, of those that the column may hold
-abbrev pub is_member_of : Table → ColumnVindex → KeyRange → Value → Bool
-is_member_of t v range x = is_held (type_at t v.column) x && has_id range (id_of t x)
+-- the condition with the members of the leftmost conjunct `column IN (..)` on a deciding column cut to those that pass a test
+abbrev pub cut_of : Keys → (ColumnType → Value → Bool) → Condition ℕ → Condition ℕ
+cut_of keys kept c = (cut_by keys kept c).cut
 
-abbrev pub cut_through : Table → Option ColumnVindex → KeyRange → Condition ℕ → Condition ℕ
+-- the members that lie in the range, of those that a column of the type may hold
+abbrev pub is_member_of : Table → KeyRange → ColumnType → Value → Bool
+is_member_of t range kind x = is_held kind x && has_id range (id_of t x)
+
+abbrev pub cut_through : Table → Option Keys → KeyRange → Condition ℕ → Condition ℕ
 cut_through t None range c = c
-cut_through t (Some v) range c = cut_of v.column (is_member_of t v range) c
+cut_through t (Some keys) range c = cut_of keys (is_member_of t range) c
 
 -- Each shard gets the whole condition. Under IN the members of that conjunct are cut to the shard's own.
-abbrev pub shard_filter : Table → Route → KeyRange → Option (Condition ℕ) → Option (Condition ℕ)
-shard_filter t (route.In values) range filter' = option_map (cut_through t t.vindex range) filter'
-shard_filter t route.Unsharded range filter' = filter'
-shard_filter t route.None range filter' = filter'
-shard_filter t (route.EqualUnique v) range filter' = filter'
-shard_filter t route.Scatter range filter' = filter'
+abbrev pub shard_filter : Table → Option Join → Route → KeyRange → Option (Condition ℕ) → Option (Condition ℕ)
+shard_filter t join (route.In values) range filter' = option_map (cut_through t (keys_of t join) range) filter'
+shard_filter t join route.Unsharded range filter' = filter'
+shard_filter t join route.None range filter' = filter'
+shard_filter t join (route.EqualUnique v) range filter' = filter'
+shard_filter t join route.Scatter range filter' = filter'
 
 -- the piece of the shard with this range
 abbrev pub piece_of : Table → Plan → KeyRange → Query
-piece_of t p range = record p.piece { filter = shard_filter t p.route range p.piece.filter }
+piece_of t p range = record p.piece { filter = shard_filter t p.piece.join p.route range p.piece.filter }
 
 -- the pieces' rows, or the groups that they make up
 abbrev pub joined_by : Option Grouping → List Row → List Row

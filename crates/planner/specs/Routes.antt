@@ -1,6 +1,6 @@
 -- The route of a statement: the shards that it needs, by its condition, as Vitess routes EqualUnique, IN and Scatter.
 -- The conjuncts of a condition are the members of its AND, nested ANDs opened, from the left.
-use Rattle.std.specs.Prelude.{ℕ, Bool, true, false, not, ◌&&◌, ◌||◌, ◌==◌, List, [], ◌∷◌, map, filter, flat_map, zip, slice_get, Option, Some, None, if◌then◌else◌}
+use Rattle.std.specs.Prelude.{ℕ, Bool, true, false, not, ◌&&◌, ◌||◌, ◌==◌, List, [], ◌∷◌, map, filter, flat_map, zip, slice_get, Option, Some, None, option_map, if◌then◌else◌}
 use Rattle.std.specs.List.{list_any, list_all}
 use Rattle.vt_value.specs.declared.value.Value.{Value}
 use Rattle.vt_value.specs.declared.value.Comparison.{Comparison}
@@ -15,15 +15,17 @@ use Rattle.sql_tree.specs.declared.Condition.{Condition, Condition-F, fold-Condi
 use Rattle.sql_tree.specs.declared.Condition.TheOpen.{Compare, In, IsNull, Not, And, Or}
 use Rattle.vschema.specs.declared.schema.Table.{Table}
 use Rattle.vschema.specs.declared.schema.VSchema.{VSchema}
-use Rattle.vschema_document.specs.declared.column.Column as schema
 use Rattle.vschema_document.specs.declared.column.ColumnType.{ColumnType}
-use Rattle.vschema_document.specs.declared.column.ColumnType.TheVariants.{BigInt}
 use Rattle.vschema.specs.declared.schema.ColumnVindex.{ColumnVindex}
+use Rattle.vschema.specs.declared.schema.Join.{Join}
 use Rattle.vschema.specs.declared.changes.Write.{Write}
 use Rattle.vschema.specs.declared.changes.Write.TheVariants.{Insert, Update, Delete}
 pub use Rattle.vschema.specs.Schema.{table_at}
+pub use Rattle.vschema.specs.Sources.{type_at}
 use Rattle.vschema.specs.Resolved.{places_from}
 use Rattle.vschema.specs.WriteChecks.{is_out_of_range, is_too_long}
+use Rattle.planner.specs.declared.keys.KeyColumn.{KeyColumn}
+use Rattle.planner.specs.declared.keys.Keys.{Keys}
 use Rattle.planner.specs.declared.routes.Route.{Route}
 use Rattle.planner.specs.declared.routes.Route.TheVariants as route
 
@@ -47,52 +49,56 @@ abbrev pub is_equality : Comparison → Bool
 is_equality Eq = true
 is_equality _ = false
 
--- the literal that is compared with a column
-abbrev pub literal_beside : ℕ → Operand ℕ → Operand ℕ → List Value
-literal_beside column (Column c) (Literal x) = if c == column then x ∷ [] else []
-literal_beside column (Literal x) (Column c) = if c == column then x ∷ [] else []
-literal_beside column (Column c) (Column d) = []
-literal_beside column (Literal x) (Literal y) = []
+abbrev pub second_kind : Option KeyColumn → ℕ → Option ColumnType
+second_kind None c = None
+second_kind (Some k) c = if k.column == c then Some k.kind else None
+
+-- the type of a column, where its value decides the shard of a row
+abbrev pub kind_in : Keys → ℕ → Option ColumnType
+kind_in keys c = if keys.first.column == c then Some keys.first.kind else second_kind keys.second c
+
+abbrev pub of_kind : {X : Type 0} → Option ColumnType → X → List (ColumnType × X)
+of_kind None x = []
+of_kind (Some kind) x = (kind, x) ∷ []
+
+-- the literal that is compared with a deciding column, beside the column's type
+abbrev pub literal_beside : Keys → Operand ℕ → Operand ℕ → List (ColumnType × Value)
+literal_beside keys (Column c) (Literal x) = of_kind (kind_in keys c) x
+literal_beside keys (Literal x) (Column c) = of_kind (kind_in keys c) x
+literal_beside keys (Column c) (Column d) = []
+literal_beside keys (Literal x) (Literal y) = []
 
 -- the literals of the conjuncts `column = literal` and `literal = column`
-abbrev pub node_equals : ℕ → Condition-F ℕ (List Value) → List Value
-node_equals column (Compare op a b) = if is_equality op then literal_beside column a b else []
-node_equals column (In a members) = []
-node_equals column (IsNull a) = []
-node_equals column (Not literals) = []
-node_equals column (And literals) = flat_map (λ l. l) literals
-node_equals column (Or literals) = []
+abbrev pub node_equals : Keys → Condition-F ℕ (List (ColumnType × Value)) → List (ColumnType × Value)
+node_equals keys (Compare op a b) = if is_equality op then literal_beside keys a b else []
+node_equals keys (In a members) = []
+node_equals keys (IsNull a) = []
+node_equals keys (Not literals) = []
+node_equals keys (And literals) = flat_map (λ l. l) literals
+node_equals keys (Or literals) = []
 
-abbrev pub equals : ℕ → Condition ℕ → List Value
-equals column c = fold-Condition ℕ (List Value) (node_equals column) c
+abbrev pub equals : Keys → Condition ℕ → List (ColumnType × Value)
+equals keys c = fold-Condition ℕ (List (ColumnType × Value)) (node_equals keys) c
 
-abbrev pub members_beside : ℕ → Operand ℕ → List Value → List (List Value)
-members_beside column (Column c) members = if c == column then members ∷ [] else []
-members_beside column (Literal x) members = []
+abbrev pub members_beside : Keys → Operand ℕ → List Value → List (ColumnType × List Value)
+members_beside keys (Column c) members = of_kind (kind_in keys c) members
+members_beside keys (Literal x) members = []
 
 -- the members of the conjuncts `column IN (..)`
-abbrev pub node_among : ℕ → Condition-F ℕ (List (List Value)) → List (List Value)
-node_among column (Compare op a b) = []
-node_among column (In a members) = members_beside column a members
-node_among column (IsNull a) = []
-node_among column (Not lists) = []
-node_among column (And lists) = flat_map (λ l. l) lists
-node_among column (Or lists) = []
+abbrev pub node_among : Keys → Condition-F ℕ (List (ColumnType × List Value)) → List (ColumnType × List Value)
+node_among keys (Compare op a b) = []
+node_among keys (In a members) = members_beside keys a members
+node_among keys (IsNull a) = []
+node_among keys (Not lists) = []
+node_among keys (And lists) = flat_map (λ l. l) lists
+node_among keys (Or lists) = []
 
-abbrev pub among : ℕ → Condition ℕ → List (List Value)
-among column c = fold-Condition ℕ (List (List Value)) (node_among column) c
+abbrev pub among : Keys → Condition ℕ → List (ColumnType × List Value)
+among keys c = fold-Condition ℕ (List (ColumnType × List Value)) (node_among keys) c
 
 abbrev pub first_of : {X : Type 0} → List X → Option X
 first_of [] = None
 first_of (x ∷ xs) = Some x
-
-abbrev pub kind_of : Option schema.Column → ColumnType
-kind_of None = BigInt
-kind_of (Some c) = c.kind
-
--- the type of the column at a place
-abbrev pub type_at : Table → ℕ → ColumnType
-type_at t n = kind_of (slice_get t.columns n)
 
 -- a value that a column of the type may hold
 abbrev pub is_held : ColumnType → Value → Bool
@@ -103,27 +109,37 @@ route_among [] = route.None
 route_among (v ∷ values) = route.In (v ∷ values)
 
 -- the leftmost literal decides, and without one the members of the leftmost IN
-abbrev pub route_by : ColumnType → Option Value → Option (List Value) → Route
-route_by kind (Some v) lists = if is_held kind v then route.EqualUnique v else route.None
-route_by kind None (Some members) = route_among (filter (is_held kind) members)
-route_by kind None None = route.Scatter
+abbrev pub route_by : Option (ColumnType × Value) → Option (ColumnType × List Value) → Route
+route_by (Some p) lists = if is_held p.0 p.1 then route.EqualUnique p.1 else route.None
+route_by None (Some p) = route_among (filter (is_held p.0) p.1)
+route_by None None = route.Scatter
 
--- the rules in their order, for a sharded table
-abbrev pub sharded_route : ℕ → ColumnType → Condition ℕ → Route
-sharded_route column kind c =
-    if is_never c then route.None else route_by kind (first_of (equals column c)) (first_of (among column c))
+-- the rules in their order, for rows of which these columns decide the shard
+abbrev pub sharded_route : Keys → Condition ℕ → Route
+sharded_route keys c =
+    if is_never c then route.None else route_by (first_of (equals keys c)) (first_of (among keys c))
 
-abbrev pub filter_route : ℕ → ColumnType → Option (Condition ℕ) → Route
-filter_route column kind None = route.Scatter
-filter_route column kind (Some c) = sharded_route column kind c
+abbrev pub filter_route : Keys → Option (Condition ℕ) → Route
+filter_route keys None = route.Scatter
+filter_route keys (Some c) = sharded_route keys c
 
-abbrev pub route_through : Table → Option ColumnVindex → Option (Condition ℕ) → Route
-route_through t None filter' = route.Unsharded
-route_through t (Some v) filter' = filter_route v.column (type_at t v.column) filter'
+abbrev pub second_key : Join → KeyColumn
+second_key j = record { column = j.second; kind = j.kind }
+
+abbrev pub keys_on : Table → ColumnVindex → Option Join → Keys
+keys_on t v join = record { first = record { column = v.column; kind = type_at t v.column }; second = option_map second_key join }
+
+-- the columns that decide the shard of a table's rows: the vindex column, and in the pairs of a join that of either table
+abbrev pub keys_of : Table → Option Join → Option Keys
+keys_of t join = option_map (λ v. keys_on t v join) t.vindex
+
+abbrev pub route_through : Option Keys → Option (Condition ℕ) → Route
+route_through None filter' = route.Unsharded
+route_through (Some keys) filter' = filter_route keys filter'
 
 -- the route of a query, an UPDATE or a DELETE
-abbrev pub route_of : Table → Option (Condition ℕ) → Route
-route_of t filter' = route_through t t.vindex filter'
+abbrev pub route_of : Table → Option Join → Option (Condition ℕ) → Route
+route_of t join filter' = route_through (keys_of t join) filter'
 
 abbrev pub rows_route : Option ColumnVindex → List Row → Route
 rows_route None rows = route.Unsharded
@@ -135,8 +151,8 @@ insert_route t rows = rows_route t.vindex rows
 
 abbrev pub write_route : VSchema → Write → Route
 write_route schema (Insert n rows) = insert_route (table_at schema n) rows
-write_route schema (Update n assignments filter') = route_of (table_at schema n) filter'
-write_route schema (Delete n filter') = route_of (table_at schema n) filter'
+write_route schema (Update n assignments filter') = route_of (table_at schema n) None filter'
+write_route schema (Delete n filter') = route_of (table_at schema n) None filter'
 
 -- the keyspace id of a value of the vindex column, which is empty for a value that no key column holds
 abbrev pub id_by : Option ColumnVindex → Value → List ℕ

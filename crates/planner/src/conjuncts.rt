@@ -1,11 +1,13 @@
-//! What the conjuncts of a condition say of the vindex column: the members of its AND, nested ANDs opened, from the left.
-ghost use Rattle.std.specs.Prelude.{◌≡◌, IfOk, IfErr, map, flat_map, Some, None, if◌then◌else◌};
+//! What the conjuncts of a condition say of the columns that decide the shard: the members of its AND, nested ANDs opened, from the left.
+ghost use Rattle.std.specs.Prelude.{◌≡◌, IfOk, IfErr, map, flat_map};
 ghost use Rattle.std.specs.List.{list_any, list_all};
 ghost use Rattle.vt_value.specs.Values.{is_null};
-ghost use Rattle.planner.specs.Routes.{is_null_literal, is_never, literal_beside, equals, members_beside, among, first_of};
+ghost use Rattle.planner.specs.Routes.{is_null_literal, is_never, of_kind, literal_beside, equals, members_beside, among, first_of};
 
+use crate::keys::{Keys, kind_in};
 use sql_tree::{Condition, Operand};
 use std::alloc::Global;
+use vschema::ColumnType;
 use vt_value::{Comparison, Items, Refusal, Value, copy, copy_row};
 
 pub fn is_null(value: &Value) -> bool
@@ -54,19 +56,19 @@ fn has_never(members: &[Condition<usize>]) -> bool
     false
 }
 
-/// The literal of the leftmost conjunct `column = literal` or `literal = column`.
+/// The literal of the leftmost conjunct `column = literal` or `literal = column` on one of these columns, with the column's type.
 #[cycle(equal)]
 pub fn first_equal(
     alloc: Global,
-    column: usize,
+    keys: Keys,
     condition: &Condition<usize>,
-) -> Result<Option<Value>, Refusal>
-    ensures ok { IfOk result (λ found. found ≡ first_of (equals column condition.now)) }
+) -> Result<Option<(ColumnType, Value)>, Refusal>
+    ensures ok { IfOk result (λ found. found ≡ first_of (equals keys condition.now)) }
     ensures err { IfErr result (λ e. e ≡ Refusal.OutOfMemory) }
 {
     match condition {
-        Condition::Compare(Comparison::Eq, a, b) => literal_beside(alloc, column, a, b),
-        Condition::And(members) => first_equal_of(alloc, column, members.as_slice()),
+        Condition::Compare(Comparison::Eq, a, b) => literal_beside(alloc, keys, a, b),
+        Condition::And(members) => first_equal_of(alloc, keys, members.as_slice()),
         _ => Ok(None),
     }
 }
@@ -74,14 +76,14 @@ pub fn first_equal(
 #[cycle(equal)]
 fn first_equal_of(
     alloc: Global,
-    column: usize,
+    keys: Keys,
     members: &[Condition<usize>],
-) -> Result<Option<Value>, Refusal>
-    ensures ok { IfOk result (λ found. found ≡ first_of (flat_map (λ l. l) (map (equals column) members.now))) }
+) -> Result<Option<(ColumnType, Value)>, Refusal>
+    ensures ok { IfOk result (λ found. found ≡ first_of (flat_map (λ l. l) (map (equals keys) members.now))) }
     ensures err { IfErr result (λ e. e ≡ Refusal.OutOfMemory) }
 {
     for member in members {
-        let found = first_equal(alloc, column, member)?;
+        let found = first_equal(alloc, keys, member)?;
         if found.is_some() {
             return Ok(found);
         }
@@ -91,50 +93,84 @@ fn first_equal_of(
 
 fn literal_beside(
     alloc: Global,
-    column: usize,
+    keys: Keys,
     a: &Operand<usize>,
     b: &Operand<usize>,
-) -> Result<Option<Value>, Refusal>
-    ensures ok { IfOk result (λ found. found ≡ first_of (literal_beside column a.now b.now)) }
+) -> Result<Option<(ColumnType, Value)>, Refusal>
+    ensures ok { IfOk result (λ found. found ≡ first_of (literal_beside keys a.now b.now)) }
     ensures err { IfErr result (λ e. e ≡ Refusal.OutOfMemory) }
 {
     match (a, b) {
         (Operand::Column(place), Operand::Literal(value))
         | (Operand::Literal(value), Operand::Column(place)) => {
-            copy_where(alloc, *place == column, value)
+            copy_where(alloc, kind_in(keys, *place), value)
         }
         _ => Ok(None),
     }
 }
 
-fn copy_where(alloc: Global, wanted: bool, value: &Value) -> Result<Option<Value>, Refusal>
-    ensures ok { IfOk result (λ found. found ≡ if wanted then Some value.now else None) }
+fn copy_where(
+    alloc: Global,
+    kind: Option<ColumnType>,
+    value: &Value,
+) -> Result<Option<(ColumnType, Value)>, Refusal>
+    ensures ok { IfOk result (λ found. found ≡ first_of (of_kind kind value.now)) }
     ensures err { IfErr result (λ e. e ≡ Refusal.OutOfMemory) }
 {
-    if wanted {
-        let value = copy(alloc, value)?;
-        Ok(Some(value))
-    } else {
-        Ok(None)
+    match kind {
+        Some(kind) => {
+            let value = copy(alloc, value)?;
+            Ok(Some((kind, value)))
+        }
+        None => Ok(None),
     }
 }
 
-/// The members of the leftmost conjunct `column IN (..)`.
+fn copy_members_where(
+    alloc: Global,
+    kind: Option<ColumnType>,
+    members: &Items<Value>,
+) -> Result<Option<(ColumnType, Items<Value>)>, Refusal>
+    ensures ok { IfOk result (λ found. found ≡ first_of (of_kind kind members.now)) }
+    ensures err { IfErr result (λ e. e ≡ Refusal.OutOfMemory) }
+{
+    match kind {
+        Some(kind) => {
+            let members = copy_row(alloc, members)?;
+            Ok(Some((kind, members)))
+        }
+        None => Ok(None),
+    }
+}
+
+fn members_beside(
+    alloc: Global,
+    keys: Keys,
+    operand: &Operand<usize>,
+    members: &Items<Value>,
+) -> Result<Option<(ColumnType, Items<Value>)>, Refusal>
+    ensures ok { IfOk result (λ found. found ≡ first_of (members_beside keys operand.now members.now)) }
+    ensures err { IfErr result (λ e. e ≡ Refusal.OutOfMemory) }
+{
+    match operand {
+        Operand::Column(place) => copy_members_where(alloc, kind_in(keys, *place), members),
+        Operand::Literal(_) => Ok(None),
+    }
+}
+
+/// The members of the leftmost conjunct `column IN (..)` on one of these columns, with the column's type.
 #[cycle(among)]
 pub fn first_among(
     alloc: Global,
-    column: usize,
+    keys: Keys,
     condition: &Condition<usize>,
-) -> Result<Option<Items<Value>>, Refusal>
-    ensures ok { IfOk result (λ found. found ≡ first_of (among column condition.now)) }
+) -> Result<Option<(ColumnType, Items<Value>)>, Refusal>
+    ensures ok { IfOk result (λ found. found ≡ first_of (among keys condition.now)) }
     ensures err { IfErr result (λ e. e ≡ Refusal.OutOfMemory) }
 {
     match condition {
-        Condition::In(Operand::Column(place), members) if *place == column => {
-            let members = copy_row(alloc, members)?;
-            Ok(Some(members))
-        }
-        Condition::And(members) => first_among_of(alloc, column, members.as_slice()),
+        Condition::In(operand, members) => members_beside(alloc, keys, operand, members),
+        Condition::And(members) => first_among_of(alloc, keys, members.as_slice()),
         _ => Ok(None),
     }
 }
@@ -142,14 +178,14 @@ pub fn first_among(
 #[cycle(among)]
 fn first_among_of(
     alloc: Global,
-    column: usize,
+    keys: Keys,
     members: &[Condition<usize>],
-) -> Result<Option<Items<Value>>, Refusal>
-    ensures ok { IfOk result (λ found. found ≡ first_of (flat_map (λ l. l) (map (among column) members.now))) }
+) -> Result<Option<(ColumnType, Items<Value>)>, Refusal>
+    ensures ok { IfOk result (λ found. found ≡ first_of (flat_map (λ l. l) (map (among keys) members.now))) }
     ensures err { IfErr result (λ e. e ≡ Refusal.OutOfMemory) }
 {
     for member in members {
-        let found = first_among(alloc, column, member)?;
+        let found = first_among(alloc, keys, member)?;
         if found.is_some() {
             return Ok(found);
         }

@@ -4,6 +4,7 @@
 mod conjuncts;
 mod copies;
 mod finishing;
+mod keys;
 mod members;
 mod pieces;
 mod planning;
@@ -11,8 +12,9 @@ mod plans;
 mod routes;
 mod taking;
 
+pub use keys::{KeyColumn, Keys};
 pub use members::{Member, Members};
-pub use planning::plan;
+pub use planning::{plan, query_route};
 pub use plans::{Finish, Plan};
 pub use routes::{Route, route_of, write_route};
 pub use taking::{shards, single_id, takes, takes_by};

@@ -1,50 +1,61 @@
 //! The query that each shard answers: under IN the members are cut to the shard's own.
-ghost use Rattle.std.specs.Prelude.{◌≡◌, ◌&&◌, IsTrue, IfSome, IfOk, IfErr, map, flat_map, filter, is_some, Some, if◌then◌else◌};
+ghost use Rattle.std.specs.Prelude.{◌≡◌, ◌&&◌, IsTrue, IfSome, IfOk, IfErr, List, map, filter, is_some, Some, if◌then◌else◌};
 ghost use Rattle.std.specs.List.{list_any};
+ghost use Rattle.vt_value.specs.declared.value.Value.{Value as V};
 ghost use Rattle.keyrange.specs.Ranges.{has_id};
-ghost use Rattle.planner.specs.Routes.{among, first_of, type_at, is_held, id_of};
-ghost use Rattle.planner.specs.Plans.{has_among, first_cut, cut_in, cut_by, cut_of, is_member_of, shard_filter, piece_of};
+ghost use Rattle.planner.specs.Routes.{members_beside, first_of, is_held, id_of};
+ghost use Rattle.planner.specs.Plans.{has_among, first_cut, cut_members, cut_in, cut_by, cut_of, is_member_of, shard_filter, piece_of};
 
 use crate::copies::{copy_condition, copy_items, copy_keys, copy_operand, copy_places};
+use crate::keys::{Keys, keys_on, kind_in};
 use crate::members::Member;
 use crate::plans::Plan;
-use crate::routes::{Route, is_held, type_at};
+use crate::routes::{Route, is_held};
 use crate::taking::{has_member, has_value};
 use keyrange::KeyRange;
 use sql_tree::{Condition, Operand};
 use std::alloc::Global;
-use vschema::{ColumnVindex, Query, Table};
+use vschema::{ColumnType, Join, Query, Table};
 use vt_value::{Items, Refusal, Value, copy, copy_row};
 
-// Whether an IN on the column is one of the conjuncts.
+fn is_key(keys: Keys, operand: &Operand<usize>) -> bool
+    ensures { (members : List V) → result ≡ is_some (first_of (members_beside keys operand.now members)) }
+{
+    match operand {
+        Operand::Column(place) => kind_in(keys, *place).is_some(),
+        Operand::Literal(_) => false,
+    }
+}
+
+// Whether an IN on one of the columns is one of the conjuncts.
 #[cycle(has)]
-fn has_among(column: usize, condition: &Condition<usize>) -> bool
-    ensures { result ≡ has_among column condition.now }
+fn has_among(keys: Keys, condition: &Condition<usize>) -> bool
+    ensures { result ≡ has_among keys condition.now }
 {
     match condition {
-        Condition::In(Operand::Column(place), _) => *place == column,
-        Condition::And(members) => one_has_among(column, members.as_slice()),
+        Condition::In(operand, _) => is_key(keys, operand),
+        Condition::And(members) => one_has_among(keys, members.as_slice()),
         _ => false,
     }
 }
 
 #[cycle(has)]
-fn one_has_among(column: usize, members: &[Condition<usize>]) -> bool
-    ensures { result ≡ list_any (has_among column) members.now }
+fn one_has_among(keys: Keys, members: &[Condition<usize>]) -> bool
+    ensures { result ≡ list_any (has_among keys) members.now }
 {
     for member in members {
-        if has_among(column, member) {
+        if has_among(keys, member) {
             return true;
         }
     }
     false
 }
 
-/// A shard of a table with a vindex, told by its range.
+/// A shard of a table with a vindex, told by its range, and the columns that decide the shard.
 #[derive(Clone, Copy)]
 struct Home<'h> {
     table: &'h Table,
-    vindex: ColumnVindex,
+    keys: Keys,
     range: &'h KeyRange,
     /// The values of the route, in the order in which the members come.
     known: &'h [Member],
@@ -80,15 +91,20 @@ fn is_in_range(home: &Home, value: &Value, known: Option<&Member>) -> bool
     }
 }
 
-fn is_own(home: &Home, value: &Value, known: Option<&Member>) -> bool
+fn is_own(home: &Home, kind: ColumnType, value: &Value, known: Option<&Member>) -> bool
     requires { IfSome known (λ member. member.now.value ≡ value.now) }
-    ensures { result ≡ is_member_of home.now.table.now home.now.vindex home.now.range.now value.now }
+    ensures { result ≡ is_member_of home.now.table.now home.now.range.now kind value.now }
 {
-    is_held(type_at(home.table, home.vindex.column), value) && is_in_range(home, value, known)
+    is_held(kind, value) && is_in_range(home, value, known)
 }
 
-fn own_members(alloc: Global, home: &Home, members: &[Value]) -> Result<Items<Value>, Refusal>
-    ensures ok { IfOk result (λ list. list ≡ filter (is_member_of home.now.table.now home.now.vindex home.now.range.now) members.now) }
+fn own_members(
+    alloc: Global,
+    home: &Home,
+    kind: ColumnType,
+    members: &[Value],
+) -> Result<Items<Value>, Refusal>
+    ensures ok { IfOk result (λ list. list ≡ filter (is_member_of home.now.table.now home.now.range.now kind) members.now) }
     ensures err { IfErr result (λ e. e ≡ Refusal.OutOfMemory) }
 {
     let mut list = Items::new(alloc);
@@ -98,11 +114,26 @@ fn own_members(alloc: Global, home: &Home, members: &[Value]) -> Result<Items<Va
         if known.is_some() {
             at += 1;
         }
-        if is_own(home, member, known) {
+        if is_own(home, kind, member, known) {
             list.push(copy(alloc, member)?)?;
         }
     }
     Ok(list)
+}
+
+fn cut_members_of(
+    alloc: Global,
+    home: &Home,
+    kind: Option<ColumnType>,
+    members: &Items<Value>,
+) -> Result<Items<Value>, Refusal>
+    ensures ok { IfOk result (λ list. list ≡ cut_members kind (is_member_of home.now.table.now home.now.range.now) members.now) }
+    ensures err { IfErr result (λ e. e ≡ Refusal.OutOfMemory) }
+{
+    match kind {
+        Some(kind) => own_members(alloc, home, kind, members.as_slice()),
+        None => copy_row(alloc, members),
+    }
 }
 
 fn cut_in(
@@ -111,14 +142,14 @@ fn cut_in(
     operand: &Operand<usize>,
     members: &Items<Value>,
 ) -> Result<Condition<usize>, Refusal>
-    ensures ok { IfOk result (λ c. c ≡ cut_in home.now.vindex.column (is_member_of home.now.table.now home.now.vindex home.now.range.now) operand.now members.now) }
+    ensures ok { IfOk result (λ c. c ≡ cut_in home.now.keys (is_member_of home.now.table.now home.now.range.now) operand.now members.now) }
     ensures err { IfErr result (λ e. e ≡ Refusal.OutOfMemory) }
 {
     let members = match operand {
-        Operand::Column(place) if *place == home.vindex.column => {
-            own_members(alloc, home, members.as_slice())?
+        Operand::Column(place) => {
+            cut_members_of(alloc, home, kind_in(home.keys, *place), members)?
         }
-        _ => copy_row(alloc, members)?,
+        Operand::Literal(_) => copy_row(alloc, members)?,
     };
     let operand = copy_operand(alloc, operand)?;
     Ok(Condition::In(operand, members))
@@ -130,7 +161,7 @@ fn cut_condition(
     home: &Home,
     condition: &Condition<usize>,
 ) -> Result<Condition<usize>, Refusal>
-    ensures ok { IfOk result (λ c. c ≡ cut_of home.now.vindex.column (is_member_of home.now.table.now home.now.vindex home.now.range.now) condition.now) }
+    ensures ok { IfOk result (λ c. c ≡ cut_of home.now.keys (is_member_of home.now.table.now home.now.range.now) condition.now) }
     ensures err { IfErr result (λ e. e ≡ Refusal.OutOfMemory) }
 {
     match condition {
@@ -151,7 +182,7 @@ fn cut_member(
     is_next: bool,
 ) -> Result<Condition<usize>, Refusal>
     ensures ok { IfOk result (λ c. c ≡ if is_next
-        then cut_of home.now.vindex.column (is_member_of home.now.table.now home.now.vindex home.now.range.now) member.now
+        then cut_of home.now.keys (is_member_of home.now.table.now home.now.range.now) member.now
         else member.now) }
     ensures err { IfErr result (λ e. e ≡ Refusal.OutOfMemory) }
 {
@@ -162,21 +193,21 @@ fn cut_member(
     }
 }
 
-// Of the members that have an IN on the vindex column the leftmost alone is cut.
+// Of the members that have an IN on one of the columns the leftmost alone is cut.
 #[cycle(cut)]
 fn cut_members(
     alloc: Global,
     home: &Home,
     members: &[Condition<usize>],
 ) -> Result<Items<Condition<usize>>, Refusal>
-    ensures ok { IfOk result (λ list. list ≡ first_cut home.now.vindex.column
-        (map (cut_by home.now.vindex.column (is_member_of home.now.table.now home.now.vindex home.now.range.now)) members.now)) }
+    ensures ok { IfOk result (λ list. list ≡ first_cut home.now.keys
+        (map (cut_by home.now.keys (is_member_of home.now.table.now home.now.range.now)) members.now)) }
     ensures err { IfErr result (λ e. e ≡ Refusal.OutOfMemory) }
 {
     let mut list = Items::new(alloc);
     let mut is_cut = false;
     for member in members {
-        let has = has_among(home.vindex.column, member);
+        let has = has_among(home.keys, member);
         let member = cut_member(alloc, home, member, has & !is_cut)?;
         list.push(member)?;
         is_cut = is_cut | has;
@@ -187,18 +218,19 @@ fn cut_members(
 fn shard_condition(
     alloc: Global,
     table: &Table,
+    join: Option<Join>,
     route: &Route,
     range: &KeyRange,
     condition: &Condition<usize>,
 ) -> Result<Condition<usize>, Refusal>
-    ensures ok { IfOk result (λ c. Some c ≡ shard_filter table.now route.now range.now (Some condition.now)) }
+    ensures ok { IfOk result (λ c. Some c ≡ shard_filter table.now join route.now range.now (Some condition.now)) }
     ensures err { IfErr result (λ e. e ≡ Refusal.OutOfMemory) }
 {
     match (route, table.vindex) {
         (Route::In(values), Some(vindex)) => {
             let home = Home {
                 table,
-                vindex,
+                keys: keys_on(table, vindex, join),
                 range,
                 known: values.as_slice(),
             };
@@ -229,11 +261,15 @@ impl Plan {
         let group_by = copy_places(alloc, self.piece.group_by.as_slice())?;
         let order_by = copy_keys(alloc, self.piece.order_by.as_slice())?;
         let filter = match &self.piece.filter {
-            Some(condition) => Some(shard_condition(alloc, table, &self.route, range, condition)?),
+            Some(condition) => {
+                let join = self.piece.join;
+                Some(shard_condition(alloc, table, join, &self.route, range, condition)?)
+            }
             None => None,
         };
         Ok(Query {
             table: self.piece.table,
+            join: self.piece.join,
             items,
             filter,
             group_by,

@@ -45,6 +45,7 @@ fn pushed_rows(query: Query) -> Result<Query, Refusal>
 {
     let Query {
         table,
+        join,
         items,
         filter,
         group_by,
@@ -58,6 +59,7 @@ fn pushed_rows(query: Query) -> Result<Query, Refusal>
     };
     Ok(Query {
         table,
+        join,
         items,
         filter,
         group_by,
@@ -110,12 +112,14 @@ fn pushed_groups(alloc: Global, query: Query) -> Result<Query, Refusal>
     let items = pushed_items(alloc, &query)?;
     let Query {
         table,
+        join,
         filter,
         group_by,
         ..
     } = query;
     Ok(Query {
         table,
+        join,
         items,
         filter,
         group_by,
@@ -206,12 +210,13 @@ fn finish_of(alloc: Global, query: &Query) -> Result<Finish, Refusal>
     }
 }
 
-fn query_route(alloc: Global, schema: &VSchema, query: &Query) -> Result<Route, Refusal>
-    ensures ok { IfOk result (λ route. route ≡ route_of (table_at schema.now query.now.table) query.now.filter) }
+/// The route of a query. Refuses only for want of memory.
+pub fn query_route(alloc: Global, schema: &VSchema, query: &Query) -> Result<Route, Refusal>
+    ensures ok { IfOk result (λ route. route ≡ route_of (table_at schema.now query.now.table) query.now.join query.now.filter) }
     ensures err { IfErr result (λ e. e ≡ Refusal.OutOfMemory) }
 {
     match schema.tables.as_slice().get(query.table) {
-        Some(table) => route_of(alloc, table, &query.filter),
+        Some(table) => route_of(alloc, table, query.join, &query.filter),
         None => Ok(Route::Unsharded),
     }
 }
@@ -221,7 +226,7 @@ fn route_and_finish(
     schema: &VSchema,
     query: &Query,
 ) -> Result<(Route, Finish), Refusal>
-    ensures route { IfOk result (λ r. r.0 ≡ route_of (table_at schema.now query.now.table) query.now.filter) }
+    ensures route { IfOk result (λ r. r.0 ≡ route_of (table_at schema.now query.now.table) query.now.join query.now.filter) }
     ensures finish { IfOk result (λ r. r.1 ≡ finish_of query.now) }
     ensures err { IfErr result (λ e. e ≡ Refusal.OutOfMemory) }
 {

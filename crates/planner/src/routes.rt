@@ -3,11 +3,14 @@ ghost use Rattle.vt_value.specs.Values.{value_at};
 ghost use Rattle.planner.specs.Routes.{type_at, is_held, route_among, route_by, sharded_route, filter_route, route_of, insert_route, write_route};
 
 use crate::conjuncts::{first_among, first_equal, is_never, is_null};
+use crate::keys::{Keys, keys_on};
 use crate::members::Members;
 use sql_tree::Condition;
 use std::alloc::Global;
 use vindex::AnyVindex;
-use vschema::{ColumnType, ColumnVindex, Table, VSchema, Write, is_out_of_range, is_too_long};
+use vschema::{
+    ColumnType, ColumnVindex, Join, Table, VSchema, Write, is_out_of_range, is_too_long,
+};
 use vt_value::{Refusal, Row, Value, copy};
 
 /// Which shards of its keyspace a statement needs.
@@ -80,36 +83,36 @@ fn route_among(
 
 fn sharded_route(
     alloc: Global,
-    vindex: ColumnVindex,
-    kind: ColumnType,
+    vindex: AnyVindex,
+    keys: Keys,
     condition: &Condition<usize>,
 ) -> Result<Route, Refusal>
-    ensures ok { IfOk result (λ route. route ≡ sharded_route vindex.column kind condition.now) }
+    ensures ok { IfOk result (λ route. route ≡ sharded_route keys condition.now) }
     ensures err { IfErr result (λ e. e ≡ Refusal.OutOfMemory) }
 {
-    let column = vindex.column;
     if is_never(condition) {
         return Ok(Route::None);
     }
-    if let Some(value) = first_equal(alloc, column, condition)? {
+    if let Some((kind, value)) = first_equal(alloc, keys, condition)? {
         if is_held(kind, &value) {
             return Ok(Route::EqualUnique(value));
         }
         return Ok(Route::None);
     }
-    match first_among(alloc, column, condition)? {
-        Some(members) => route_among(alloc, vindex.vindex, kind, members.as_slice()),
+    match first_among(alloc, keys, condition)? {
+        Some((kind, members)) => route_among(alloc, vindex, kind, members.as_slice()),
         None => Ok(Route::Scatter),
     }
 }
 
-/// The route of a query, an UPDATE or a DELETE, by its condition.
+/// The route of a query, an UPDATE or a DELETE, by its condition. A query may be over the pairs of a join.
 pub fn route_of(
     alloc: Global,
     table: &Table,
+    join: Option<Join>,
     filter: &Option<Condition<usize>>,
 ) -> Result<Route, Refusal>
-    ensures ok { IfOk result (λ route. route ≡ route_of table.now filter.now) }
+    ensures ok { IfOk result (λ route. route ≡ route_of table.now join filter.now) }
     ensures err { IfErr result (λ e. e ≡ Refusal.OutOfMemory) }
 {
     let Some(vindex) = table.vindex else {
@@ -117,8 +120,8 @@ pub fn route_of(
     };
     match filter {
         Some(condition) => {
-            let kind = type_at(table, vindex.column);
-            sharded_route(alloc, vindex, kind, condition)
+            let keys = keys_on(table, vindex, join);
+            sharded_route(alloc, vindex.vindex, keys, condition)
         }
         None => Ok(Route::Scatter),
     }
@@ -170,6 +173,8 @@ pub fn write_route(alloc: Global, schema: &VSchema, write: &Write) -> Result<Rou
     };
     match write {
         Write::Insert(_, rows) => insert_route(alloc, table, rows.as_slice()),
-        Write::Update(_, _, filter) | Write::Delete(_, filter) => route_of(alloc, table, filter),
+        Write::Update(_, _, filter) | Write::Delete(_, filter) => {
+            route_of(alloc, table, None, filter)
+        }
     }
 }

@@ -8,9 +8,9 @@ use Rattle.vschema.specs.declared.schema.Typed.TheVariants as typed
 use Rattle.vschema.specs.declared.changes.Write.{Write}
 use Rattle.vschema.specs.Schema.{no_table}
 use Rattle.vschema.specs.Database.{Database, SameRows, rows_of, restrict, all_applied}
+use Rattle.vschema.specs.Sources.{source_rows, SourcesThere, JoinsInPlace}
 use Rattle.vschema.specs.TypedWrites.{IsTypedWrite}
 use Rattle.vschema.specs.WellFormed.{is_vschema}
-use Rattle.sql_eval.specs.Conditions.{is_kept}
 use Rattle.sql_eval.specs.Queries.{IsAnswer}
 use Rattle.sql_eval.specs.Writes.{written_table, changes_of}
 use Rattle.sql_eval.proofs.ChangeLemmas.{same_changes, rows-same}
@@ -38,8 +38,8 @@ use Rattle.shard_calls.specs.Pendings as stands
 use Rattle.shard_calls.specs.Pendings.{OpenView, Stands, IsAnywhere}
 use Rattle.route_engine.proofs.Going as g
 use Rattle.route_engine.proofs.Over.{nowhere_over}
-use Rattle.route_engine.proofs.Told.{answers_kept}
-use Rattle.route_engine.proofs.WholeWrites.{kept_nowhere, kept_over, filter_false, whole_changes}
+use Rattle.route_engine.proofs.SeatRows.{answers_kept_of, kept_nowhere}
+use Rattle.route_engine.proofs.WholeWrites.{whole_changes}
 
 -- a pass that has seen more, and no more commits of its session
 pub stands_met : (o : Opening) (p q : PassView Entry) (v : Option OpenView) (t : Option Transaction) → IsPrefix p.seen q.seen → q.session ≡ p.session
@@ -64,20 +64,16 @@ stands_met o p q _ _ more same own (stands.bound {v} {t} is) = stands.bound (rec
 
 module _ (o : Opening) (opens : IsOpening o) (formed : is_vschema o.schema ≡ true) where
   -- a query that needs no shard, over no rows
-  pub reads_nowhere : (q : Query) (selected : Selected) (seen : Run) → q.table < length o.schema.tables → (seats : List Seat) → IsPartition seats
-      → needed_for o q seats ≡ [] → selected.table ≡ q.table → selected.items ≡ q.items → IsAnswer q [] selected.rows
+  pub reads_nowhere : (q : Query) (selected : Selected) (seen : Run) → SourcesThere (length o.schema.tables) q → JoinsInPlace o.schema q → (seats : List Seat)
+      → IsPartition seats → needed_for o q seats ≡ [] → selected.table ≡ q.table → selected.join ≡ q.join → selected.items ≡ q.items → IsAnswer q [] selected.rows
       → IsAnywhere o (record { typed = typed.Select q; answer = Rows selected; on = None; seen = seen })
-  reads_nowhere q selected seen there seats partition none table items answer = record {
+  reads_nowhere q selected seen there joins seats partition none table join items answer = record {
     none = (seats, partition, none);
     on = refl;
     same = λ run legal.
-        let legal' = legal_is o run legal in
-        let rows : List Row = rows_of (one o run) q.table in
-        let keeps = kept_nowhere o opens formed run legal' q.table there seats partition q.filter none in
-        over.selects table items
-        (answers_kept q [] rows selected.rows
-        (sym (ap (filter (is_kept q.filter)) (filter_false o opens formed run legal' q.table there seats partition rows))
-        ∙ kept_over o opens formed run legal' q.table there seats partition q.filter (λ row. false) keeps) answer);
+        over.selects table join items
+        (answers_kept_of q [] (source_rows q (one o run)) selected.rows
+        (kept_nowhere o opens run (legal_is o run legal) q there joins seats partition none) answer);
   }
 
   -- a write that needs no shard

@@ -9,9 +9,10 @@ use Rattle.shard_run.specs.declared.Shard.{Shard}
 use Rattle.shard_run.specs.declared.Entry.{Entry}
 use Rattle.shard_run.specs.Runs.{Run, Opening, is_on, is_stored, stored_on}
 use Rattle.shard_contents.specs.declared.touch.Touch.{Touch}
-use Rattle.shard_contents.specs.Transactions.{changes_table, is_changed, is_conflict, is_touched, touched_with}
+use Rattle.shard_contents.specs.Transactions.{changes_table, is_changed, is_conflict, is_touched, touched_with, touched_all}
 use Rattle.shard.proofs.Conflicts.{stored_is}
-use Rattle.shard_calls.specs.Transactions.{Step, IsConflict, table_of}
+use Rattle.shard.proofs.Moves.{touch_of, all_touched}
+use Rattle.shard_calls.specs.Transactions.{Step, IsConflict, tables_of}
 use Rattle.shard_calls.specs.Pendings.{WasTouched, HasTouched}
 use Rattle.route_engine.proofs.Causes.{found}
 
@@ -74,34 +75,49 @@ early touched t all = by (is_touched touched t.table) refl (λ (x : Touch) h. h)
         last : is_touched touched t.table ≡ false → In t (touched_with touched t)
         last off = subst (λ (b : Bool). In t (cond b touched (touched ++ t ∷ []))) (sym off) (In-last t touched)
 
-some_is : (x y : ℕ) → Some x ≡ Some y → x ≡ y
-some_is x y e = ap (λ (m : Option ℕ). or m) e
-  where
-    or : Option ℕ → ℕ
-    or None = x
-    or (Some z) = z
+-- with several
+kept_all : (touched : List Touch) (ns : List ℕ) (stored : ℕ) (x : Touch) → In x touched → In x (touched_all touched ns stored)
+kept_all touched [] stored x h = h
+kept_all touched (n ∷ ns) stored x h = kept_all (touched_with touched (touch_of stored n)) ns stored x (kept touched (touch_of stored n) x h)
 
--- a statement more, which touches its table
-pub touched_more : (s : Shard) (touched : List Touch) (t : Touch) (steps : List Step) (last : Step) → AllByRecursion (HasTouched s touched) steps
-    → AllByRecursion (λ x. x.stored ≤ t.stored) touched → table_of last.typed ≡ Some t.table → t.stored ≤ length (stored_on s.slot last.seen)
-    → AllByRecursion (HasTouched s (touched_with touched t)) (steps ++ last ∷ [])
-touched_more s touched t steps last behind low table stored =
-    AllByRecursion-push (HasTouched s (touched_with touched t)) steps last
-    (all-weaker (HasTouched s touched) (HasTouched s (touched_with touched t))
+record EarlyOf (touched : List Touch) (ns : List ℕ) (stored n : ℕ) : Type 0 where
+  touch : Touch
+  is : In touch (touched_all touched ns stored)
+  table : touch.table ≡ n
+  low : touch.stored ≤ stored
+
+early_of : (touched : List Touch) (ns : List ℕ) (stored n : ℕ) → In n ns → AllByRecursion (λ x. x.stored ≤ stored) touched → EarlyOf touched ns stored n
+early_of touched [] stored n h all = absurd h
+early_of touched (m ∷ ns) stored n (inl same) all =
+    let f = early touched (touch_of stored m) all in
+    record { touch = f.touch; is = kept_all (touched_with touched (touch_of stored m)) ns stored f.touch f.is; table = f.table ∙ same; low = f.stored }
+early_of touched (m ∷ ns) stored n (inr h) all =
+    let f =
+    early_of (touched_with touched (touch_of stored m)) ns stored n h
+    (all_touched touched (touch_of stored m) (λ x. x.stored ≤ stored) all (omega arith)) in
+    record { touch = f.touch; is = f.is; table = f.table; low = f.low }
+
+-- a statement more, which touches its tables
+pub touched_more : (s : Shard) (touched : List Touch) (ns : List ℕ) (stored : ℕ) (steps : List Step) (last : Step) → AllByRecursion (HasTouched s touched) steps
+    → AllByRecursion (λ x. x.stored ≤ stored) touched → ((n : ℕ) → Contains (tables_of last.typed) n → In n ns) → stored ≤ length (stored_on s.slot last.seen)
+    → AllByRecursion (HasTouched s (touched_all touched ns stored)) (steps ++ last ∷ [])
+touched_more s touched ns stored steps last behind low tables before =
+    AllByRecursion-push (HasTouched s (touched_all touched ns stored)) steps last
+    (all-weaker (HasTouched s touched) (HasTouched s (touched_all touched ns stored))
     (λ step h n on of.
     let was = h n on of in
     record {
       touch = was.touch;
-      is = Contains-from_In was.touch (touched_with touched t) (kept touched t was.touch (In-from_Contains was.touch touched was.is));
+      is = Contains-from_In was.touch (touched_all touched ns stored) (kept_all touched ns stored was.touch (In-from_Contains was.touch touched was.is));
       table = was.table;
       stored = was.stored;
     }) steps behind)
     (λ n on of.
-    let f = early touched t low in
-    let a = f.stored in
+    let f = early_of touched ns stored n (tables n of) low in
+    let a = f.low in
     record {
       touch = f.touch;
-      is = Contains-from_In f.touch (touched_with touched t) f.is;
-      table = f.table ∙ some_is t.table n (sym table ∙ of);
-      stored = omega (arith, a, stored);
+      is = Contains-from_In f.touch (touched_all touched ns stored) f.is;
+      table = f.table;
+      stored = omega (arith, a, before);
     })

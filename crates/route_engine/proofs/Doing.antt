@@ -9,6 +9,7 @@ use Rattle.vschema.specs.declared.schema.Table.{Table}
 use Rattle.vschema.specs.declared.schema.Typed.{Typed}
 use Rattle.vschema.specs.declared.schema.Typed.TheVariants as typed
 use Rattle.vschema.specs.declared.changes.Write.{Write}
+use Rattle.vschema.specs.Sources.{SourcesThere, JoinsInPlace}
 use Rattle.vschema.specs.TypedWrites.{IsTypedWrite}
 use Rattle.vschema.specs.WellFormed.{is_vschema}
 use Rattle.sql_eval.specs.Queries.{IsAnswer}
@@ -68,18 +69,18 @@ module _ (o : Opening) (opens : IsOpening o) (formed : is_vschema o.schema ≡ t
   without_memory typed = record { from = λ tr st. t.no_memory ([], stays o p legal) }
 
   -- a query
-  module _ (q : Query) (there : q.table < length o.schema.tables) (table : Table) (table_is : table ≡ table_at o.schema q.table) (route : Route)
-      (route_is : route ≡ route_of table q.filter) where
+  module _ (q : Query) (there : SourcesThere (length o.schema.tables) q) (joins : JoinsInPlace o.schema q) (table : Table) (table_is : table ≡ table_at o.schema q.table) (route : Route)
+      (route_is : route ≡ route_of table q.join q.filter) where
     abbrev shown : List Row → List ShardRead → Reply
-    shown rows reads = record { answer = Rows (record { table = q.table; items = q.items; rows = rows }); reads = reads }
+    shown rows reads = record { answer = Rows (record { table = q.table; join = q.join; items = q.items; rows = rows }); reads = reads }
 
-    route_at : route ≡ route_of (table_at o.schema q.table) q.filter
-    route_at = route_is ∙ ap (λ (x : Table). route_of x q.filter) table_is
+    route_at : route ≡ route_of (table_at o.schema q.table) q.join q.filter
+    route_at = route_is ∙ ap (λ (x : Table). route_of x q.join q.filter) table_is
 
     needed_is : (seats : List Seat) → needed table route seats ≡ t.needed_for o q seats
     needed_is seats = ap (λ (x : Table). needed x route seats) table_is ∙ ap (λ (x : Route). needed (table_at o.schema q.table) x seats) route_at
 
-    seat_is : (b : BoundView) → IsSeatOf table route b → IsSeatOf (table_at o.schema q.table) (route_of (table_at o.schema q.table) q.filter) b
+    seat_is : (b : BoundView) → IsSeatOf table route b → IsSeatOf (table_at o.schema q.table) (route_of (table_at o.schema q.table) q.join q.filter) b
     seat_is b is = record {
       keyspace = is.keyspace ∙ ap (λ (x : Table). x.keyspace) table_is;
       seats = is.seats;
@@ -91,7 +92,7 @@ module _ (o : Opening) (opens : IsOpening o) (formed : is_vschema o.schema ≡ t
         → HasReadAt o b p v.pending q rows reads now pending
         → GoesOnIn o limits p v (typed.Select q) (shown rows reads) now (Some (record { bound = Some b; pending = pending }))
     read_goes b fits seat rows reads now pending has = record {
-      from = λ tr st. s.goes_read o opens formed limits p legal mine.session mine.is below v tr st b fits q there (seat_is b seat) rows reads now pending has;
+      from = λ tr st. s.goes_read o opens formed limits p legal mine.session mine.is below v tr st b fits q there joins (seat_is b seat) rows reads now pending has;
     }
 
     pub read_refused : (b : BoundView) → Fits v b → IsSeatOf table route b → (e : Refusal) (now : PassView Entry) → IsNotReadAt o b p v.pending e now
@@ -107,8 +108,8 @@ module _ (o : Opening) (opens : IsOpening o) (formed : is_vschema o.schema ≡ t
           subst (λ (l : List ShardRead). (u : Option Transaction) × GivesIn o limits p tr (typed.Select q) (shown rows l) (record { pass = p; tx = u }) × Stands o p (Some v) u)
           (sym no_reads)
           (s.goes_anywhere o opens formed limits p legal mine.session mine.is below v tr st (typed.Select q)
-          (Rows (record { table = q.table; items = q.items; rows = rows }))
-          (reads_nowhere o opens formed q (record { table = q.table; items = q.items; rows = rows }) p.seen there none.0 none.1 (sym (needed_is none.0) ∙ none.2) refl refl answer));
+          (Rows (record { table = q.table; join = q.join; items = q.items; rows = rows }))
+          (reads_nowhere o opens formed q (record { table = q.table; join = q.join; items = q.items; rows = rows }) p.seen there joins none.0 none.1 (sym (needed_is none.0) ∙ none.2) refl refl refl answer));
     }
 
     pub read_elsewhere : (b : BoundView) → v.bound ≡ Some b → NeedsOther table route b → IsRefusedStep o limits p v (typed.Select q) SeveralShards p

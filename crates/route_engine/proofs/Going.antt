@@ -1,5 +1,5 @@
 -- How an open transaction goes on: over a later run, by one more statement, and to its commit.
-use Rattle.std.proofs.Common.{◌≡◌, ℕ, ◌<◌, ◌≤◌, true, false, List, [], ◌∷◌, ◌++◌, length, get_or, flat_map, Option, Some, None, refl, sym, ap, subst, ◌∙◌}
+use Rattle.std.proofs.Common.{◌≡◌, ℕ, ◌≤◌, true, false, List, [], ◌∷◌, ◌++◌, length, get_or, flat_map, Option, Some, None, refl, sym, ap, subst, ◌∙◌}
 use Rattle.std.specs.List.{AllByRecursion}
 use Rattle.std.proofs.lemmas.List.{append-nil, append_assoc}
 use Rattle.std.proofs.lemmas.Grind.{flat_map-append}
@@ -11,13 +11,14 @@ use Rattle.vschema.specs.declared.schema.Typed.TheVariants as typed
 use Rattle.vschema.specs.declared.changes.Write.{Write}
 use Rattle.vschema.specs.declared.changes.RowChange.{RowChange}
 use Rattle.vschema.specs.Schema.{no_table}
-use Rattle.vschema.specs.Database.{all_applied}
+use Rattle.vschema.specs.Database.{rows_of, all_applied}
+use Rattle.vschema.specs.Sources.{source_tables, SourcesThere, JoinsInPlace}
 use Rattle.vschema.specs.TypedWrites.{IsTypedWrite}
 use Rattle.vschema.specs.WellFormed.{is_vschema}
 use Rattle.sql_eval.specs.Queries.{IsAnswer, Allowed}
 use Rattle.sql_eval.specs.Writes.{written_table, changes_over}
 use Rattle.journal.specs.Runs.{IsLegal, NumbersBelow}
-use Rattle.shard_law.proofs.Lists.{all-append}
+use Rattle.shard_law.proofs.Lists.{all-append, all-weaker}
 use Rattle.shard_run.specs.declared.Mode.TheVariants.{Serving}
 use Rattle.shard_run.specs.declared.Shard.{Shard}
 use Rattle.shard_run.specs.Runs.{Run, Opening, one, held, mode, stored_on}
@@ -25,14 +26,15 @@ use Rattle.shard_law.specs.Legal.{IsOnItsSlot, IsChangeOf}
 use Rattle.shard_run.specs.Openings.{IsOpening}
 use Rattle.shard_contents.specs.declared.touch.Touch.{Touch}
 use Rattle.shard_contents.specs.Shards.{MayFollow, commit_of}
-use Rattle.shard_contents.specs.Transactions.{PendingView, nothing_done, is_conflict, is_touched, touched_with, IsClear, IsTouchBy, IsPending}
-use Rattle.shard.proofs.Moves.{rows_after_stay, still_touched, now_touched, pending_later, pending_touches, pending_writes, pending_nothing}
+use Rattle.shard_contents.specs.Transactions.{PendingView, nothing_done, is_conflict, is_touched, touched_with, touched_all, IsClear, IsTouchBy, IsPending}
+use Rattle.shard.proofs.Moves.{rows_after_stay, still_touched, now_touched, touch_of, now_touched_all, pending_later, pending_touches_all, pending_writes, pending_nothing}
 use Rattle.shard_calls.specs.declared.reply.Selected.{Selected}
 use Rattle.shard_calls.specs.declared.reply.Answer.TheVariants.{Rows, Count}
 use Rattle.shard_calls.specs.Answers.{NeedsAlone}
 use Rattle.shard_calls.specs.Transactions.{Step, GiveOver, ReadsAlone, if_any, used, write_on, writes_in, with_step}
 use Rattle.shard_calls.specs.Pendings as p
 use Rattle.shard_calls.specs.Pendings.{AreTold, IsAnywhere}
+use Rattle.route_engine.proofs.SeatRows.{sources_same}
 use Rattle.route_engine.proofs.Told.{placed_on, lifted}
 
 module _ (o : Opening) (s : Shard) where
@@ -43,9 +45,12 @@ module _ (o : Opening) (s : Shard) where
         → AreTold o s new touched steps writes changes
     told_later _ _ _ p.none = p.none
     told_later _ writes changes (p.anywhere {steps} step told is) = p.anywhere step (told_later steps writes changes told) is
-    told_later _ writes changes (p.read {steps} q selected seen told alone there on table items allowed) =
-        p.read q selected seen (told_later steps writes changes told) alone there on table items
-        (subst (λ (rows : List Row). IsAnswer q rows selected.rows) (sym (rows_after_stay o s old new later legal touched touches clear changes q.table on)) allowed)
+    told_later _ writes changes (p.read {steps} q selected seen told alone there joins on table join items allowed) =
+        p.read q selected seen (told_later steps writes changes told) alone there joins on table join items
+        (subst (λ (rows : List Row). IsAnswer q rows selected.rows)
+        (sources_same q (all_applied changes (held o old s)) (all_applied changes (held o new s))
+        (all-weaker (λ n. is_touched touched n ≡ true) (λ n. rows_of (all_applied changes (held o old s)) n ≡ rows_of (all_applied changes (held o new s)) n)
+        (λ n h. sym (rows_after_stay o s old new later legal touched touches clear changes n h)) (source_tables q) on)) allowed)
     told_later _ _ _ (p.wrote {steps} {writes} {changes} w more seen told alone is on (exact, changed, all)) =
         p.wrote w more seen (told_later steps writes changes told) alone is on (
           exact,
@@ -59,10 +64,20 @@ module _ (o : Opening) (s : Shard) where
       → AreTold o s run touched steps writes changes → AreTold o s run (touched_with touched t) steps writes changes
   told_touches run touched t _ _ _ p.none = p.none
   told_touches run touched t _ writes changes (p.anywhere {steps} step told is) = p.anywhere step (told_touches run touched t steps writes changes told) is
-  told_touches run touched t _ writes changes (p.read {steps} q selected seen told alone there on table items allowed) =
-      p.read q selected seen (told_touches run touched t steps writes changes told) alone there (still_touched touched t q.table on) table items allowed
+  told_touches run touched t _ writes changes (p.read {steps} q selected seen told alone there joins on table join items allowed) =
+      p.read q selected seen (told_touches run touched t steps writes changes told) alone there joins
+      (all-weaker (λ n. is_touched touched n ≡ true) (λ n. is_touched (touched_with touched t) n ≡ true) (still_touched touched t) (source_tables q) on)
+      table join items allowed
   told_touches run touched t _ _ _ (p.wrote {steps} {writes} {changes} w more seen told alone is on changed) =
       p.wrote w more seen (told_touches run touched t steps writes changes told) alone is (still_touched touched t (written_table w) on) changed
+
+  -- and with several
+  pub told_touches_all : (run : Run) (touched : List Touch) (ns : List ℕ) (stored : ℕ) (steps : List Step) (writes : List Write) (changes : List RowChange)
+      → AreTold o s run touched steps writes changes → AreTold o s run (touched_all touched ns stored) steps writes changes
+  told_touches_all run touched [] stored steps writes changes told = told
+  told_touches_all run touched (n ∷ ns) stored steps writes changes told =
+      told_touches_all run (touched_with touched (touch_of stored n)) ns stored steps writes changes
+      (told_touches run touched (touch_of stored n) steps writes changes told)
 
   -- statements that need no shard
   told_from : (run : Run) (touched : List Touch) (front rest : List Step) → AreTold o s run touched front [] [] → AllByRecursion (IsAnywhere o) rest
@@ -91,7 +106,7 @@ module _ (o : Opening) (s : Shard) where
   told_writes run touched _ writes changes (p.anywhere {steps} step told is) =
       one_more (λ x. write_on x.on x.typed) steps step writes [] (told_writes run touched steps writes changes told) (no_write step.on step.typed is.on)
       ∙ append-nil writes
-  told_writes run touched _ writes changes (p.read {steps} q selected seen told alone there on table items allowed) =
+  told_writes run touched _ writes changes (p.read {steps} q selected seen told alone there joins on table join items allowed) =
       one_more (λ x. write_on x.on x.typed) steps (record { typed = typed.Select q; answer = Rows selected; on = Some s; seen = seen }) writes []
       (told_writes run touched steps writes changes told) refl ∙ append-nil writes
   told_writes run touched _ _ _ (p.wrote {steps} {writes} {changes} w more seen told alone is on changed) =
@@ -105,7 +120,7 @@ module _ (o : Opening) (s : Shard) where
   told_used run touched _ writes changes (p.anywhere {steps} step told is) =
       subst (AllByRecursion (λ u. u ≡ s)) (sym (one_more (λ x. if_any x.on) steps step (used steps) [] refl (ap if_any is.on) ∙ append-nil (used steps)))
       (told_used run touched steps writes changes told)
-  told_used run touched _ writes changes (p.read {steps} q selected seen told alone there on table items allowed) =
+  told_used run touched _ writes changes (p.read {steps} q selected seen told alone there joins on table join items allowed) =
       subst (AllByRecursion (λ u. u ≡ s))
       (sym (one_more (λ x. if_any x.on) steps (record { typed = typed.Select q; answer = Rows selected; on = Some s; seen = seen }) (used steps) (s ∷ []) refl refl))
       (all-append (λ u. u ≡ s) (used steps) (s ∷ []) (told_used run touched steps writes changes told) (refl, tt))
@@ -137,15 +152,16 @@ module _ (o : Opening) (s : Shard) where
   at_anywhere run tx steps step at is = record { pending = at.pending; told = p.anywhere step at.told is }
 
   -- a query
-  pub at_reads : (run : Run) (tx : PendingView) (steps : List Step) (t : Touch) (q : Query) (selected : Selected) → IsAt run tx steps → t.table ≡ q.table
-      → IsTouchBy o s run t → ReadsAlone o q s → q.table < length o.schema.tables → selected.table ≡ q.table
-      → selected.items ≡ q.items → Allowed q (all_applied tx.changes (held o run s)) selected.rows
-      → IsAt run (record tx { touched = touched_with tx.touched t }) (with_step steps (typed.Select q) (Rows selected) (Some s) run)
-  at_reads run tx steps t q selected at of touch alone there table items allowed = record {
-    pending = pending_touches o s run tx t at.pending touch;
+  pub at_reads : (run : Run) (tx : PendingView) (steps : List Step) (stored : ℕ) (q : Query) (selected : Selected) → IsAt run tx steps
+      → AllByRecursion (λ n. IsTouchBy o s run (touch_of stored n)) (source_tables q) → ReadsAlone o q s → SourcesThere (length o.schema.tables) q
+      → JoinsInPlace o.schema q → selected.table ≡ q.table → selected.join ≡ q.join → selected.items ≡ q.items
+      → Allowed q (all_applied tx.changes (held o run s)) selected.rows
+      → IsAt run (record tx { touched = touched_all tx.touched (source_tables q) stored }) (with_step steps (typed.Select q) (Rows selected) (Some s) run)
+  at_reads run tx steps stored q selected at touch alone there joins table join items allowed = record {
+    pending = pending_touches_all o s run tx (source_tables q) stored at.pending touch;
     told =
-        p.read q selected run (told_touches run tx.touched t steps tx.writes tx.changes at.told) alone there
-        (subst (λ n. is_touched (touched_with tx.touched t) n ≡ true) of (now_touched tx.touched t)) table items allowed;
+        p.read q selected run (told_touches_all run tx.touched (source_tables q) stored steps tx.writes tx.changes at.told) alone there joins
+        (now_touched_all tx.touched (source_tables q) stored) table join items allowed;
   }
 
   -- a write

@@ -1,5 +1,5 @@
 -- One statement of an open transaction, from what its shard did, and what then stands.
-use Rattle.std.proofs.Common.{true, ◌≡◌, ◌≢◌, ℕ, ◌<◌, ◌≤◌, false, List, [], ◌∷◌, ◌++◌, length, filter, flat_map, Option, Some, None, refl, sym, ap, subst, ◌∙◌, arith}
+use Rattle.std.proofs.Common.{true, ◌≡◌, ◌≢◌, ℕ, inl, ◌<◌, ◌≤◌, false, List, [], ◌∷◌, ◌++◌, length, filter, flat_map, Option, Some, None, refl, sym, ap, subst, ◌∙◌, arith}
 use Rattle.std.specs.Prelude.{Contains}
 use Rattle.std.specs.List.{AllByRecursion}
 use Rattle.std.proofs.lemmas.Grind.{flat_map-append}
@@ -8,13 +8,14 @@ use Rattle.vschema.specs.declared.schema.Query.{Query}
 use Rattle.vschema.specs.declared.schema.Typed.TheVariants as typed
 use Rattle.vschema.specs.declared.changes.Write.{Write}
 use Rattle.vschema.specs.Database.{all_applied}
+use Rattle.vschema.specs.Sources.{source_tables, SourcesThere, JoinsInPlace}
 use Rattle.vschema.specs.TypedWrites.{IsTypedWrite}
 use Rattle.vschema.specs.WellFormed.{is_vschema}
 use Rattle.sql_eval.specs.Writes.{written_table}
 use Rattle.journal.specs.Runs.{IsLegal, NumbersBelow, by_session}
 use Rattle.journal.specs.Views.{PassView}
 use Rattle.journal.proofs.Fronts.{prefix_self, prefix_trans, legal_prefix}
-use Rattle.shard_law.proofs.Lists.{Contains-from_In, In-from_Contains, In-left, In-last, all-weaker}
+use Rattle.shard_law.proofs.Lists.{In, Contains-from_In, In-from_Contains, In-left, In-last, all-weaker, all-each, all-from_In}
 use Rattle.shard_run.specs.declared.Mode.TheVariants.{Serving}
 use Rattle.shard_run.specs.declared.Shard.{Shard}
 use Rattle.shard_run.specs.declared.Entry.{Entry}
@@ -24,13 +25,13 @@ use Rattle.shard_run.specs.Openings.{IsOpening}
 use Rattle.shard_contents.specs.declared.limits.Limits.{Limits}
 use Rattle.shard_contents.specs.declared.touch.Touch.{Touch}
 use Rattle.shard_contents.specs.Shards.{MayFollow, HasLooked, commit_of}
-use Rattle.shard_contents.specs.Transactions.{PendingView, nothing_done, touched_with, IsClear, IsTouchBy, IsPending, HasReadIn, HasWrittenIn, HasCommittedAll, entry_of}
-use Rattle.shard.proofs.Moves.{all_touched}
+use Rattle.shard_contents.specs.Transactions.{PendingView, nothing_done, touched_with, touched_all, IsClear, IsTouchBy, IsPending, HasReadIn, HasWrittenIn, HasCommittedAll, entry_of}
+use Rattle.shard.proofs.Moves.{all_touched, touch_of, all_touched_all}
 use Rattle.shard_calls.specs.declared.reply.Selected.{Selected}
 use Rattle.shard_calls.specs.declared.reply.Answer.TheVariants.{Rows, Count}
 use Rattle.shard_calls.specs.Answers.{NeedsAlone}
 use Rattle.shard_calls.specs.Transactions as gives
-use Rattle.shard_calls.specs.Transactions.{Step, Transaction, Standing, GiveOver, AreOver, GivesIn, IsCommitted, IsConflict, ReadsAlone, table_of, if_any, used, writes_in, with_step, reads_of}
+use Rattle.shard_calls.specs.Transactions.{Step, Transaction, Standing, GiveOver, AreOver, GivesIn, IsCommitted, IsConflict, ReadsAlone, tables_of, if_any, used, writes_in, with_step, reads_of}
 use Rattle.shard_calls.specs.Pendings as stands
 use Rattle.shard_calls.specs.Pendings.{OpenView, BoundView, IsBound, IsTouchOf, HasTouched, Stands, IsAnywhere, AreTold, bound_of}
 use Rattle.route_engine.proofs.Going as g
@@ -60,14 +61,17 @@ module _ (o : Opening) (opens : IsOpening o) (formed : is_vschema o.schema ≡ t
   undisturbed : IsClear o s now.seen v → IsConflict o s p.session now.seen t.steps → ⊥
   undisturbed clear = no_conflict o s now.seen p.session t.steps v.touched ready.behind clear.unchanged
 
-  -- with one more statement, which touches a table
-  behind_more : (last : Step) (touch : Touch) → IsClear o s now.seen v → table_of last.typed ≡ Some touch.table → last.seen ≡ now.seen
-      → touch.stored ≡ length (stored_on s.slot now.seen) → AllByRecursion (HasTouched s (touched_with v.touched touch)) (t.steps ++ last ∷ [])
-  behind_more last touch clear table seen stored =
-      touched_more s v.touched touch t.steps last ready.behind
-      (all-weaker (IsTouchBy o s now.seen) (λ x. x.stored ≤ touch.stored) (λ x h. let low = h.stored in omega (arith, low, stored)) v.touched
-      (at_then clear).pending.touches) table
-      (let e = ap (λ (r : Run). length (stored_on s.slot r)) seen in omega (arith, e, stored))
+  -- how many entries the shard has stored by then
+  abbrev stored_now : ℕ
+  stored_now = length (stored_on s.slot now.seen)
+
+  -- with one more statement, which touches its tables
+  behind_more : (last : Step) (ns : List ℕ) → IsClear o s now.seen v → ((n : ℕ) → Contains (tables_of last.typed) n → In n ns) → last.seen ≡ now.seen
+      → AllByRecursion (HasTouched s (touched_all v.touched ns stored_now)) (t.steps ++ last ∷ [])
+  behind_more last ns clear tables seen =
+      touched_more s v.touched ns stored_now t.steps last ready.behind
+      (all-weaker (IsTouchBy o s now.seen) (λ x. x.stored ≤ stored_now) (λ x h. h.stored) v.touched (at_then clear).pending.touches) tables
+      (let e = ap (λ (r : Run). length (stored_on s.slot r)) seen in omega (arith, e))
 
   contains_more : (steps : List Step) (step last : Step) → Contains steps step → Contains (steps ++ last ∷ []) step
   contains_more steps step last h = Contains-from_In step (steps ++ last ∷ []) (In-left step steps (last ∷ []) (In-from_Contains step steps h))
@@ -86,7 +90,7 @@ module _ (o : Opening) (opens : IsOpening o) (formed : is_vschema o.schema ≡ t
         own = λ n mine. h.own n (ap (λ (q : PassView Entry). q.session) (sym looked.pass) ∙ mine);
       }) v.touched ready.touches
 
-  touch_last : (last : Step) (x : Touch) → last.on ≡ Some s → table_of last.typed ≡ Some x.table → last.seen ≡ now.seen → mode o now.seen s.slot ≡ Serving
+  touch_last : (last : Step) (x : Touch) → last.on ≡ Some s → Contains (tables_of last.typed) x.table → last.seen ≡ now.seen → mode o now.seen s.slot ≡ Serving
       → x.stored ≡ length (stored_on s.slot now.seen) → IsTouchOf o s now.session now.seen (t.steps ++ last ∷ []) x
   touch_last last x on table seen serves stored = record {
     step = last;
@@ -103,9 +107,9 @@ module _ (o : Opening) (opens : IsOpening o) (formed : is_vschema o.schema ≡ t
   in_use last on =
       let one : if_any last.on ≡ s ∷ [] = ap if_any on in
       Contains-from_In s (used (t.steps ++ last ∷ []))
-      (subst (Rattle.shard_law.proofs.Lists.In s) (sym (flat_map-append (λ (x : Step). if_any x.on) t.steps (last ∷ [])))
+      (subst (In s) (sym (flat_map-append (λ (x : Step). if_any x.on) t.steps (last ∷ [])))
       (Rattle.shard_law.proofs.Lists.In-right s (used t.steps) (if_any last.on ++ [])
-      (subst (λ (l : List Shard). Rattle.shard_law.proofs.Lists.In s (l ++ [])) (sym one) (Rattle.std.proofs.Common.inl refl))))
+      (subst (λ (l : List Shard). In s (l ++ [])) (sym one) (inl refl))))
 
   -- it is bound as before, or from now on, one statement further
   further : (pending : PendingView) (last : Step) → last.on ≡ Some s → mode o now.seen s.slot ≡ Serving → g.IsAt o s now.seen pending (t.steps ++ last ∷ [])
@@ -127,27 +131,28 @@ module _ (o : Opening) (opens : IsOpening o) (formed : is_vschema o.schema ≡ t
   })
 
   -- A query.
-  pub reads_in : (q : Query) (selected : Selected) (entries : ℕ) (pending : PendingView) → ReadsAlone o q s → q.table < length o.schema.tables
-      → selected.table ≡ q.table → selected.items ≡ q.items → HasReadIn o s v now.seen q selected.rows entries pending
+  pub reads_in : (q : Query) (selected : Selected) (entries : ℕ) (pending : PendingView) → ReadsAlone o q s → SourcesThere (length o.schema.tables) q
+      → JoinsInPlace o.schema q → selected.table ≡ q.table → selected.join ≡ q.join → selected.items ≡ q.items → HasReadIn o s v now.seen q selected.rows entries pending
       → GivesIn o limits p t (typed.Select q) (record { answer = Rows selected; reads = record { slot = s.slot; entries = entries } ∷ [] })
       (record { pass = now; tx = Some (record { at = now.seen; steps = with_step t.steps (typed.Select q) (Rows selected) (Some s) now.seen }) })
       × Stands o now (Some (record { bound = Some (bound_of s); pending = pending }))
       (Some (record { at = now.seen; steps = with_step t.steps (typed.Select q) (Rows selected) (Some s) now.seen }))
-  reads_in q selected entries pending alone there table items has =
+  reads_in q selected entries pending alone there joins table join items has =
       let last : Step = record { typed = typed.Select q; answer = Rows selected; on = Some s; seen = now.seen } in
-      let touch : Touch = record { table = q.table; stored = length (stored_on s.slot now.seen) } in
-      let next : PendingView = record v { touched = touched_with v.touched touch } in
+      let next : PendingView = record v { touched = touched_all v.touched (source_tables q) stored_now } in
       let serves = has.clear.serving in
-      let at = g.at_reads o s now.seen v t.steps touch q selected (at_then has.clear) refl (record { serving = serves; stored = omega arith }) alone there
-      table items has.allowed in
+      let at = g.at_reads o s now.seen v t.steps stored_now q selected (at_then has.clear)
+      (all-each (λ n. IsTouchBy o s now.seen (touch_of stored_now n)) (λ n. record { serving = serves; stored = omega arith }) (source_tables q)) alone there joins
+      table join items has.allowed in
       let over = g.at_over o s opens formed now.seen next (t.steps ++ last ∷ []) at ready.on_slot serves session number low in
-      let touches = all_touched v.touched touch (IsTouchOf o s now.session now.seen (t.steps ++ last ∷ [])) (touches_more last)
-      (touch_last last touch refl refl refl serves refl) in (
+      let touches = all_touched_all (IsTouchOf o s now.session now.seen (t.steps ++ last ∷ [])) v.touched (source_tables q) stored_now (touches_more last)
+      (all-from_In (λ n. IsTouchOf o s now.session now.seen (t.steps ++ last ∷ []) (touch_of stored_now n)) (source_tables q)
+      (λ n h. touch_last last (touch_of stored_now n) refl (Contains-from_In n (source_tables q) h) refl serves refl)) in (
         subst (λ (n : ℕ). GivesIn o limits p t (typed.Select q) (record { answer = Rows selected; reads = record { slot = s.slot; entries = n } ∷ [] })
             (record { pass = now; tx = Some (record { at = now.seen; steps = t.steps ++ last ∷ [] }) })) (sym has.count)
             (gives.on_shard s alone ready.alone looked serves (undisturbed has.clear) (all_applied next.changes (one o now.seen), over)),
         subst (λ (x : PendingView). Stands o now (Some (record { bound = Some (bound_of s); pending = x })) (Some (record { at = now.seen; steps = t.steps ++ last ∷ [] })))
-            (sym has.touch) (further next last refl serves at touches (behind_more last touch has.clear refl refl refl)),
+            (sym has.touch) (further next last refl serves at touches (behind_more last (source_tables q) has.clear (λ n h. In-from_Contains n (source_tables q) h) refl)),
       )
 
   -- A write.
@@ -170,14 +175,15 @@ module _ (o : Opening) (opens : IsOpening o) (formed : is_vschema o.schema ≡ t
       let at = g.at_writes o s now.seen v t.steps touch w has.changes (at_then has.clear) refl (record { serving = serves; stored = omega arith }) alone is has.changed in
       let over = g.at_over o s opens formed now.seen next (t.steps ++ last ∷ []) at ready.on_slot serves session number low in
       let touches = all_touched v.touched touch (IsTouchOf o s now.session now.seen (t.steps ++ last ∷ [])) (touches_more last)
-      (touch_last last touch refl refl refl serves refl) in
+      (touch_last last touch refl (Contains-from_In (written_table w) (written_table w ∷ []) (inl refl)) refl serves refl) in
       subst (λ (k : ℕ). GivesIn o limits p t (typed.Write w) (record { answer = Count k; reads = [] })
       (record { pass = now; tx = Some (record { at = now.seen; steps = with_step t.steps (typed.Write w) (Count k) (Some s) now.seen }) })
       × Stands o now (Some (record { bound = Some (bound_of s); pending = pending }))
       (Some (record { at = now.seen; steps = with_step t.steps (typed.Write w) (Count k) (Some s) now.seen }))) (sym has.counted) (
         gives.on_shard s alone ready.alone looked serves (undisturbed has.clear) (all_applied next.changes (one o now.seen), over),
         subst (λ (x : PendingView). Stands o now (Some (record { bound = Some (bound_of s); pending = x })) (Some (record { at = now.seen; steps = t.steps ++ last ∷ [] })))
-            (sym has.kept) (further next last refl serves at touches (behind_more last touch has.clear refl refl refl)),
+            (sym has.kept) (further next last refl serves at touches
+            (behind_more last (written_table w ∷ []) has.clear (λ n h. In-from_Contains n (written_table w ∷ []) h) refl)),
       )
 
   -- A commit that has read alone.

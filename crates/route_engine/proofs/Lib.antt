@@ -8,6 +8,7 @@ pub mod Refusals
 pub mod Replies
 pub mod Sessions
 pub mod Everywhere
+pub mod SeatRows
 pub mod Scattering
 pub mod Trying
 pub mod NoOthers

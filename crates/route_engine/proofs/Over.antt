@@ -13,7 +13,8 @@ use Rattle.vschema.specs.declared.schema.Typed.TheVariants as typed
 use Rattle.vschema.specs.declared.schema.VSchema.{VSchema}
 use Rattle.vschema.specs.declared.changes.Write.{Write}
 use Rattle.vschema.specs.declared.changes.RowChange.{RowChange}
-use Rattle.vschema.specs.Database.{Database, rows_of, restrict, applied, all_applied}
+use Rattle.vschema.specs.Database.{Database, restrict, applied, all_applied}
+use Rattle.vschema.specs.Sources.{SourcesThere, JoinsInPlace}
 use Rattle.vschema.specs.TypedStatement.{typed_statement}
 use Rattle.vschema.specs.TypedWrites.{IsTypedWrite}
 use Rattle.vschema.specs.WellFormed.{is_vschema}
@@ -46,11 +47,11 @@ use Rattle.route_engine.specs.inner.Answers.{IsReply, IsRefused, IsRefusal}
 use Rattle.shard_calls.specs.Alone as over
 use Rattle.shard_calls.specs.Alone.{NoOthers, NoCommits, GivesOver, IsRefusedOver}
 use Rattle.route_engine.specs.inner.Alone.{AnswersOver}
-use Rattle.route_engine.proofs.Everywhere.{same_moment}
-use Rattle.sql_eval.proofs.SameAnswers.{same_answers}
+use Rattle.route_engine.proofs.SeatRows.{mixed_sources}
+use Rattle.sql_eval.proofs.SameAnswers.{same_sources}
 use Rattle.route_engine.proofs.NoOthers.{one_still, still_self, still_trans, still_between, gone_unchanged, gone_same, looked_unchanged, committed_at, up_to, behind}
 use Rattle.route_engine.proofs.Sessions.{is_typed}
-use Rattle.route_engine.proofs.Theirs.{query_there}
+use Rattle.route_engine.proofs.Theirs.{query_there, query_joins}
 use Rattle.route_engine.proofs.Trying.{same_session}
 use Rattle.route_engine.proofs.WholeWrites.{whole_changes, no_changes}
 
@@ -152,15 +153,15 @@ module _ (o : Opening) (opens : IsOpening o) (formed : is_vschema o.schema ≡ t
 
   -- a query
   pub selected_over : (q : Query) (selected : Rattle.shard_calls.specs.declared.reply.Selected.Selected) (reads : List Rattle.shard_calls.specs.declared.reply.ShardRead.ShardRead)
-      → q.table < length o.schema.tables → IsSelected o p (table_at o.schema q.table) q selected reads now
+      → SourcesThere (length o.schema.tables) q → JoinsInPlace o.schema q → IsSelected o p (table_at o.schema q.table) q selected reads now
       → GivesOver o.schema (one o p.seen) (typed.Select q) (Rows selected) (one o now.seen)
-  selected_over q selected reads there is =
+  selected_over q selected reads there joins is =
       let same = gone_unchanged p now alone o is.added is.gone in
-      let rows = same_moment o q.table there p.seen is.parts (same_runs is.parts is.mix.between same) is.mix.named is.mix.whole in
+      let rows = mixed_sources o q there joins p.seen is.parts (same_runs is.parts is.mix.between same) is.mix.named is.mix.whole in
       let answer : Allowed q (one o p.seen) selected.rows =
-      same_answers q (rows_of (mixed_rows o (table_at o.schema q.table).keyspace is.parts) q.table) (rows_of (one o p.seen) q.table) selected.rows rows is.allowed in
+      same_sources q (mixed_rows o (table_at o.schema q.table).keyspace is.parts) (one o p.seen) selected.rows rows is.allowed in
       subst (λ (db : Database). GivesOver o.schema (one o p.seen) (typed.Select q) (Rows selected) db) (sym (one_still o p.seen now.seen same))
-      (over.selects is.table is.items answer)
+      (over.selects is.table is.join is.items answer)
 
   -- a write
   pub committed_over : (w : Write) (s : Shard) (count : ℕ) → NeedsAlone o w s → HasCommitted o l s p w count now
@@ -208,7 +209,7 @@ module _ (o : Opening) (opens : IsOpening o) (formed : is_vschema o.schema ≡ t
   gives_over : (p : PassView Entry) (t : Typed) (reply : Reply) (now : PassView Entry) → Gives o l p t reply now → typed_statement o.schema tree ≡ Ok t
       → IsLegal (MayFollow o) p.seen → NoOthers p now → GivesOver o.schema (one o p.seen) t reply.answer (one o now.seen)
   gives_over p _ _ now (a.selects {query} (a.read {selected} {reads} is)) typed_is legal alone =
-      selected_over o opens formed l p now alone query selected reads (query_there o.schema tree query typed_is) is
+      selected_over o opens formed l p now alone query selected reads (query_there o.schema tree query typed_is) (query_joins o.schema tree query typed_is) is
   gives_over p _ _ now (a.writes {w} (a.nowhere seats partition none gone)) typed_is legal alone =
       left_over o opens formed l p now alone w (is_typed o.schema tree w typed_is) legal seats partition none gone
   gives_over p _ _ now (a.writes {w} (a.wrote {count} {since} s needed gone c)) typed_is legal alone =

@@ -16,6 +16,7 @@ use Rattle.vschema.specs.declared.schema.Typed.{Typed}
 use Rattle.vschema.specs.declared.schema.Typed.TheVariants as typed
 use Rattle.vschema.specs.declared.changes.Write.{Write}
 use Rattle.vschema.specs.Database.{all_applied}
+use Rattle.vschema.specs.Sources.{SourcesThere, JoinsInPlace}
 use Rattle.vschema.specs.TypedWrites.{IsTypedWrite}
 use Rattle.vschema.specs.WellFormed.{is_vschema}
 use Rattle.sql_eval.specs.Queries.{IsAnswer}
@@ -163,7 +164,7 @@ module _ (o : Opening) (opens : IsOpening o) (formed : is_vschema o.schema ≡ t
         }),
       )
 
-  reads_alone : (q : Query) (b : BoundView) → IsSeatOf (table_at o.schema q.table) (route_of (table_at o.schema q.table) q.filter) b → (s : Shard)
+  reads_alone : (q : Query) (b : BoundView) → IsSeatOf (table_at o.schema q.table) (route_of (table_at o.schema q.table) q.join q.filter) b → (s : Shard)
       → bound_of s ≡ b → ReadsAlone o q s
   reads_alone q b seat s same = record {
     seats = seat.seats;
@@ -186,28 +187,28 @@ module _ (o : Opening) (opens : IsOpening o) (formed : is_vschema o.schema ≡ t
     fits_at s same = subst (Fits v) (sym same) fits
 
     -- a query on its shard
-    pub goes_read : (q : Query) → q.table < length o.schema.tables
-        → IsSeatOf (table_at o.schema q.table) (route_of (table_at o.schema q.table) q.filter) b → (rows : List Row) (reads : List ShardRead)
+    pub goes_read : (q : Query) → SourcesThere (length o.schema.tables) q → JoinsInPlace o.schema q
+        → IsSeatOf (table_at o.schema q.table) (route_of (table_at o.schema q.table) q.join q.filter) b → (rows : List Row) (reads : List ShardRead)
         (now : PassView Entry) (pending : PendingView) → HasReadAt o b p v.pending q rows reads now pending
         → (u : Option Transaction) × GivesIn o limits p tr (typed.Select q)
-        (record { answer = Rows (record { table = q.table; items = q.items; rows = rows }); reads = reads }) (record { pass = now; tx = u })
+        (record { answer = Rows (record { table = q.table; join = q.join; items = q.items; rows = rows }); reads = reads }) (record { pass = now; tx = u })
         × Stands o now (Some (record { bound = Some b; pending = pending })) u
-    goes_read q there seat rows reads now pending has =
+    goes_read q there joins seat rows reads now pending has =
         let s = has.shard in
         let ready = ready_at v tr st s now (fits_at s has.is) has.stands has.looked in
         let done = i.reads_in o opens formed limits s p now v.pending tr ready session p.statements (low_at now.seen (has.looked.own session mine))
-        q (record { table = q.table; items = q.items; rows = rows }) has.entries pending (reads_alone q b seat s has.is) there refl refl has.read in (
-          Some (record { at = now.seen; steps = with_step tr.steps (typed.Select q) (Rows (record { table = q.table; items = q.items; rows = rows })) (Some s) now.seen }),
+        q (record { table = q.table; join = q.join; items = q.items; rows = rows }) has.entries pending (reads_alone q b seat s has.is) there joins refl refl refl has.read in (
+          Some (record { at = now.seen; steps = with_step tr.steps (typed.Select q) (Rows (record { table = q.table; join = q.join; items = q.items; rows = rows })) (Some s) now.seen }),
           subst (λ (l : List ShardRead). GivesIn o limits p tr (typed.Select q)
-              (record { answer = Rows (record { table = q.table; items = q.items; rows = rows }); reads = l })
-              (record { pass = now; tx = Some (record { at = now.seen; steps = with_step tr.steps (typed.Select q) (Rows (record { table = q.table; items = q.items; rows = rows })) (Some s) now.seen }) }))
+              (record { answer = Rows (record { table = q.table; join = q.join; items = q.items; rows = rows }); reads = l })
+              (record { pass = now; tx = Some (record { at = now.seen; steps = with_step tr.steps (typed.Select q) (Rows (record { table = q.table; join = q.join; items = q.items; rows = rows })) (Some s) now.seen }) }))
               (sym has.reads_are) done.0,
           subst (λ (x : BoundView). Stands o now (Some (record { bound = Some x; pending = pending }))
-              (Some (record { at = now.seen; steps = with_step tr.steps (typed.Select q) (Rows (record { table = q.table; items = q.items; rows = rows })) (Some s) now.seen })))
+              (Some (record { at = now.seen; steps = with_step tr.steps (typed.Select q) (Rows (record { table = q.table; join = q.join; items = q.items; rows = rows })) (Some s) now.seen })))
               has.is done.1,
         )
 
-    pub not_read : (q : Query) → IsSeatOf (table_at o.schema q.table) (route_of (table_at o.schema q.table) q.filter) b → (e : Refusal)
+    pub not_read : (q : Query) → IsSeatOf (table_at o.schema q.table) (route_of (table_at o.schema q.table) q.join q.filter) b → (e : Refusal)
         (now : PassView Entry) → IsNotReadAt o b p v.pending e now → IsRefusedIn o limits p tr (typed.Select q) e (record { pass = now; tx = left_by e tr })
     not_read q seat _ _ w.no_memory = t.no_memory ([], stays o p legal)
     not_read q seat e now (w.refused s same on looked why) =

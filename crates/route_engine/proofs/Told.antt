@@ -7,15 +7,13 @@ use Rattle.vschema.specs.declared.schema.Typed.TheVariants as typed
 use Rattle.vschema.specs.declared.schema.Table.{Table}
 use Rattle.vschema.specs.declared.changes.Write.{Write}
 use Rattle.vschema.specs.declared.changes.RowChange.{RowChange}
-use Rattle.vschema.specs.Checks.{is_aggregated}
-use Rattle.vschema.specs.Database.{Database, SameRows, rows_of, restrict, lies_in, all_applied}
+use Rattle.vschema.specs.Database.{Database, SameRows, restrict, all_applied}
+use Rattle.vschema.specs.Sources.{source_rows, SourcesThere, JoinsInPlace}
 use Rattle.vschema.specs.TypedWrites.{IsTypedWrite}
 use Rattle.vschema.specs.WellFormed.{is_vschema}
-use Rattle.sql_eval.specs.Conditions.{is_kept}
-use Rattle.sql_eval.specs.Queries.{Keyed, kept_rows, keyed_row, keyed_groups, IsAnswer, Allowed}
+use Rattle.sql_eval.specs.Queries.{Allowed}
 use Rattle.sql_eval.specs.Writes.{written_table}
-use Rattle.sql_eval.proofs.ChangeLemmas.{rows-same}
-use Rattle.sql_eval.proofs.SameAnswers.{same_answers}
+use Rattle.sql_eval.proofs.SameAnswers.{same_allowed}
 use Rattle.planner.specs.Routes.{table_at}
 use Rattle.journal.specs.Runs.{IsLegal, NumbersBelow}
 use Rattle.shard_run.specs.declared.Mode.TheVariants.{Serving}
@@ -40,17 +38,9 @@ use Rattle.shard_calls.specs.Alone.{GivesOver}
 use Rattle.shard_calls.specs.Transactions.{Step, GiveOver, none, next, ReadsAlone}
 use Rattle.shard_calls.specs.Pendings as p
 use Rattle.shard_calls.specs.Pendings.{AreTold, IsAnywhere}
-use Rattle.route_engine.proofs.Everywhere.{rows_restricted}
+use Rattle.route_engine.proofs.SeatRows.{answers_kept_of, kept_alone}
 use Rattle.route_engine.proofs.Trying.{placed}
-use Rattle.route_engine.proofs.WholeWrites.{Keeps, kept_here, kept_over, whole_changes}
-
--- an answer sees the rows that the query keeps alone
-pub answers_kept : (q : Query) (xs ys list : List Row) → filter (is_kept q.filter) xs ≡ filter (is_kept q.filter) ys → IsAnswer q xs list → IsAnswer q ys list
-answers_kept q xs ys list same (arranged, all, sorted, is) =
-    (arranged, subst (λ (l : List Keyed). IsPermutation l arranged) kept_same all, sorted, is)
-  where
-    kept_same : kept_rows q xs ≡ kept_rows q ys
-    kept_same = ap (λ (l : List Row). cond (is_aggregated q) (keyed_groups q l) (map (keyed_row q) l)) same
+use Rattle.route_engine.proofs.WholeWrites.{whole_changes}
 
 -- the rows that a write adds lie in the place of the one shard that it needs
 pub placed_on : (o : Opening) (w : Write) → IsTypedWrite o.schema w → (s : Shard) → NeedsAlone o w s → IsPlaced o.schema s.place w
@@ -61,22 +51,17 @@ placed_on o w is s alone =
 module _ (o : Opening) (opens : IsOpening o) (formed : is_vschema o.schema ≡ true) (s : Shard) where
   -- a query over the rows of the one shard that it needs
   pub read_over : (run : Run) → IsOnItsSlot o run s → IsLegal (MayFollow o) run → mode o run s.slot ≡ Serving → (q : Query)
-      → q.table < length o.schema.tables → ReadsAlone o q s → (list : List Row) → Allowed q (held o run s) list → Allowed q (one o run) list
-  read_over run stands legal serves q there alone list allowed =
-      let n = q.table in
-      let t : Table = table_at o.schema n in
+      → SourcesThere (length o.schema.tables) q → JoinsInPlace o.schema q → ReadsAlone o q s → (list : List Row) → Allowed q (held o run s) list
+      → Allowed q (one o run) list
+  read_over run stands legal serves q there joins alone list allowed =
       let here : Database = restrict o.schema s.place (one o run) in
       let part : SameRows (held o run s) here = part_held o opens run s stands (ap is_serving serves) legal in
-      let same : IsPermutation (rows_of (held o run s) n) (rows_of here n) = rows-same (held o run s) here part n in
-      let over_here : IsAnswer q (rows_of here n) list = same_answers q (rows_of (held o run s) n) (rows_of here n) list same allowed in
-      let rows_here : rows_of here n ≡ filter (lies_in s.place t) (rows_of (one o run) n) = rows_restricted o.schema.tables s.place (one o run) n there in
-      let legal' = legal_is o run legal in
-      let keeps : Keeps o opens formed run legal' n there alone.seats alone.partition q.filter (lies_in s.place t) =
-      subst (λ (k : ℕ). Keeps o opens formed run legal' n there alone.seats alone.partition q.filter (lies_in (record { keyspace = k; range = s.place.range }) t))
-      (sym alone.keyspace) (kept_here o opens formed run legal' n there alone.seats alone.partition q.filter (seat_of s) alone.only) in
-      answers_kept q (rows_of here n) (rows_of (one o run) n) list
-      (ap (filter (is_kept q.filter)) rows_here
-      ∙ kept_over o opens formed run legal' n there alone.seats alone.partition q.filter (lies_in s.place t) keeps) over_here
+      let over_here : Allowed q here list = same_allowed q (held o run s) here list part allowed in
+      let over_place : Allowed q (restrict o.schema (record { keyspace = (table_at o.schema q.table).keyspace; range = s.place.range }) (one o run)) list =
+      subst (λ (k : ℕ). Allowed q (restrict o.schema (record { keyspace = k; range = s.place.range }) (one o run)) list) alone.keyspace over_here in
+      answers_kept_of q (source_rows q (restrict o.schema (record { keyspace = (table_at o.schema q.table).keyspace; range = s.place.range }) (one o run)))
+      (source_rows q (one o run)) list
+      (kept_alone o opens run (legal_is o run legal) q there joins alone.seats alone.partition (seat_of s) alone.only) over_place
 
   -- a write over the rows of the one shard that it needs
   pub wrote_over : (run : Run) → IsOnItsSlot o run s → IsLegal (MayFollow o) run → mode o run s.slot ≡ Serving → (w : Write)
@@ -110,7 +95,7 @@ module _ (o : Opening) (opens : IsOpening o) (formed : is_vschema o.schema ≡ t
               next step rest.over
               (subst (λ (d : Database). GivesOver o.schema d step.typed step.answer d) one_is (is.same (run ++ e ∷ []) then));
         }
-    lifted _ writes changes (p.read {steps} q selected seen told alone there on table items allowed) =
+    lifted _ writes changes (p.read {steps} q selected seen told alone there joins on table join items allowed) =
         let rest = lifted steps writes changes told in
         let e : Entry = entry_of s session number writes changes in
         let then = legal_then o opens s run stands legal serves session number low writes changes rest.may in
@@ -119,13 +104,13 @@ module _ (o : Opening) (opens : IsOpening o) (formed : is_vschema o.schema ≡ t
         let held_is = held_then o opens s run stands legal serves session number low writes changes rest.may in
         let serving = serves_then o opens s run stands legal serves session number low writes changes rest.may in
         let answer =
-        read_over (run ++ e ∷ []) slot_then then serving q there alone selected.rows
+        read_over (run ++ e ∷ []) slot_then then serving q there joins alone selected.rows
         (subst (λ (d : Database). Allowed q d selected.rows) (sym held_is) allowed) in
         record {
           may = rest.may;
           over =
               next (record { typed = typed.Select q; answer = Rows selected; on = Some s; seen = seen }) rest.over
-              (over.selects table items (subst (λ (d : Database). Allowed q d selected.rows) one_is answer));
+              (over.selects table join items (subst (λ (d : Database). Allowed q d selected.rows) one_is answer));
         }
     lifted _ _ _ (p.wrote {steps} {writes} {changes} w more seen told alone is on changed) =
         let rest = lifted steps writes changes told in

@@ -24,7 +24,7 @@ use Rattle.vschema.specs.WellFormed.{is_vschema, is_table, is_vindex_right, is_i
 use Rattle.vschema.specs.Database.{rows_of, lies_in, restrict, same_row}
 use Rattle.sql_eval.specs.Conditions.{is_kept}
 use Rattle.sql_eval.specs.Writes.{written_table, has_duplicate, row_updates, changes_over, changes_of}
-use Rattle.planner.specs.Routes.{table_at, takes, route_of, insert_route}
+use Rattle.planner.specs.Routes.{table_at, takes, keys_of, route_of, insert_route}
 use Rattle.planner.proofs.Placed.{IsHome, rows_home}
 use Rattle.planner.proofs.Skips.{skipped}
 use Rattle.shard_run.specs.declared.Shard.{Shard}
@@ -138,7 +138,7 @@ module _ (o : Opening) (opens : IsOpening o) (formed : is_vschema o.schema ≡ t
   pub record Home (c : Option (Condition ℕ)) (row : Row) : Type 0 where
     pub seat : Seat
     pub inside : In seat seats
-    pub needs : takes t (route_of t c) seat.1 ≡ true
+    pub needs : takes t (route_of t None c) seat.1 ≡ true
     pub lies : lies_in (place_of seat) t row ≡ true
 
   kept_home : (c : Option (Condition ℕ)) (row : Row) → In row rows → is_kept c row ≡ true → Home c row
@@ -148,36 +148,36 @@ module _ (o : Opening) (opens : IsOpening o) (formed : is_vschema o.schema ≡ t
       let lies : lies_in place t row ≡ true = and_from (t.keyspace == t.keyspace) (has_id w.0.1 (row_id t row)) (eq-eqb t.keyspace t.keyspace refl) w.2 in
       let within : In row (rows_of (restrict o.schema place (one o run)) n) =
       subst (In row) (sym (rows_restricted o.schema.tables place (one o run) n there)) (In-filter (lies_in place t) row lies rows h) in
-      let home : IsHome t (w.0.1, restrict o.schema place (one o run)) row =
-      In-all (IsHome t (w.0.1, restrict o.schema place (one o run))) row (rows_of (restrict o.schema place (one o run)) n)
-      (rows_home o.schema n (w.0.1, restrict o.schema place (one o run)) (placed_at o opens n w.0.1 run legal)) within in
+      let home : IsHome t (keys_of t None) (w.0.1, restrict o.schema place (one o run)) row =
+      In-all (IsHome t (keys_of t None) (w.0.1, restrict o.schema place (one o run))) row (rows_of (restrict o.schema place (one o run)) n)
+      (rows_home o.schema n (w.0.1, restrict o.schema place (one o run)) (placed_at o opens t.keyspace (n ∷ []) w.0.1 run legal)) within in
       record {
         seat = w.0;
         inside = w.1;
-        needs = taken home (takes t (route_of t c) w.0.1) refl;
+        needs = taken (w.0.1, restrict o.schema place (one o run)) home (takes t (route_of t None c) w.0.1) refl;
         lies = lies;
       }
     where
-      taken : {shard : Rattle.planner.specs.Plans.Shard} → IsHome t shard row → (b : Bool) → takes t (route_of t c) shard.0 ≡ b → takes t (route_of t c) shard.0 ≡ true
-      taken home true e = e
-      taken {shard} home false e = absurd (false≢true (sym (skipped t shard c row home e) ∙ kept))
+      taken : (shard : Rattle.planner.specs.Plans.Shard) → IsHome t (keys_of t None) shard row → (b : Bool) → takes t (route_of t None c) shard.0 ≡ b → takes t (route_of t None c) shard.0 ≡ true
+      taken shard home true e = e
+      taken shard home false e = absurd (false≢true (sym (skipped t None shard c row home e) ∙ kept))
 
   abbrev pub Keeps : Option (Condition ℕ) → (Row → Bool) → Type 0
   Keeps c p = AllByRecursion (λ row. is_kept c row ≡ true → p row ≡ true) rows
 
   -- the rows that a condition keeps lie in the one seat that it needs, and none is kept where it needs none
-  pub kept_here : (c : Option (Condition ℕ)) (seat : Seat) → needed t (route_of t c) seats ≡ seat ∷ [] → Keeps c (lies_in (place_of seat) t)
+  pub kept_here : (c : Option (Condition ℕ)) (seat : Seat) → needed t (route_of t None c) seats ≡ seat ∷ [] → Keeps c (lies_in (place_of seat) t)
   kept_here c seat alone =
       all-from_In (λ row. is_kept c row ≡ true → lies_in (place_of seat) t row ≡ true) rows
       (λ row h kept. let w = kept_home c row h kept in
       subst (λ (u : Seat). lies_in (place_of u) t row ≡ true)
-      (only_one w.seat seat (needed t (route_of t c) seats) alone (In-filter (λ u. takes t (route_of t c) u.1) w.seat w.needs seats w.inside)) w.lies)
+      (only_one w.seat seat (needed t (route_of t None c) seats) alone (In-filter (λ u. takes t (route_of t None c) u.1) w.seat w.needs seats w.inside)) w.lies)
 
-  pub kept_nowhere : (c : Option (Condition ℕ)) → needed t (route_of t c) seats ≡ [] → Keeps c (λ row. false)
+  pub kept_nowhere : (c : Option (Condition ℕ)) → needed t (route_of t None c) seats ≡ [] → Keeps c (λ row. false)
   kept_nowhere c none =
       all-from_In (λ row. is_kept c row ≡ true → false ≡ true) rows
       (λ row h kept. let w = kept_home c row h kept in
-      absurd (subst (In w.seat) none (In-filter (λ u. takes t (route_of t c) u.1) w.seat w.needs seats w.inside)))
+      absurd (subst (In w.seat) none (In-filter (λ u. takes t (route_of t None c) u.1) w.seat w.needs seats w.inside)))
 
   updates_over : (assignments : List (Assignment ℕ)) (c : Option (Condition ℕ)) (p : Row → Bool) → Keeps c p
       → flat_map (row_updates n assignments c) (filter p rows) ≡ flat_map (row_updates n assignments c) rows

@@ -1,6 +1,7 @@
 //! The statements of an open transaction.
 ghost use Rattle.std.specs.Prelude.{◌≡◌, ◌⊎◌, ◌<◌, ℕ, Some, None, IsSome, IfOk, IfErr, IfSome, IfNone, OnErr, Ok, true, false, length};
 ghost use Rattle.sql_tree.specs.declared.Statement.{Statement};
+ghost use Rattle.vschema.specs.Sources.{SourcesThere, JoinsInPlace};
 ghost use Rattle.vschema.specs.TypedStatement.{typed_statement};
 ghost use Rattle.planner.specs.Routes.{table_at, route_of};
 ghost use Rattle.journal.specs.Runs.{IsLegal, NumbersBelow};
@@ -99,10 +100,11 @@ impl<W: World + Send + Sync, J: Naming + Send + Sync, G: Gate> Engine<W, J, G> {
         table: &Table,
         route: &Route,
     ) -> Result<(Items<Row>, Items<ShardRead>), Refusal>
-        requires there { query.now.table < length W.opening.schema.tables }
+        requires there { SourcesThere (length W.opening.schema.tables) query.now }
+        requires joins { JoinsInPlace W.opening.schema query.now }
         requires keyspace { table.now.keyspace < length self.now.keyspaces }
         requires table { table.now ≡ table_at W.opening.schema query.now.table }
-        requires route { route.now ≡ route_of table.now query.now.filter }
+        requires route { route.now ≡ route_of table.now query.now.join query.now.filter }
         requires session { IsSome pass.old.session }
         requires opens { IsOpening W.opening }
         requires formed { is_vschema W.opening.schema ≡ true }
@@ -110,7 +112,7 @@ impl<W: World + Send + Sync, J: Naming + Send + Sync, G: Gate> Engine<W, J, G> {
         requires above { (n : ℕ) → pass.old.session ≡ Some n → NumbersBelow commit_of n pass.old.statements pass.old.seen }
         requires tx { IsOf W.opening (Some (record { bound = bound.old; pending = pending.old })) pass.old }
         ensures ok { IfOk result (λ r. GoesOnIn W.opening W.limits pass.old (record { bound = bound.old; pending = pending.old }) (Typed.Select query.now)
-            (record { answer = Answer.Rows (record { table = query.now.table; items = query.now.items; rows = r.0 }); reads = r.1 })
+            (record { answer = Answer.Rows (record { table = query.now.table; join = query.now.join; items = query.now.items; rows = r.0 }); reads = r.1 })
             pass.new (Some (record { bound = bound.new; pending = pending.new }))) }
         ensures err { IfErr result (λ e. IsRefusedStep W.opening W.limits pass.old (record { bound = bound.old; pending = pending.old }) (Typed.Select query.now) e pass.new) }
         ensures bound { OnErr result (bound.new ≡ bound.old) }
@@ -141,7 +143,8 @@ impl<W: World + Send + Sync, J: Naming + Send + Sync, G: Gate> Engine<W, J, G> {
         pending: &mut Pending,
         query: &Query,
     ) -> Result<(Items<Row>, Items<ShardRead>), Refusal>
-        requires there { query.now.table < length W.opening.schema.tables }
+        requires there { SourcesThere (length W.opening.schema.tables) query.now }
+        requires joins { JoinsInPlace W.opening.schema query.now }
         requires session { IsSome pass.old.session }
         requires opens { IsOpening W.opening }
         requires formed { is_vschema W.opening.schema ≡ true }
@@ -149,14 +152,14 @@ impl<W: World + Send + Sync, J: Naming + Send + Sync, G: Gate> Engine<W, J, G> {
         requires above { (n : ℕ) → pass.old.session ≡ Some n → NumbersBelow commit_of n pass.old.statements pass.old.seen }
         requires tx { IsOf W.opening (Some (record { bound = bound.old; pending = pending.old })) pass.old }
         ensures ok { IfOk result (λ r. GoesOnIn W.opening W.limits pass.old (record { bound = bound.old; pending = pending.old }) (Typed.Select query.now)
-            (record { answer = Answer.Rows (record { table = query.now.table; items = query.now.items; rows = r.0 }); reads = r.1 })
+            (record { answer = Answer.Rows (record { table = query.now.table; join = query.now.join; items = query.now.items; rows = r.0 }); reads = r.1 })
             pass.new (Some (record { bound = bound.new; pending = pending.new }))) }
         ensures err { IfErr result (λ e. IsRefusedStep W.opening W.limits pass.old (record { bound = bound.old; pending = pending.old }) (Typed.Select query.now) e pass.new) }
         ensures bound { OnErr result (bound.new ≡ bound.old) }
         ensures pending { OnErr result (pending.new ≡ pending.old) }
     {
         let table = &self.schema.tables.as_slice()[query.table];
-        let route = route_of(alloc, table, &query.filter)?;
+        let route = route_of(alloc, table, query.join, &query.filter)?;
         let given = self.rows_by(rt, alloc, pass, bound, pending, query, table, &route);
         drop(route);
         given
@@ -172,7 +175,8 @@ impl<W: World + Send + Sync, J: Naming + Send + Sync, G: Gate> Engine<W, J, G> {
         pending: &mut Pending,
         query: Query,
     ) -> Result<Reply, Refusal>
-        requires there { query.table < length W.opening.schema.tables }
+        requires there { SourcesThere (length W.opening.schema.tables) query }
+        requires joins { JoinsInPlace W.opening.schema query }
         requires session { IsSome pass.old.session }
         requires opens { IsOpening W.opening }
         requires formed { is_vschema W.opening.schema ≡ true }
@@ -187,10 +191,16 @@ impl<W: World + Send + Sync, J: Naming + Send + Sync, G: Gate> Engine<W, J, G> {
     {
         let given = self.rows_in(rt, alloc, pass, bound, pending, &query);
         let table = query.table;
+        let join = query.join;
         let items = items_of(query);
         match given {
             Ok((rows, reads)) => Ok(Reply {
-                answer: Answer::Rows(Selected { table, items, rows }),
+                answer: Answer::Rows(Selected {
+                    table,
+                    join,
+                    items,
+                    rows,
+                }),
                 reads,
             }),
             Err(refusal) => {

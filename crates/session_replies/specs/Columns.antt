@@ -1,11 +1,12 @@
 -- How the columns of a query's result are defined.
-use Rattle.std.specs.Prelude.{◌≡◌, ℕ, ◌+◌, true, false, ◌==◌, List, [], ◌∷◌, slice_index_or, if◌then◌else◌}
+use Rattle.std.specs.Prelude.{◌≡◌, ℕ, ◌+◌, ◌-◌, true, false, ◌==◌, nat_lt, List, [], ◌∷◌, Option, Some, None, slice_index_or, if◌then◌else◌}
 use Rattle.std.specs.List.{list_any}
 use Rattle.sql_tree.specs.declared.Item.{Item}
 use Rattle.sql_tree.specs.declared.Item.TheVariants as item
 use Rattle.sql_tree.specs.Printing.{item_text}
 use Rattle.vschema_document.specs.declared.column.ColumnType.{ColumnType}
 use Rattle.vschema_document.specs.declared.column.ColumnType.TheVariants as type
+use Rattle.vschema.specs.declared.schema.Join.{Join}
 use Rattle.vschema.specs.declared.schema.Keyspace.{Keyspace}
 use Rattle.vschema.specs.declared.schema.Table.{Table}
 use Rattle.vschema.specs.declared.schema.VSchema.{VSchema}
@@ -90,21 +91,27 @@ pub record DefinesAggregate (t : Table) (shown : Item ℕ) (defined : R.Column) 
   pub kind : defined.kind ≡ item_kind t shown
   pub flags : defined.flags ≡ item_flags t shown
 
-abbrev pub DefinesItem : VSchema → Table → Item ℕ → R.Column → Type 0
-DefinesItem schema t (item.Column n) defined = DefinesAt schema t n defined
-DefinesItem schema t item.CountRows defined = DefinesAggregate t item.CountRows defined
-DefinesItem schema t (item.Count n) defined = DefinesAggregate t (item.Count n) defined
-DefinesItem schema t (item.Sum n) defined = DefinesAggregate t (item.Sum n) defined
-DefinesItem schema t (item.Min n) defined = DefinesAggregate t (item.Min n) defined
-DefinesItem schema t (item.Max n) defined = DefinesAggregate t (item.Max n) defined
+-- the table that has the column at a place of a query's rows, and its place there: of a pair, the first table's columns come first
+abbrev pub owner_of : VSchema → Table → Option Join → ℕ → Table × ℕ
+owner_of schema t None n = (t, n)
+owner_of schema t (Some j) n = if nat_lt n j.width then (t, n) else (slice_index_or schema.tables j.table no_table, n - j.width)
+
+-- a column is its table's; an aggregate is over one table
+abbrev pub DefinesItem : VSchema → Table → Option Join → Item ℕ → R.Column → Type 0
+DefinesItem schema t join (item.Column n) defined = DefinesAt schema (owner_of schema t join n).0 (owner_of schema t join n).1 defined
+DefinesItem schema t join item.CountRows defined = DefinesAggregate t item.CountRows defined
+DefinesItem schema t join (item.Count n) defined = DefinesAggregate t (item.Count n) defined
+DefinesItem schema t join (item.Sum n) defined = DefinesAggregate t (item.Sum n) defined
+DefinesItem schema t join (item.Min n) defined = DefinesAggregate t (item.Min n) defined
+DefinesItem schema t join (item.Max n) defined = DefinesAggregate t (item.Max n) defined
 
 -- a definition for each item, in order
-abbrev pub AllDefined : VSchema → Table → List (Item ℕ) → List R.Column → Type 0
-AllDefined schema t [] [] = Unit {0}
-AllDefined schema t [] (d ∷ defined) = ⊥
-AllDefined schema t (i ∷ items) [] = ⊥
-AllDefined schema t (i ∷ items) (d ∷ defined) = DefinesItem schema t i d × AllDefined schema t items defined
+abbrev pub AllDefined : VSchema → Table → Option Join → List (Item ℕ) → List R.Column → Type 0
+AllDefined schema t join [] [] = Unit {0}
+AllDefined schema t join [] (d ∷ defined) = ⊥
+AllDefined schema t join (i ∷ items) [] = ⊥
+AllDefined schema t join (i ∷ items) (d ∷ defined) = DefinesItem schema t join i d × AllDefined schema t join items defined
 
--- the definitions of the columns that a query of the table at this place shows
-abbrev pub AreColumns : VSchema → ℕ → List (Item ℕ) → List R.Column → Type 0
-AreColumns schema table items defined = AllDefined schema (slice_index_or schema.tables table no_table) items defined
+-- the definitions of the columns that a query over the table at this place, or over its pairs with another, shows
+abbrev pub AreColumns : VSchema → ℕ → Option Join → List (Item ℕ) → List R.Column → Type 0
+AreColumns schema table join items defined = AllDefined schema (slice_index_or schema.tables table no_table) join items defined

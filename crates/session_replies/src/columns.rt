@@ -1,12 +1,12 @@
 ghost use Rattle.std.specs.Prelude.{◌≡◌, ◌==◌, IfOk, IfErr, slice_index_or};
 ghost use Rattle.std.specs.List.{list_any};
 ghost use Rattle.vschema.specs.Schema.{no_table};
-ghost use Rattle.session_replies.specs.Columns.{shown_kind, base_flags, flags_of, no_keyspace, no_column, column_at, Defines, DefinesAt, named_item, item_kind, item_flags, DefinesAggregate, DefinesItem, AllDefined, AreColumns};
+ghost use Rattle.session_replies.specs.Columns.{shown_kind, base_flags, flags_of, no_keyspace, no_column, column_at, Defines, DefinesAt, named_item, item_kind, item_flags, DefinesAggregate, owner_of, DefinesItem, AllDefined, AreColumns};
 
 use resultset::{Column as ResultColumn, Kind};
 use sql_tree::{Item, Name, print_item};
 use std::alloc::Global;
-use vschema::{Column, ColumnType, Columns, Table, VSchema};
+use vschema::{Column, ColumnType, Columns, Join, Table, VSchema};
 use vt_value::{Items, Refusal};
 
 fn kind_of(kind: ColumnType) -> Kind
@@ -213,17 +213,56 @@ fn define_aggregate(
     })
 }
 
+fn define_second(
+    alloc: Global,
+    schema: &VSchema,
+    table: usize,
+    place: usize,
+) -> Result<ResultColumn, Refusal>
+    ensures ok { IfOk result (DefinesAt schema.now (slice_index_or schema.now.tables table no_table) place) }
+    ensures err { IfErr result (λ e. e ≡ Refusal.OutOfMemory) }
+{
+    match schema.tables.as_slice().get(table) {
+        Some(table) => define_at(alloc, schema, table, place),
+        None => define_at(alloc, schema, &missing_table(alloc), place),
+    }
+}
+
+// The definition of the column at a place of the rows of a table, or of its pairs with another's.
+fn define_shown(
+    alloc: Global,
+    schema: &VSchema,
+    table: &Table,
+    join: Option<Join>,
+    place: usize,
+) -> Result<ResultColumn, Refusal>
+    ensures ok { IfOk result (DefinesAt schema.now (owner_of schema.now table.now join place).0 (owner_of schema.now table.now join place).1) }
+    ensures err { IfErr result (λ e. e ≡ Refusal.OutOfMemory) }
+{
+    match join {
+        None => define_at(alloc, schema, table, place),
+        Some(join) => {
+            if place < join.width {
+                define_at(alloc, schema, table, place)
+            } else {
+                define_second(alloc, schema, join.table, place - join.width)
+            }
+        }
+    }
+}
+
 fn define_item(
     alloc: Global,
     schema: &VSchema,
     table: &Table,
+    join: Option<Join>,
     item: &Item<usize>,
 ) -> Result<ResultColumn, Refusal>
-    ensures ok { IfOk result (DefinesItem schema.now table.now item.now) }
+    ensures ok { IfOk result (DefinesItem schema.now table.now join item.now) }
     ensures err { IfErr result (λ e. e ≡ Refusal.OutOfMemory) }
 {
     match item {
-        Item::Column(place) => define_at(alloc, schema, table, *place),
+        Item::Column(place) => define_shown(alloc, schema, table, join, *place),
         _ => define_aggregate(alloc, table, item),
     }
 }
@@ -232,31 +271,33 @@ fn define_all(
     alloc: Global,
     schema: &VSchema,
     table: &Table,
+    join: Option<Join>,
     wanted: &[Item<usize>],
 ) -> Result<Items<ResultColumn>, Refusal>
-    ensures ok { IfOk result (AllDefined schema.now table.now wanted.now) }
+    ensures ok { IfOk result (AllDefined schema.now table.now join wanted.now) }
     ensures err { IfErr result (λ e. e ≡ Refusal.OutOfMemory) }
 {
     let mut columns = Items::new(alloc);
     for item in wanted {
-        let column = define_item(alloc, schema, table, item)?;
+        let column = define_item(alloc, schema, table, join, item)?;
         columns.push(column)?;
     }
     Ok(columns)
 }
 
-/// The definitions of the columns that these items of the table at a place of the VSchema are.
+/// The definitions of the columns that these items are, of the table at a place of the VSchema or of its pairs with another.
 pub fn columns_of(
     alloc: Global,
     schema: &VSchema,
     table: usize,
+    join: Option<Join>,
     items: &[Item<usize>],
 ) -> Result<Items<ResultColumn>, Refusal>
-    ensures ok { IfOk result (AreColumns schema.now table items.now) }
+    ensures ok { IfOk result (AreColumns schema.now table join items.now) }
     ensures err { IfErr result (λ e. e ≡ Refusal.OutOfMemory) }
 {
     match schema.tables.as_slice().get(table) {
-        Some(table) => define_all(alloc, schema, table, items),
-        None => define_all(alloc, schema, &missing_table(alloc), items),
+        Some(table) => define_all(alloc, schema, table, join, items),
+        None => define_all(alloc, schema, &missing_table(alloc), join, items),
     }
 }

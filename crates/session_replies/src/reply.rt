@@ -73,11 +73,17 @@ pub fn put_pong(number: u8, status: u16, reply: &mut BytesMut)
 }
 
 fn result_set(alloc: Global, schema: &VSchema, selected: Selected) -> Result<ResultSet, Refusal>
-    ensures columns { IfOk result (λ set. AreColumns schema.now selected.table selected.items set.columns) }
+    ensures columns { IfOk result (λ set. AreColumns schema.now selected.table selected.join selected.items set.columns) }
     ensures rows { IfOk result (λ set. set.rows ≡ selected.rows) }
     ensures err { IfErr result (λ e. e ≡ Refusal.OutOfMemory) }
 {
-    let columns = columns_of(alloc, schema, selected.table, selected.items.as_slice())?;
+    let columns = columns_of(
+        alloc,
+        schema,
+        selected.table,
+        selected.join,
+        selected.items.as_slice(),
+    )?;
     Ok(ResultSet {
         columns,
         rows: selected.rows,

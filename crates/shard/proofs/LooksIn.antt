@@ -13,14 +13,14 @@ use Rattle.vschema.specs.declared.schema.VSchema.{VSchema}
 use Rattle.vschema.specs.declared.changes.Write.{Write}
 use Rattle.vschema.specs.declared.changes.RowChange.{RowChange}
 use Rattle.vschema.specs.Schema.{no_table}
+use Rattle.vschema.specs.Sources.{source_rows}
 use Rattle.vschema.specs.Storable.{is_storable}
 use Rattle.vschema.specs.Database.{Database, SameRows, rows_of, all_applied}
 use Rattle.sql_eval.specs.Groups.{CanBeSummed}
-use Rattle.sql_eval.specs.Queries.{IsAnswer, Allowed}
+use Rattle.sql_eval.specs.Queries.{Allowed}
 use Rattle.sql_eval.specs.Writes.{written_table, changes_of}
 use Rattle.sql_eval.proofs.ChangeLemmas.{same_changes, rows-same}
-use Rattle.sql_eval.proofs.SameAnswers.{same_answers}
-use Rattle.sql_eval.proofs.Sums.{storable_summed}
+use Rattle.sql_eval.proofs.SameAnswers.{same_allowed}
 use Rattle.journal.specs.Runs.{IsLegal, NumbersBelow}
 use Rattle.journal.specs.Views.{SeatView, PassView, IsLater}
 use Rattle.journal.proofs.Fronts.{prefix_self}
@@ -42,6 +42,7 @@ use Rattle.shard.proofs.CommitsIn as k
 use Rattle.shard.proofs.Inside.{change_same}
 use Rattle.shard_contents.proofs.Legality.{legal_is}
 use Rattle.shard.proofs.Pendings as then
+use Rattle.shard.proofs.SourceSums.{sources_summed}
 
 -- what an answer says once it is known
 pub ok_of : {T E : Type 0} (P : T → Type 0) (r : Result T E) (t : T) → r ≡ Ok t → IfOk r P → P t
@@ -116,11 +117,10 @@ module _ (o : Opening) (most : Limits) (seat : SeatView Entry) (c : Contents) (i
       ∙ ap (λ (r : Run). length (stored_on s.slot r)) seen_is
 
   -- what a query gives over those beside the seat it may give over those of the run
-  pub allowed : (changes : List RowChange) (q : Query) (rows : List Row) → IsAnswer q (rows_of (all_applied changes c.store.rows) q.table) rows
+  pub allowed : (changes : List RowChange) (q : Query) (rows : List Row) → Allowed q (all_applied changes c.store.rows) rows
       → Allowed q (all_applied changes (held o v.seen s)) rows
   allowed changes q rows answer =
-      same_answers q (rows_of (all_applied changes c.store.rows) q.table) (rows_of (all_applied changes (held o v.seen s)) q.table) rows
-      (rows-same (all_applied changes c.store.rows) (all_applied changes (held o v.seen s)) (same_there changes) q.table) answer
+      same_allowed q (all_applied changes c.store.rows) (all_applied changes (held o v.seen s)) rows (same_there changes) answer
 
   -- so are the changes of a write, and its refusal
   pub changed : (changes : List RowChange) (schema : VSchema) → schema ≡ o.schema → (w : Write) (more : List RowChange)
@@ -196,8 +196,10 @@ module _ (o : Opening) (most : Limits) (seat : SeatView Entry) (c : Contents) (i
         (then.held_then o is.opens c.shard seat.seen is.stands legal serves of.session p.statements low tx.writes tx.changes may)
         (held_storable o is.opens (seat.seen ++ e ∷ []) (legal_is o (seat.seen ++ e ∷ []) l) c.shard part n)
 
-    pub summed : (n : ℕ) → length (rows_of (all_applied tx.changes c.store.rows) n) ≤ 2 ^ 60 → CanBeSummed (rows_of (all_applied tx.changes c.store.rows) n)
-    summed n few =
-        storable_summed (get_or o.schema.tables n no_table) (rows_of (all_applied tx.changes c.store.rows) n)
-        (rows_all (λ row. is_storable (get_or o.schema.tables n no_table) row ≡ true) (all_applied tx.changes c.store.rows)
-        (all_applied tx.changes (held o seat.seen c.shard)) (same_behind tx.changes) n (storable n)) few
+    pub summed : (q : Query) → length (source_rows q (all_applied tx.changes c.store.rows)) ≤ 2 ^ 60
+        → CanBeSummed (source_rows q (all_applied tx.changes c.store.rows))
+    summed q few =
+        sources_summed o.schema q (all_applied tx.changes c.store.rows)
+        (λ n. rows_all (λ row. is_storable (get_or o.schema.tables n no_table) row ≡ true) (all_applied tx.changes c.store.rows)
+        (all_applied tx.changes (held o seat.seen c.shard)) (same_behind tx.changes) n (storable n))
+        few

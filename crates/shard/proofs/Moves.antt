@@ -12,6 +12,7 @@ use Rattle.vschema.specs.declared.changes.Write.{Write}
 use Rattle.vschema.specs.declared.changes.RowChange.{RowChange}
 use Rattle.vschema.specs.Schema.{no_table}
 use Rattle.vschema.specs.Database.{Database, rows_of, all_applied}
+use Rattle.vschema.specs.Sources.{source_tables}
 use Rattle.vschema.specs.TypedWrites.{IsTypedWrite}
 use Rattle.sql_eval.specs.Writes.{written_table, changes_over}
 use Rattle.journal.specs.Runs.{IsLegal, NumbersBelow}
@@ -29,7 +30,7 @@ use Rattle.shard_law.proofs.Runs.{log}
 use Rattle.shard_contents.specs.declared.touch.Touch.{Touch}
 use Rattle.shard_contents.specs.Shards.{MayFollow, commit_of}
 use Rattle.shard_contents.specs.Commits.{IsPlaced}
-use Rattle.shard_contents.specs.Transactions.{PendingView, nothing_done, is_changed, is_conflict, is_touched, touched_with, IsClear, IsTouchBy, IsPending, IsPendingOf, HasReadIn, HasWrittenIn, entry_of}
+use Rattle.shard_contents.specs.Transactions.{PendingView, nothing_done, is_changed, is_conflict, is_touched, touched_with, touched_all, IsClear, IsTouchBy, IsPending, IsPendingOf, HasReadIn, HasWrittenIn, entry_of}
 use Rattle.shard.proofs.Conflicts.{same_rows, stored_is}
 use Rattle.shard.proofs.Inside.{snoc}
 use Rattle.shard_contents.proofs.OneTable.{no_or, same_after}
@@ -66,6 +67,28 @@ module _ (touched : List Touch) (t : Touch) where
       by : (b : Bool) → AllByRecursion P (cond b touched (touched ++ t ∷ []))
       by true = all
       by false = AllByRecursion-push P touched t all here
+
+-- several tables that are touched at once
+abbrev pub touch_of : ℕ → ℕ → Touch
+touch_of stored n = record { table = n; stored = stored }
+
+pub still_touched_all : (touched : List Touch) (ns : List ℕ) (stored n : ℕ) → is_touched touched n ≡ true → is_touched (touched_all touched ns stored) n ≡ true
+still_touched_all touched [] stored n h = h
+still_touched_all touched (m ∷ ns) stored n h =
+    still_touched_all (touched_with touched (touch_of stored m)) ns stored n (still_touched touched (touch_of stored m) n h)
+
+pub now_touched_all : (touched : List Touch) (ns : List ℕ) (stored : ℕ) → AllByRecursion (λ n. is_touched (touched_all touched ns stored) n ≡ true) ns
+now_touched_all touched [] stored = tt
+now_touched_all touched (m ∷ ns) stored = (
+  still_touched_all (touched_with touched (touch_of stored m)) ns stored m (now_touched touched (touch_of stored m)),
+  now_touched_all (touched_with touched (touch_of stored m)) ns stored,
+)
+
+pub all_touched_all : (P : Touch → Type 0) (touched : List Touch) (ns : List ℕ) (stored : ℕ) → AllByRecursion P touched
+    → AllByRecursion (λ n. P (touch_of stored n)) ns → AllByRecursion P (touched_all touched ns stored)
+all_touched_all P touched [] stored all here = all
+all_touched_all P touched (m ∷ ns) stored all here =
+    all_touched_all P (touched_with touched (touch_of stored m)) ns stored (all_touched touched (touch_of stored m) P all here.0) here.1
 
 -- the same changes over databases that agree on touched tables
 pub changes_agree : (schema : VSchema) (touched : List Touch) (a b : Database) → length a ≡ length b
@@ -161,6 +184,12 @@ module _ (o : Opening) (s : Shard) where
     touches = all_touched tx.touched t (IsTouchBy o s run) is.touches touch;
   }
 
+  pub pending_touches_all : (run : Run) (tx : PendingView) (ns : List ℕ) (stored : ℕ) → IsPending o s run tx
+      → AllByRecursion (λ n. IsTouchBy o s run (touch_of stored n)) ns → IsPending o s run (record tx { touched = touched_all tx.touched ns stored })
+  pending_touches_all run tx [] stored is all = is
+  pending_touches_all run tx (n ∷ ns) stored is all =
+      pending_touches_all run (record tx { touched = touched_with tx.touched (touch_of stored n) }) ns stored (pending_touches run tx (touch_of stored n) is all.0) all.1
+
   pub pending_writes : (run : Run) (tx : PendingView) (t : Touch) (w : Write) (more : List RowChange) → IsPending o s run tx
       → t.table ≡ written_table w → IsTouchBy o s run t → IsTypedWrite o.schema w → IsPlaced o.schema s.place w
       → IsChangeOf o.schema w (all_applied tx.changes (held o run s)) more
@@ -199,9 +228,13 @@ module _ (o : Opening) (s : Shard) (p : PassView Entry) (now : Run) (tx new : Pe
   is_touch : IsClear o s now tx → (n : ℕ) → IsTouchBy o s now (touch_at n)
   is_touch clear n = record { serving = clear.serving; stored = omega arith }
 
+  are_touches : IsClear o s now tx → (ns : List ℕ) → AllByRecursion (λ n. IsTouchBy o s now (touch_at n)) ns
+  are_touches clear [] = tt
+  are_touches clear (n ∷ ns) = (is_touch clear n, are_touches clear ns)
+
   pub pending_read : (q : Query) (rows : List Row) (entries : ℕ) → HasReadIn o s tx now q rows entries new → IsPending o s now new
   pending_read q rows entries has =
-      subst (IsPending o s now) (sym has.touch) (pending_touches o s now tx (touch_at q.table) (here has.clear) (is_touch has.clear q.table))
+      subst (IsPending o s now) (sym has.touch) (pending_touches_all o s now tx (source_tables q) (length (stored_on s.slot now)) (here has.clear) (are_touches has.clear (source_tables q)))
 
   pub pending_written : (w : Write) (count : ℕ) → HasWrittenIn o s tx now w count new → IsTypedWrite o.schema w → IsPlaced o.schema s.place w
       → IsPending o s now new

@@ -1,5 +1,6 @@
 //! What a transaction does on its one shard.
 ghost use Rattle.std.specs.Prelude.{List, ◌≡◌, ◌↔◌, IsTrue, ◌≤◌, ◌<◌, ◌++◌, ◌∷◌, [], ℕ, Some, IsSome, IfOk, IfErr, OnOk, OnErr, length};
+ghost use Rattle.vschema.specs.Sources.{SourcesThere};
 ghost use Rattle.vschema.specs.TypedWrites.{IsTypedWrite};
 ghost use Rattle.sql_eval.specs.Writes.{written_table};
 
@@ -37,9 +38,12 @@ impl<W: World, J: Naming> ShardState<W, J> {
     // With: ShardState::{read_in, write_in, commit_in}, Shard::{check, read_in, write_in, commit_in}
     // Refuses: shard_contents::commit_without_conflict_test, shard_contents::conflict_for_every_commit,
     // shard_contents::commit_leaves_out_a_write, shard_contents::conflict_looks_one_entry_too_late, frozen_shard_takes_a_transaction,
-    // shard_contents::own_removal_is_not_seen, shard_contents::query_sees_no_own_writes, shard_contents::refused_commit_loses_its_writes,
-    // shard_contents::transaction_commits_no_changes, shard_contents::transaction_counts_removed_as_added,
-    // shard_contents::transaction_keeps_no_write, shard_contents::write_sees_no_own_writes
+    // query_touches_at_the_first_entry, shard_contents::changes_of_the_second_table_are_not_seen,
+    // shard_contents::join_sees_one_tables_writes, shard_contents::own_removal_is_not_seen, shard_contents::query_sees_no_own_writes,
+    // shard_contents::query_touches_another_table, shard_contents::refused_commit_loses_its_writes,
+    // shard_contents::second_touch_is_forgotten, shard_contents::transaction_commits_no_changes,
+    // shard_contents::transaction_counts_removed_as_added, shard_contents::transaction_keeps_no_write,
+    // shard_contents::write_sees_no_own_writes
     /// One look, which the pass keeps. Answers how many entries the shard has then. It refuses where the shard is frozen or doesn't serve;
     /// else where an entry of the shard has changed a table that the transaction touched before it. Takes no memory.
     pub fn check(&mut self, pass: &mut Pass<ShardLaw<W>, J>, tx: &Pending) -> Result<u64, Refusal>
@@ -62,8 +66,8 @@ impl<W: World, J: Naming> ShardState<W, J> {
     }
 
     /// What the query gives in a transaction, with the transaction's own changes, over the rows that the run leaves on the shard at one
-    /// look, which the pass keeps. The query's table is touched then. It refuses as `check`, and for want of memory; then the look was made,
-    /// and the transaction stays as it was.
+    /// look, which the pass keeps. The tables that the query is over are touched then. It refuses as `check`, and for want of memory; then
+    /// the look was made, and the transaction stays as it was.
     pub fn read_in(
         &mut self,
         alloc: Global,
@@ -71,7 +75,7 @@ impl<W: World, J: Naming> ShardState<W, J> {
         tx: &mut Pending,
         query: &Query,
     ) -> Result<Reading, Refusal>
-        requires there { query.now.table < length W.opening.schema.tables }
+        requires there { SourcesThere (length W.opening.schema.tables) query.now }
         requires tied { IsPendingOf W.opening self.old.shard tx.old pass.old }
         requires session { IsSome pass.old.session }
         requires above { (n : ℕ) → pass.old.session ≡ Some n → NumbersBelow commit_of n pass.old.statements pass.old.seen }
@@ -87,11 +91,8 @@ impl<W: World, J: Naming> ShardState<W, J> {
         let rows = self
             .contents
             .select_behind(alloc, query, tx.changes.as_slice())?;
-        let touch = Touch {
-            table: query.table,
-            stored: self.contents.stored.len(),
-        };
-        tx.touch(touch)?;
+        let stored = self.contents.stored.len();
+        tx.touch(query, stored)?;
         Ok(Reading { rows, entries })
     }
 

@@ -1,5 +1,6 @@
 //! What a transaction does on its one shard, under the shard's lock.
 ghost use Rattle.std.specs.Prelude.{◌≡◌, ◌<◌, ℕ, Some, IsSome, MatchResult, length};
+ghost use Rattle.vschema.specs.Sources.{SourcesThere};
 ghost use Rattle.sql_eval.specs.Writes.{written_table};
 ghost use Rattle.journal.specs.Runs.{NumbersBelow};
 ghost use Rattle.shard_run.specs.declared.Shard as which;
@@ -48,7 +49,7 @@ impl<W: World, J: Naming> Shard<W, J> {
         tx: &mut Pending,
         query: &Query,
     ) -> Result<Reading, Refusal>
-        requires there { query.now.table < length W.opening.schema.tables }
+        requires there { SourcesThere (length W.opening.schema.tables) query.now }
         requires tied { (s : which.Shard) → s.slot ≡ self.now.0 → s.place ≡ place_at self.now → IsPendingOf W.opening s tx.old pass.old }
         requires session { IsSome pass.old.session }
         requires above { (n : ℕ) → pass.old.session ≡ Some n → NumbersBelow commit_of n pass.old.statements pass.old.seen }

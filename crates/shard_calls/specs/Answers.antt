@@ -65,13 +65,14 @@ pub record IsShardRead (o : Opening) (keyspace : ℕ) (looks : List (ℕ × ℕ)
 -- Just the shards of the query's route were read, each at the run of its range, by a look of this call.
 pub record IsSelected (o : Opening) (p : PassView Entry) (t : Table) (query : Query) (selected : Selected) (reads : List ShardRead) (now : PassView Entry) : Type 0 where
   pub table : selected.table ≡ query.table
+  pub join : selected.join ≡ query.join
   pub items : selected.items ≡ query.items
   pub added : List (ℕ × ℕ)
   pub gone : HasGoneOn o p added now
   pub parts : List Part
   pub mix : Mix p.seen now.seen parts
   pub allowed : Allowed query (mixed_rows o t.keyspace parts) selected.rows
-  pub routed : AllZip (IsShardRead o t.keyspace added) (filter (λ part. takes t (route_of t query.filter) part.range) parts) reads
+  pub routed : AllZip (IsShardRead o t.keyspace added) (filter (λ part. takes t (route_of t query.join query.filter) part.range) parts) reads
 
 -- the reply has the rows of the query
 pub data HasRead (o : Opening) (p : PassView Entry) (query : Query) : Reply → PassView Entry → Type 0 where
@@ -98,7 +99,7 @@ pub record IsHeldUp (o : Opening) (t : Table) (r : Route) (answers : Mode → Bo
 pub data MayReadRefuse (o : Opening) (p : PassView Entry) (query : Query) : Refusal → PassView Entry → Type 0 where
   no_memory : {now : PassView Entry} → HasGone o p now → MayReadRefuse o p query OutOfMemory now
   buffer_full : {now : PassView Entry} → HasGone o p now
-      → IsHeldUp o (table_at o.schema query.table) (route_of (table_at o.schema query.table) query.filter) is_serving p.seen now.seen
+      → IsHeldUp o (table_at o.schema query.table) (route_of (table_at o.schema query.table) query.join query.filter) is_serving p.seen now.seen
       → MayReadRefuse o p query BufferFull now
 
 -- the seats that a write needs by a partition

@@ -7,6 +7,7 @@ use Rattle.vschema.specs.declared.schema.Typed.TheVariants as typed
 use Rattle.vschema.specs.declared.changes.Write.{Write}
 use Rattle.vschema.specs.declared.changes.RowChange.{RowChange}
 use Rattle.vschema.specs.Database.{all_applied}
+use Rattle.vschema.specs.Sources.{source_tables, SourcesThere, JoinsInPlace}
 use Rattle.vschema.specs.TypedWrites.{IsTypedWrite}
 use Rattle.sql_eval.specs.Queries.{Allowed}
 use Rattle.sql_eval.specs.Writes.{written_table}
@@ -26,7 +27,7 @@ use Rattle.shard_calls.specs.declared.reply.Answer.TheVariants.{Rows, Count}
 use Rattle.shard.specs.Seats.{seat_of}
 use Rattle.shard_calls.specs.Answers.{NeedsAlone}
 use Rattle.shard_calls.specs.Alone.{GivesOver}
-use Rattle.shard_calls.specs.Transactions.{Step, Transaction, ReadsAlone, NeedsNone, table_of, used}
+use Rattle.shard_calls.specs.Transactions.{Step, Transaction, ReadsAlone, NeedsNone, tables_of, used}
 
 -- the keyspace and the seat of the shard that an open transaction is bound to
 pub record BoundView : Type 0 where
@@ -54,8 +55,9 @@ pub data AreTold (o : Opening) (s : Shard) (run : Run) (touched : List Touch) : 
   anywhere : {steps : List Step} {writes : List Write} {changes : List RowChange} (step : Step) → AreTold o s run touched steps writes changes
       → IsAnywhere o step → AreTold o s run touched (steps ++ step ∷ []) writes changes
   read : {steps : List Step} {writes : List Write} {changes : List RowChange} (q : Query) (selected : Selected) (seen : Run)
-      → AreTold o s run touched steps writes changes → ReadsAlone o q s → q.table < length o.schema.tables
-      → IsTrue (is_touched touched q.table) → selected.table ≡ q.table → selected.items ≡ q.items
+      → AreTold o s run touched steps writes changes → ReadsAlone o q s → SourcesThere (length o.schema.tables) q → JoinsInPlace o.schema q
+      → AllByRecursion (λ n. IsTrue (is_touched touched n)) (source_tables q)
+      → selected.table ≡ q.table → selected.join ≡ q.join → selected.items ≡ q.items
       → Allowed q (all_applied changes (held o run s)) selected.rows
       → AreTold o s run touched (steps ++ record { typed = typed.Select q; answer = Rows selected; on = Some s; seen = seen } ∷ []) writes changes
   wrote : {steps : List Step} {writes : List Write} {changes : List RowChange} (w : Write) (more : List RowChange) (seen : Run)
@@ -69,7 +71,7 @@ pub record IsTouchOf (o : Opening) (s : Shard) (session : Option ℕ) (at : Run)
   pub step : Step
   pub is : Contains steps step
   pub on : step.on ≡ Some s
-  pub table : table_of step.typed ≡ Some t.table
+  pub table : Contains (tables_of step.typed) t.table
   pub before : IsPrefix step.seen at
   pub serves : mode o step.seen s.slot ≡ Serving
   pub stored : t.stored ≡ length (stored_on s.slot step.seen)
@@ -82,9 +84,9 @@ pub record WasTouched (s : Shard) (touched : List Touch) (n : ℕ) (seen : Run) 
   pub table : touch.table ≡ n
   pub stored : touch.stored ≤ length (stored_on s.slot seen)
 
--- a statement that used the shard has touched its table
+-- a statement that used the shard has touched its tables
 abbrev pub HasTouched : Shard → List Touch → Step → Type 0
-HasTouched s touched step = (n : ℕ) → step.on ≡ Some s → table_of step.typed ≡ Some n → WasTouched s touched n step.seen
+HasTouched s touched step = (n : ℕ) → step.on ≡ Some s → Contains (tables_of step.typed) n → WasTouched s touched n step.seen
 
 -- bound to a shard, where it has gone on up to the run of the transaction, which the pass has seen, and has made no commit since
 pub record IsBound (o : Opening) (p : PassView Entry) (v : OpenView) (t : Transaction) : Type 0 where

@@ -14,6 +14,7 @@ use Rattle.vschema.specs.declared.schema.Typed.TheVariants as typed
 use Rattle.vschema.specs.declared.changes.Write.{Write}
 use Rattle.vschema.specs.declared.changes.RowChange.{RowChange}
 use Rattle.vschema.specs.Database.{Database, all_applied}
+use Rattle.vschema.specs.Sources.{source_tables}
 use Rattle.vschema.specs.TypedStatement.{typed_statement}
 use Rattle.sql_eval.specs.Writes.{written_table, changes_of}
 use Rattle.planner.specs.Routes.{table_at, route_of}
@@ -74,7 +75,7 @@ AreOver o run steps = (after : Database) × GiveOver o.schema (one o run) steps 
 
 -- the seats of a partition that a query needs
 abbrev pub needed_for : Opening → Query → List Seat → List Seat
-needed_for o q seats = needed (table_at o.schema q.table) (route_of (table_at o.schema q.table) q.filter) seats
+needed_for o q seats = needed (table_at o.schema q.table) (route_of (table_at o.schema q.table) q.join q.filter) seats
 
 -- by some partition the query needs this shard alone
 pub record ReadsAlone (o : Opening) (q : Query) (s : Shard) : Type 0 where
@@ -126,19 +127,19 @@ writes_in steps = flat_map (λ step. write_on step.on step.typed) steps
 
 -- ---- conflicts
 
--- the table of a query or a write
-abbrev pub table_of : Typed → Option ℕ
-table_of (typed.Select q) = Some q.table
-table_of (typed.Write w) = Some (written_table w)
-table_of _ = None
+-- the tables that a query is over, or the one of a write
+abbrev pub tables_of : Typed → List ℕ
+tables_of (typed.Select q) = source_tables q
+tables_of (typed.Write w) = written_table w ∷ []
+tables_of _ = []
 
--- Behind a statement of the transaction another session's commit on the shard that it used has changed a row of that statement's table.
+-- Behind a statement of the transaction another session's commit on the shard that it used has changed a row of a table of that statement.
 pub record IsConflict (o : Opening) (s : Shard) (session : Option ℕ) (run : Run) (steps : List Step) : Type 0 where
   pub step : Step
   pub is : Contains steps step
   pub on : step.on ≡ Some s
   pub table : ℕ
-  pub touched : table_of step.typed ≡ Some table
+  pub touched : Contains (tables_of step.typed) table
   pub behind : List Entry
   pub since : run ≡ step.seen ++ behind
   pub commit : C.Commit

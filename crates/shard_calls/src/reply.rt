@@ -3,12 +3,14 @@ ghost use Rattle.std.specs.Prelude.{◌≡◌, []};
 
 use sql_tree::Item;
 use std::alloc::Global;
+use vschema::Join;
 use vt_value::{Items, Row};
 
-/// What a query gave: the table that it names and what it shows, by the places of columns, and its rows.
+/// What a query gave: the table or the two that it is over and what it shows, by the places of columns, and its rows.
 #[derive(Drop)]
 pub struct Selected {
     pub table: usize,
+    pub join: Option<Join>,
     pub items: Items<Item<usize>>,
     pub rows: Items<Row>,
 }

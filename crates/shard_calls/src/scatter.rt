@@ -144,10 +144,21 @@ fn read_one<W: World, J: Naming, G: Gate>(
     }
 }
 
-// Whether the tables that these jobs read have at most so many rows each, as far as one can tell without waiting.
+// Whether the tables that a job reads have at most so many rows each, as far as one can tell without waiting.
+fn is_small<W: World, J: Naming>(job: &Job<W, J>, most: usize) -> bool {
+    if !job.shard.is_small(job.query.table, most) {
+        return false;
+    }
+    match job.query.join {
+        Some(join) => job.shard.is_small(join.table, most),
+        None => true,
+    }
+}
+
+// The same of all these jobs.
 fn are_small<W: World, J: Naming>(jobs: &[Job<W, J>], most: usize) -> bool {
     for job in jobs {
-        if !job.shard.is_small(job.query.table, most) {
+        if !is_small(job, most) {
             return false;
         }
     }

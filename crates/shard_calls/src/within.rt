@@ -1,5 +1,6 @@
 //! What a statement of an open transaction does on its one shard.
 ghost use Rattle.std.specs.Prelude.{◌≡◌, ◌<◌, [], ℕ, Some, IsSome, IfOk, IfErr, OnErr, OnOk, Ok, length};
+ghost use Rattle.vschema.specs.Sources.{SourcesThere};
 ghost use Rattle.sql_eval.specs.Queries.{IsAnswer};
 ghost use Rattle.sql_eval.specs.Writes.{written_table};
 ghost use Rattle.journal.specs.Runs.{NumbersBelow};
@@ -64,7 +65,7 @@ pub fn read_at<W: World, J: Naming>(
     pending: &mut Pending,
     query: &Query,
 ) -> Result<(Items<Row>, Items<ShardRead>), Refusal>
-    requires there { query.now.table < length W.opening.schema.tables }
+    requires there { SourcesThere (length W.opening.schema.tables) query.now }
     requires tied { (s : which.Shard) → bound_of s ≡ here.now → IsPendingOf W.opening s pending.old pass.old }
     requires session { IsSome pass.old.session }
     requires above { (n : ℕ) → pass.old.session ≡ Some n → NumbersBelow commit_of n pass.old.statements pass.old.seen }
@@ -97,7 +98,7 @@ pub fn read_first<W: World, J: Naming>(
     pending: &mut Pending,
     query: &Query,
 ) -> Result<(Items<Row>, Items<ShardRead>), Refusal>
-    requires there { query.now.table < length W.opening.schema.tables }
+    requires there { SourcesThere (length W.opening.schema.tables) query.now }
     requires tied { (s : which.Shard) → bound_of s ≡ new → IsPendingOf W.opening s pending.old pass.old }
     requires session { IsSome pass.old.session }
     requires above { (n : ℕ) → pass.old.session ≡ Some n → NumbersBelow commit_of n pass.old.statements pass.old.seen }

@@ -16,3 +16,4 @@ pub mod LowBits
 pub mod FirstRows
 pub mod CopySteps
 pub mod OneTable
+pub mod SourceRows

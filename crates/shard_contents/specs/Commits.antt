@@ -1,5 +1,5 @@
 -- What a commit of one write on a shard does, and why it is refused.
-use Rattle.std.specs.Prelude.{◌≡◌, ℕ, ◌+◌, ◌<◌, ◌≤◌, ◌^◌, false, IsTrue, List, [], ◌∷◌, ◌++◌, length, slice_index_or, Some, Ok, Err}
+use Rattle.std.specs.Prelude.{◌≡◌, ℕ, ◌<◌, ◌≤◌, ◌^◌, false, IsTrue, List, [], ◌∷◌, ◌++◌, length, slice_index_or, Some, Ok, Err}
 use Rattle.std.specs.List.{filter, list_all}
 use mathlib.Core.List.{IsPrefix}
 use Rattle.vt_value.specs.declared.refusal.Refusal.{Refusal}

@@ -12,7 +12,7 @@ use Rattle.shard_run.specs.declared.Shard.{Shard}
 use Rattle.shard_run.specs.declared.Mode.{Mode}
 use Rattle.shard_run.specs.declared.Mode.TheVariants.{Following, Frozen, Retired, Dropped}
 use Rattle.shard_run.specs.declared.Event.{Event}
-use Rattle.shard_run.specs.declared.Event.TheVariants.{Commit, Follow, Retire}
+use Rattle.shard_run.specs.declared.Event.TheVariants.{Commit, Retire}
 use Rattle.shard_run.specs.declared.Entry.{Entry}
 use Rattle.shard_run.specs.Runs.{Run, Opening, held, mode, is_serving, stored_on, stored_changes, entries_on}
 use Rattle.shard_run.specs.Openings.{IsOpening, row_count}

@@ -1,6 +1,6 @@
 -- A transaction on its one shard before it is committed: what it has touched and written, when another session has changed a table that it
 -- touched, and what its commit does.
-use Rattle.std.specs.Prelude.{◌≡◌, ℕ, ◌+◌, ◌≤◌, Bool, true, false, ◌==◌, IsTrue, List, [], ◌∷◌, ◌++◌, length, drop, Some, Err, if◌then◌else◌}
+use Rattle.std.specs.Prelude.{◌≡◌, ℕ, ◌≤◌, Bool, true, false, ◌==◌, IsTrue, List, [], ◌∷◌, ◌++◌, length, drop, Some, Err, if◌then◌else◌}
 use Rattle.std.specs.List.{AllByRecursion, filter, list_any}
 use mathlib.Core.List.{IsPrefix}
 use Rattle.vt_value.specs.declared.refusal.Refusal.{Refusal}
@@ -10,6 +10,7 @@ use Rattle.vschema.specs.declared.schema.Query.{Query}
 use Rattle.vschema.specs.declared.changes.Write.{Write}
 use Rattle.vschema.specs.declared.changes.RowChange.{RowChange}
 use Rattle.vschema.specs.Database.{all_applied, changed_table}
+use Rattle.vschema.specs.Sources.{source_tables}
 use Rattle.vschema.specs.TypedWrites.{IsTypedWrite}
 use Rattle.sql_eval.specs.Queries.{Allowed}
 use Rattle.sql_eval.specs.Writes.{written_table, changes_of}
@@ -63,6 +64,11 @@ is_touched touched n = list_any (λ t. t.table == n) touched
 abbrev pub touched_with : List Touch → Touch → List Touch
 touched_with touched t = if is_touched touched t.table then touched else touched ++ t ∷ []
 
+-- tables that are touched when the shard has stored so many entries
+abbrev pub touched_all : List Touch → List ℕ → ℕ → List Touch
+touched_all touched [] stored = touched
+touched_all touched (n ∷ ns) stored = touched_all (touched_with touched (record { table = n; stored = stored })) ns stored
+
 -- a table was touched on the shard, which serves after the run, when it had stored so many entries of it
 pub record IsTouchBy (o : Opening) (s : Shard) (run : Run) (t : Touch) : Type 0 where
   pub serving : mode o run s.slot ≡ Serving
@@ -85,12 +91,12 @@ IsPendingOf o s tx p = (run : Run) × IsPrefix run p.seen × IsPending o s run t
 -- ---- what its statements do
 
 -- A query of it was read after a run: the shard serves and no touched table was changed, the rows are some that it may answer over those that
--- the run leaves on the shard with the changes so far, so many entries are on it, and its table is touched.
+-- the run leaves on the shard with the changes so far, so many entries are on it, and the tables that it is over are touched.
 pub record HasReadIn (o : Opening) (s : Shard) (tx : PendingView) (run : Run) (query : Query) (rows : List Row) (entries : ℕ) (now : PendingView) : Type 0 where
   pub clear : IsClear o s run tx
   pub allowed : Allowed query (all_applied tx.changes (held o run s)) rows
   pub count : entries ≡ length (entries_on s.slot run)
-  pub touch : now ≡ record tx { touched = touched_with tx.touched (record { table = query.table; stored = length (stored_on s.slot run) }) }
+  pub touch : now ≡ record tx { touched = touched_all tx.touched (source_tables query) (length (stored_on s.slot run)) }
 
 -- A write of it was made after a run: the shard serves and no touched table was changed, its changes are those over the rows that the run
 -- leaves on the shard with the changes so far, and it is kept with them.

@@ -3,6 +3,7 @@ ghost use Rattle.std.specs.Prelude.{◌≡◌, ◌⊎◌, ◌==◌, ◌<◌, ◌
 ghost use Rattle.std.specs.List.{list_any};
 ghost use Rattle.vschema.specs.Checks.{is_aggregated};
 ghost use Rattle.vschema.specs.Database.{rows_of, all_applied, changed_table};
+ghost use Rattle.vschema.specs.Sources.{source_rows, source_tables, SourcesThere};
 ghost use Rattle.sql_eval.specs.Groups.{CanBeSummed};
 ghost use Rattle.sql_eval.specs.Queries.{IsAnswer};
 ghost use Rattle.sql_eval.specs.Writes.{written_table, changes_of};
@@ -10,8 +11,8 @@ ghost use Rattle.shard_contents.specs.inner.Stores.{row_after};
 
 use crate::contents::{Contents, written_table};
 use crate::store::{TableRows, changed_table};
-use shard_store::{AllRows, RowSource, StoredTables};
-use sql_eval::{change_local, select_local};
+use shard_store::{AllRows, RowSource, StoredTables, select_joined};
+use sql_eval::{SliceRows, change_local, select_local};
 use std::alloc::Global;
 use vschema::{Query, RowChange, VSchema, Write};
 use vt_value::{Items, Refusal, Row, copy_row};
@@ -21,6 +22,19 @@ pub fn changes_any(place: usize, changes: &[RowChange]) -> bool
     ensures { result ≡ list_any (λ c. changed_table c == place) changes.now }
 {
     changes.iter().any(|change| changed_table(change) == place)
+}
+
+// Whether one of the changes is of a table that the query is over.
+fn changes_source(query: &Query, changes: &[RowChange]) -> bool
+    ensures { result ≡ list_any (λ n. list_any (λ c. changed_table c == n) changes.now) (source_tables query.now) }
+{
+    if changes_any(query.table, changes) {
+        return true;
+    }
+    match query.join {
+        Some(join) => changes_any(join.table, changes),
+        None => false,
+    }
 }
 
 // Copies of the rows.
@@ -87,26 +101,35 @@ fn rows_behind(
 }
 
 impl Contents {
-    /// What the query gives over the rows with these changes done. No row is copied where none of them is of the query's table.
+    /// What the query gives over the rows with these changes done. No row is copied where none of them is of a table that it is over.
     pub fn select_behind(
         &self,
         alloc: Global,
         query: &Query,
         changes: &[RowChange],
     ) -> Result<Items<Row>, Refusal>
-        requires there { query.now.table < length self.now.store.rows }
-        requires few { length (rows_of self.now.store.rows query.now.table) ≤ 2 ^ 60 }
-        requires summed { is_aggregated query.now ≡ true → length (rows_of (all_applied changes.now self.now.store.rows) query.now.table) ≤ 2 ^ 60
-            → CanBeSummed (rows_of (all_applied changes.now self.now.store.rows) query.now.table) }
-        ensures ok { IfOk result (IsAnswer query.now (rows_of (all_applied changes.now self.now.store.rows) query.now.table)) }
+        requires there { SourcesThere (length self.now.store.rows) query.now }
+        requires few { length (source_rows query.now self.now.store.rows) ≤ 2 ^ 60 }
+        requires summed { is_aggregated query.now ≡ true → length (source_rows query.now (all_applied changes.now self.now.store.rows)) ≤ 2 ^ 60
+            → CanBeSummed (source_rows query.now (all_applied changes.now self.now.store.rows)) }
+        ensures ok { IfOk result (IsAnswer query.now (source_rows query.now (all_applied changes.now self.now.store.rows))) }
         ensures err { IfErr result (λ e. e ≡ Refusal.OutOfMemory) }
     {
-        let place = query.table;
-        if !changes_any(place, changes) {
+        if !changes_source(query, changes) {
             return self.store.select(alloc, query);
         }
-        let behind = rows_behind(alloc, &self.store, place, changes)?;
-        select_local(alloc, query, behind.rows())
+        let firsts = rows_behind(alloc, &self.store, query.table, changes)?;
+        let Some(join) = query.join else {
+            return select_local(alloc, query, firsts.rows());
+        };
+        let seconds = rows_behind(alloc, &self.store, join.table, changes)?;
+        select_joined(
+            alloc,
+            query,
+            join,
+            SliceRows::new(firsts.rows()),
+            SliceRows::new(seconds.rows()),
+        )
     }
 
     /// The changes of the write over the rows with these changes done, unless it has a primary key that is there already. No row is copied

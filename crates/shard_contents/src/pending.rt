@@ -1,5 +1,6 @@
-ghost use Rattle.std.specs.Prelude.{◌≡◌, false, ◌↔◌, ◌++◌, ◌<◌, ◌∷◌, [], IfOk, IfErr, OnOk, OnErr, length, vec_len, vec_capacity};
-ghost use Rattle.shard_contents.specs.Transactions.{nothing_done, changes_table, is_changed, is_conflict, is_touched, touched_with};
+ghost use Rattle.std.specs.Prelude.{◌≡◌, false, ◌↔◌, ◌++◌, ◌+◌, ◌<◌, ◌≤◌, ◌∷◌, [], IfOk, IfErr, OnOk, OnErr, length, vec_len, vec_capacity};
+ghost use Rattle.shard_contents.specs.Transactions.{nothing_done, changes_table, is_changed, is_conflict, is_touched, touched_with, touched_all};
+ghost use Rattle.vschema.specs.Sources.{source_tables};
 
 use crate::behind::changes_any;
 use crate::copies::{beside, copy_changes};
@@ -7,7 +8,7 @@ use crate::touch::Touch;
 use shard_run::{Entry, Event};
 use std::alloc::Global;
 use std::marker::Model;
-use vschema::{RowChange, Write};
+use vschema::{Query, RowChange, Write};
 use vt_value::Refusal;
 
 /// A transaction on its one shard that isn't committed: the tables that it has touched, its writes in order, and the row changes that they
@@ -57,6 +58,18 @@ fn is_touched(touched: &[Touch], place: usize) -> bool
     touched.iter().any(|touch| touch.table == place)
 }
 
+// Touches a table, unless it is touched. Takes no memory.
+fn touch_table(touched: &mut Vec<Touch>, touch: Touch)
+    requires room { vec_len touched.old < vec_capacity touched.old }
+    ensures touched { touched.new.items ≡ touched_with touched.old.items touch }
+    ensures few { vec_len touched.new ≤ vec_len touched.old + 1 }
+    ensures capacity { vec_capacity touched.new ≡ vec_capacity touched.old }
+{
+    if !is_touched(touched.as_slice(), touch.table) {
+        touched.push_reserved(touch);
+    }
+}
+
 // Appends the changes, and makes room for a touch and a write. Refuses for want of memory; then nothing has changed.
 fn append(
     touched: &mut Vec<Touch>,
@@ -104,14 +117,29 @@ impl Pending {
         self.touched.iter().any(|touch| is_changed(stored, touch))
     }
 
-    /// Touches a table. Refuses for want of memory; then nothing has changed.
-    pub fn touch(&mut self, touch: Touch) -> Result<(), Refusal>
-        ensures ok { OnOk result (self.new ≡ record self.old { touched = touched_with self.old.touched touch }) }
+    /// Touches the tables that a query is over, when the shard has stored so many entries. Refuses for want of memory; then nothing has
+    /// changed.
+    pub fn touch(&mut self, query: &Query, stored: usize) -> Result<(), Refusal>
+        ensures ok { OnOk result (self.new ≡ record self.old { touched = touched_all self.old.touched (source_tables query.now) stored }) }
         ensures err { IfErr result (λ e. e ≡ Refusal.OutOfMemory) }
         ensures unchanged { OnErr result (self.new ≡ self.old) }
     {
-        if !is_touched(self.touched.as_slice(), touch.table) {
-            self.touched.push(touch)?;
+        self.touched.reserve(2)?;
+        touch_table(
+            &mut self.touched,
+            Touch {
+                table: query.table,
+                stored,
+            },
+        );
+        if let Some(join) = query.join {
+            touch_table(
+                &mut self.touched,
+                Touch {
+                    table: join.table,
+                    stored,
+                },
+            );
         }
         Ok(())
     }
@@ -137,9 +165,7 @@ impl Pending {
         );
         let (_, write) = beside(room, write)?;
         self.writes.push_reserved(write);
-        if !is_touched(self.touched.as_slice(), touch.table) {
-            self.touched.push_reserved(touch);
-        }
+        touch_table(&mut self.touched, touch);
         Ok(())
     }
 }

@@ -196,6 +196,7 @@ pub(crate) fn query(alloc: Global, item: Item<usize>) -> Result<Query, Refusal>
 {
     Ok(Query {
         table: 0,
+        join: None,
         items: one(alloc, item)?,
         filter: None,
         group_by: Items::new(alloc),

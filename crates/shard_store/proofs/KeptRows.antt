@@ -160,7 +160,7 @@ is_equal Less e = cc
 is_equal Equal e = refl
 is_equal Greater e = cc
 
-same_cmp : (a b : Value) → is_true (compare Eq a b) ≡ true → value_cmp a b ≡ Equal
+pub same_cmp : (a b : Value) → is_true (compare Eq a b) ≡ true → value_cmp a b ≡ Equal
 same_cmp Null b e = cc
 same_cmp (Int m) Null e = cc
 same_cmp (Int m) (Int n) e = is_equal (int_cmp m n) e

@@ -1,4 +1,6 @@
 pub mod Chosen
+pub mod Joined
 pub mod Listings
+pub mod Partners
 pub mod Slots
 pub mod Stores

@@ -1,11 +1,14 @@
 //! The values that a condition fixes a column to.
-ghost use Rattle.std.specs.Prelude.{◌≡◌, IfSome, List, map, true};
+ghost use Rattle.std.specs.Prelude.{◌≡◌, ◌<◌, IfSome, List, map, true};
 ghost use Rattle.vt_value.specs.declared.value.Value.{Value as V};
 ghost use Rattle.vt_value.specs.Values.{value_at, is_true, all_true, compare, in_list};
 ghost use Rattle.sql_eval.specs.Conditions.{truth_at, operand_value};
+ghost use Rattle.vschema.specs.Sources.{paired, is_pair};
+ghost use Rattle.sql_eval.specs.Conditions.{is_kept};
 ghost use Rattle.shard_store.specs.Chosen.{fits};
 
 use sql_tree::{Condition, Operand};
+use vschema::Join;
 use vt_value::{Comparison, Value};
 
 /// Values of which a column has one.
@@ -70,4 +73,37 @@ fn fixed_by_one<'a>(members: &'a [Condition<usize>], column: usize) -> Option<Fi
         }
     }
     None
+}
+
+// Values of which the first row of each pair at which the condition is true has one in a column. The condition may fix the column itself, or
+// the column of the second row that the join makes equal to it.
+fn fixed_in_pairs<'a>(
+    condition: &'a Condition<usize>,
+    join: Join,
+    column: usize,
+) -> Option<Fixed<'a>>
+    requires { column < join.width }
+    ensures { IfSome result (λ f. (first second : List V) → is_pair join first second ≡ true → is_true (truth_at (paired join first second) condition.now) ≡ true
+        → fits f (value_at first column) ≡ true) }
+{
+    match fixed_values(condition, column) {
+        Some(values) => Some(values),
+        None if column == join.first => fixed_values(condition, join.second),
+        None => None,
+    }
+}
+
+/// Values of which the first row of each pair that WHERE keeps has one in a column.
+pub fn fixed_first<'a>(
+    condition: &'a Option<Condition<usize>>,
+    join: Join,
+    column: usize,
+) -> Option<Fixed<'a>>
+    ensures { IfSome result (λ f. (first second : List V) → is_pair join first second ≡ true → is_kept condition.now (paired join first second) ≡ true
+        → fits f (value_at first column) ≡ true) }
+{
+    match condition {
+        Some(condition) if column < join.width => fixed_in_pairs(condition, join, column),
+        _ => None,
+    }
 }

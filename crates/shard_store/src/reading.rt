@@ -7,6 +7,7 @@ ghost use Rattle.vt_value.specs.Values.{value_at};
 ghost use Rattle.vschema.specs.Checks.{is_aggregated};
 ghost use Rattle.vschema.specs.Schema.{key_of};
 ghost use Rattle.vschema.specs.Database.{rows_of, same_row};
+ghost use Rattle.vschema.specs.Sources.{source_rows};
 ghost use Rattle.sql_eval.specs.Conditions.{is_kept};
 ghost use Rattle.sql_eval.specs.Groups.{CanBeSummed};
 ghost use Rattle.sql_eval.specs.Queries.{IsAnswer};
@@ -15,6 +16,7 @@ ghost use Rattle.shard_store.specs.Slots.{rows_in};
 ghost use Rattle.shard_store.specs.Tables.{key_at};
 ghost use Rattle.shard_store.specs.inner.Stores.{IsInsertOf};
 ghost use Rattle.shard_store.specs.Chosen.{fits, slots_chosen, rows_chosen};
+ghost use Rattle.shard_store.specs.inner.Joined.{may_have};
 
 use crate::beside::TableRows;
 use crate::fixed::{Fixed, fixed_values};
@@ -41,6 +43,40 @@ impl StoredTable {
         }
     }
 
+    // The rows in slots whose first key column has one of the values.
+    fn chosen_of<'a>(&'a self, alloc: Global, fixed: Fixed<'a>) -> Result<ChosenSlots<'a>, Refusal>
+        requires { 0 < length self.now.places }
+        ensures ok { IfOk result (λ rows. slots_chosen rows ≡ filter (λ row. fits fixed.entry (value_at row (slice_index self.now.places 0))) (rows_in self.now.slots)) }
+        ensures err { IfErr result (λ e. e ≡ Refusal.OutOfMemory) }
+    {
+        match fixed {
+            Fixed::One(value) => {
+                let rows = self.rows_with(alloc, value)?;
+                Ok(ChosenSlots::With(rows))
+            }
+            Fixed::Among(values) => {
+                let rows = self.rows_among(alloc, values)?;
+                Ok(ChosenSlots::Among(rows))
+            }
+        }
+    }
+
+    // The rows in slots whose first key column has one of the values; all, if none are given.
+    pub(crate) fn chosen_by<'a>(
+        &'a self,
+        alloc: Global,
+        fixed: Option<Fixed<'a>>,
+    ) -> Result<ChosenSlots<'a>, Refusal>
+        requires { IfSome fixed (λ f. 0 < length self.now.places) }
+        ensures ok { IfOk result (λ rows. slots_chosen rows ≡ filter (may_have fixed.entry (slice_index self.now.places 0)) (rows_in self.now.slots)) }
+        ensures err { IfErr result (λ e. e ≡ Refusal.OutOfMemory) }
+    {
+        match fixed {
+            Some(fixed) => self.chosen_of(alloc, fixed),
+            None => Ok(ChosenSlots::All(self.rows())),
+        }
+    }
+
     // Rows in slots among which are all whose condition is true.
     fn chosen<'a>(
         &'a self,
@@ -50,17 +86,8 @@ impl StoredTable {
         ensures ok { IfOk result (λ rows. filter (is_kept condition.now) (slots_chosen rows) ≡ filter (is_kept condition.now) (rows_in self.now.slots)) }
         ensures err { IfErr result (λ e. e ≡ Refusal.OutOfMemory) }
     {
-        match self.first_values(condition) {
-            Some(Fixed::One(value)) => {
-                let rows = self.rows_with(alloc, value)?;
-                Ok(ChosenSlots::With(rows))
-            }
-            Some(Fixed::Among(values)) => {
-                let rows = self.rows_among(alloc, values)?;
-                Ok(ChosenSlots::Among(rows))
-            }
-            None => Ok(ChosenSlots::All(self.rows())),
-        }
+        let values = self.first_values(condition);
+        self.chosen_by(alloc, values)
     }
 }
 
@@ -142,7 +169,7 @@ impl StoredTables {
         self.tables[place].all()
     }
 
-    fn table(&self, place: usize) -> Option<&TableRows>
+    pub(crate) fn table(&self, place: usize) -> Option<&TableRows>
         ensures { MatchOption result (rows_of self.now.rows place ≡ []) (λ table. rows_of self.now.rows place ≡ table.now.rows) }
     {
         self.tables.get(place)
@@ -174,8 +201,8 @@ impl StoredTables {
         }
     }
 
-    /// What a query gives over the rows of its table. Refuses for want of memory.
-    pub fn select(&self, alloc: Global, query: &Query) -> Result<Items<Row>, Refusal>
+    // What a query gives over the rows of its table.
+    fn select_one(&self, alloc: Global, query: &Query) -> Result<Items<Row>, Refusal>
         requires summed { is_aggregated query.now ≡ true → CanBeSummed (rows_of self.now.rows query.now.table) }
         ensures ok { IfOk result (IsAnswer query.now (rows_of self.now.rows query.now.table)) }
         ensures err { IfErr result (λ e. e ≡ Refusal.OutOfMemory) }
@@ -183,6 +210,18 @@ impl StoredTables {
         match self.table(query.table) {
             Some(table) => table.select(alloc, query),
             None => select_local(alloc, query, &[]),
+        }
+    }
+
+    /// What a query gives over the rows of its table, or over the pairs of its two tables. Refuses for want of memory.
+    pub fn select(&self, alloc: Global, query: &Query) -> Result<Items<Row>, Refusal>
+        requires summed { is_aggregated query.now ≡ true → CanBeSummed (source_rows query.now self.now.rows) }
+        ensures ok { IfOk result (IsAnswer query.now (source_rows query.now self.now.rows)) }
+        ensures err { IfErr result (λ e. e ≡ Refusal.OutOfMemory) }
+    {
+        match query.join {
+            Some(join) => self.select_pairs(alloc, query, join),
+            None => self.select_one(alloc, query),
         }
     }
 

@@ -14,3 +14,5 @@ pub mod PlaceLemmas
 pub mod Firsts
 pub mod Counted
 pub mod LentRows
+pub mod Pairs
+pub mod PairValues

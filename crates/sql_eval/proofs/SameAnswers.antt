@@ -1,13 +1,18 @@
 -- The same rows in another order have the same answers, and are as many.
-use Rattle.std.proofs.Common.{Bool, true, false, cond, List, length, filter, map, subst, IsPermutation}
+use Rattle.std.proofs.Common.{Bool, true, false, cond, ℕ, List, [], ◌∷◌, length, filter, map, subst, IsPermutation}
 use Rattle.std.proofs.lemmas.List.Sorted.{IsPermutation-map, IsPermutation-sym, IsPermutation-trans}
 use Rattle.vt_value.specs.Values.{Row}
 use Rattle.vschema.specs.declared.schema.Query.{Query}
+use Rattle.std.specs.List.{AllByRecursion}
 use Rattle.vschema.specs.Checks.{is_aggregated}
+use Rattle.vschema.specs.Database.{Database, SameRows, rows_of}
+use Rattle.vschema.specs.Sources.{source_rows, source_tables}
 use Rattle.sql_eval.specs.Conditions.{is_kept}
 use Rattle.sql_eval.specs.Grouping.{aggregates_of}
 use Rattle.sql_eval.specs.inner.Parts.{part_row, grouped_rows}
-use Rattle.sql_eval.specs.Queries.{keyed_row, keyed_groups, kept_rows, IsAnswer}
+use Rattle.sql_eval.specs.Queries.{keyed_row, keyed_groups, kept_rows, IsAnswer, Allowed}
+use Rattle.sql_eval.proofs.ChangeLemmas.{rows-same}
+use Rattle.sql_eval.proofs.Pairs.{source_permuted}
 use Rattle.sql_eval.proofs.GroupLemmas.{keyed_wide, keyed_is}
 use Rattle.sql_eval.proofs.Permutations.{IsPermutation-filter}
 use Rattle.sql_eval.proofs.Rejoined.{rows_permuted}
@@ -41,3 +46,15 @@ same_answers q xs ys list same (arranged, all, sorted, is) = (
   sorted,
   is,
 )
+
+-- nor does one over a database that has the same bags, in the tables that the query is over
+pub same_sources : (q : Query) (a b : Database) (list : List Row) → AllByRecursion (λ n. IsPermutation (rows_of a n) (rows_of b n)) (source_tables q)
+    → Allowed q a list → Allowed q b list
+same_sources q a b list same answer = same_answers q (source_rows q a) (source_rows q b) list (source_permuted q a b same) answer
+
+pub same_allowed : (q : Query) (a b : Database) (list : List Row) → SameRows a b → Allowed q a list → Allowed q b list
+same_allowed q a b list same answer = same_sources q a b list (all (source_tables q)) answer
+  where
+    all : (ns : List ℕ) → AllByRecursion (λ n. IsPermutation (rows_of a n) (rows_of b n)) ns
+    all [] = tt
+    all (n ∷ ns) = (rows-same a b same n, all ns)

@@ -2,5 +2,6 @@ pub mod Conditions
 pub mod Groups
 pub mod Grouping
 pub mod Queries
+pub mod Pairs
 pub mod Writes
 pub mod inner

@@ -9,7 +9,8 @@ use Rattle.operators.specs.Orders.{keys_cmp, sort_values}
 use Rattle.operators.specs.Slices.{sliced}
 use Rattle.vschema.specs.declared.schema.Query.{Query}
 use Rattle.vschema.specs.Checks.{is_aggregated}
-use Rattle.vschema.specs.Database.{Database, rows_of}
+use Rattle.vschema.specs.Database.{Database}
+use Rattle.vschema.specs.Sources.{source_rows}
 use Rattle.sql_eval.specs.Conditions.{is_kept}
 use Rattle.sql_eval.specs.Groups.{group_values, group_rows, group_value, item_value}
 
@@ -46,13 +47,13 @@ abbrev pub kept_rows : Query → List Row → List Keyed
 kept_rows q rows =
     if is_aggregated q then keyed_groups q (filter (is_kept q.filter) rows) else map (keyed_row q) (filter (is_kept q.filter) rows)
 
--- The list is an answer of the query over the rows of its table: some arrangement of the whole answer is sorted by its keys, and the
+-- The list is an answer of the query over these rows: some arrangement of the whole answer is sorted by its keys, and the
 -- list is its slice.
 abbrev pub IsAnswer : Query → List Row → List Row → Type 0
 IsAnswer q rows list =
     (arranged : List Keyed) × IsPermutation (kept_rows q rows) arranged
     × IsSorted (λ a b. keys_cmp q.order_by a.1 b.1) arranged × (list ≡ map (λ r. r.0) (sliced q.limit arranged))
 
--- the same over a database
+-- the same over a database: over the rows of the query's table, or over the pairs of a join
 abbrev pub Allowed : Query → Database → List Row → Type 0
-Allowed q db list = IsAnswer q (rows_of db q.table) list
+Allowed q db list = IsAnswer q (source_rows q db) list

@@ -1,11 +1,49 @@
-ghost use Rattle.std.specs.Prelude.{◌≡◌, map, IsTrue};
+ghost use Rattle.std.specs.Prelude.{◌≡◌, ◌++◌, map, IsTrue};
 ghost use Rattle.std.specs.List.{list_any};
 ghost use Rattle.vt_value.specs.Values.{in_list, is_null, is_true, all_true, any_true};
 ghost use Rattle.sql_eval.specs.Conditions.{truth_at, operand_value, is_kept};
+ghost use Rattle.sql_eval.specs.Pairs.{seen};
+ghost use Rattle.vschema.specs.Sources.{padded};
 
 use crate::rows::value_at;
 use sql_tree::{Condition, Operand};
 use vt_value::{Comparison, Row, Truth, Value, compare};
+
+/// The values that a condition is tested on, as they stand: those of a row, or those of a pair of rows.
+#[derive(Clone, Copy)]
+pub enum Seen<'r> {
+    Row(&'r Row),
+    /// The first row, how many columns its table has, and the second row.
+    Pair(&'r Row, usize, &'r Row),
+}
+
+fn pair_at<'v>(
+    first: &'v Row,
+    width: usize,
+    second: &'v Row,
+    place: usize,
+    null: &'v Value,
+) -> &'v Value
+    requires { null.now ≡ Value.Null }
+    ensures { result.now ≡ Rattle.vt_value.specs.Values.value_at (padded width first.now ++ second.now) place }
+{
+    if place < width {
+        value_at(first, place, null)
+    } else {
+        value_at(second, place - width, null)
+    }
+}
+
+/// The value at a place: `null`, which is NULL, behind the last one.
+pub fn seen_at<'v>(values: Seen<'v>, place: usize, null: &'v Value) -> &'v Value
+    requires { null.now ≡ Value.Null }
+    ensures { result.now ≡ Rattle.vt_value.specs.Values.value_at (seen values.entry) place }
+{
+    match values {
+        Seen::Row(row) => value_at(row, place, null),
+        Seen::Pair(first, width, second) => pair_at(first, width, second, place, null),
+    }
+}
 
 fn is_null_value(v: &Value) -> bool
     ensures { result ≡ is_null v.now }
@@ -43,73 +81,86 @@ fn is_among(x: &Value, members: &[Value]) -> Truth
     }
 }
 
-fn operand<'a>(o: &'a Operand<usize>, row: &'a Row, null: &'a Value) -> &'a Value
+fn operand<'a>(o: &'a Operand<usize>, values: Seen<'a>, null: &'a Value) -> &'a Value
     requires { null.now ≡ Value.Null }
-    ensures { result.now ≡ operand_value row.now o.now }
+    ensures { result.now ≡ operand_value (seen values.entry) o.now }
 {
     match o {
-        Operand::Column(n) => value_at(row, *n, null),
+        Operand::Column(n) => seen_at(values, *n, null),
         Operand::Literal(v) => v,
     }
+}
+
+#[cycle(truth)]
+fn truth_of(condition: &Condition<usize>, values: Seen) -> Truth
+    ensures { result ≡ truth_at (seen values.entry) condition.now }
+{
+    let null = Value::Null;
+    match condition {
+        Condition::Compare(op, a, b) => compare(
+            *op,
+            operand(a, values, &null),
+            operand(b, values, &null),
+        ),
+        Condition::In(a, members) => is_among(operand(a, values, &null), members.as_slice()),
+        Condition::IsNull(a) => {
+            if is_null_value(operand(a, values, &null)) {
+                Truth::True
+            } else {
+                Truth::False
+            }
+        }
+        Condition::Not(c) => truth_of(c.get(), values).not(),
+        Condition::And(members) => every(members.as_slice(), values),
+        Condition::Or(members) => some(members.as_slice(), values),
+    }
+}
+
+#[cycle(truth)]
+fn every(members: &[Condition<usize>], values: Seen) -> Truth
+    ensures { result ≡ all_true (map (truth_at (seen values.entry)) members.now) }
+{
+    let mut t = Truth::True;
+    for c in members {
+        t = t.and(truth_of(c, values));
+    }
+    t
+}
+
+#[cycle(truth)]
+fn some(members: &[Condition<usize>], values: Seen) -> Truth
+    ensures { result ≡ any_true (map (truth_at (seen values.entry)) members.now) }
+{
+    let mut t = Truth::False;
+    for c in members {
+        t = t.or(truth_of(c, values));
+    }
+    t
 }
 
 // Promise: The truth of a condition at a row is SQL's; WHERE keeps the rows where it is true
 // With: keeps
 // Refuses: in_forgets_null_members
 /// The truth of a condition at a row, by SQL's three-valued logic. A row has NULL behind its last value. Takes no memory.
-#[cycle(truth)]
 pub fn truth(condition: &Condition<usize>, row: &Row) -> Truth
     ensures { result ≡ truth_at row.now condition.now }
 {
-    let null = Value::Null;
-    match condition {
-        Condition::Compare(op, a, b) => compare(
-            *op,
-            operand(a, row, &null),
-            operand(b, row, &null),
-        ),
-        Condition::In(a, members) => is_among(operand(a, row, &null), members.as_slice()),
-        Condition::IsNull(a) => {
-            if is_null_value(operand(a, row, &null)) {
-                Truth::True
-            } else {
-                Truth::False
-            }
-        }
-        Condition::Not(c) => truth(c.get(), row).not(),
-        Condition::And(members) => every(members.as_slice(), row),
-        Condition::Or(members) => some(members.as_slice(), row),
-    }
+    truth_of(condition, Seen::Row(row))
 }
 
-#[cycle(truth)]
-fn every(members: &[Condition<usize>], row: &Row) -> Truth
-    ensures { result ≡ all_true (map (truth_at row.now) members.now) }
+/// Whether WHERE keeps these values: its condition is true, or there is none.
+pub fn keeps_seen(filter: &Option<Condition<usize>>, values: Seen) -> bool
+    ensures { result ≡ is_kept filter.now (seen values.entry) }
 {
-    let mut t = Truth::True;
-    for c in members {
-        t = t.and(truth(c, row));
+    match filter {
+        None => true,
+        Some(condition) => matches!(truth_of(condition, values), Truth::True),
     }
-    t
-}
-
-#[cycle(truth)]
-fn some(members: &[Condition<usize>], row: &Row) -> Truth
-    ensures { result ≡ any_true (map (truth_at row.now) members.now) }
-{
-    let mut t = Truth::False;
-    for c in members {
-        t = t.or(truth(c, row));
-    }
-    t
 }
 
 /// Whether WHERE keeps a row: its condition is true, or there is none.
 pub fn keeps(filter: &Option<Condition<usize>>, row: &Row) -> bool
     ensures { result ≡ is_kept filter.now row.now }
 {
-    match filter {
-        None => true,
-        Some(condition) => matches!(truth(condition, row), Truth::True),
-    }
+    keeps_seen(filter, Seen::Row(row))
 }

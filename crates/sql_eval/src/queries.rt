@@ -17,7 +17,8 @@ use std::alloc::Global;
 use vschema::Query;
 use vt_value::{Items, Refusal, Row, Value};
 
-fn shown_places(alloc: Global, items: &[Item<usize>]) -> Result<Items<usize>, Refusal>
+/// The columns that items show, by their places, 0 for an aggregate.
+pub fn shown_places(alloc: Global, items: &[Item<usize>]) -> Result<Items<usize>, Refusal>
     ensures ok { IfOk result (λ places. places ≡ map shown_place items.now) }
     ensures err { IfErr result (λ e. e ≡ Refusal.OutOfMemory) }
 {

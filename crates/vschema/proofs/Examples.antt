@@ -29,6 +29,7 @@ columns names = Items (map (λ name. item.Column name) names)
 all_of_t : typed_statement schema (select All (codes "t") (equals (codes "id") 5))
     ≡ Ok (Select (record {
       table = 0;
+      join = None;
       items = item.Column 0 ∷ item.Column 1 ∷ [];
       filter = Some (Compare Eq (Column 0) (Literal (Int (pos 5))));
       group_by = [];
@@ -38,7 +39,7 @@ all_of_t : typed_statement schema (select All (codes "t") (equals (codes "id") 5
 all_of_t = search (rules, the_lemmas)
 
 columns_of_b : typed_statement schema (select (columns (codes "v" ∷ codes "k" ∷ codes "v" ∷ [])) (codes "b") None)
-    ≡ Ok (Select (record { table = 1; items = item.Column 1 ∷ item.Column 0 ∷ item.Column 1 ∷ []; filter = None; group_by = []; order_by = []; limit = None }))
+    ≡ Ok (Select (record { table = 1; join = None; items = item.Column 1 ∷ item.Column 0 ∷ item.Column 1 ∷ []; filter = None; group_by = []; order_by = []; limit = None }))
 columns_of_b = search (rules, the_lemmas)
 
 unknown_table : typed_statement schema (select All (codes "x") (equals (codes "zz") 5)) ≡ Err UnknownTable
@@ -59,7 +60,7 @@ abbrev grouped : List (Item Name) → List Name → Statement
 grouped items names = statement.Select (record { list = Items items; table = codes "t"; filter = None; group_by = names; order_by = []; limit = None })
 
 count_of_b : typed_statement schema (select (Items (item.CountRows ∷ [])) (codes "b") None)
-    ≡ Ok (Select (record { table = 1; items = item.CountRows ∷ []; filter = None; group_by = []; order_by = []; limit = None }))
+    ≡ Ok (Select (record { table = 1; join = None; items = item.CountRows ∷ []; filter = None; group_by = []; order_by = []; limit = None }))
 count_of_b = search (rules, the_lemmas)
 
 -- id is neither grouped nor aggregated

@@ -5,6 +5,7 @@ pub mod WriteChecks
 pub mod TypedWrites
 pub mod TypedStatement
 pub mod Database
+pub mod Sources
 pub mod Storable
 pub mod Formed
 pub mod WellFormed

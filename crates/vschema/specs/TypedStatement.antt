@@ -20,6 +20,7 @@ use Rattle.vschema.specs.TypedWrites.{typed_insert, typed_update, typed_delete}
 abbrev pub over : ℕ → Table → S.Select → Query
 over n t s = record {
   table = n;
+  join = None;
   items = resolved_list t s.list;
   filter = option_map (resolved_condition t) s.filter;
   group_by = map (place t) s.group_by;

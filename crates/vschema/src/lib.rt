@@ -17,6 +17,6 @@ mod writes;
 pub use changes::{RowChange, Write};
 pub use columns::Columns;
 pub use first_places::FirstPlaces;
-pub use schema::{ColumnVindex, Keyspace, Place, Query, Table, Typed, VSchema};
+pub use schema::{ColumnVindex, Join, Keyspace, Place, Query, Table, Typed, VSchema};
 pub use vschema_document::{Column, ColumnType, SchemaFault};
 pub use write_checks::{is_out_of_range, is_too_long};

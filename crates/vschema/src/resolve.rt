@@ -233,6 +233,7 @@ fn query_over(alloc: Global, place: usize, table: &Table, select: &Select) -> Re
     let filter = resolve_filter(alloc, table, &select.filter)?;
     Ok(Query {
         table: place,
+        join: None,
         items,
         filter,
         group_by,

@@ -6,6 +6,7 @@ use crate::columns::Columns;
 use keyrange::KeyRange;
 use sql_tree::{Condition, Item, Key, Limit, Name};
 use vindex::AnyVindex;
+use vschema_document::ColumnType;
 use vt_value::Items;
 
 /// The column that decides the shard of a row, by its place, and how.
@@ -49,11 +50,28 @@ pub struct Place {
     pub range: KeyRange,
 }
 
-/// A query. Its table is told by its place in the VSchema, its columns by their places in the table.
+/// The second table of a join, and the two columns that are equal in each of its pairs. A pair has the columns of both tables, those of
+/// the query's table first.
+#[derive(Clone, Copy, Debug, PartialEq, Eq)]
+pub struct Join {
+    /// The second table, by its place in the VSchema.
+    pub table: usize,
+    /// How many columns the query's table has.
+    pub width: usize,
+    /// The column of the query's table, by its place in a pair.
+    pub first: usize,
+    /// The column of the second table, by its place in a pair.
+    pub second: usize,
+    /// The type of the column of the second table.
+    pub kind: ColumnType,
+}
+
+/// A query. Its table is told by its place in the VSchema, its columns by their places in the table, or in the pairs of a join.
 /// `group_by` and `order_by` are empty where it has no such clause.
 #[derive(Drop)]
 pub struct Query {
     pub table: usize,
+    pub join: Option<Join>,
     pub items: Items<Item<usize>>,
     pub filter: Option<Condition<usize>>,
     pub group_by: Items<usize>,

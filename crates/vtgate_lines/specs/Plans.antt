@@ -58,12 +58,12 @@ inserted_text t ranges r = plan_text (insert_name r (length (taken_places t r ra
 
 abbrev pub write_text : VSchema → List KeyRange → W.Write → List ℕ
 write_text schema ranges (Insert n rows) = inserted_text (table_at schema n) ranges (insert_route (table_at schema n) rows)
-write_text schema ranges (Update n assignments filter') = routed_text (table_at schema n) ranges (route_of (table_at schema n) filter')
-write_text schema ranges (Delete n filter') = routed_text (table_at schema n) ranges (route_of (table_at schema n) filter')
+write_text schema ranges (Update n assignments filter') = routed_text (table_at schema n) ranges (route_of (table_at schema n) None filter')
+write_text schema ranges (Delete n filter') = routed_text (table_at schema n) ranges (route_of (table_at schema n) None filter')
 
 -- the line of a statement with its names resolved; one without a table has no shard
 abbrev pub typed_text : VSchema → List KeyRange → Typed → List ℕ
-typed_text schema ranges (Select q) = routed_text (table_at schema q.table) ranges (route_of (table_at schema q.table) q.filter)
+typed_text schema ranges (Select q) = routed_text (table_at schema q.table) ranges (route_of (table_at schema q.table) q.join q.filter)
 typed_text schema ranges (Write w) = write_text schema ranges w
 typed_text schema ranges Begin = line (codes "None:")
 typed_text schema ranges Commit = line (codes "None:")

@@ -4,10 +4,10 @@ ghost use Rattle.vtgate_lines.specs.Plans.{route_name, insert_name, range_word, 
 
 use crate::rows::put;
 use keyrange::KeyRange;
-use planner::{Route, shards, write_route};
+use planner::{Route, query_route, shards, write_route};
 use sql_parser::parse;
 use std::alloc::Global;
-use vschema::{Typed, VSchema, Write};
+use vschema::{Query, Typed, VSchema, Write};
 use vt_value::Refusal;
 
 fn route_name(route: &Route) -> &'static [u8]
@@ -136,6 +136,23 @@ fn owned_line(
     line
 }
 
+fn query_line(
+    alloc: Global,
+    schema: &VSchema,
+    ranges: &[KeyRange],
+    query: &Query,
+) -> Result<Vec<u8>, Refusal>
+    ensures ok { IfOk result (λ line. line.items ≡ typed_text schema.now ranges.now (Typed.Select query.now)) }
+    ensures err { IfErr result (λ e. e ≡ Refusal.OutOfMemory) }
+{
+    let route = query_route(alloc, schema, query)?;
+    let Some(table) = schema.tables.as_slice().get(query.table) else {
+        return printed(alloc, route_name(&route), &route, ranges, &[]);
+    };
+    let places = shards(alloc, table, &route, ranges)?;
+    printed(alloc, route_name(&route), &route, ranges, &places)
+}
+
 fn typed_line(
     alloc: Global,
     schema: &VSchema,
@@ -146,10 +163,10 @@ fn typed_line(
     ensures err { IfErr result (λ e. e ≡ Refusal.OutOfMemory) }
 {
     match typed {
-        // A query has the route of a DELETE with its condition.
         Typed::Select(query) => {
-            let write = Write::Delete(query.table, query.filter);
-            owned_line(alloc, schema, ranges, write)
+            let line = query_line(alloc, schema, ranges, &query);
+            drop(query);
+            line
         }
         Typed::Write(write) => owned_line(alloc, schema, ranges, write),
         Typed::Begin | Typed::Commit | Typed::Rollback | Typed::SetNames => {

@@ -2,7 +2,6 @@
 use Rattle.std.specs.Prelude.{Bool, true, false}
 use Rattle.shard_run.specs.declared.Event.{Event}
 use Rattle.shard_run.specs.declared.Event.TheVariants.{Commit, Follow, Copy}
-use Rattle.shard_run.specs.Runs.{mode}
 
 -- an entry that changes a mode at most: nothing is stored, and rows stay
 abbrev pub is_plain : Event → Bool

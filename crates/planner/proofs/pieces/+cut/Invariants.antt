@@ -6,5 +6,5 @@ abbrev pub invariant-cut_members-loop-member : goal.invariant-cut_members-loop-m
 invariant-cut_members-loop-member l =
     l.list
     ++ cond l.is_cut (drop l.member-index l.members)
-    (first_cut l.home.vindex.column (map (cut_by l.home.vindex.column (is_member_of l.home.table.now l.home.vindex l.home.range.now)) (drop l.member-index l.members)))
-    ≡ first_cut l.home.vindex.column (map (cut_by l.home.vindex.column (is_member_of l.home.table.now l.home.vindex l.home.range.now)) l.members)
+    (first_cut l.home.keys (map (cut_by l.home.keys (is_member_of l.home.table.now l.home.range.now)) (drop l.member-index l.members)))
+    ≡ first_cut l.home.keys (map (cut_by l.home.keys (is_member_of l.home.table.now l.home.range.now)) l.members)

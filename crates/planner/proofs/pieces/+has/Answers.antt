@@ -6,5 +6,5 @@ use Rattle.planner.proofs.pieces.+has.Goals as goal
 
 pub has_among-returns-in-And : goal.has_among-returns-in-And
 has_among-returns-in-And t c =
-    c.one_has_among.ensures ∙ ap (list_any (has_among c.args.column)) c.as_slice.ensures
-    ∙ sym (has_among-And c.args.column c.in-And.members) ∙ ap (has_among c.args.column) (sym c.in-And.is)
+    c.one_has_among.ensures ∙ ap (list_any (has_among c.args.keys)) c.as_slice.ensures
+    ∙ sym (has_among-And c.args.keys c.in-And.members) ∙ ap (has_among c.args.keys) (sym c.in-And.is)

@@ -4,4 +4,4 @@ use Rattle.planner.proofs.pieces.own_members.Given as goal
 
 abbrev pub invariant-loop-member : goal.invariant-loop-member
 invariant-loop-member l =
-    (l.list ≡ filter (is_member_of l.home.table.now l.home.vindex l.home.range.now) (take l.member-index l.members)) × (l.at ≤ l.member-index)
+    (l.list ≡ filter (is_member_of l.home.table.now l.home.range.now l.kind) (take l.member-index l.members)) × (l.at ≤ l.member-index)

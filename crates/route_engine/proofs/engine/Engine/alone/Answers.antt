@@ -3,7 +3,7 @@ use Rattle.shard_contents.specs.Transactions.{PendingView}
 use Rattle.sql_eval.specs.Writes.{written_table}
 use Rattle.shard_law.proofs.Typed.{table_there}
 use Rattle.vschema.specs.declared.schema.VSchema.{VSchema}
-use Rattle.route_engine.proofs.Theirs.{query_there}
+use Rattle.route_engine.proofs.Theirs.{query_there, query_joins}
 use Rattle.route_engine.proofs.Sessions.{is_typed}
 use Rattle.route_engine.proofs.Leading as l
 use Rattle.route_engine.proofs.engine.Engine.alone.Goals as goal
@@ -54,4 +54,9 @@ write-requires-clause-there g c κs within =
 pub select-requires-clause-there : goal.select-requires-clause-there
 select-requires-clause-there g c κs within =
     let means = rw c.in-Select.is at c.requires.means in
-    subst (λ (v : VSchema). c.in-Select.query.table < length v.tables) (sym c.requires.served) (query_there g.W.World.opening.schema means.0 c.in-Select.query means.1)
+    subst (λ (v : VSchema). c.in-Select.query.table < length v.tables) (sym c.requires.served) (query_there g.W.World.opening.schema means.0 c.in-Select.query means.1).0
+
+pub select-requires-clause-joins : goal.select-requires-clause-joins
+select-requires-clause-joins g c κs within =
+    let means = rw c.in-Select.is at c.requires.means in
+    query_joins g.W.World.opening.schema means.0 c.in-Select.query means.1

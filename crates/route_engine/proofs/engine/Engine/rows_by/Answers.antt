@@ -9,7 +9,7 @@ returns-in_err-needs_bound-in-Some-clause-err g c =
     rw (p.1, p.2, c.in_err-needs_bound-in-Some.ensures.err.0)
     (d.read_elsewhere g.W.World.opening c.requires.opens c.requires.formed g.W.World.limits c.args.pass.now c.requires.legal c.requires.session c.requires.above
     (record { bound = c.args.bound.now; pending = c.args.pending.now })
-    c.args.query.now c.requires.there c.args.table.now c.requires.table c.args.route.now c.requires.route c.in-Some.here c.in-Some.is c.in_err-needs_bound-in-Some.ensures.err.1)
+    c.args.query.now c.requires.there c.requires.joins c.args.table.now c.requires.table c.args.route.now c.requires.route c.in-Some.here c.in-Some.is c.in_err-needs_bound-in-Some.ensures.err.1)
 
 pub read_at-requires-clause-tied : goal.read_at-requires-clause-tied
 read_at-requires-clause-tied g c =
@@ -21,7 +21,7 @@ returns-in_err-new-in-None-clause-err g c =
     let p = err_from_is_err_and c.from_residual-in_err-new-in-None.result c.from_residual-in_err-new-in-None.ensures.1 in
     rw (p.1, p.2) (d.read_not_bound g.W.World.opening c.requires.opens c.requires.formed g.W.World.limits c.args.pass.now c.requires.legal c.requires.session c.requires.above
     (record { bound = c.args.bound.now; pending = c.args.pending.now })
-    c.args.query.now c.requires.there c.args.table.now c.requires.table c.args.route.now c.requires.route c.in_err-new-in-None.field-0.0 c.in_err-new-in-None.ensures.err)
+    c.args.query.now c.requires.there c.requires.joins c.args.table.now c.requires.table c.args.route.now c.requires.route c.in_err-new-in-None.field-0.0 c.in_err-new-in-None.ensures.err)
 
 pub read_first-requires-clause-tied : goal.read_first-requires-clause-tied
 read_first-requires-clause-tied g c =
@@ -32,46 +32,46 @@ pub returns-then-branch-clause-ok : goal.returns-then-branch-clause-ok
 returns-then-branch-clause-ok g c =
     d.all_read g.W.World.opening c.requires.opens c.requires.formed g.W.World.limits c.args.pass.now c.requires.legal c.requires.session c.requires.above
     (record { bound = c.args.bound.now; pending = c.args.pending.now })
-    c.args.query.now c.requires.there c.args.table.now c.requires.table c.args.route.now c.requires.route c.in-Some.here (inr c.in-Some.is) (c.in_ok-needs_bound-in-Some.ensures.bound c.if-branch.true) c.read_at.new.pass (Some c.in-Some.here) c.read_at.new.pending c.read_at.result (d.always c.read_at.result refl) c.read_at.ensures.ok
+    c.args.query.now c.requires.there c.requires.joins c.args.table.now c.requires.table c.args.route.now c.requires.route c.in-Some.here (inr c.in-Some.is) (c.in_ok-needs_bound-in-Some.ensures.bound c.if-branch.true) c.read_at.new.pass (Some c.in-Some.here) c.read_at.new.pending c.read_at.result (d.always c.read_at.result refl) c.read_at.ensures.ok
 
 pub returns-then-branch-clause-err : goal.returns-then-branch-clause-err
 returns-then-branch-clause-err g c =
     d.all_not_read g.W.World.opening c.requires.opens c.requires.formed g.W.World.limits c.args.pass.now c.requires.legal c.requires.session c.requires.above
     (record { bound = c.args.bound.now; pending = c.args.pending.now })
-    c.args.query.now c.requires.there c.args.table.now c.requires.table c.args.route.now c.requires.route c.in-Some.here (inr c.in-Some.is) (c.in_ok-needs_bound-in-Some.ensures.bound c.if-branch.true) c.read_at.new.pass c.read_at.result c.read_at.ensures.err
+    c.args.query.now c.requires.there c.requires.joins c.args.table.now c.requires.table c.args.route.now c.requires.route c.in-Some.here (inr c.in-Some.is) (c.in_ok-needs_bound-in-Some.ensures.bound c.if-branch.true) c.read_at.new.pass c.read_at.result c.read_at.ensures.err
 
 pub returns-else-branch-clause-ok : goal.returns-else-branch-clause-ok
 returns-else-branch-clause-ok g c =
     d.all_nowhere g.W.World.opening c.requires.opens c.requires.formed g.W.World.limits c.args.pass.now c.requires.legal c.requires.session c.requires.above
     (record { bound = c.args.bound.now; pending = c.args.pending.now })
-    c.args.query.now c.requires.there c.args.table.now c.requires.table c.args.route.now c.requires.route (Some c.in-Some.here) (sym c.in-Some.is) (c.in_ok-needs_bound-in-Some.ensures.none c.if-branch.false) c.read_nothing.result c.read_nothing.ensures.rows c.read_nothing.ensures.reads
+    c.args.query.now c.requires.there c.requires.joins c.args.table.now c.requires.table c.args.route.now c.requires.route (Some c.in-Some.here) (sym c.in-Some.is) (c.in_ok-needs_bound-in-Some.ensures.none c.if-branch.false) c.read_nothing.result c.read_nothing.ensures.rows c.read_nothing.ensures.reads
 
 pub returns-else-branch-clause-err : goal.returns-else-branch-clause-err
 returns-else-branch-clause-err g c =
     d.nowhere_refused g.W.World.opening c.requires.opens c.requires.formed g.W.World.limits c.args.pass.now c.requires.legal c.requires.session c.requires.above
     (record { bound = c.args.bound.now; pending = c.args.pending.now })
-    c.args.query.now c.requires.there c.args.table.now c.requires.table c.args.route.now c.requires.route c.read_nothing.result c.read_nothing.ensures.err
+    c.args.query.now c.requires.there c.requires.joins c.args.table.now c.requires.table c.args.route.now c.requires.route c.read_nothing.result c.read_nothing.ensures.err
 
 pub returns-in-Some-2-clause-ok : goal.returns-in-Some-2-clause-ok
 returns-in-Some-2-clause-ok g c =
     d.all_read g.W.World.opening c.requires.opens c.requires.formed g.W.World.limits c.args.pass.now c.requires.legal c.requires.session c.requires.above
     (record { bound = c.args.bound.now; pending = c.args.pending.now })
-    c.args.query.now c.requires.there c.args.table.now c.requires.table c.args.route.now c.requires.route c.in-Some-2.new (inl c.in-None.is) (rw c.in-Some-2.is at c.in_ok-new-in-None.ensures.some) c.read_first.new.pass c.read_first.new.bound c.read_first.new.pending c.read_first.result c.read_first.ensures.now_bound c.read_first.ensures.ok
+    c.args.query.now c.requires.there c.requires.joins c.args.table.now c.requires.table c.args.route.now c.requires.route c.in-Some-2.new (inl c.in-None.is) (rw c.in-Some-2.is at c.in_ok-new-in-None.ensures.some) c.read_first.new.pass c.read_first.new.bound c.read_first.new.pending c.read_first.result c.read_first.ensures.now_bound c.read_first.ensures.ok
 
 pub returns-in-Some-2-clause-err : goal.returns-in-Some-2-clause-err
 returns-in-Some-2-clause-err g c =
     d.all_not_read g.W.World.opening c.requires.opens c.requires.formed g.W.World.limits c.args.pass.now c.requires.legal c.requires.session c.requires.above
     (record { bound = c.args.bound.now; pending = c.args.pending.now })
-    c.args.query.now c.requires.there c.args.table.now c.requires.table c.args.route.now c.requires.route c.in-Some-2.new (inl c.in-None.is) (rw c.in-Some-2.is at c.in_ok-new-in-None.ensures.some) c.read_first.new.pass c.read_first.result c.read_first.ensures.err
+    c.args.query.now c.requires.there c.requires.joins c.args.table.now c.requires.table c.args.route.now c.requires.route c.in-Some-2.new (inl c.in-None.is) (rw c.in-Some-2.is at c.in_ok-new-in-None.ensures.some) c.read_first.new.pass c.read_first.result c.read_first.ensures.err
 
 pub returns-in-None-2-clause-ok : goal.returns-in-None-2-clause-ok
 returns-in-None-2-clause-ok g c =
     d.all_nowhere g.W.World.opening c.requires.opens c.requires.formed g.W.World.limits c.args.pass.now c.requires.legal c.requires.session c.requires.above
     (record { bound = c.args.bound.now; pending = c.args.pending.now })
-    c.args.query.now c.requires.there c.args.table.now c.requires.table c.args.route.now c.requires.route c.args.bound.now refl (rw c.in-None-2.is at c.in_ok-new-in-None.ensures.none) c.read_nothing-in-None-2.result c.read_nothing-in-None-2.ensures.rows c.read_nothing-in-None-2.ensures.reads
+    c.args.query.now c.requires.there c.requires.joins c.args.table.now c.requires.table c.args.route.now c.requires.route c.args.bound.now refl (rw c.in-None-2.is at c.in_ok-new-in-None.ensures.none) c.read_nothing-in-None-2.result c.read_nothing-in-None-2.ensures.rows c.read_nothing-in-None-2.ensures.reads
 
 pub returns-in-None-2-clause-err : goal.returns-in-None-2-clause-err
 returns-in-None-2-clause-err g c =
     d.nowhere_refused g.W.World.opening c.requires.opens c.requires.formed g.W.World.limits c.args.pass.now c.requires.legal c.requires.session c.requires.above
     (record { bound = c.args.bound.now; pending = c.args.pending.now })
-    c.args.query.now c.requires.there c.args.table.now c.requires.table c.args.route.now c.requires.route c.read_nothing-in-None-2.result c.read_nothing-in-None-2.ensures.err
+    c.args.query.now c.requires.there c.requires.joins c.args.table.now c.requires.table c.args.route.now c.requires.route c.read_nothing-in-None-2.result c.read_nothing-in-None-2.ensures.err

@@ -17,7 +17,7 @@ returns-in_err-route-clause-err g c =
 pub rows_by-given-requires-clause-keyspace : goal.rows_by-given-requires-clause-keyspace
 rows_by-given-requires-clause-keyspace g c κs within =
     let o = g.W.World.opening in
-    let there = subst (λ (v : VSchema). c.args.query.now.table < length v.tables) (sym c.self.invariant.schema_is) c.requires.there in
+    let there = subst (λ (v : VSchema). c.args.query.now.table < length v.tables) (sym c.self.invariant.schema_is) c.requires.there.0 in
     let t = is_table o c.self.inside.schema c.self.invariant.schema_is (c.args.query.now.table) there c.index-as_slice-query.result
     (c.index-as_slice-query.is ∙ ap (λ (l : List Table). get_or l c.args.query.now.table c.index-as_slice-query.result) c.as_slice.ensures) in
     let below = keyspace_below o.schema c.self.invariant.formed (c.args.query.now.table) in

@@ -3,6 +3,7 @@ use Rattle.std.proofs.lemmas.Result.{err_from_is_err_and}
 use Rattle.route_engine.proofs.Doing as d
 use Rattle.shard_law.proofs.Typed.{table_there}
 use Rattle.route_engine.proofs.Sessions.{is_typed}
+use Rattle.route_engine.proofs.Theirs.{query_there, query_joins}
 use Rattle.route_engine.proofs.engine.Engine.step_in.Goals as goal
 
 pub write_in-requires-clause-typed : goal.write_in-requires-clause-typed
@@ -14,6 +15,16 @@ pub write_in-requires-clause-there : goal.write_in-requires-clause-there
 write_in-requires-clause-there g c κs within =
     let means = rw c.in-Write.is at c.requires.means in
     table_there g.W.World.opening.schema c.in-Write.write (is_typed g.W.World.opening.schema means.0 c.in-Write.write means.1)
+
+pub select_in-requires-clause-there : goal.select_in-requires-clause-there
+select_in-requires-clause-there g c κs within =
+    let means = rw c.in-Select.is at c.requires.means in
+    query_there g.W.World.opening.schema means.0 c.in-Select.query means.1
+
+pub select_in-requires-clause-joins : goal.select_in-requires-clause-joins
+select_in-requires-clause-joins g c κs within =
+    let means = rw c.in-Select.is at c.requires.means in
+    query_joins g.W.World.opening.schema means.0 c.in-Select.query means.1
 
 pub returns-in-SetNames-clause-ok : goal.returns-in-SetNames-clause-ok
 returns-in-SetNames-clause-ok g c =

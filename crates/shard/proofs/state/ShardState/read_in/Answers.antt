@@ -1,14 +1,15 @@
 use Rattle.std.proofs.Common.{◌≡◌, ℕ, ◌≤◌, ◌^◌, List, length, ap, sym, subst, ◌∙◌, arith}
 use Rattle.std.proofs.lemmas.Result.{err_from_is_err_and}
 use Rattle.vschema.specs.declared.changes.RowChange.{RowChange}
-use Rattle.vschema.specs.Database.{rows_of, all_applied}
+use Rattle.vschema.specs.Database.{all_applied}
+use Rattle.vschema.specs.Sources.{source_rows, source_tables, SourcesThere}
 use Rattle.sql_eval.specs.Groups.{CanBeSummed}
-use Rattle.sql_eval.specs.Queries.{IsAnswer}
+use Rattle.sql_eval.specs.Queries.{Allowed}
 use Rattle.shard_run.specs.Runs.{stored_on}
 use Rattle.shard_contents.specs.Shards.{seat_view}
-use Rattle.shard_contents.specs.Transactions.{touched_with, PendingView}
+use Rattle.shard_contents.specs.Transactions.{touched_all, PendingView}
 use Rattle.shard_contents.specs.Transactions as t
-use Rattle.shard.proofs.HeldRows.{length-of_table}
+use Rattle.shard.proofs.HeldRows.{few_sources}
 use Rattle.shard.proofs.LooksIn as l
 use Rattle.shard.proofs.state.ShardState.read_in.Goals as goal
 
@@ -32,37 +33,35 @@ select_behind-requires-clause-there g c =
     let e = c.in_ok-entries.ensures in
     let long = l.tables g.W.World.opening g.W.World.limits c.self.inside.seat c.self.inside.contents c.self.invariant.0 _ c.self.view_is c.args.self.now.shard e.shard
     c.args.tx.now e.clear e.seen.legal in
-    let there = c.requires.there in
-    omega (arith, long, there)
+    subst (λ (count : ℕ). SourcesThere count c.args.query.now) (sym long) c.requires.there
 
 pub select_behind-requires-clause-few : goal.select_behind-requires-clause-few
 select_behind-requires-clause-few g c =
     let e = c.in_ok-entries.ensures in
     let few = l.few g.W.World.opening g.W.World.limits c.self.inside.seat c.self.inside.contents c.self.invariant.0 _ c.self.view_is c.args.self.now.shard e.shard
     c.args.tx.now e.clear e.seen.legal in
-    let long = length-of_table c.self.inside.contents.store.rows c.args.query.now.table in
-    omega (arith, few, long)
+    let sources = few_sources c.args.query.now c.self.inside.contents.store.rows few in
+    omega (arith, sources)
 
 pub select_behind-requires-clause-summed : goal.select_behind-requires-clause-summed
 select_behind-requires-clause-summed g c aggregated few =
     let e = c.in_ok-entries.ensures in
     let own : c.as_slice.result.now ≡ c.args.tx.now.changes = c.as_slice.ensures.value ∙ ap (λ (x : PendingView). x.changes) c.tx.view_is in
     let rows = c.self.inside.contents.store.rows in
-    let n = c.args.query.now.table in
-    subst (λ (changes : List RowChange). CanBeSummed (rows_of (all_applied changes rows) n)) (sym own)
+    let q = c.args.query.now in
+    subst (λ (changes : List RowChange). CanBeSummed (source_rows q (all_applied changes rows))) (sym own)
     (l.summed g.W.World.opening g.W.World.limits c.self.inside.seat c.self.inside.contents c.self.invariant.0 _ c.self.view_is c.args.self.now.shard e.shard
-    c.args.tx.now e.clear e.seen.legal (seat_view c.args.self.now) c.args.pass.now e.seen c.requires.tied c.requires.session c.requires.above n
-    (subst (λ (changes : List RowChange). length (rows_of (all_applied changes rows) n) ≤ 2 ^ 60) own few))
+    c.args.tx.now e.clear e.seen.legal (seat_view c.args.self.now) c.args.pass.now e.seen c.requires.tied c.requires.session c.requires.above q
+    (subst (λ (changes : List RowChange). length (source_rows q (all_applied changes rows)) ≤ 2 ^ 60) own few))
 
 pub returns-clause-read : goal.returns-clause-read
 returns-clause-read g c =
     let e = c.in_ok-entries.ensures in
     let tx : PendingView = c.args.tx.now in
-    let n : ℕ = c.args.query.now.table in
     let own : c.as_slice.result.now ≡ tx.changes = c.as_slice.ensures.value ∙ ap (λ (x : PendingView). x.changes) c.tx.view_is in
     let rows = c.self.inside.contents.store.rows in
-    let stored : c.len.result ≡ length (stored_on c.args.self.now.shard.slot c.check.new.self.seen) =
-    c.len.ensures ∙ c.self.inside.contents.stored.ok.0
+    let stored : c.len-stored.result ≡ length (stored_on c.args.self.now.shard.slot c.check.new.self.seen) =
+    c.len-stored.ensures ∙ c.self.inside.contents.stored.ok.0
     ∙ l.stored_is g.W.World.opening g.W.World.limits c.self.inside.seat c.self.inside.contents c.self.invariant.0 _ c.self.view_is c.args.self.now.shard e.shard
     c.args.tx.now e.clear e.seen.legal in
     record {
@@ -70,7 +69,7 @@ returns-clause-read g c =
       allowed =
           l.allowed g.W.World.opening g.W.World.limits c.self.inside.seat c.self.inside.contents c.self.invariant.0 _ c.self.view_is c.args.self.now.shard e.shard
           c.args.tx.now e.clear e.seen.legal tx.changes c.args.query.now c.in_ok-rows.rows
-          (subst (λ (changes : List RowChange). IsAnswer c.args.query.now (rows_of (all_applied changes rows) n) c.in_ok-rows.rows) own c.in_ok-rows.ensures.ok);
+          (subst (λ (changes : List RowChange). Allowed c.args.query.now (all_applied changes rows) c.in_ok-rows.rows) own c.in_ok-rows.ensures.ok);
       count = e.entries;
-      touch = c.in_ok-touch.ensures.ok ∙ ap (λ (k : ℕ). record tx { touched = touched_with tx.touched (record { table = n; stored = k }) }) stored;
+      touch = c.in_ok-touch.ensures.ok ∙ ap (λ (k : ℕ). record tx { touched = touched_all tx.touched (source_tables c.args.query.now) k }) stored;
     }

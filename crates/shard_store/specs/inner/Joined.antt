@@ -1,0 +1,63 @@
+-- Rows that are looked up by a value, and which first rows of pairs are looked at.
+use Rattle.std.specs.Prelude.{◌≡◌, ◌<◌, ℕ, Bool, true, false, List, [], ◌∷◌, map, filter, length, slice_index, Option, Some, None}
+use Rattle.std.specs.Borrow.{Bor}
+use Rattle.std.specs.List.{AllByRecursion, list_all}
+use Rattle.std.specs.Ordering.{is_eq, is_lt}
+use Rattle.vt_value.specs.declared.value.Value.{Value}
+use Rattle.vt_value.specs.Values.{Row, value_at, value_cmp, is_true}
+use Rattle.sql_tree.specs.declared.Condition.{Condition}
+use Rattle.sql_eval.specs.Conditions.{truth_at}
+use Rattle.shard_store.specs.Slots.{rows_in}
+use Rattle.shard_store.specs.Tables.{TableView, begins_with}
+use Rattle.shard_store.specs.Chosen.{slots_chosen, fits}
+use Rattle.shard_store.specs.declared.fixed.Fixed.{Fixed}
+use Rattle.shard_store.specs.declared.walk.ChosenSlots.{ChosenSlots}
+
+-- rows, and the column by whose values they are looked up
+pub record ColumnRows : Type 0 where
+  pub column : ℕ
+  pub rows : List Row
+
+-- the row has the value in the column
+abbrev pub has_value : ℕ → Value → Row → Bool
+has_value column v row = is_eq (value_cmp v (value_at row column))
+
+-- the row has one of the values in the column, where values are given
+abbrev pub may_have : Option Fixed → ℕ → Row → Bool
+may_have None column row = true
+may_have (Some f) column row = fits f (value_at row column)
+
+-- each of the conditions is true at the row
+abbrev pub passes : List (Bor (Condition ℕ)) → Row → Bool
+passes own row = list_all (λ c. is_true (truth_at row c.now)) own
+
+-- the column is the first by whose values a table's rows are stored
+abbrev pub IsFirstKey : ℕ → List ℕ → Type 0
+IsFirstKey column places = (0 < length places) × (slice_index places 0 ≡ column)
+
+-- a table's rows in slots are looked up by their first key column
+abbrev pub StoredBy : ℕ → Option (Bor TableView) → Type 0
+StoredBy column None = Unit {0}
+StoredBy column (Some t) = IsFirstKey column t.now.places
+
+abbrev pub stored_rows : Option (Bor TableView) → List Row
+stored_rows None = []
+stored_rows (Some t) = rows_in t.now.slots
+
+-- those of them that have a value there
+abbrev pub stored_with : Value → Option (Bor TableView) → List Row
+stored_with v None = []
+stored_with v (Some t) = filter (begins_with t.now.places v) (rows_in t.now.slots)
+
+abbrev pub rows_lent : List (Bor Row) → List Row
+rows_lent rows = map (λ r. r.now) rows
+
+-- no row's value is below that of an earlier row
+abbrev pub Rises : ℕ → List (Bor Row) → Type 0
+Rises column [] = Unit {0}
+Rises column (x ∷ rows) = AllByRecursion (λ y. is_lt (value_cmp (value_at y.now column) (value_at x.now column)) ≡ false) rows × Rises column rows
+
+-- rows in slots that are still to come, if there are any
+abbrev pub slots_left : Option ChosenSlots → List Row
+slots_left None = []
+slots_left (Some slots) = slots_chosen slots
