@@ -1,6 +1,7 @@
 #!/usr/bin/env bash
-# Measures a split through sockets: rows copied a second, the longest time that a writer waits over a cutover, and statements a second beside a
-# running copy. Prints the tables; with --write puts them into docs/PERFORMANCE.md.
+# Measures a split through sockets: rows copied a second, the longest time that a writer waits over a cutover, statements a second beside a running
+# copy, how soon targets are level beside writers at full speed, and steps a second by entries. Prints the tables; with --write puts them into
+# docs/PERFORMANCE.md.
 # Usage: bench/split.sh [--write] [--rows N,..] [--rounds N] [--seconds S] [PROGRAM]
 # PROGRAM is built by `rt run` in crates/vtgate_main where none is given. Needs a C compiler.
 set -euo pipefail

@@ -1,4 +1,5 @@
-"""Measures splits of a served shard: copying, the longest wait of a writer, and the rate of statements beside a copy. Called by bench/split.sh."""
+"""Measures splits of a served shard: copying, the longest wait of a writer, the rate of statements beside a copy, how soon targets are level
+beside writers at full speed, and steps a second by entries. Called by bench/split.sh."""
 
 import argparse
 import datetime
@@ -24,6 +25,10 @@ FIRST_ID = 100000
 BETWEEN = 0.001
 # each takes two of a router's 64 slots, of which two are shards' and one is the unsharded keyspace's
 MOST_COPIES = 30
+# the writers beside a split, each as fast as it is answered, and for how many seconds
+WRITERS, WRITING = "4", 5
+# for how many seconds they write before each figure of the steps a second
+STRETCHES = (0.01, 0.1, 1, 10)
 KINDS = ("point", "insert", "update", "scatter", "mix", "transaction")
 HEAD = """## Splits
 
@@ -60,27 +65,38 @@ class Router:
         call = [self.words.load, what, str(self.port), "bench", "", "shop", str(self.rows), *more]
         return subprocess.run(call, stdout=subprocess.PIPE, check=True).stdout
 
-    def ask(self, *lines):
-        """The answer to the last of the lines."""
+    def answers(self, *lines):
+        """The answers to the lines."""
         self.admin.sendall("".join(line + "\n" for line in lines).encode())
         answers = b""
         while answers.count(b"\n") < len(lines):
             answers += self.admin.recv(65536)
-        return answers.decode().splitlines()[-1]
+        return answers.decode().splitlines()
+
+    def ask(self, *lines):
+        """The answer to the last of the lines."""
+        return self.answers(*lines)[-1]
 
     def does(self, line):
         answer = self.ask(line)
         if answer != "ok":
             sys.exit(f"{line}: {answer}")
 
+    def step(self):
+        """Takes steps; tells how many copied or followed, and whether the targets are level."""
+        answers = self.answers(*["step"] * 20)
+        if not answers[-1].startswith("ok "):
+            sys.exit(f"step: {answers[-1]}")
+        return sum(it in ("ok copied", "ok followed") for it in answers), answers[-1] == "ok level"
+
     def follow(self):
-        """Steps until the targets are level."""
+        """Steps until the targets are level; tells how many."""
+        taken = 0
         while True:
-            answer = self.ask(*["step"] * 20)
-            if answer == "ok level":
-                return
-            if not answer.startswith("ok "):
-                sys.exit(f"step: {answer}")
+            more, level = self.step()
+            taken += more
+            if level:
+                return taken
 
 
 class Writer(threading.Thread):
@@ -139,8 +155,13 @@ def splits(words):
         yield rows, rows // 2 / copying, *(1e6 * it for it in (switch, before, wait, most))
 
 
+def write(router, kind, seconds):
+    """Statements a second by clients at full speed for so long, and a quarter of it before."""
+    return int(router.load("run", kind, WRITERS, str(seconds)).split()[0])
+
+
 def rate(router, words, kind):
-    return int(router.load("run", kind, "4", str(words.seconds)).split()[0])
+    return write(router, kind, words.seconds)
 
 
 def beside(words, kind, rows=100000):
@@ -167,6 +188,41 @@ def beside(words, kind, rows=100000):
         return without, during, copies[0]
 
 
+def beside_writers(words, kind, rows=100000):
+    """Statements a second by clients at full speed, steps taken, seconds from the split's beginning and from the clients' end until the
+    targets are level."""
+    with Router(words, rows) as router:
+        rates = []
+        writers = threading.Thread(target=lambda: rates.append(write(router, kind, WRITING)))
+        router.does("create -80 -40,40-80")
+        begin = time.perf_counter()
+        writers.start()
+        taken, end = 0, None
+        while True:
+            had_ended = end is not None
+            more, level = router.step()
+            taken += more
+            if not had_ended and not writers.is_alive():
+                end = time.perf_counter()
+            if level and had_ended:
+                now = time.perf_counter()
+                return rates[0], taken, now - begin, now - end
+
+
+def by_entries(words):
+    """Steps that followed an entry before and in each stretch, and how many a second these were, of one split."""
+    with Router(words, 1000) as router:
+        router.does("create -80 -40,40-80")
+        router.follow()
+        before = 0
+        for seconds in STRETCHES:
+            write(router, "update", seconds)
+            begin = time.perf_counter()
+            steps = router.follow()
+            yield before, steps, steps / (time.perf_counter() - begin)
+            before += steps
+
+
 def section(words):
     lines = [HEAD.format(day=datetime.date.today(), cores=os.cpu_count(), rounds=words.rounds)]
     lines += ["| rows | copied a second | `switch`, µs | longest wait before, µs | longest wait meanwhile, µs | of all rounds |", "|---|---|---|---|---|---|"]
@@ -177,6 +233,14 @@ def section(words):
         rounds = [beside(words, kind) for _ in range(words.rounds)]
         without, during, copies = (statistics.median(it) for it in zip(*rounds))
         lines.append(f"| {kind} | {without:.0f} | {during:.0f} | {during / without:.2f} | {copies:.0f} |")
+    lines += ["", f"A split of 50,000 rows beside {WRITERS} clients that ask as fast as they are answered for {WRITING} seconds. Steps are taken by lines, 20 at once:", ""]
+    lines += ["| statements | a second | steps | level after, s | of which behind the clients, s |", "|---|---|---|---|---|"]
+    for kind in ("update", "insert", "point"):
+        asked, steps, whole, behind = beside_writers(words, kind)
+        lines.append(f"| {kind} | {asked} | {steps} | {whole:.1f} | {behind:.2f} |")
+    lines += ["", "Steps a second in which two targets follow a source, by the steps that they had taken before:", ""]
+    lines += ["| steps before | steps | a second |", "|---|---|---|"]
+    lines += [f"| {before} | {steps} | {each:.0f} |" for before, steps, each in by_entries(words)]
     return "\n".join(lines) + "\n"
 
 

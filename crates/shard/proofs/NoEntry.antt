@@ -10,6 +10,8 @@ use Rattle.shard_run.specs.Runs.{Run, Opening, is_on, is_stored, is_opening, ent
 use Rattle.shard_contents.specs.declared.limits.Limits.{Limits}
 use Rattle.shard_contents.specs.declared.contents.Contents.{Contents}
 use Rattle.shard_contents.specs.Progress.{steps_of, steps_on}
+use Rattle.shard_contents.specs.Kept.{kept_from}
+use Rattle.shard_contents.proofs.Kept.{kept_none}
 use Rattle.shard_contents.specs.Shards.{ShardView, Holds, Keeps, holds, dropped, IsAfter}
 
 -- what doesn't follow never follows again
@@ -81,7 +83,8 @@ module _ (o : Opening) (most : Limits) (seat : SeatView Entry) (c : Contents) (v
   fresh_here : entries_on c.shard.slot seat.seen ≡ []
   fresh_here =
       let h = still_holds o most seat.seen c after.keeps follows in
-      no_entry (cond (is_opening o c.shard.slot) Serving Following) c.shard.slot seat.seen (sym h.mode ∙ follows) (sym h.steps ∙ steps) (sym h.stored ∙ stored)
+      no_entry (cond (is_opening o c.shard.slot) Serving Following) c.shard.slot seat.seen (sym h.mode ∙ follows)
+      (kept_none (steps_on c.shard.slot seat.seen) (sym h.steps ∙ steps)) (sym h.stored ∙ stored)
 
   pub fresh : entries_on v.shard.slot v.seen ≡ []
   fresh = subst (λ (v : ShardView). entries_on v.shard.slot v.seen ≡ []) view fresh_here
@@ -128,4 +131,4 @@ module _ (o : Opening) (most : Limits) (seat : SeatView Entry) (c : Contents) (v
   nothing_stored = ap length (kept.stored ∙ none_stored c.shard.slot seat.seen none_here)
 
   pub no_step : length c.steps.items ≡ 0
-  no_step = ap length (kept.steps ∙ ap (λ (l : Run). Rattle.std.specs.Prelude.flat_map (λ e. steps_of e.event) l) none_here)
+  no_step = ap length (kept.steps ∙ ap (λ (l : Run). kept_from [] (Rattle.std.specs.Prelude.flat_map (λ e. steps_of e.event) l)) none_here)

@@ -112,7 +112,8 @@ impl<W: World, J: Naming> ShardState<W, J> {
     // With: ShardState::{behind, copied_changes, entry_for, rows_to_copy, copy}
     // Refuses: shard_contents::follows_without_range_filter, shard_contents::copies_one_row_too_few,
     // shard_contents::copies_rows_out_of_order, shard_contents::copies_beyond_the_place, shard_contents::walk_ends_at_a_row_with_a_place,
-    // shard_contents::walk_ends_out_of_order, shard_contents::last_copy_is_forgotten, shard_contents::position_of_an_entry_before,
+    // shard_contents::walk_ends_out_of_order, shard_contents::last_copy_is_forgotten, shard_contents::last_copy_is_dropped,
+    // shard_contents::rows_of_another_table_are_dropped, shard_contents::superseded_steps_alone_are_kept, shard_contents::position_of_an_entry_before,
     // tables_of_another_source_are_copied, shard_contents::copies_a_row_again, shard_contents::copy_adds_no_rows,
     // shard_contents::tables_in_any_order
     /// How far a target that follows has come with a source, by its slot. Refuses for want of memory.

@@ -38,6 +38,7 @@ use Rattle.shard_contents.specs.inner.Commits as commits
 use Rattle.shard_contents.specs.Commits as refusals
 use Rattle.shard_contents.specs.Transactions.{entry_of}
 use Rattle.shard_contents.specs.Progress.{steps_of, steps_on}
+use Rattle.shard_contents.specs.Kept.{kept_from, kept_on}
 use Rattle.shard_contents.proofs.Progress.{steps-push}
 use Rattle.shard_contents.proofs.Bags.{same_through, length-same, row_count-same, all_applied-same}
 use Rattle.shard_contents.proofs.States.{held-same, mode-same, stored-same, holds_of, lives_if, entries-on}
@@ -257,8 +258,8 @@ module _ (o : Opening) (most : Limits) (seat : SeatView Entry) (c : Contents) (i
                 stored_are ∙ ap (λ l. l ++ e ∷ []) stored_here ∙ ap (λ l. stored_on s.slot run ++ l) (sym logged) ∙ sym (stored_on-push run e s.slot)
                 ∙ ap (λ (t : Shard). stored_on t.slot (run ++ e ∷ [])) (sym shard_is) ∙ ap (λ r. stored_on c'.shard.slot r) (sym seen);
             steps =
-                came ∙ has.steps ∙ ap (flat_map (λ (x : Entry). steps_of x.event)) (sym here) ∙ sym (steps-push run e s.slot on ∙ append-nil (steps_on s.slot run))
-                ∙ ap (λ (t : Shard). steps_on t.slot (run ++ e ∷ [])) (sym shard_is) ∙ ap (λ r. steps_on c'.shard.slot r) (sym seen);
+                came ∙ has.steps ∙ ap (kept_from []) (ap (flat_map (λ (x : Entry). steps_of x.event)) (sym here) ∙ sym (steps-push run e s.slot on ∙ append-nil (steps_on s.slot run)))
+                ∙ ap (λ (t : Shard). kept_on t.slot (run ++ e ∷ [])) (sym shard_is) ∙ ap (λ r. kept_on c'.shard.slot r) (sym seen);
             within = λ serves. subst (λ n. n ≤ most.rows) (sym (row_count-same c'.store.rows (held o (run ++ e ∷ []) s) now ∙ ap row_count left)) room.rows;
           });
           entries =

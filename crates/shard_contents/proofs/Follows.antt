@@ -31,9 +31,10 @@ use Rattle.shard_contents.proofs.Commits.{applied-append}
 use Rattle.shard_contents.proofs.Legality.{stands-next, legal_is}
 use Rattle.shard_contents.proofs.Tables.{taken_there}
 use Rattle.shard_contents.proofs.Looks.{following_lives}
-use Rattle.shard_contents.specs.declared.forward.Step.{Step}
 use Rattle.shard_contents.specs.declared.forward.Step.TheVariants.{Followed}
 use Rattle.shard_contents.specs.Progress.{steps_of, steps_on}
+use Rattle.shard_contents.specs.Kept.{keep, kept_from, kept_on}
+use Rattle.shard_contents.proofs.Kept.{kept-push}
 use Rattle.shard_contents.proofs.Progress.{steps-push}
 use Rattle.shard_contents.proofs.Bags.{same_through, length-same, all_applied-same}
 use Rattle.shard_contents.proofs.States.{held-same, stored-same, holds_of, entries-on, after_look, mode_after_look, alone_here}
@@ -118,7 +119,7 @@ module _ (o : Opening) (most : Limits) (seat : SeatView Entry) (c : Contents) (i
       stored_on-push run e s.slot ∙ ap (λ (l : Run). stored_on s.slot run ++ l) one ∙ ap (λ (l : Run). l ++ e ∷ []) (stored-same o seat.seen run s same)
 
   pub after_follow : (seat' : SeatView Entry) (c' : Contents) → seat'.seen ≡ run ++ e ∷ [] → seat'.slot ≡ seat.slot → c'.shard ≡ s
-      → SameRows c'.store.rows (all_applied f.changes c.store.rows) → c'.mode ≡ c.mode → c'.stored.items ≡ c.stored.items ++ e ∷ [] → c'.steps.items ≡ c.steps.items ++ Followed f.source f.place ∷ [] → c'.limits ≡ c.limits
+      → SameRows c'.store.rows (all_applied f.changes c.store.rows) → c'.mode ≡ c.mode → c'.stored.items ≡ c.stored.items ++ e ∷ [] → c'.steps.items ≡ keep (Followed f.source f.place) c.steps.items → c'.limits ≡ c.limits
       → length (entries_on s.slot seat.seen) < 2 ^ 40 → IsAfter o most seat' c'
   after_follow seat' c' seen at shard_is rows modes stores came limits_are room =
       let now : SameRows c'.store.rows (held o (run ++ e ∷ []) s) =
@@ -141,8 +142,9 @@ module _ (o : Opening) (most : Limits) (seat : SeatView Entry) (c : Contents) (i
               stores ∙ ap (λ (l : Run). l ++ e ∷ []) has.stored ∙ sym stored_now ∙ ap (λ (t : Shard). stored_on t.slot (run ++ e ∷ [])) (sym shard_is)
               ∙ ap (stored_on c'.shard.slot) (sym seen);
           steps =
-              came ∙ ap (λ (l : List Step). l ++ Followed f.source f.place ∷ []) (has.steps ∙ ap (flat_map (λ (x : Entry). steps_of x.event)) (sym same))
-              ∙ sym (steps-push run e s.slot on) ∙ ap (λ (t : Shard). steps_on t.slot (run ++ e ∷ [])) (sym shard_is) ∙ ap (steps_on c'.shard.slot) (sym seen);
+              came ∙ ap (keep (Followed f.source f.place)) (has.steps ∙ ap (λ (es : List Entry). kept_from [] (flat_map (λ (x : Entry). steps_of x.event) es)) (sym same))
+              ∙ sym (kept-push [] (steps_on s.slot run) (Followed f.source f.place)) ∙ ap (kept_from []) (sym (steps-push run e s.slot on))
+              ∙ ap (λ (t : Shard). kept_on t.slot (run ++ e ∷ [])) (sym shard_is) ∙ ap (kept_on c'.shard.slot) (sym seen);
           within = λ serves.
               absurd (false≢true (sym (ap is_serving (ap (λ r. mode o r c'.shard.slot) seen
               ∙ ap (λ (t : Shard). mode o (run ++ e ∷ []) t.slot) shard_is ∙ mode_follows)) ∙ serves));

@@ -7,6 +7,8 @@ pub mod Counts
 pub mod Places
 pub mod Commits
 pub mod Positions
+pub mod Kept
+pub mod KeptFew
 pub mod Progress
 pub mod Tables
 pub mod Modes

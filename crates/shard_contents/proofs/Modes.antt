@@ -29,6 +29,7 @@ use Rattle.shard_contents.proofs.Positions.{position-same, copied_all-same}
 use Rattle.shard_contents.proofs.Legality.{stands-same, stands-next}
 use Rattle.shard_contents.specs.declared.forward.Step.{Step}
 use Rattle.shard_contents.specs.Progress.{steps_of, steps_on}
+use Rattle.shard_contents.specs.Kept.{kept_from, kept_on}
 use Rattle.shard_contents.proofs.Progress.{steps-push, no_steps}
 use Rattle.shard_contents.proofs.States.{held-same, mode-same, stored-same, holds_of, lives_if, entries-on, entries-off, contains_later}
 
@@ -142,8 +143,8 @@ module _ (o : Opening) (most : Limits) (seat : SeatView Entry) (c : Contents) (i
               stores ∙ has.stored ∙ sym stored_now ∙ ap (λ (t : Shard). stored_on t.slot (run ++ e ∷ [])) (sym shard_is)
               ∙ ap (stored_on c'.shard.slot) (sym seen);
           steps =
-              came ∙ has.steps ∙ sym steps_now ∙ ap (λ (t : Shard). steps_on t.slot (run ++ e ∷ [])) (sym shard_is)
-              ∙ ap (steps_on c'.shard.slot) (sym seen);
+              came ∙ has.steps ∙ ap (kept_from []) (sym steps_now) ∙ ap (λ (t : Shard). kept_on t.slot (run ++ e ∷ [])) (sym shard_is)
+              ∙ ap (kept_on c'.shard.slot) (sym seen);
           within = λ serves.
               subst (λ db. row_count db ≤ most.rows) (sym rows)
               (fit (ap is_serving (sym mode_now ∙ ap (λ (t : Shard). mode o (run ++ e ∷ []) t.slot) (sym shard_is)

@@ -1,5 +1,5 @@
 -- The steps that a state keeps tell how far it has come with each source.
-use Rattle.std.proofs.Common.{◌≡◌, ℕ, zero, suc, ◌+◌, ◌<◌, ◌≤◌, length, get_or, take, arith, Bool, true, false, ◌&&◌, ◌||◌, ◌==◌, List, [], ◌∷◌, ◌++◌, Option, Some, None, refl, sym, ap, ◌∙◌, flat_map}
+use Rattle.std.proofs.Common.{◌≡◌, ℕ, zero, suc, ◌+◌, ◌<◌, ◌≤◌, length, get_or, take, arith, Bool, true, false, ◌&&◌, ◌||◌, ◌==◌, List, [], ◌∷◌, ◌++◌, Option, Some, None, refl, sym, ap, ◌∙◌, flat_map, inl, inr}
 use Rattle.std.specs.Prelude.{if◌then◌else◌}
 use Rattle.std.specs.List.{list_any}
 use Rattle.shard_run.specs.declared.Event.{Event}
@@ -16,6 +16,8 @@ use Rattle.shard_contents.specs.Shards.{ShardView, Holds, Keeps}
 use Rattle.shard_contents.specs.inner.Shards.{is_plain}
 use Rattle.shard_contents.specs.Progress.{steps_of, steps_on, behind}
 use Rattle.shard_contents.specs.inner.Progress.{source_of, is_last_copy_of}
+use Rattle.shard_contents.specs.Kept.{kept_from}
+use Rattle.shard_contents.proofs.Kept.{walked, Settles, walk_told, same_source, any_told}
 use Rattle.shard_contents.proofs.Positions.{any_both}
 use Rattle.shard_contents.proofs.States.{entries-on, holds_of}
 
@@ -89,6 +91,25 @@ pub behind_last-push : (source : ℕ) (p : Option ℕ) (steps : List Step) (x : 
 behind_last-push source p [] x = refl
 behind_last-push source p (y ∷ steps) x = behind_last-push source (if source_of y == source then Some (behind y) else p) steps x
 
+abbrev behind_walk : ℕ → Option ℕ → Step → Option ℕ
+behind_walk source p x = if source_of x == source then Some (behind x) else p
+
+behind_walked : (source : ℕ) (p : Option ℕ) (steps : List Step) → walked (behind_walk source) p steps ≡ behind_last source p steps
+behind_walked source p [] = refl
+behind_walked source p (x ∷ steps) = behind_walked source (if source_of x == source then Some (behind x) else p) steps
+
+behind_settles : (source : ℕ) (x : Step) → Settles (behind_walk source) x
+behind_settles source x = by (source_of x == source) refl
+  where
+    by : (b : Bool) → (source_of x == source) ≡ b → Settles (behind_walk source) x
+    by true i = inl (λ p q. ap (λ b. if b then Some (behind x) else p) i ∙ sym (ap (λ b. if b then Some (behind x) else q) i))
+    by false i = inr (λ y is p. ap (λ b. if b then Some (behind y) else p) (ap (λ m. m == source) (sym (same_source x y is)) ∙ i))
+
+-- the steps that are kept tell the same position
+behind_kept : (source : ℕ) (steps : List Step) → behind_last source None (kept_from [] steps) ≡ behind_last source None steps
+behind_kept source steps =
+    sym (behind_walked source None (kept_from [] steps)) ∙ walk_told (behind_walk source) (behind_settles source) None steps ∙ behind_walked source None steps
+
 -- ---- what a state tells
 
 module _ (o : Opening) (most : Limits) (seen : Run) (c : Contents) (v : ShardView) (keeps : Keeps o most seen c) (view : record { seen = seen; shard = c.shard } ≡ v)
@@ -99,12 +120,12 @@ module _ (o : Opening) (most : Limits) (seen : Run) (c : Contents) (v : ShardVie
   pub position_told : (source : ℕ) → position v.seen v.shard.slot source ≡ behind_last source None c.steps.items
   position_told source =
       ap (λ (x : ShardView). position x.seen x.shard.slot source) (sym view) ∙ position_is seen c.shard.slot source
-      ∙ ap (behind_last source None) (sym has.steps)
+      ∙ sym (behind_kept source (steps_on c.shard.slot seen)) ∙ ap (behind_last source None) (sym has.steps)
 
   pub copied_told : (source table : ℕ) → has_copied_all v.seen v.shard.slot source table ≡ list_any (is_last_copy_of source table) c.steps.items
   copied_told source table =
       ap (λ (x : ShardView). has_copied_all x.seen x.shard.slot source table) (sym view) ∙ copied_is seen c.shard.slot source table
-      ∙ ap (list_any (is_last_copy_of source table)) (sym has.steps)
+      ∙ sym (any_told source table (steps_on c.shard.slot seen)) ∙ ap (list_any (is_last_copy_of source table)) (sym has.steps)
 
 pub any_at : {X : Type 0} (p : X → Bool) (xs : List X) (i : ℕ) (x : X) → i < length xs → x ≡ get_or xs i x → p x ≡ true → list_any p xs ≡ true
 any_at p [] i x there is passes = absurd (omega (arith, there))

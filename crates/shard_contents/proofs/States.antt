@@ -18,7 +18,8 @@ use Rattle.shard_run.specs.Runs.{Opening, Run, mode, mode_from, held, stored_on,
 use Rattle.shard_law.specs.Legal.{IsOnItsSlot}
 use Rattle.shard_contents.specs.declared.limits.Limits.{Limits}
 use Rattle.shard_contents.specs.declared.contents.Contents.{Contents}
-use Rattle.shard_contents.specs.Progress.{steps_of, steps_on}
+use Rattle.shard_contents.specs.Progress.{steps_of}
+use Rattle.shard_contents.specs.Kept.{kept_from, kept_on}
 use Rattle.shard_contents.specs.Shards.{ShardView, slot_of, commit_of, MayFollow, Names, Holds, Keeps, holds, dropped, IsAfter, beyond}
 use Rattle.shard_contents.proofs.Legality.{stands-same}
 
@@ -52,7 +53,7 @@ module _ (o : Opening) (limits : Limits) (old new : Run) (c : Contents) (same : 
     tables = is.tables;
     mode = is.mode ∙ sym (mode-same o old new c.shard same);
     stored = is.stored ∙ sym (stored-same o old new c.shard same);
-    steps = is.steps ∙ ap (flat_map (λ (e : Entry). steps_of e.event)) (sym same);
+    steps = is.steps ∙ ap (λ (es : List Entry). kept_from [] (flat_map (λ (e : Entry). steps_of e.event) es)) (sym same);
     within = λ serves. is.within (ap is_serving (sym (mode-same o old new c.shard same)) ∙ serves);
   }
 
@@ -101,7 +102,7 @@ same_contents o limits seat c d is shards rows modes stores came most =
       tables = ap length rows ∙ h.tables;
       mode = modes ∙ h.mode ∙ ap (λ (s : Shard). mode o seat.seen s.slot) (sym shards);
       stored = stores ∙ h.stored ∙ ap (λ (s : Shard). stored_on s.slot seat.seen) (sym shards);
-      steps = came ∙ h.steps ∙ ap (λ (s : Shard). steps_on s.slot seat.seen) (sym shards);
+      steps = came ∙ h.steps ∙ ap (λ (s : Shard). kept_on s.slot seat.seen) (sym shards);
       within = λ serves.
           subst (λ (db : Database). row_count db ≤ limits.rows) (sym rows)
           (h.within (ap (λ (s : Shard). is_serving (mode o seat.seen s.slot)) (sym shards) ∙ serves));

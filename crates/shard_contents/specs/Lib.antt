@@ -1,5 +1,6 @@
 pub mod Stores
 pub mod Progress
+pub mod Kept
 pub mod Shards
 pub mod Commits
 pub mod inner

@@ -1,4 +1,4 @@
--- How far a target has come with its sources, as its state keeps it: a step for each of its Follow and Copy entries.
+-- How far a target has come with its sources: a step for each of its Follow and Copy entries. Kept tells which of them its state has.
 use Rattle.std.specs.Prelude.{ℕ, ◌+◌, List, [], ◌∷◌, flat_map, Option, Some, None}
 use Rattle.vt_value.specs.Values.{Row}
 use Rattle.shard_run.specs.declared.Event.{Event}

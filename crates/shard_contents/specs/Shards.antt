@@ -21,7 +21,7 @@ use Rattle.vschema.specs.Database.{SameRows, restricted_changes}
 use Rattle.shard_law.specs.Legal.{IsOnItsSlot, May}
 use Rattle.shard_run.specs.Copies.{position, change_is_copied}
 use Rattle.shard_contents.specs.declared.limits.Limits.{Limits}
-use Rattle.shard_contents.specs.Progress.{steps_on}
+use Rattle.shard_contents.specs.Kept.{kept_on}
 use Rattle.shard_contents.specs.declared.contents.Contents.{Contents}
 use Rattle.shard_contents.specs.declared.outcomes.Reading.{Reading}
 use Rattle.shard_contents.specs.declared.outcomes.Read.{Read}
@@ -58,7 +58,7 @@ beyond Following = 0
 beyond Frozen = 0
 beyond _ = 1
 
--- Its rows, in any order, its mode, the entries that it stores and its steps with its sources are those that the run leaves on it, and where it serves its rows are within
+-- Its rows, in any order, its mode, the entries that it stores and what it keeps of its steps with its sources are those that the run leaves on it, and where it serves its rows are within
 -- the limits.
 pub record Holds (o : Opening) (most : Limits) (run : Run) (c : Contents) : Type 0 where
   pub rows : SameRows c.store.rows (held o run c.shard)
@@ -66,7 +66,7 @@ pub record Holds (o : Opening) (most : Limits) (run : Run) (c : Contents) : Type
   pub within : is_serving (mode o run c.shard.slot) ≡ true → row_count c.store.rows ≤ most.rows
   pub mode : c.mode ≡ mode o run c.shard.slot
   pub stored : c.stored.items ≡ stored_on c.shard.slot run
-  pub steps : c.steps.items ≡ steps_on c.shard.slot run
+  pub steps : c.steps.items ≡ kept_on c.shard.slot run
 
 -- Either that, or its rows are gone, which only a retired shard's may.
 pub data Keeps (o : Opening) (most : Limits) (run : Run) (c : Contents) : Type 0 where

@@ -6,11 +6,12 @@ ghost use Rattle.sql_eval.specs.Writes.{written_table, changes_of};
 ghost use Rattle.shard_run.specs.Openings.{row_count};
 ghost use Rattle.shard_run.specs.Runs.{held_changes};
 ghost use Rattle.shard_store.specs.Stores.{IsReadyFor};
+ghost use Rattle.shard_contents.specs.Kept.{keep};
 ghost use Rattle.shard_contents.specs.Commits.{inserted_rows, commit_entry};
 ghost use Rattle.shard_contents.specs.inner.Commits.{has_room, IsUnprepared};
 
 use crate::copies::{beside, copy_shard, one};
-use crate::forward::Step;
+use crate::forward::{Step, keep};
 use crate::limits::{Limits, MOST_ENTRIES};
 use shard_run::{Commit, Entry, Event, Follow, Mode, Shard};
 use shard_store::{KeyedChange, StoredTables};
@@ -248,12 +249,12 @@ impl Contents {
         requires one_step { vec_len self.old.steps < vec_capacity self.old.steps }
         ensures rows { SameRows self.new.store.rows (all_applied (held_changes prepared.entry.event) self.old.store.rows) }
         ensures stored { self.new.stored.items ≡ self.old.stored.items ++ prepared.entry ∷ [] }
-        ensures steps { self.new.steps.items ≡ self.old.steps.items ++ step ∷ [] }
+        ensures steps { self.new.steps.items ≡ keep step self.old.steps.items }
         ensures shard { self.new.shard ≡ self.old.shard }
         ensures mode { self.new.mode ≡ self.old.mode }
         ensures limits { self.new.limits ≡ self.old.limits }
     {
         let _ = self.take(prepared);
-        self.steps.push_reserved(step);
+        keep(&mut self.steps, step);
     }
 }

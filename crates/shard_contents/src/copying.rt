@@ -9,12 +9,13 @@ ghost use Rattle.shard_run.specs.Runs.{mode, stored_changes, held_changes};
 ghost use Rattle.shard_run.specs.Copies.{is_last};
 ghost use Rattle.shard_store.specs.Stores.{IsReadyFor};
 ghost use Rattle.shard_contents.specs.Progress.{behind, last_row};
+ghost use Rattle.shard_contents.specs.Kept.{keep};
 ghost use Rattle.shard_contents.specs.inner.Rowed.{row_of, first_named};
 
 use crate::choosing::{COPY_STEP, lies_in};
 use crate::contents::Contents;
 use crate::copies::{copy_change, copy_shard};
-use crate::forward::Step;
+use crate::forward::{Step, keep};
 use crate::store::changed_table;
 use shard_run::{Copied, Entry, Event};
 use shard_store::{KeyedChange, StoredTables};
@@ -232,7 +233,7 @@ impl Contents {
         requires one_step { vec_len self.old.steps < vec_capacity self.old.steps }
         ensures rows { SameRows self.new.store.rows (all_applied (held_changes prepared.entry.event) self.old.store.rows) }
         ensures stored { self.new.stored ≡ self.old.stored }
-        ensures steps { self.new.steps.items ≡ self.old.steps.items ++ prepared.step ∷ [] }
+        ensures steps { self.new.steps.items ≡ keep prepared.step self.old.steps.items }
         ensures shard { self.new.shard ≡ self.old.shard }
         ensures mode { self.new.mode ≡ self.old.mode }
         ensures limits { self.new.limits ≡ self.old.limits }
@@ -243,6 +244,6 @@ impl Contents {
             step,
         } = prepared;
         self.store.apply(changes);
-        self.steps.push_reserved(step);
+        keep(&mut self.steps, step);
     }
 }

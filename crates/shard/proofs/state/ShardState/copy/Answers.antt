@@ -9,6 +9,7 @@ use Rattle.shard_run.specs.declared.Entry.{Entry}
 use Rattle.shard_run.specs.declared.Event.TheVariants.{Copy}
 use Rattle.shard_run.specs.Runs.{mode, held_changes}
 use Rattle.shard_contents.specs.declared.forward.Step.{Step}
+use Rattle.shard_contents.specs.Kept.{keep}
 use Rattle.shard_contents.specs.Shards.{MayFollow, Names}
 use Rattle.shard_contents.proofs.Looks.{following_lives}
 use Rattle.shard_contents.proofs.States.{looked, same_contents, names_none}
@@ -87,8 +88,7 @@ invariant_of-self-2 g c =
           (subst (λ (db : Database). SameRows c.take_copy.new.self.store.rows (all_applied (map (Added taken.table) taken.rows) db)) ok.rows
           (subst (λ (l : List RowChange). SameRows c.take_copy.new.self.store.rows (all_applied l c.prepare_copy.new.self.store.rows)) (ap (λ (e : Entry). held_changes e.event) ok.entry) t.rows))
           (t.mode ∙ ok.mode) (ap (λ v. v.items) t.stored ∙ ok.stored)
-          (t.steps ∙ ap (λ (l : List Step). l ++ c.in_ok-prepared.prepared.step ∷ []) ok.steps
-          ∙ ap (λ (s : Step). had.steps.items ++ s ∷ []) ok.step)
+          (t.steps ∙ ap (keep c.in_ok-prepared.prepared.step) ok.steps ∙ ap (λ (s : Step). keep s had.steps.items) ok.step)
           (t.limits ∙ ok.same_limits) (omega (arith, count, few)),
       names_none o c.append.new.self.seen c.take_copy.new.self.shard c.self.inside.targets
           (following_lives (mode o c.append.new.self.seen c.take_copy.new.self.shard.slot)

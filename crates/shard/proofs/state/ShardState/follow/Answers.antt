@@ -9,7 +9,7 @@ use Rattle.shard_run.specs.declared.Entry.{Entry}
 use Rattle.shard_run.specs.declared.Event.TheVariants.{Follow}
 use Rattle.shard_run.specs.Runs.{mode}
 use Rattle.shard_contents.specs.declared.limits.Limits.{Limits}
-use Rattle.shard_contents.specs.declared.forward.Step.{Step}
+use Rattle.shard_contents.specs.Kept.{keep}
 use Rattle.shard_contents.specs.declared.forward.Step.TheVariants.{Followed}
 use Rattle.shard_contents.specs.Shards.{MayFollow, Names}
 use Rattle.shard_contents.proofs.Looks.{following_lives}
@@ -80,7 +80,7 @@ invariant_of-self-2 g c =
           (subst (λ (l : List RowChange). SameRows c.take_step.new.self.store.rows (all_applied l c.prepare_follow.new.self.store.rows)) changes t.rows))
           (t.mode ∙ ok.mode)
           (t.stored ∙ ap (λ (l : List Entry). l ++ c.in_ok-step.step.entry ∷ []) ok.stored ∙ ap (λ (e : Entry). had.stored.items ++ e ∷ []) ok.entry)
-          (t.steps ∙ ap (λ (l : List Step). l ++ Followed c.args.taken.source c.args.taken.place ∷ []) ok.steps)
+          (t.steps ∙ ap (keep (Followed c.args.taken.source c.args.taken.place)) ok.steps)
           (t.limits ∙ ok.same_limits) (omega (arith, count, few)),
       names_none o c.append.new.self.seen c.take_step.new.self.shard c.self.inside.targets
           (following_lives (mode o c.append.new.self.seen c.take_step.new.self.shard.slot)
