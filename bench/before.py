@@ -7,8 +7,8 @@ import re
 import sys
 
 import lines
+import page
 
-BEGIN, END = "<!-- bench/before.sh begins -->", "<!-- bench/before.sh ends -->"
 NANOS = {"nanoseconds": 1, "microseconds": 1000}
 HEAD = """## Queries before shards could be split
 
@@ -37,14 +37,7 @@ def main():
     if len(sys.argv) <= 4:
         print(part, end="")
         return
-    document = pathlib.Path(sys.argv[4])
-    text = document.read_text()
-    if BEGIN in text:
-        front, rest = text.split(BEGIN)
-        text = f"{front}{BEGIN}\n{part}{END}{rest.split(END)[1]}"
-    else:
-        text = f"{text.rstrip()}\n\n{BEGIN}\n{part}{END}\n"
-    document.write_text(text)
+    page.put(pathlib.Path(sys.argv[4]), "before.sh", part)
 
 
 main()

@@ -7,7 +7,10 @@ import os
 import pathlib
 import sys
 
-BEGIN, END = "<!-- bench/serve.sh begins -->", "<!-- bench/serve.sh ends -->"
+sys.path.insert(0, str(pathlib.Path(__file__).resolve().parents[1]))
+
+import page  # noqa: E402
+
 KINDS = {
     "point": "`SELECT c FROM t WHERE id = N`, of {rows} rows",
     "insert": "`INSERT INTO t (id, c) VALUES (N, 1000)`, beside {rows} rows",
@@ -82,20 +85,13 @@ def wishes(cells):
         yield f"points: {rates[1]['router'] / rates[1]['echo']:.2f} of the echo's rate with one connection; the wish is 0.7"
 
 
-def put_between(text, part):
-    if BEGIN not in text:
-        return f"{text.rstrip()}\n\n{BEGIN}\n{part}{END}\n"
-    front, rest = text.split(BEGIN)
-    return f"{front}{BEGIN}\n{part}{END}{rest.split(END)[1]}"
-
-
 def main():
     cells = read_cells(pathlib.Path(sys.argv[1]))
     part = section(cells, *sys.argv[2:5])
     print(*wishes(cells), sep="\n", file=sys.stderr)
     if len(sys.argv) > 5:
         document = pathlib.Path(sys.argv[5])
-        document.write_text(put_between(document.read_text(), part))
+        page.put(document, "serve.sh", part)
     else:
         print(part, end="")
 

@@ -13,12 +13,12 @@ import threading
 import time
 
 TOP = pathlib.Path(__file__).resolve().parents[2]
-sys.path.insert(0, str(TOP / "tests" / "clients"))
+sys.path[:0] = [str(TOP / "tests" / "clients"), str(TOP / "bench")]
 
 import packets  # noqa: E402
+import page  # noqa: E402
 from router import free_ports  # noqa: E402
 
-BEGIN, END = "<!-- bench/split.sh begins -->", "<!-- bench/split.sh ends -->"
 # of the rows that `load fill` makes, each second one lies on the shard that is split
 FIRST_ID = 100000
 # how long the writer waits between two statements, in seconds, so that targets come level
@@ -244,13 +244,6 @@ def section(words):
     return "\n".join(lines) + "\n"
 
 
-def put_between(text, part):
-    if BEGIN not in text:
-        return f"{text.rstrip()}\n\n{BEGIN}\n{part}{END}\n"
-    front, rest = text.split(BEGIN)
-    return f"{front}{BEGIN}\n{part}{END}{rest.split(END)[1]}"
-
-
 def main():
     reader = argparse.ArgumentParser()
     reader.add_argument("program")
@@ -262,7 +255,7 @@ def main():
     words = reader.parse_args()
     part = section(words)
     if words.document:
-        words.document.write_text(put_between(words.document.read_text(), part))
+        page.put(words.document, "split.sh", part)
     else:
         print(part, end="")
 

@@ -13,12 +13,12 @@ import tempfile
 import time
 
 TOP = pathlib.Path(__file__).resolve().parents[2]
-sys.path.insert(0, str(TOP / "tests" / "clients"))
+sys.path[:0] = [str(TOP / "tests" / "clients"), str(TOP / "bench")]
 
 import packets  # noqa: E402
+import page  # noqa: E402
 from router import free_ports  # noqa: E402
 
-BEGIN, END = "<!-- bench/worst.sh begins -->", "<!-- bench/worst.sh ends -->"
 RANGES = "-40,40-80,80-c0,c0-"
 SHARDS = 4
 BATCH = 1000
@@ -152,16 +152,10 @@ def main():
         took, count, memory = statistics.median(seconds), counts[0], statistics.median(most)
         beyond = f"{max(memory - count, 0) / touched:.0f}" if touched > 1 else "-"
         part += f"| {name} | {shown} | {took * 1000:.1f} | {count} | {memory / 2**20:.1f} | {beyond} |\n"
-    if not words.document:
-        print(part, end="")
-        return
-    text = words.document.read_text()
-    if BEGIN in text:
-        front, rest = text.split(BEGIN)
-        text = f"{front}{BEGIN}\n{part}{END}{rest.split(END)[1]}"
+    if words.document:
+        page.put(words.document, "worst.sh", part)
     else:
-        text = f"{text.rstrip()}\n{BEGIN}\n{part}{END}\n"
-    words.document.write_text(text)
+        print(part, end="")
 
 
 if __name__ == "__main__":
