@@ -10,6 +10,7 @@ use resultset::SetEnd;
 use sql_lexer::{longest, one_lexing};
 use sql_parser::{one_tree, print_reads};
 use std::alloc::Global;
+use vschema::joins_lie_in_place;
 
 /// Tells what a case of this area answers.
 pub fn answer(alloc: Global, area: &str, case: &str, told: &mut Told) -> Result<(), Unanswered> {
@@ -80,6 +81,7 @@ fn laws(told: &mut Told) -> Result<(), Unanswered> {
     longest();
     one_tree();
     print_reads();
+    joins_lie_in_place();
     one_framing();
     bounded_rest();
     read_back();

@@ -108,7 +108,7 @@ no_shard = refl
 
 -- SELECT c, COUNT(*) FROM t GROUP BY c ORDER BY c LIMIT 1: each shard gives all its groups, and the limit is the finish's
 abbrev counts : List (Item ℕ) → List (Key ℕ) → Option Limit → Query
-counts items order_by limit = record { table = 0; join = None; items = items; filter = None; group_by = 1 ∷ []; order_by = order_by; limit = limit }
+counts items order_by limit = record { table = 0; join = None; items = items; qualified = []; filter = None; group_by = 1 ∷ []; order_by = order_by; limit = limit }
 
 abbrev by_c : Query
 by_c = counts (item.Column 1 ∷ item.CountRows ∷ []) (record { column = 1; descending = false } ∷ []) (Some (record { count = 1; offset = 0 }))

@@ -72,7 +72,7 @@ abbrev pub finish_of : Query → Finish
 finish_of q = if is_aggregated q then groups_finish q else rows_finish q
 
 abbrev pub planned : Table → Query → Plan
-planned t q = record { route = route_of t q.join q.filter; piece = pushed q; finish = finish_of q; items = q.items }
+planned t q = record { route = route_of t q.join q.filter; piece = pushed q; finish = finish_of q; items = q.items; qualified = q.qualified }
 
 -- whether an IN on a deciding column is one of the conjuncts
 abbrev pub has_among : Keys → Condition ℕ → Bool

@@ -258,6 +258,7 @@ impl Plan {
         ensures err { IfErr result (λ e. e ≡ Refusal.OutOfMemory) }
     {
         let items = copy_items(alloc, self.piece.items.as_slice())?;
+        let qualified = Items::from_slice(alloc, self.piece.qualified.as_slice())?;
         let group_by = copy_places(alloc, self.piece.group_by.as_slice())?;
         let order_by = copy_keys(alloc, self.piece.order_by.as_slice())?;
         let filter = match &self.piece.filter {
@@ -271,6 +272,7 @@ impl Plan {
             table: self.piece.table,
             join: self.piece.join,
             items,
+            qualified,
             filter,
             group_by,
             order_by,

@@ -47,6 +47,7 @@ fn pushed_rows(query: Query) -> Result<Query, Refusal>
         table,
         join,
         items,
+        qualified,
         filter,
         group_by,
         order_by,
@@ -61,6 +62,7 @@ fn pushed_rows(query: Query) -> Result<Query, Refusal>
         table,
         join,
         items,
+        qualified,
         filter,
         group_by,
         order_by,
@@ -113,6 +115,7 @@ fn pushed_groups(alloc: Global, query: Query) -> Result<Query, Refusal>
     let Query {
         table,
         join,
+        qualified,
         filter,
         group_by,
         ..
@@ -121,6 +124,7 @@ fn pushed_groups(alloc: Global, query: Query) -> Result<Query, Refusal>
         table,
         join,
         items,
+        qualified,
         filter,
         group_by,
         order_by: Items::new(alloc),
@@ -235,23 +239,39 @@ fn route_and_finish(
     Ok((route, finish))
 }
 
-// What the answer shows, and the query that each shard answers.
-fn shown_and_pushed(alloc: Global, query: Query) -> Result<(Items<Item<usize>>, Query), Refusal>
-    ensures items { IfOk result (λ r. r.0 ≡ query.items) }
-    ensures piece { IfOk result (λ r. r.1 ≡ pushed query) }
+// What the answer shows.
+fn shown(alloc: Global, query: &Query) -> Result<(Items<Item<usize>>, Items<bool>), Refusal>
+    ensures items { IfOk result (λ r. r.0 ≡ query.now.items) }
+    ensures qualified { IfOk result (λ r. r.1 ≡ query.now.qualified) }
     ensures err { IfErr result (λ e. e ≡ Refusal.OutOfMemory) }
 {
     let items = copy_items(alloc, query.items.as_slice())?;
+    let qualified = Items::from_slice(alloc, query.qualified.as_slice())?;
+    Ok((items, qualified))
+}
+
+fn shown_and_pushed(
+    alloc: Global,
+    query: Query,
+) -> Result<((Items<Item<usize>>, Items<bool>), Query), Refusal>
+    ensures items { IfOk result (λ r. r.0.0 ≡ query.items) }
+    ensures qualified { IfOk result (λ r. r.0.1 ≡ query.qualified) }
+    ensures piece { IfOk result (λ r. r.1 ≡ pushed query) }
+    ensures err { IfErr result (λ e. e ≡ Refusal.OutOfMemory) }
+{
+    let items = shown(alloc, &query)?;
     let piece = pushed(alloc, query)?;
     Ok((items, piece))
 }
 
 // Promise: A plan is the written one, and right: over any shards whose rows lie in their ranges, each list that its finish may give of the
-// pieces' answers is an answer over all rows, also over no shard and with aggregates; a shard that its route skips holds no row that the
-// query keeps; and without aggregates each piece's answer is in the order of the finish's keys
+// pieces' answers is an answer over all rows, also over no shard and with aggregates, and of a join over all pairs, where no id lies in two
+// of the ranges; a shard that its route skips holds no row or pair that the query keeps; and without aggregates each piece's answer is in
+// the order of the finish's keys
 // Refuses: in_sends_all_members_to_one_shard, offset_pushed_and_applied_again, groups_of_shards_are_not_joined, limit_of_groups_is_pushed,
 // in_gives_each_shard_all_members, last_instead_of_the_leftmost_conjunct, null_members_routed, or_of_null_is_never,
-// plan_forgets_the_condition, unsharded_takes_each_place, write_route_of_an_insert_scatters
+// plan_forgets_the_condition, unsharded_takes_each_place, write_route_of_an_insert_scatters, route_forgets_the_join, pieces_have_no_join,
+// second_column_decides_nothing, second_column_is_a_number, literal_is_judged_by_the_first_columns_type
 /// The plan of a query. Refuses only for want of memory.
 pub fn plan(alloc: Global, schema: &VSchema, query: Query) -> Result<Plan, Refusal>
     ensures exact { IfOk result (λ p. p ≡ planned (table_at schema.now query.table) query) }
@@ -261,11 +281,13 @@ pub fn plan(alloc: Global, schema: &VSchema, query: Query) -> Result<Plan, Refus
     ensures err { IfErr result (λ e. e ≡ Refusal.OutOfMemory) }
 {
     let (route, finish) = route_and_finish(alloc, schema, &query)?;
-    let (items, piece) = shown_and_pushed(alloc, query)?;
+    let (shown, piece) = shown_and_pushed(alloc, query)?;
+    let (items, qualified) = shown;
     Ok(Plan {
         route,
         piece,
         finish,
         items,
+        qualified,
     })
 }

@@ -27,4 +27,6 @@ pub struct Plan {
     pub finish: Finish,
     /// What the answer shows.
     pub items: Items<Item<usize>>,
+    /// Whether each of these was written with its table's name.
+    pub qualified: Items<bool>,
 }

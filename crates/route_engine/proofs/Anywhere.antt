@@ -65,13 +65,13 @@ stands_met o p q _ _ more same own (stands.bound {v} {t} is) = stands.bound (rec
 module _ (o : Opening) (opens : IsOpening o) (formed : is_vschema o.schema ≡ true) where
   -- a query that needs no shard, over no rows
   pub reads_nowhere : (q : Query) (selected : Selected) (seen : Run) → SourcesThere (length o.schema.tables) q → JoinsInPlace o.schema q → (seats : List Seat)
-      → IsPartition seats → needed_for o q seats ≡ [] → selected.table ≡ q.table → selected.join ≡ q.join → selected.items ≡ q.items → IsAnswer q [] selected.rows
+      → IsPartition seats → needed_for o q seats ≡ [] → selected.table ≡ q.table → selected.join ≡ q.join → selected.items ≡ q.items → selected.qualified ≡ q.qualified → IsAnswer q [] selected.rows
       → IsAnywhere o (record { typed = typed.Select q; answer = Rows selected; on = None; seen = seen })
-  reads_nowhere q selected seen there joins seats partition none table join items answer = record {
+  reads_nowhere q selected seen there joins seats partition none table join items qualified answer = record {
     none = (seats, partition, none);
     on = refl;
     same = λ run legal.
-        over.selects table join items
+        over.selects table join items qualified
         (answers_kept_of q [] (source_rows q (one o run)) selected.rows
         (kept_nowhere o opens run (legal_is o run legal) q there joins seats partition none) answer);
   }

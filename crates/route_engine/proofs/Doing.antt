@@ -72,7 +72,7 @@ module _ (o : Opening) (opens : IsOpening o) (formed : is_vschema o.schema ≡ t
   module _ (q : Query) (there : SourcesThere (length o.schema.tables) q) (joins : JoinsInPlace o.schema q) (table : Table) (table_is : table ≡ table_at o.schema q.table) (route : Route)
       (route_is : route ≡ route_of table q.join q.filter) where
     abbrev shown : List Row → List ShardRead → Reply
-    shown rows reads = record { answer = Rows (record { table = q.table; join = q.join; items = q.items; rows = rows }); reads = reads }
+    shown rows reads = record { answer = Rows (record { table = q.table; join = q.join; items = q.items; qualified = q.qualified; rows = rows }); reads = reads }
 
     route_at : route ≡ route_of (table_at o.schema q.table) q.join q.filter
     route_at = route_is ∙ ap (λ (x : Table). route_of x q.join q.filter) table_is
@@ -108,8 +108,8 @@ module _ (o : Opening) (opens : IsOpening o) (formed : is_vschema o.schema ≡ t
           subst (λ (l : List ShardRead). (u : Option Transaction) × GivesIn o limits p tr (typed.Select q) (shown rows l) (record { pass = p; tx = u }) × Stands o p (Some v) u)
           (sym no_reads)
           (s.goes_anywhere o opens formed limits p legal mine.session mine.is below v tr st (typed.Select q)
-          (Rows (record { table = q.table; join = q.join; items = q.items; rows = rows }))
-          (reads_nowhere o opens formed q (record { table = q.table; join = q.join; items = q.items; rows = rows }) p.seen there joins none.0 none.1 (sym (needed_is none.0) ∙ none.2) refl refl refl answer));
+          (Rows (record { table = q.table; join = q.join; items = q.items; qualified = q.qualified; rows = rows }))
+          (reads_nowhere o opens formed q (record { table = q.table; join = q.join; items = q.items; qualified = q.qualified; rows = rows }) p.seen there joins none.0 none.1 (sym (needed_is none.0) ∙ none.2) refl refl refl refl answer));
     }
 
     pub read_elsewhere : (b : BoundView) → v.bound ≡ Some b → NeedsOther table route b → IsRefusedStep o limits p v (typed.Select q) SeveralShards p

@@ -45,8 +45,8 @@ module _ (o : Opening) (s : Shard) where
         → AreTold o s new touched steps writes changes
     told_later _ _ _ p.none = p.none
     told_later _ writes changes (p.anywhere {steps} step told is) = p.anywhere step (told_later steps writes changes told) is
-    told_later _ writes changes (p.read {steps} q selected seen told alone there joins on table join items allowed) =
-        p.read q selected seen (told_later steps writes changes told) alone there joins on table join items
+    told_later _ writes changes (p.read {steps} q selected seen told alone there joins on table join items qualified allowed) =
+        p.read q selected seen (told_later steps writes changes told) alone there joins on table join items qualified
         (subst (λ (rows : List Row). IsAnswer q rows selected.rows)
         (sources_same q (all_applied changes (held o old s)) (all_applied changes (held o new s))
         (all-weaker (λ n. is_touched touched n ≡ true) (λ n. rows_of (all_applied changes (held o old s)) n ≡ rows_of (all_applied changes (held o new s)) n)
@@ -64,10 +64,10 @@ module _ (o : Opening) (s : Shard) where
       → AreTold o s run touched steps writes changes → AreTold o s run (touched_with touched t) steps writes changes
   told_touches run touched t _ _ _ p.none = p.none
   told_touches run touched t _ writes changes (p.anywhere {steps} step told is) = p.anywhere step (told_touches run touched t steps writes changes told) is
-  told_touches run touched t _ writes changes (p.read {steps} q selected seen told alone there joins on table join items allowed) =
+  told_touches run touched t _ writes changes (p.read {steps} q selected seen told alone there joins on table join items qualified allowed) =
       p.read q selected seen (told_touches run touched t steps writes changes told) alone there joins
       (all-weaker (λ n. is_touched touched n ≡ true) (λ n. is_touched (touched_with touched t) n ≡ true) (still_touched touched t) (source_tables q) on)
-      table join items allowed
+      table join items qualified allowed
   told_touches run touched t _ _ _ (p.wrote {steps} {writes} {changes} w more seen told alone is on changed) =
       p.wrote w more seen (told_touches run touched t steps writes changes told) alone is (still_touched touched t (written_table w) on) changed
 
@@ -106,7 +106,7 @@ module _ (o : Opening) (s : Shard) where
   told_writes run touched _ writes changes (p.anywhere {steps} step told is) =
       one_more (λ x. write_on x.on x.typed) steps step writes [] (told_writes run touched steps writes changes told) (no_write step.on step.typed is.on)
       ∙ append-nil writes
-  told_writes run touched _ writes changes (p.read {steps} q selected seen told alone there joins on table join items allowed) =
+  told_writes run touched _ writes changes (p.read {steps} q selected seen told alone there joins on table join items qualified allowed) =
       one_more (λ x. write_on x.on x.typed) steps (record { typed = typed.Select q; answer = Rows selected; on = Some s; seen = seen }) writes []
       (told_writes run touched steps writes changes told) refl ∙ append-nil writes
   told_writes run touched _ _ _ (p.wrote {steps} {writes} {changes} w more seen told alone is on changed) =
@@ -120,7 +120,7 @@ module _ (o : Opening) (s : Shard) where
   told_used run touched _ writes changes (p.anywhere {steps} step told is) =
       subst (AllByRecursion (λ u. u ≡ s)) (sym (one_more (λ x. if_any x.on) steps step (used steps) [] refl (ap if_any is.on) ∙ append-nil (used steps)))
       (told_used run touched steps writes changes told)
-  told_used run touched _ writes changes (p.read {steps} q selected seen told alone there joins on table join items allowed) =
+  told_used run touched _ writes changes (p.read {steps} q selected seen told alone there joins on table join items qualified allowed) =
       subst (AllByRecursion (λ u. u ≡ s))
       (sym (one_more (λ x. if_any x.on) steps (record { typed = typed.Select q; answer = Rows selected; on = Some s; seen = seen }) (used steps) (s ∷ []) refl refl))
       (all-append (λ u. u ≡ s) (used steps) (s ∷ []) (told_used run touched steps writes changes told) (refl, tt))
@@ -154,14 +154,14 @@ module _ (o : Opening) (s : Shard) where
   -- a query
   pub at_reads : (run : Run) (tx : PendingView) (steps : List Step) (stored : ℕ) (q : Query) (selected : Selected) → IsAt run tx steps
       → AllByRecursion (λ n. IsTouchBy o s run (touch_of stored n)) (source_tables q) → ReadsAlone o q s → SourcesThere (length o.schema.tables) q
-      → JoinsInPlace o.schema q → selected.table ≡ q.table → selected.join ≡ q.join → selected.items ≡ q.items
+      → JoinsInPlace o.schema q → selected.table ≡ q.table → selected.join ≡ q.join → selected.items ≡ q.items → selected.qualified ≡ q.qualified
       → Allowed q (all_applied tx.changes (held o run s)) selected.rows
       → IsAt run (record tx { touched = touched_all tx.touched (source_tables q) stored }) (with_step steps (typed.Select q) (Rows selected) (Some s) run)
-  at_reads run tx steps stored q selected at touch alone there joins table join items allowed = record {
+  at_reads run tx steps stored q selected at touch alone there joins table join items qualified allowed = record {
     pending = pending_touches_all o s run tx (source_tables q) stored at.pending touch;
     told =
         p.read q selected run (told_touches_all run tx.touched (source_tables q) stored steps tx.writes tx.changes at.told) alone there joins
-        (now_touched_all tx.touched (source_tables q) stored) table join items allowed;
+        (now_touched_all tx.touched (source_tables q) stored) table join items qualified allowed;
   }
 
   -- a write

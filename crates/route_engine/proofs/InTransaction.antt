@@ -132,18 +132,19 @@ module _ (o : Opening) (opens : IsOpening o) (formed : is_vschema o.schema ≡ t
 
   -- A query.
   pub reads_in : (q : Query) (selected : Selected) (entries : ℕ) (pending : PendingView) → ReadsAlone o q s → SourcesThere (length o.schema.tables) q
-      → JoinsInPlace o.schema q → selected.table ≡ q.table → selected.join ≡ q.join → selected.items ≡ q.items → HasReadIn o s v now.seen q selected.rows entries pending
+      → JoinsInPlace o.schema q → selected.table ≡ q.table → selected.join ≡ q.join → selected.items ≡ q.items
+      → selected.qualified ≡ q.qualified → HasReadIn o s v now.seen q selected.rows entries pending
       → GivesIn o limits p t (typed.Select q) (record { answer = Rows selected; reads = record { slot = s.slot; entries = entries } ∷ [] })
       (record { pass = now; tx = Some (record { at = now.seen; steps = with_step t.steps (typed.Select q) (Rows selected) (Some s) now.seen }) })
       × Stands o now (Some (record { bound = Some (bound_of s); pending = pending }))
       (Some (record { at = now.seen; steps = with_step t.steps (typed.Select q) (Rows selected) (Some s) now.seen }))
-  reads_in q selected entries pending alone there joins table join items has =
+  reads_in q selected entries pending alone there joins table join items qualified has =
       let last : Step = record { typed = typed.Select q; answer = Rows selected; on = Some s; seen = now.seen } in
       let next : PendingView = record v { touched = touched_all v.touched (source_tables q) stored_now } in
       let serves = has.clear.serving in
       let at = g.at_reads o s now.seen v t.steps stored_now q selected (at_then has.clear)
       (all-each (λ n. IsTouchBy o s now.seen (touch_of stored_now n)) (λ n. record { serving = serves; stored = omega arith }) (source_tables q)) alone there joins
-      table join items has.allowed in
+      table join items qualified has.allowed in
       let over = g.at_over o s opens formed now.seen next (t.steps ++ last ∷ []) at ready.on_slot serves session number low in
       let touches = all_touched_all (IsTouchOf o s now.session now.seen (t.steps ++ last ∷ [])) v.touched (source_tables q) stored_now (touches_more last)
       (all-from_In (λ n. IsTouchOf o s now.session now.seen (t.steps ++ last ∷ []) (touch_of stored_now n)) (source_tables q)

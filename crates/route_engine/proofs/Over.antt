@@ -161,7 +161,7 @@ module _ (o : Opening) (opens : IsOpening o) (formed : is_vschema o.schema ≡ t
       let answer : Allowed q (one o p.seen) selected.rows =
       same_sources q (mixed_rows o (table_at o.schema q.table).keyspace is.parts) (one o p.seen) selected.rows rows is.allowed in
       subst (λ (db : Database). GivesOver o.schema (one o p.seen) (typed.Select q) (Rows selected) db) (sym (one_still o p.seen now.seen same))
-      (over.selects is.table is.join is.items answer)
+      (over.selects is.table is.join is.items is.qualified answer)
 
   -- a write
   pub committed_over : (w : Write) (s : Shard) (count : ℕ) → NeedsAlone o w s → HasCommitted o l s p w count now

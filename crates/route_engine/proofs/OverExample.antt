@@ -93,13 +93,13 @@ again : changes_of schema insert_seven after ≡ Err DuplicateKey
 again = refl
 
 abbrev all_ids : Query
-all_ids = record { table = 0; join = None; items = Column 0 ∷ []; filter = None; group_by = []; order_by = []; limit = None }
+all_ids = record { table = 0; join = None; items = Column 0 ∷ []; qualified = []; filter = None; group_by = []; order_by = []; limit = None }
 
 -- SELECT id FROM t shows the rows of both shards
 selects : GivesOver schema after (typed.Select all_ids)
-    (Rows (record { table = 0; join = None; items = Column 0 ∷ []; rows = (n 2 ∷ []) ∷ (n 1 ∷ []) ∷ (n 7 ∷ []) ∷ [] })) after
+    (Rows (record { table = 0; join = None; items = Column 0 ∷ []; qualified = []; rows = (n 2 ∷ []) ∷ (n 1 ∷ []) ∷ (n 7 ∷ []) ∷ [] })) after
 selects =
-    over.selects refl refl refl (
+    over.selects refl refl refl refl (
       ((n 2 ∷ []), []) ∷ ((n 1 ∷ []), []) ∷ ((n 7 ∷ []), []) ∷ [],
       IsPermutation-refl (((n 2 ∷ []), []) ∷ ((n 1 ∷ []), []) ∷ ((n 7 ∷ []), []) ∷ []),
       (λ k d low high. refl),

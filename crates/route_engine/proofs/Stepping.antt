@@ -191,20 +191,20 @@ module _ (o : Opening) (opens : IsOpening o) (formed : is_vschema o.schema ≡ t
         → IsSeatOf (table_at o.schema q.table) (route_of (table_at o.schema q.table) q.join q.filter) b → (rows : List Row) (reads : List ShardRead)
         (now : PassView Entry) (pending : PendingView) → HasReadAt o b p v.pending q rows reads now pending
         → (u : Option Transaction) × GivesIn o limits p tr (typed.Select q)
-        (record { answer = Rows (record { table = q.table; join = q.join; items = q.items; rows = rows }); reads = reads }) (record { pass = now; tx = u })
+        (record { answer = Rows (record { table = q.table; join = q.join; items = q.items; qualified = q.qualified; rows = rows }); reads = reads }) (record { pass = now; tx = u })
         × Stands o now (Some (record { bound = Some b; pending = pending })) u
     goes_read q there joins seat rows reads now pending has =
         let s = has.shard in
         let ready = ready_at v tr st s now (fits_at s has.is) has.stands has.looked in
         let done = i.reads_in o opens formed limits s p now v.pending tr ready session p.statements (low_at now.seen (has.looked.own session mine))
-        q (record { table = q.table; join = q.join; items = q.items; rows = rows }) has.entries pending (reads_alone q b seat s has.is) there joins refl refl refl has.read in (
-          Some (record { at = now.seen; steps = with_step tr.steps (typed.Select q) (Rows (record { table = q.table; join = q.join; items = q.items; rows = rows })) (Some s) now.seen }),
+        q (record { table = q.table; join = q.join; items = q.items; qualified = q.qualified; rows = rows }) has.entries pending (reads_alone q b seat s has.is) there joins refl refl refl refl has.read in (
+          Some (record { at = now.seen; steps = with_step tr.steps (typed.Select q) (Rows (record { table = q.table; join = q.join; items = q.items; qualified = q.qualified; rows = rows })) (Some s) now.seen }),
           subst (λ (l : List ShardRead). GivesIn o limits p tr (typed.Select q)
-              (record { answer = Rows (record { table = q.table; join = q.join; items = q.items; rows = rows }); reads = l })
-              (record { pass = now; tx = Some (record { at = now.seen; steps = with_step tr.steps (typed.Select q) (Rows (record { table = q.table; join = q.join; items = q.items; rows = rows })) (Some s) now.seen }) }))
+              (record { answer = Rows (record { table = q.table; join = q.join; items = q.items; qualified = q.qualified; rows = rows }); reads = l })
+              (record { pass = now; tx = Some (record { at = now.seen; steps = with_step tr.steps (typed.Select q) (Rows (record { table = q.table; join = q.join; items = q.items; qualified = q.qualified; rows = rows })) (Some s) now.seen }) }))
               (sym has.reads_are) done.0,
           subst (λ (x : BoundView). Stands o now (Some (record { bound = Some x; pending = pending }))
-              (Some (record { at = now.seen; steps = with_step tr.steps (typed.Select q) (Rows (record { table = q.table; join = q.join; items = q.items; rows = rows })) (Some s) now.seen })))
+              (Some (record { at = now.seen; steps = with_step tr.steps (typed.Select q) (Rows (record { table = q.table; join = q.join; items = q.items; qualified = q.qualified; rows = rows })) (Some s) now.seen })))
               has.is done.1,
         )
 

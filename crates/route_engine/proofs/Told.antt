@@ -95,7 +95,7 @@ module _ (o : Opening) (opens : IsOpening o) (formed : is_vschema o.schema ≡ t
               next step rest.over
               (subst (λ (d : Database). GivesOver o.schema d step.typed step.answer d) one_is (is.same (run ++ e ∷ []) then));
         }
-    lifted _ writes changes (p.read {steps} q selected seen told alone there joins on table join items allowed) =
+    lifted _ writes changes (p.read {steps} q selected seen told alone there joins on table join items qualified allowed) =
         let rest = lifted steps writes changes told in
         let e : Entry = entry_of s session number writes changes in
         let then = legal_then o opens s run stands legal serves session number low writes changes rest.may in
@@ -110,7 +110,7 @@ module _ (o : Opening) (opens : IsOpening o) (formed : is_vschema o.schema ≡ t
           may = rest.may;
           over =
               next (record { typed = typed.Select q; answer = Rows selected; on = Some s; seen = seen }) rest.over
-              (over.selects table join items (subst (λ (d : Database). Allowed q d selected.rows) one_is answer));
+              (over.selects table join items qualified (subst (λ (d : Database). Allowed q d selected.rows) one_is answer));
         }
     lifted _ _ _ (p.wrote {steps} {writes} {changes} w more seen told alone is on changed) =
         let rest = lifted steps writes changes told in

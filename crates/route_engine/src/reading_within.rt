@@ -18,8 +18,8 @@ use planner::{Route, route_of, write_route};
 use serving::Partition;
 use shard::{Pending, Shard, ShardLaw, World, written_table};
 use shard_calls::{
-    Answer, Bound, Gate, Reply, Selected, ShardRead, counted, items_of, only_needed, read_at,
-    read_first, read_nothing,
+    Answer, Bound, Gate, Reply, Selected, ShardRead, counted, only_needed, read_at, read_first,
+    read_nothing, shown_by,
 };
 use std::alloc::Global;
 use std::sync::Wait;
@@ -112,7 +112,7 @@ impl<W: World + Send + Sync, J: Naming + Send + Sync, G: Gate> Engine<W, J, G> {
         requires above { (n : ℕ) → pass.old.session ≡ Some n → NumbersBelow commit_of n pass.old.statements pass.old.seen }
         requires tx { IsOf W.opening (Some (record { bound = bound.old; pending = pending.old })) pass.old }
         ensures ok { IfOk result (λ r. GoesOnIn W.opening W.limits pass.old (record { bound = bound.old; pending = pending.old }) (Typed.Select query.now)
-            (record { answer = Answer.Rows (record { table = query.now.table; join = query.now.join; items = query.now.items; rows = r.0 }); reads = r.1 })
+            (record { answer = Answer.Rows (record { table = query.now.table; join = query.now.join; items = query.now.items; qualified = query.now.qualified; rows = r.0 }); reads = r.1 })
             pass.new (Some (record { bound = bound.new; pending = pending.new }))) }
         ensures err { IfErr result (λ e. IsRefusedStep W.opening W.limits pass.old (record { bound = bound.old; pending = pending.old }) (Typed.Select query.now) e pass.new) }
         ensures bound { OnErr result (bound.new ≡ bound.old) }
@@ -152,7 +152,7 @@ impl<W: World + Send + Sync, J: Naming + Send + Sync, G: Gate> Engine<W, J, G> {
         requires above { (n : ℕ) → pass.old.session ≡ Some n → NumbersBelow commit_of n pass.old.statements pass.old.seen }
         requires tx { IsOf W.opening (Some (record { bound = bound.old; pending = pending.old })) pass.old }
         ensures ok { IfOk result (λ r. GoesOnIn W.opening W.limits pass.old (record { bound = bound.old; pending = pending.old }) (Typed.Select query.now)
-            (record { answer = Answer.Rows (record { table = query.now.table; join = query.now.join; items = query.now.items; rows = r.0 }); reads = r.1 })
+            (record { answer = Answer.Rows (record { table = query.now.table; join = query.now.join; items = query.now.items; qualified = query.now.qualified; rows = r.0 }); reads = r.1 })
             pass.new (Some (record { bound = bound.new; pending = pending.new }))) }
         ensures err { IfErr result (λ e. IsRefusedStep W.opening W.limits pass.old (record { bound = bound.old; pending = pending.old }) (Typed.Select query.now) e pass.new) }
         ensures bound { OnErr result (bound.new ≡ bound.old) }
@@ -192,19 +192,21 @@ impl<W: World + Send + Sync, J: Naming + Send + Sync, G: Gate> Engine<W, J, G> {
         let given = self.rows_in(rt, alloc, pass, bound, pending, &query);
         let table = query.table;
         let join = query.join;
-        let items = items_of(query);
+        let (items, qualified) = shown_by(query);
         match given {
             Ok((rows, reads)) => Ok(Reply {
                 answer: Answer::Rows(Selected {
                     table,
                     join,
                     items,
+                    qualified,
                     rows,
                 }),
                 reads,
             }),
             Err(refusal) => {
                 drop(items);
+                drop(qualified);
                 Err(refusal)
             }
         }

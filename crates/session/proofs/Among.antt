@@ -54,7 +54,7 @@ anywhere_told o s run touched _ _ _ (stands.anywhere {steps} {writes} {changes} 
     by : In step steps ⊎ (last ≡ step) → (In step steps → IsAnywhere o step) → IsAnywhere o step
     by (inl there) rest = rest there
     by (inr e) rest = subst (IsAnywhere o) e is
-anywhere_told o s run touched _ _ _ (stands.read {steps} {writes} {changes} q selected seen told alone low is table items allowed) step h none = by (In-push step _ steps h) (λ there. anywhere_told o s run touched steps writes changes told step there none)
+anywhere_told o s run touched _ _ _ (stands.read {steps} {writes} {changes} q selected seen told alone there place all table join items qualified allowed) step h none = by (In-push step _ steps h) (λ there. anywhere_told o s run touched steps writes changes told step there none)
   where
     by : In step steps ⊎ (record { typed = typed.Select q; answer = Rattle.shard_calls.specs.declared.reply.Answer.TheVariants.Rows selected; on = Some s; seen = seen } ≡ step)
         → (In step steps → IsAnywhere o step) → IsAnywhere o step
@@ -81,7 +81,7 @@ module _ (o : Opening) (opens : IsOpening o) (formed : is_vschema o.schema ≡ t
     where
       nowhere : (t : Typed) (answer : Answer) (later : Database) → step.typed ≡ t → IsAnywhere o step → GivesOver o.schema (one o run) t answer later
           → later ≡ one o run
-      nowhere _ _ _ e any (over.selects table items rows) = refl
+      nowhere _ _ _ e any (over.selects table join items qualified rows) = refl
       nowhere _ _ _ e any (over.writes {w} changes of) =
           nothing_written o opens formed run legal w (typed_is w e) (subst (Rattle.shard_calls.specs.Transactions.NeedsNone o) e any.none) changes of
       nowhere _ _ _ e any over.sets_names = refl

@@ -139,7 +139,7 @@ pub reads_leave : (schema : VSchema) (db : Database) (t : Typed) (answer : Answe
 reads_leave schema db t answer seen s none after gives = by t answer after none gives
   where
     by : (t : Typed) (answer : Answer) (after : Database) → write_on (Some s) t ≡ [] → GivesOver schema db t answer after → after ≡ db
-    by _ _ _ none (over.selects table items rows) = refl
+    by _ _ _ none (over.selects table join items qualified rows) = refl
     by _ _ _ none (over.writes {w} changes is) = let e : w ∷ [] ≡ [] = none in absurd (cc e)
     by _ _ _ none over.sets_names = refl
 
@@ -168,7 +168,7 @@ module _ (o : Opening) (opens : IsOpening o) (formed : is_vschema o.schema ≡ t
     where
       by : (t : Typed) (answer : Answer) (after : Database) → typed_statement o.schema tree ≡ Ok t → NeedsNone o t → GivesOver o.schema (one o run) t answer after
           → after ≡ one o run
-      by _ _ _ is uses (over.selects table items rows) = refl
+      by _ _ _ is uses (over.selects table join items qualified rows) = refl
       by _ _ _ is uses (over.writes {w} changes of) = nothing_written w (is_typed o.schema tree w is) uses changes of
       by _ _ _ is uses over.sets_names = refl
 

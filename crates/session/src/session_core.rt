@@ -255,7 +255,7 @@ impl<W: World + Send + Sync, J: Naming + Send + Sync> Core<W, J> {
     // session_replies::unknown_keyspace_is_used, feed_forgets_the_end, id_is_another, session_replies::reply_number_by_the_first_packet,
     // session_replies::ping_tells_a_row, session_replies::query_is_refused_for_syntax, session_replies::query_gives_no_rows,
     // session_replies::count_is_told_halved, session_replies::fault_has_the_refused_number, session_replies::fault_is_not_told,
-    // session_replies::key_columns_may_be_null
+    // session_replies::key_columns_may_be_null, session_replies::second_tables_columns_come_first
     // Headline.
     // Promise: After a fault: without memory for a piece, it counts as not fed, and pass and sink are as before it; where the sink failed,
     // a front of the payloads is answered, each once, and the sink took a front of the replies; where the source failed, each payload that

@@ -214,7 +214,7 @@ one_query_or_refusal o l hello bits p q kept then payload out text outcome first
         (e ∙ ap (λ (n : ℕ). encoded (set_end_of bits) (Refused OutOfMemory) (reply_number payload) n) same)
 
 -- a result set with the columns and rows of an answer
-pub shows : (schema : VSchema) (selected : Selected) (set : ResultSet) → AreColumns schema selected.table selected.join selected.items set.columns
+pub shows : (schema : VSchema) (selected : Selected) (set : ResultSet) → AreColumns schema selected.table selected.join selected.items selected.qualified set.columns
     → set.rows ≡ selected.rows → Shows schema (answer.Rows selected) (Rows set)
 shows schema selected set columns rows =
     let E : List Row → Type 0 = λ rs. Shows schema (answer.Rows selected) (Rows (record { columns = set.columns; rows = rs })) in

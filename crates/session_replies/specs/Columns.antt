@@ -1,6 +1,7 @@
 -- How the columns of a query's result are defined.
-use Rattle.std.specs.Prelude.{◌≡◌, ℕ, ◌+◌, ◌-◌, true, false, ◌==◌, nat_lt, List, [], ◌∷◌, Option, Some, None, slice_index_or, if◌then◌else◌}
+use Rattle.std.specs.Prelude.{◌≡◌, ℕ, ◌+◌, ◌-◌, Bool, true, false, ◌==◌, nat_lt, List, [], ◌∷◌, Option, Some, None, slice_index_or, if◌then◌else◌}
 use Rattle.std.specs.List.{list_any}
+use Rattle.sql_tree.specs.declared.ColumnName.{ColumnName}
 use Rattle.sql_tree.specs.declared.Item.{Item}
 use Rattle.sql_tree.specs.declared.Item.TheVariants as item
 use Rattle.sql_tree.specs.Printing.{item_text}
@@ -55,14 +56,18 @@ column_at t place = slice_index_or t.columns place no_column
 abbrev pub DefinesAt : VSchema → Table → ℕ → R.Column → Type 0
 DefinesAt schema t place defined = Defines schema t place (column_at t place) defined
 
+-- the name of a column, with its table's where it was written so
+abbrev pub name_at : Table → Bool → ℕ → ColumnName
+name_at t qualified n = record { table = if qualified then Some t.name else None; name = (column_at t n).name }
+
 -- an item with the names of its columns
-abbrev pub named_item : Table → Item ℕ → Item (List ℕ)
-named_item t (item.Column n) = item.Column (column_at t n).name
-named_item t item.CountRows = item.CountRows
-named_item t (item.Count n) = item.Count (column_at t n).name
-named_item t (item.Sum n) = item.Sum (column_at t n).name
-named_item t (item.Min n) = item.Min (column_at t n).name
-named_item t (item.Max n) = item.Max (column_at t n).name
+abbrev pub named_item : Table → Bool → Item ℕ → Item ColumnName
+named_item t qualified (item.Column n) = item.Column (name_at t qualified n)
+named_item t qualified item.CountRows = item.CountRows
+named_item t qualified (item.Count n) = item.Count (name_at t qualified n)
+named_item t qualified (item.Sum n) = item.Sum (name_at t qualified n)
+named_item t qualified (item.Min n) = item.Min (name_at t qualified n)
+named_item t qualified (item.Max n) = item.Max (name_at t qualified n)
 
 -- a count is counted, a sum is summed, and the least and the greatest are of their column's type
 abbrev pub item_kind : Table → Item ℕ → Kind
@@ -83,10 +88,10 @@ item_flags t (item.Min n) = base_flags (column_at t n).kind
 item_flags t (item.Max n) = base_flags (column_at t n).kind
 
 -- the definition of an aggregate: no keyspace or table has it, and it is named as it is printed
-pub record DefinesAggregate (t : Table) (shown : Item ℕ) (defined : R.Column) : Type 0 where
+pub record DefinesAggregate (t : Table) (qualified : Bool) (shown : Item ℕ) (defined : R.Column) : Type 0 where
   pub schema_name : defined.schema ≡ []
   pub table_name : defined.table ≡ []
-  pub name : defined.name ≡ item_text (named_item t shown)
+  pub name : defined.name ≡ item_text (named_item t qualified shown)
   pub org_name : defined.org_name ≡ []
   pub kind : defined.kind ≡ item_kind t shown
   pub flags : defined.flags ≡ item_flags t shown
@@ -97,21 +102,23 @@ owner_of schema t None n = (t, n)
 owner_of schema t (Some j) n = if nat_lt n j.width then (t, n) else (slice_index_or schema.tables j.table no_table, n - j.width)
 
 -- a column is its table's; an aggregate is over one table
-abbrev pub DefinesItem : VSchema → Table → Option Join → Item ℕ → R.Column → Type 0
-DefinesItem schema t join (item.Column n) defined = DefinesAt schema (owner_of schema t join n).0 (owner_of schema t join n).1 defined
-DefinesItem schema t join item.CountRows defined = DefinesAggregate t item.CountRows defined
-DefinesItem schema t join (item.Count n) defined = DefinesAggregate t (item.Count n) defined
-DefinesItem schema t join (item.Sum n) defined = DefinesAggregate t (item.Sum n) defined
-DefinesItem schema t join (item.Min n) defined = DefinesAggregate t (item.Min n) defined
-DefinesItem schema t join (item.Max n) defined = DefinesAggregate t (item.Max n) defined
+abbrev pub DefinesItem : VSchema → Table → Option Join → Bool → Item ℕ → R.Column → Type 0
+DefinesItem schema t join qualified (item.Column n) defined = DefinesAt schema (owner_of schema t join n).0 (owner_of schema t join n).1 defined
+DefinesItem schema t join qualified item.CountRows defined = DefinesAggregate t qualified item.CountRows defined
+DefinesItem schema t join qualified (item.Count n) defined = DefinesAggregate t qualified (item.Count n) defined
+DefinesItem schema t join qualified (item.Sum n) defined = DefinesAggregate t qualified (item.Sum n) defined
+DefinesItem schema t join qualified (item.Min n) defined = DefinesAggregate t qualified (item.Min n) defined
+DefinesItem schema t join qualified (item.Max n) defined = DefinesAggregate t qualified (item.Max n) defined
 
--- a definition for each item, in order
-abbrev pub AllDefined : VSchema → Table → Option Join → List (Item ℕ) → List R.Column → Type 0
-AllDefined schema t join [] [] = Unit {0}
-AllDefined schema t join [] (d ∷ defined) = ⊥
-AllDefined schema t join (i ∷ items) [] = ⊥
-AllDefined schema t join (i ∷ items) (d ∷ defined) = DefinesItem schema t join i d × AllDefined schema t join items defined
+-- a definition for each item, in order, from the item of this number on
+abbrev pub AllDefined : VSchema → Table → Option Join → List Bool → ℕ → List (Item ℕ) → List R.Column → Type 0
+AllDefined schema t join qualified n [] [] = Unit {0}
+AllDefined schema t join qualified n [] (d ∷ defined) = ⊥
+AllDefined schema t join qualified n (i ∷ items) [] = ⊥
+AllDefined schema t join qualified n (i ∷ items) (d ∷ defined) =
+    DefinesItem schema t join (slice_index_or qualified n false) i d × AllDefined schema t join qualified (n + 1) items defined
 
 -- the definitions of the columns that a query over the table at this place, or over its pairs with another, shows
-abbrev pub AreColumns : VSchema → ℕ → Option Join → List (Item ℕ) → List R.Column → Type 0
-AreColumns schema table join items defined = AllDefined schema (slice_index_or schema.tables table no_table) join items defined
+abbrev pub AreColumns : VSchema → ℕ → Option Join → List (Item ℕ) → List Bool → List R.Column → Type 0
+AreColumns schema table join items qualified defined =
+    AllDefined schema (slice_index_or schema.tables table no_table) join qualified 0 items defined

@@ -36,7 +36,7 @@ IsKept o p kept s = (s.pass ≡ p) × Stands o p kept s.tx
 
 -- how an answer is told: rows under the definitions of the columns that they show, or a count
 pub data Shows (schema : VSchema) : Answer → Outcome → Type 0 where
-  rows : {columns : List Column} {selected : Selected} → AreColumns schema selected.table selected.join selected.items columns
+  rows : {columns : List Column} {selected : Selected} → AreColumns schema selected.table selected.join selected.items selected.qualified columns
       → Shows schema (a.Rows selected) (Rows (record { columns = columns; rows = selected.rows }))
   count : {n : ℕ} → Shows schema (a.Count n) (Count n)
 

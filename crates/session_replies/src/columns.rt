@@ -1,10 +1,11 @@
-ghost use Rattle.std.specs.Prelude.{◌≡◌, ◌==◌, IfOk, IfErr, slice_index_or};
+ghost use Rattle.std.specs.Prelude.{◌≡◌, ◌==◌, IfOk, IfErr, Some, None, false, slice_index_or, if◌then◌else◌};
 ghost use Rattle.std.specs.List.{list_any};
 ghost use Rattle.vschema.specs.Schema.{no_table};
-ghost use Rattle.session_replies.specs.Columns.{shown_kind, base_flags, flags_of, no_keyspace, no_column, column_at, Defines, DefinesAt, named_item, item_kind, item_flags, DefinesAggregate, owner_of, DefinesItem, AllDefined, AreColumns};
+ghost use Rattle.sql_tree.specs.Printing.{item_text};
+ghost use Rattle.session_replies.specs.Columns.{shown_kind, base_flags, flags_of, no_keyspace, no_column, column_at, Defines, DefinesAt, name_at, named_item, item_kind, item_flags, DefinesAggregate, owner_of, DefinesItem, AllDefined, AreColumns};
 
 use resultset::{Column as ResultColumn, Kind};
-use sql_tree::{Item, Name, print_item};
+use sql_tree::{ColumnName, Item, Name, print_item};
 use std::alloc::Global;
 use vschema::{Column, ColumnType, Columns, Join, Table, VSchema};
 use vt_value::{Items, Refusal};
@@ -130,7 +131,7 @@ fn type_at(table: &Table, place: usize) -> ColumnType
     }
 }
 
-fn name_at(alloc: Global, table: &Table, place: usize) -> Result<Name, Refusal>
+fn bare_name_at(alloc: Global, table: &Table, place: usize) -> Result<Name, Refusal>
     ensures ok { IfOk result (λ n. n ≡ (column_at table.now place).name) }
     ensures err { IfErr result (λ e. e ≡ Refusal.OutOfMemory) }
 {
@@ -140,30 +141,60 @@ fn name_at(alloc: Global, table: &Table, place: usize) -> Result<Name, Refusal>
     }
 }
 
-fn named_item(alloc: Global, table: &Table, item: &Item<usize>) -> Result<Item<Name>, Refusal>
-    ensures ok { IfOk result (λ i. i ≡ named_item table.now item.now) }
+fn qualifier(alloc: Global, table: &Table, qualified: bool) -> Result<Option<Name>, Refusal>
+    ensures ok { IfOk result (λ n. n ≡ (if qualified then Some table.now.name else None)) }
+    ensures err { IfErr result (λ e. e ≡ Refusal.OutOfMemory) }
+{
+    if !qualified {
+        return Ok(None);
+    }
+    let name = copy_name(alloc, table.name.as_slice())?;
+    Ok(Some(name))
+}
+
+fn name_at(
+    alloc: Global,
+    table: &Table,
+    qualified: bool,
+    place: usize,
+) -> Result<ColumnName, Refusal>
+    ensures ok { IfOk result (λ n. n ≡ name_at table.now qualified place) }
+    ensures err { IfErr result (λ e. e ≡ Refusal.OutOfMemory) }
+{
+    let name = bare_name_at(alloc, table, place)?;
+    let table = qualifier(alloc, table, qualified)?;
+    Ok(ColumnName { table, name })
+}
+
+fn named_item(
+    alloc: Global,
+    table: &Table,
+    qualified: bool,
+    item: &Item<usize>,
+) -> Result<Item<ColumnName>, Refusal>
+    ensures ok { IfOk result (λ i. i ≡ named_item table.now qualified item.now) }
     ensures err { IfErr result (λ e. e ≡ Refusal.OutOfMemory) }
 {
     match item {
         Item::Column(place) => {
-            let name = name_at(alloc, table, *place)?;
+            let name = name_at(alloc, table, qualified, *place)?;
             Ok(Item::Column(name))
         }
         Item::CountRows => Ok(Item::CountRows),
         Item::Count(place) => {
-            let name = name_at(alloc, table, *place)?;
+            let name = name_at(alloc, table, qualified, *place)?;
             Ok(Item::Count(name))
         }
         Item::Sum(place) => {
-            let name = name_at(alloc, table, *place)?;
+            let name = name_at(alloc, table, qualified, *place)?;
             Ok(Item::Sum(name))
         }
         Item::Min(place) => {
-            let name = name_at(alloc, table, *place)?;
+            let name = name_at(alloc, table, qualified, *place)?;
             Ok(Item::Min(name))
         }
         Item::Max(place) => {
-            let name = name_at(alloc, table, *place)?;
+            let name = name_at(alloc, table, qualified, *place)?;
             Ok(Item::Max(name))
         }
     }
@@ -193,16 +224,29 @@ fn item_flags(table: &Table, item: &Item<usize>) -> u16
     }
 }
 
+fn printed_item(
+    alloc: Global,
+    table: &Table,
+    qualified: bool,
+    item: &Item<usize>,
+) -> Result<Vec<u8>, Refusal>
+    ensures ok { IfOk result (λ text. text.items ≡ item_text (named_item table.now qualified item.now)) }
+    ensures err { IfErr result (λ e. e ≡ Refusal.OutOfMemory) }
+{
+    let named = named_item(alloc, table, qualified, item)?;
+    print_item(alloc, &named)
+}
+
 fn define_aggregate(
     alloc: Global,
     table: &Table,
+    qualified: bool,
     item: &Item<usize>,
 ) -> Result<ResultColumn, Refusal>
-    ensures ok { IfOk result (DefinesAggregate table.now item.now) }
+    ensures ok { IfOk result (DefinesAggregate table.now qualified item.now) }
     ensures err { IfErr result (λ e. e ≡ Refusal.OutOfMemory) }
 {
-    let named = named_item(alloc, table, item)?;
-    let printed = print_item(alloc, &named)?;
+    let printed = printed_item(alloc, table, qualified, item)?;
     Ok(ResultColumn {
         schema: Items::new(alloc),
         table: Items::new(alloc),
@@ -256,14 +300,24 @@ fn define_item(
     schema: &VSchema,
     table: &Table,
     join: Option<Join>,
+    qualified: bool,
     item: &Item<usize>,
 ) -> Result<ResultColumn, Refusal>
-    ensures ok { IfOk result (DefinesItem schema.now table.now join item.now) }
+    ensures ok { IfOk result (DefinesItem schema.now table.now join qualified item.now) }
     ensures err { IfErr result (λ e. e ≡ Refusal.OutOfMemory) }
 {
     match item {
         Item::Column(place) => define_shown(alloc, schema, table, join, *place),
-        _ => define_aggregate(alloc, table, item),
+        _ => define_aggregate(alloc, table, qualified, item),
+    }
+}
+
+fn flag_at(flags: &[bool], place: usize) -> bool
+    ensures { result ≡ slice_index_or flags.now place false }
+{
+    match flags.get(place) {
+        Some(flag) => *flag,
+        None => false,
     }
 }
 
@@ -273,31 +327,35 @@ fn define_all(
     table: &Table,
     join: Option<Join>,
     wanted: &[Item<usize>],
+    qualified: &[bool],
 ) -> Result<Items<ResultColumn>, Refusal>
-    ensures ok { IfOk result (AllDefined schema.now table.now join wanted.now) }
+    ensures ok { IfOk result (AllDefined schema.now table.now join qualified.now 0 wanted.now) }
     ensures err { IfErr result (λ e. e ≡ Refusal.OutOfMemory) }
 {
     let mut columns = Items::new(alloc);
     for item in wanted {
-        let column = define_item(alloc, schema, table, join, item)?;
+        let named_whole = flag_at(qualified, columns.len());
+        let column = define_item(alloc, schema, table, join, named_whole, item)?;
         columns.push(column)?;
     }
     Ok(columns)
 }
 
-/// The definitions of the columns that these items are, of the table at a place of the VSchema or of its pairs with another.
+/// The definitions of the columns that these items are, of the table at a place of the VSchema or of its pairs with another. `qualified` tells
+/// for each whether it was written with its table's name.
 pub fn columns_of(
     alloc: Global,
     schema: &VSchema,
     table: usize,
     join: Option<Join>,
     items: &[Item<usize>],
+    qualified: &[bool],
 ) -> Result<Items<ResultColumn>, Refusal>
-    ensures ok { IfOk result (AreColumns schema.now table join items.now) }
+    ensures ok { IfOk result (AreColumns schema.now table join items.now qualified.now) }
     ensures err { IfErr result (λ e. e ≡ Refusal.OutOfMemory) }
 {
     match schema.tables.as_slice().get(table) {
-        Some(table) => define_all(alloc, schema, table, join, items),
-        None => define_all(alloc, schema, &missing_table(alloc), join, items),
+        Some(table) => define_all(alloc, schema, table, join, items, qualified),
+        None => define_all(alloc, schema, &missing_table(alloc), join, items, qualified),
     }
 }

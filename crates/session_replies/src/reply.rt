@@ -73,7 +73,7 @@ pub fn put_pong(number: u8, status: u16, reply: &mut BytesMut)
 }
 
 fn result_set(alloc: Global, schema: &VSchema, selected: Selected) -> Result<ResultSet, Refusal>
-    ensures columns { IfOk result (λ set. AreColumns schema.now selected.table selected.join selected.items set.columns) }
+    ensures columns { IfOk result (λ set. AreColumns schema.now selected.table selected.join selected.items selected.qualified set.columns) }
     ensures rows { IfOk result (λ set. set.rows ≡ selected.rows) }
     ensures err { IfErr result (λ e. e ≡ Refusal.OutOfMemory) }
 {
@@ -83,6 +83,7 @@ fn result_set(alloc: Global, schema: &VSchema, selected: Selected) -> Result<Res
         selected.table,
         selected.join,
         selected.items.as_slice(),
+        selected.qualified.as_slice(),
     )?;
     Ok(ResultSet {
         columns,

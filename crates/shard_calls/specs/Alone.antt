@@ -47,7 +47,7 @@ pub record NoCommits (before now : Run) : Type 0 where
 -- nothing. A write makes its changes, in some order, and counts them. SET NAMES counts 0.
 pub data GivesOver (schema : VSchema) (db : Database) : Typed → Answer → Database → Type 0 where
   selects : {query : Query} {selected : Selected} → selected.table ≡ query.table → selected.join ≡ query.join → selected.items ≡ query.items
-      → Allowed query db selected.rows → GivesOver schema db (typed.Select query) (Rows selected) db
+      → selected.qualified ≡ query.qualified → Allowed query db selected.rows → GivesOver schema db (typed.Select query) (Rows selected) db
   writes : {w : Write} (changes : List RowChange) → IsChangeOf schema w db changes
       → GivesOver schema db (typed.Write w) (Count (length changes)) (all_applied changes db)
   sets_names : GivesOver schema db typed.SetNames (Count 0) db

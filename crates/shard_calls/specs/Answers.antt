@@ -67,6 +67,7 @@ pub record IsSelected (o : Opening) (p : PassView Entry) (t : Table) (query : Qu
   pub table : selected.table ≡ query.table
   pub join : selected.join ≡ query.join
   pub items : selected.items ≡ query.items
+  pub qualified : selected.qualified ≡ query.qualified
   pub added : List (ℕ × ℕ)
   pub gone : HasGoneOn o p added now
   pub parts : List Part

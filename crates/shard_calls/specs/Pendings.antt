@@ -57,7 +57,7 @@ pub data AreTold (o : Opening) (s : Shard) (run : Run) (touched : List Touch) : 
   read : {steps : List Step} {writes : List Write} {changes : List RowChange} (q : Query) (selected : Selected) (seen : Run)
       → AreTold o s run touched steps writes changes → ReadsAlone o q s → SourcesThere (length o.schema.tables) q → JoinsInPlace o.schema q
       → AllByRecursion (λ n. IsTrue (is_touched touched n)) (source_tables q)
-      → selected.table ≡ q.table → selected.join ≡ q.join → selected.items ≡ q.items
+      → selected.table ≡ q.table → selected.join ≡ q.join → selected.items ≡ q.items → selected.qualified ≡ q.qualified
       → Allowed q (all_applied changes (held o run s)) selected.rows
       → AreTold o s run touched (steps ++ record { typed = typed.Select q; answer = Rows selected; on = Some s; seen = seen } ∷ []) writes changes
   wrote : {steps : List Step} {writes : List Write} {changes : List RowChange} (w : Write) (more : List RowChange) (seen : Run)

@@ -12,6 +12,8 @@ pub struct Selected {
     pub table: usize,
     pub join: Option<Join>,
     pub items: Items<Item<usize>>,
+    /// Whether each item was written with its table's name, as `Query::qualified`.
+    pub qualified: Items<bool>,
     pub rows: Items<Row>,
 }
 

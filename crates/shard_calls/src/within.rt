@@ -21,12 +21,17 @@ use std::sync::Wait;
 use vschema::{Query, Typed, VSchema, Write};
 use vt_value::{Items, Refusal, Row};
 
-// What the query shows.
-pub fn items_of(query: Query) -> Items<Item<usize>>
-    ensures { result ≡ query.items }
+/// What the query shows, and whether each item was written with its table's name.
+pub fn shown_by(query: Query) -> (Items<Item<usize>>, Items<bool>)
+    ensures items { result.0 ≡ query.items }
+    ensures qualified { result.1 ≡ query.qualified }
 {
-    let Query { items, .. } = query;
-    items
+    let Query {
+        items,
+        qualified,
+        ..
+    } = query;
+    (items, qualified)
 }
 
 /// Whether a refusal ends an open transaction.

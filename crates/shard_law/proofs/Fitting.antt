@@ -17,6 +17,7 @@ use Rattle.vschema.specs.declared.changes.Write.{Write}
 use Rattle.vschema.specs.declared.changes.Write.TheVariants.{Insert, Update, Delete}
 use Rattle.vschema.specs.Schema.{no_table, place_from}
 use Rattle.vschema.specs.Resolved.{Name, place, places_from}
+use Rattle.vschema.specs.Scopes.{only}
 use Rattle.vschema.specs.Checks.{has_number, filter_has, condition_mixes, is_text_type, value_is_text, differ}
 use Rattle.vschema.specs.WriteChecks.{Stored, beside, insert_places, has_wrong_count, inserted_values, assigned_values, has_other_kind, has_wrong_null, has_out_of_range, has_too_long, is_out_of_range, is_too_long, leaves_out_column, sets_key, update_is_not_supported}
 use Rattle.vschema.specs.TypedWrites.{IsTypedWrite, insert, update, delete, unless_refused, insert_checks, update_checks, delete_checks, insert_over, update_over, delete_over, value_for, whole_row, resolved_assignment}
@@ -216,8 +217,8 @@ module _ (schema : VSchema) (w : Write) where
   fits-from_typed (update s h) =
       let f = found schema w s.table (λ n t. unless_refused (update_checks t s) (update_over n t s)) h in
       let pass = passed (update_checks f.t s) (update_over f.n f.t s) w f.means in
-      let kinds = (or_parts (filter_has (condition_mixes f.t) s.filter) (has_other_kind (assigned_values f.t s))
-      (or_parts (filter_has (condition_mixes f.t) s.filter || has_other_kind (assigned_values f.t s)) (sets_key f.t s)
+      let kinds = (or_parts (filter_has (condition_mixes (only f.t)) s.filter) (has_other_kind (assigned_values f.t s))
+      (or_parts (filter_has (condition_mixes (only f.t)) s.filter || has_other_kind (assigned_values f.t s)) (sets_key f.t s)
       (pass (update_is_not_supported f.t s) NotSupported (inr (inr (inl refl))))).0).1 in
       let nulls = pass (has_wrong_null (assigned_values f.t s)) NullNotAllowed (inr (inr (inr (inl refl)))) in
       let ranges = pass (has_out_of_range (assigned_values f.t s)) OutOfRange (inr (inr (inr (inr (inl refl))))) in

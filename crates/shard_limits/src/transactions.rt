@@ -1,5 +1,6 @@
 //! Transactions on one small shard.
-ghost use Rattle.std.specs.Prelude.{◌≡◌};
+ghost use Rattle.std.specs.Prelude.{length};
+ghost use Rattle.vschema.specs.Sources.{SourcesThere};
 ghost use Rattle.vschema.specs.TypedWrites.{IsTypedWrite};
 ghost use Rattle.shard_contents.specs.Commits.{IsPlaced};
 ghost use Rattle.shard_limits.specs.SmallWorld.{small_schema, small_shard};
@@ -46,7 +47,7 @@ impl<J: Naming, R: Wait> Session<'_, J, R> {
 
     // How many rows a query gives as the statement of the transaction.
     fn rows_by(&mut self, tx: &mut Pending, query: &Query) -> Result<usize, Refusal>
-        requires there { query.now.table ≡ 0 }
+        requires there { SourcesThere (length small_schema.tables) query.now }
         requires above { IsNumbered self.old.pass }
         requires tied { IsHere tx.old self.old.pass }
         ensures tied { IsHere tx.new self.new.pass }

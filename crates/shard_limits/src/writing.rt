@@ -1,5 +1,6 @@
 //! Writes and reads of one small shard.
-ghost use Rattle.std.specs.Prelude.{◌≡◌, ◌∷◌, [], IfOk};
+ghost use Rattle.std.specs.Prelude.{◌≡◌, ◌∷◌, [], IfOk, length};
+ghost use Rattle.vschema.specs.Sources.{SourcesThere};
 ghost use Rattle.vschema.specs.TypedWrites.{IsTypedWrite};
 ghost use Rattle.journal.specs.Views.{fresh_seats};
 ghost use Rattle.shard_contents.specs.Commits.{IsPlaced};
@@ -192,12 +193,13 @@ pub(crate) fn state<J: Naming>(
 
 // SELECT item FROM t
 pub(crate) fn query(alloc: Global, item: Item<usize>) -> Result<Query, Refusal>
-    ensures { IfOk result (λ query. query.table ≡ 0) }
+    ensures { IfOk result (SourcesThere (length small_schema.tables)) }
 {
     Ok(Query {
         table: 0,
         join: None,
         items: one(alloc, item)?,
+        qualified: Items::new(alloc),
         filter: None,
         group_by: Items::new(alloc),
         order_by: Items::new(alloc),

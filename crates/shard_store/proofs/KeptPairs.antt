@@ -11,6 +11,7 @@ use Rattle.vt_value.specs.declared.value.Value.TheVariants.{Null}
 use Rattle.vt_value.specs.declared.value.Comparison.TheVariants.{Eq}
 use Rattle.vt_value.specs.Values.{Row, value_at, compare, is_true}
 use Rattle.operators.proofs.OrderLemmas.{value_cmp-same}
+use Rattle.sql_tree.specs.declared.Condition.{Condition}
 use Rattle.vschema.specs.declared.schema.Join.{Join}
 use Rattle.vschema.specs.declared.schema.Query.{Query}
 use Rattle.vschema.specs.Checks.{is_aggregated}
@@ -22,8 +23,9 @@ use Rattle.shard_store.specs.declared.fixed.Fixed.{Fixed}
 use Rattle.shard_store.specs.Chosen.{fits}
 use Rattle.shard_store.specs.Slots.{rows_in}
 use Rattle.shard_store.specs.Tables.{TableView}
-use Rattle.shard_store.specs.inner.Joined.{has_value, may_have, StoredBy, stored_rows, stored_with, rows_lent}
+use Rattle.shard_store.specs.inner.Joined.{passes, has_value, may_have, StoredBy, stored_rows, stored_with, rows_lent}
 use Rattle.sql_eval.specs.Groups.{CanBeSummed}
+use Rattle.sql_eval.proofs.DistinctRows.{filter_true}
 use Rattle.sql_eval.proofs.Pairs.{pairs_permuted}
 use Rattle.shard_store.proofs.KeptRows.{same_cmp, filter_twice}
 
@@ -105,6 +107,13 @@ summed_permuted xs ys same (few, all) =
     let n = length_permutation xs ys same in
     (omega (arith, n, few), all_permuted _ xs ys same all)
 
+-- without conditions of its own, each first row passes
+pub all_pass : (j : Join) (own : List (Bor (Condition ℕ))) (firsts seconds rows : List Row) → rows ≡ pairs_of j (filter (passes own) firsts) seconds → own ≡ []
+    → rows ≡ pairs_of j firsts seconds
+all_pass j own firsts seconds rows is none =
+    is ∙ ap (λ (own : List (Bor (Condition ℕ))). pairs_of j (filter (passes own) firsts) seconds) none
+    ∙ ap (λ (l : List Row). pairs_of j l seconds) (filter_true firsts)
+
 -- an answer sees only the rows that are kept
 pub answer_of_same_kept : (q : Query) (xs ys list : List Row) → filter (is_kept q.filter) xs ≡ filter (is_kept q.filter) ys → IsAnswer q xs list → IsAnswer q ys list
 answer_of_same_kept q xs ys list same (arranged, all, sorted, is) =
@@ -112,6 +121,13 @@ answer_of_same_kept q xs ys list same (arranged, all, sorted, is) =
   where
     kept : kept_rows q xs ≡ kept_rows q ys
     kept = ap (λ (rows : List Row). cond (is_aggregated q) (keyed_groups q rows) (map (keyed_row q) rows)) same
+
+-- an answer over the pairs of the first rows that pass is one over all pairs
+pub answer_of_firsts : (q : Query) (j : Join) (own : Row → Bool) (firsts seconds rows list : List Row) → rows ≡ pairs_of j (filter own firsts) seconds
+    → ((a b : Row) → is_kept q.filter (paired j a b) ≡ true → own a ≡ true) → IsAnswer q rows list → IsAnswer q (pairs_of j firsts seconds) list
+answer_of_firsts q j own firsts seconds rows list is passed answer =
+    answer_of_same_kept q rows (pairs_of j firsts seconds) list
+    (ap (filter (is_kept q.filter)) is ∙ kept_of_firsts (is_kept q.filter) own j (λ a b pair kept. passed a b kept) firsts seconds) answer
 
 -- where no values are given, each row may have one
 pub all_may : (column : ℕ) (rows : List Row) → rows ≡ filter (may_have None column) rows

@@ -3,13 +3,13 @@ use Rattle.std.proofs.Common.{◌≡◌, ℕ, zero, suc, ◌+◌, ◌<◌, lengt
 use Rattle.std.specs.Prelude.{IsSorted}
 use Rattle.std.specs.List.{AllByRecursion, AllWithin}
 use Rattle.std.specs.List.Sorted.{IsSortedByClosure, IsPartitionedBy, IsPartitionPoint}
-use Rattle.std.specs.Fn.{Called}
+use Rattle.std.specs.Fn.{Called, ComputesKey}
 use Rattle.std.specs.Ordering.{is_eq, is_lt, is_le, ordering_reverse}
 use Rattle.std.specs.declared.cmp.Ordering.{Ordering}
 use Rattle.std.specs.declared.cmp.Ordering.TheVariants.{Less, Equal, Greater}
 use Rattle.std.proofs.lemmas.Bool.{false≢true}
 use Rattle.std.proofs.lemmas.Fn.{always_returns_same}
-use Rattle.std.proofs.lemmas.List.Sorted.{ranks_by}
+use Rattle.std.proofs.lemmas.List.Sorted.{ranks_by, IsPartitionPoint-from_clause}
 use denote.Param.Members.{Mut}
 use Rattle.vt_value.specs.declared.value.Value.{Value}
 use Rattle.vt_value.specs.Values.{Row, value_at, value_cmp}
@@ -131,11 +131,18 @@ module _ (column : ℕ) where
     abbrev pub is_up_to_value : Bor Row → Bool
     is_up_to_value r = is_le (value_cmp (at r) v)
 
-    pub below_parted : (xs : List (Bor Row)) → Rises column xs → IsPartitionedBy is_below_value xs
+    below_parted : (xs : List (Bor Row)) → Rises column xs → IsPartitionedBy is_below_value xs
     below_parted xs up = parted is_below_value (λ x y e f. below_too v (at x) (at y) e f) xs up
 
-    pub up_to_parted : (xs : List (Bor Row)) → Rises column xs → IsPartitionedBy is_up_to_value xs
+    up_to_parted : (xs : List (Bor Row)) → Rises column xs → IsPartitionedBy is_up_to_value xs
     up_to_parted xs up = parted is_up_to_value (λ x y e f. at_most_too v (at x) (at y) e f) xs up
+
+    -- where the search by a closure that compares values ends
+    pub below_point : {F : Type 0} {g : Mut F (Bor (Bor Row) × Unit {0}) Bool} {f : F} (xs : List (Bor Row)) (i : ℕ)
+        → ((q : Bor Row → Bool) → ComputesKey g q f → IsPartitionedBy q xs → IsPartitionPoint (λ y. q y ≡ true) (λ y. q y ≡ false) xs i) → Rises column xs
+        → ((a : Bor (Bor Row) × Unit {0}) (r : Bool) (f' : F) → Called g f a r f' → (r ≡ is_below_value a.0.now) × (f' ≡ f))
+        → IsPartitionPoint (λ y. is_below_value y ≡ true) (λ y. is_below_value y ≡ false) xs i
+    below_point xs i point up h = IsPartitionPoint-from_clause is_below_value xs i point (below_parted xs up) h
 
     -- rows before the first that isn't below the value don't have it
     pub others_dropped : (xs : List (Bor Row)) (i : ℕ) → AllWithin (λ x. is_below_value x ≡ true) xs 0 i
@@ -160,6 +167,12 @@ module _ (column : ℕ) where
         let here : has_value column v x.now ≡ false = above_other v (at x) (h 0 x (omega arith) (omega arith)) in
         let rest = none_with xs (λ k d low l. h (suc k) d (omega arith) (omega (arith, l))) in
         rw here rest
+
+    pub up_to_point : {F : Type 0} {g : Mut F (Bor (Bor Row) × Unit {0}) Bool} {f : F} (xs : List (Bor Row)) (i : ℕ)
+        → ((q : Bor Row → Bool) → ComputesKey g q f → IsPartitionedBy q xs → IsPartitionPoint (λ y. q y ≡ true) (λ y. q y ≡ false) xs i) → Rises column xs
+        → ((a : Bor (Bor Row) × Unit {0}) (r : Bool) (f' : F) → Called g f a r f' → (r ≡ is_up_to_value a.0.now) × (f' ≡ f))
+        → IsPartitionPoint (λ y. is_up_to_value y ≡ true) (λ y. is_up_to_value y ≡ false) xs i
+    up_to_point xs i point up h = IsPartitionPoint-from_clause is_up_to_value xs i point (up_to_parted xs up) h
 
     -- of rows that aren't below the value, those up to the last that isn't above it have it
     pub others_cut : (xs : List (Bor Row)) (i : ℕ) → AllByRecursion (λ x. is_below_value x ≡ false) xs → IsPartitionPoint (λ x. is_up_to_value x ≡ true) (λ x. is_up_to_value x ≡ false) xs i

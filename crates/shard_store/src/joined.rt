@@ -2,7 +2,7 @@
 //! pair is ever looked at.
 ghost use Rattle.std.specs.Prelude.{◌≡◌, ◌≤◌, ◌^◌, ◌++◌, ◌∷◌, [], true, IfOk, IfErr, MatchOption, filter, length};
 ghost use Rattle.vschema.specs.Checks.{is_aggregated};
-ghost use Rattle.vschema.specs.Sources.{padded, is_pair, pairs_of};
+ghost use Rattle.vschema.specs.Sources.{is_pair, pairs_of};
 ghost use Rattle.sql_eval.specs.Groups.{CanBeSummed};
 ghost use Rattle.sql_eval.specs.Pairs.{seen};
 ghost use Rattle.sql_eval.specs.Queries.{IsAnswer};
@@ -11,12 +11,11 @@ ghost use Rattle.shard_store.specs.inner.Partners.{current_pairs};
 
 use crate::by_value::{RowsByValue, RowsFound};
 use crate::own::{own_conjuncts, passes};
-use crate::table::copy_at;
-use sql_eval::{PairSource, RowSource, Seen, is_pair, select_local, select_pairs};
+use sql_eval::{PairSource, RowSource, Seen, copy_seen, is_pair, select_local, select_pairs};
 use sql_tree::Condition;
 use std::alloc::Global;
 use vschema::{Join, Query};
-use vt_value::{Items, Refusal, Row, copy, copy_row};
+use vt_value::{Items, Refusal, Row};
 
 // More rows than memory can hold. The sums of a query are known to fit up to here.
 const MOST_ROWS: usize = 1 << 60;
@@ -120,30 +119,6 @@ impl<'a, 'b, S: RowSource<'a>> PairSource<'a> for JoinedPairs<'a, 'b, S> {
             let seconds = self.seconds.candidates(alloc, self.join, first)?;
             self.partners = Some(Partners { first, seconds });
         }
-    }
-}
-
-fn copy_pair(alloc: Global, first: &Row, width: usize, second: &Row) -> Result<Row, Refusal>
-    ensures ok { IfOk result (λ row. row ≡ padded width first.now ++ second.now) }
-    ensures err { IfErr result (λ e. e ≡ Refusal.OutOfMemory) }
-{
-    let mut row = Items::new(alloc);
-    for place in 0..width {
-        row.push(copy_at(alloc, first, place)?)?;
-    }
-    for value in second.as_slice() {
-        row.push(copy(alloc, value)?)?;
-    }
-    Ok(row)
-}
-
-fn copy_seen(alloc: Global, values: Seen) -> Result<Row, Refusal>
-    ensures ok { IfOk result (λ row. row ≡ seen values.entry) }
-    ensures err { IfErr result (λ e. e ≡ Refusal.OutOfMemory) }
-{
-    match values {
-        Seen::Row(row) => copy_row(alloc, row),
-        Seen::Pair(first, width, second) => copy_pair(alloc, first, width, second),
     }
 }
 

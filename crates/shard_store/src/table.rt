@@ -37,7 +37,7 @@ impl Model for StoredTable {
 }
 
 /// A copy of the value of a row at a place: NULL behind its last one. Refuses for want of memory.
-pub(crate) fn copy_at(alloc: Global, row: &Row, place: usize) -> Result<Value, Refusal>
+fn copy_at(alloc: Global, row: &Row, place: usize) -> Result<Value, Refusal>
     ensures ok { IfOk result (λ v. v ≡ value_at row.now place) }
     ensures err { IfErr result (λ e. e ≡ Refusal.OutOfMemory) }
 {

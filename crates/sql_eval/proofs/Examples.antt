@@ -21,7 +21,7 @@ abbrev t_rows : List Row
 t_rows = (n 1 ∷ Null ∷ []) ∷ (n 2 ∷ Null ∷ []) ∷ (n 3 ∷ n 7 ∷ []) ∷ (n 4 ∷ n 7 ∷ []) ∷ (n 5 ∷ n 9 ∷ []) ∷ (n 6 ∷ n 1 ∷ []) ∷ []
 
 abbrev query : List ℕ → Option (Condition ℕ) → Query
-query places filter' = record { table = 0; join = None; items = map item.Column places; filter = filter'; group_by = []; order_by = []; limit = None }
+query places filter' = record { table = 0; join = None; items = map item.Column places; qualified = []; filter = filter'; group_by = []; order_by = []; limit = None }
 
 -- which rows a condition keeps, by its plain test
 kept_by : (c : Condition ℕ) (p : Row → Bool) → ((row : Row) → is_kept (Some c) row ≡ p row) → filter (is_kept (Some c)) t_rows ≡ filter p t_rows
@@ -70,7 +70,7 @@ others =
     (λ row. ap is_true (truth_at-Not row c_is_7 ∙ ap truth_not (truth_at-Compare row Eq (Column 1) (Literal (n 7)))))
 
 abbrev grouped : List (Item ℕ) → List ℕ → List (Key ℕ) → Query
-grouped items group_by order_by = record { table = 0; join = None; items = items; filter = None; group_by = group_by; order_by = order_by; limit = None }
+grouped items group_by order_by = record { table = 0; join = None; items = items; qualified = []; filter = None; group_by = group_by; order_by = order_by; limit = None }
 
 -- COUNT(*) over no rows is one row 0, but none with a GROUP BY
 no_rows : kept_rows (grouped (item.CountRows ∷ []) [] []) [] ≡ alone (n 0 ∷ []) ∷ []
@@ -96,5 +96,5 @@ all_of_c : kept_rows (grouped (item.Count 1 ∷ item.Sum 1 ∷ item.Max 1 ∷ []
 all_of_c = refl
 
 -- with LIMIT 0 no row is left of COUNT(*)
-limited : (list : List Row) → IsAnswer (record { table = 0; join = None; items = item.CountRows ∷ []; filter = None; group_by = []; order_by = []; limit = Some (record { count = 0; offset = 0 }) }) t_rows list → list ≡ []
+limited : (list : List Row) → IsAnswer (record { table = 0; join = None; items = item.CountRows ∷ []; qualified = []; filter = None; group_by = []; order_by = []; limit = Some (record { count = 0; offset = 0 }) }) t_rows list → list ≡ []
 limited list answer = answer.3

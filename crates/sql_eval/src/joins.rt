@@ -133,7 +133,8 @@ fn copy_pair(alloc: Global, first: &Row, width: usize, second: &Row) -> Result<R
     Ok(row)
 }
 
-fn copy_seen(alloc: Global, values: Seen) -> Result<Row, Refusal>
+/// A copy of a row or of a pair. Refuses for want of memory.
+pub fn copy_seen(alloc: Global, values: Seen) -> Result<Row, Refusal>
     ensures ok { IfOk result (λ row. row ≡ seen values.entry) }
     ensures err { IfErr result (λ e. e ≡ Refusal.OutOfMemory) }
 {
@@ -195,8 +196,8 @@ fn shown_pairs<O: Operator>(
 }
 
 // Promise: What a query gives over the pairs that it is lent is one of its answers
-// With: SlicePairs::new
-// Refuses: pairs_of_null_are_taken, second_columns_come_first
+// With: SlicePairs::new, is_pair, copy_seen
+// Refuses: nulls_are_a_pair, on_is_left_out, second_partner_is_lost, first_row_is_one_wider, limit_of_pairs_is_left_out
 /// What a query that isn't aggregated gives over the pairs that a source lends, as `select_from` over rows. No pair is copied that isn't
 /// kept, and without ORDER BY none behind the last one that its LIMIT leaves is asked for. Refuses only for want of memory.
 pub fn select_pairs<'a, S: PairSource<'a>>(

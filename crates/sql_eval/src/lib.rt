@@ -12,7 +12,7 @@ mod writes;
 
 pub use conditions::{Seen, keeps, truth};
 pub use groups::{Grouping, copy_item, group_columns, group_order};
-pub use joins::{PairSource, SlicePairs, is_pair, select_pairs};
+pub use joins::{PairSource, SlicePairs, copy_seen, is_pair, select_pairs};
 pub use queries::{select_from, select_local, show};
 pub use rows::same_row;
 pub use source::{RowSource, SliceRows, all_kept, next_kept};

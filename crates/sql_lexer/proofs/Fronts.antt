@@ -9,7 +9,7 @@ use Rattle.vt_value.specs.declared.value.Comparison.TheVariants.{Eq, Ne, Lt, Le,
 use Rattle.sql_lexer.specs.declared.body.Place.TheVariants.{Inside}
 use Rattle.sql_lexer.specs.declared.token.Keyword as K
 use Rattle.sql_lexer.specs.declared.token.Sign as S
-use Rattle.sql_lexer.specs.declared.token.Sign.TheVariants.{LeftParenthesis, RightParenthesis, Comma, Semicolon, Star, Minus}
+use Rattle.sql_lexer.specs.declared.token.Sign.TheVariants.{LeftParenthesis, RightParenthesis, Comma, Semicolon, Star, Minus, Dot}
 use Rattle.sql_lexer.specs.declared.token.TokenKind.{TokenKind}
 use Rattle.sql_lexer.specs.declared.token.TokenKind.TheVariants.{Keyword, Word, Quoted, Number, Text, Sign, Operator}
 use Rattle.sql_lexer.specs.Lexemes.{is_blank, is_letter, is_digit, is_word_byte, is_spelling_of, is_keyword, is_word, max_word, IsBody, Spells, ends_token, goes_on}
@@ -176,22 +176,23 @@ text_sound bs x e =
     })
 
 sign_is : (b : ℕ) (sign : S.Sign) → sign_at b ≡ Some sign → b ∷ [] ≡ s.sign_text sign
-sign_is b sign e = go (eqb b 0x28) refl (eqb b 0x29) refl (eqb b 0x2C) refl (eqb b 0x3B) refl (eqb b 0x2A) refl (eqb b 0x2D) refl e
+sign_is b sign e = go (eqb b 0x28) refl (eqb b 0x29) refl (eqb b 0x2C) refl (eqb b 0x3B) refl (eqb b 0x2A) refl (eqb b 0x2D) refl (eqb b 0x2E) refl e
   where
     one : (c : ℕ) (other : S.Sign) → eqb b c ≡ true → c ∷ [] ≡ s.sign_text other → ◌≡◌ {A = Option S.Sign} (Some other) (Some sign) → b ∷ [] ≡ s.sign_text sign
     one c other is text e = ap (λ (x : ℕ). x ∷ []) (eqb-true b c is) ∙ text ∙ ap s.sign_text (some_is other sign e)
 
     go : (p1 : Bool) → eqb b 0x28 ≡ p1 → (p2 : Bool) → eqb b 0x29 ≡ p2 → (p3 : Bool) → eqb b 0x2C ≡ p3 → (p4 : Bool) → eqb b 0x3B ≡ p4 → (p5 : Bool)
-        → eqb b 0x2A ≡ p5 → (p6 : Bool) → eqb b 0x2D ≡ p6
+        → eqb b 0x2A ≡ p5 → (p6 : Bool) → eqb b 0x2D ≡ p6 → (p7 : Bool) → eqb b 0x2E ≡ p7
         → cond p1 (Some LeftParenthesis) (cond p2 (Some RightParenthesis) (cond p3 (Some Comma) (cond p4 (Some Semicolon) (cond p5 (Some Star)
-        (cond p6 (Some Minus) None))))) ≡ Some sign → b ∷ [] ≡ s.sign_text sign
-    go true is p2 _ p3 _ p4 _ p5 _ p6 _ e = one 0x28 LeftParenthesis is refl e
-    go false _ true is p3 _ p4 _ p5 _ p6 _ e = one 0x29 RightParenthesis is refl e
-    go false _ false _ true is p4 _ p5 _ p6 _ e = one 0x2C Comma is refl e
-    go false _ false _ false _ true is p5 _ p6 _ e = one 0x3B Semicolon is refl e
-    go false _ false _ false _ false _ true is p6 _ e = one 0x2A Star is refl e
-    go false _ false _ false _ false _ false _ true is e = one 0x2D Minus is refl e
-    go false _ false _ false _ false _ false _ false _ e = absurd cc
+        (cond p6 (Some Minus) (cond p7 (Some Dot) None)))))) ≡ Some sign → b ∷ [] ≡ s.sign_text sign
+    go true is p2 _ p3 _ p4 _ p5 _ p6 _ p7 _ e = one 0x28 LeftParenthesis is refl e
+    go false _ true is p3 _ p4 _ p5 _ p6 _ p7 _ e = one 0x29 RightParenthesis is refl e
+    go false _ false _ true is p4 _ p5 _ p6 _ p7 _ e = one 0x2C Comma is refl e
+    go false _ false _ false _ true is p5 _ p6 _ p7 _ e = one 0x3B Semicolon is refl e
+    go false _ false _ false _ false _ true is p6 _ p7 _ e = one 0x2A Star is refl e
+    go false _ false _ false _ false _ false _ true is p7 _ e = one 0x2D Minus is refl e
+    go false _ false _ false _ false _ false _ false _ true is e = one 0x2E Dot is refl e
+    go false _ false _ false _ false _ false _ false _ false _ e = absurd cc
 
 -- an operator of these bytes, and what follows it
 FoundOperator : List ℕ → Comparison × ℕ → Type 0
@@ -365,6 +366,7 @@ starts _ _ (s.mark Comma) = record { first = 0x2C; others = []; is = refl; plain
 starts _ _ (s.mark Semicolon) = record { first = 0x3B; others = []; is = refl; plain = refl }
 starts _ _ (s.mark Star) = record { first = 0x2A; others = []; is = refl; plain = refl }
 starts _ _ (s.mark Minus) = record { first = 0x2D; others = []; is = refl; plain = refl }
+starts _ _ (s.mark Dot) = record { first = 0x2E; others = []; is = refl; plain = refl }
 starts _ _ (s.comparison Eq) = record { first = 0x3D; others = []; is = refl; plain = refl }
 starts _ _ (s.comparison Ne) = record { first = 0x3C; others = 0x3E ∷ []; is = refl; plain = refl }
 starts _ _ (s.comparison Lt) = record { first = 0x3C; others = []; is = refl; plain = refl }
@@ -454,6 +456,7 @@ token_again _ _ (s.mark Comma) rest end = refl
 token_again _ _ (s.mark Semicolon) rest end = refl
 token_again _ _ (s.mark Star) rest end = refl
 token_again _ _ (s.mark Minus) rest end = refl
+token_again _ _ (s.mark Dot) rest end = refl
 token_again _ _ (s.comparison Eq) rest end = refl
 token_again _ _ (s.comparison Ne) rest end = refl
 token_again _ _ (s.comparison Lt) rest end = rw (less_again rest end) refl

@@ -8,7 +8,7 @@ use Rattle.std.proofs.lemmas.Bool.Decides.{nat_tests}
 use Rattle.std.proofs.lemmas.List.{length-map}
 use Rattle.std.proofs.lemmas.Slice.Eq.{bytes_eq-Decides}
 use Rattle.sql_lexer.specs.declared.token.Keyword.{Keyword}
-use Rattle.sql_lexer.specs.declared.token.Keyword.TheVariants.{And, Begin, Commit, Count, Delete, Desc, From, Group, Insert, Into, Limit, Names, Null, Offset, Order, Select, Start, Update, Values, Where}
+use Rattle.sql_lexer.specs.declared.token.Keyword.TheVariants.{And, Begin, Commit, Count, Delete, Desc, From, Group, Inner, Insert, Into, Join, Limit, Names, Null, Offset, Order, Select, Start, Update, Values, Where}
 use Rattle.sql_lexer.specs.Keywords.{keywords, keyword_text}
 use Rattle.sql_lexer.specs.Lexemes.{is_letter, is_word_byte, upper_case, max_word, is_word, is_spelling_of, is_keyword}
 use Rattle.sql_lexer.specs.inner.Scanning.{keyword_at}
@@ -167,23 +167,23 @@ find_in_any_order word n e ks all = go (find (is_spelling_of word) ks) refl (key
     go None is None has = is ∙ sym has
 
 abbrev four : List Keyword
-four = From ∷ Into ∷ Desc ∷ Null ∷ []
+four = From ∷ Into ∷ Desc ∷ Join ∷ Null ∷ []
 
 finds_four : (k : Keyword) → Finds 4 four k
 finds_four And = refl
 finds_four _ = refl
 
-pub keyword_of_four : (word : List ℕ) → length word ≡ 4 → find (is_spelling_of word) (From ∷ Into ∷ Desc ∷ Null ∷ []) ≡ keyword_at word
+pub keyword_of_four : (word : List ℕ) → length word ≡ 4 → find (is_spelling_of word) (From ∷ Into ∷ Desc ∷ Join ∷ Null ∷ []) ≡ keyword_at word
 keyword_of_four word e = find_in_any_order word 4 e four finds_four
 
 abbrev five : List Keyword
-five = Where ∷ Begin ∷ Count ∷ Group ∷ Limit ∷ Names ∷ Order ∷ Start ∷ []
+five = Where ∷ Begin ∷ Count ∷ Group ∷ Inner ∷ Limit ∷ Names ∷ Order ∷ Start ∷ []
 
 finds_five : (k : Keyword) → Finds 5 five k
 finds_five And = refl
 finds_five _ = refl
 
-pub keyword_of_five : (word : List ℕ) → length word ≡ 5 → find (is_spelling_of word) (Where ∷ Begin ∷ Count ∷ Group ∷ Limit ∷ Names ∷ Order ∷ Start ∷ []) ≡ keyword_at word
+pub keyword_of_five : (word : List ℕ) → length word ≡ 5 → find (is_spelling_of word) (Where ∷ Begin ∷ Count ∷ Group ∷ Inner ∷ Limit ∷ Names ∷ Order ∷ Start ∷ []) ≡ keyword_at word
 keyword_of_five word e = find_in_any_order word 5 e five finds_five
 
 abbrev six : List Keyword

@@ -1,13 +1,13 @@
 -- The keywords of the SQL that the router reads.
 use Rattle.std.specs.Prelude.{ℕ, List, [], ◌∷◌, codes}
 use Rattle.sql_lexer.specs.declared.token.Keyword.{Keyword}
-use Rattle.sql_lexer.specs.declared.token.Keyword.TheVariants.{And, Asc, Begin, By, Commit, Count, Delete, Desc, From, Group, In, Insert, Into, Is, Limit, Max, Min, Names, Not, Null, Offset, Or, Order, Rollback, Select, Set, Start, Sum, Transaction, Update, Values, Where}
+use Rattle.sql_lexer.specs.declared.token.Keyword.TheVariants.{And, Asc, Begin, By, Commit, Count, Delete, Desc, From, Group, In, Inner, Insert, Into, Is, Join, Limit, Max, Min, Names, Not, Null, Offset, On, Or, Order, Rollback, Select, Set, Start, Sum, Transaction, Update, Values, Where}
 
 abbrev pub keywords : List Keyword
 keywords =
     And ∷ Asc ∷ Begin ∷ By ∷ Commit ∷ Count ∷ Delete ∷ Desc ∷
-    From ∷ Group ∷ In ∷ Insert ∷ Into ∷ Is ∷ Limit ∷ Max ∷
-    Min ∷ Names ∷ Not ∷ Null ∷ Offset ∷ Or ∷ Order ∷ Rollback ∷
+    From ∷ Group ∷ In ∷ Inner ∷ Insert ∷ Into ∷ Is ∷ Join ∷ Limit ∷ Max ∷
+    Min ∷ Names ∷ Not ∷ Null ∷ Offset ∷ On ∷ Or ∷ Order ∷ Rollback ∷
     Select ∷ Set ∷ Start ∷ Sum ∷ Transaction ∷ Update ∷ Values ∷ Where ∷ []
 
 -- the text of a keyword, in upper case
@@ -23,9 +23,11 @@ keyword_text Desc = codes "DESC"
 keyword_text From = codes "FROM"
 keyword_text Group = codes "GROUP"
 keyword_text In = codes "IN"
+keyword_text Inner = codes "INNER"
 keyword_text Insert = codes "INSERT"
 keyword_text Into = codes "INTO"
 keyword_text Is = codes "IS"
+keyword_text Join = codes "JOIN"
 keyword_text Limit = codes "LIMIT"
 keyword_text Max = codes "MAX"
 keyword_text Min = codes "MIN"
@@ -33,6 +35,7 @@ keyword_text Names = codes "NAMES"
 keyword_text Not = codes "NOT"
 keyword_text Null = codes "NULL"
 keyword_text Offset = codes "OFFSET"
+keyword_text On = codes "ON"
 keyword_text Or = codes "OR"
 keyword_text Order = codes "ORDER"
 keyword_text Rollback = codes "ROLLBACK"

@@ -8,7 +8,7 @@ use Rattle.sql_lexer.specs.declared.token.Sign as S
 use Rattle.sql_lexer.specs.declared.token.Token.{Token}
 use Rattle.sql_lexer.specs.declared.token.TokenKind.{TokenKind}
 use Rattle.sql_lexer.specs.declared.token.TokenKind.TheVariants.{Keyword, Word, Quoted, Number, Text, Sign, Operator}
-use Rattle.sql_lexer.specs.declared.token.Sign.TheVariants.{LeftParenthesis, RightParenthesis, Comma, Semicolon, Star, Minus}
+use Rattle.sql_lexer.specs.declared.token.Sign.TheVariants.{LeftParenthesis, RightParenthesis, Comma, Semicolon, Star, Minus, Dot}
 use Rattle.sql_lexer.specs.Keywords.{keywords, keyword_text}
 
 -- what the grammar sees of a token
@@ -93,6 +93,7 @@ sign_text Comma = codes ","
 sign_text Semicolon = codes ";"
 sign_text Star = codes "*"
 sign_text Minus = codes "-"
+sign_text Dot = codes "."
 
 abbrev pub operator_text : Comparison → List ℕ
 operator_text Eq = codes "="

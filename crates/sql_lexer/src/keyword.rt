@@ -7,7 +7,7 @@ ghost use Rattle.sql_lexer.specs.inner.Scanning.{keyword_at};
 
 use crate::token::Keyword;
 
-const KEYWORDS: [Keyword; 32] = [
+const KEYWORDS: [Keyword; 35] = [
     Keyword::And,
     Keyword::Asc,
     Keyword::Begin,
@@ -19,9 +19,11 @@ const KEYWORDS: [Keyword; 32] = [
     Keyword::From,
     Keyword::Group,
     Keyword::In,
+    Keyword::Inner,
     Keyword::Insert,
     Keyword::Into,
     Keyword::Is,
+    Keyword::Join,
     Keyword::Limit,
     Keyword::Max,
     Keyword::Min,
@@ -29,6 +31,7 @@ const KEYWORDS: [Keyword; 32] = [
     Keyword::Not,
     Keyword::Null,
     Keyword::Offset,
+    Keyword::On,
     Keyword::Or,
     Keyword::Order,
     Keyword::Rollback,
@@ -58,9 +61,11 @@ fn text_of(keyword: Keyword) -> &'static str
         Keyword::From => "FROM",
         Keyword::Group => "GROUP",
         Keyword::In => "IN",
+        Keyword::Inner => "INNER",
         Keyword::Insert => "INSERT",
         Keyword::Into => "INTO",
         Keyword::Is => "IS",
+        Keyword::Join => "JOIN",
         Keyword::Limit => "LIMIT",
         Keyword::Max => "MAX",
         Keyword::Min => "MIN",
@@ -68,6 +73,7 @@ fn text_of(keyword: Keyword) -> &'static str
         Keyword::Not => "NOT",
         Keyword::Null => "NULL",
         Keyword::Offset => "OFFSET",
+        Keyword::On => "ON",
         Keyword::Or => "OR",
         Keyword::Order => "ORDER",
         Keyword::Rollback => "ROLLBACK",
@@ -94,7 +100,13 @@ fn of_length(length: usize) -> &'static [Keyword]
 {
     match length {
         1 => &[],
-        2 => &[Keyword::By, Keyword::In, Keyword::Is, Keyword::Or],
+        2 => &[
+            Keyword::By,
+            Keyword::In,
+            Keyword::Is,
+            Keyword::On,
+            Keyword::Or,
+        ],
         3 => &[
             Keyword::And,
             Keyword::Asc,
@@ -104,12 +116,19 @@ fn of_length(length: usize) -> &'static [Keyword]
             Keyword::Set,
             Keyword::Sum,
         ],
-        4 => &[Keyword::From, Keyword::Into, Keyword::Desc, Keyword::Null],
+        4 => &[
+            Keyword::From,
+            Keyword::Into,
+            Keyword::Desc,
+            Keyword::Join,
+            Keyword::Null,
+        ],
         5 => &[
             Keyword::Where,
             Keyword::Begin,
             Keyword::Count,
             Keyword::Group,
+            Keyword::Inner,
             Keyword::Limit,
             Keyword::Names,
             Keyword::Order,

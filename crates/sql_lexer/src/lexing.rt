@@ -84,6 +84,7 @@ fn sign(first: u8) -> Option<Sign>
         b';' => Some(Sign::Semicolon),
         b'*' => Some(Sign::Star),
         b'-' => Some(Sign::Minus),
+        b'.' => Some(Sign::Dot),
         _ => None,
     }
 }

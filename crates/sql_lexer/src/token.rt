@@ -14,9 +14,11 @@ pub enum Keyword {
     From,
     Group,
     In,
+    Inner,
     Insert,
     Into,
     Is,
+    Join,
     Limit,
     Max,
     Min,
@@ -24,6 +26,7 @@ pub enum Keyword {
     Not,
     Null,
     Offset,
+    On,
     Or,
     Order,
     Rollback,
@@ -46,6 +49,7 @@ pub enum Sign {
     Semicolon,
     Star,
     Minus,
+    Dot,
 }
 
 /// What a token is; what it says stands in its bytes.

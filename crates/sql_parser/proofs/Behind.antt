@@ -3,13 +3,13 @@ use Rattle.std.proofs.Common.{◌≡◌, ℕ, ◌≤◌, false, List, [], ◌∷
 use Rattle.sql_lexer.specs.declared.token.Keyword.TheVariants as k
 use Rattle.sql_lexer.specs.declared.token.Sign.TheVariants.{Semicolon}
 use Rattle.sql_lexer.specs.Lexemes.{keyword, sign}
+use Rattle.sql_tree.specs.declared.ColumnName.{ColumnName}
 use Rattle.sql_tree.specs.declared.Condition.{Condition}
 use Rattle.sql_tree.specs.declared.Key.{Key}
 use Rattle.sql_tree.specs.declared.Limit.{Limit}
-use Rattle.sql_tree.specs.Literals.{Name}
 use Rattle.sql_parser.specs.Grammar.{Lexemes, Optional, ReadsWhere, ReadsGroup, ReadsOrder, ReadsLimit}
 use Rattle.sql_parser.specs.Grammar as g
-use Rattle.sql_parser.specs.inner.Reading.{is_comma, is_and, is_or, after_at, where_at, group_at, direction_at, order_at, offset_at, limit_at}
+use Rattle.sql_parser.specs.inner.Reading.{is_comma, is_and, is_or, is_dot, after_at, join_at, where_at, group_at, direction_at, order_at, offset_at, limit_at}
 
 -- Tokens that stand behind the clause of the number: 1 is WHERE, 2 GROUP BY, 3 ORDER BY and 4 LIMIT; 0 is what stands before them.
 pub data Behind (n : ℕ) : Lexemes → Type 0 where
@@ -45,6 +45,23 @@ no_or _ (at_where le) = refl
 no_or _ (at_group le) = refl
 no_or _ (at_order le) = refl
 no_or _ (at_limit le) = refl
+
+pub no_dot : {n : ℕ} (ts : Lexemes) → Behind n ts → after_at is_dot ts ≡ None
+no_dot _ end = refl
+no_dot _ semicolon = refl
+no_dot _ (at_where le) = refl
+no_dot _ (at_group le) = refl
+no_dot _ (at_order le) = refl
+no_dot _ (at_limit le) = refl
+
+pub no_join : {n : ℕ} (ts : Lexemes) → Behind n ts → join_at ts ≡ Some (None, ts)
+unfolding join_at
+no_join _ end = refl
+no_join _ semicolon = refl
+no_join _ (at_where le) = refl
+no_join _ (at_group le) = refl
+no_join _ (at_order le) = refl
+no_join _ (at_limit le) = refl
 
 pub no_direction : {n : ℕ} (ts : Lexemes) → Behind n ts → direction_at ts ≡ (false, ts)
 unfolding direction_at
@@ -115,14 +132,14 @@ limit_behind _ _ g.absent rest b = earlier 4 3 (omega arith) rest b
 limit_behind _ _ (g.present (g.limit n lt)) rest b = at_limit (omega arith)
 limit_behind _ _ (g.present (g.offset n m lt lt2)) rest b = at_limit (omega arith)
 
-pub order_behind : (us : Lexemes) (x : List (Key Name)) → ReadsOrder us x → (rest : Lexemes) → Behind 3 rest → Behind 2 (us ++ rest)
+pub order_behind : (us : Lexemes) (x : List (Key ColumnName)) → ReadsOrder us x → (rest : Lexemes) → Behind 3 rest → Behind 2 (us ++ rest)
 order_behind _ _ g.without rest b = earlier 3 2 (omega arith) rest b
 order_behind _ _ (g.clause r) rest b = at_order (omega arith)
 
-pub group_behind : (us : Lexemes) (x : List Name) → ReadsGroup us x → (rest : Lexemes) → Behind 2 rest → Behind 1 (us ++ rest)
+pub group_behind : (us : Lexemes) (x : List ColumnName) → ReadsGroup us x → (rest : Lexemes) → Behind 2 rest → Behind 1 (us ++ rest)
 group_behind _ _ g.without rest b = earlier 2 1 (omega arith) rest b
 group_behind _ _ (g.clause r) rest b = at_group (omega arith)
 
-pub where_behind : (us : Lexemes) (x : Option (Condition Name)) → Optional ReadsWhere us x → (rest : Lexemes) → Behind 1 rest → Behind 0 (us ++ rest)
+pub where_behind : (us : Lexemes) (x : Option (Condition ColumnName)) → Optional ReadsWhere us x → (rest : Lexemes) → Behind 1 rest → Behind 0 (us ++ rest)
 where_behind _ _ g.absent rest b = earlier 1 0 (omega arith) rest b
 where_behind _ _ (g.present (g.filter r)) rest b = at_where (omega arith)

@@ -1,11 +1,14 @@
--- The two laws for a SELECT's list and for the clauses behind a table's name.
-use Rattle.std.proofs.Common.{◌≡◌, ℕ, ◌<◌, ◌^◌, Bool, false, List, [], ◌∷◌, ◌++◌, Option, Some, None, refl, ap, subst, ◌∙◌, append_assoc}
+-- The two laws for a SELECT's list, for its second table and for the clauses behind its tables.
+use Rattle.std.proofs.Common.{◌≡◌, ℕ, ◌<◌, ◌^◌, Bool, false, List, [], ◌∷◌, ◌++◌, Option, Some, None, refl, sym, ap, subst, ◌∙◌, append_assoc}
+use Rattle.vt_value.specs.declared.value.Comparison.TheVariants.{Eq}
 use Rattle.sql_lexer.specs.declared.token.Keyword.{Keyword}
 use Rattle.sql_lexer.specs.declared.token.Keyword.TheVariants as k
 use Rattle.sql_lexer.specs.declared.token.Sign.TheVariants.{LeftParenthesis, RightParenthesis, Star, Comma}
-use Rattle.sql_lexer.specs.Lexemes.{keyword, identifier, number, sign}
+use Rattle.sql_lexer.specs.Lexemes.{keyword, identifier, number, sign, operator}
 use Rattle.sql_lexer.specs.inner.Results.{◌>>=◌}
 use Rattle.sql_lexer.proofs.Options.{some_is, bound}
+use Rattle.sql_tree.specs.declared.ColumnName.{ColumnName}
+use Rattle.sql_tree.specs.declared.JoinOn.{JoinOn}
 use Rattle.sql_tree.specs.declared.Condition.{Condition}
 use Rattle.sql_tree.specs.declared.Item.{Item}
 use Rattle.sql_tree.specs.declared.Item.TheVariants as shown
@@ -14,59 +17,70 @@ use Rattle.sql_tree.specs.declared.SelectList.TheVariants.{All, Items}
 use Rattle.sql_tree.specs.declared.Key.{Key}
 use Rattle.sql_tree.specs.declared.Limit.{Limit}
 use Rattle.sql_tree.specs.Literals.{Name}
-use Rattle.sql_parser.specs.Grammar.{Lexemes, Listed, Optional, call, max_depth, ReadsItem, ReadsList, ReadsWhere, ReadsGroup, ReadsKey, ReadsOrder, ReadsLimit}
+use Rattle.sql_parser.specs.Grammar.{Lexemes, Listed, Optional, call, max_depth, ReadsColumn, ReadsItem, ReadsList, ReadsJoin, ReadsWhere, ReadsGroup, ReadsKey, ReadsOrder, ReadsLimit}
 use Rattle.sql_parser.specs.Grammar as g
-use Rattle.sql_parser.specs.inner.Reading.{is_comma, after_at, listed_at, name_at, open_at, close_at, argument_at, count_at, item_at, list_at, from_at, where_at, group_at, direction_at, sort_key_at, order_at, offset_at, limit_at}
-use Rattle.sql_parser.proofs.Sound.{Front, listed_sound}
+use Rattle.sql_parser.specs.inner.Reading.{is_comma, after_at, listed_at, name_at, column_at, open_at, close_at, argument_at, count_at, item_at, list_at, from_at, on_at, equals_at, joined_on_at, join_at, where_at, group_at, direction_at, sort_key_at, order_at, offset_at, limit_at}
+use Rattle.sql_parser.proofs.Sound.{Front, glue, listed_sound}
 use Rattle.sql_parser.proofs.Again.{listed_again}
-use Rattle.sql_parser.proofs.LiteralLaws.{name_is, name_sound, names_again, number_is, number_again, open_is, close_is}
+use Rattle.sql_parser.proofs.LiteralLaws.{NoDot, name_is, number_is, number_again, open_is, close_is, column_sound, column_again}
 use Rattle.sql_parser.proofs.ConditionsSound.{or_sound}
 use Rattle.sql_parser.proofs.ConditionsAgain.{or_again}
-use Rattle.sql_parser.proofs.Behind.{Behind, no_comma, no_and, no_or, no_where, no_group, no_order, no_limit, no_direction, no_offset}
+use Rattle.sql_parser.proofs.Behind.{Behind, no_comma, no_and, no_or, no_dot, no_join, no_where, no_group, no_order, no_limit, no_direction, no_offset}
 
 -- ---- what is read is in the grammar
 
-argument_is : (ts : Lexemes) (x : Name × Lexemes) → argument_at ts ≡ Some x → ts ≡ sign LeftParenthesis ∷ identifier x.0 ∷ sign RightParenthesis ∷ x.1
+-- what is read of a column in parentheses
+record Argument (ts : Lexemes) (x : ColumnName × Lexemes) : Type 0 where
+  inside : Lexemes
+  parts : ts ≡ (sign LeftParenthesis ∷ inside ++ sign RightParenthesis ∷ []) ++ x.1
+  reads : ReadsColumn inside x.0
+
+argument_sound : (ts : Lexemes) (x : ColumnName × Lexemes) → argument_at ts ≡ Some x → Argument ts x
 unfolding argument_at
-argument_is ts x e =
+argument_sound ts x e =
     bound _ _ _ e (λ inside p e1. bound _ _ _ e1 (λ column q e2. bound _ _ _ e2 (λ rest r e3.
-    let behind : inside ≡ identifier column.0 ∷ sign RightParenthesis ∷ rest =
-    name_is inside column q ∙ ap (λ (us : Lexemes). identifier column.0 ∷ us) (close_is column.1 rest r) in
-    let parts : ts ≡ sign LeftParenthesis ∷ identifier column.0 ∷ sign RightParenthesis ∷ rest =
-    open_is ts inside p ∙ ap (λ (us : Lexemes). sign LeftParenthesis ∷ us) behind in
-    parts ∙ ap (λ (y : Name × Lexemes). sign LeftParenthesis ∷ identifier y.0 ∷ sign RightParenthesis ∷ y.1) (some_is _ x e3))))
+    let f = column_sound inside column q in
+    let tail : column.1 ≡ (sign RightParenthesis ∷ []) ++ rest = close_is column.1 rest r in
+    let parts = glue inside f.front column.1 (sign RightParenthesis ∷ []) rest f.parts tail in
+    subst (Argument ts) (some_is _ x e3) (record {
+      inside = f.front;
+      parts = open_is ts inside p ∙ ap (λ (us : Lexemes). sign LeftParenthesis ∷ us) parts;
+      reads = f.reads;
+    }))))
 
 -- an aggregate of a column
-aggregate_sound : (f : Keyword) (node : Name → Item Name) → ((bytes : Name) → ReadsItem (call f (identifier bytes)) (node bytes))
-    → (ts : Lexemes) (x : Item Name × Lexemes) → (argument_at ts >>= λ column. Some (node column.0, column.1)) ≡ Some x → Front ReadsItem (keyword f ∷ ts) x
-aggregate_sound f node reads ts x e =
+aggregate_sound : (f : Keyword) (node : ColumnName → Item ColumnName) → ((us : Lexemes) (c : ColumnName) → ReadsColumn us c → ReadsItem (call f us) (node c))
+    → (ts : Lexemes) (x : Item ColumnName × Lexemes) → (argument_at ts >>= λ column. Some (node column.0, column.1)) ≡ Some x → Front ReadsItem (keyword f ∷ ts) x
+aggregate_sound f node is ts x e =
     bound _ _ _ e (λ column p e1.
+    let a = argument_sound ts column p in
     subst (Front ReadsItem (keyword f ∷ ts)) (some_is _ x e1) (record {
-      front = call f (identifier column.0);
-      parts = ap (λ (us : Lexemes). keyword f ∷ us) (argument_is ts column p);
-      reads = reads column.0;
+      front = call f a.inside;
+      parts = ap (λ (us : Lexemes). keyword f ∷ us) a.parts;
+      reads = is a.inside column.0 a.reads;
     }))
 
-count_sound : (ts : Lexemes) (x : Item Name × Lexemes) → count_at ts ≡ Some x → Front ReadsItem (keyword k.Count ∷ ts) x
+count_sound : (ts : Lexemes) (x : Item ColumnName × Lexemes) → count_at ts ≡ Some x → Front ReadsItem (keyword k.Count ∷ ts) x
 unfolding count_at
 count_sound (sign LeftParenthesis ∷ sign Star ∷ sign RightParenthesis ∷ ts) x e =
     subst (Front ReadsItem (keyword k.Count ∷ sign LeftParenthesis ∷ sign Star ∷ sign RightParenthesis ∷ ts)) (some_is (shown.CountRows, ts) x e)
-    (record { front = call k.Count (sign Star); parts = refl; reads = g.count_rows })
-count_sound ts x e = aggregate_sound k.Count shown.Count g.count_item ts x e
+    (record { front = call k.Count (sign Star ∷ []); parts = refl; reads = g.count_rows })
+count_sound ts x e = aggregate_sound k.Count shown.Count (λ us c r. g.count_item r) ts x e
 
-column_sound : (ts : Lexemes) (x : Item Name × Lexemes) → (name_at ts >>= λ column. Some (shown.Column column.0, column.1)) ≡ Some x → Front ReadsItem ts x
-column_sound ts x e =
+column_item_sound : (ts : Lexemes) (x : Item ColumnName × Lexemes)
+    → (column_at ts >>= λ column. Some (shown.Column column.0, column.1)) ≡ Some x → Front ReadsItem ts x
+column_item_sound ts x e =
     bound _ _ _ e (λ column p e1.
-    subst (Front ReadsItem ts) (some_is _ x e1)
-    (record { front = identifier column.0 ∷ []; parts = name_is ts column p; reads = g.column_item column.0 }))
+    let f = column_sound ts column p in
+    subst (Front ReadsItem ts) (some_is _ x e1) (record { front = f.front; parts = f.parts; reads = g.column_item f.reads }))
 
-pub item_sound : (ts : Lexemes) (x : Item Name × Lexemes) → item_at ts ≡ Some x → Front ReadsItem ts x
+pub item_sound : (ts : Lexemes) (x : Item ColumnName × Lexemes) → item_at ts ≡ Some x → Front ReadsItem ts x
 unfolding item_at
 item_sound (keyword k.Count ∷ ts) x e = count_sound ts x e
-item_sound (keyword k.Sum ∷ ts) x e = aggregate_sound k.Sum shown.Sum g.sum_item ts x e
-item_sound (keyword k.Min ∷ ts) x e = aggregate_sound k.Min shown.Min g.min_item ts x e
-item_sound (keyword k.Max ∷ ts) x e = aggregate_sound k.Max shown.Max g.max_item ts x e
-item_sound ts x e = column_sound ts x e
+item_sound (keyword k.Sum ∷ ts) x e = aggregate_sound k.Sum shown.Sum (λ us c r. g.sum_item r) ts x e
+item_sound (keyword k.Min ∷ ts) x e = aggregate_sound k.Min shown.Min (λ us c r. g.min_item r) ts x e
+item_sound (keyword k.Max ∷ ts) x e = aggregate_sound k.Max shown.Max (λ us c r. g.max_item r) ts x e
+item_sound ts x e = column_item_sound ts x e
 
 items_sound : (ts : Lexemes) (x : SelectList × Lexemes) → (listed_at item_at ts >>= λ items. Some (Items items.0, items.1)) ≡ Some x
     → Front ReadsList ts x
@@ -86,7 +100,63 @@ unfolding from_at
 from_is (keyword k.From ∷ ts) x e = ap (λ (us : Lexemes). keyword k.From ∷ us) (name_is ts x e)
 from_is _ x e = absurd cc
 
-pub where_sound : (ts : Lexemes) (x : Option (Condition Name) × Lexemes) → where_at ts ≡ Some x → Front (Optional ReadsWhere) ts x
+on_is : (ts rest : Lexemes) → on_at ts ≡ Some rest → ts ≡ keyword k.On ∷ rest
+unfolding on_at
+on_is (keyword k.On ∷ ts) rest e = ap (λ (us : Lexemes). keyword k.On ∷ us) (some_is ts rest e)
+on_is _ rest e = absurd cc
+
+pub equals_is : (ts rest : Lexemes) → equals_at ts ≡ Some rest → ts ≡ operator Eq ∷ rest
+unfolding equals_at
+equals_is (operator Eq ∷ ts) rest e = ap (λ (us : Lexemes). operator Eq ∷ us) (some_is ts rest e)
+equals_is _ rest e = absurd cc
+
+-- what is read behind JOIN
+record Joins (ts : Lexemes) (x : JoinOn × Lexemes) : Type 0 where
+  left : Lexemes
+  right : Lexemes
+  parts : ts ≡ (identifier x.0.table ∷ keyword k.On ∷ left ++ operator Eq ∷ right) ++ x.1
+  reads_left : ReadsColumn left x.0.left
+  reads_right : ReadsColumn right x.0.right
+
+joined_on_sound : (ts : Lexemes) (x : JoinOn × Lexemes) → joined_on_at ts ≡ Some x → Joins ts x
+unfolding joined_on_at
+joined_on_sound ts x e =
+    bound _ _ _ e (λ table p e1. bound _ _ _ e1 (λ rest q e2. bound _ _ _ e2 (λ left r e3. bound _ _ _ e3 (λ behind s e4.
+    bound _ _ _ e4 (λ right t e5.
+    let a = column_sound rest left r in
+    let b = column_sound behind right t in
+    let tail : left.1 ≡ (operator Eq ∷ b.front) ++ right.1 = equals_is left.1 behind s ∙ ap (λ (us : Lexemes). operator Eq ∷ us) b.parts in
+    let columns = glue rest a.front left.1 (operator Eq ∷ b.front) right.1 a.parts tail in
+    let on = on_is table.1 rest q ∙ ap (λ (us : Lexemes). keyword k.On ∷ us) columns in
+    subst (Joins ts) (some_is _ x e5) (record {
+      left = a.front;
+      right = b.front;
+      parts = name_is ts table p ∙ ap (λ (us : Lexemes). identifier table.0 ∷ us) on;
+      reads_left = a.reads;
+      reads_right = b.reads;
+    }))))))
+
+pub join_sound : (ts : Lexemes) (x : Option JoinOn × Lexemes) → join_at ts ≡ Some x → Front (Optional ReadsJoin) ts x
+unfolding join_at
+join_sound (keyword k.Join ∷ ts) x e =
+    bound _ _ _ e (λ y p e1.
+    let j = joined_on_sound ts y p in
+    subst (Front (Optional ReadsJoin) (keyword k.Join ∷ ts)) (some_is _ x e1) (record {
+      front = keyword k.Join ∷ identifier y.0.table ∷ keyword k.On ∷ j.left ++ operator Eq ∷ j.right;
+      parts = ap (λ (us : Lexemes). keyword k.Join ∷ us) j.parts;
+      reads = g.present (g.join j.reads_left j.reads_right);
+    }))
+join_sound (keyword k.Inner ∷ keyword k.Join ∷ ts) x e =
+    bound _ _ _ e (λ y p e1.
+    let j = joined_on_sound ts y p in
+    subst (Front (Optional ReadsJoin) (keyword k.Inner ∷ keyword k.Join ∷ ts)) (some_is _ x e1) (record {
+      front = keyword k.Inner ∷ keyword k.Join ∷ identifier y.0.table ∷ keyword k.On ∷ j.left ++ operator Eq ∷ j.right;
+      parts = ap (λ (us : Lexemes). keyword k.Inner ∷ keyword k.Join ∷ us) j.parts;
+      reads = g.present (g.inner_join j.reads_left j.reads_right);
+    }))
+join_sound ts x e = subst (Front (Optional ReadsJoin) ts) (some_is (None, ts) x e) (record { front = []; parts = refl; reads = g.absent })
+
+pub where_sound : (ts : Lexemes) (x : Option (Condition ColumnName) × Lexemes) → where_at ts ≡ Some x → Front (Optional ReadsWhere) ts x
 unfolding where_at
 where_sound (keyword k.Where ∷ ts) x e =
     bound _ _ _ e (λ y p e1.
@@ -108,35 +178,34 @@ no_clause : {A : Type 0} (words : Lexemes) (Item : Lexemes → A → Type 0) (ts
     → Front (g.Clause words Item) ts x
 no_clause words Item ts x e = subst (Front (g.Clause words Item) ts) (some_is ([], ts) x e) (record { front = []; parts = refl; reads = g.without })
 
-pub group_sound : (ts : Lexemes) (x : List Name × Lexemes) → group_at ts ≡ Some x → Front ReadsGroup ts x
+pub group_sound : (ts : Lexemes) (x : List ColumnName × Lexemes) → group_at ts ≡ Some x → Front ReadsGroup ts x
 unfolding group_at
-group_sound (keyword k.Group ∷ keyword k.By ∷ ts) x e = clause_sound k.Group k.By g.ReadsName ts x (listed_sound name_at g.ReadsName name_sound ts x e)
-group_sound ts x e = no_clause (keyword k.Group ∷ keyword k.By ∷ []) g.ReadsName ts x e
+group_sound (keyword k.Group ∷ keyword k.By ∷ ts) x e = clause_sound k.Group k.By ReadsColumn ts x (listed_sound column_at ReadsColumn column_sound ts x e)
+group_sound ts x e = no_clause (keyword k.Group ∷ keyword k.By ∷ []) ReadsColumn ts x e
 
--- what is read of a key's direction
-pub record Direction (bytes : Name) (ts : Lexemes) (x : Bool × Lexemes) : Type 0 where
-  pub front : Lexemes
-  pub parts : ts ≡ front ++ x.1
-  pub reads : ReadsKey (identifier bytes ∷ front) (record { column = bytes; descending = x.0 })
+-- what is read of a key whose column has these tokens, and of its direction behind them
+record Direction (column_tokens : Lexemes) (c : ColumnName) (ts : Lexemes) (x : Bool × Lexemes) : Type 0 where
+  front : Lexemes
+  parts : column_tokens ++ ts ≡ front ++ x.1
+  reads : ReadsKey front (record { column = c; descending = x.0 })
 
-direction_sound : (bytes : Name) (ts : Lexemes) → Direction bytes ts (direction_at ts)
+direction_sound : (us : Lexemes) (c : ColumnName) → ReadsColumn us c → (ts : Lexemes) → Direction us c ts (direction_at ts)
 unfolding direction_at
-direction_sound bytes (keyword k.Asc ∷ ts) = record { front = keyword k.Asc ∷ []; parts = refl; reads = g.ascending_key bytes }
-direction_sound bytes (keyword k.Desc ∷ ts) = record { front = keyword k.Desc ∷ []; parts = refl; reads = g.descending_key bytes }
-direction_sound bytes ts = record { front = []; parts = refl; reads = g.plain_key bytes }
+direction_sound us c r (keyword k.Asc ∷ ts) =
+    record { front = us ++ keyword k.Asc ∷ []; parts = sym (append_assoc us (keyword k.Asc ∷ []) ts); reads = g.ascending_key r }
+direction_sound us c r (keyword k.Desc ∷ ts) =
+    record { front = us ++ keyword k.Desc ∷ []; parts = sym (append_assoc us (keyword k.Desc ∷ []) ts); reads = g.descending_key r }
+direction_sound us c r ts = record { front = us; parts = refl; reads = g.plain_key r }
 
-pub key_sound : (ts : Lexemes) (x : Key Name × Lexemes) → sort_key_at ts ≡ Some x → Front ReadsKey ts x
+pub key_sound : (ts : Lexemes) (x : Key ColumnName × Lexemes) → sort_key_at ts ≡ Some x → Front ReadsKey ts x
 unfolding sort_key_at
 key_sound ts x e =
     bound _ _ _ e (λ column p e1.
-    let d = direction_sound column.0 column.1 in
-    subst (Front ReadsKey ts) (some_is _ x e1) (record {
-      front = identifier column.0 ∷ d.front;
-      parts = name_is ts column p ∙ ap (λ (us : Lexemes). identifier column.0 ∷ us) d.parts;
-      reads = d.reads;
-    }))
+    let f = column_sound ts column p in
+    let d = direction_sound f.front column.0 f.reads column.1 in
+    subst (Front ReadsKey ts) (some_is _ x e1) (record { front = d.front; parts = f.parts ∙ d.parts; reads = d.reads }))
 
-pub order_sound : (ts : Lexemes) (x : List (Key Name) × Lexemes) → order_at ts ≡ Some x → Front ReadsOrder ts x
+pub order_sound : (ts : Lexemes) (x : List (Key ColumnName) × Lexemes) → order_at ts ≡ Some x → Front ReadsOrder ts x
 unfolding order_at
 order_sound (keyword k.Order ∷ keyword k.By ∷ ts) x e = clause_sound k.Order k.By ReadsKey ts x (listed_sound sort_key_at ReadsKey key_sound ts x e)
 order_sound ts x e = no_clause (keyword k.Order ∷ keyword k.By ∷ []) ReadsKey ts x e
@@ -173,69 +242,91 @@ limit_sound ts x e = subst (Front (Optional ReadsLimit) ts) (some_is (None, ts) 
 
 -- ---- what is in the grammar is read
 
-argument_again : (bytes : Name) (rest : Lexemes) → argument_at (sign LeftParenthesis ∷ identifier bytes ∷ sign RightParenthesis ∷ rest) ≡ Some (bytes, rest)
-unfolding argument_at open_at name_at close_at
-argument_again bytes rest = refl
+argument_again : (ts : Lexemes) (c : ColumnName) → ReadsColumn ts c → (rest : Lexemes)
+    → argument_at ((sign LeftParenthesis ∷ ts ++ sign RightParenthesis ∷ []) ++ rest) ≡ Some (c, rest)
+unfolding argument_at open_at close_at
+argument_again ts c r rest = rw (append_assoc ts (sign RightParenthesis ∷ []) rest, column_again ts c r (sign RightParenthesis ∷ rest) refl) refl
 
-pub item_again : (ts : Lexemes) (x : Item Name) → ReadsItem ts x → (rest : Lexemes) → item_at (ts ++ rest) ≡ Some (x, rest)
-unfolding item_at count_at name_at
-item_again _ _ (g.column_item bytes) rest = refl
-item_again _ _ g.count_rows rest = refl
-item_again _ _ (g.count_item bytes) rest = rw (argument_again bytes rest) refl
-item_again _ _ (g.sum_item bytes) rest = rw (argument_again bytes rest) refl
-item_again _ _ (g.min_item bytes) rest = rw (argument_again bytes rest) refl
-item_again _ _ (g.max_item bytes) rest = rw (argument_again bytes rest) refl
+pub item_again : (ts : Lexemes) (x : Item ColumnName) → ReadsItem ts x → (rest : Lexemes) → NoDot rest → item_at (ts ++ rest) ≡ Some (x, rest)
+unfolding item_at count_at
+item_again _ _ (g.column_item (g.bare bytes)) rest none = rw (column_again _ _ (g.bare bytes) rest none) refl
+item_again _ _ (g.column_item (g.qualified table bytes)) rest none = rw (column_again _ _ (g.qualified table bytes) rest none) refl
+item_again _ _ g.count_rows rest none = refl
+item_again _ _ (g.count_item (g.bare bytes)) rest none = rw (argument_again _ _ (g.bare bytes) rest) refl
+item_again _ _ (g.count_item (g.qualified table bytes)) rest none = rw (argument_again _ _ (g.qualified table bytes) rest) refl
+item_again _ _ (g.sum_item {ts} {c} r) rest none = rw (argument_again ts c r rest) refl
+item_again _ _ (g.min_item {ts} {c} r) rest none = rw (argument_again ts c r rest) refl
+item_again _ _ (g.max_item {ts} {c} r) rest none = rw (argument_again ts c r rest) refl
 
-items_again : (ts : Lexemes) (xs : List (Item Name)) → Listed ReadsItem ts xs → (rest : Lexemes) → after_at is_comma rest ≡ None
+items_again : (ts : Lexemes) (xs : List (Item ColumnName)) → Listed ReadsItem ts xs → (rest : Lexemes) → NoDot rest → after_at is_comma rest ≡ None
     → listed_at item_at (ts ++ rest) ≡ Some (xs, rest)
-items_again ts xs r rest none = listed_again item_at ReadsItem (λ _. Unit {0}) (λ _. tt) (λ us y q rest h. item_again us y q rest) ts xs r rest tt none
+items_again = listed_again item_at ReadsItem NoDot (λ ts. refl) item_again
 
 -- an item is no star
-begins_item : (ts us : Lexemes) (x : Item Name) → ReadsItem ts x → list_at (ts ++ us) ≡ (listed_at item_at (ts ++ us) >>= λ items. Some (Items items.0, items.1))
+begins_item : (ts us : Lexemes) (x : Item ColumnName) → ReadsItem ts x → list_at (ts ++ us) ≡ (listed_at item_at (ts ++ us) >>= λ items. Some (Items items.0, items.1))
 unfolding list_at
-begins_item _ us _ (g.column_item bytes) = refl
+begins_item _ us _ (g.column_item (g.bare bytes)) = refl
+begins_item _ us _ (g.column_item (g.qualified table bytes)) = refl
 begins_item _ us _ g.count_rows = refl
-begins_item _ us _ (g.count_item bytes) = refl
-begins_item _ us _ (g.sum_item bytes) = refl
-begins_item _ us _ (g.min_item bytes) = refl
-begins_item _ us _ (g.max_item bytes) = refl
+begins_item _ us _ (g.count_item r) = refl
+begins_item _ us _ (g.sum_item r) = refl
+begins_item _ us _ (g.min_item r) = refl
+begins_item _ us _ (g.max_item r) = refl
 
-pub list_again : (ts : Lexemes) (x : SelectList) → ReadsList ts x → (rest : Lexemes) → after_at is_comma rest ≡ None → list_at (ts ++ rest) ≡ Some (x, rest)
+pub list_again : (ts : Lexemes) (x : SelectList) → ReadsList ts x → (rest : Lexemes) → NoDot rest → after_at is_comma rest ≡ None
+    → list_at (ts ++ rest) ≡ Some (x, rest)
 unfolding list_at
-list_again _ _ g.star rest none = refl
-list_again _ _ (g.listed (g.items {ts} {us} {x} {xs} r s)) rest none =
+list_again _ _ g.star rest dot none = refl
+list_again _ _ (g.listed (g.items {ts} {us} {x} {xs} r s)) rest dot none =
     let all : listed_at item_at (ts ++ (us ++ rest)) ≡ Some (x ∷ xs, rest) =
-    rw (← append_assoc ts us rest) (items_again (ts ++ us) (x ∷ xs) (g.items r s) rest none) in
+    rw (← append_assoc ts us rest) (items_again (ts ++ us) (x ∷ xs) (g.items r s) rest dot none) in
     rw (append_assoc ts us rest) (begins_item ts (us ++ rest) x r ∙ rw all refl)
 
-pub where_again : (us : Lexemes) (x : Option (Condition Name)) → Optional ReadsWhere us x → (rest : Lexemes) → Behind 1 rest → where_at (us ++ rest) ≡ Some (x, rest)
+joined_on_again : (table : Name) (ts us : Lexemes) (left right : ColumnName) → ReadsColumn ts left → ReadsColumn us right → (rest : Lexemes) → NoDot rest
+    → joined_on_at ((identifier table ∷ keyword k.On ∷ ts ++ operator Eq ∷ us) ++ rest) ≡ Some (record { table = table; left = left; right = right }, rest)
+unfolding joined_on_at name_at on_at equals_at
+joined_on_again table ts us left right r s rest none =
+    rw (append_assoc ts (operator Eq ∷ us) rest, column_again ts left r (operator Eq ∷ us ++ rest) refl, column_again us right s rest none) refl
+
+pub join_again : (us : Lexemes) (x : Option JoinOn) → Optional ReadsJoin us x → (rest : Lexemes) → Behind 0 rest → join_at (us ++ rest) ≡ Some (x, rest)
+unfolding join_at
+join_again _ _ g.absent rest b = no_join rest b
+join_again _ _ (g.present (g.join {table} {ts} {us} {left} {right} r s)) rest b =
+    rw (joined_on_again table ts us left right r s rest (no_dot rest b)) refl
+join_again _ _ (g.present (g.inner_join {table} {ts} {us} {left} {right} r s)) rest b =
+    rw (joined_on_again table ts us left right r s rest (no_dot rest b)) refl
+
+pub where_again : (us : Lexemes) (x : Option (Condition ColumnName)) → Optional ReadsWhere us x → (rest : Lexemes) → Behind 1 rest → where_at (us ++ rest) ≡ Some (x, rest)
 unfolding where_at
 where_again _ _ g.absent rest b = no_where rest b
-where_again _ _ (g.present (g.filter {ts} {x} r)) rest b = rw (or_again max_depth ts x r rest (no_and rest b) (no_or rest b)) refl
+where_again _ _ (g.present (g.filter {ts} {x} r)) rest b = rw (or_again max_depth ts x r rest (no_and rest b, no_dot rest b) (no_or rest b)) refl
 
-pub group_again : (us : Lexemes) (x : List Name) → ReadsGroup us x → (rest : Lexemes) → Behind 2 rest → group_at (us ++ rest) ≡ Some (x, rest)
+pub group_again : (us : Lexemes) (x : List ColumnName) → ReadsGroup us x → (rest : Lexemes) → Behind 2 rest → group_at (us ++ rest) ≡ Some (x, rest)
 unfolding group_at
 group_again _ _ g.without rest b = no_group rest b
-group_again _ _ (g.clause {ts} {xs} r) rest b = names_again ts xs r rest (no_comma rest b)
+group_again _ _ (g.clause {ts} {xs} r) rest b = listed_again column_at ReadsColumn NoDot (λ ts. refl) column_again ts xs r rest (no_dot rest b) (no_comma rest b)
 
 -- where a key may end
 abbrev EndsKey : Lexemes → Type 0
-EndsKey rest = direction_at rest ≡ (false, rest)
+EndsKey rest = (direction_at rest ≡ (false, rest)) × NoDot rest
 
-key_again : (ts : Lexemes) (x : Key Name) → ReadsKey ts x → (rest : Lexemes) → EndsKey rest → sort_key_at (ts ++ rest) ≡ Some (x, rest)
-unfolding sort_key_at name_at direction_at
-key_again _ _ (g.plain_key bytes) rest ends = rw ends refl
-key_again _ _ (g.ascending_key bytes) rest ends = refl
-key_again _ _ (g.descending_key bytes) rest ends = refl
+key_again : (ts : Lexemes) (x : Key ColumnName) → ReadsKey ts x → (rest : Lexemes) → EndsKey rest → sort_key_at (ts ++ rest) ≡ Some (x, rest)
+unfolding sort_key_at direction_at
+key_again _ _ (g.plain_key {ts} {c} r) rest ends = rw (column_again ts c r rest ends.1, ends.0) refl
+key_again _ _ (g.ascending_key {ts} {c} r) rest ends =
+    rw (append_assoc ts (keyword k.Asc ∷ []) rest, column_again ts c r (keyword k.Asc ∷ rest) refl) refl
+key_again _ _ (g.descending_key {ts} {c} r) rest ends =
+    rw (append_assoc ts (keyword k.Desc ∷ []) rest, column_again ts c r (keyword k.Desc ∷ rest) refl) refl
 
 comma_ends : (ts : Lexemes) → EndsKey (sign Comma ∷ ts)
 unfolding direction_at
-comma_ends ts = refl
+comma_ends ts = (refl, refl)
 
-pub order_again : (us : Lexemes) (x : List (Key Name)) → ReadsOrder us x → (rest : Lexemes) → Behind 3 rest → order_at (us ++ rest) ≡ Some (x, rest)
+pub order_again : (us : Lexemes) (x : List (Key ColumnName)) → ReadsOrder us x → (rest : Lexemes) → Behind 3 rest → order_at (us ++ rest) ≡ Some (x, rest)
 unfolding order_at
 order_again _ _ g.without rest b = no_order rest b
-order_again _ _ (g.clause {ts} {xs} r) rest b = listed_again sort_key_at ReadsKey EndsKey comma_ends key_again ts xs r rest (no_direction rest b) (no_comma rest b)
+order_again _ _ (g.clause {ts} {xs} r) rest b =
+    listed_again sort_key_at ReadsKey EndsKey comma_ends key_again ts xs r rest (no_direction rest b, no_dot rest b) (no_comma rest b)
 
 pub limit_again : (us : Lexemes) (x : Option Limit) → Optional ReadsLimit us x → (rest : Lexemes) → Behind 4 rest → limit_at (us ++ rest) ≡ Some (x, rest)
 unfolding limit_at offset_at

@@ -5,10 +5,10 @@ use Rattle.sql_lexer.specs.declared.token.Sign.TheVariants.{LeftParenthesis, Rig
 use Rattle.sql_lexer.specs.Lexemes.{Lexeme, keyword, sign, operator}
 use Rattle.sql_lexer.specs.inner.Results.{◌>>=◌}
 use Rattle.sql_lexer.proofs.Options.{some_is, bound}
+use Rattle.sql_tree.specs.declared.ColumnName.{ColumnName}
 use Rattle.sql_tree.specs.declared.Operand.{Operand}
 use Rattle.sql_tree.specs.declared.Condition.{Condition}
 use Rattle.sql_tree.specs.declared.Condition as c
-use Rattle.sql_tree.specs.Literals.{Name}
 use Rattle.sql_parser.specs.Grammar.{Lexemes, Follows, ReadsOperand, ReadsTest, Joined, OrOf, NotOf, ReadsNot, ReadsOr}
 use Rattle.sql_parser.specs.inner.Reading.{ReadsAnd}
 use Rattle.sql_parser.specs.Grammar as g
@@ -26,28 +26,28 @@ or_only _ e = absurd cc
 
 -- ---- items with AND or OR between them
 
-module _ (sep : Lexeme → Bool) (word : Lexeme) (only : (t : Lexeme) → sep t ≡ true → t ≡ word) (node : List (Condition Name) → Condition Name)
-    (item : Lexemes → Read (Condition Name)) (Item : Lexemes → Condition Name → Type 0)
-    (sound : (ts : Lexemes) (x : Condition Name × Lexemes) → item ts ≡ Some x → Front Item ts x) where
-  several_sound : (ts : Lexemes) (y : Condition Name × Lexemes) (x : Condition Name × Lexemes) (f : Front Item ts y) → is_some (after_at sep y.1) ≡ true
+module _ (sep : Lexeme → Bool) (word : Lexeme) (only : (t : Lexeme) → sep t ≡ true → t ≡ word) (node : List (Condition ColumnName) → Condition ColumnName)
+    (item : Lexemes → Read (Condition ColumnName)) (Item : Lexemes → Condition ColumnName → Type 0)
+    (sound : (ts : Lexemes) (x : Condition ColumnName × Lexemes) → item ts ≡ Some x → Front Item ts x) where
+  several_sound : (ts : Lexemes) (y : Condition ColumnName × Lexemes) (x : Condition ColumnName × Lexemes) (f : Front Item ts y) → is_some (after_at sep y.1) ≡ true
       → (all_follow sep item (y.0 ∷ []) y.1 >>= λ xs. Some (node xs.0, xs.1)) ≡ Some x → Front (Joined word node Item) ts x
   several_sound ts y x f is e =
       bound _ _ _ e (λ ys p e1.
       let s = all_sound sep word only item Item sound y.0 y.1 ys p in
       go ys s.0 s.1 s.2 (s.3 is) (some_is _ x e1))
     where
-      go : (ys : List (Condition Name) × Lexemes) (xs : List (Condition Name)) → ys.0 ≡ y.0 ∷ xs → Front (Follows word Item) y.1 (xs, ys.1) → (xs ≡ [] → ⊥)
+      go : (ys : List (Condition ColumnName) × Lexemes) (xs : List (Condition ColumnName)) → ys.0 ≡ y.0 ∷ xs → Front (Follows word Item) y.1 (xs, ys.1) → (xs ≡ [] → ⊥)
           → (node ys.0, ys.1) ≡ x → Front (Joined word node Item) ts x
       go ys [] e h not same = absurd (not refl)
       go ys (z ∷ zs) e h not same =
-          subst (Front (Joined word node Item) ts) (ap (λ (cs : List (Condition Name)). (node cs, ys.1)) (sym e) ∙ same)
+          subst (Front (Joined word node Item) ts) (ap (λ (cs : List (Condition ColumnName)). (node cs, ys.1)) (sym e) ∙ same)
           (record { front = f.front ++ h.front; parts = glue ts f.front y.1 h.front ys.1 f.parts h.parts; reads = g.several f.reads h.reads })
 
-  pub joined_sound : (ts : Lexemes) (x : Condition Name × Lexemes) → joined_at sep node item ts ≡ Some x → Front (Joined word node Item) ts x
+  pub joined_sound : (ts : Lexemes) (x : Condition ColumnName × Lexemes) → joined_at sep node item ts ≡ Some x → Front (Joined word node Item) ts x
   unfolding joined_at
   joined_sound ts x e = bound _ _ _ e (λ y p e1. go y (sound ts y p) (is_some (after_at sep y.1)) refl e1)
     where
-      go : (y : Condition Name × Lexemes) → Front Item ts y → (b : Bool) → is_some (after_at sep y.1) ≡ b
+      go : (y : Condition ColumnName × Lexemes) → Front Item ts y → (b : Bool) → is_some (after_at sep y.1) ≡ b
           → cond b (all_follow sep item (y.0 ∷ []) y.1 >>= λ xs. Some (node xs.0, xs.1)) (Some y) ≡ Some x → Front (Joined word node Item) ts x
       go y f false is e =
           subst (Front (Joined word node Item) ts) (some_is y x e) (record { front = f.front; parts = f.parts; reads = g.single f.reads })
@@ -56,24 +56,24 @@ module _ (sep : Lexeme → Bool) (word : Lexeme) (only : (t : Lexeme) → sep t 
 -- ---- what stands behind an operand
 
 -- Whatever tokens the operand has, they and these are read as the condition.
-abbrev Behind : (Lexemes → Condition Name → Type 0) → Operand Name → Lexemes → Condition Name → Type 0
+abbrev Behind : (Lexemes → Condition ColumnName → Type 0) → Operand ColumnName → Lexemes → Condition ColumnName → Type 0
 Behind Reads left us x = (ls : Lexemes) → ReadsOperand ls left → Reads (ls ++ us) x
 
 -- the same behind an IS
-abbrev BehindIs : (Lexemes → Condition Name → Type 0) → Operand Name → Lexemes → Condition Name → Type 0
+abbrev BehindIs : (Lexemes → Condition ColumnName → Type 0) → Operand ColumnName → Lexemes → Condition ColumnName → Type 0
 BehindIs Reads left us x = (ls : Lexemes) → ReadsOperand ls left → Reads (ls ++ keyword k.Is ∷ us) x
 
-module _ (Deeper : Lexemes → Condition Name → Type 0) where
+module _ (Deeper : Lexemes → Condition ColumnName → Type 0) where
   -- what a predicate reads where a NOT may stand, and where not
-  abbrev Predicate : Bool → Lexemes → Condition Name → Type 0
+  abbrev Predicate : Bool → Lexemes → Condition ColumnName → Type 0
   Predicate false = ReadsTest
   Predicate true = NotOf Deeper
 
-  lift : (may : Bool) {ts : Lexemes} {x : Condition Name} → ReadsTest ts x → Predicate may ts x
+  lift : (may : Bool) {ts : Lexemes} {x : Condition ColumnName} → ReadsTest ts x → Predicate may ts x
   lift false r = r
   lift true r = g.test r
 
-  in_sound : (may : Bool) (left : Operand Name) (ts : Lexemes) (x : Condition Name × Lexemes) → in_at left ts ≡ Some x → Front (Behind (Predicate may) left) ts x
+  in_sound : (may : Bool) (left : Operand ColumnName) (ts : Lexemes) (x : Condition ColumnName × Lexemes) → in_at left ts ≡ Some x → Front (Behind (Predicate may) left) ts x
   unfolding in_at
   in_sound may left (keyword k.In ∷ ts) x e =
       bound _ _ _ e (λ ms p e1.
@@ -85,13 +85,13 @@ module _ (Deeper : Lexemes → Condition Name → Type 0) where
       }))
   in_sound may left _ x e = absurd cc
 
-  not_in_sound : (left : Operand Name) (ts : Lexemes) (x : Condition Name × Lexemes) → (in_at left ts >>= λ y. Some (c.Not y.0, y.1)) ≡ Some x
+  not_in_sound : (left : Operand ColumnName) (ts : Lexemes) (x : Condition ColumnName × Lexemes) → (in_at left ts >>= λ y. Some (c.Not y.0, y.1)) ≡ Some x
       → Front (Behind (NotOf Deeper) left) (keyword k.Not ∷ ts) x
   unfolding in_at
   not_in_sound left (keyword k.In ∷ ts) x e =
       bound _ _ _ e (λ y q e2. bound _ _ _ q (λ ms p e1.
       let f = members_sound ts ms p in
-      let same = ap (λ (z : Condition Name × Lexemes). (c.Not z.0, z.1)) (some_is _ y e1) ∙ some_is _ x e2 in
+      let same = ap (λ (z : Condition ColumnName × Lexemes). (c.Not z.0, z.1)) (some_is _ y e1) ∙ some_is _ x e2 in
       subst (Front (Behind (NotOf Deeper) left) (keyword k.Not ∷ keyword k.In ∷ ts)) same (record {
         front = keyword k.Not ∷ keyword k.In ∷ f.front;
         parts = ap (λ (us : Lexemes). keyword k.Not ∷ keyword k.In ∷ us) f.parts;
@@ -99,7 +99,7 @@ module _ (Deeper : Lexemes → Condition Name → Type 0) where
       })))
   not_in_sound left _ x e = absurd cc
 
-  null_sound : (may : Bool) (left : Operand Name) (ts : Lexemes) (x : Condition Name × Lexemes) → null_at left ts ≡ Some x
+  null_sound : (may : Bool) (left : Operand ColumnName) (ts : Lexemes) (x : Condition ColumnName × Lexemes) → null_at left ts ≡ Some x
       → Front (BehindIs (Predicate may) left) ts x
   unfolding null_at
   null_sound may left (keyword k.Null ∷ ts) x e =
@@ -107,7 +107,7 @@ module _ (Deeper : Lexemes → Condition Name → Type 0) where
       (record { front = keyword k.Null ∷ []; parts = refl; reads = λ ls r. lift may (g.is_null r) })
   null_sound may left _ x e = absurd cc
 
-  is_sound : (may : Bool) (left : Operand Name) (ts : Lexemes) (x : Condition Name × Lexemes) → is_at may left ts ≡ Some x
+  is_sound : (may : Bool) (left : Operand ColumnName) (ts : Lexemes) (x : Condition ColumnName × Lexemes) → is_at may left ts ≡ Some x
       → Front (BehindIs (Predicate may) left) ts x
   unfolding is_at null_at
   is_sound true left (keyword k.Not ∷ keyword k.Null ∷ ts) x e =
@@ -116,11 +116,11 @@ module _ (Deeper : Lexemes → Condition Name → Type 0) where
   is_sound true left (keyword k.Not ∷ _) x e = absurd cc
   is_sound may left ts x e = null_sound may left ts x e
 
-  behind_is : (may : Bool) (left : Operand Name) (ts : Lexemes) (x : Condition Name × Lexemes) → Front (BehindIs (Predicate may) left) ts x
+  behind_is : (may : Bool) (left : Operand ColumnName) (ts : Lexemes) (x : Condition ColumnName × Lexemes) → Front (BehindIs (Predicate may) left) ts x
       → Front (Behind (Predicate may) left) (keyword k.Is ∷ ts) x
   behind_is may left ts x f = record { front = keyword k.Is ∷ f.front; parts = ap (λ (us : Lexemes). keyword k.Is ∷ us) f.parts; reads = f.reads }
 
-  compare_sound : (may : Bool) (left : Operand Name) (op : _) (ts : Lexemes) (x : Condition Name × Lexemes)
+  compare_sound : (may : Bool) (left : Operand ColumnName) (op : _) (ts : Lexemes) (x : Condition ColumnName × Lexemes)
       → (operand_at ts >>= λ right. Some (c.Compare op left right.0, right.1)) ≡ Some x → Front (Behind (Predicate may) left) (operator op ∷ ts) x
   compare_sound may left op ts x e =
       bound _ _ _ e (λ right p e1.
@@ -131,7 +131,7 @@ module _ (Deeper : Lexemes → Condition Name → Type 0) where
         reads = λ ls r. lift may (g.compare r f.reads);
       }))
 
-  test_sound : (may : Bool) (left : Operand Name) (ts : Lexemes) (x : Condition Name × Lexemes) → test_at may left ts ≡ Some x
+  test_sound : (may : Bool) (left : Operand ColumnName) (ts : Lexemes) (x : Condition ColumnName × Lexemes) → test_at may left ts ≡ Some x
       → Front (Behind (Predicate may) left) ts x
   unfolding test_at
   test_sound may left (operator op ∷ ts) x e = compare_sound may left op ts x e
@@ -139,7 +139,7 @@ module _ (Deeper : Lexemes → Condition Name → Type 0) where
   test_sound true left (keyword k.Not ∷ ts) x e = not_in_sound left ts x e
   test_sound may left ts x e = in_sound may left ts x e
 
-  predicate_sound : (may : Bool) (ts : Lexemes) (x : Condition Name × Lexemes) → predicate_at may ts ≡ Some x → Front (Predicate may) ts x
+  predicate_sound : (may : Bool) (ts : Lexemes) (x : Condition ColumnName × Lexemes) → predicate_at may ts ≡ Some x → Front (Predicate may) ts x
   unfolding predicate_at
   predicate_sound may ts x e =
       bound _ _ _ e (λ y p e1.
@@ -149,14 +149,14 @@ module _ (Deeper : Lexemes → Condition Name → Type 0) where
 
 -- ---- conditions by their depth
 
-module _ (Deeper : Lexemes → Condition Name → Type 0) (deeper : Lexemes → Read (Condition Name))
-    (sound : (ts : Lexemes) (x : Condition Name × Lexemes) → deeper ts ≡ Some x → Front Deeper ts x) where
-  or_of_sound : (ts : Lexemes) (x : Condition Name × Lexemes) → or_of deeper ts ≡ Some x → Front (OrOf Deeper) ts x
+module _ (Deeper : Lexemes → Condition ColumnName → Type 0) (deeper : Lexemes → Read (Condition ColumnName))
+    (sound : (ts : Lexemes) (x : Condition ColumnName × Lexemes) → deeper ts ≡ Some x → Front Deeper ts x) where
+  or_of_sound : (ts : Lexemes) (x : Condition ColumnName × Lexemes) → or_of deeper ts ≡ Some x → Front (OrOf Deeper) ts x
   or_of_sound =
       joined_sound is_or (keyword k.Or) or_only c.Or (joined_at is_and c.And deeper) (Joined (keyword k.And) c.And Deeper)
       (joined_sound is_and (keyword k.And) and_only c.And deeper Deeper sound)
 
-  negation_sound : (ts : Lexemes) (x : Condition Name × Lexemes) → negation_at deeper ts ≡ Some x → Front (NotOf Deeper) ts x
+  negation_sound : (ts : Lexemes) (x : Condition ColumnName × Lexemes) → negation_at deeper ts ≡ Some x → Front (NotOf Deeper) ts x
   unfolding negation_at
   negation_sound (keyword k.Not ∷ ts) x e =
       bound _ _ _ e (λ y p e1.
@@ -175,13 +175,13 @@ module _ (Deeper : Lexemes → Condition Name → Type 0) (deeper : Lexemes → 
       })))
   negation_sound ts x e = predicate_sound Deeper true ts x e
 
-pub not_sound : (depth : ℕ) (ts : Lexemes) (x : Condition Name × Lexemes) → not_at depth ts ≡ Some x → Front (ReadsNot depth) ts x
+pub not_sound : (depth : ℕ) (ts : Lexemes) (x : Condition ColumnName × Lexemes) → not_at depth ts ≡ Some x → Front (ReadsNot depth) ts x
 unfolding not_at
 not_sound zero = predicate_sound ReadsTest false
 not_sound (suc depth) = negation_sound (ReadsNot depth) (not_at depth) (not_sound depth)
 
-pub and_sound : (depth : ℕ) (ts : Lexemes) (x : Condition Name × Lexemes) → and_at depth ts ≡ Some x → Front (ReadsAnd depth) ts x
+pub and_sound : (depth : ℕ) (ts : Lexemes) (x : Condition ColumnName × Lexemes) → and_at depth ts ≡ Some x → Front (ReadsAnd depth) ts x
 and_sound depth = joined_sound is_and (keyword k.And) and_only c.And (not_at depth) (ReadsNot depth) (not_sound depth)
 
-pub or_sound : (depth : ℕ) (ts : Lexemes) (x : Condition Name × Lexemes) → or_at depth ts ≡ Some x → Front (ReadsOr depth) ts x
+pub or_sound : (depth : ℕ) (ts : Lexemes) (x : Condition ColumnName × Lexemes) → or_at depth ts ≡ Some x → Front (ReadsOr depth) ts x
 or_sound depth = or_of_sound (ReadsNot depth) (not_at depth) (not_sound depth)

@@ -1,20 +1,22 @@
--- The two laws for names, literals and operands: what is read is in the grammar, and what is in the grammar is read, whatever follows.
+-- The two laws for names, columns, literals and operands: what is read is in the grammar, and what is in the grammar is read, whatever follows. Behind a
+-- column that may be anything but a dot.
 use Rattle.std.proofs.Common.{◌≡◌, ℕ, ◌<◌, ◌≤◌, ◌^◌, List, [], ◌∷◌, ◌++◌, Some, refl, ap, subst, ◌∙◌, append_assoc, pos, None, arith}
 use Rattle.std.specs.Prelude.{neg_ℤ}
 use Rattle.std.proofs.lemmas.Bool.{leb-true, le-leb}
 use Rattle.vt_value.specs.declared.value.Value.{Value}
 use Rattle.vt_value.specs.declared.value.Value.TheVariants.{Null, Int, Bytes}
 use Rattle.sql_lexer.specs.declared.token.Keyword.TheVariants as k
-use Rattle.sql_lexer.specs.declared.token.Sign.TheVariants.{LeftParenthesis, RightParenthesis, Minus}
+use Rattle.sql_lexer.specs.declared.token.Sign.TheVariants.{LeftParenthesis, RightParenthesis, Minus, Dot}
 use Rattle.sql_lexer.specs.Lexemes.{keyword, identifier, number, text, sign}
 use Rattle.sql_lexer.specs.inner.Results.{◌>>=◌}
 use Rattle.sql_lexer.proofs.Options.{some_is, bound, guard_some}
+use Rattle.sql_tree.specs.declared.ColumnName.{ColumnName}
 use Rattle.sql_tree.specs.declared.Operand.{Operand}
 use Rattle.sql_tree.specs.declared.Operand.TheVariants.{Column, Literal}
 use Rattle.sql_tree.specs.Literals.{Name}
-use Rattle.sql_parser.specs.Grammar.{Lexemes, Listed, Bracketed, ReadsName, ReadsLiteral, ReadsOperand}
+use Rattle.sql_parser.specs.Grammar.{Lexemes, Listed, Bracketed, ReadsName, ReadsColumn, ReadsLiteral, ReadsOperand}
 use Rattle.sql_parser.specs.Grammar as g
-use Rattle.sql_parser.specs.inner.Reading.{Read, is_comma, after_at, listed_at, name_at, number_at, close_at, open_at, natural_at, negative_at, literal_at, operand_at, bracketed_at, members_at}
+use Rattle.sql_parser.specs.inner.Reading.{Read, after_at, listed_at, name_at, is_dot, behind_name_at, column_at, number_at, close_at, open_at, natural_at, negative_at, literal_at, operand_at, bracketed_at, members_at}
 use Rattle.sql_parser.proofs.Digits.{fits, fitting_is}
 use Rattle.sql_parser.proofs.Sound.{Front, glue, listed_sound}
 use Rattle.sql_parser.proofs.Again.{listed_again}
@@ -76,18 +78,43 @@ literal_sound (text bytes ∷ ts) x e =
     subst (Front ReadsLiteral (text bytes ∷ ts)) (some_is (Bytes bytes, ts) x e) (record { front = text bytes ∷ []; parts = refl; reads = g.string bytes })
 literal_sound ts x e = natural_sound ts x e
 
-literal_operand : (ts : Lexemes) (x : Operand Name × Lexemes) → (literal_at ts >>= λ v. Some (Literal v.0, v.1)) ≡ Some x → Front ReadsOperand ts x
+literal_operand : (ts : Lexemes) (x : Operand ColumnName × Lexemes) → (literal_at ts >>= λ v. Some (Literal v.0, v.1)) ≡ Some x → Front ReadsOperand ts x
 literal_operand ts x e =
     bound _ _ _ e (λ v p e1.
     let f = literal_sound ts v p in
     subst (Front ReadsOperand ts) (some_is _ x e1) (record { front = f.front; parts = f.parts; reads = g.literal f.reads }))
 
-pub operand_sound : (ts : Lexemes) (x : Operand Name × Lexemes) → operand_at ts ≡ Some x → Front ReadsOperand ts x
+-- a name, and behind a dot the one that it qualifies
+pub behind_name_sound : (bytes : Name) (ts : Lexemes) (x : ColumnName × Lexemes) → behind_name_at bytes ts ≡ Some x → Front ReadsColumn (identifier bytes ∷ ts) x
+unfolding behind_name_at
+behind_name_sound bytes (sign Dot ∷ ts) x e =
+    bound _ _ _ e (λ name p e1.
+    subst (Front ReadsColumn (identifier bytes ∷ sign Dot ∷ ts)) (some_is _ x e1) (record {
+      front = identifier bytes ∷ sign Dot ∷ identifier name.0 ∷ [];
+      parts = ap (λ (us : Lexemes). identifier bytes ∷ sign Dot ∷ us) (name_is ts name p);
+      reads = g.qualified bytes name.0;
+    }))
+behind_name_sound bytes ts x e =
+    subst (Front ReadsColumn (identifier bytes ∷ ts)) (some_is _ x e) (record { front = identifier bytes ∷ []; parts = refl; reads = g.bare bytes })
+
+pub column_sound : (ts : Lexemes) (x : ColumnName × Lexemes) → column_at ts ≡ Some x → Front ReadsColumn ts x
+unfolding column_at
+column_sound ts x e =
+    bound _ _ _ e (λ name p e1.
+    let f = behind_name_sound name.0 name.1 x e1 in
+    record { front = f.front; parts = name_is ts name p ∙ f.parts; reads = f.reads })
+
+column_operand : (bytes : Name) (ts : Lexemes) (x : Operand ColumnName × Lexemes) → (behind_name_at bytes ts >>= λ c. Some (Column c.0, c.1)) ≡ Some x
+    → Front ReadsOperand (identifier bytes ∷ ts) x
+column_operand bytes ts x e =
+    bound _ _ _ e (λ c p e1.
+    let f = behind_name_sound bytes ts c p in
+    subst (Front ReadsOperand (identifier bytes ∷ ts)) (some_is _ x e1) (record { front = f.front; parts = f.parts; reads = g.column f.reads }))
+
+pub operand_sound : (ts : Lexemes) (x : Operand ColumnName × Lexemes) → operand_at ts ≡ Some x → Front ReadsOperand ts x
 unfolding operand_at
 operand_sound [] x e = absurd cc
-operand_sound (identifier bytes ∷ ts) x e =
-    subst (Front ReadsOperand (identifier bytes ∷ ts)) (some_is (Column bytes, ts) x e)
-    (record { front = identifier bytes ∷ []; parts = refl; reads = g.column bytes })
+operand_sound (identifier bytes ∷ ts) x e = column_operand bytes ts x e
 operand_sound ts x e = literal_operand ts x e
 
 -- (x,..)
@@ -134,17 +161,34 @@ literal_again _ _ (g.natural n lt) rest = natural_again n lt rest
 literal_again _ _ (g.negative n le) rest = negative_again n le rest
 literal_again _ _ (g.string bytes) rest = refl
 
-pub operand_again : (ts : Lexemes) (x : Operand Name) → ReadsOperand ts x → (rest : Lexemes) → operand_at (ts ++ rest) ≡ Some (x, rest)
-unfolding operand_at
-operand_again _ _ (g.column bytes) rest = refl
-operand_again _ _ (g.literal g.null) rest = rw (literal_again _ _ g.null rest) refl
-operand_again _ _ (g.literal (g.natural n lt)) rest = rw (literal_again _ _ (g.natural n lt) rest) refl
-operand_again _ _ (g.literal (g.negative n le)) rest = rw (literal_again _ _ (g.negative n le) rest) refl
-operand_again _ _ (g.literal (g.string bytes)) rest = rw (literal_again _ _ (g.string bytes) rest) refl
+-- no dot stands there
+abbrev pub NoDot : Lexemes → Type 0
+NoDot rest = after_at is_dot rest ≡ None
 
-pub names_again : (ts : Lexemes) (names : List Name) → Listed ReadsName ts names → (rest : Lexemes) → after_at is_comma rest ≡ None
-    → listed_at name_at (ts ++ rest) ≡ Some (names, rest)
-names_again ts names r rest none = listed_again name_at ReadsName (λ _. Unit {0}) (λ _. tt) (λ us y q rest h. name_again us y q rest) ts names r rest tt none
+pub behind_name_again : (bytes : Name) (rest : Lexemes) → NoDot rest → behind_name_at bytes rest ≡ Some (record { table = None; name = bytes }, rest)
+unfolding behind_name_at
+behind_name_again bytes [] none = refl
+behind_name_again bytes (sign Dot ∷ rest) none = absurd cc
+behind_name_again bytes (t ∷ rest) none = refl
+
+qualified_again : (table bytes : Name) (rest : Lexemes)
+    → behind_name_at table (sign Dot ∷ identifier bytes ∷ rest) ≡ Some (record { table = Some table; name = bytes }, rest)
+unfolding behind_name_at name_at
+qualified_again table bytes rest = refl
+
+pub column_again : (ts : Lexemes) (x : ColumnName) → ReadsColumn ts x → (rest : Lexemes) → NoDot rest → column_at (ts ++ rest) ≡ Some (x, rest)
+unfolding column_at name_at
+column_again _ _ (g.bare bytes) rest none = behind_name_again bytes rest none
+column_again _ _ (g.qualified table bytes) rest none = qualified_again table bytes rest
+
+pub operand_again : (ts : Lexemes) (x : Operand ColumnName) → ReadsOperand ts x → (rest : Lexemes) → NoDot rest → operand_at (ts ++ rest) ≡ Some (x, rest)
+unfolding operand_at
+operand_again _ _ (g.column (g.bare bytes)) rest none = rw (behind_name_again bytes rest none) refl
+operand_again _ _ (g.column (g.qualified table bytes)) rest none = rw (qualified_again table bytes rest) refl
+operand_again _ _ (g.literal g.null) rest none = rw (literal_again _ _ g.null rest) refl
+operand_again _ _ (g.literal (g.natural n lt)) rest none = rw (literal_again _ _ (g.natural n lt) rest) refl
+operand_again _ _ (g.literal (g.negative n le)) rest none = rw (literal_again _ _ (g.negative n le) rest) refl
+operand_again _ _ (g.literal (g.string bytes)) rest none = rw (literal_again _ _ (g.string bytes) rest) refl
 
 -- (x,..), of items that are read whatever follows
 module _ {A : Type 0} (item : Lexemes → Read A) (Item : Lexemes → A → Type 0)

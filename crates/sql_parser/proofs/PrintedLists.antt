@@ -1,20 +1,21 @@
--- Literals, operands and lists: what is printed for them reads as them.
+-- Names, columns, literals, operands and lists: what is printed for them reads as them.
 use Rattle.std.proofs.Common.{◌≡◌, ℕ, zero, suc, Bool, true, List, [], ◌∷◌, ◌++◌, map, refl, append_assoc, arith}
 use Rattle.std.specs.List.{list_all}
 use Rattle.std.proofs.lemmas.Bool.{and_parts}
 use Rattle.vt_value.specs.declared.value.Value.{Value}
 use Rattle.sql_lexer.specs.declared.token.Keyword.TheVariants as k
 use Rattle.sql_lexer.specs.declared.token.Sign as S
-use Rattle.sql_lexer.specs.declared.token.Sign.TheVariants.{LeftParenthesis, RightParenthesis, Comma, Minus}
+use Rattle.sql_lexer.specs.declared.token.Sign.TheVariants.{LeftParenthesis, RightParenthesis, Comma, Minus, Dot}
 use Rattle.sql_lexer.specs.declared.token.TokenKind.TheVariants as kind
 use Rattle.sql_lexer.specs.Lexemes.{Lexeme, keyword, identifier, number, text, sign, is_word, sign_text, ends_token}
 use Rattle.sql_lexer.specs.Lexemes as s
+use Rattle.sql_tree.specs.declared.ColumnName.{ColumnName}
 use Rattle.sql_tree.specs.declared.Operand.{Operand}
 use Rattle.sql_tree.specs.Literals.{Name}
-use Rattle.sql_tree.specs.Printing.{value_text, operand_text, name_text, following, commas, bracketed}
-use Rattle.sql_parser.specs.Grammar.{Lexemes, ReadsLiteral, ReadsOperand, ReadsName, Follows, Listed, Bracketed}
+use Rattle.sql_tree.specs.Printing.{value_text, operand_text, name_text, column_text, following, commas, bracketed}
+use Rattle.sql_parser.specs.Grammar.{Lexemes, ReadsLiteral, ReadsOperand, ReadsName, ReadsColumn, Follows, Listed, Bracketed}
 use Rattle.sql_parser.specs.Grammar as g
-use Rattle.sql_parser.proofs.Says.{Says, token, blank, Part, Joint, Breaks, at_close, at_comma, word}
+use Rattle.sql_parser.proofs.Says.{Says, token, blank, Part, Joint, Breaks, at_close, at_comma, at_dot, word}
 use Rattle.sql_parser.proofs.SpelledParts.{number_part, name_part, text_part}
 
 -- ---- identifiers are words
@@ -75,9 +76,21 @@ literal_prints _ _ (g.negative (suc n) le) = record {
 }
 literal_prints _ _ (g.string bytes) = record { says = text bytes ∷ []; reads = g.string bytes; part = text_part bytes }
 
-pub operand_prints : (ts : Lexemes) (x : Operand Name) → ReadsOperand ts x → Words ts → As ReadsOperand (operand_text x) x
-operand_prints _ _ (g.column bytes) w =
-    record { says = identifier bytes ∷ []; reads = g.column bytes; part = name_part bytes (and_parts (is_word bytes) true w).0 }
+pub column_prints : (ts : Lexemes) (x : ColumnName) → ReadsColumn ts x → Words ts → As ReadsColumn (column_text x) x
+column_prints _ _ (g.bare bytes) w =
+    record { says = identifier bytes ∷ []; reads = g.bare bytes; part = name_part bytes (and_parts (is_word bytes) true w).0 }
+column_prints _ _ (g.qualified table bytes) w =
+    let p = and_parts (is_word table) (list_all is_named (sign Dot ∷ identifier bytes ∷ [])) w in
+    let q = and_parts (is_word bytes) true p.1 in
+    record {
+      says = identifier table ∷ sign Dot ∷ identifier bytes ∷ [];
+      reads = g.qualified table bytes;
+      part = λ rest ms b r. simp append_assoc (name_part table p.0 (0x2E ∷ name_text bytes ++ rest) (sign Dot ∷ identifier bytes ∷ ms) at_dot
+          (sign_says Dot (name_text bytes ++ rest) (identifier bytes ∷ ms) (name_part bytes q.0 rest ms b r)));
+    }
+
+pub operand_prints : (ts : Lexemes) (x : Operand ColumnName) → ReadsOperand ts x → Words ts → As ReadsOperand (operand_text x) x
+operand_prints _ _ (g.column {ts} {c} r) w = let a = column_prints ts c r w in record { says = a.says; reads = g.column a.reads; part = a.part }
 operand_prints _ _ (g.literal {ts} {v} r) w = let a = literal_prints ts v r in record { says = a.says; reads = g.literal a.reads; part = a.part }
 
 pub name_prints : (ts : Lexemes) (x : Name) → ReadsName ts x → Words ts → As ReadsName (name_text x) x

@@ -16,8 +16,11 @@ use Rattle.sql_lexer.specs.Lexemes.{keyword, identifier, number, text, sign, ope
 use Rattle.sql_lexer.specs.Lexemes as s
 use Rattle.sql_lexer.specs.Tokens.{LexesFrom}
 use Rattle.sql_lexer.specs.Tokens as t
+use Rattle.sql_tree.specs.declared.ColumnName.{ColumnName}
+use Rattle.sql_tree.specs.declared.JoinOn.{JoinOn}
 use Rattle.sql_tree.specs.declared.Condition.{Condition}
 use Rattle.sql_tree.specs.declared.Item.{Item}
+use Rattle.sql_tree.specs.declared.Item.TheVariants as shown
 use Rattle.sql_tree.specs.declared.SelectList.{SelectList}
 use Rattle.sql_tree.specs.declared.Key.{Key}
 use Rattle.sql_tree.specs.declared.Limit.{Limit}
@@ -30,12 +33,12 @@ use Rattle.sql_tree.specs.declared.Delete as D
 use Rattle.sql_tree.specs.declared.Statement.{Statement}
 use Rattle.sql_tree.specs.declared.Statement.TheVariants.{SetNames}
 use Rattle.sql_tree.specs.Literals.{Name}
-use Rattle.sql_tree.specs.Printing.{name_text, bracketed, item_text, list_text, filter_text, key_text, clause_text, limit_text, columns_text, row_text, assignment_text, charset_text, select_text, insert_text, update_text, delete_text, printed}
-use Rattle.sql_parser.specs.Grammar.{Lexemes, Listed, Bracketed, Optional, call, max_depth, ReadsName, ReadsLiteral, ReadsItem, ReadsList, ReadsWhere, ReadsGroup, ReadsKey, ReadsOrder, ReadsLimit, ReadsAssignment, ReadsCharacterSet, ReadsSelect, ReadsInsert, ReadsUpdate, ReadsDelete, ReadsStatement, ReadsText, Reads}
+use Rattle.sql_tree.specs.Printing.{name_text, column_text, bracketed, item_text, list_text, join_text, filter_text, key_text, clause_text, limit_text, columns_text, row_text, assignment_text, charset_text, select_text, insert_text, update_text, delete_text, printed}
+use Rattle.sql_parser.specs.Grammar.{Lexemes, Listed, Bracketed, Optional, call, max_depth, ReadsName, ReadsColumn, ReadsLiteral, ReadsItem, ReadsList, ReadsJoin, ReadsWhere, ReadsGroup, ReadsKey, ReadsOrder, ReadsLimit, ReadsAssignment, ReadsCharacterSet, ReadsSelect, ReadsInsert, ReadsUpdate, ReadsDelete, ReadsStatement, ReadsText, Reads}
 use Rattle.sql_parser.specs.Grammar as g
-use Rattle.sql_parser.proofs.Says.{Says, nothing, blank, Part, Breaks, at_end, at_blank, at_open, word, between_blanks, operator_says, slice, says_reads}
+use Rattle.sql_parser.proofs.Says.{Says, nothing, blank, Part, Joint, Breaks, at_end, at_blank, at_open, word, join, between_blanks, operator_says, slice, says_reads}
 use Rattle.sql_parser.proofs.SpelledParts.{number_part, name_part, text_part, inner_is}
-use Rattle.sql_parser.proofs.PrintedLists.{Words, is_named, words_parts, As, sign_says, bracketed_part, literal_prints, name_prints, listed_prints, bracketed_prints, members_print}
+use Rattle.sql_parser.proofs.PrintedLists.{Words, is_named, words_parts, As, sign_says, bracketed_part, literal_prints, name_prints, column_prints, listed_prints, bracketed_prints, members_print}
 use Rattle.sql_parser.proofs.PrintedConditions.{condition_prints}
 
 -- ---- the identifiers of a text are words
@@ -75,23 +78,31 @@ record AsTail {A : Type 0} (Reads : Lexemes → A → Type 0) (bytes : List ℕ)
 one_name : (bytes : Name) → Words (identifier bytes ∷ []) → Part (name_text bytes) (identifier bytes ∷ [])
 one_name bytes w = name_part bytes (and_parts (is_word bytes) true w).0
 
-call_part : (f : Keyword) (bytes : Name) → Words (identifier bytes ∷ []) → Part (keyword_text f ++ bracketed (name_text bytes)) (call f (identifier bytes))
-call_part f bytes w rest ms b r =
-    let inside = bracketed_part (name_text bytes) (identifier bytes ∷ []) (one_name bytes w) rest ms b r in
-    subst (λ (cs : List ℕ). Says cs (call f (identifier bytes) ++ ms)) (sym (append_assoc (keyword_text f) (bracketed (name_text bytes)) rest))
-    (word f (bracketed (name_text bytes) ++ rest) _ at_open inside)
+-- an aggregate of a column
+call_prints : (f : Keyword) (node : ColumnName → Item ColumnName) → ((us : Lexemes) (c : ColumnName) → ReadsColumn us c → ReadsItem (call f us) (node c))
+    → (ts : Lexemes) (c : ColumnName) → ReadsColumn ts c → Words (call f ts) → As ReadsItem (keyword_text f ++ bracketed (column_text c)) (node c)
+call_prints f node is ts c r w =
+    let a = column_prints ts c r (words_parts ts (sign RightParenthesis ∷ []) w).0 in
+    record {
+      says = call f a.says;
+      reads = is a.says c a.reads;
+      part = λ rest ms b x.
+          let inside = bracketed_part (column_text c) a.says a.part rest ms b x in
+          subst (λ (cs : List ℕ). Says cs (call f a.says ++ ms)) (sym (append_assoc (keyword_text f) (bracketed (column_text c)) rest))
+          (word f (bracketed (column_text c) ++ rest) _ at_open inside);
+    }
 
-item_prints : (ts : Lexemes) (x : Item Name) → ReadsItem ts x → Words ts → As ReadsItem (item_text x) x
-item_prints _ _ (g.column_item bytes) w = record { says = identifier bytes ∷ []; reads = g.column_item bytes; part = one_name bytes w }
+item_prints : (ts : Lexemes) (x : Item ColumnName) → ReadsItem ts x → Words ts → As ReadsItem (item_text x) x
+item_prints _ _ (g.column_item {ts} {c} r) w = let a = column_prints ts c r w in record { says = a.says; reads = g.column_item a.reads; part = a.part }
 item_prints _ _ g.count_rows w = record {
-  says = call k.Count (sign Star);
+  says = call k.Count (sign Star ∷ []);
   reads = g.count_rows;
   part = λ rest ms b r. word k.Count (0x28 ∷ 0x2A ∷ 0x29 ∷ rest) _ at_open (sign_says LeftParenthesis _ _ (sign_says Star _ _ (sign_says RightParenthesis rest ms r)));
 }
-item_prints _ _ (g.count_item bytes) w = record { says = call k.Count (identifier bytes); reads = g.count_item bytes; part = call_part k.Count bytes w }
-item_prints _ _ (g.sum_item bytes) w = record { says = call k.Sum (identifier bytes); reads = g.sum_item bytes; part = call_part k.Sum bytes w }
-item_prints _ _ (g.min_item bytes) w = record { says = call k.Min (identifier bytes); reads = g.min_item bytes; part = call_part k.Min bytes w }
-item_prints _ _ (g.max_item bytes) w = record { says = call k.Max (identifier bytes); reads = g.max_item bytes; part = call_part k.Max bytes w }
+item_prints _ _ (g.count_item {ts} {c} r) w = call_prints k.Count shown.Count (λ us c r. g.count_item r) ts c r w
+item_prints _ _ (g.sum_item {ts} {c} r) w = call_prints k.Sum shown.Sum (λ us c r. g.sum_item r) ts c r w
+item_prints _ _ (g.min_item {ts} {c} r) w = call_prints k.Min shown.Min (λ us c r. g.min_item r) ts c r w
+item_prints _ _ (g.max_item {ts} {c} r) w = call_prints k.Max shown.Max (λ us c r. g.max_item r) ts c r w
 
 list_prints : (ts : Lexemes) (x : SelectList) → ReadsList ts x → Words ts → As ReadsList (list_text x) x
 list_prints _ _ g.star w = record { says = sign Star ∷ []; reads = g.star; part = λ rest ms b r. sign_says Star rest ms r }
@@ -99,7 +110,35 @@ list_prints _ _ (g.listed {ts} {xs} r) w =
     let a = listed_prints ReadsItem ReadsItem item_text item_prints ts xs r w in
     record { says = a.says; reads = g.listed a.reads; part = a.part }
 
-where_prints : (ts : Lexemes) (x : Option (Condition Name)) → Optional ReadsWhere ts x → Words ts → AsTail (Optional ReadsWhere) (filter_text x) x
+equals_joint : Joint (codes " = ") (operator Eq ∷ [])
+equals_joint = record { says = operator_says Eq; breaks = λ rest. at_blank }
+
+-- JOIN is printed without INNER
+joined_prints : (table : Name) (ts us : Lexemes) (left right : ColumnName) → ReadsColumn ts left → ReadsColumn us right
+    → Words (identifier table ∷ keyword k.On ∷ ts ++ operator Eq ∷ us)
+    → AsTail (Optional ReadsJoin) (join_text (Some (record { table = table; left = left; right = right }))) (Some (record { table = table; left = left; right = right }))
+joined_prints table ts us left right r s w =
+    let w1 = and_parts (is_word table) (list_all is_named (ts ++ operator Eq ∷ us)) w in
+    let w2 = words_parts ts (operator Eq ∷ us) w1.1 in
+    let a = column_prints ts left r w2.0 in
+    let b = column_prints us right s w2.1 in
+    let second = codes " JOIN " ++ name_text table in
+    let named : Part second (keyword k.Join ∷ identifier table ∷ []) = λ rest ms br x. (between_blanks k.Join).says _ _ (name_part table w1.0 rest ms br x) in
+    let on = join second (keyword k.Join ∷ identifier table ∷ []) (codes " ON ") (keyword k.On ∷ []) (column_text left) a.says named (between_blanks k.On) a.part in
+    let front = keyword k.Join ∷ identifier table ∷ keyword k.On ∷ a.says in
+    record {
+      says = keyword k.Join ∷ identifier table ∷ keyword k.On ∷ a.says ++ operator Eq ∷ b.says;
+      reads = g.present (g.join a.reads b.reads);
+      part = join (second ++ codes " ON " ++ column_text left) front (codes " = ") (operator Eq ∷ []) (column_text right) b.says on equals_joint b.part;
+      breaks = λ rest br. at_blank;
+    }
+
+join_prints : (ts : Lexemes) (x : Option JoinOn) → Optional ReadsJoin ts x → Words ts → AsTail (Optional ReadsJoin) (join_text x) x
+join_prints _ _ g.absent w = record { says = []; reads = g.absent; part = λ rest ms b r. r; breaks = λ rest b. b }
+join_prints _ _ (g.present (g.join {table} {ts} {us} {left} {right} r s)) w = joined_prints table ts us left right r s w
+join_prints _ _ (g.present (g.inner_join {table} {ts} {us} {left} {right} r s)) w = joined_prints table ts us left right r s w
+
+where_prints : (ts : Lexemes) (x : Option (Condition ColumnName)) → Optional ReadsWhere ts x → Words ts → AsTail (Optional ReadsWhere) (filter_text x) x
 where_prints _ _ g.absent w = record { says = []; reads = g.absent; part = λ rest ms b r. r; breaks = λ rest b. b }
 where_prints _ _ (g.present (g.filter {ts} {x} r)) w =
     let a = condition_prints max_depth ts x r w in
@@ -110,10 +149,10 @@ where_prints _ _ (g.present (g.filter {ts} {x} r)) w =
       breaks = λ rest b. at_blank;
     }
 
-group_prints : (ts : Lexemes) (xs : List Name) → ReadsGroup ts xs → Words ts → AsTail ReadsGroup (clause_text (codes " GROUP BY ") (map name_text xs)) xs
+group_prints : (ts : Lexemes) (xs : List ColumnName) → ReadsGroup ts xs → Words ts → AsTail ReadsGroup (clause_text (codes " GROUP BY ") (map column_text xs)) xs
 group_prints _ _ g.without w = record { says = []; reads = g.without; part = λ rest ms b r. r; breaks = λ rest b. b }
 group_prints _ _ (g.clause (g.items {ts} {us} {x} {xs} r s)) w =
-    let a = listed_prints ReadsName ReadsName name_text name_prints (ts ++ us) (x ∷ xs) (g.items r s) w in
+    let a = listed_prints ReadsColumn ReadsColumn column_text column_prints (ts ++ us) (x ∷ xs) (g.items r s) w in
     record {
       says = keyword k.Group ∷ keyword k.By ∷ a.says;
       reads = g.clause a.reads;
@@ -121,24 +160,33 @@ group_prints _ _ (g.clause (g.items {ts} {us} {x} {xs} r s)) w =
       breaks = λ rest b. at_blank;
     }
 
-key_prints : (ts : Lexemes) (x : Key Name) → ReadsKey ts x → Words ts → As ReadsKey (key_text x) x
-key_prints _ _ (g.plain_key bytes) w = record {
-  says = identifier bytes ∷ [];
-  reads = g.plain_key bytes;
-  part = λ rest ms b r. simp append_assoc (one_name bytes w rest ms b r);
-}
-key_prints _ _ (g.ascending_key bytes) w = record {
-  says = identifier bytes ∷ [];
-  reads = g.plain_key bytes;
-  part = λ rest ms b r. simp append_assoc (one_name bytes w rest ms b r);
-}
-key_prints _ _ (g.descending_key bytes) w = record {
-  says = identifier bytes ∷ keyword k.Desc ∷ [];
-  reads = g.descending_key bytes;
-  part = λ rest ms b r. simp append_assoc (one_name bytes w (codes " DESC" ++ rest) (keyword k.Desc ∷ ms) at_blank (blank refl (word k.Desc rest ms b r)));
-}
+-- a key that ascends is printed as its column
+plain_prints : (ts : Lexemes) (c : ColumnName) → ReadsColumn ts c → Words ts
+    → As ReadsKey (key_text (record { column = c; descending = false })) (record { column = c; descending = false })
+plain_prints ts c r w =
+    let a = column_prints ts c r w in
+    record {
+      says = a.says;
+      reads = g.plain_key a.reads;
+      part = subst (λ (cs : List ℕ). Part cs a.says) (sym (append-nil (column_text c))) a.part;
+    }
 
-order_prints : (ts : Lexemes) (xs : List (Key Name)) → ReadsOrder ts xs → Words ts → AsTail ReadsOrder (clause_text (codes " ORDER BY ") (map key_text xs)) xs
+descending_part : (bytes : List ℕ) (us : Lexemes) → Part bytes us → Part (bytes ++ codes " DESC") (us ++ keyword k.Desc ∷ [])
+descending_part bytes us p rest ms b x =
+    simp append_assoc (p (codes " DESC" ++ rest) (keyword k.Desc ∷ ms) at_blank (blank refl (word k.Desc rest ms b x)))
+
+key_prints : (ts : Lexemes) (x : Key ColumnName) → ReadsKey ts x → Words ts → As ReadsKey (key_text x) x
+key_prints _ _ (g.plain_key {ts} {c} r) w = plain_prints ts c r w
+key_prints _ _ (g.ascending_key {ts} {c} r) w = plain_prints ts c r (words_parts ts (keyword k.Asc ∷ []) w).0
+key_prints _ _ (g.descending_key {ts} {c} r) w =
+    let a = column_prints ts c r (words_parts ts (keyword k.Desc ∷ []) w).0 in
+    record {
+      says = a.says ++ keyword k.Desc ∷ [];
+      reads = g.descending_key a.reads;
+      part = descending_part (column_text c) a.says a.part;
+    }
+
+order_prints : (ts : Lexemes) (xs : List (Key ColumnName)) → ReadsOrder ts xs → Words ts → AsTail ReadsOrder (clause_text (codes " ORDER BY ") (map key_text xs)) xs
 order_prints _ _ g.without w = record { says = []; reads = g.without; part = λ rest ms b r. r; breaks = λ rest b. b }
 order_prints _ _ (g.clause (g.items {ts} {us} {x} {xs} r s)) w =
     let a = listed_prints ReadsKey ReadsKey key_text key_prints (ts ++ us) (x ∷ xs) (g.items r s) w in
@@ -178,27 +226,30 @@ limit_prints _ _ (g.present (g.offset n m lt lt2)) = offset_prints n m lt lt2
 -- ---- statements
 
 select_prints : (ts : Lexemes) (x : S.Select) → ReadsSelect ts x → Words ts → As ReadsSelect (select_text x) x
-select_prints _ _ (g.select {list_tokens} {filter_tokens} {group_tokens} {order_tokens} {limit_tokens} {list} {table} {filter} {group_by} {order_by} {limit} p q r s t) w =
-    let w1 = words_parts list_tokens (keyword k.From ∷ identifier table ∷ filter_tokens ++ (group_tokens ++ (order_tokens ++ limit_tokens))) w in
-    let w2 = and_parts (is_word table) (list_all is_named (filter_tokens ++ (group_tokens ++ (order_tokens ++ limit_tokens)))) w1.1 in
-    let w3 = words_parts filter_tokens (group_tokens ++ (order_tokens ++ limit_tokens)) w2.1 in
-    let w4 = words_parts group_tokens (order_tokens ++ limit_tokens) w3.1 in
-    let w5 = words_parts order_tokens limit_tokens w4.1 in
+select_prints _ _ (g.select {list_tokens} {join_tokens} {filter_tokens} {group_tokens} {order_tokens} {limit_tokens} {list} {table} {join} {filter} {group_by} {order_by} {limit} p j q r s t) w =
+    let w1 = words_parts list_tokens (keyword k.From ∷ identifier table ∷ join_tokens ++ (filter_tokens ++ (group_tokens ++ (order_tokens ++ limit_tokens)))) w in
+    let w2 = and_parts (is_word table) (list_all is_named (join_tokens ++ (filter_tokens ++ (group_tokens ++ (order_tokens ++ limit_tokens))))) w1.1 in
+    let w3 = words_parts join_tokens (filter_tokens ++ (group_tokens ++ (order_tokens ++ limit_tokens))) w2.1 in
+    let w4 = words_parts filter_tokens (group_tokens ++ (order_tokens ++ limit_tokens)) w3.1 in
+    let w5 = words_parts group_tokens (order_tokens ++ limit_tokens) w4.1 in
+    let w6 = words_parts order_tokens limit_tokens w5.1 in
     let a = list_prints list_tokens list p w1.0 in
-    let f = where_prints filter_tokens filter q w3.0 in
-    let h = group_prints group_tokens group_by r w4.0 in
-    let o = order_prints order_tokens order_by s w5.0 in
+    let n = join_prints join_tokens join j w3.0 in
+    let f = where_prints filter_tokens filter q w4.0 in
+    let h = group_prints group_tokens group_by r w5.0 in
+    let o = order_prints order_tokens order_by s w6.0 in
     let l = limit_prints limit_tokens limit t in
     record {
-      says = keyword k.Select ∷ a.says ++ (keyword k.From ∷ identifier table ∷ f.says ++ (h.says ++ (o.says ++ l.says)));
-      reads = g.select a.reads f.reads h.reads o.reads l.reads;
+      says = keyword k.Select ∷ a.says ++ (keyword k.From ∷ identifier table ∷ n.says ++ (f.says ++ (h.says ++ (o.says ++ l.says))));
+      reads = g.select a.reads n.reads f.reads h.reads o.reads l.reads;
       part = λ rest ms b x.
           let b4 = l.breaks rest b in
           let b3 = o.breaks _ b4 in
           let b2 = h.breaks _ b3 in
           let b1 = f.breaks _ b2 in
-          let clauses = f.part _ _ b2 (h.part _ _ b3 (o.part _ _ b4 (l.part rest ms b x))) in
-          simp append_assoc (word k.Select _ _ at_blank (blank refl (a.part _ _ at_blank ((between_blanks k.From).says _ _ (name_part table w2.0 _ _ b1 clauses)))));
+          let b0 = n.breaks _ b1 in
+          let clauses = n.part _ _ b1 (f.part _ _ b2 (h.part _ _ b3 (o.part _ _ b4 (l.part rest ms b x)))) in
+          simp append_assoc (word k.Select _ _ at_blank (blank refl (a.part _ _ at_blank ((between_blanks k.From).says _ _ (name_part table w2.0 _ _ b0 clauses)))));
     }
 
 columns_print : (ts : Lexemes) (x : Option (List Name)) → Optional (Bracketed ReadsName) ts x → Words ts
@@ -293,4 +344,4 @@ prints bytes x p =
     let whole : Says (printed x ++ []) (a.says ++ []) = a.part [] [] at_end nothing in
     let says : Says (printed x) a.says =
     subst (λ (us : Lexemes). Says (printed x) us) (append-nil a.says) (subst (λ (cs : List ℕ). Says cs (a.says ++ [])) (append-nil (printed x)) whole) in
-    says_reads (printed x) a.says x says (g.statement a.reads) p.3
+    says_reads (printed x) a.says x says (g.statement a.reads) p.3 p.4

@@ -1,5 +1,5 @@
 -- What the tokens of a text say, as the text is put together from its end.
-use Rattle.std.proofs.Common.{◌≡◌, ℕ, ◌+◌, ◌-◌, ◌≤◌, List, [], ◌∷◌, ◌++◌, length, true, refl, sym, subst, append_assoc, arith}
+use Rattle.std.proofs.Common.{◌≡◌, ℕ, ◌+◌, ◌-◌, ◌≤◌, List, [], ◌∷◌, ◌++◌, length, true, false, refl, sym, subst, append_assoc, arith}
 use Rattle.std.specs.Prelude.{slice_range}
 use Rattle.std.proofs.lemmas.List.{length-append}
 use Rattle.std.proofs.Math.Seq.{drop-append_seam, take-append_seam}
@@ -17,6 +17,7 @@ use Rattle.sql_lexer.specs.Tokens.{LexesFrom}
 use Rattle.sql_lexer.specs.Tokens as t
 use Rattle.sql_tree.specs.declared.Statement.{Statement}
 use Rattle.sql_tree.specs.Literals.{literals_of}
+use Rattle.sql_parser.specs.Qualifiers.{qualifies_outside_select}
 use Rattle.sql_parser.specs.Grammar.{Lexemes, Reads, ReadsText, max_literals}
 
 pub data Says : List ℕ → Lexemes → Type 0 where
@@ -55,10 +56,11 @@ lexed before _ _ (token {bytes} {rest} {which} {ls} h e r) =
       says = rw (slice before bytes rest, later) refl;
     }
 
-pub says_reads : (bytes : List ℕ) (ls : Lexemes) (x : Statement) → Says bytes ls → ReadsText ls x → literals_of x ≤ max_literals → Reads bytes x
-says_reads bytes ls x says reads few =
+pub says_reads : (bytes : List ℕ) (ls : Lexemes) (x : Statement) → Says bytes ls → ReadsText ls x → literals_of x ≤ max_literals
+    → qualifies_outside_select x ≡ false → Reads bytes x
+says_reads bytes ls x says reads few plain =
     let f = lexed [] bytes ls says in
-    (f.tokens, f.lexes, subst (λ (us : Lexemes). ReadsText us x) (sym f.says) reads, few)
+    (f.tokens, f.lexes, subst (λ (us : Lexemes). ReadsText us x) (sym f.says) reads, few, plain)
 
 -- ---- what may stand right behind a word, a number or a text
 
@@ -68,6 +70,7 @@ pub data Breaks : List ℕ → Type 0 where
   at_open : {bs : List ℕ} → Breaks (0x28 ∷ bs)
   at_close : {bs : List ℕ} → Breaks (0x29 ∷ bs)
   at_comma : {bs : List ℕ} → Breaks (0x2C ∷ bs)
+  at_dot : {bs : List ℕ} → Breaks (0x2E ∷ bs)
 
 ends_operator : (op : Comparison) (rest : List ℕ) → Breaks rest → ends_token (kind.Operator op) rest ≡ true
 ends_operator op _ at_end = refl
@@ -79,10 +82,12 @@ ends_operator Lt _ at_blank = refl
 ends_operator Lt _ at_open = refl
 ends_operator Lt _ at_close = refl
 ends_operator Lt _ at_comma = refl
+ends_operator Lt _ at_dot = refl
 ends_operator Gt _ at_blank = refl
 ends_operator Gt _ at_open = refl
 ends_operator Gt _ at_close = refl
 ends_operator Gt _ at_comma = refl
+ends_operator Gt _ at_dot = refl
 
 pub breaks_end : (which : TokenKind) (rest : List ℕ) → Breaks rest → ends_token which rest ≡ true
 breaks_end which _ at_end = refl
@@ -91,10 +96,12 @@ breaks_end (kind.Sign x) _ at_blank = refl
 breaks_end (kind.Sign x) _ at_open = refl
 breaks_end (kind.Sign x) _ at_close = refl
 breaks_end (kind.Sign x) _ at_comma = refl
+breaks_end (kind.Sign x) _ at_dot = refl
 breaks_end _ _ at_blank = refl
 breaks_end _ _ at_open = refl
 breaks_end _ _ at_close = refl
 breaks_end _ _ at_comma = refl
+breaks_end _ _ at_dot = refl
 
 spelled : (f : Keyword) → is_spelling_of (keyword_text f) f ≡ true
 spelled k.And = refl

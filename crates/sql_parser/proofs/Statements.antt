@@ -1,7 +1,7 @@
 -- The two laws for whole texts: what is read is in the grammar, and what is in the grammar is read.
-use Rattle.std.proofs.Common.{◌≡◌, ◌≤◌, Bool, true, false, if◌then◌else◌, None, [], ◌∷◌, ◌++◌, Some, refl, sym, ap, subst, ◌∙◌, append_assoc, arith, Option}
+use Rattle.std.proofs.Common.{◌≡◌, ◌≤◌, ◌&&◌, nat_le, Bool, true, false, if◌then◌else◌, None, [], ◌∷◌, ◌++◌, Some, refl, sym, ap, subst, ◌∙◌, append_assoc, arith, Option}
 use Rattle.std.proofs.lemmas.List.{append-nil}
-use Rattle.std.proofs.lemmas.Bool.{leb-true, le-leb, and_parts}
+use Rattle.std.proofs.lemmas.Bool.{leb-true, le-leb, and_parts, not-true}
 use Rattle.vt_value.specs.declared.value.Comparison.TheVariants.{Eq}
 use Rattle.sql_lexer.specs.declared.token.Keyword.TheVariants as k
 use Rattle.sql_lexer.specs.declared.token.Sign.TheVariants.{Semicolon}
@@ -12,40 +12,43 @@ use Rattle.sql_tree.specs.declared.CharacterSet.{CharacterSet}
 use Rattle.sql_tree.specs.declared.CharacterSet.TheVariants as charset
 use Rattle.sql_tree.specs.declared.Select as S
 use Rattle.sql_tree.specs.declared.Statement.{Statement}
-use Rattle.sql_tree.specs.declared.Statement.TheVariants.{Select, Insert, Update, Delete, Begin, Commit, Rollback, SetNames}
-use Rattle.sql_tree.specs.Literals.{Name, literals_of}
+use Rattle.sql_tree.specs.declared.Statement.TheVariants.{Select, Insert, Update, Delete, Begin, Commit, Rollback}
+use Rattle.sql_tree.specs.Literals.{literals_of}
+use Rattle.sql_parser.specs.Qualifiers.{qualifies_outside_select}
 use Rattle.sql_parser.specs.Grammar.{Lexemes, max_literals, is_setting, ReadsSelect, ReadsCharacterSet, ReadsStatement, ReadsText}
 use Rattle.sql_parser.specs.Grammar as g
 use Rattle.sql_parser.specs.inner.Reading.{select_at, insert_at, update_at, delete_at, from_at, name_at, charset_at, equals_at, setting_at, control_at, statement_at, is_end, is_text, text_at}
 use Rattle.sql_parser.proofs.Sound.{Front, glue}
-use Rattle.sql_parser.proofs.ClauseLaws.{list_sound, from_is, where_sound, group_sound, order_sound, limit_sound, list_again, where_again, group_again, order_again, limit_again}
+use Rattle.sql_parser.proofs.ClauseLaws.{list_sound, from_is, equals_is, join_sound, where_sound, group_sound, order_sound, limit_sound, list_again, join_again, where_again, group_again, order_again, limit_again}
 use Rattle.sql_parser.proofs.LiteralLaws.{name_is}
-use Rattle.sql_parser.proofs.WriteLaws.{equals_is, insert_sound, update_sound, delete_sound, insert_again, update_again, delete_again}
-use Rattle.sql_parser.proofs.Behind.{Behind, earlier, end, semicolon, group_behind, order_behind, limit_behind}
+use Rattle.sql_parser.proofs.WriteLaws.{insert_sound, update_sound, delete_sound, insert_again, update_again, delete_again}
+use Rattle.sql_parser.proofs.Behind.{Behind, earlier, end, semicolon, where_behind, group_behind, order_behind, limit_behind}
 
 -- ---- what is read is in the grammar
 
 select_sound : (ts : Lexemes) (x : S.Select × Lexemes) → select_at ts ≡ Some x → Front ReadsSelect (keyword k.Select ∷ ts) x
 unfolding select_at
 select_sound ts x e =
-    bound _ _ _ e (λ list p e1. bound _ _ _ e1 (λ table q e2. bound _ _ _ e2 (λ filter r e3. bound _ _ _ e3 (λ group s e4. bound _ _ _ e4 (λ order t e5.
-    bound _ _ _ e5 (λ limit u e6.
+    bound _ _ _ e (λ list p e1. bound _ _ _ e1 (λ table q e2. bound _ _ _ e2 (λ join v e3. bound _ _ _ e3 (λ filter r e4. bound _ _ _ e4 (λ group s e5.
+    bound _ _ _ e5 (λ order t e6. bound _ _ _ e6 (λ limit u e7.
     let f = list_sound ts list p in
-    let filters = where_sound table.1 filter r in
+    let joins = join_sound table.1 join v in
+    let filters = where_sound join.1 filter r in
     let groups = group_sound filter.1 group s in
     let orders = order_sound group.1 order t in
     let limits = limit_sound order.1 limit u in
     let a = glue group.1 orders.front order.1 limits.front limit.1 orders.parts limits.parts in
     let b = glue filter.1 groups.front group.1 (orders.front ++ limits.front) limit.1 groups.parts a in
-    let c = glue table.1 filters.front filter.1 (groups.front ++ (orders.front ++ limits.front)) limit.1 filters.parts b in
-    let behind = keyword k.From ∷ identifier table.0 ∷ filters.front ++ (groups.front ++ (orders.front ++ limits.front)) in
-    let tail : list.1 ≡ behind ++ limit.1 = from_is list.1 table q ∙ ap (λ (us : Lexemes). keyword k.From ∷ identifier table.0 ∷ us) c in
+    let c = glue join.1 filters.front filter.1 (groups.front ++ (orders.front ++ limits.front)) limit.1 filters.parts b in
+    let d = glue table.1 joins.front join.1 (filters.front ++ (groups.front ++ (orders.front ++ limits.front))) limit.1 joins.parts c in
+    let behind = keyword k.From ∷ identifier table.0 ∷ joins.front ++ (filters.front ++ (groups.front ++ (orders.front ++ limits.front))) in
+    let tail : list.1 ≡ behind ++ limit.1 = from_is list.1 table q ∙ ap (λ (us : Lexemes). keyword k.From ∷ identifier table.0 ∷ us) d in
     let parts = glue ts f.front list.1 behind limit.1 f.parts tail in
-    subst (Front ReadsSelect (keyword k.Select ∷ ts)) (some_is _ x e6) (record {
+    subst (Front ReadsSelect (keyword k.Select ∷ ts)) (some_is _ x e7) (record {
       front = keyword k.Select ∷ f.front ++ behind;
       parts = ap (λ (us : Lexemes). keyword k.Select ∷ us) parts;
-      reads = g.select f.reads filters.reads groups.reads orders.reads limits.reads;
-    })))))))
+      reads = g.select f.reads joins.reads filters.reads groups.reads orders.reads limits.reads;
+    }))))))))
 
 charset_sound : (ts : Lexemes) (x : CharacterSet × Lexemes) → charset_at ts ≡ Some x → Front ReadsCharacterSet ts x
 unfolding charset_at
@@ -125,30 +128,37 @@ all_read ts front [] x e r done = subst (λ (us : Lexemes). ReadsText us x) (sym
 all_read ts front (sign Semicolon ∷ []) x e r done = subst (λ (us : Lexemes). ReadsText us x) (sym e) (g.semicolon r)
 all_read ts front _ x e r done = absurd cc
 
-pub text_sound : (ts : Lexemes) (x : Statement) → text_at ts ≡ Some x → ReadsText ts x × (literals_of x ≤ max_literals)
+-- a statement within the limits of a text
+abbrev pub IsWithin : Statement → Type 0
+IsWithin x = (literals_of x ≤ max_literals) × (qualifies_outside_select x ≡ false)
+
+pub text_sound : (ts : Lexemes) (x : Statement) → text_at ts ≡ Some x → ReadsText ts x × IsWithin x
 unfolding text_at
 text_sound ts x e =
     bound _ _ _ e (λ statement p e1.
     let f = statement_sound ts statement p in
     let b = guard_some (is_text statement) statement.0 x e1 in
-    let both = and_parts (is_end statement.1) _ b.0 in
-    subst (λ (y : Statement). ReadsText ts y × (literals_of y ≤ max_literals)) b.1
-    (all_read ts f.front statement.1 statement.0 f.parts f.reads both.0, leb-true _ _ both.1))
+    let plain = and_parts (is_end statement.1 && nat_le (literals_of statement.0) max_literals) _ b.0 in
+    let both = and_parts (is_end statement.1) _ plain.0 in
+    subst (λ (y : Statement). ReadsText ts y × IsWithin y) b.1
+    (all_read ts f.front statement.1 statement.0 f.parts f.reads both.0, (leb-true _ _ both.1, not-true _ plain.1)))
 
 -- ---- what is in the grammar is read
 
 select_again : (ts : Lexemes) (x : S.Select) → ReadsSelect ts x → (rest : Lexemes) → Behind 4 rest
     → (us : Lexemes) × (ts ++ rest ≡ keyword k.Select ∷ us) × (select_at us ≡ Some (x, rest))
 unfolding select_at from_at name_at
-select_again _ _ (g.select {list_tokens} {filter_tokens} {group_tokens} {order_tokens} {limit_tokens} {list} {table} {filter} {group_by} {order_by} {limit} p q r s t) rest b =
+select_again _ _ (g.select {list_tokens} {join_tokens} {filter_tokens} {group_tokens} {order_tokens} {limit_tokens} {list} {table} {join} {filter} {group_by} {order_by} {limit} p j q r s t) rest b =
     let b3 = limit_behind limit_tokens limit t rest b in
     let b2 = order_behind order_tokens order_by s (limit_tokens ++ rest) b3 in
     let b1 = group_behind group_tokens group_by r (order_tokens ++ (limit_tokens ++ rest)) b2 in
-    let behind : Lexemes = filter_tokens ++ (group_tokens ++ (order_tokens ++ (limit_tokens ++ rest))) in (
+    let b0 = where_behind filter_tokens filter q (group_tokens ++ (order_tokens ++ (limit_tokens ++ rest))) b1 in
+    let behind : Lexemes = join_tokens ++ (filter_tokens ++ (group_tokens ++ (order_tokens ++ (limit_tokens ++ rest)))) in (
       list_tokens ++ keyword k.From ∷ identifier table ∷ behind,
       simp append_assoc,
       rw (
-        list_again list_tokens list p (keyword k.From ∷ identifier table ∷ behind) refl,
+        list_again list_tokens list p (keyword k.From ∷ identifier table ∷ behind) refl refl,
+        join_again join_tokens join j _ b0,
         where_again filter_tokens filter q _ b1,
         group_again group_tokens group_by r _ b2,
         order_again order_tokens order_by s _ b3,
@@ -174,10 +184,10 @@ statement_again _ _ g.rollback rest b = refl
 statement_again _ _ (g.set_names {ts} {set} r) rest b = rw (charset_again ts set r rest) refl
 statement_again _ _ (g.set_setting {name} {ts} {set} named r) rest b = rw (named, charset_again ts set r rest) refl
 
-pub text_again : (ts : Lexemes) (x : Statement) → ReadsText ts x → literals_of x ≤ max_literals → text_at ts ≡ Some x
+pub text_again : (ts : Lexemes) (x : Statement) → ReadsText ts x → IsWithin x → text_at ts ≡ Some x
 unfolding text_at
-text_again _ _ (g.statement {ts} {s} r) le =
+text_again _ _ (g.statement {ts} {s} r) within =
     let e : statement_at ts ≡ Some (s, []) = subst (λ (us : Lexemes). statement_at us ≡ Some (s, [])) (append-nil ts) (statement_again ts s r [] end) in
-    rw (e, le-leb (literals_of s) max_literals le) refl
-text_again _ _ (g.semicolon {ts} {s} r) le =
-    rw (statement_again ts s r (sign Semicolon ∷ []) semicolon, le-leb (literals_of s) max_literals le) refl
+    rw (e, le-leb (literals_of s) max_literals within.0, within.1) refl
+text_again _ _ (g.semicolon {ts} {s} r) within =
+    rw (statement_again ts s r (sign Semicolon ∷ []) semicolon, le-leb (literals_of s) max_literals within.0, within.1) refl

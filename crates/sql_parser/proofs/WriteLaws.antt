@@ -16,7 +16,7 @@ use Rattle.sql_parser.specs.inner.Reading.{is_comma, after_at, listed_at, member
 use Rattle.sql_parser.proofs.Sound.{Front, glue, listed_sound}
 use Rattle.sql_parser.proofs.Again.{listed_again}
 use Rattle.sql_parser.proofs.LiteralLaws.{name_is, name_sound, name_again, literal_sound, literal_again, bracketed_sound, bracketed_again, members_sound, members_again}
-use Rattle.sql_parser.proofs.ClauseLaws.{from_is, where_sound, where_again}
+use Rattle.sql_parser.proofs.ClauseLaws.{from_is, equals_is, where_sound, where_again}
 use Rattle.sql_parser.proofs.Behind.{Behind, no_comma, where_behind}
 
 -- ---- what is read is in the grammar
@@ -39,11 +39,6 @@ set_is : (ts rest : Lexemes) → set_at ts ≡ Some rest → ts ≡ keyword k.Se
 unfolding set_at
 set_is (keyword k.Set ∷ ts) rest e = ap (λ (us : Lexemes). keyword k.Set ∷ us) (some_is ts rest e)
 set_is _ rest e = absurd cc
-
-pub equals_is : (ts rest : Lexemes) → equals_at ts ≡ Some rest → ts ≡ operator Eq ∷ rest
-unfolding equals_at
-equals_is (operator Eq ∷ ts) rest e = ap (λ (us : Lexemes). operator Eq ∷ us) (some_is ts rest e)
-equals_is _ rest e = absurd cc
 
 pub insert_sound : (ts : Lexemes) (x : Insert × Lexemes) → insert_at ts ≡ Some x → Front ReadsInsert (keyword k.Insert ∷ keyword k.Into ∷ ts) x
 unfolding insert_at

@@ -9,9 +9,11 @@ use Rattle.vt_value.specs.declared.value.Comparison.TheVariants.{Eq}
 use Rattle.sql_lexer.specs.declared.token.Token.{Token}
 use Rattle.sql_lexer.specs.declared.token.Keyword.{Keyword}
 use Rattle.sql_lexer.specs.declared.token.Keyword.TheVariants as K
-use Rattle.sql_lexer.specs.declared.token.Sign.TheVariants.{LeftParenthesis, RightParenthesis, Star, Comma, Semicolon, Minus}
+use Rattle.sql_lexer.specs.declared.token.Sign.TheVariants.{LeftParenthesis, RightParenthesis, Star, Comma, Semicolon, Minus, Dot}
 use Rattle.sql_lexer.specs.Lexemes.{Lexeme, keyword, identifier, number, text, sign, operator, lexemes_of}
 use Rattle.sql_lexer.specs.Tokens.{Lexes}
+use Rattle.sql_tree.specs.declared.ColumnName.{ColumnName}
+use Rattle.sql_tree.specs.declared.JoinOn.{JoinOn}
 use Rattle.sql_tree.specs.declared.Operand.{Operand}
 use Rattle.sql_tree.specs.declared.Operand.TheVariants.{Column, Literal}
 use Rattle.sql_tree.specs.declared.Condition.{Condition, Compare, In, IsNull, Not, And, Or}
@@ -31,6 +33,7 @@ use Rattle.sql_tree.specs.declared.Delete as D
 use Rattle.sql_tree.specs.declared.Statement.{Statement}
 use Rattle.sql_tree.specs.declared.Statement.TheVariants.{Select, Insert, Update, Delete, Begin, Commit, Rollback, SetNames}
 use Rattle.sql_tree.specs.Literals.{Name, literals_of}
+use Rattle.sql_parser.specs.Qualifiers.{qualifies_outside_select}
 
 abbrev pub Lexemes : Type 0
 Lexemes = List Lexeme
@@ -64,9 +67,14 @@ pub data Optional {A : Type 0} (Item : Lexemes → A → Type 0) : Lexemes → O
 
 -- ---- names and literals
 
--- column = identifier
+-- name = identifier
 pub data ReadsName : Lexemes → Name → Type 0 where
   name : (bytes : Name) → ReadsName (identifier bytes ∷ []) bytes
+
+-- column = identifier | identifier . identifier
+pub data ReadsColumn : Lexemes → ColumnName → Type 0 where
+  bare : (bytes : Name) → ReadsColumn (identifier bytes ∷ []) (record { table = None; name = bytes })
+  qualified : (table bytes : Name) → ReadsColumn (identifier table ∷ sign Dot ∷ identifier bytes ∷ []) (record { table = Some table; name = bytes })
 
 -- literal = number | - number | string | NULL, where a number with its sign is one of - 2 ^ 63 to 2 ^ 64 - 1
 pub data ReadsLiteral : Lexemes → Value → Type 0 where
@@ -76,88 +84,89 @@ pub data ReadsLiteral : Lexemes → Value → Type 0 where
   string : (bytes : List ℕ) → ReadsLiteral (text bytes ∷ []) (Bytes bytes)
 
 -- operand = column | literal
-pub data ReadsOperand : Lexemes → Operand Name → Type 0 where
-  column : (bytes : Name) → ReadsOperand (identifier bytes ∷ []) (Column bytes)
+pub data ReadsOperand : Lexemes → Operand ColumnName → Type 0 where
+  column : {ts : Lexemes} {c : ColumnName} → ReadsColumn ts c → ReadsOperand ts (Column c)
   literal : {ts : Lexemes} {v : Value} → ReadsLiteral ts v → ReadsOperand ts (Literal v)
 
 -- ---- conditions
 
 -- operand op operand | operand IN (literal,..) | operand IS NULL
-pub data ReadsTest : Lexemes → Condition Name → Type 0 where
-  compare : {ts us : Lexemes} {left right : Operand Name} {op : Comparison} → ReadsOperand ts left → ReadsOperand us right
+pub data ReadsTest : Lexemes → Condition ColumnName → Type 0 where
+  compare : {ts us : Lexemes} {left right : Operand ColumnName} {op : Comparison} → ReadsOperand ts left → ReadsOperand us right
       → ReadsTest (ts ++ operator op ∷ us) (Compare op left right)
-  in_list : {ts us : Lexemes} {left : Operand Name} {members : List Value} → ReadsOperand ts left → Bracketed ReadsLiteral us members
+  in_list : {ts us : Lexemes} {left : Operand ColumnName} {members : List Value} → ReadsOperand ts left → Bracketed ReadsLiteral us members
       → ReadsTest (ts ++ keyword K.In ∷ us) (In left members)
-  is_null : {ts : Lexemes} {left : Operand Name} → ReadsOperand ts left → ReadsTest (ts ++ keyword K.Is ∷ keyword K.Null ∷ []) (IsNull left)
+  is_null : {ts : Lexemes} {left : Operand ColumnName} → ReadsOperand ts left → ReadsTest (ts ++ keyword K.Is ∷ keyword K.Null ∷ []) (IsNull left)
 
 -- x | x AND x AND .. , and the same with OR: two or more are a node of the tree
-pub data Joined (sep : Lexeme) (node : List (Condition Name) → Condition Name) (Item : Lexemes → Condition Name → Type 0) : Lexemes → Condition Name → Type 0 where
-  single : {ts : Lexemes} {x : Condition Name} → Item ts x → Joined sep node Item ts x
-  several : {ts us : Lexemes} {x y : Condition Name} {zs : List (Condition Name)} → Item ts x → Follows sep Item us (y ∷ zs)
+pub data Joined (sep : Lexeme) (node : List (Condition ColumnName) → Condition ColumnName) (Item : Lexemes → Condition ColumnName → Type 0)
+    : Lexemes → Condition ColumnName → Type 0 where
+  single : {ts : Lexemes} {x : Condition ColumnName} → Item ts x → Joined sep node Item ts x
+  several : {ts us : Lexemes} {x y : Condition ColumnName} {zs : List (Condition ColumnName)} → Item ts x → Follows sep Item us (y ∷ zs)
       → Joined sep node Item (ts ++ us) (node (x ∷ y ∷ zs))
 
 -- or = and | and OR and OR .. , and = not | not AND not AND ..
-abbrev pub OrOf : (Lexemes → Condition Name → Type 0) → Lexemes → Condition Name → Type 0
+abbrev pub OrOf : (Lexemes → Condition ColumnName → Type 0) → Lexemes → Condition ColumnName → Type 0
 OrOf Negation = Joined (keyword K.Or) Or (Joined (keyword K.And) And Negation)
 
 -- not = NOT not | operand NOT IN (literal,..) | operand IS NOT NULL | ( or ) | a test, where Deeper reads what stands one NOT or one
 -- parenthesis deeper. A NOT IN and an IS NOT NULL are a NOT in the tree, and parentheses leave no node.
-pub data NotOf (Deeper : Lexemes → Condition Name → Type 0) : Lexemes → Condition Name → Type 0 where
-  test : {ts : Lexemes} {x : Condition Name} → ReadsTest ts x → NotOf Deeper ts x
-  negated : {ts : Lexemes} {x : Condition Name} → Deeper ts x → NotOf Deeper (keyword K.Not ∷ ts) (Not x)
-  not_in : {ts us : Lexemes} {left : Operand Name} {members : List Value} → ReadsOperand ts left → Bracketed ReadsLiteral us members
+pub data NotOf (Deeper : Lexemes → Condition ColumnName → Type 0) : Lexemes → Condition ColumnName → Type 0 where
+  test : {ts : Lexemes} {x : Condition ColumnName} → ReadsTest ts x → NotOf Deeper ts x
+  negated : {ts : Lexemes} {x : Condition ColumnName} → Deeper ts x → NotOf Deeper (keyword K.Not ∷ ts) (Not x)
+  not_in : {ts us : Lexemes} {left : Operand ColumnName} {members : List Value} → ReadsOperand ts left → Bracketed ReadsLiteral us members
       → NotOf Deeper (ts ++ keyword K.Not ∷ keyword K.In ∷ us) (Not (In left members))
-  is_not_null : {ts : Lexemes} {left : Operand Name} → ReadsOperand ts left
+  is_not_null : {ts : Lexemes} {left : Operand ColumnName} → ReadsOperand ts left
       → NotOf Deeper (ts ++ keyword K.Is ∷ keyword K.Not ∷ keyword K.Null ∷ []) (Not (IsNull left))
-  parentheses : {ts : Lexemes} {x : Condition Name} → OrOf Deeper ts x → NotOf Deeper (sign LeftParenthesis ∷ ts ++ sign RightParenthesis ∷ []) x
+  parentheses : {ts : Lexemes} {x : Condition ColumnName} → OrOf Deeper ts x → NotOf Deeper (sign LeftParenthesis ∷ ts ++ sign RightParenthesis ∷ []) x
 
 -- not, where at most so many open parentheses and NOTs stand on one path
-abbrev pub ReadsNot : ℕ → Lexemes → Condition Name → Type 0
+abbrev pub ReadsNot : ℕ → Lexemes → Condition ColumnName → Type 0
 ReadsNot zero = ReadsTest
 ReadsNot (suc depth) = NotOf (ReadsNot depth)
 
-abbrev pub ReadsOr : ℕ → Lexemes → Condition Name → Type 0
+abbrev pub ReadsOr : ℕ → Lexemes → Condition ColumnName → Type 0
 ReadsOr depth = OrOf (ReadsNot depth)
 
 -- WHERE or
-pub data ReadsWhere : Lexemes → Condition Name → Type 0 where
-  filter : {ts : Lexemes} {x : Condition Name} → ReadsOr max_depth ts x → ReadsWhere (keyword K.Where ∷ ts) x
+pub data ReadsWhere : Lexemes → Condition ColumnName → Type 0 where
+  filter : {ts : Lexemes} {x : Condition ColumnName} → ReadsOr max_depth ts x → ReadsWhere (keyword K.Where ∷ ts) x
 
 -- ---- the parts of statements
 
 -- an aggregate of a column
-abbrev pub call : Keyword → Lexeme → Lexemes
-call f inside = keyword f ∷ sign LeftParenthesis ∷ inside ∷ sign RightParenthesis ∷ []
+abbrev pub call : Keyword → Lexemes → Lexemes
+call f inside = keyword f ∷ sign LeftParenthesis ∷ inside ++ sign RightParenthesis ∷ []
 
 -- item = column | COUNT(*) | COUNT(column) | SUM(column) | MIN(column) | MAX(column)
-pub data ReadsItem : Lexemes → Item Name → Type 0 where
-  column_item : (bytes : Name) → ReadsItem (identifier bytes ∷ []) (shown.Column bytes)
-  count_rows : ReadsItem (call K.Count (sign Star)) shown.CountRows
-  count_item : (bytes : Name) → ReadsItem (call K.Count (identifier bytes)) (shown.Count bytes)
-  sum_item : (bytes : Name) → ReadsItem (call K.Sum (identifier bytes)) (shown.Sum bytes)
-  min_item : (bytes : Name) → ReadsItem (call K.Min (identifier bytes)) (shown.Min bytes)
-  max_item : (bytes : Name) → ReadsItem (call K.Max (identifier bytes)) (shown.Max bytes)
+pub data ReadsItem : Lexemes → Item ColumnName → Type 0 where
+  column_item : {ts : Lexemes} {c : ColumnName} → ReadsColumn ts c → ReadsItem ts (shown.Column c)
+  count_rows : ReadsItem (call K.Count (sign Star ∷ [])) shown.CountRows
+  count_item : {ts : Lexemes} {c : ColumnName} → ReadsColumn ts c → ReadsItem (call K.Count ts) (shown.Count c)
+  sum_item : {ts : Lexemes} {c : ColumnName} → ReadsColumn ts c → ReadsItem (call K.Sum ts) (shown.Sum c)
+  min_item : {ts : Lexemes} {c : ColumnName} → ReadsColumn ts c → ReadsItem (call K.Min ts) (shown.Min c)
+  max_item : {ts : Lexemes} {c : ColumnName} → ReadsColumn ts c → ReadsItem (call K.Max ts) (shown.Max c)
 
 -- * | item,..
 pub data ReadsList : Lexemes → SelectList → Type 0 where
   star : ReadsList (sign Star ∷ []) All
-  listed : {ts : Lexemes} {xs : List (Item Name)} → Listed ReadsItem ts xs → ReadsList ts (Items xs)
+  listed : {ts : Lexemes} {xs : List (Item ColumnName)} → Listed ReadsItem ts xs → ReadsList ts (Items xs)
 
 -- key = column [ASC | DESC]
-pub data ReadsKey : Lexemes → Key Name → Type 0 where
-  plain_key : (bytes : Name) → ReadsKey (identifier bytes ∷ []) (record { column = bytes; descending = false })
-  ascending_key : (bytes : Name) → ReadsKey (identifier bytes ∷ keyword K.Asc ∷ []) (record { column = bytes; descending = false })
-  descending_key : (bytes : Name) → ReadsKey (identifier bytes ∷ keyword K.Desc ∷ []) (record { column = bytes; descending = true })
+pub data ReadsKey : Lexemes → Key ColumnName → Type 0 where
+  plain_key : {ts : Lexemes} {c : ColumnName} → ReadsColumn ts c → ReadsKey ts (record { column = c; descending = false })
+  ascending_key : {ts : Lexemes} {c : ColumnName} → ReadsColumn ts c → ReadsKey (ts ++ keyword K.Asc ∷ []) (record { column = c; descending = false })
+  descending_key : {ts : Lexemes} {c : ColumnName} → ReadsColumn ts c → ReadsKey (ts ++ keyword K.Desc ∷ []) (record { column = c; descending = true })
 
 -- [words x,..], a list that is empty where the clause isn't there
 pub data Clause {A : Type 0} (words : Lexemes) (Item : Lexemes → A → Type 0) : Lexemes → List A → Type 0 where
   without : Clause words Item [] []
   clause : {ts : Lexemes} {xs : List A} → Listed Item ts xs → Clause words Item (words ++ ts) xs
 
-abbrev pub ReadsGroup : Lexemes → List Name → Type 0
-ReadsGroup = Clause (keyword K.Group ∷ keyword K.By ∷ []) ReadsName
+abbrev pub ReadsGroup : Lexemes → List ColumnName → Type 0
+ReadsGroup = Clause (keyword K.Group ∷ keyword K.By ∷ []) ReadsColumn
 
-abbrev pub ReadsOrder : Lexemes → List (Key Name) → Type 0
+abbrev pub ReadsOrder : Lexemes → List (Key ColumnName) → Type 0
 ReadsOrder = Clause (keyword K.Order ∷ keyword K.By ∷ []) ReadsKey
 
 -- LIMIT count [OFFSET count], whose counts are less than 2 ^ 64. Without an OFFSET it is 0.
@@ -166,7 +175,7 @@ pub data ReadsLimit : Lexemes → Limit → Type 0 where
   offset : (n m : ℕ) → n < 2 ^ 64 → m < 2 ^ 64
       → ReadsLimit (keyword K.Limit ∷ number n ∷ keyword K.Offset ∷ number m ∷ []) (record { count = n; offset = m })
 
--- column = literal
+-- name = literal
 pub data ReadsAssignment : Lexemes → Assignment Name → Type 0 where
   assignment : (bytes : Name) {ts : Lexemes} {v : Value} → ReadsLiteral ts v
       → ReadsAssignment (identifier bytes ∷ operator Eq ∷ ts) (record { column = bytes; value = v })
@@ -176,36 +185,44 @@ pub data ReadsCharacterSet : Lexemes → CharacterSet → Type 0 where
   by_identifier : (bytes : List ℕ) → ReadsCharacterSet (identifier bytes ∷ []) (charset.Identifier bytes)
   by_text : (bytes : List ℕ) → ReadsCharacterSet (text bytes ∷ []) (charset.Text bytes)
 
+-- [INNER] JOIN name ON column = column
+pub data ReadsJoin : Lexemes → JoinOn → Type 0 where
+  join : {table : Name} {ts us : Lexemes} {left right : ColumnName} → ReadsColumn ts left → ReadsColumn us right
+      → ReadsJoin (keyword K.Join ∷ identifier table ∷ keyword K.On ∷ ts ++ operator Eq ∷ us) (record { table = table; left = left; right = right })
+  inner_join : {table : Name} {ts us : Lexemes} {left right : ColumnName} → ReadsColumn ts left → ReadsColumn us right
+      → ReadsJoin (keyword K.Inner ∷ keyword K.Join ∷ identifier table ∷ keyword K.On ∷ ts ++ operator Eq ∷ us)
+      (record { table = table; left = left; right = right })
+
 -- ---- statements
 
--- SELECT list FROM name [WHERE or] [GROUP BY column,..] [ORDER BY key,..] [LIMIT count [OFFSET count]]
+-- SELECT list FROM name [[INNER] JOIN name ON column = column] [WHERE or] [GROUP BY column,..] [ORDER BY key,..] [LIMIT count [OFFSET count]]
 pub data ReadsSelect : Lexemes → S.Select → Type 0 where
-  select : {list_tokens filter_tokens group_tokens order_tokens limit_tokens : Lexemes} {list : SelectList} {table : Name} {filter : Option (Condition Name)}
-      {group_by : List Name} {order_by : List (Key Name)} {limit : Option Limit}
-      → ReadsList list_tokens list → Optional ReadsWhere filter_tokens filter → ReadsGroup group_tokens group_by → ReadsOrder order_tokens order_by
-      → Optional ReadsLimit limit_tokens limit
+  select : {list_tokens join_tokens filter_tokens group_tokens order_tokens limit_tokens : Lexemes} {list : SelectList} {table : Name} {join : Option JoinOn}
+      {filter : Option (Condition ColumnName)} {group_by : List ColumnName} {order_by : List (Key ColumnName)} {limit : Option Limit}
+      → ReadsList list_tokens list → Optional ReadsJoin join_tokens join → Optional ReadsWhere filter_tokens filter → ReadsGroup group_tokens group_by
+      → ReadsOrder order_tokens order_by → Optional ReadsLimit limit_tokens limit
       → ReadsSelect
       (keyword K.Select ∷ list_tokens
-      ++ (keyword K.From ∷ identifier table ∷ filter_tokens ++ (group_tokens ++ (order_tokens ++ limit_tokens))))
-      (record { list = list; table = table; filter = filter; group_by = group_by; order_by = order_by; limit = limit })
+      ++ (keyword K.From ∷ identifier table ∷ join_tokens ++ (filter_tokens ++ (group_tokens ++ (order_tokens ++ limit_tokens)))))
+      (record { list = list; table = table; join = join; filter = filter; group_by = group_by; order_by = order_by; limit = limit })
 
--- INSERT INTO name [(column,..)] VALUES (literal,..),..
+-- INSERT INTO name [(name,..)] VALUES (literal,..),..
 pub data ReadsInsert : Lexemes → I.Insert → Type 0 where
   insert : {column_tokens row_tokens : Lexemes} {table : Name} {columns : Option (List Name)} {rows : List (List Value)}
       → Optional (Bracketed ReadsName) column_tokens columns → Listed (Bracketed ReadsLiteral) row_tokens rows
       → ReadsInsert (keyword K.Insert ∷ keyword K.Into ∷ identifier table ∷ column_tokens ++ (keyword K.Values ∷ row_tokens))
       (record { table = table; columns = columns; rows = rows })
 
--- UPDATE name SET column = literal,.. [WHERE or]
+-- UPDATE name SET name = literal,.. [WHERE or]
 pub data ReadsUpdate : Lexemes → U.Update → Type 0 where
-  update : {assignment_tokens filter_tokens : Lexemes} {table : Name} {assignments : List (Assignment Name)} {filter : Option (Condition Name)}
+  update : {assignment_tokens filter_tokens : Lexemes} {table : Name} {assignments : List (Assignment Name)} {filter : Option (Condition ColumnName)}
       → Listed ReadsAssignment assignment_tokens assignments → Optional ReadsWhere filter_tokens filter
       → ReadsUpdate (keyword K.Update ∷ identifier table ∷ keyword K.Set ∷ assignment_tokens ++ filter_tokens)
       (record { table = table; assignments = assignments; filter = filter })
 
 -- DELETE FROM name [WHERE or]
 pub data ReadsDelete : Lexemes → D.Delete → Type 0 where
-  delete : {filter_tokens : Lexemes} {table : Name} {filter : Option (Condition Name)} → Optional ReadsWhere filter_tokens filter
+  delete : {filter_tokens : Lexemes} {table : Name} {filter : Option (Condition ColumnName)} → Optional ReadsWhere filter_tokens filter
       → ReadsDelete (keyword K.Delete ∷ keyword K.From ∷ identifier table ∷ filter_tokens) (record { table = table; filter = filter })
 
 -- what clients set to a character set or to a collation beside SET NAMES
@@ -235,6 +252,7 @@ pub data ReadsText : Lexemes → Statement → Type 0 where
   statement : {ts : Lexemes} {s : Statement} → ReadsStatement ts s → ReadsText ts s
   semicolon : {ts : Lexemes} {s : Statement} → ReadsStatement ts s → ReadsText (ts ++ sign Semicolon ∷ []) s
 
--- the tokens of the text stand for this statement, which has no more literals than it may
+-- The tokens of the text stand for this statement, which has no more literals than it may, and names tables before columns in a SELECT alone.
 abbrev pub Reads : List ℕ → Statement → Type 0
-Reads bytes s = (tokens : List Token) × Lexes bytes tokens × ReadsText (lexemes_of bytes tokens) s × (literals_of s ≤ max_literals)
+Reads bytes s =
+    (tokens : List Token) × Lexes bytes tokens × ReadsText (lexemes_of bytes tokens) s × (literals_of s ≤ max_literals) × (qualifies_outside_select s ≡ false)

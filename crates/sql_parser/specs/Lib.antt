@@ -1,2 +1,3 @@
+pub mod Qualifiers
 pub mod Grammar
 pub mod inner

@@ -1,15 +1,16 @@
-//! The clauses behind a table's name.
+//! FROM, the second table, and the clauses behind the tables' names.
 ghost use Rattle.std.specs.Prelude.{◌≡◌, ℕ, List};
 ghost use Rattle.sql_lexer.specs.Lexemes.{lexemes_of};
 ghost use Rattle.sql_lexer.specs.inner.Results.{AgreesWith};
-ghost use Rattle.sql_parser.specs.inner.Reading.{listed_at, from_at, where_at, group_at, direction_at, sort_key_at, order_at};
-ghost use Rattle.sql_parser.specs.inner.Reading.{offset_at, limit_at};
+ghost use Rattle.sql_parser.specs.inner.Reading.{listed_at, from_at, on_at, joined_on_at, join_at, where_at, group_at};
+ghost use Rattle.sql_parser.specs.inner.Reading.{direction_at, sort_key_at, order_at, offset_at, limit_at};
 
 use crate::conditions::or;
-use crate::kinds::{ASC, BY, DESC, FROM, GROUP, LIMIT, OFFSET, ORDER, WHERE};
-use crate::names::{after_comma, name, names, number};
+use crate::kinds::{ASC, BY, DESC, FROM, GROUP, INNER, JOIN, LIMIT, OFFSET, ON, ORDER, WHERE};
+use crate::names::{after_comma, column, columns, name, number};
+use crate::writes::equals;
 use sql_lexer::Token;
-use sql_tree::{Condition, Key, Limit, Name};
+use sql_tree::{ColumnName, Condition, JoinOn, Key, Limit, Name};
 use std::alloc::Global;
 use vt_value::{Items, Refusal};
 
@@ -31,13 +32,67 @@ pub fn from<'s>(
     }
 }
 
+/// What stands behind ON.
+#[tactic(auto, unfolding(crate::specs::inner::Reading::on_at))]
+fn on(tokens: &[Token]) -> Result<&[Token], Refusal>
+    ensures { (text : List ℕ) → AgreesWith (λ x. lexemes_of text x.now) result (on_at (lexemes_of text tokens.now)) }
+{
+    match tokens {
+        [Token { kind: ON, .. }, rest @ ..] => Ok(rest),
+        _ => Err(Refusal::SyntaxError),
+    }
+}
+
+/// name ON column = column, behind JOIN
+#[tactic(auto, unfolding(crate::specs::inner::Reading::joined_on_at))]
+fn joined_on<'s>(
+    alloc: Global,
+    text: &[u8],
+    tokens: &'s [Token],
+) -> Result<(JoinOn, &'s [Token]), Refusal>
+    ensures { AgreesWith (λ x. (x.0, lexemes_of text.now x.1.now)) result (joined_on_at (lexemes_of text.now tokens.now)) }
+{
+    let (table, rest) = name(alloc, text, tokens)?;
+    let rest = on(rest)?;
+    let (left, rest) = column(alloc, text, rest)?;
+    let rest = equals(rest)?;
+    let (right, rest) = column(alloc, text, rest)?;
+    Ok((JoinOn { table, left, right }, rest))
+}
+
+/// [[INNER] JOIN name ON column = column]
+#[tactic(auto, unfolding(crate::specs::inner::Reading::join_at))]
+pub fn join<'s>(
+    alloc: Global,
+    text: &[u8],
+    tokens: &'s [Token],
+) -> Result<(Option<JoinOn>, &'s [Token]), Refusal>
+    ensures { AgreesWith (λ x. (x.0, lexemes_of text.now x.1.now)) result (join_at (lexemes_of text.now tokens.now)) }
+{
+    match tokens {
+        [Token { kind: JOIN, .. }, rest @ ..] => {
+            let (join, rest) = joined_on(alloc, text, rest)?;
+            Ok((Some(join), rest))
+        }
+        [
+            Token { kind: INNER, .. },
+            Token { kind: JOIN, .. },
+            rest @ ..,
+        ] => {
+            let (join, rest) = joined_on(alloc, text, rest)?;
+            Ok((Some(join), rest))
+        }
+        _ => Ok((None, tokens)),
+    }
+}
+
 /// [WHERE or]
 #[tactic(auto, unfolding(crate::specs::inner::Reading::where_at))]
 pub fn filter<'s>(
     alloc: Global,
     text: &[u8],
     tokens: &'s [Token],
-) -> Result<(Option<Condition<Name>>, &'s [Token]), Refusal>
+) -> Result<(Option<Condition<ColumnName>>, &'s [Token]), Refusal>
     ensures { AgreesWith (λ x. (x.0, lexemes_of text.now x.1.now)) result (where_at (lexemes_of text.now tokens.now)) }
 {
     match tokens {
@@ -55,11 +110,13 @@ pub fn group<'s>(
     alloc: Global,
     text: &[u8],
     tokens: &'s [Token],
-) -> Result<(Items<Name>, &'s [Token]), Refusal>
+) -> Result<(Items<ColumnName>, &'s [Token]), Refusal>
     ensures { AgreesWith (λ x. (x.0, lexemes_of text.now x.1.now)) result (group_at (lexemes_of text.now tokens.now)) }
 {
     match tokens {
-        [Token { kind: GROUP, .. }, Token { kind: BY, .. }, rest @ ..] => names(alloc, text, rest),
+        [Token { kind: GROUP, .. }, Token { kind: BY, .. }, rest @ ..] => columns(
+            alloc, text, rest,
+        ),
         _ => Ok((Items::new(alloc), tokens)),
     }
 }
@@ -83,10 +140,10 @@ fn key<'s>(
     alloc: Global,
     text: &[u8],
     tokens: &'s [Token],
-) -> Result<(Key<Name>, &'s [Token]), Refusal>
+) -> Result<(Key<ColumnName>, &'s [Token]), Refusal>
     ensures { AgreesWith (λ x. (x.0, lexemes_of text.now x.1.now)) result (sort_key_at (lexemes_of text.now tokens.now)) }
 {
-    let (column, rest) = name(alloc, text, tokens)?;
+    let (column, rest) = column(alloc, text, tokens)?;
     let (descending, rest) = direction(rest);
     Ok((Key { column, descending }, rest))
 }
@@ -96,7 +153,7 @@ fn keys<'s>(
     alloc: Global,
     text: &[u8],
     tokens: &'s [Token],
-) -> Result<(Items<Key<Name>>, &'s [Token]), Refusal>
+) -> Result<(Items<Key<ColumnName>>, &'s [Token]), Refusal>
     ensures { AgreesWith (λ x. (x.0, lexemes_of text.now x.1.now)) result
         (listed_at sort_key_at (lexemes_of text.now tokens.now)) }
 {
@@ -117,7 +174,7 @@ pub fn order<'s>(
     alloc: Global,
     text: &[u8],
     tokens: &'s [Token],
-) -> Result<(Items<Key<Name>>, &'s [Token]), Refusal>
+) -> Result<(Items<Key<ColumnName>>, &'s [Token]), Refusal>
     ensures { AgreesWith (λ x. (x.0, lexemes_of text.now x.1.now)) result (order_at (lexemes_of text.now tokens.now)) }
 {
     match tokens {

@@ -9,7 +9,7 @@ ghost use Rattle.sql_parser.specs.inner.Reading.{predicate_at, negation_at, not_
 use crate::kinds::{AND, IN, IS, NOT, NULL, OPEN, OR};
 use crate::literals::{closed, members, operand};
 use sql_lexer::{Token, TokenKind};
-use sql_tree::{Condition, Name, Operand};
+use sql_tree::{ColumnName, Condition, Operand};
 use std::alloc::Global;
 use vt_value::{Boxed, Items, Refusal};
 
@@ -38,9 +38,9 @@ fn after_or(tokens: &[Token]) -> Option<&[Token]>
 fn in_list<'s>(
     alloc: Global,
     text: &[u8],
-    left: Operand<Name>,
+    left: Operand<ColumnName>,
     tokens: &'s [Token],
-) -> Result<(Condition<Name>, &'s [Token]), Refusal>
+) -> Result<(Condition<ColumnName>, &'s [Token]), Refusal>
     ensures { AgreesWith (λ x. (x.0, lexemes_of text.now x.1.now)) result (in_at left (lexemes_of text.now tokens.now)) }
 {
     match tokens {
@@ -54,7 +54,10 @@ fn in_list<'s>(
 
 /// NULL, behind an operand and IS.
 #[tactic(auto, unfolding(crate::specs::inner::Reading::null_at))]
-fn null(left: Operand<Name>, tokens: &[Token]) -> Result<(Condition<Name>, &[Token]), Refusal>
+fn null(
+    left: Operand<ColumnName>,
+    tokens: &[Token],
+) -> Result<(Condition<ColumnName>, &[Token]), Refusal>
     ensures { (text : List ℕ)
         → AgreesWith (λ x. (x.0, lexemes_of text x.1.now)) result (null_at left (lexemes_of text tokens.now)) }
 {
@@ -69,9 +72,9 @@ fn null(left: Operand<Name>, tokens: &[Token]) -> Result<(Condition<Name>, &[Tok
 fn is<'s>(
     alloc: Global,
     may_negate: bool,
-    left: Operand<Name>,
+    left: Operand<ColumnName>,
     tokens: &'s [Token],
-) -> Result<(Condition<Name>, &'s [Token]), Refusal>
+) -> Result<(Condition<ColumnName>, &'s [Token]), Refusal>
     ensures { (text : List ℕ)
         → AgreesWith (λ x. (x.0, lexemes_of text x.1.now)) result (is_at may_negate left (lexemes_of text tokens.now)) }
 {
@@ -90,9 +93,9 @@ fn test<'s>(
     alloc: Global,
     text: &[u8],
     may_negate: bool,
-    left: Operand<Name>,
+    left: Operand<ColumnName>,
     tokens: &'s [Token],
-) -> Result<(Condition<Name>, &'s [Token]), Refusal>
+) -> Result<(Condition<ColumnName>, &'s [Token]), Refusal>
     ensures { AgreesWith (λ x. (x.0, lexemes_of text.now x.1.now)) result
         (test_at may_negate left (lexemes_of text.now tokens.now)) }
 {
@@ -123,7 +126,7 @@ fn predicate<'s>(
     text: &[u8],
     may_negate: bool,
     tokens: &'s [Token],
-) -> Result<(Condition<Name>, &'s [Token]), Refusal>
+) -> Result<(Condition<ColumnName>, &'s [Token]), Refusal>
     ensures { AgreesWith (λ x. (x.0, lexemes_of text.now x.1.now)) result
         (predicate_at may_negate (lexemes_of text.now tokens.now)) }
 {
@@ -139,7 +142,7 @@ fn not<'s>(
     text: &[u8],
     depth: usize,
     tokens: &'s [Token],
-) -> Result<(Condition<Name>, &'s [Token]), Refusal>
+) -> Result<(Condition<ColumnName>, &'s [Token]), Refusal>
     ensures { AgreesWith (λ x. (x.0, lexemes_of text.now x.1.now)) result (not_at depth (lexemes_of text.now tokens.now)) }
 {
     if depth == 0 {
@@ -157,7 +160,7 @@ fn negation<'s>(
     text: &[u8],
     deeper: usize,
     tokens: &'s [Token],
-) -> Result<(Condition<Name>, &'s [Token]), Refusal>
+) -> Result<(Condition<ColumnName>, &'s [Token]), Refusal>
     ensures { AgreesWith (λ x. (x.0, lexemes_of text.now x.1.now)) result
         (negation_at (not_at deeper) (lexemes_of text.now tokens.now)) }
 {
@@ -180,9 +183,9 @@ fn ands<'s>(
     alloc: Global,
     text: &[u8],
     depth: usize,
-    first: Condition<Name>,
+    first: Condition<ColumnName>,
     tokens: &'s [Token],
-) -> Result<(Items<Condition<Name>>, &'s [Token]), Refusal>
+) -> Result<(Items<Condition<ColumnName>>, &'s [Token]), Refusal>
     ensures { AgreesWith (λ x. (x.0, lexemes_of text.now x.1.now)) result
         (all_follow is_and (not_at depth) (first ∷ []) (lexemes_of text.now tokens.now)) }
 {
@@ -205,7 +208,7 @@ fn and<'s>(
     text: &[u8],
     depth: usize,
     tokens: &'s [Token],
-) -> Result<(Condition<Name>, &'s [Token]), Refusal>
+) -> Result<(Condition<ColumnName>, &'s [Token]), Refusal>
     ensures { AgreesWith (λ x. (x.0, lexemes_of text.now x.1.now)) result (and_at depth (lexemes_of text.now tokens.now)) }
 {
     let (first, rest) = not(alloc, text, depth, tokens)?;
@@ -222,9 +225,9 @@ fn ors<'s>(
     alloc: Global,
     text: &[u8],
     depth: usize,
-    first: Condition<Name>,
+    first: Condition<ColumnName>,
     tokens: &'s [Token],
-) -> Result<(Items<Condition<Name>>, &'s [Token]), Refusal>
+) -> Result<(Items<Condition<ColumnName>>, &'s [Token]), Refusal>
     ensures { AgreesWith (λ x. (x.0, lexemes_of text.now x.1.now)) result
         (all_follow is_or (and_at depth) (first ∷ []) (lexemes_of text.now tokens.now)) }
 {
@@ -247,7 +250,7 @@ pub fn or<'s>(
     text: &[u8],
     depth: usize,
     tokens: &'s [Token],
-) -> Result<(Condition<Name>, &'s [Token]), Refusal>
+) -> Result<(Condition<ColumnName>, &'s [Token]), Refusal>
     ensures { AgreesWith (λ x. (x.0, lexemes_of text.now x.1.now)) result (or_at depth (lexemes_of text.now tokens.now)) }
 {
     let (first, rest) = and(alloc, text, depth, tokens)?;

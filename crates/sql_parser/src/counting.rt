@@ -3,13 +3,13 @@ ghost use Rattle.std.specs.Prelude.{◌≡◌, ◌-◌, nat_le, length, map, sum
 ghost use Rattle.sql_tree.specs.Literals.{operand_literals, condition_literals, filter_literals, literals_of};
 ghost use Rattle.sql_parser.specs.Grammar.{max_literals};
 
-use sql_tree::{Condition, Name, Operand, Statement};
+use sql_tree::{ColumnName, Condition, Operand, Statement};
 use vt_value::{Items, Value};
 
 /// How many literals a statement may have.
 const MAX_LITERALS: usize = 4096;
 
-fn left_after_operand(operand: &Operand<Name>, left: usize) -> usize
+fn left_after_operand(operand: &Operand<ColumnName>, left: usize) -> usize
     ensures { result ≡ left - operand_literals operand.now }
 {
     match operand {
@@ -20,7 +20,7 @@ fn left_after_operand(operand: &Operand<Name>, left: usize) -> usize
 
 /// What is left of an allowance of literals after those of a condition.
 #[cycle(literals)]
-fn left_after(condition: &Condition<Name>, left: usize) -> usize
+fn left_after(condition: &Condition<ColumnName>, left: usize) -> usize
     ensures { result ≡ left - condition_literals condition.now }
 {
     match condition {
@@ -34,7 +34,7 @@ fn left_after(condition: &Condition<Name>, left: usize) -> usize
 }
 
 #[cycle(literals)]
-fn left_after_all(members: &[Condition<Name>], left: usize) -> usize
+fn left_after_all(members: &[Condition<ColumnName>], left: usize) -> usize
     ensures { result ≡ left - sum (map condition_literals members.now) }
 {
     let mut left = left;
@@ -44,7 +44,7 @@ fn left_after_all(members: &[Condition<Name>], left: usize) -> usize
     left
 }
 
-fn left_after_filter(filter: &Option<Condition<Name>>, left: usize) -> usize
+fn left_after_filter(filter: &Option<Condition<ColumnName>>, left: usize) -> usize
     ensures { result ≡ left - filter_literals filter.now }
 {
     match filter {

@@ -6,9 +6,9 @@ ghost use Rattle.sql_parser.specs.inner.Reading.{listed_at, argument_at, count_a
 
 use crate::kinds::{CLOSE, COUNT, MAX, MIN, OPEN, STAR, SUM};
 use crate::literals::{closed, open};
-use crate::names::{after_comma, name};
+use crate::names::{after_comma, column};
 use sql_lexer::Token;
-use sql_tree::{Item, Name, SelectList};
+use sql_tree::{ColumnName, Item, SelectList};
 use std::alloc::Global;
 use vt_value::{Items, Refusal};
 
@@ -18,11 +18,11 @@ fn argument<'s>(
     alloc: Global,
     text: &[u8],
     tokens: &'s [Token],
-) -> Result<(Name, &'s [Token]), Refusal>
+) -> Result<(ColumnName, &'s [Token]), Refusal>
     ensures { AgreesWith (λ x. (x.0, lexemes_of text.now x.1.now)) result (argument_at (lexemes_of text.now tokens.now)) }
 {
     let rest = open(tokens)?;
-    let (column, rest) = name(alloc, text, rest)?;
+    let (column, rest) = column(alloc, text, rest)?;
     closed(column, rest)
 }
 
@@ -32,7 +32,7 @@ fn count<'s>(
     alloc: Global,
     text: &[u8],
     tokens: &'s [Token],
-) -> Result<(Item<Name>, &'s [Token]), Refusal>
+) -> Result<(Item<ColumnName>, &'s [Token]), Refusal>
     ensures { AgreesWith (λ x. (x.0, lexemes_of text.now x.1.now)) result (count_at (lexemes_of text.now tokens.now)) }
 {
     match tokens {
@@ -55,7 +55,7 @@ fn item<'s>(
     alloc: Global,
     text: &[u8],
     tokens: &'s [Token],
-) -> Result<(Item<Name>, &'s [Token]), Refusal>
+) -> Result<(Item<ColumnName>, &'s [Token]), Refusal>
     ensures { AgreesWith (λ x. (x.0, lexemes_of text.now x.1.now)) result (item_at (lexemes_of text.now tokens.now)) }
 {
     match tokens {
@@ -73,7 +73,7 @@ fn item<'s>(
             Ok((Item::Max(column), rest))
         }
         _ => {
-            let (column, rest) = name(alloc, text, tokens)?;
+            let (column, rest) = column(alloc, text, tokens)?;
             Ok((Item::Column(column), rest))
         }
     }
@@ -84,7 +84,7 @@ fn items<'s>(
     alloc: Global,
     text: &[u8],
     tokens: &'s [Token],
-) -> Result<(Items<Item<Name>>, &'s [Token]), Refusal>
+) -> Result<(Items<Item<ColumnName>>, &'s [Token]), Refusal>
     ensures { AgreesWith (λ x. (x.0, lexemes_of text.now x.1.now)) result
         (listed_at item_at (lexemes_of text.now tokens.now)) }
 {

@@ -22,6 +22,8 @@ pub const DELETE: TokenKind = TokenKind::Keyword(Keyword::Delete);
 
 pub const DESC: TokenKind = TokenKind::Keyword(Keyword::Desc);
 
+pub const DOT: TokenKind = TokenKind::Sign(Sign::Dot);
+
 pub const EQUAL: TokenKind = TokenKind::Operator(Comparison::Eq);
 
 pub const FROM: TokenKind = TokenKind::Keyword(Keyword::From);
@@ -30,11 +32,15 @@ pub const GROUP: TokenKind = TokenKind::Keyword(Keyword::Group);
 
 pub const IN: TokenKind = TokenKind::Keyword(Keyword::In);
 
+pub const INNER: TokenKind = TokenKind::Keyword(Keyword::Inner);
+
 pub const INSERT: TokenKind = TokenKind::Keyword(Keyword::Insert);
 
 pub const INTO: TokenKind = TokenKind::Keyword(Keyword::Into);
 
 pub const IS: TokenKind = TokenKind::Keyword(Keyword::Is);
+
+pub const JOIN: TokenKind = TokenKind::Keyword(Keyword::Join);
 
 pub const LIMIT: TokenKind = TokenKind::Keyword(Keyword::Limit);
 
@@ -51,6 +57,8 @@ pub const NOT: TokenKind = TokenKind::Keyword(Keyword::Not);
 pub const NULL: TokenKind = TokenKind::Keyword(Keyword::Null);
 
 pub const OFFSET: TokenKind = TokenKind::Keyword(Keyword::Offset);
+
+pub const ON: TokenKind = TokenKind::Keyword(Keyword::On);
 
 pub const OPEN: TokenKind = TokenKind::Sign(Sign::LeftParenthesis);
 

@@ -6,10 +6,10 @@ ghost use Rattle.sql_parser.specs.inner.Reading.{listed_at, close_at, open_at, n
 ghost use Rattle.sql_parser.specs.inner.Reading.{operand_at, members_at};
 
 use crate::kinds::{CLOSE, MINUS, NULL, OPEN};
-use crate::names::{after_comma, number};
+use crate::names::{after_comma, behind_name, number};
 use crate::said;
 use sql_lexer::{Token, TokenKind};
-use sql_tree::{Name, Operand};
+use sql_tree::{ColumnName, Operand};
 use std::alloc::Global;
 use vt_value::{Items, Refusal, Value};
 
@@ -133,14 +133,18 @@ pub fn operand<'s>(
     alloc: Global,
     text: &[u8],
     tokens: &'s [Token],
-) -> Result<(Operand<Name>, &'s [Token]), Refusal>
+) -> Result<(Operand<ColumnName>, &'s [Token]), Refusal>
     ensures { AgreesWith (λ x. (x.0, lexemes_of text.now x.1.now)) result (operand_at (lexemes_of text.now tokens.now)) }
 {
     let [first, rest @ ..] = tokens else {
         return Err(Refusal::SyntaxError);
     };
     match said::identifier(text, first) {
-        Some(bytes) => Ok((Operand::Column(Items::from_slice(alloc, bytes)?), rest)),
+        Some(bytes) => {
+            let name = Items::from_slice(alloc, bytes)?;
+            let (column, rest) = behind_name(alloc, text, name, rest)?;
+            Ok((Operand::Column(column), rest))
+        }
         None => {
             let (value, rest) = literal(alloc, text, tokens)?;
             Ok((Operand::Literal(value), rest))

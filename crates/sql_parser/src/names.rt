@@ -1,14 +1,15 @@
-//! Names, numbers, and what stands between the items of a list.
+//! Names, columns, numbers, and what stands between the items of a list.
 ghost use Rattle.std.specs.Prelude.{◌≡◌, ℕ, List, option_map};
 ghost use Rattle.std.specs.Option.{option_copied};
 ghost use Rattle.sql_lexer.specs.Lexemes.{lexemes_of};
 ghost use Rattle.sql_lexer.specs.inner.Results.{AgreesWith};
-ghost use Rattle.sql_parser.specs.inner.Reading.{is_comma, after_at, listed_at, name_at, number_at};
+ghost use Rattle.sql_parser.specs.inner.Reading.{is_comma, after_at, listed_at, name_at, behind_name_at, column_at};
+ghost use Rattle.sql_parser.specs.inner.Reading.{number_at};
 
-use crate::kinds::COMMA;
+use crate::kinds::{COMMA, DOT};
 use crate::said;
 use sql_lexer::Token;
-use sql_tree::Name;
+use sql_tree::{ColumnName, Name};
 use std::alloc::Global;
 use vt_value::{Items, Refusal};
 
@@ -39,6 +40,65 @@ pub fn name<'s>(
         return Err(Refusal::SyntaxError);
     };
     Ok((Items::from_slice(alloc, bytes)?, rest))
+}
+
+/// The column that begins with a name: that name, or the one behind a dot.
+#[tactic(auto, unfolding(crate::specs::inner::Reading::behind_name_at))]
+pub fn behind_name<'s>(
+    alloc: Global,
+    text: &[u8],
+    first: Name,
+    tokens: &'s [Token],
+) -> Result<(ColumnName, &'s [Token]), Refusal>
+    ensures { AgreesWith (λ x. (x.0, lexemes_of text.now x.1.now)) result (behind_name_at first (lexemes_of text.now tokens.now)) }
+{
+    match tokens {
+        [Token { kind: DOT, .. }, rest @ ..] => {
+            let (name, rest) = name(alloc, text, rest)?;
+            let table = Some(first);
+            Ok((ColumnName { table, name }, rest))
+        }
+        _ => {
+            let column = ColumnName {
+                table: None,
+                name: first,
+            };
+            Ok((column, tokens))
+        }
+    }
+}
+
+/// column = identifier | identifier . identifier
+#[tactic(auto, unfolding(crate::specs::inner::Reading::column_at))]
+pub fn column<'s>(
+    alloc: Global,
+    text: &[u8],
+    tokens: &'s [Token],
+) -> Result<(ColumnName, &'s [Token]), Refusal>
+    ensures { AgreesWith (λ x. (x.0, lexemes_of text.now x.1.now)) result (column_at (lexemes_of text.now tokens.now)) }
+{
+    let (first, rest) = name(alloc, text, tokens)?;
+    behind_name(alloc, text, first, rest)
+}
+
+/// column,..
+pub fn columns<'s>(
+    alloc: Global,
+    text: &[u8],
+    tokens: &'s [Token],
+) -> Result<(Items<ColumnName>, &'s [Token]), Refusal>
+    ensures { AgreesWith (λ x. (x.0, lexemes_of text.now x.1.now)) result
+        (listed_at column_at (lexemes_of text.now tokens.now)) }
+{
+    let (first, mut rest) = column(alloc, text, tokens)?;
+    let mut columns = Items::new(alloc);
+    columns.push(first)?;
+    while let Some(after) = after_comma(rest) {
+        let (next, after) = column(alloc, text, after)?;
+        columns.push(next)?;
+        rest = after;
+    }
+    Ok((columns, rest))
 }
 
 /// A number that 64 bits hold.

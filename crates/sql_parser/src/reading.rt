@@ -7,7 +7,7 @@ ghost use Rattle.sql_tree.specs.Printing.{printed};
 ghost use Rattle.sql_parser.specs.Grammar.{Reads, is_setting};
 ghost use Rattle.sql_parser.specs.inner.Reading.{select_at, charset_at, setting_at, control_at, statement_at, is_end, is_text, text_at};
 
-use crate::clauses::{filter, from, group, limit, order};
+use crate::clauses::{filter, from, group, join, limit, order};
 use crate::counting::has_few_literals;
 use crate::items::list;
 use crate::kinds::{
@@ -15,6 +15,7 @@ use crate::kinds::{
     TRANSACTION, UPDATE,
 };
 use crate::names::name;
+use crate::qualifiers::qualifies_outside_select;
 use crate::said;
 use crate::writes::{delete, equals, insert, update};
 use sql_lexer::{Token, TokenKind, lex};
@@ -45,14 +46,16 @@ fn select<'s>(
 {
     let (list, rest) = list(alloc, text, tokens)?;
     let (parts, rest) = both(list, from(alloc, text, rest))?;
+    let (parts, rest) = both(parts, join(alloc, text, rest))?;
     let (parts, rest) = both(parts, filter(alloc, text, rest))?;
     let (parts, rest) = both(parts, group(alloc, text, rest))?;
     let (parts, rest) = both(parts, order(alloc, text, rest))?;
     let (parts, rest) = both(parts, limit(text, rest))?;
-    let (((((list, table), filter), group_by), order_by), limit) = parts;
+    let ((((((list, table), join), filter), group_by), order_by), limit) = parts;
     let select = Select {
         list,
         table,
+        join,
         filter,
         group_by,
         order_by,
@@ -208,11 +211,12 @@ fn is_end(tokens: &[Token]) -> bool
     }
 }
 
-/// Whether a statement with this behind it is a whole text, and within the limit on literals.
+/// Whether a statement with this behind it is a whole text, within the limit on literals, and with qualified columns in a
+/// SELECT alone.
 fn is_text(statement: &Statement, rest: &[Token]) -> bool
     ensures { (text : List ℕ) → result ≡ is_text (statement.now, lexemes_of text rest.now) }
 {
-    is_end(rest) && has_few_literals(statement)
+    is_end(rest) && has_few_literals(statement) && !qualifies_outside_select(statement)
 }
 
 /// The statement that all of the tokens are.
@@ -230,10 +234,11 @@ fn whole(alloc: Global, text: &[u8], tokens: &[Token]) -> Result<Statement, Refu
 // has none
 // Refuses: chained_comparison_parses, second_semicolon_parses, keyword_is_an_identifier, depth_of_65_taken, literal_4097_taken,
 // too_large_number_taken, sign_of_a_number_lost, not_of_an_in_lost, descending_key_ascends, escaped_quote_lost, last_column_dropped,
-// where_reads_as_unequal, any_name_is_a_setting
+// where_reads_as_unequal, any_name_is_a_setting, qualified_column_in_update_is_taken, qualifier_lost, inner_without_join_is_taken,
+// sides_of_on_swapped
 /// The tree of a text, which is one statement of the grammar with at most one semicolon behind it. Any other text is a
 /// syntax error, and so is one that passes a limit: 64 open parentheses and NOTs on one path of a condition, 4096
-/// literals, numbers from -2^63 to 2^64 - 1.
+/// literals, numbers from -2^63 to 2^64 - 1. So is an UPDATE or a DELETE that has a column behind the name of a table.
 pub fn parse(alloc: Global, text: &[u8]) -> Result<Statement, Refusal>
     // What is given is the text's tree.
     ensures found { IfOk result (λ tree. Reads text.now tree) }

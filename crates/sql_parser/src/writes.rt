@@ -50,7 +50,7 @@ pub fn equals(tokens: &[Token]) -> Result<&[Token], Refusal>
     }
 }
 
-/// (column,..)
+/// (name,..)
 #[tactic(auto, unfolding(crate::specs::inner::Reading::bracketed_at))]
 fn bracketed_names<'s>(
     alloc: Global,
@@ -65,7 +65,7 @@ fn bracketed_names<'s>(
     closed(names, rest)
 }
 
-/// [(column,..)]
+/// [(name,..)]
 #[tactic(auto, unfolding(crate::specs::inner::Reading::columns_at))]
 fn columns<'s>(
     alloc: Global,
@@ -103,7 +103,7 @@ fn rows<'s>(
     Ok((rows, rest))
 }
 
-/// name [(column,..)] VALUES (literal,..),.., behind INSERT INTO.
+/// name [(name,..)] VALUES (literal,..),.., behind INSERT INTO.
 #[tactic(auto, unfolding(crate::specs::inner::Reading::insert_at))]
 pub fn insert<'s>(
     alloc: Global,
@@ -124,7 +124,7 @@ pub fn insert<'s>(
     Ok((insert, rest))
 }
 
-/// column = literal
+/// name = literal
 #[tactic(auto, unfolding(crate::specs::inner::Reading::assignment_at))]
 fn assignment<'s>(
     alloc: Global,
@@ -139,7 +139,7 @@ fn assignment<'s>(
     Ok((Assignment { column, value }, rest))
 }
 
-/// column = literal,..
+/// name = literal,..
 fn assignments<'s>(
     alloc: Global,
     text: &[u8],
@@ -159,7 +159,7 @@ fn assignments<'s>(
     Ok((assignments, rest))
 }
 
-/// name SET column = literal,.. [WHERE or], behind UPDATE.
+/// name SET name = literal,.. [WHERE or], behind UPDATE.
 #[tactic(auto, unfolding(crate::specs::inner::Reading::update_at))]
 pub fn update<'s>(
     alloc: Global,

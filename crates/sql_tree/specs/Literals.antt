@@ -1,5 +1,6 @@
 -- How many literals a statement has.
 use Rattle.std.specs.Prelude.{ℕ, ◌+◌, List, length, sum, sum_by, Option, Some, None}
+use Rattle.sql_tree.specs.declared.ColumnName.{ColumnName}
 use Rattle.sql_tree.specs.declared.Operand.{Operand}
 use Rattle.sql_tree.specs.declared.Operand.TheVariants as operand
 use Rattle.sql_tree.specs.declared.Condition.{Condition, Condition-F, fold-Condition}
@@ -10,12 +11,12 @@ use Rattle.sql_tree.specs.declared.Statement.TheVariants.{Select, Insert, Update
 abbrev pub Name : Type 0
 Name = List ℕ
 
-abbrev pub operand_literals : Operand Name → ℕ
+abbrev pub operand_literals : Operand ColumnName → ℕ
 operand_literals (operand.Column c) = 0
 operand_literals (operand.Literal v) = 1
 
 -- those of a node, where each member has given its own
-abbrev pub node_literals : Condition-F Name ℕ → ℕ
+abbrev pub node_literals : Condition-F ColumnName ℕ → ℕ
 node_literals (Compare op a b) = operand_literals a + operand_literals b
 node_literals (In a members) = operand_literals a + length members
 node_literals (IsNull a) = operand_literals a
@@ -23,10 +24,10 @@ node_literals (Not n) = n
 node_literals (And ns) = sum ns
 node_literals (Or ns) = sum ns
 
-abbrev pub condition_literals : Condition Name → ℕ
-condition_literals = fold-Condition Name ℕ node_literals
+abbrev pub condition_literals : Condition ColumnName → ℕ
+condition_literals = fold-Condition ColumnName ℕ node_literals
 
-abbrev pub filter_literals : Option (Condition Name) → ℕ
+abbrev pub filter_literals : Option (Condition ColumnName) → ℕ
 filter_literals None = 0
 filter_literals (Some c) = condition_literals c
 

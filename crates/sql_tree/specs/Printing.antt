@@ -5,6 +5,8 @@ use Rattle.std.specs.Fmt.{decimal, signed_decimal}
 use Rattle.vt_value.specs.declared.value.Value.{Value}
 use Rattle.vt_value.specs.declared.value.Value.TheVariants.{Null, Int, Bytes}
 use Rattle.sql_lexer.specs.Lexemes.{is_keyword, operator_text}
+use Rattle.sql_tree.specs.declared.ColumnName.{ColumnName}
+use Rattle.sql_tree.specs.declared.JoinOn.{JoinOn}
 use Rattle.sql_tree.specs.declared.Operand.{Operand}
 use Rattle.sql_tree.specs.declared.Operand.TheVariants as operand
 use Rattle.sql_tree.specs.declared.Condition.{Condition, Condition-F, fold-Condition}
@@ -60,8 +62,16 @@ value_text Null = codes "NULL"
 value_text (Int n) = signed_decimal n
 value_text (Bytes t) = quoted t
 
-abbrev pub operand_text : Operand Name → Text
-operand_text (operand.Column c) = name_text c
+abbrev pub qualifier_text : Option Name → Text
+qualifier_text None = []
+qualifier_text (Some t) = name_text t ++ codes "."
+
+-- a column stands behind its table and a dot where it is qualified
+abbrev pub column_text : ColumnName → Text
+column_text c = qualifier_text c.table ++ name_text c.name
+
+abbrev pub operand_text : Operand ColumnName → Text
+operand_text (operand.Column c) = column_text c
 operand_text (operand.Literal v) = value_text v
 
 -- the text of a condition, and whether it is an AND, an OR or another
@@ -88,7 +98,7 @@ inside_or (an_or t) = bracketed t
 inside_or (other t) = t
 
 -- what is printed for a node, where each member is
-abbrev pub node_printed : Condition-F Name Printed → Printed
+abbrev pub node_printed : Condition-F ColumnName Printed → Printed
 node_printed (Compare op a b) = other (operand_text a ++ codes " " ++ operator_text op ++ codes " " ++ operand_text b)
 node_printed (In a members) = other (operand_text a ++ codes " IN " ++ bracketed (commas (map value_text members)))
 node_printed (IsNull a) = other (operand_text a ++ codes " IS NULL")
@@ -96,30 +106,35 @@ node_printed (Not p) = other (codes "NOT " ++ inside_and p)
 node_printed (And ps) = an_and (joined (codes " AND ") (map inside_and ps))
 node_printed (Or ps) = an_or (joined (codes " OR ") (map inside_or ps))
 
-abbrev pub condition_printed : Condition Name → Printed
-condition_printed = fold-Condition Name Printed node_printed
+abbrev pub condition_printed : Condition ColumnName → Printed
+condition_printed = fold-Condition ColumnName Printed node_printed
 
-abbrev pub condition_text : Condition Name → Text
+abbrev pub condition_text : Condition ColumnName → Text
 condition_text c = text_of (condition_printed c)
 
-abbrev pub filter_text : Option (Condition Name) → Text
+abbrev pub filter_text : Option (Condition ColumnName) → Text
 filter_text None = []
 filter_text (Some c) = codes " WHERE " ++ condition_text c
 
-abbrev pub item_text : Item Name → Text
-item_text (item.Column c) = name_text c
+abbrev pub item_text : Item ColumnName → Text
+item_text (item.Column c) = column_text c
 item_text item.CountRows = codes "COUNT(*)"
-item_text (item.Count c) = codes "COUNT" ++ bracketed (name_text c)
-item_text (item.Sum c) = codes "SUM" ++ bracketed (name_text c)
-item_text (item.Min c) = codes "MIN" ++ bracketed (name_text c)
-item_text (item.Max c) = codes "MAX" ++ bracketed (name_text c)
+item_text (item.Count c) = codes "COUNT" ++ bracketed (column_text c)
+item_text (item.Sum c) = codes "SUM" ++ bracketed (column_text c)
+item_text (item.Min c) = codes "MIN" ++ bracketed (column_text c)
+item_text (item.Max c) = codes "MAX" ++ bracketed (column_text c)
 
 abbrev pub list_text : SelectList → Text
 list_text shown.All = codes "*"
 list_text (shown.Items items) = commas (map item_text items)
 
-abbrev pub key_text : Key Name → Text
-key_text k = name_text k.column ++ (if k.descending then codes " DESC" else [])
+abbrev pub key_text : Key ColumnName → Text
+key_text k = column_text k.column ++ (if k.descending then codes " DESC" else [])
+
+-- the second table, where there is one, and the columns that are equal
+abbrev pub join_text : Option JoinOn → Text
+join_text None = []
+join_text (Some j) = codes " JOIN " ++ name_text j.table ++ codes " ON " ++ column_text j.left ++ codes " = " ++ column_text j.right
 
 -- a clause that is left out where its list is empty
 abbrev pub clause_text : Text → List Text → Text
@@ -146,8 +161,8 @@ row_text row = bracketed (commas (map value_text row))
 
 abbrev pub select_text : S.Select → Text
 select_text s =
-    codes "SELECT " ++ list_text s.list ++ codes " FROM " ++ name_text s.table ++ filter_text s.filter
-    ++ clause_text (codes " GROUP BY ") (map name_text s.group_by) ++ clause_text (codes " ORDER BY ") (map key_text s.order_by) ++ limit_text s.limit
+    codes "SELECT " ++ list_text s.list ++ codes " FROM " ++ name_text s.table ++ join_text s.join ++ filter_text s.filter
+    ++ clause_text (codes " GROUP BY ") (map column_text s.group_by) ++ clause_text (codes " ORDER BY ") (map key_text s.order_by) ++ limit_text s.limit
 
 abbrev pub insert_text : I.Insert → Text
 insert_text s =

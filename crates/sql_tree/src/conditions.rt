@@ -6,14 +6,14 @@ ghost use Rattle.sql_tree.specs.Printing.{inside_and, inside_or};
 
 use crate::lists::put_bracketed;
 use crate::literals::{put, put_operand, put_operator};
-use crate::{Condition, Name, Operand};
+use crate::{ColumnName, Condition, Operand};
 use vt_value::{Comparison, Refusal};
 
 fn put_comparison(
     out: &mut Vec<u8>,
     operator: Comparison,
-    left: &Operand<Name>,
-    right: &Operand<Name>,
+    left: &Operand<ColumnName>,
+    right: &Operand<ColumnName>,
 ) -> Result<(), Refusal>
     ensures ok { OnOk result (out.new.items
         ≡ out.old.items
@@ -29,7 +29,7 @@ fn put_comparison(
 
 /// Puts a condition.
 #[cycle(conditions)]
-pub fn put_condition(out: &mut Vec<u8>, condition: &Condition<Name>) -> Result<(), Refusal>
+pub fn put_condition(out: &mut Vec<u8>, condition: &Condition<ColumnName>) -> Result<(), Refusal>
     ensures ok { OnOk result (out.new.items ≡ out.old.items ++ condition_text condition.now) }
     ensures err { IfErr result (λ e. e ≡ Refusal.OutOfMemory) }
 {
@@ -55,7 +55,7 @@ pub fn put_condition(out: &mut Vec<u8>, condition: &Condition<Name>) -> Result<(
 
 /// A member of an AND, or what stands under NOT: an AND and an OR stand in parentheses.
 #[cycle(conditions)]
-fn put_inside_and(out: &mut Vec<u8>, condition: &Condition<Name>) -> Result<(), Refusal>
+fn put_inside_and(out: &mut Vec<u8>, condition: &Condition<ColumnName>) -> Result<(), Refusal>
     ensures ok { OnOk result (out.new.items ≡ out.old.items ++ inside_and (condition_printed condition.now)) }
     ensures err { IfErr result (λ e. e ≡ Refusal.OutOfMemory) }
 {
@@ -76,7 +76,7 @@ fn put_inside_and(out: &mut Vec<u8>, condition: &Condition<Name>) -> Result<(), 
 
 /// A member of an OR: an OR stands in parentheses.
 #[cycle(conditions)]
-fn put_inside_or(out: &mut Vec<u8>, condition: &Condition<Name>) -> Result<(), Refusal>
+fn put_inside_or(out: &mut Vec<u8>, condition: &Condition<ColumnName>) -> Result<(), Refusal>
     ensures ok { OnOk result (out.new.items ≡ out.old.items ++ inside_or (condition_printed condition.now)) }
     ensures err { IfErr result (λ e. e ≡ Refusal.OutOfMemory) }
 {
@@ -91,7 +91,7 @@ fn put_inside_or(out: &mut Vec<u8>, condition: &Condition<Name>) -> Result<(), R
 }
 
 #[cycle(conditions)]
-fn put_and(out: &mut Vec<u8>, members: &[Condition<Name>]) -> Result<(), Refusal>
+fn put_and(out: &mut Vec<u8>, members: &[Condition<ColumnName>]) -> Result<(), Refusal>
     ensures ok { OnOk result (out.new.items
         ≡ out.old.items ++ joined (codes " AND ") (map inside_and (map condition_printed members.now))) }
     ensures err { IfErr result (λ e. e ≡ Refusal.OutOfMemory) }
@@ -106,7 +106,7 @@ fn put_and(out: &mut Vec<u8>, members: &[Condition<Name>]) -> Result<(), Refusal
 }
 
 #[cycle(conditions)]
-fn put_or(out: &mut Vec<u8>, members: &[Condition<Name>]) -> Result<(), Refusal>
+fn put_or(out: &mut Vec<u8>, members: &[Condition<ColumnName>]) -> Result<(), Refusal>
     ensures ok { OnOk result (out.new.items
         ≡ out.old.items ++ joined (codes " OR ") (map inside_or (map condition_printed members.now))) }
     ensures err { IfErr result (λ e. e ≡ Refusal.OutOfMemory) }

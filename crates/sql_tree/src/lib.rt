@@ -12,6 +12,13 @@ use vt_value::{Boxed, Comparison, Items, Value};
 /// The name of a table or a column, byte by byte as it was written.
 pub type Name = Items<u8>;
 
+/// The name of a column, behind that of its table where it is qualified.
+#[derive(Drop)]
+pub struct ColumnName {
+    pub table: Option<Name>,
+    pub name: Name,
+}
+
 /// What is compared: a column, as `C` says it, or a literal.
 #[derive(Drop)]
 pub enum Operand<C> {
@@ -46,7 +53,7 @@ pub enum Item<C> {
 #[derive(Drop)]
 pub enum SelectList {
     All,
-    Items(Items<Item<Name>>),
+    Items(Items<Item<ColumnName>>),
 }
 
 /// A column to order by.
@@ -63,14 +70,23 @@ pub struct Limit {
     pub offset: u64,
 }
 
+/// The second table of a SELECT, and the two columns that are equal in each of its pairs.
+#[derive(Drop)]
+pub struct JoinOn {
+    pub table: Name,
+    pub left: ColumnName,
+    pub right: ColumnName,
+}
+
 /// A SELECT. `group_by` and `order_by` are empty where it has no such clause.
 #[derive(Drop)]
 pub struct Select {
     pub list: SelectList,
     pub table: Name,
-    pub filter: Option<Condition<Name>>,
-    pub group_by: Items<Name>,
-    pub order_by: Items<Key<Name>>,
+    pub join: Option<JoinOn>,
+    pub filter: Option<Condition<ColumnName>>,
+    pub group_by: Items<ColumnName>,
+    pub order_by: Items<Key<ColumnName>>,
     pub limit: Option<Limit>,
 }
 
@@ -94,14 +110,14 @@ pub struct Assignment<C> {
 pub struct Update {
     pub table: Name,
     pub assignments: Items<Assignment<Name>>,
-    pub filter: Option<Condition<Name>>,
+    pub filter: Option<Condition<ColumnName>>,
 }
 
 /// A DELETE of the rows that the filter keeps, of all rows without one.
 #[derive(Drop)]
 pub struct Delete {
     pub table: Name,
-    pub filter: Option<Condition<Name>>,
+    pub filter: Option<Condition<ColumnName>>,
 }
 
 /// A character set as it is named.

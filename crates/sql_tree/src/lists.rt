@@ -1,9 +1,9 @@
 //! Lists of printed parts.
 ghost use Rattle.std.specs.Prelude.{◌≡◌, ◌++◌, ℕ, List, codes, flat_map, map, IfOk, IfErr, OnOk};
-ghost use Rattle.sql_tree.specs.Printing.{following, commas, bracketed, clause_text, name_text};
+ghost use Rattle.sql_tree.specs.Printing.{following, commas, bracketed, clause_text, column_text};
 
-use crate::literals::{put, put_name, put_value};
-use crate::{Assignment, Item, Key, Name};
+use crate::literals::{put, put_column, put_name, put_value};
+use crate::{Assignment, ColumnName, Item, Key, Name};
 use vt_value::{Items, Refusal, Value};
 
 /// A part of a statement that has one printed form.
@@ -76,6 +76,16 @@ impl Print for Name {
     }
 }
 
+impl Print for ColumnName {
+    ghost use Rattle.sql_tree.specs.Printing.{column_text};
+
+    ghost text = { column_text };
+
+    fn put(&self, out: &mut Vec<u8>) -> Result<(), Refusal> {
+        put_column(out, self)
+    }
+}
+
 impl Print for Value {
     ghost use Rattle.sql_tree.specs.Printing.{value_text};
 
@@ -96,23 +106,23 @@ impl Print for Items<Value> {
     }
 }
 
-fn put_call(out: &mut Vec<u8>, column: &Name) -> Result<(), Refusal>
-    ensures ok { OnOk result (out.new.items ≡ out.old.items ++ bracketed (name_text column.now)) }
+fn put_call(out: &mut Vec<u8>, column: &ColumnName) -> Result<(), Refusal>
+    ensures ok { OnOk result (out.new.items ≡ out.old.items ++ bracketed (column_text column.now)) }
     ensures err { IfErr result (λ e. e ≡ Refusal.OutOfMemory) }
 {
     put(out, b"(")?;
-    put_name(out, column.as_slice())?;
+    put_column(out, column)?;
     put(out, b")")
 }
 
-impl Print for Item<Name> {
+impl Print for Item<ColumnName> {
     ghost use Rattle.sql_tree.specs.Printing.{item_text};
 
     ghost text = { item_text };
 
     fn put(&self, out: &mut Vec<u8>) -> Result<(), Refusal> {
         match self {
-            Item::Column(column) => put_name(out, column.as_slice()),
+            Item::Column(column) => put_column(out, column),
             Item::CountRows => put(out, b"COUNT(*)"),
             Item::Count(column) => {
                 put(out, b"COUNT")?;
@@ -134,13 +144,13 @@ impl Print for Item<Name> {
     }
 }
 
-impl Print for Key<Name> {
+impl Print for Key<ColumnName> {
     ghost use Rattle.sql_tree.specs.Printing.{key_text};
 
     ghost text = { key_text };
 
     fn put(&self, out: &mut Vec<u8>) -> Result<(), Refusal> {
-        put_name(out, self.column.as_slice())?;
+        put_column(out, &self.column)?;
         if self.descending {
             put(out, b" DESC")?;
         }

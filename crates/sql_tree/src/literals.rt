@@ -1,9 +1,9 @@
 //! Names and values as they are printed.
 ghost use Rattle.std.specs.Prelude.{◌≡◌, ◌++◌, List, codes, flat_map, map, IfOk, IfErr, OnOk};
 ghost use Rattle.sql_lexer.specs.Lexemes.{operator_text};
-ghost use Rattle.sql_tree.specs.Printing.{name_text, quoted_byte, quoted, value_text, operand_text};
+ghost use Rattle.sql_tree.specs.Printing.{name_text, quoted_byte, quoted, value_text, column_text, operand_text};
 
-use crate::{Name, Operand};
+use crate::{ColumnName, Operand};
 use itoa::Buffer;
 use sql_lexer::is_keyword;
 use vt_value::{Comparison, Refusal, Value};
@@ -80,12 +80,24 @@ pub fn put_value(out: &mut Vec<u8>, value: &Value) -> Result<(), Refusal>
     }
 }
 
-pub fn put_operand(out: &mut Vec<u8>, operand: &Operand<Name>) -> Result<(), Refusal>
+/// Puts a column, behind its table and a dot where it is qualified.
+pub fn put_column(out: &mut Vec<u8>, column: &ColumnName) -> Result<(), Refusal>
+    ensures ok { OnOk result (out.new.items ≡ out.old.items ++ column_text column.now) }
+    ensures err { IfErr result (λ e. e ≡ Refusal.OutOfMemory) }
+{
+    if let Some(table) = &column.table {
+        put_name(out, table.as_slice())?;
+        put(out, b".")?;
+    }
+    put_name(out, column.name.as_slice())
+}
+
+pub fn put_operand(out: &mut Vec<u8>, operand: &Operand<ColumnName>) -> Result<(), Refusal>
     ensures ok { OnOk result (out.new.items ≡ out.old.items ++ operand_text operand.now) }
     ensures err { IfErr result (λ e. e ≡ Refusal.OutOfMemory) }
 {
     match operand {
-        Operand::Column(name) => put_name(out, name.as_slice()),
+        Operand::Column(column) => put_column(out, column),
         Operand::Literal(value) => put_value(out, value),
     }
 }

@@ -1,15 +1,15 @@
 //! The one printed form of a statement.
 ghost use Rattle.std.specs.Prelude.{◌≡◌, ◌++◌, List, codes, flat_map, map, IfOk, IfErr, OnOk};
-ghost use Rattle.sql_tree.specs.Printing.{list_text, filter_text, limit_text, columns_text, charset_text, printed, item_text};
+ghost use Rattle.sql_tree.specs.Printing.{list_text, join_text, filter_text, limit_text, columns_text, charset_text, printed, item_text};
 ghost use Rattle.sql_tree.specs.Printing.{select_text, insert_text, update_text, delete_text};
 ghost use Rattle.std.specs.Fmt.{decimal};
 
 use crate::conditions::put_condition;
 use crate::lists::{Print, put_bracketed, put_clause, put_commas};
-use crate::literals::{put, put_name, put_quoted};
+use crate::literals::{put, put_column, put_name, put_quoted};
 use crate::{
-    CharacterSet, Condition, Delete, Insert, Item, Limit, Name, Select, SelectList, Statement,
-    Update,
+    CharacterSet, ColumnName, Condition, Delete, Insert, Item, JoinOn, Limit, Name, Select,
+    SelectList, Statement, Update,
 };
 use itoa::Buffer;
 use std::alloc::Global;
@@ -25,7 +25,7 @@ fn put_list(out: &mut Vec<u8>, list: &SelectList) -> Result<(), Refusal>
     }
 }
 
-fn put_filter(out: &mut Vec<u8>, filter: &Option<Condition<Name>>) -> Result<(), Refusal>
+fn put_filter(out: &mut Vec<u8>, filter: &Option<Condition<ColumnName>>) -> Result<(), Refusal>
     ensures ok { OnOk result (out.new.items ≡ out.old.items ++ filter_text filter.now) }
     ensures err { IfErr result (λ e. e ≡ Refusal.OutOfMemory) }
 {
@@ -36,6 +36,21 @@ fn put_filter(out: &mut Vec<u8>, filter: &Option<Condition<Name>>) -> Result<(),
             put_condition(out, condition)
         }
     }
+}
+
+fn put_join(out: &mut Vec<u8>, join: &Option<JoinOn>) -> Result<(), Refusal>
+    ensures ok { OnOk result (out.new.items ≡ out.old.items ++ join_text join.now) }
+    ensures err { IfErr result (λ e. e ≡ Refusal.OutOfMemory) }
+{
+    let Some(join) = join else {
+        return Ok(());
+    };
+    put(out, b" JOIN ")?;
+    put_name(out, join.table.as_slice())?;
+    put(out, b" ON ")?;
+    put_column(out, &join.left)?;
+    put(out, b" = ")?;
+    put_column(out, &join.right)
 }
 
 fn put_number(out: &mut Vec<u8>, number: u64) -> Result<(), Refusal>
@@ -70,6 +85,7 @@ fn put_select(out: &mut Vec<u8>, select: &Select) -> Result<(), Refusal>
     put_list(out, &select.list)?;
     put(out, b" FROM ")?;
     put_name(out, select.table.as_slice())?;
+    put_join(out, &select.join)?;
     put_filter(out, &select.filter)?;
     put_clause(out, b" GROUP BY ", select.group_by.as_slice())?;
     put_clause(out, b" ORDER BY ", select.order_by.as_slice())?;
@@ -167,7 +183,7 @@ pub fn print(alloc: Global, statement: &Statement) -> Result<Vec<u8>, Refusal>
 }
 
 /// The printed form of an item of a select list, as `COUNT(*)` or `SUM(c)`: the name of its column in a result.
-pub fn print_item(alloc: Global, item: &Item<Name>) -> Result<Vec<u8>, Refusal>
+pub fn print_item(alloc: Global, item: &Item<ColumnName>) -> Result<Vec<u8>, Refusal>
     ensures ok { IfOk result (λ v. v.items ≡ item_text item.now) }
     ensures err { IfErr result (λ e. e ≡ Refusal.OutOfMemory) }
 {

@@ -17,7 +17,7 @@ t = record {
   keyspace = 0;
   columns = column (codes "id") BigIntUnsigned false ∷ column (codes "c") BigIntUnsigned true ∷ [];
   primary_key = 0 ∷ [];
-  vindex = Some (record { column = 0; vindex = ReverseBits });
+  vindex = Some (record { column = 0; vindex = ReverseBits; number = 1 });
 }
 
 abbrev pub b : Table
@@ -26,7 +26,7 @@ b = record {
   keyspace = 0;
   columns = column (codes "k") (VarBinary 255) false ∷ column (codes "v") (VarBinary 255) true ∷ [];
   primary_key = 0 ∷ [];
-  vindex = Some (record { column = 0; vindex = BinaryMd5 });
+  vindex = Some (record { column = 0; vindex = BinaryMd5; number = 0 });
 }
 
 abbrev pub u : Table

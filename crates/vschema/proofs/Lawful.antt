@@ -18,7 +18,7 @@ use Rattle.vschema_document.specs.declared.fault.SchemaFault.TheVariants.{OutOfM
 use Rattle.vschema.specs.WriteChecks.{has_twice}
 use Rattle.vschema.specs.WellFormed.{is_formed, is_table, is_in_keyspace, is_sharded_at, is_vindex_right, fits_vindex, takes_type, has_number_twice}
 use Rattle.vschema_document.specs.Faults.{keys, vindex_of, column_of, lacks_column, is_nullable, mismatch, is_misplaced, table_has, keyspace_has, whole_has, all_tables, has, faults, first_fault}
-use Rattle.vschema.specs.Meant.{place_in, vindex_on, meant_table, meant_tables, meant_keyspace, meant}
+use Rattle.vschema.specs.Meant.{place_in, vindex_number, vindex_on, meant_table, meant_tables, meant_keyspace, meant}
 use Rattle.vschema_document.proofs.Formats.{good_column, good_table, good_keyspace}
 use Rattle.vschema_document.proofs.Options.{some_same, never, both, neither, join, turned, unturned, unfound, any_never}
 use Rattle.vschema.proofs.Places.{has_column, places_apart, place_among, present, needed, all_needed}
@@ -54,10 +54,10 @@ key_right k t e es clean is = record {
 }
 
 right_key : (k : DeclaredKeyspace) (n : ℕ) (t : DeclaredTable) (e : DeclaredKey) (v : AnyVindex) → KeyIsRight k t e → vindex_of k e.vindex ≡ Some v → k.sharded ≡ true
-    → is_vindex_right (meant_table k n t) k.sharded (Some (record { column = place_in t e.column; vindex = v })) ≡ true
+    → is_vindex_right (meant_table k n t) k.sharded (Some (record { column = place_in t e.column; vindex = v; number = vindex_number k e.vindex })) ≡ true
 right_key k n t e v right is sharded =
     let x = has_column t e.column right.there in
-    let w : ColumnVindex = record { column = place_in t e.column; vindex = v } in
+    let w : ColumnVindex = record { column = place_in t e.column; vindex = v; number = vindex_number k e.vindex } in
     let taken : mismatch (Some v) (Some x.0) ≡ false = ap (λ o. mismatch o (Some x.0)) (sym is) ∙ ap (mismatch (vindex_of k e.vindex)) (sym x.1.is_found) ∙ right.fits in
     let fits : fits_vindex w (slice_get t.columns (place_in t e.column)) ≡ true = ap (fits_vindex w) x.1.stands ∙ unturned (takes_type v x.0.kind) taken in
     let inside = place_among t e.column t.primary_key (unturned (list_any (bytes_eq e.column) t.primary_key) right.within) in
@@ -74,7 +74,7 @@ vindex_right k n t (Some (e ∷ es)) clean is fits =
     let v = present (vindex_of k e.vindex) right.known in
     let sharded = unturned k.sharded (neither (not k.sharded) (length (e ∷ es) == 0) fits).0 in
     ap (λ es. is_vindex_right (meant_table k n t) k.sharded (option_and_then (vindex_on k t) (slice_get es 0))) listed
-    ∙ ap (λ o. is_vindex_right (meant_table k n t) k.sharded (option_map (λ v. record { column = place_in t e.column; vindex = v }) o)) v.1
+    ∙ ap (λ o. is_vindex_right (meant_table k n t) k.sharded (option_map (λ v. record { column = place_in t e.column; vindex = v; number = vindex_number k e.vindex }) o)) v.1
     ∙ right_key k n t e v.0 right v.1 sharded
 
 table_lawful : (all : List Keyspace) (k : DeclaredKeyspace) (n : ℕ) (t : DeclaredTable) → is_sharded_at all n ≡ Some k.sharded → good_table t ≡ true → Clean k t

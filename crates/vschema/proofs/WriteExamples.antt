@@ -10,6 +10,7 @@ use Rattle.sql_tree.specs.declared.Condition.{Condition, Compare, the_lemmas}
 use Rattle.sql_tree.specs.declared.Insert as I
 use Rattle.sql_tree.specs.declared.Update as U
 use Rattle.vschema.specs.declared.changes.Write.TheVariants.{Insert, Update, Delete}
+use Rattle.sql_tree.specs.declared.ColumnName.{ColumnName}
 use Rattle.vschema.specs.Resolved.{Name}
 use Rattle.vschema.specs.TypedWrites.{typed_insert, typed_update, typed_delete, IsTypedWrite}
 use Rattle.vschema.specs.TypedWrites as typed
@@ -80,10 +81,13 @@ is_meant : IsTypedWrite schema (Insert 0 ((n 2 ∷ Null ∷ []) ∷ []))
 is_meant = typed.insert (insert (codes "id" ∷ []) (n 2 ∷ [])) refl
 
 -- id = 5
-abbrev id_is_5 : Option (Condition Name)
-id_is_5 = Some (Compare Eq (Column (codes "id")) (Literal (n 5)))
+abbrev bare : Name → ColumnName
+bare name = record { table = None; name = name }
 
-abbrev update : List Name → Value → Option (Condition Name) → U.Update
+abbrev id_is_5 : Option (Condition ColumnName)
+id_is_5 = Some (Compare Eq (Column (bare (codes "id"))) (Literal (n 5)))
+
+abbrev update : List Name → Value → Option (Condition ColumnName) → U.Update
 update names value filter' = record {
   table = codes "t";
   assignments = Rattle.std.proofs.Common.map (λ name. record { column = name; value = value }) names;
@@ -129,7 +133,7 @@ delete_unknown = search (rules, the_lemmas)
 delete_mixed :
     typed_delete schema (record {
       table = codes "t";
-      filter = Some (Compare Eq (Column (codes "id")) (Literal (Bytes (codes "x"))));
+      filter = Some (Compare Eq (Column (bare (codes "id"))) (Literal (Bytes (codes "x"))));
     })
     ≡ Err NotSupported
 delete_mixed = search (rules, the_lemmas)

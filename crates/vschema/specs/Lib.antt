@@ -1,4 +1,5 @@
 pub mod Schema
+pub mod Scopes
 pub mod Resolved
 pub mod Checks
 pub mod WriteChecks
@@ -6,6 +7,7 @@ pub mod TypedWrites
 pub mod TypedStatement
 pub mod Database
 pub mod Sources
+pub mod Joins
 pub mod Storable
 pub mod Formed
 pub mod WellFormed

@@ -1,5 +1,5 @@
 -- The VSchema that a text means: where no fault applies, what it declares, with columns by their places.
-use Rattle.std.specs.Prelude.{ℕ, ◌+◌, List, [], ◌∷◌, ◌++◌, map, slice_get, Option, Some, None, option_map, option_and_then, unwrap_or, Result, Ok, Err}
+use Rattle.std.specs.Prelude.{ℕ, ◌+◌, List, [], ◌∷◌, ◌++◌, map, slice_get, Option, Some, None, option_map, option_and_then, unwrap_or, bytes_eq, Result, Ok, Err}
 use Rattle.serde_json.specs.Data.{Data}
 use Rattle.serde_json.specs.Read as json
 use Rattle.vschema.specs.declared.schema.ColumnVindex.{ColumnVindex}
@@ -13,13 +13,18 @@ use Rattle.vschema_document.specs.declared.fault.SchemaFault.{SchemaFault}
 use Rattle.vschema_document.specs.declared.fault.SchemaFault.TheVariants.{NotJson, IllFormed}
 use Rattle.vschema.specs.Resolved.{Name}
 use Rattle.vschema_document.specs.Documents.{document}
-use Rattle.vschema_document.specs.Faults.{keys, place_of, vindex_of, first_fault}
+use Rattle.vschema_document.specs.Faults.{keys, vindexes, place_of, vindex_of, first_fault}
+use Rattle.vschema_document.specs.Places.{place_from}
 
 abbrev pub place_in : DeclaredTable → Name → ℕ
 place_in t name = unwrap_or (place_of t name) 0
 
+-- which of the keyspace's vindexes has this name
+abbrev pub vindex_number : DeclaredKeyspace → Name → ℕ
+vindex_number k name = unwrap_or (place_from (λ v. bytes_eq v.name name) 0 (vindexes k)) 0
+
 abbrev pub vindex_on : DeclaredKeyspace → DeclaredTable → DeclaredKey → Option ColumnVindex
-vindex_on k t e = option_map (λ v. record { column = place_in t e.column; vindex = v }) (vindex_of k e.vindex)
+vindex_on k t e = option_map (λ v. record { column = place_in t e.column; vindex = v; number = vindex_number k e.vindex }) (vindex_of k e.vindex)
 
 abbrev pub meant_table : DeclaredKeyspace → ℕ → DeclaredTable → Table
 meant_table k n t =

@@ -1,5 +1,6 @@
--- Conditions and select lists with columns by their places in the table.
-use Rattle.std.specs.Prelude.{ℕ, ◌+◌, List, [], ◌∷◌, map, unwrap_or}
+-- Conditions and select lists with columns by their places in the table, or in the pairs of a join.
+use Rattle.std.specs.Prelude.{ℕ, ◌+◌, Bool, false, List, [], ◌∷◌, map, is_some, unwrap_or}
+use Rattle.sql_tree.specs.declared.ColumnName.{ColumnName}
 use Rattle.sql_tree.specs.declared.Operand.{Operand}
 use Rattle.sql_tree.specs.declared.Operand.TheVariants.{Column, Literal}
 use Rattle.sql_tree.specs.declared.Condition as N
@@ -13,6 +14,7 @@ use Rattle.sql_tree.specs.declared.Key.{Key}
 pub use Rattle.sql_tree.specs.Literals.{Name}
 use Rattle.vschema.specs.declared.schema.Table.{Table}
 use Rattle.vschema.specs.Schema.{column_place}
+use Rattle.vschema.specs.Scopes.{Scope, scope_columns, place_in}
 
 -- the place of a column; that it is there is a check of its own
 abbrev pub place : Table → Name → ℕ
@@ -22,33 +24,46 @@ abbrev pub places_from : {X : Type 0} → ℕ → List X → List ℕ
 places_from n [] = []
 places_from n (x ∷ xs) = n ∷ places_from (n + 1) xs
 
-abbrev pub resolved_operand : Table → Operand Name → Operand ℕ
-resolved_operand t (Column name) = Column (place t name)
-resolved_operand t (Literal v) = Literal v
+abbrev pub resolved_operand : Scope → Operand ColumnName → Operand ℕ
+resolved_operand s (Column name) = Column (place_in s name)
+resolved_operand s (Literal v) = Literal v
 
-abbrev pub resolved_node : Table → Condition-F Name (Condition ℕ) → Condition ℕ
-resolved_node t (Compare op a b) = N.Compare op (resolved_operand t a) (resolved_operand t b)
-resolved_node t (In a members) = N.In (resolved_operand t a) members
-resolved_node t (IsNull a) = N.IsNull (resolved_operand t a)
-resolved_node t (Not c) = N.Not c
-resolved_node t (And cs) = N.And cs
-resolved_node t (Or cs) = N.Or cs
+abbrev pub resolved_node : Scope → Condition-F ColumnName (Condition ℕ) → Condition ℕ
+resolved_node s (Compare op a b) = N.Compare op (resolved_operand s a) (resolved_operand s b)
+resolved_node s (In a members) = N.In (resolved_operand s a) members
+resolved_node s (IsNull a) = N.IsNull (resolved_operand s a)
+resolved_node s (Not c) = N.Not c
+resolved_node s (And cs) = N.And cs
+resolved_node s (Or cs) = N.Or cs
 
-abbrev pub resolved_condition : Table → Condition Name → Condition ℕ
-resolved_condition t c = fold-Condition Name (Condition ℕ) (resolved_node t) c
+abbrev pub resolved_condition : Scope → Condition ColumnName → Condition ℕ
+resolved_condition s c = fold-Condition ColumnName (Condition ℕ) (resolved_node s) c
 
-abbrev pub resolved_item : Table → Item Name → Item ℕ
-resolved_item t (item.Column name) = item.Column (place t name)
-resolved_item t item.CountRows = item.CountRows
-resolved_item t (item.Count name) = item.Count (place t name)
-resolved_item t (item.Sum name) = item.Sum (place t name)
-resolved_item t (item.Min name) = item.Min (place t name)
-resolved_item t (item.Max name) = item.Max (place t name)
+abbrev pub resolved_item : Scope → Item ColumnName → Item ℕ
+resolved_item s (item.Column name) = item.Column (place_in s name)
+resolved_item s item.CountRows = item.CountRows
+resolved_item s (item.Count name) = item.Count (place_in s name)
+resolved_item s (item.Sum name) = item.Sum (place_in s name)
+resolved_item s (item.Min name) = item.Min (place_in s name)
+resolved_item s (item.Max name) = item.Max (place_in s name)
 
 -- `*` is all columns in their order
-abbrev pub resolved_list : Table → SelectList → List (Item ℕ)
-resolved_list t All = map item.Column (places_from 0 t.columns)
-resolved_list t (Items items) = map (resolved_item t) items
+abbrev pub resolved_list : Scope → SelectList → List (Item ℕ)
+resolved_list s All = map item.Column (places_from 0 (scope_columns s))
+resolved_list s (Items items) = map (resolved_item s) items
 
-abbrev pub resolved_key : Table → Key Name → Key ℕ
-resolved_key t k = record { column = place t k.column; descending = k.descending }
+-- an item is written with its table's name
+abbrev pub is_qualified : Item ColumnName → Bool
+is_qualified (item.Column name) = is_some name.table
+is_qualified item.CountRows = false
+is_qualified (item.Count name) = is_some name.table
+is_qualified (item.Sum name) = is_some name.table
+is_qualified (item.Min name) = is_some name.table
+is_qualified (item.Max name) = is_some name.table
+
+abbrev pub qualified_in : SelectList → List Bool
+qualified_in All = []
+qualified_in (Items items) = map is_qualified items
+
+abbrev pub resolved_key : Scope → Key ColumnName → Key ℕ
+resolved_key s k = record { column = place_in s k.column; descending = k.descending }

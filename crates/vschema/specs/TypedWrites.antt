@@ -15,6 +15,7 @@ use Rattle.vschema.specs.declared.schema.VSchema.{VSchema}
 use Rattle.vschema.specs.declared.changes.Write.{Write}
 use Rattle.vschema.specs.declared.changes.Write.TheVariants.{Insert, Update, Delete}
 use Rattle.vschema.specs.Schema.{table_place, place_from}
+use Rattle.vschema.specs.Scopes.{only}
 use Rattle.vschema.specs.Resolved.{Name, place, places_from, resolved_condition}
 use Rattle.vschema.specs.WriteChecks.{Stored, has_twice, sets_twice, insert_names, insert_places, has_wrong_count, insert_names_unknown, update_names_unknown, delete_names_unknown, inserted_values, assigned_values, has_other_kind, has_wrong_null, has_out_of_range, has_too_long, leaves_out_column, update_is_not_supported, delete_is_not_supported}
 
@@ -59,10 +60,10 @@ insert_over n t s = Insert n (map (whole_row t (insert_places t s.columns)) s.ro
 
 abbrev pub update_over : ℕ → Table → U.Update → Write
 update_over n t s =
-    Update n (map (resolved_assignment t) s.assignments) (option_map (resolved_condition t) s.filter)
+    Update n (map (resolved_assignment t) s.assignments) (option_map (resolved_condition (only t)) s.filter)
 
 abbrev pub delete_over : ℕ → Table → D.Delete → Write
-delete_over n t s = Delete n (option_map (resolved_condition t) s.filter)
+delete_over n t s = Delete n (option_map (resolved_condition (only t)) s.filter)
 
 abbrev pub on_table : (ℕ → Table → Result Write Refusal) → ℕ → Option Table → Result Write Refusal
 on_table typed n None = Err UnknownTable

@@ -13,6 +13,7 @@ use Rattle.vschema_document.specs.declared.column.ColumnType.{ColumnType}
 use Rattle.vschema_document.specs.declared.column.ColumnType.TheVariants.{BigInt, BigIntUnsigned, VarBinary}
 use Rattle.vschema.specs.declared.schema.ColumnVindex.{ColumnVindex}
 use Rattle.vschema.specs.declared.schema.Table.{Table}
+use Rattle.vschema.specs.Scopes.{only}
 use Rattle.vschema.specs.Resolved.{Name, place, places_from}
 use Rattle.vschema.specs.Checks.{is_unknown, filter_has, condition_names_unknown, condition_mixes, is_text_type, value_is_text, differ, has_number}
 pub use Rattle.vschema_document.specs.Twice.{has_twice}
@@ -44,10 +45,10 @@ insert_names_unknown t s = list_any (is_unknown t) (insert_names s)
 
 abbrev pub update_names_unknown : Table → Update → Bool
 update_names_unknown t s =
-    list_any (λ a. is_unknown t a.column) s.assignments || filter_has (condition_names_unknown t) s.filter
+    list_any (λ a. is_unknown t a.column) s.assignments || filter_has (condition_names_unknown (only t)) s.filter
 
 abbrev pub delete_names_unknown : Table → Delete → Bool
-delete_names_unknown t s = filter_has (condition_names_unknown t) s.filter
+delete_names_unknown t s = filter_has (condition_names_unknown (only t)) s.filter
 
 -- values that are stored, each with its column
 abbrev pub Stored : Type 0
@@ -108,7 +109,7 @@ sets_key t s = list_any (λ a. is_key_column t (place t a.column)) s.assignments
 -- a comparison or SET has a number on one side and a text on the other, or a key is set
 abbrev pub update_is_not_supported : Table → Update → Bool
 update_is_not_supported t s =
-    filter_has (condition_mixes t) s.filter || has_other_kind (assigned_values t s) || sets_key t s
+    filter_has (condition_mixes (only t)) s.filter || has_other_kind (assigned_values t s) || sets_key t s
 
 abbrev pub delete_is_not_supported : Table → Delete → Bool
-delete_is_not_supported t s = filter_has (condition_mixes t) s.filter
+delete_is_not_supported t s = filter_has (condition_mixes (only t)) s.filter

@@ -1,54 +1,19 @@
 ghost use Rattle.std.specs.Prelude.{◌≡◌, ◌||◌, map, is_none, IfOk};
 ghost use Rattle.std.specs.List.{list_any};
-ghost use Rattle.vschema.specs.Resolved.{place};
-ghost use Rattle.vschema.specs.Checks.{is_unknown, operand_is_unknown, condition_names_unknown, filter_has, item_names_unknown, list_names_unknown, names_unknown_column};
+ghost use Rattle.vschema.specs.Checks.{is_unknown, is_unnamed, join_names_unknown, operand_is_unknown, condition_names_unknown, filter_has, item_names_unknown, list_names_unknown, names_unknown_column};
 ghost use Rattle.vschema.specs.Checks.{is_text_type, value_is_text, column_is_text, operand_is_text, differ, condition_mixes, is_text_sum, sums_text, select_is_not_supported};
 ghost use Rattle.vschema.specs.Checks.{has_number, is_aggregate, shows_ungrouped};
 ghost use Rattle.vschema.specs.FirstPlaces.{first_place};
 ghost use Rattle.vschema.specs.inner.FirstPlaces.{shows_other};
 
 use crate::first_places::FirstPlaces;
-use crate::names::{column_place, is_unknown};
+use crate::names::is_unknown;
 use crate::schema::{Query, Table};
-use sql_tree::{Condition, Item, Key, Name, Operand, Select, SelectList};
+use crate::scope::{Scope, is_unnamed, kind_at, place_in};
+use sql_tree::{ColumnName, Condition, Item, JoinOn, Key, Name, Operand, Select, SelectList};
 use std::alloc::{AllocError, Global};
 use vschema_document::ColumnType;
 use vt_value::Value;
-
-fn operand_is_unknown(table: &Table, operand: &Operand<Name>) -> bool
-    ensures { result ≡ operand_is_unknown table.now operand.now }
-{
-    match operand {
-        Operand::Column(name) => is_unknown(table, name),
-        Operand::Literal(_) => false,
-    }
-}
-
-#[cycle(unknown)]
-fn condition_names_unknown(table: &Table, condition: &Condition<Name>) -> bool
-    ensures { result ≡ condition_names_unknown table.now condition.now }
-{
-    match condition {
-        Condition::Compare(_, a, b) => operand_is_unknown(table, a) || operand_is_unknown(table, b),
-        Condition::In(a, _) => operand_is_unknown(table, a),
-        Condition::IsNull(a) => operand_is_unknown(table, a),
-        Condition::Not(inner) => condition_names_unknown(table, inner.get()),
-        Condition::And(members) => any_names_unknown(table, members.as_slice()),
-        Condition::Or(members) => any_names_unknown(table, members.as_slice()),
-    }
-}
-
-#[cycle(unknown)]
-fn any_names_unknown(table: &Table, members: &[Condition<Name>]) -> bool
-    ensures { result ≡ list_any (λ b. b) (map (condition_names_unknown table.now) members.now) }
-{
-    for member in members {
-        if condition_names_unknown(table, member) {
-            return true;
-        }
-    }
-    false
-}
 
 /// Whether one of the names is no column of the table.
 pub fn some_unknown(table: &Table, names: &[Name]) -> bool
@@ -57,8 +22,49 @@ pub fn some_unknown(table: &Table, names: &[Name]) -> bool
     names.iter().any(|name| is_unknown(table, name))
 }
 
-fn item_names_unknown(table: &Table, item: &Item<Name>) -> bool
-    ensures { result ≡ item_names_unknown table.now item.now }
+fn operand_is_unknown(scope: &Scope, operand: &Operand<ColumnName>) -> bool
+    ensures { result ≡ operand_is_unknown scope.now operand.now }
+{
+    match operand {
+        Operand::Column(name) => is_unnamed(scope, name),
+        Operand::Literal(_) => false,
+    }
+}
+
+#[cycle(unknown)]
+fn condition_names_unknown(scope: &Scope, condition: &Condition<ColumnName>) -> bool
+    ensures { result ≡ condition_names_unknown scope.now condition.now }
+{
+    match condition {
+        Condition::Compare(_, a, b) => operand_is_unknown(scope, a) || operand_is_unknown(scope, b),
+        Condition::In(a, _) => operand_is_unknown(scope, a),
+        Condition::IsNull(a) => operand_is_unknown(scope, a),
+        Condition::Not(inner) => condition_names_unknown(scope, inner.get()),
+        Condition::And(members) => any_names_unknown(scope, members.as_slice()),
+        Condition::Or(members) => any_names_unknown(scope, members.as_slice()),
+    }
+}
+
+#[cycle(unknown)]
+fn any_names_unknown(scope: &Scope, members: &[Condition<ColumnName>]) -> bool
+    ensures { result ≡ list_any (λ b. b) (map (condition_names_unknown scope.now) members.now) }
+{
+    for member in members {
+        if condition_names_unknown(scope, member) {
+            return true;
+        }
+    }
+    false
+}
+
+fn some_unnamed(scope: &Scope, names: &[ColumnName]) -> bool
+    ensures { result ≡ list_any (is_unnamed scope.now) names.now }
+{
+    names.iter().any(|name| is_unnamed(scope, name))
+}
+
+fn item_names_unknown(scope: &Scope, item: &Item<ColumnName>) -> bool
+    ensures { result ≡ item_names_unknown scope.now item.now }
 {
     match item {
         Item::CountRows => false,
@@ -66,48 +72,58 @@ fn item_names_unknown(table: &Table, item: &Item<Name>) -> bool
         | Item::Count(name)
         | Item::Sum(name)
         | Item::Min(name)
-        | Item::Max(name) => is_unknown(table, name),
+        | Item::Max(name) => is_unnamed(scope, name),
     }
 }
 
-fn some_item_unknown(table: &Table, items: &[Item<Name>]) -> bool
-    ensures { result ≡ list_any (item_names_unknown table.now) items.now }
+fn some_item_unknown(scope: &Scope, items: &[Item<ColumnName>]) -> bool
+    ensures { result ≡ list_any (item_names_unknown scope.now) items.now }
 {
-    items.iter().any(|item| item_names_unknown(table, item))
+    items.iter().any(|item| item_names_unknown(scope, item))
 }
 
-fn some_key_unknown(table: &Table, keys: &[Key<Name>]) -> bool
-    ensures { result ≡ list_any (λ k. is_unknown table.now k.column) keys.now }
+fn some_key_unknown(scope: &Scope, keys: &[Key<ColumnName>]) -> bool
+    ensures { result ≡ list_any (λ k. is_unnamed scope.now k.column) keys.now }
 {
-    keys.iter().any(|key| is_unknown(table, &key.column))
+    keys.iter().any(|key| is_unnamed(scope, &key.column))
 }
 
-fn list_names_unknown(table: &Table, list: &SelectList) -> bool
-    ensures { result ≡ list_names_unknown table.now list.now }
+fn list_names_unknown(scope: &Scope, list: &SelectList) -> bool
+    ensures { result ≡ list_names_unknown scope.now list.now }
 {
     match list {
         SelectList::All => false,
-        SelectList::Items(items) => some_item_unknown(table, items.as_slice()),
+        SelectList::Items(items) => some_item_unknown(scope, items.as_slice()),
     }
 }
 
-pub fn filter_names_unknown(table: &Table, filter: &Option<Condition<Name>>) -> bool
-    ensures { result ≡ filter_has (condition_names_unknown table.now) filter.now }
+pub fn filter_names_unknown(scope: &Scope, filter: &Option<Condition<ColumnName>>) -> bool
+    ensures { result ≡ filter_has (condition_names_unknown scope.now) filter.now }
 {
     match filter {
         None => false,
-        Some(condition) => condition_names_unknown(table, condition),
+        Some(condition) => condition_names_unknown(scope, condition),
     }
 }
 
-/// Whether the statement names a column that the table doesn't have.
-pub fn names_unknown_column(table: &Table, select: &Select) -> bool
-    ensures { result ≡ names_unknown_column table.now select.now }
+fn join_names_unknown(scope: &Scope, join: &Option<JoinOn>) -> bool
+    ensures { result ≡ join_names_unknown scope.now join.now }
 {
-    list_names_unknown(table, &select.list)
-        || filter_names_unknown(table, &select.filter)
-        || some_unknown(table, select.group_by.as_slice())
-        || some_key_unknown(table, select.order_by.as_slice())
+    match join {
+        None => false,
+        Some(join) => is_unnamed(scope, &join.left) || is_unnamed(scope, &join.right),
+    }
+}
+
+/// Whether the statement names a column that its tables don't have, or a bare one that both have.
+pub fn names_unknown_column(scope: &Scope, select: &Select) -> bool
+    ensures { result ≡ names_unknown_column scope.now select.now }
+{
+    list_names_unknown(scope, &select.list)
+        || join_names_unknown(scope, &select.join)
+        || filter_names_unknown(scope, &select.filter)
+        || some_unnamed(scope, select.group_by.as_slice())
+        || some_key_unknown(scope, select.order_by.as_slice())
 }
 
 pub fn is_text_type(kind: ColumnType) -> bool
@@ -126,23 +142,20 @@ pub fn value_is_text(value: &Value) -> Option<bool>
     }
 }
 
-fn column_is_text(table: &Table, place: usize) -> Option<bool>
-    ensures { result ≡ column_is_text table.now place }
+pub fn column_is_text(scope: &Scope, place: usize) -> Option<bool>
+    ensures { result ≡ column_is_text scope.now place }
 {
-    match table.columns.as_slice().get(place) {
-        Some(column) => Some(is_text_type(column.kind)),
+    match kind_at(scope, place) {
+        Some(kind) => Some(is_text_type(kind)),
         None => None,
     }
 }
 
-fn operand_is_text(table: &Table, operand: &Operand<Name>) -> Option<bool>
-    ensures { result ≡ operand_is_text table.now operand.now }
+fn operand_is_text(scope: &Scope, operand: &Operand<ColumnName>) -> Option<bool>
+    ensures { result ≡ operand_is_text scope.now operand.now }
 {
     match operand {
-        Operand::Column(name) => {
-            let place = column_place(table, name).unwrap_or(0);
-            column_is_text(table, place)
-        }
+        Operand::Column(name) => { column_is_text(scope, place_in(scope, name)) }
         Operand::Literal(value) => value_is_text(value),
     }
 }
@@ -169,75 +182,72 @@ fn some_differs(kind: Option<bool>, members: &[Value]) -> bool
 }
 
 #[cycle(mixes)]
-fn condition_mixes(table: &Table, condition: &Condition<Name>) -> bool
-    ensures { result ≡ condition_mixes table.now condition.now }
+fn condition_mixes(scope: &Scope, condition: &Condition<ColumnName>) -> bool
+    ensures { result ≡ condition_mixes scope.now condition.now }
 {
     match condition {
         Condition::Compare(_, a, b) => {
-            differ(operand_is_text(table, a), operand_is_text(table, b))
+            differ(operand_is_text(scope, a), operand_is_text(scope, b))
         }
-        Condition::In(a, members) => some_differs(operand_is_text(table, a), members.as_slice()),
+        Condition::In(a, members) => some_differs(operand_is_text(scope, a), members.as_slice()),
         Condition::IsNull(_) => false,
-        Condition::Not(inner) => condition_mixes(table, inner.get()),
-        Condition::And(members) => any_mixes(table, members.as_slice()),
-        Condition::Or(members) => any_mixes(table, members.as_slice()),
+        Condition::Not(inner) => condition_mixes(scope, inner.get()),
+        Condition::And(members) => any_mixes(scope, members.as_slice()),
+        Condition::Or(members) => any_mixes(scope, members.as_slice()),
     }
 }
 
 #[cycle(mixes)]
-fn any_mixes(table: &Table, members: &[Condition<Name>]) -> bool
-    ensures { result ≡ list_any (λ b. b) (map (condition_mixes table.now) members.now) }
+fn any_mixes(scope: &Scope, members: &[Condition<ColumnName>]) -> bool
+    ensures { result ≡ list_any (λ b. b) (map (condition_mixes scope.now) members.now) }
 {
     for member in members {
-        if condition_mixes(table, member) {
+        if condition_mixes(scope, member) {
             return true;
         }
     }
     false
 }
 
-fn is_text_sum(table: &Table, item: &Item<Name>) -> bool
-    ensures { result ≡ is_text_sum table.now item.now }
+fn is_text_sum(scope: &Scope, item: &Item<ColumnName>) -> bool
+    ensures { result ≡ is_text_sum scope.now item.now }
 {
     match item {
-        Item::Sum(name) => {
-            let place = column_place(table, name).unwrap_or(0);
-            differ(column_is_text(table, place), Some(false))
-        }
+        Item::Sum(name) => { differ(column_is_text(scope, place_in(scope, name)), Some(false)) }
         _ => false,
     }
 }
 
-fn some_text_sum(table: &Table, items: &[Item<Name>]) -> bool
-    ensures { result ≡ list_any (is_text_sum table.now) items.now }
+fn some_text_sum(scope: &Scope, items: &[Item<ColumnName>]) -> bool
+    ensures { result ≡ list_any (is_text_sum scope.now) items.now }
 {
-    items.iter().any(|item| is_text_sum(table, item))
+    items.iter().any(|item| is_text_sum(scope, item))
 }
 
-fn sums_text(table: &Table, list: &SelectList) -> bool
-    ensures { result ≡ sums_text table.now list.now }
+fn sums_text(scope: &Scope, list: &SelectList) -> bool
+    ensures { result ≡ sums_text scope.now list.now }
 {
     match list {
         SelectList::All => false,
-        SelectList::Items(items) => some_text_sum(table, items.as_slice()),
+        SelectList::Items(items) => some_text_sum(scope, items.as_slice()),
     }
 }
 
 /// Whether a comparison of a condition has a number on one side and a text on the other.
-pub fn filter_mixes(table: &Table, filter: &Option<Condition<Name>>) -> bool
-    ensures { result ≡ filter_has (condition_mixes table.now) filter.now }
+pub fn filter_mixes(scope: &Scope, filter: &Option<Condition<ColumnName>>) -> bool
+    ensures { result ≡ filter_has (condition_mixes scope.now) filter.now }
 {
     match filter {
         None => false,
-        Some(condition) => condition_mixes(table, condition),
+        Some(condition) => condition_mixes(scope, condition),
     }
 }
 
 /// Whether a comparison of the query has a number on one side and a text on the other, or a text is summed.
-pub fn is_not_supported(table: &Table, select: &Select) -> bool
-    ensures { result ≡ select_is_not_supported table.now select.now }
+pub fn is_not_supported(scope: &Scope, select: &Select) -> bool
+    ensures { result ≡ select_is_not_supported scope.now select.now }
 {
-    filter_mixes(table, &select.filter) || sums_text(table, &select.list)
+    filter_mixes(scope, &select.filter) || sums_text(scope, &select.list)
 }
 
 /// Whether the number is one of these.

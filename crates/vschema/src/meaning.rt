@@ -1,7 +1,7 @@
 ghost use Rattle.std.specs.Prelude.{◌≡◌, ◌++◌, ◌+◌, ◌≤◌, ◌<◌, ◌^◌, false, map, length, slice_get, option_and_then, IfOk, IfErr, IsTrue};
 ghost use Rattle.std.specs.List.{list_any};
 ghost use Rattle.vschema_document.specs.Faults.{keys, table_has, has};
-ghost use Rattle.vschema.specs.Meant.{place_in, vindex_on, meant_table, meant_tables, meant_keyspace, meant, contents};
+ghost use Rattle.vschema.specs.Meant.{place_in, vindex_number, vindex_on, meant_table, meant_tables, meant_keyspace, meant, contents};
 ghost use Rattle.vschema.specs.Formed.{is_formed};
 ghost use Rattle.vschema.specs.WriteChecks.{has_twice};
 
@@ -10,7 +10,8 @@ use crate::schema::{ColumnVindex, Keyspace, Table, VSchema};
 use sql_tree::Name;
 use std::alloc::Global;
 use vschema_document::{
-    Column, DeclaredKey, DeclaredKeyspace, DeclaredTable, SchemaFault, keys, place_of, vindex_of,
+    Column, DeclaredKey, DeclaredKeyspace, DeclaredTable, SchemaFault, is_name, keys, place_of,
+    vindex_of, vindexes,
 };
 use vt_value::Items;
 
@@ -58,6 +59,17 @@ fn places_in(
     Ok(places)
 }
 
+fn vindex_number(keyspace: &DeclaredKeyspace, name: &Name) -> usize
+    ensures { result ≡ vindex_number keyspace.now name.now }
+{
+    for (number, vindex) in vindexes(keyspace).iter().enumerate() {
+        if is_name(&vindex.name, name) {
+            return number;
+        }
+    }
+    0
+}
+
 fn vindex_on(
     keyspace: &DeclaredKeyspace,
     table: &DeclaredTable,
@@ -67,7 +79,12 @@ fn vindex_on(
 {
     let vindex = vindex_of(keyspace, &key.vindex)?;
     let column = place_in(table, &key.column);
-    Some(ColumnVindex { column, vindex })
+    let number = vindex_number(keyspace, &key.vindex);
+    Some(ColumnVindex {
+        column,
+        vindex,
+        number,
+    })
 }
 
 fn first_vindex(keyspace: &DeclaredKeyspace, table: &DeclaredTable) -> Option<ColumnVindex>

@@ -1,14 +1,22 @@
 ghost use Rattle.std.specs.Prelude.{◌≡◌, ◌⊎◌, IfOk, IfErr, IfSome, IfNone, map, slice_get, option_map, Ok, Err, Some, None, true, false};
 ghost use Rattle.vschema.specs.Checks.{shows_ungrouped};
-ghost use Rattle.vschema.specs.Resolved.{place, places_from, resolved_operand, resolved_condition, resolved_item, resolved_list, resolved_key};
-ghost use Rattle.vschema.specs.TypedStatement.{over, checked, typed_select, typed_statement};
+ghost use Rattle.vschema.specs.Scopes.{only, both_of, scope_columns, place_in};
+ghost use Rattle.vschema.specs.Joins.{left_place, right_place, resolved_join, join_is_refused};
+ghost use Rattle.vschema.specs.Schema.{table_place};
+ghost use Rattle.vschema.specs.Resolved.{place, places_from, resolved_operand, resolved_condition, resolved_item, resolved_list, is_qualified, qualified_in, resolved_key};
+ghost use Rattle.vschema.specs.TypedStatement.{join_over, over, checked, checked_pair, checked_second, checked_with, typed_select, typed_statement};
 
 use crate::checks::{is_not_supported, names_unknown_column, shows_ungrouped};
+use crate::joins::join_is_refused;
 use crate::names::{column_place, table_place};
-use crate::schema::{Query, Table, Typed, VSchema};
+use crate::schema::{Join, Query, Table, Typed, VSchema};
+use crate::scope::{Scope, column_count, kind_at, place_in, width};
 use crate::writes::{resolve_delete, resolve_insert, resolve_update};
-use sql_tree::{Condition, Item, Key, Name, Operand, Select, SelectList, Statement};
+use sql_tree::{
+    ColumnName, Condition, Item, JoinOn, Key, Name, Operand, Select, SelectList, Statement,
+};
 use std::alloc::Global;
+use vschema_document::ColumnType;
 use vt_value::{Boxed, Items, Refusal, Value, copy};
 
 /// The place of a column; that it is there is a check of its own.
@@ -31,14 +39,14 @@ fn copy_values(alloc: Global, values: &[Value]) -> Result<Items<Value>, Refusal>
 
 fn resolve_operand(
     alloc: Global,
-    table: &Table,
-    operand: &Operand<Name>,
+    scope: &Scope,
+    operand: &Operand<ColumnName>,
 ) -> Result<Operand<usize>, Refusal>
-    ensures ok { IfOk result (λ r. r ≡ resolved_operand table.now operand.now) }
+    ensures ok { IfOk result (λ r. r ≡ resolved_operand scope.now operand.now) }
     ensures err { IfErr result (λ e. e ≡ Refusal.OutOfMemory) }
 {
     match operand {
-        Operand::Column(name) => Ok(Operand::Column(place(table, name))),
+        Operand::Column(name) => Ok(Operand::Column(place_in(scope, name))),
         Operand::Literal(value) => {
             let value = copy(alloc, value)?;
             Ok(Operand::Literal(value))
@@ -48,52 +56,66 @@ fn resolve_operand(
 
 fn resolve_operands(
     alloc: Global,
-    table: &Table,
-    a: &Operand<Name>,
-    b: &Operand<Name>,
+    scope: &Scope,
+    a: &Operand<ColumnName>,
+    b: &Operand<ColumnName>,
 ) -> Result<(Operand<usize>, Operand<usize>), Refusal>
-    ensures left { IfOk result (λ r. r.0 ≡ resolved_operand table.now a.now) }
-    ensures right { IfOk result (λ r. r.1 ≡ resolved_operand table.now b.now) }
+    ensures left { IfOk result (λ r. r.0 ≡ resolved_operand scope.now a.now) }
+    ensures right { IfOk result (λ r. r.1 ≡ resolved_operand scope.now b.now) }
     ensures err { IfErr result (λ e. e ≡ Refusal.OutOfMemory) }
 {
-    let a = resolve_operand(alloc, table, a)?;
-    let b = resolve_operand(alloc, table, b)?;
+    let a = resolve_operand(alloc, scope, a)?;
+    let b = resolve_operand(alloc, scope, b)?;
     Ok((a, b))
+}
+
+fn resolve_membership(
+    alloc: Global,
+    scope: &Scope,
+    a: &Operand<ColumnName>,
+    members: &[Value],
+) -> Result<(Operand<usize>, Items<Value>), Refusal>
+    ensures operand { IfOk result (λ r. r.0 ≡ resolved_operand scope.now a.now) }
+    ensures members { IfOk result (λ r. r.1 ≡ members.now) }
+    ensures err { IfErr result (λ e. e ≡ Refusal.OutOfMemory) }
+{
+    let members = copy_values(alloc, members)?;
+    let a = resolve_operand(alloc, scope, a)?;
+    Ok((a, members))
 }
 
 #[cycle(condition)]
 fn resolve_condition(
     alloc: Global,
-    table: &Table,
-    condition: &Condition<Name>,
+    scope: &Scope,
+    condition: &Condition<ColumnName>,
 ) -> Result<Condition<usize>, Refusal>
-    ensures ok { IfOk result (λ r. r ≡ resolved_condition table.now condition.now) }
+    ensures ok { IfOk result (λ r. r ≡ resolved_condition scope.now condition.now) }
     ensures err { IfErr result (λ e. e ≡ Refusal.OutOfMemory) }
 {
     match condition {
         Condition::Compare(op, a, b) => {
-            let (a, b) = resolve_operands(alloc, table, a, b)?;
+            let (a, b) = resolve_operands(alloc, scope, a, b)?;
             Ok(Condition::Compare(*op, a, b))
         }
         Condition::In(a, members) => {
-            let members = copy_values(alloc, members.as_slice())?;
-            let a = resolve_operand(alloc, table, a)?;
+            let (a, members) = resolve_membership(alloc, scope, a, members.as_slice())?;
             Ok(Condition::In(a, members))
         }
         Condition::IsNull(a) => {
-            let a = resolve_operand(alloc, table, a)?;
+            let a = resolve_operand(alloc, scope, a)?;
             Ok(Condition::IsNull(a))
         }
         Condition::Not(inner) => {
-            let inner = Boxed::new(alloc, resolve_condition(alloc, table, inner.get())?)?;
+            let inner = Boxed::new(alloc, resolve_condition(alloc, scope, inner.get())?)?;
             Ok(Condition::Not(inner))
         }
         Condition::And(members) => {
-            let members = resolve_members(alloc, table, members.as_slice())?;
+            let members = resolve_members(alloc, scope, members.as_slice())?;
             Ok(Condition::And(members))
         }
         Condition::Or(members) => {
-            let members = resolve_members(alloc, table, members.as_slice())?;
+            let members = resolve_members(alloc, scope, members.as_slice())?;
             Ok(Condition::Or(members))
         }
     }
@@ -102,70 +124,104 @@ fn resolve_condition(
 #[cycle(condition)]
 fn resolve_members(
     alloc: Global,
-    table: &Table,
-    members: &[Condition<Name>],
+    scope: &Scope,
+    members: &[Condition<ColumnName>],
 ) -> Result<Items<Condition<usize>>, Refusal>
-    ensures ok { IfOk result (λ r. r ≡ map (resolved_condition table.now) members.now) }
+    ensures ok { IfOk result (λ r. r ≡ map (resolved_condition scope.now) members.now) }
     ensures err { IfErr result (λ e. e ≡ Refusal.OutOfMemory) }
 {
     let mut resolved = Items::new(alloc);
     for member in members {
-        let member = resolve_condition(alloc, table, member)?;
+        let member = resolve_condition(alloc, scope, member)?;
         resolved.push(member)?;
     }
     Ok(resolved)
 }
 
-fn all_columns(alloc: Global, table: &Table) -> Result<Items<Item<usize>>, Refusal>
-    ensures ok { IfOk result (λ r. r ≡ map Item.Column (places_from 0 table.now.columns)) }
+fn all_columns(alloc: Global, scope: &Scope) -> Result<Items<Item<usize>>, Refusal>
+    ensures ok { IfOk result (λ r. r ≡ map Item.Column (places_from 0 (scope_columns scope.now))) }
     ensures err { IfErr result (λ e. e ≡ Refusal.OutOfMemory) }
 {
     let mut shown = Items::new(alloc);
-    for (place, _) in table.columns.as_slice().iter().enumerate() {
+    for place in 0..column_count(scope) {
         shown.push(Item::Column(place))?;
     }
     Ok(shown)
 }
 
-fn resolve_item(table: &Table, item: &Item<Name>) -> Item<usize>
-    ensures { result ≡ resolved_item table.now item.now }
+fn resolve_item(scope: &Scope, item: &Item<ColumnName>) -> Item<usize>
+    ensures { result ≡ resolved_item scope.now item.now }
 {
     match item {
-        Item::Column(name) => Item::Column(place(table, name)),
+        Item::Column(name) => Item::Column(place_in(scope, name)),
         Item::CountRows => Item::CountRows,
-        Item::Count(name) => Item::Count(place(table, name)),
-        Item::Sum(name) => Item::Sum(place(table, name)),
-        Item::Min(name) => Item::Min(place(table, name)),
-        Item::Max(name) => Item::Max(place(table, name)),
+        Item::Count(name) => Item::Count(place_in(scope, name)),
+        Item::Sum(name) => Item::Sum(place_in(scope, name)),
+        Item::Min(name) => Item::Min(place_in(scope, name)),
+        Item::Max(name) => Item::Max(place_in(scope, name)),
     }
 }
 
 fn resolve_items(
     alloc: Global,
-    table: &Table,
-    items: &[Item<Name>],
+    scope: &Scope,
+    items: &[Item<ColumnName>],
 ) -> Result<Items<Item<usize>>, Refusal>
-    ensures ok { IfOk result (λ r. r ≡ map (resolved_item table.now) items.now) }
+    ensures ok { IfOk result (λ r. r ≡ map (resolved_item scope.now) items.now) }
     ensures err { IfErr result (λ e. e ≡ Refusal.OutOfMemory) }
 {
     let mut resolved = Items::new(alloc);
     for item in items {
-        resolved.push(resolve_item(table, item))?;
+        resolved.push(resolve_item(scope, item))?;
     }
     Ok(resolved)
 }
 
 fn resolve_list(
     alloc: Global,
-    table: &Table,
+    scope: &Scope,
     list: &SelectList,
 ) -> Result<Items<Item<usize>>, Refusal>
-    ensures ok { IfOk result (λ r. r ≡ resolved_list table.now list.now) }
+    ensures ok { IfOk result (λ r. r ≡ resolved_list scope.now list.now) }
     ensures err { IfErr result (λ e. e ≡ Refusal.OutOfMemory) }
 {
     match list {
-        SelectList::All => all_columns(alloc, table),
-        SelectList::Items(items) => resolve_items(alloc, table, items.as_slice()),
+        SelectList::All => all_columns(alloc, scope),
+        SelectList::Items(items) => resolve_items(alloc, scope, items.as_slice()),
+    }
+}
+
+fn is_qualified(item: &Item<ColumnName>) -> bool
+    ensures { result ≡ is_qualified item.now }
+{
+    match item {
+        Item::CountRows => false,
+        Item::Column(name)
+        | Item::Count(name)
+        | Item::Sum(name)
+        | Item::Min(name)
+        | Item::Max(name) => name.table.is_some(),
+    }
+}
+
+fn qualified_items(alloc: Global, items: &[Item<ColumnName>]) -> Result<Items<bool>, Refusal>
+    ensures ok { IfOk result (λ r. r ≡ map is_qualified items.now) }
+    ensures err { IfErr result (λ e. e ≡ Refusal.OutOfMemory) }
+{
+    let mut qualified = Items::new(alloc);
+    for item in items {
+        qualified.push(is_qualified(item))?;
+    }
+    Ok(qualified)
+}
+
+fn qualified_in(alloc: Global, list: &SelectList) -> Result<Items<bool>, Refusal>
+    ensures ok { IfOk result (λ r. r ≡ qualified_in list.now) }
+    ensures err { IfErr result (λ e. e ≡ Refusal.OutOfMemory) }
+{
+    match list {
+        SelectList::All => Ok(Items::new(alloc)),
+        SelectList::Items(items) => qualified_items(alloc, items.as_slice()),
     }
 }
 
@@ -181,26 +237,41 @@ pub fn resolve_names(alloc: Global, table: &Table, names: &[Name]) -> Result<Ite
     Ok(places)
 }
 
-fn resolve_key(table: &Table, key: &Key<Name>) -> Key<usize>
-    ensures { result ≡ resolved_key table.now key.now }
+fn resolve_columns(
+    alloc: Global,
+    scope: &Scope,
+    columns: &[ColumnName],
+) -> Result<Items<usize>, Refusal>
+    ensures ok { IfOk result (λ r. r ≡ map (place_in scope.now) columns.now) }
+    ensures err { IfErr result (λ e. e ≡ Refusal.OutOfMemory) }
+{
+    let mut places = Items::new(alloc);
+    for column in columns {
+        places.push(place_in(scope, column))?;
+    }
+    Ok(places)
+}
+
+fn resolve_key(scope: &Scope, key: &Key<ColumnName>) -> Key<usize>
+    ensures { result ≡ resolved_key scope.now key.now }
 {
     Key {
-        column: place(table, &key.column),
+        column: place_in(scope, &key.column),
         descending: key.descending,
     }
 }
 
 fn resolve_keys(
     alloc: Global,
-    table: &Table,
-    keys: &[Key<Name>],
+    scope: &Scope,
+    keys: &[Key<ColumnName>],
 ) -> Result<Items<Key<usize>>, Refusal>
-    ensures ok { IfOk result (λ r. r ≡ map (resolved_key table.now) keys.now) }
+    ensures ok { IfOk result (λ r. r ≡ map (resolved_key scope.now) keys.now) }
     ensures err { IfErr result (λ e. e ≡ Refusal.OutOfMemory) }
 {
     let mut resolved = Items::new(alloc);
     for key in keys {
-        resolved.push(resolve_key(table, key))?;
+        resolved.push(resolve_key(scope, key))?;
     }
     Ok(resolved)
 }
@@ -208,33 +279,85 @@ fn resolve_keys(
 /// The condition with its columns by their places, where there is one.
 pub fn resolve_filter(
     alloc: Global,
-    table: &Table,
-    filter: &Option<Condition<Name>>,
+    scope: &Scope,
+    filter: &Option<Condition<ColumnName>>,
 ) -> Result<Option<Condition<usize>>, Refusal>
-    ensures ok { IfOk result (λ r. r ≡ option_map (resolved_condition table.now) filter.now) }
+    ensures ok { IfOk result (λ r. r ≡ option_map (resolved_condition scope.now) filter.now) }
     ensures err { IfErr result (λ e. e ≡ Refusal.OutOfMemory) }
 {
     match filter {
         None => Ok(None),
         Some(condition) => {
-            let condition = resolve_condition(alloc, table, condition)?;
+            let condition = resolve_condition(alloc, scope, condition)?;
             Ok(Some(condition))
         }
     }
 }
 
-fn query_over(alloc: Global, place: usize, table: &Table, select: &Select) -> Result<Query, Refusal>
-    ensures ok { IfOk result (λ q. q ≡ over place table.now select.now) }
+fn left_place(scope: &Scope, join: &JoinOn) -> usize
+    ensures { result ≡ left_place scope.now join.now }
+{
+    let left = place_in(scope, &join.left);
+    if left < width(scope) {
+        left
+    } else {
+        place_in(scope, &join.right)
+    }
+}
+
+fn right_place(scope: &Scope, join: &JoinOn) -> usize
+    ensures { result ≡ right_place scope.now join.now }
+{
+    let left = place_in(scope, &join.left);
+    if left < width(scope) {
+        place_in(scope, &join.right)
+    } else {
+        left
+    }
+}
+
+fn resolve_join(scope: &Scope, table: usize, join: &JoinOn) -> Join
+    ensures { result ≡ resolved_join scope.now table join.now }
+{
+    let second = right_place(scope, join);
+    Join {
+        table,
+        width: width(scope),
+        first: left_place(scope, join),
+        second,
+        kind: kind_at(scope, second).unwrap_or(ColumnType::BigInt),
+    }
+}
+
+fn join_over(scope: &Scope, second: Option<usize>, join: &Option<JoinOn>) -> Option<Join>
+    ensures { result ≡ join_over scope.now second join.now }
+{
+    match (second, join) {
+        (Some(table), Some(join)) => Some(resolve_join(scope, table, join)),
+        _ => None,
+    }
+}
+
+fn query_over(
+    alloc: Global,
+    place: usize,
+    second: Option<usize>,
+    scope: &Scope,
+    select: &Select,
+) -> Result<Query, Refusal>
+    ensures ok { IfOk result (λ q. q ≡ over place second scope.now select.now) }
     ensures err { IfErr result (λ e. e ≡ Refusal.OutOfMemory) }
 {
-    let items = resolve_list(alloc, table, &select.list)?;
-    let group_by = resolve_names(alloc, table, select.group_by.as_slice())?;
-    let order_by = resolve_keys(alloc, table, select.order_by.as_slice())?;
-    let filter = resolve_filter(alloc, table, &select.filter)?;
+    let items = resolve_list(alloc, scope, &select.list)?;
+    let qualified = qualified_in(alloc, &select.list)?;
+    let group_by = resolve_columns(alloc, scope, select.group_by.as_slice())?;
+    let order_by = resolve_keys(alloc, scope, select.order_by.as_slice())?;
+    let filter = resolve_filter(alloc, scope, &select.filter)?;
     Ok(Query {
         table: place,
-        join: None,
+        join: join_over(scope, second, &select.join),
         items,
+        qualified,
         filter,
         group_by,
         order_by,
@@ -263,24 +386,119 @@ fn unless_refused(query: Query, refusal: Option<Refusal>) -> Result<Query, Refus
     }
 }
 
+// Why the query isn't taken: its join, or its groups.
+fn late_refusal(alloc: Global, scope: &Scope, query: &Query) -> Option<Refusal>
+    ensures none { IfNone result ((join_is_refused scope.now query.now ≡ false) × (shows_ungrouped query.now ≡ false)) }
+    ensures some { IfSome result (λ r. (r ≡ Refusal.OutOfMemory) ⊎ (((r ≡ Refusal.NotSupported) × (join_is_refused scope.now query.now ≡ true))
+        ⊎ ((r ≡ Refusal.NotGrouped) × ((join_is_refused scope.now query.now ≡ false) × (shows_ungrouped query.now ≡ true))))) }
+{
+    if join_is_refused(scope, query) {
+        return Some(Refusal::NotSupported);
+    }
+    grouping_refusal(alloc, query)
+}
+
 fn resolve_over(
+    alloc: Global,
+    place: usize,
+    second: Option<usize>,
+    scope: &Scope,
+    select: &Select,
+) -> Result<Query, Refusal>
+    ensures ok { IfOk result (λ q. checked place second scope.now select.now ≡ Ok q) }
+    ensures err { IfErr result (λ e. (e ≡ Refusal.OutOfMemory) ⊎ (checked place second scope.now select.now ≡ Err e)) }
+{
+    if names_unknown_column(scope, select) {
+        return Err(Refusal::UnknownColumn);
+    }
+    if is_not_supported(scope, select) {
+        return Err(Refusal::NotSupported);
+    }
+    let query = query_over(alloc, place, second, scope, select)?;
+    let refusal = late_refusal(alloc, scope, &query);
+    unless_refused(query, refusal)
+}
+
+// A query of two tables.
+fn resolve_both(
+    alloc: Global,
+    place: usize,
+    second: usize,
+    table: &Table,
+    other: &Table,
+    select: &Select,
+) -> Result<Query, Refusal>
+    ensures ok { IfOk result (λ q. checked place (Some second) (both_of table.now other.now) select.now ≡ Ok q) }
+    ensures err { IfErr result (λ e. (e ≡ Refusal.OutOfMemory) ⊎ (checked place (Some second) (both_of table.now other.now) select.now ≡ Err e)) }
+{
+    let scope = Scope::of_both(table, other);
+    resolve_over(alloc, place, Some(second), &scope, select)
+}
+
+// The same with the second at its place.
+fn resolve_beside(
+    alloc: Global,
+    schema: &VSchema,
+    place: usize,
+    second: usize,
+    table: &Table,
+    select: &Select,
+) -> Result<Query, Refusal>
+    ensures ok { IfOk result (λ q. checked_pair select.now place second table.now (slice_get schema.now.tables second) ≡ Ok q) }
+    ensures err { IfErr result (λ e. (e ≡ Refusal.OutOfMemory) ⊎ (checked_pair select.now place second table.now (slice_get schema.now.tables second) ≡ Err e)) }
+{
+    match schema.tables.as_slice().get(second) {
+        Some(other) => resolve_both(alloc, place, second, table, other, select),
+        None => Err(Refusal::UnknownTable),
+    }
+}
+
+// The same with the second by its name.
+fn resolve_pair(
+    alloc: Global,
+    schema: &VSchema,
+    place: usize,
+    table: &Table,
+    name: &Name,
+    select: &Select,
+) -> Result<Query, Refusal>
+    ensures ok { IfOk result (λ q. checked_second schema.now select.now place table.now (table_place schema.now name.now) ≡ Ok q) }
+    ensures err { IfErr result (λ e. (e ≡ Refusal.OutOfMemory) ⊎ (checked_second schema.now select.now place table.now (table_place schema.now name.now) ≡ Err e)) }
+{
+    match table_place(schema, name) {
+        Some(second) => resolve_beside(alloc, schema, place, second, table, select),
+        None => Err(Refusal::UnknownTable),
+    }
+}
+
+// A query of one table.
+fn resolve_alone(
     alloc: Global,
     place: usize,
     table: &Table,
     select: &Select,
 ) -> Result<Query, Refusal>
-    ensures ok { IfOk result (λ q. checked place select.now (Some table.now) ≡ Ok q) }
-    ensures err { IfErr result (λ e. (e ≡ Refusal.OutOfMemory) ⊎ (checked place select.now (Some table.now) ≡ Err e)) }
+    ensures ok { IfOk result (λ q. checked place None (only table.now) select.now ≡ Ok q) }
+    ensures err { IfErr result (λ e. (e ≡ Refusal.OutOfMemory) ⊎ (checked place None (only table.now) select.now ≡ Err e)) }
 {
-    if names_unknown_column(table, select) {
-        return Err(Refusal::UnknownColumn);
+    let scope = Scope::of(table);
+    resolve_over(alloc, place, None, &scope, select)
+}
+
+fn resolve_with(
+    alloc: Global,
+    schema: &VSchema,
+    place: usize,
+    table: &Table,
+    select: &Select,
+) -> Result<Query, Refusal>
+    ensures ok { IfOk result (λ q. checked_with schema.now select.now place table.now select.now.join ≡ Ok q) }
+    ensures err { IfErr result (λ e. (e ≡ Refusal.OutOfMemory) ⊎ (checked_with schema.now select.now place table.now select.now.join ≡ Err e)) }
+{
+    match &select.join {
+        Some(join) => resolve_pair(alloc, schema, place, table, &join.table, select),
+        None => resolve_alone(alloc, place, table, select),
     }
-    if is_not_supported(table, select) {
-        return Err(Refusal::NotSupported);
-    }
-    let query = query_over(alloc, place, table, select)?;
-    let refusal = grouping_refusal(alloc, &query);
-    unless_refused(query, refusal)
 }
 
 fn resolve_select(alloc: Global, schema: &VSchema, select: &Select) -> Result<Query, Refusal>
@@ -291,7 +509,7 @@ fn resolve_select(alloc: Global, schema: &VSchema, select: &Select) -> Result<Qu
         return Err(Refusal::UnknownTable);
     };
     match schema.tables.as_slice().get(place) {
-        Some(table) => resolve_over(alloc, place, table, select),
+        Some(table) => resolve_with(alloc, schema, place, table, select),
         None => Err(Refusal::UnknownTable),
     }
 }
@@ -328,12 +546,13 @@ impl VSchema {
         }
     }
 
-    // Promise: A statement of the grammar is its typed statement, or the first refusal that applies: F4, F18, F17, F5, F3, F19, F14, F13,
-    // F15, F16, in this order
+    // Promise: A statement of the grammar is its typed statement, or the first refusal that applies: F4 (of a join the first table before the
+    // second), F18, F17, F5 (also a bare name that both tables of a join have), F3 (also a join that shards can't make by themselves), F19,
+    // F14, F13, F15, F16, in this order
     // Refuses: resolve_takes_unknown_tables_for_columns, resolve_drops_the_condition, resolve_takes_commit_for_rollback,
     // ungrouped_column_taken, sum_of_texts_taken, insert_counts_before_names, insert_takes_null_anywhere, update_sets_keys,
     // delete_drops_the_condition, unsigned_2_to_64_taken, insert_takes_a_column_named_twice, update_sets_a_column_twice,
-    // first_place_counts_from_the_end
+    // first_place_counts_from_the_end, name_of_both_tables_is_the_first, table_is_joined_with_itself
     /// The statement with its names resolved, or the first refusal that applies, in this order: an unknown table; a column
     /// named twice in INSERT's list or in SET; a row with another number of values than columns; an unknown column; a number
     /// with a text, a SUM of texts, or SET of a key; a column of an aggregated query that isn't grouped; a column that INSERT

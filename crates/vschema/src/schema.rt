@@ -9,11 +9,12 @@ use vindex::AnyVindex;
 use vschema_document::ColumnType;
 use vt_value::Items;
 
-/// The column that decides the shard of a row, by its place, and how.
+/// The column that decides the shard of a row, by its place, and how; and which of the vindexes of its keyspace that is.
 #[derive(Clone, Copy, Debug, PartialEq, Eq)]
 pub struct ColumnVindex {
     pub column: usize,
     pub vindex: AnyVindex,
+    pub number: usize,
 }
 
 /// A table. Its keyspace and the columns of its primary key are told by their places. It has a vindex where its
@@ -73,6 +74,8 @@ pub struct Query {
     pub table: usize,
     pub join: Option<Join>,
     pub items: Items<Item<usize>>,
+    /// Whether each item was written with its table's name, by which an aggregate is named; of `*` there are none.
+    pub qualified: Items<bool>,
     pub filter: Option<Condition<usize>>,
     pub group_by: Items<usize>,
     pub order_by: Items<Key<usize>>,

@@ -11,6 +11,7 @@ use crate::checks::{filter_mixes, filter_names_unknown, some_unknown};
 use crate::names::table_place;
 use crate::resolve::{place, resolve_filter, resolve_names};
 use crate::schema::{Table, VSchema};
+use crate::scope::Scope;
 use crate::twice::{has_twice, sets_twice};
 use crate::write_checks::{
     StoredCheck, assignments_fail, has_wrong_count, leaves_out_column, rows_fail, sets_key,
@@ -203,14 +204,14 @@ fn update_names_unknown(table: &Table, update: &Update) -> bool
     ensures { result ≡ update_names_unknown table.now update.now }
 {
     sets_unknown(table, update.assignments.as_slice())
-        || filter_names_unknown(table, &update.filter)
+        || filter_names_unknown(&Scope::of(table), &update.filter)
 }
 
 fn update_is_not_supported(table: &Table, update: &Update) -> bool
     ensures { result ≡ update_is_not_supported table.now update.now }
 {
     let assignments = update.assignments.as_slice();
-    filter_mixes(table, &update.filter)
+    filter_mixes(&Scope::of(table), &update.filter)
         || assignments_fail(StoredCheck::OtherKind, table, assignments)
         || sets_key(table, assignments)
 }
@@ -287,7 +288,7 @@ fn update_of(alloc: Global, place: usize, table: &Table, update: &Update) -> Res
         return Err(refusal);
     }
     let assignments = resolve_assignments(alloc, table, update.assignments.as_slice())?;
-    let filter = resolve_filter(alloc, table, &update.filter)?;
+    let filter = resolve_filter(alloc, &Scope::of(table), &update.filter)?;
     Ok(Write::Update(place, assignments, filter))
 }
 
@@ -301,13 +302,13 @@ fn delete_from(
     ensures err { IfErr result (λ e. (e ≡ Refusal.OutOfMemory)
         ⊎ (unless_refused (delete_checks table.now delete.now) (delete_over place table.now delete.now) ≡ Err e)) }
 {
-    if filter_names_unknown(table, &delete.filter) {
+    if filter_names_unknown(&Scope::of(table), &delete.filter) {
         return Err(Refusal::UnknownColumn);
     }
-    if filter_mixes(table, &delete.filter) {
+    if filter_mixes(&Scope::of(table), &delete.filter) {
         return Err(Refusal::NotSupported);
     }
-    let filter = resolve_filter(alloc, table, &delete.filter)?;
+    let filter = resolve_filter(alloc, &Scope::of(table), &delete.filter)?;
     Ok(Write::Delete(place, filter))
 }
 

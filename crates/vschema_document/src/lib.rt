@@ -17,7 +17,7 @@ pub use column::{Column, ColumnType};
 pub use document::{DeclaredKey, DeclaredKeyspace, DeclaredTable, DeclaredVindex};
 pub use fault::SchemaFault;
 pub use faults::first_fault;
-pub use lookups::{keys, place_of, vindex_of};
+pub use lookups::{keys, place_of, vindex_of, vindexes};
 pub use names::{is_name, place_among};
 pub use reading::{parse, read_document};
 pub use words::is_word;

@@ -7,7 +7,7 @@ use Rattle.sql_lexer.specs.declared.body.Place.{Place}
 use Rattle.sql_lexer.specs.declared.body.Place.TheVariants.{Inside, BehindQuote, BehindBackslash}
 use Rattle.sql_lexer.specs.declared.token.Keyword as K
 use Rattle.sql_lexer.specs.declared.token.Sign as S
-use Rattle.sql_lexer.specs.declared.token.Sign.TheVariants.{LeftParenthesis, RightParenthesis, Comma, Semicolon, Star, Minus}
+use Rattle.sql_lexer.specs.declared.token.Sign.TheVariants.{LeftParenthesis, RightParenthesis, Comma, Semicolon, Star, Minus, Dot}
 use Rattle.sql_lexer.specs.declared.token.Token.{Token}
 use Rattle.sql_lexer.specs.declared.token.TokenKind.{TokenKind}
 use Rattle.sql_lexer.specs.declared.token.TokenKind.TheVariants.{Keyword, Word, Quoted, Number, Text, Sign, Operator}
@@ -78,6 +78,7 @@ sign_at b =
     else if b == 0x3B then Some Semicolon
     else if b == 0x2A then Some Star
     else if b == 0x2D then Some Minus
+    else if b == 0x2E then Some Dot
     else None
 
 abbrev pub less_at : List ℕ → Option (Comparison × ℕ)

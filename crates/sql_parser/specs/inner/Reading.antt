@@ -1,13 +1,15 @@
 -- Reading statements from left to right. No public clause cites this file: the code is shown to be as it says, and it to agree with the grammar.
-use Rattle.std.specs.Prelude.{ℕ, zero, suc, ◌^◌, ◌&&◌, nat_lt, nat_le, Bool, true, false, List, [], ◌∷◌, ◌++◌, length, slice_range, Option, Some, None, is_some, pos, neg_ℤ, if◌then◌else◌}
+use Rattle.std.specs.Prelude.{ℕ, zero, suc, ◌^◌, ◌&&◌, not, nat_lt, nat_le, Bool, true, false, List, [], ◌∷◌, ◌++◌, length, slice_range, Option, Some, None, is_some, pos, neg_ℤ, if◌then◌else◌}
 use Rattle.vt_value.specs.declared.value.Value.{Value}
 use Rattle.vt_value.specs.declared.value.Value.TheVariants.{Null, Int, Bytes}
 use Rattle.vt_value.specs.declared.value.Comparison.TheVariants.{Eq}
 use Rattle.sql_lexer.specs.declared.token.Token.{Token}
 use Rattle.sql_lexer.specs.declared.token.Keyword.TheVariants as k
-use Rattle.sql_lexer.specs.declared.token.Sign.TheVariants.{LeftParenthesis, RightParenthesis, Star, Comma, Semicolon, Minus}
+use Rattle.sql_lexer.specs.declared.token.Sign.TheVariants.{LeftParenthesis, RightParenthesis, Star, Comma, Semicolon, Minus, Dot}
 use Rattle.sql_lexer.specs.Lexemes.{Lexeme, keyword, identifier, number, text, sign, operator, said_by}
 use Rattle.sql_lexer.specs.inner.Results.{◌>>=◌}
+use Rattle.sql_tree.specs.declared.ColumnName.{ColumnName}
+use Rattle.sql_tree.specs.declared.JoinOn.{JoinOn}
 use Rattle.sql_tree.specs.declared.Operand.{Operand}
 use Rattle.sql_tree.specs.declared.Operand.TheVariants.{Column, Literal}
 use Rattle.sql_tree.specs.declared.Condition.{Condition, Compare, In, IsNull, Not, And, Or}
@@ -27,6 +29,7 @@ use Rattle.sql_tree.specs.declared.Delete as D
 use Rattle.sql_tree.specs.declared.Statement.{Statement}
 use Rattle.sql_tree.specs.declared.Statement.TheVariants.{Select, Insert, Update, Delete, Begin, Commit, Rollback, SetNames}
 use Rattle.sql_tree.specs.Literals.{Name, literals_of}
+use Rattle.sql_parser.specs.Qualifiers.{qualifies_outside_select}
 use Rattle.sql_parser.specs.Grammar.{Lexemes, Joined, ReadsNot, max_depth, max_literals, is_setting}
 
 -- what is read at the front, and what stands behind it
@@ -87,6 +90,21 @@ unfoldable pub name_at : Lexemes → Read Name
 name_at [] = None
 name_at (t ∷ rest) = identifier_of t >>= λ bytes. Some (bytes, rest)
 
+abbrev pub is_dot : Lexeme → Bool
+is_dot (sign Dot) = true
+is_dot _ = false
+
+abbrev pub qualified_by : Name → Read Name → Read ColumnName
+qualified_by table read = read >>= λ name. Some (record { table = Some table; name = name.0 }, name.1)
+
+-- a name, and behind a dot the one that it qualifies
+unfoldable pub behind_name_at : Name → Lexemes → Read ColumnName
+behind_name_at bytes (sign Dot ∷ rest) = qualified_by bytes (name_at rest)
+behind_name_at bytes rest = Some (record { table = None; name = bytes }, rest)
+
+unfoldable pub column_at : Lexemes → Read ColumnName
+column_at ts = name_at ts >>= λ name. behind_name_at name.0 name.1
+
 unfoldable pub number_at : Lexemes → Read ℕ
 number_at [] = None
 number_at (t ∷ rest) = natural_of t >>= λ n. Some (n, rest)
@@ -114,9 +132,9 @@ literal_at (sign Minus ∷ rest) = negative_at rest
 literal_at (text bytes ∷ rest) = Some (Bytes bytes, rest)
 literal_at ts = natural_at ts
 
-unfoldable pub operand_at : Lexemes → Read (Operand Name)
+unfoldable pub operand_at : Lexemes → Read (Operand ColumnName)
 operand_at [] = None
-operand_at (identifier bytes ∷ rest) = Some (Column bytes, rest)
+operand_at (identifier bytes ∷ rest) = behind_name_at bytes rest >>= λ column. Some (Column column.0, column.1)
 operand_at ts = literal_at ts >>= λ v. Some (Literal v.0, v.1)
 
 -- (x,..)
@@ -132,74 +150,75 @@ members_at = bracketed_at literal_at
 
 -- ---- conditions
 
-unfoldable pub in_at : Operand Name → Lexemes → Read (Condition Name)
+unfoldable pub in_at : Operand ColumnName → Lexemes → Read (Condition ColumnName)
 in_at left (keyword k.In ∷ rest) = members_at rest >>= λ members. Some (In left members.0, members.1)
 in_at left _ = None
 
-unfoldable pub null_at : Operand Name → Lexemes → Read (Condition Name)
+unfoldable pub null_at : Operand ColumnName → Lexemes → Read (Condition ColumnName)
 null_at left (keyword k.Null ∷ rest) = Some (IsNull left, rest)
 null_at left _ = None
 
 -- behind an IS, with a NOT only where one may stand
-unfoldable pub is_at : Bool → Operand Name → Lexemes → Read (Condition Name)
+unfoldable pub is_at : Bool → Operand ColumnName → Lexemes → Read (Condition ColumnName)
 is_at true left (keyword k.Not ∷ rest) = null_at left rest >>= λ x. Some (Not x.0, x.1)
 is_at may left ts = null_at left ts
 
 -- what stands behind an operand, with a NOT only where one may stand
-unfoldable pub test_at : Bool → Operand Name → Lexemes → Read (Condition Name)
+unfoldable pub test_at : Bool → Operand ColumnName → Lexemes → Read (Condition ColumnName)
 test_at may left (operator op ∷ rest) = operand_at rest >>= λ right. Some (Compare op left right.0, right.1)
 test_at may left (keyword k.Is ∷ rest) = is_at may left rest
 test_at true left (keyword k.Not ∷ rest) = in_at left rest >>= λ x. Some (Not x.0, x.1)
 test_at may left ts = in_at left ts
 
-unfoldable pub predicate_at : Bool → Lexemes → Read (Condition Name)
+unfoldable pub predicate_at : Bool → Lexemes → Read (Condition ColumnName)
 predicate_at may ts = operand_at ts >>= λ x. test_at may x.0 x.1
 
-unfoldable pub joined_at : (Lexeme → Bool) → (List (Condition Name) → Condition Name) → (Lexemes → Read (Condition Name)) → Lexemes → Read (Condition Name)
+unfoldable pub joined_at : (Lexeme → Bool) → (List (Condition ColumnName) → Condition ColumnName) → (Lexemes → Read (Condition ColumnName)) → Lexemes
+    → Read (Condition ColumnName)
 joined_at sep node item ts = do
   x ← item ts
   if is_some (after_at sep x.1) then (all_follow sep item (x.0 ∷ []) x.1 >>= λ xs. Some (node xs.0, xs.1)) else Some x
 
-abbrev pub or_of : (Lexemes → Read (Condition Name)) → Lexemes → Read (Condition Name)
+abbrev pub or_of : (Lexemes → Read (Condition ColumnName)) → Lexemes → Read (Condition ColumnName)
 or_of negation = joined_at is_or Or (joined_at is_and And negation)
 
 -- where a NOT or a parenthesis may stand, behind which deeper reads
-unfoldable pub negation_at : (Lexemes → Read (Condition Name)) → Lexemes → Read (Condition Name)
+unfoldable pub negation_at : (Lexemes → Read (Condition ColumnName)) → Lexemes → Read (Condition ColumnName)
 negation_at deeper (keyword k.Not ∷ rest) = deeper rest >>= λ x. Some (Not x.0, x.1)
 negation_at deeper (sign LeftParenthesis ∷ rest) = or_of deeper rest >>= λ x. close_at x.1 >>= λ rest. Some (x.0, rest)
 negation_at deeper ts = predicate_at true ts
 
-unfoldable pub not_at : ℕ → Lexemes → Read (Condition Name)
+unfoldable pub not_at : ℕ → Lexemes → Read (Condition ColumnName)
 not_at zero = predicate_at false
 not_at (suc depth) = negation_at (not_at depth)
 
-abbrev pub and_at : ℕ → Lexemes → Read (Condition Name)
+abbrev pub and_at : ℕ → Lexemes → Read (Condition ColumnName)
 and_at depth = joined_at is_and And (not_at depth)
 
-abbrev pub or_at : ℕ → Lexemes → Read (Condition Name)
+abbrev pub or_at : ℕ → Lexemes → Read (Condition ColumnName)
 or_at depth = or_of (not_at depth)
 
 -- ---- the parts of statements
 
 -- (column)
-unfoldable pub argument_at : Lexemes → Read Name
+unfoldable pub argument_at : Lexemes → Read ColumnName
 argument_at ts = do
   inside ← open_at ts
-  column ← name_at inside
+  column ← column_at inside
   rest ← close_at column.1
   Some (column.0, rest)
 
 -- behind COUNT
-unfoldable pub count_at : Lexemes → Read (Item Name)
+unfoldable pub count_at : Lexemes → Read (Item ColumnName)
 count_at (sign LeftParenthesis ∷ sign Star ∷ sign RightParenthesis ∷ rest) = Some (shown.CountRows, rest)
 count_at ts = argument_at ts >>= λ column. Some (shown.Count column.0, column.1)
 
-unfoldable pub item_at : Lexemes → Read (Item Name)
+unfoldable pub item_at : Lexemes → Read (Item ColumnName)
 item_at (keyword k.Count ∷ rest) = count_at rest
 item_at (keyword k.Sum ∷ rest) = argument_at rest >>= λ column. Some (shown.Sum column.0, column.1)
 item_at (keyword k.Min ∷ rest) = argument_at rest >>= λ column. Some (shown.Min column.0, column.1)
 item_at (keyword k.Max ∷ rest) = argument_at rest >>= λ column. Some (shown.Max column.0, column.1)
-item_at ts = name_at ts >>= λ column. Some (shown.Column column.0, column.1)
+item_at ts = column_at ts >>= λ column. Some (shown.Column column.0, column.1)
 
 unfoldable pub list_at : Lexemes → Read SelectList
 list_at (sign Star ∷ rest) = Some (All, rest)
@@ -209,12 +228,35 @@ unfoldable pub from_at : Lexemes → Read Name
 from_at (keyword k.From ∷ rest) = name_at rest
 from_at _ = None
 
-unfoldable pub where_at : Lexemes → Read (Option (Condition Name))
+unfoldable pub equals_at : Lexemes → Option Lexemes
+equals_at (operator Eq ∷ rest) = Some rest
+equals_at _ = None
+
+unfoldable pub on_at : Lexemes → Option Lexemes
+on_at (keyword k.On ∷ rest) = Some rest
+on_at _ = None
+
+-- name ON column = column, behind JOIN
+unfoldable pub joined_on_at : Lexemes → Read JoinOn
+joined_on_at ts = do
+  table ← name_at ts
+  rest ← on_at table.1
+  left ← column_at rest
+  behind ← equals_at left.1
+  right ← column_at behind
+  Some (record { table = table.0; left = left.0; right = right.0 }, right.1)
+
+unfoldable pub join_at : Lexemes → Read (Option JoinOn)
+join_at (keyword k.Join ∷ rest) = joined_on_at rest >>= λ x. Some (Some x.0, x.1)
+join_at (keyword k.Inner ∷ keyword k.Join ∷ rest) = joined_on_at rest >>= λ x. Some (Some x.0, x.1)
+join_at ts = Some (None, ts)
+
+unfoldable pub where_at : Lexemes → Read (Option (Condition ColumnName))
 where_at (keyword k.Where ∷ rest) = or_at max_depth rest >>= λ x. Some (Some x.0, x.1)
 where_at ts = Some (None, ts)
 
-unfoldable pub group_at : Lexemes → Read (List Name)
-group_at (keyword k.Group ∷ keyword k.By ∷ rest) = listed_at name_at rest
+unfoldable pub group_at : Lexemes → Read (List ColumnName)
+group_at (keyword k.Group ∷ keyword k.By ∷ rest) = listed_at column_at rest
 group_at ts = Some ([], ts)
 
 -- whether a key is descending
@@ -223,10 +265,10 @@ direction_at (keyword k.Asc ∷ rest) = (false, rest)
 direction_at (keyword k.Desc ∷ rest) = (true, rest)
 direction_at ts = (false, ts)
 
-unfoldable pub sort_key_at : Lexemes → Read (Key Name)
-sort_key_at ts = name_at ts >>= λ column. Some (record { column = column.0; descending = (direction_at column.1).0 }, (direction_at column.1).1)
+unfoldable pub sort_key_at : Lexemes → Read (Key ColumnName)
+sort_key_at ts = column_at ts >>= λ column. Some (record { column = column.0; descending = (direction_at column.1).0 }, (direction_at column.1).1)
 
-unfoldable pub order_at : Lexemes → Read (List (Key Name))
+unfoldable pub order_at : Lexemes → Read (List (Key ColumnName))
 order_at (keyword k.Order ∷ keyword k.By ∷ rest) = listed_at sort_key_at rest
 order_at ts = Some ([], ts)
 
@@ -241,7 +283,7 @@ limit_at (keyword k.Limit ∷ rest) = do
   Some (Some (record { count = count.0; offset = offset.0 }), offset.1)
 limit_at ts = Some (None, ts)
 
--- [(column,..)]
+-- [(name,..)]
 unfoldable pub columns_at : Lexemes → Read (Option (List Name))
 columns_at (sign LeftParenthesis ∷ rest) = bracketed_at name_at (sign LeftParenthesis ∷ rest) >>= λ names. Some (Some names.0, names.1)
 columns_at ts = Some (None, ts)
@@ -253,10 +295,6 @@ values_at _ = None
 unfoldable pub set_at : Lexemes → Option Lexemes
 set_at (keyword k.Set ∷ rest) = Some rest
 set_at _ = None
-
-unfoldable pub equals_at : Lexemes → Option Lexemes
-equals_at (operator Eq ∷ rest) = Some rest
-equals_at _ = None
 
 unfoldable pub assignment_at : Lexemes → Read (Assignment Name)
 assignment_at ts = do
@@ -271,11 +309,12 @@ unfoldable pub select_at : Lexemes → Read S.Select
 select_at ts = do
   list ← list_at ts
   table ← from_at list.1
-  filter ← where_at table.1
+  join ← join_at table.1
+  filter ← where_at join.1
   group_by ← group_at filter.1
   order_by ← order_at group_by.1
   limit ← limit_at order_by.1
-  Some (record { list = list.0; table = table.0; filter = filter.0; group_by = group_by.0; order_by = order_by.0; limit = limit.0 }, limit.1)
+  Some (record { list = list.0; table = table.0; join = join.0; filter = filter.0; group_by = group_by.0; order_by = order_by.0; limit = limit.0 }, limit.1)
 
 unfoldable pub insert_at : Lexemes → Read I.Insert
 insert_at ts = do
@@ -335,11 +374,11 @@ is_end (sign Semicolon ∷ []) = true
 is_end _ = false
 
 abbrev pub is_text : Statement × Lexemes → Bool
-is_text x = is_end x.1 && nat_le (literals_of x.0) max_literals
+is_text x = is_end x.1 && nat_le (literals_of x.0) max_literals && not (qualifies_outside_select x.0)
 
 unfoldable pub text_at : Lexemes → Option Statement
 text_at ts = statement_at ts >>= λ x. if is_text x then Some x.0 else None
 
 -- not | not AND not AND .., as the grammar has it
-abbrev pub ReadsAnd : ℕ → Lexemes → Condition Name → Type 0
+abbrev pub ReadsAnd : ℕ → Lexemes → Condition ColumnName → Type 0
 ReadsAnd depth = Joined (keyword k.And) And (ReadsNot depth)

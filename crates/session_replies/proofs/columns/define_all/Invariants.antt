@@ -3,4 +3,4 @@ use Rattle.session_replies.specs.Columns.{AllDefined}
 use Rattle.session_replies.proofs.columns.define_all.Given as goal
 
 abbrev pub invariant-loop-item : goal.invariant-loop-item
-invariant-loop-item l = AllDefined l.schema l.table l.join (take l.item-index l.wanted) l.columns
+invariant-loop-item l = AllDefined l.schema l.table l.join l.qualified 0 (take l.item-index l.wanted) l.columns

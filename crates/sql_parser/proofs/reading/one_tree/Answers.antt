@@ -14,4 +14,6 @@ same_tokens text ts us p q = some_is ts us (sym (lex_again p (length text) (omeg
 pub returns : goal.returns
 returns c = λ text x y p q.
     let same = same_tokens text q.0 p.0 q.1 p.1 in
-    some_is x y (sym (text_again (lexemes_of text p.0) x p.2 p.3) ∙ subst (λ ts. text_at (lexemes_of text ts) ≡ Some y) same (text_again (lexemes_of text q.0) y q.2 q.3))
+    let first = text_again (lexemes_of text p.0) x p.2 (p.3, p.4) in
+    let second = text_again (lexemes_of text q.0) y q.2 (q.3, q.4) in
+    some_is x y (sym first ∙ subst (λ ts. text_at (lexemes_of text ts) ≡ Some y) same second)

@@ -14,7 +14,7 @@ use Rattle.sql_parser.proofs.reading.parse.Goals as goal
 
 is_found : (text : List ℕ) (tokens : List Token) → Lexes text tokens → (result : Result Statement Refusal)
     → AgreesWith (λ x. x) result (text_at (lexemes_of text tokens)) → IfOk result (λ x. Reads text x)
-is_found text tokens lexed (Ok x) e = let s = text_sound (lexemes_of text tokens) x e in (tokens, lexed, s.0, s.1)
+is_found text tokens lexed (Ok x) e = let s = text_sound (lexemes_of text tokens) x e in (tokens, lexed, s.0, s.1.0, s.1.1)
 is_found text tokens lexed (Err e) h = tt
 
 pub returns-clause-found : goal.returns-clause-found
@@ -25,5 +25,5 @@ pub returns-clause-only : goal.returns-clause-only
 returns-clause-only c = λ x reads.
     let text = c.args.text.now in
     let same : c.deref.result.now ≡ reads.0 = c.deref.ensures.value ∙ c.in_ok-tokens.ensures.only reads.0 reads.1 in
-    let read : text_at (lexemes_of text c.deref.result.now) ≡ Some x = rw same (text_again (lexemes_of text reads.0) x reads.2 reads.3) in
+    let read : text_at (lexemes_of text c.deref.result.now) ≡ Some x = rw same (text_again (lexemes_of text reads.0) x reads.2 (reads.3, reads.4)) in
     given (λ y. y) x c.whole.result (subst (AgreesWith (λ y. y) c.whole.result) read c.whole.ensures)

@@ -4,4 +4,4 @@ use Rattle.vschema.specs.Checks.{condition_mixes}
 use Rattle.vschema.proofs.checks.+mixes.Given as goal
 
 abbrev pub invariant-any_mixes-loop-member : goal.invariant-any_mixes-loop-member
-invariant-any_mixes-loop-member l = list_any (λ b. b) (map (condition_mixes l.table) (drop l.member-index l.members)) ≡ list_any (λ b. b) (map (condition_mixes l.table) l.members)
+invariant-any_mixes-loop-member l = list_any (λ b. b) (map (condition_mixes l.scope) (drop l.member-index l.members)) ≡ list_any (λ b. b) (map (condition_mixes l.scope) l.members)

@@ -1,0 +1,31 @@
+#!/usr/bin/env bash
+# Measures joins of the router's server beside MariaDB's on the same tables in one run: by key, of 1,000 rows with 100,000, and of 100,000 with
+# 100,000 over 4 shards. Prints the tables; with --write puts them into docs/PERFORMANCE.md.
+# Usage: bench/joins.sh [--write] [--rows N] [--rounds N] [PROGRAM]
+# PROGRAM is built by `rt run` in crates/vtgate_main where none is given. Installs Debian's MariaDB server where there is none, and runs it in a
+# folder of its own.
+set -euo pipefail
+top=$(cd "$(dirname "$0")/.." && pwd)
+. "$top/bench/program.sh"
+rows=100000 rounds=3 document=() program=''
+while [ $# -gt 0 ]; do
+    case $1 in
+        --write) document=(--document "$top/docs/PERFORMANCE.md") ;;
+        --rows) rows=$2 && shift ;;
+        --rounds) rounds=$2 && shift ;;
+        -*) echo "no such choice: $1" >&2 && exit 2 ;;
+        *) program=$1 ;;
+    esac
+    shift
+done
+if ! dpkg -s mariadb-server mariadb-client > /dev/null 2>&1; then
+    as_root=()
+    [ "$(id -u)" = 0 ] || as_root=(sudo)
+    "${as_root[@]}" apt-get update -qq
+    DEBIAN_FRONTEND=noninteractive "${as_root[@]}" apt-get install -y -qq --no-install-recommends mariadb-server mariadb-client >&2
+fi
+program=$(program_of vtgate_main "$program")
+work=$(mktemp -d)
+trap 'rm -rf "$work"' EXIT
+python3 "$top/bench/joins/measure.py" "$(realpath "$program")" "$work" --rows "$rows" --rounds "$rounds" \
+    --version "$(dpkg-query -W -f '${Version}' mariadb-server)" "${document[@]}"

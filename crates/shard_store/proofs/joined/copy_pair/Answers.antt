@@ -1,8 +1,0 @@
-use Rattle.std.proofs.Common.{◌++◌, ◌∷◌, [], ◌∙◌, sym}
-use Rattle.sql_eval.proofs.PairValues.{padded_next}
-use Rattle.shard_store.proofs.joined.copy_pair.Goals as goal
-
-pub loop-place-preserved : goal.loop-place-preserved
-loop-place-preserved c =
-    c.in_ok-push.ensures.ok ∙ (λ i. c.loop-place.invariant i ++ c.in_ok-copy_at.ensures.ok i ∷ [])
-    ∙ sym (padded_next c.loop-place.place c.args.first.now)

@@ -1,0 +1,69 @@
+//! Which joins are taken.
+ghost use Rattle.std.specs.Prelude.{◌≡◌, length};
+ghost use Rattle.vschema.specs.Joins.{same_vindex, takes_keys, takes_columns, is_refused, join_is_refused};
+
+use crate::checks::{column_is_text, differ};
+use crate::schema::{ColumnVindex, Query, Table};
+use crate::scope::{Scope, second_of, table_of, width};
+use vindex::AnyVindex;
+
+fn same_vindex(a: AnyVindex, b: AnyVindex) -> bool
+    ensures { result ≡ same_vindex a b }
+{
+    matches!(
+        (a, b),
+        (AnyVindex::Numeric, AnyVindex::Numeric)
+            | (AnyVindex::ReverseBits, AnyVindex::ReverseBits)
+            | (AnyVindex::Binary, AnyVindex::Binary)
+            | (AnyVindex::BinaryMd5, AnyVindex::BinaryMd5)
+    )
+}
+
+fn takes_keys(
+    scope: &Scope,
+    a: usize,
+    b: usize,
+    first: Option<ColumnVindex>,
+    second: Option<ColumnVindex>,
+) -> bool
+    ensures { result ≡ takes_keys scope.now a b first second }
+{
+    match (first, second) {
+        (None, None) => !differ(column_is_text(scope, a), column_is_text(scope, b)),
+        (Some(v), Some(w)) => {
+            v.number == w.number
+                && same_vindex(v.vindex, w.vindex)
+                && v.column == a
+                && b >= width(scope)
+                && b - width(scope) == w.column
+        }
+        _ => false,
+    }
+}
+
+fn takes_columns(scope: &Scope, table: &Table, a: usize, b: usize) -> bool
+    ensures { result ≡ takes_columns scope.now table.now a b }
+{
+    a < width(scope)
+        && width(scope) <= b
+        && table_of(scope).keyspace == table.keyspace
+        && takes_keys(scope, a, b, table_of(scope).vindex, table.vindex)
+}
+
+/// Whether the query's join isn't taken: of a table with itself, of an aggregated query, or of columns by which its pairs may lie on two
+/// shards, or that differ in kind.
+pub fn join_is_refused(scope: &Scope, query: &Query) -> bool
+    ensures { result ≡ join_is_refused scope.now query.now }
+{
+    let Some(join) = query.join else {
+        return false;
+    };
+    match second_of(scope) {
+        Some(table) => {
+            query.table == join.table
+                || query.is_aggregated()
+                || !takes_columns(scope, table, join.first, join.second)
+        }
+        None => true,
+    }
+}

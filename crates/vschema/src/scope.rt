@@ -1,0 +1,196 @@
+//! The columns that a statement may name.
+ghost use Rattle.std.specs.Prelude.{◌≡◌, ◌+◌, ◌<◌, length, option_map, slice_get, IfSome, Some};
+ghost use Rattle.vschema.specs.Scopes.{only, both_of, scope_columns, second_place, just_one, is_named, named_place, scope_place, place_in};
+ghost use Rattle.vschema.specs.Schema.{column_place as place_of};
+ghost use Rattle.vschema.specs.Checks.{is_unnamed};
+ghost use Rattle.vschema.specs.Scopes as scopes;
+
+use crate::names::column_place;
+use crate::schema::Table;
+use sql_tree::{ColumnName, Name};
+use std::marker::Model;
+use vschema_document::{ColumnType, is_name};
+
+/// The tables behind FROM: one, or the two of a join. Contracts see them as a `Scope` of definitions.
+#[derive(Drop)]
+pub struct Scope<'s> {
+    one: &'s Table,
+    other: Option<&'s Table>,
+}
+
+impl<'s> Model for Scope<'s> {
+    ghost use Rattle.std.specs.Prelude.{option_map};
+    ghost use Rattle.vschema.specs.Scopes as scopes;
+
+    ghost Value = { scopes.Scope };
+
+    ghost view = { λ s. record { first = s.one.now; second = option_map (λ t. t.now) s.other } };
+}
+
+// Just one of two places.
+fn just_one(first: Option<usize>, second: Option<usize>) -> Option<usize>
+    ensures { result ≡ just_one first second }
+{
+    match (first, second) {
+        (Some(_), Some(_)) => None,
+        (Some(place), None) => Some(place),
+        (None, place) => place,
+    }
+}
+
+// The place of a column, which the table has.
+fn place_below(table: &Table, name: &Name) -> Option<usize>
+    ensures place { result ≡ place_of table.now name.now }
+    ensures below { IfSome result (λ n. n < length table.now.columns) }
+{
+    column_place(table, name)
+}
+
+// The place of a column behind those of a first table.
+fn place_behind(first: &Table, table: &Table, name: &Name) -> Option<usize>
+    ensures { result ≡ option_map (λ n. length first.now.columns + n) (place_of table.now name.now) }
+{
+    let width = first.columns.as_slice().len();
+    let behind = table.columns.as_slice().len();
+    match place_below(table, name) {
+        Some(place) => {
+            prove!(place < behind);
+            Some(width + place)
+        }
+        None => None,
+    }
+}
+
+impl<'s> Scope<'s> {
+    /// The columns of one table.
+    pub fn of(table: &'s Table) -> Scope<'s>
+        ensures { result ≡ only table.now }
+    {
+        Scope {
+            one: table,
+            other: None,
+        }
+    }
+
+    /// The columns of a table, and behind them those of another.
+    pub fn of_both(first: &'s Table, second: &'s Table) -> Scope<'s>
+        ensures { result ≡ both_of first.now second.now }
+    {
+        Scope {
+            one: first,
+            other: Some(second),
+        }
+    }
+}
+
+fn second_place(scope: &Scope, name: &Name) -> Option<usize>
+    ensures { result ≡ second_place scope.now name.now }
+{
+    match scope.other {
+        Some(table) => place_behind(scope.one, table, name),
+        None => None,
+    }
+}
+
+fn is_second(scope: &Scope, name: &Name) -> bool
+    ensures { result ≡ is_named name.now scope.now.second }
+{
+    match scope.other {
+        Some(table) => is_name(&table.name, name),
+        None => false,
+    }
+}
+
+fn named_place(scope: &Scope, table: &Name, name: &Name) -> Option<usize>
+    ensures { result ≡ named_place scope.now (Some table.now) name.now }
+{
+    if is_name(&scope.one.name, table) {
+        column_place(scope.one, name)
+    } else if is_second(scope, table) {
+        second_place(scope, name)
+    } else {
+        None
+    }
+}
+
+/// The place of a column, where just one is meant.
+pub fn scope_place(scope: &Scope, column: &ColumnName) -> Option<usize>
+    ensures { result ≡ scope_place scope.now column.now }
+{
+    match &column.table {
+        Some(table) => named_place(scope, table, &column.name),
+        None => just_one(
+            column_place(scope.one, &column.name),
+            second_place(scope, &column.name),
+        ),
+    }
+}
+
+/// The place of a column; that it is there is a check of its own.
+pub fn place_in(scope: &Scope, column: &ColumnName) -> usize
+    ensures { result ≡ place_in scope.now column.now }
+{
+    scope_place(scope, column).unwrap_or(0)
+}
+
+/// Whether no column is meant, or not just one.
+pub fn is_unnamed(scope: &Scope, column: &ColumnName) -> bool
+    ensures { result ≡ is_unnamed scope.now column.now }
+{
+    scope_place(scope, column).is_none()
+}
+
+fn kind_of(table: &Table, place: usize) -> Option<ColumnType>
+    ensures { result ≡ option_map (λ c. c.kind) (slice_get table.now.columns place) }
+{
+    match table.columns.as_slice().get(place) {
+        Some(column) => Some(column.kind),
+        None => None,
+    }
+}
+
+/// How many columns the first table has.
+pub fn width(scope: &Scope) -> usize
+    ensures { result ≡ length scope.now.first.columns }
+{
+    scope.one.columns.as_slice().len()
+}
+
+/// How many columns there are.
+pub fn column_count(scope: &Scope) -> usize
+    ensures { result ≡ length (scope_columns scope.now) }
+{
+    let width = scope.one.columns.as_slice().len();
+    match scope.other {
+        Some(table) => width + table.columns.as_slice().len(),
+        None => width,
+    }
+}
+
+/// The type of the column at a place.
+pub fn kind_at(scope: &Scope, place: usize) -> Option<ColumnType>
+    ensures { result ≡ option_map (λ c. c.kind) (slice_get (scope_columns scope.now) place) }
+{
+    let width = scope.one.columns.as_slice().len();
+    if place < width {
+        return kind_of(scope.one, place);
+    }
+    match scope.other {
+        Some(table) => kind_of(table, place - width),
+        None => None,
+    }
+}
+
+/// The first table.
+pub fn table_of<'s>(scope: &Scope<'s>) -> &'s Table
+    ensures { result.now ≡ scope.now.first }
+{
+    scope.one
+}
+
+/// The second table, if there is one.
+pub fn second_of<'s>(scope: &Scope<'s>) -> Option<&'s Table>
+    ensures { option_map (λ t. t.now) result ≡ scope.now.second }
+{
+    scope.other
+}
