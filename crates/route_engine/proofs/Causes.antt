@@ -1,7 +1,6 @@
 -- Why a transaction is refused for a conflict: behind one of its statements another session's commit has changed a row of that statement's table.
-use Rattle.std.proofs.Common.{◌≡◌, ◌≢◌, inl, inr, ℕ, Bool, true, false, ◌||◌, ◌&&◌, List, [], ◌∷◌, ◌++◌, length, drop, filter, Option, Some, refl, sym, ap, subst, ◌∙◌}
+use Rattle.std.proofs.Common.{◌≡◌, inl, inr, ℕ, Bool, true, false, ◌||◌, ◌&&◌, List, [], ◌∷◌, ◌++◌, length, drop, filter, Option, Some, refl, sym, ap, subst, ◌∙◌}
 use Rattle.std.proofs.Math.Seq.{drop-append_seam}
-use Rattle.std.specs.Prelude.{Contains}
 use Rattle.std.specs.List.{AllByRecursion, list_any}
 use Rattle.std.proofs.lemmas.Bool.{false≢true, and_parts, eqb-true, eq-eqb}
 use Rattle.std.proofs.lemmas.List.{append-nil, append_cancel_left}
@@ -13,7 +12,6 @@ use Rattle.shard_law.proofs.Has.{of_shard}
 use Rattle.shard_law.proofs.Law.{slots, legal_back}
 use Rattle.shard_law.proofs.Lists.{In, In-all, In-right, In-filter, In-from_filter, Contains-from_In}
 use Rattle.shard_law.proofs.Since.{not_again}
-use Rattle.shard_run.specs.declared.Commit as C
 use Rattle.shard_run.specs.declared.Mode.TheVariants.{Following, Serving}
 use Rattle.shard_run.specs.declared.Shard.{Shard}
 use Rattle.shard_run.specs.declared.Entry.{Entry}

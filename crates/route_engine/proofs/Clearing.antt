@@ -1,5 +1,5 @@
 -- Where a shard tells no conflict, no other session has changed a table of the transaction.
-use Rattle.std.proofs.Common.{◌≡◌, ℕ, zero, suc, ◌+◌, ◌≤◌, Bool, true, false, cond, ◌||◌, ◌&&◌, ◌==◌, List, [], ◌∷◌, ◌++◌, length, drop, Option, Some, None, inl, inr, refl, sym, ap, subst, ◌∙◌, arith}
+use Rattle.std.proofs.Common.{◌≡◌, ℕ, zero, suc, ◌≤◌, Bool, true, false, cond, ◌||◌, ◌&&◌, ◌==◌, List, [], ◌∷◌, ◌++◌, length, drop, Option, inl, inr, refl, sym, ap, subst, ◌∙◌, arith}
 use Rattle.std.specs.Prelude.{Contains}
 use Rattle.std.specs.List.{AllByRecursion, list_any}
 use Rattle.std.proofs.lemmas.Bool.{false≢true, and_from, eqb-true, eq-eqb}
@@ -13,7 +13,7 @@ use Rattle.shard_contents.specs.Transactions.{changes_table, is_changed, is_conf
 use Rattle.shard.proofs.Conflicts.{stored_is}
 use Rattle.shard.proofs.Moves.{touch_of, all_touched}
 use Rattle.shard_calls.specs.Transactions.{Step, IsConflict, tables_of}
-use Rattle.shard_calls.specs.Pendings.{WasTouched, HasTouched}
+use Rattle.shard_calls.specs.Pendings.{HasTouched}
 use Rattle.route_engine.proofs.Causes.{found}
 
 any_from : {X : Type 0} (p : X → Bool) (x : X) (xs : List X) → In x xs → p x ≡ true → list_any p xs ≡ true

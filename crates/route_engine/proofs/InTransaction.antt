@@ -1,5 +1,5 @@
 -- One statement of an open transaction, from what its shard did, and what then stands.
-use Rattle.std.proofs.Common.{true, ◌≡◌, ◌≢◌, ℕ, inl, ◌<◌, ◌≤◌, false, List, [], ◌∷◌, ◌++◌, length, filter, flat_map, Option, Some, None, refl, sym, ap, subst, ◌∙◌, arith}
+use Rattle.std.proofs.Common.{true, ◌≡◌, ◌≢◌, ℕ, inl, ◌<◌, ◌≤◌, List, [], ◌∷◌, ◌++◌, length, filter, Option, Some, None, refl, sym, ap, subst, ◌∙◌, arith}
 use Rattle.std.specs.Prelude.{Contains}
 use Rattle.std.specs.List.{AllByRecursion}
 use Rattle.std.proofs.lemmas.Grind.{flat_map-append}

@@ -1,5 +1,5 @@
 -- Why a statement of an open transaction is refused, from what its shard told.
-use Rattle.std.proofs.Common.{true, ◌≡◌, ℕ, ◌<◌, [], ◌∷◌, length, refl, sym, ap, subst, ◌∙◌, Some}
+use Rattle.std.proofs.Common.{true, ◌≡◌, ℕ, refl}
 use Rattle.std.specs.Prelude.{Contains}
 use Rattle.vt_value.specs.declared.refusal.Refusal.{Refusal}
 use Rattle.vschema.specs.declared.schema.Typed.{Typed}
@@ -16,10 +16,10 @@ use Rattle.shard_run.specs.declared.Entry.{Entry}
 use Rattle.shard_run.specs.Runs.{Opening, one}
 use Rattle.shard_run.specs.Openings.{IsOpening}
 use Rattle.shard_contents.specs.declared.limits.Limits.{Limits}
-use Rattle.shard_contents.specs.Shards.{HasLooked, commit_of}
+use Rattle.shard_contents.specs.Shards.{commit_of}
 use Rattle.shard_contents.specs.Transactions as tx
 use Rattle.shard_contents.specs.Transactions.{PendingView, IsStopped, IsReadRefusal, IsWriteRefusal, IsCommitAllRefusal}
-use Rattle.shard_calls.specs.Answers.{NeedsAlone, HasGone}
+use Rattle.shard_calls.specs.Answers.{NeedsAlone}
 use Rattle.shard_calls.specs.Transactions as t
 use Rattle.shard_calls.specs.Transactions.{Transaction, Standing, IsFor, IsRefusedIn, used}
 use Rattle.shard_calls.specs.inner.Within.{left_by}

@@ -3,7 +3,7 @@ use Rattle.std.proofs.Common.{◌≡◌, ℕ, ◌<◌, Bool, true, false, cond, 
 use Rattle.std.specs.List.{AllByRecursion}
 use Rattle.std.proofs.lemmas.List.{append-nil}
 use Rattle.std.proofs.lemmas.List.Elements.{filter-append}
-use Rattle.std.proofs.lemmas.List.Sorted.{IsPermutation-refl, IsPermutation-sym, IsPermutation-trans}
+use Rattle.std.proofs.lemmas.List.Sorted.{IsPermutation-sym, IsPermutation-trans}
 use Rattle.vt_value.specs.Values.{Row}
 use Rattle.vschema.specs.declared.schema.Join.{Join}
 use Rattle.vschema.specs.declared.schema.Place.{Place}
@@ -13,7 +13,7 @@ use Rattle.vschema.specs.Checks.{is_aggregated}
 use Rattle.vschema.specs.Database.{Database, rows_of, restrict}
 use Rattle.vschema.specs.Sources.{with_pairs, pairs_of, source_rows, join_tables, source_tables, SourcesThere, JoinsInPlace}
 use Rattle.sql_eval.specs.Conditions.{is_kept}
-use Rattle.sql_eval.specs.Queries.{Keyed, kept_rows, keyed_row, keyed_groups, IsAnswer, Allowed}
+use Rattle.sql_eval.specs.Queries.{Keyed, kept_rows, keyed_row, keyed_groups, IsAnswer}
 use Rattle.sql_eval.proofs.Pairs.{source_permuted}
 use Rattle.sql_eval.proofs.Permutations.{IsPermutation-filter}
 use Rattle.sql_eval.proofs.SameAnswers.{same_answers}
@@ -29,7 +29,7 @@ use Rattle.shard_run.specs.Openings.{IsOpening}
 use Rattle.shard_law.specs.Legal.{Legal}
 use Rattle.shard_law.proofs.Lists.{all-weaker}
 use Rattle.shard_calls.specs.Answers.{needed}
-use Rattle.shard_calls.specs.Mix.{Part, part_rows, mixed_rows}
+use Rattle.shard_calls.specs.Mix.{Part, mixed_rows}
 use Rattle.shard_calls.specs.Transactions.{needed_for}
 use Rattle.route_engine.proofs.Everywhere.{covers_apart, same_moment}
 use Rattle.route_engine.proofs.Moments.{filter-twice, placed_at}

@@ -1,5 +1,5 @@
 -- What a statement of an open transaction leads to, from what the engine's parts tell.
-use Rattle.std.proofs.Common.{true, false, cond, ◌≡◌, ◌≢◌, ◌⊎◌, ℕ, ◌<◌, ◌≤◌, Bool, List, [], ◌∷◌, ◌++◌, length, filter, Option, Some, None, IsSome, refl, sym, ap, subst, ◌∙◌, inl, inr}
+use Rattle.std.proofs.Common.{true, ◌≡◌, ◌⊎◌, ℕ, ◌<◌, ◌≤◌, List, [], ◌∷◌, ◌++◌, length, filter, Option, Some, None, refl, sym, ap, subst, ◌∙◌, inl, inr}
 use Rattle.std.specs.Prelude.{Contains}
 use Rattle.std.specs.List.{AllByRecursion, All}
 use Rattle.std.proofs.lemmas.List.{append-nil, append_assoc}
@@ -8,10 +8,7 @@ use mathlib.Core.List.{IsPrefix}
 use Rattle.vt_value.specs.declared.refusal.Refusal.{Refusal}
 use Rattle.vt_value.specs.declared.refusal.Refusal.TheVariants.{SeveralShards}
 use Rattle.vt_value.specs.Values.{Row}
-use Rattle.vschema.specs.declared.schema.Place.{Place}
 use Rattle.vschema.specs.declared.schema.Query.{Query}
-use Rattle.vschema.specs.declared.schema.Table.{Table}
-use Rattle.vschema.specs.declared.schema.VSchema.{VSchema}
 use Rattle.vschema.specs.declared.schema.Typed.{Typed}
 use Rattle.vschema.specs.declared.schema.Typed.TheVariants as typed
 use Rattle.vschema.specs.declared.changes.Write.{Write}
@@ -19,7 +16,6 @@ use Rattle.vschema.specs.Database.{all_applied}
 use Rattle.vschema.specs.Sources.{SourcesThere, JoinsInPlace}
 use Rattle.vschema.specs.TypedWrites.{IsTypedWrite}
 use Rattle.vschema.specs.WellFormed.{is_vschema}
-use Rattle.sql_eval.specs.Queries.{IsAnswer}
 use Rattle.sql_eval.specs.Writes.{written_table}
 use Rattle.planner.specs.Routes.{table_at, route_of, write_route}
 use Rattle.journal.specs.Runs.{IsLegal, NumbersBelow, number_of, by_session}
@@ -29,17 +25,15 @@ use Rattle.serving.specs.Partitions.{Seat, IsPartition}
 use Rattle.shard_law.proofs.Lists.{In, In-left, In-from_Contains, Contains-from_In, all-append, all-weaker}
 use Rattle.shard_run.specs.declared.Shard.{Shard}
 use Rattle.shard_run.specs.declared.Entry.{Entry}
-use Rattle.shard_run.specs.declared.Mode.TheVariants.{Serving}
 use Rattle.shard_run.specs.Runs.{Run, Opening, one}
 use Rattle.shard_law.specs.Legal.{IsOnItsSlot}
 use Rattle.shard_run.specs.Openings.{IsOpening}
 use Rattle.shard_contents.specs.declared.limits.Limits.{Limits}
 use Rattle.shard_contents.specs.Shards.{MayFollow, HasLooked, commit_of}
-use Rattle.shard_contents.specs.Transactions.{PendingView, nothing_done, IsPendingOf}
+use Rattle.shard_contents.specs.Transactions.{PendingView, IsPendingOf}
 use Rattle.shard.proofs.Moves.{pending_nothing, pending_same}
 use Rattle.shard_calls.specs.declared.reply.Answer.{Answer}
 use Rattle.shard_calls.specs.declared.reply.Answer.TheVariants.{Rows, Count}
-use Rattle.shard_calls.specs.declared.reply.Reply.{Reply}
 use Rattle.shard_calls.specs.declared.reply.ShardRead.{ShardRead}
 use Rattle.shard.specs.Seats.{seat_of}
 use Rattle.shard_calls.specs.Answers.{HasGone, NeedsAlone}

@@ -1,10 +1,8 @@
 -- What a transaction's statements gave over its shard's rows, they give over the one database.
-use Rattle.std.proofs.Common.{◌≡◌, ℕ, ◌<◌, true, cond, List, [], ◌∷◌, ◌++◌, length, filter, map, sym, ap, subst, ◌∙◌, IsPermutation, Some}
+use Rattle.std.proofs.Common.{◌≡◌, ℕ, true, List, [], ◌∷◌, ◌++◌, length, sym, ap, subst, ◌∙◌, Some}
 use Rattle.vt_value.specs.Values.{Row}
-use Rattle.vschema.specs.declared.schema.Place.{Place}
 use Rattle.vschema.specs.declared.schema.Query.{Query}
 use Rattle.vschema.specs.declared.schema.Typed.TheVariants as typed
-use Rattle.vschema.specs.declared.schema.Table.{Table}
 use Rattle.vschema.specs.declared.changes.Write.{Write}
 use Rattle.vschema.specs.declared.changes.RowChange.{RowChange}
 use Rattle.vschema.specs.Database.{Database, SameRows, restrict, all_applied}
@@ -12,7 +10,6 @@ use Rattle.vschema.specs.Sources.{source_rows, SourcesThere, JoinsInPlace}
 use Rattle.vschema.specs.TypedWrites.{IsTypedWrite}
 use Rattle.vschema.specs.WellFormed.{is_vschema}
 use Rattle.sql_eval.specs.Queries.{Allowed}
-use Rattle.sql_eval.specs.Writes.{written_table}
 use Rattle.sql_eval.proofs.SameAnswers.{same_allowed}
 use Rattle.planner.specs.Routes.{table_at}
 use Rattle.journal.specs.Runs.{IsLegal, NumbersBelow}

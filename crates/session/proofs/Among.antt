@@ -1,11 +1,10 @@
 -- Where no other session commits meanwhile, a statement of one of several sessions gives what one database gives.
-use Rattle.std.proofs.Common.{◌≡◌, ◌⊎◌, true, ℕ, List, [], ◌∷◌, ◌++◌, map, Option, Some, None, Ok, Err, refl, sym, ap, subst, ◌∙◌, inl, inr, append_assoc}
+use Rattle.std.proofs.Common.{◌≡◌, ◌⊎◌, true, ℕ, List, [], ◌∷◌, ◌++◌, map, Option, Some, None, Ok, refl, sym, ap, subst, inl, inr, append_assoc}
 use Rattle.std.specs.List.{AllByRecursion}
 use Rattle.std.proofs.lemmas.List.{append-nil}
 use Rattle.vt_value.specs.declared.refusal.Refusal.{Refusal}
 use Rattle.sql_tree.specs.declared.Statement.{Statement}
 use Rattle.sql_parser.specs.Grammar.{Reads}
-use Rattle.vschema.specs.declared.schema.VSchema.{VSchema}
 use Rattle.vschema.specs.declared.schema.Typed.{Typed}
 use Rattle.vschema.specs.declared.schema.Typed.TheVariants as typed
 use Rattle.vschema.specs.declared.changes.Write.{Write}
@@ -38,7 +37,7 @@ use Rattle.shard_calls.specs.Pendings.{OpenView, Stands, IsAnywhere, AreTold}
 use Rattle.route_engine.proofs.NoOthers.{one_still, still_self, unchanged, gone_same, looked_unchanged}
 use Rattle.route_engine.proofs.Over.{reply_over, refusal_over}
 use Rattle.session.specs.Alone.{Told, InTurn, LeavesAll, told_of}
-use Rattle.session.proofs.OneDatabase.{map-push, writes_none, in_turn, all_stay, reads_leave, nothing_written, none_left, none_right}
+use Rattle.session.proofs.OneDatabase.{map-push, in_turn, all_stay, reads_leave, nothing_written, none_left, none_right}
 use Rattle.session.proofs.Steps.{committed_later}
 use Rattle.session.specs.Among as m
 use Rattle.session.specs.Among.{told_in, IsEverywhere, GivesAmong, AnswersAmong}

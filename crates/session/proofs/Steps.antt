@@ -16,7 +16,7 @@ use Rattle.shard_contents.specs.declared.limits.Limits.{Limits}
 use Rattle.shard_contents.specs.Shards.{MayFollow, HasLooked}
 use Rattle.shard_calls.specs.declared.reply.Reply.{Reply}
 use Rattle.route_engine.specs.inner.Answers as a
-use Rattle.shard_calls.specs.Answers.{counted, HasGone, Gives}
+use Rattle.shard_calls.specs.Answers.{counted, HasGone}
 use Rattle.route_engine.specs.inner.Answers.{IsReply, IsRefused}
 use Rattle.shard_calls.specs.Transactions as x
 use Rattle.shard_calls.specs.Transactions.{Step, Transaction, Standing, IsCommitted, GivesIn, GivesAt, IsReplyTo, IsRefusedIn, IsRefusedBy, IsRefusedNow, IsRefusedAt}

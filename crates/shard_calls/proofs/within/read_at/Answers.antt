@@ -1,4 +1,3 @@
-use Rattle.std.proofs.Common.{◌∙◌}
 use Rattle.std.proofs.lemmas.Result.{err_from_is_err_and}
 use Rattle.shard_calls.specs.inner.Within as w
 use Rattle.shard_calls.proofs.Calling.{was_not_read}

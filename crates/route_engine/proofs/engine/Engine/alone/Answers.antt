@@ -1,4 +1,4 @@
-use Rattle.std.proofs.Common.{Some, None, refl, ap, sym, subst, length, ◌<◌, ◌∙◌}
+use Rattle.std.proofs.Common.{Some, None, ap, sym, subst, length, ◌<◌}
 use Rattle.shard_contents.specs.Transactions.{PendingView}
 use Rattle.sql_eval.specs.Writes.{written_table}
 use Rattle.shard_law.proofs.Typed.{table_there}

@@ -1,4 +1,4 @@
-use Rattle.std.proofs.Common.{ℕ, ◌<◌, List, length, reverse, map, sym, subst}
+use Rattle.std.proofs.Common.{ℕ, ◌<◌, List, reverse, map, sym, subst}
 use Rattle.std.specs.Prelude.{All, IsSorted}
 use Rattle.std.proofs.lemmas.List.{get_or-map, length-map}
 use Rattle.operators.specs.Orders.{row_cmp}

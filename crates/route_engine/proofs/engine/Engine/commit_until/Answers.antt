@@ -1,4 +1,4 @@
-use Rattle.std.proofs.Common.{◌≡◌, [], ap, sym, subst, ◌∙◌, refl}
+use Rattle.std.proofs.Common.{[], ap, sym, subst, ◌∙◌, refl}
 use Rattle.vschema.specs.declared.changes.Write.{Write}
 use Rattle.sql_eval.specs.Writes.{written_table}
 use Rattle.planner.specs.Routes.{table_at, write_route}

@@ -1,5 +1,4 @@
-use Rattle.std.proofs.Common.{Some, inl, inr, refl, sym, ap, subst, ◌∙◌}
-use Rattle.std.proofs.lemmas.Result.{err_from_is_err_and}
+use Rattle.std.proofs.Common.{Some, inl, inr, refl, sym}
 use Rattle.route_engine.proofs.Doing as d
 use Rattle.route_engine.proofs.engine.Engine.count_by.Goals as goal
 

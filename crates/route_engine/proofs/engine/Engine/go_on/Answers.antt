@@ -1,4 +1,4 @@
-use Rattle.std.proofs.Common.{Bool, refl, ap, sym, subst, ◌∙◌}
+use Rattle.std.proofs.Common.{Bool, ap, sym, ◌∙◌}
 use Rattle.shard_calls.specs.inner.Within.{stays_open}
 use Rattle.route_engine.proofs.Leading as l
 use Rattle.route_engine.proofs.engine.Engine.go_on.Goals as goal

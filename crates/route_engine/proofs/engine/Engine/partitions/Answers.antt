@@ -1,4 +1,4 @@
-use Rattle.std.proofs.Common.{◌≡◌, ℕ, List, Bor, Option, length, sym, ap, subst, ◌∙◌}
+use Rattle.std.proofs.Common.{ℕ, List, length, sym, ap, subst, ◌∙◌}
 use Rattle.std.specs.List.{range_with_len}
 use Rattle.std.specs.Slice.{IsItemAt}
 use Rattle.vschema.specs.declared.schema.VSchema.{VSchema}

@@ -1,4 +1,4 @@
-use Rattle.std.proofs.Common.{Option, Some, None, sym, subst, ◌∙◌}
+use Rattle.std.proofs.Common.{Option, sym, subst, ◌∙◌}
 use Rattle.std.specs.Prelude.{IfOk, IfErr}
 use Rattle.shard_calls.specs.Transactions.{GivesAt, IsRefusedBy}
 use Rattle.shard_calls.specs.Pendings.{OpenView, IsOf}

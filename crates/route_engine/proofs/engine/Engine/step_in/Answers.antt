@@ -1,5 +1,3 @@
-use Rattle.std.proofs.Common.{inl, inr, refl, sym, ap, subst, ◌∙◌}
-use Rattle.std.proofs.lemmas.Result.{err_from_is_err_and}
 use Rattle.route_engine.proofs.Doing as d
 use Rattle.shard_law.proofs.Typed.{table_there}
 use Rattle.route_engine.proofs.Sessions.{is_typed}
