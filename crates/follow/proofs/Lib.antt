@@ -1,2 +1,3 @@
 pub mod Onward
 pub mod Moves
+pub mod Turns

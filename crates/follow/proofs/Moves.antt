@@ -232,6 +232,14 @@ some_as (Err e) A B f is = is
 
 -- ---- several sources
 
+pub split_at : {X : Type 0} (xs : List X) (n : ℕ) (x : X) → n < length xs → x ≡ get_or xs n x → xs ≡ take n xs ++ x ∷ drop (n + 1) xs
+split_at [] n x l e = absurd (omega (arith, l))
+split_at (y ∷ xs) zero x l e = ap (λ z. z ∷ xs) (sym e)
+split_at (y ∷ xs) (suc n) x l at =
+    let e : suc n + 1 ≡ suc (n + 1) = omega arith in
+    let h : drop (suc n + 1) (y ∷ xs) ≡ drop (n + 1) xs = ap (λ (k : ℕ). drop k (y ∷ xs)) e in
+    ap (λ l. y ∷ l) (split_at xs n x (omega (arith, l)) at ∙ ap (λ l. take n xs ++ x ∷ l) (sym h))
+
 -- what was level stays so in what the pass sees later
 pub level_later : (o : Opening) (source target : Shard) (p q now : PassView Entry) → IsOnward o q now → HasMoved o source target p q Level
     → HasMoved o source target p now Level
@@ -257,16 +265,8 @@ module _ {M : Type 0} (which : M → Shard) (o : Opening) (target : Shard) (p : 
     pub moved_with : (step : Step) → HasMoved o (which m) target q now step → HasMovedWith o (map which sources) target p now step
     moved_with step moved =
         one (map which (take i sources)) (map which (drop (i + 1) sources)) (which m)
-        (ap (map which) (split sources i there is) ∙ map-append which (take i sources) (m ∷ drop (i + 1) sources))
+        (ap (map which) (split_at sources i m there is) ∙ map-append which (take i sources) (m ∷ drop (i + 1) sources))
         (all_mapped now (take i sources) (all_later q now on (take i sources) so_far)) (moved_after o (which m) target p q now before step moved)
-      where
-        split : (xs : List M) (n : ℕ) → n < length xs → m ≡ get_or xs n m → xs ≡ take n xs ++ m ∷ drop (n + 1) xs
-        split [] n l e = absurd (omega (arith, l))
-        split (x ∷ xs) zero l e = ap (λ y. y ∷ xs) (sym e)
-        split (x ∷ xs) (suc n) l at =
-            let e : suc n + 1 ≡ suc (n + 1) = omega arith in
-            let h : drop (suc n + 1) (x ∷ xs) ≡ drop (n + 1) xs = ap (λ (k : ℕ). drop k (x ∷ xs)) e in
-            ap (λ l. x ∷ l) (split xs n (omega (arith, l)) at ∙ ap (λ l. take n xs ++ m ∷ l) (sym h))
 
     -- with this one too nothing is left
     pub level_with : HasMoved o (which m) target q now Level → AllByRecursion (λ m. HasMoved o (which m) target p now Level) (take (i + 1) sources)

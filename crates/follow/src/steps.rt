@@ -1,7 +1,7 @@
 //! One step: a look at the target, then one at the source, then, where something is left, an entry of the target. Each is made under its own
 //! lock, one lock after the other. A lock can't tell which shard it holds, nor that the target is as it was, so both are tested under it;
-//! where that fails, which no run of one controller meets, the step begins again.
-ghost use Rattle.std.specs.Prelude.{◌≡◌, ◌⊎◌, ◌<◌, ◌≤◌, ◌^◌, List, true, Some, IsTrue, IfOk, IfErr, IfSome, OnErr, MatchOption, Contains, length, map};
+//! where that fails, which no run of one controller meets, the lock is taken again, or the step begins again.
+ghost use Rattle.std.specs.Prelude.{◌≡◌, ◌⊎◌, ◌<◌, ◌≤◌, ◌^◌, ℕ, List, [], ◌∷◌, true, false, Some, IsTrue, IfOk, IfErr, IfSome, OnErr, MatchOption, Contains, length, map};
 ghost use Rattle.std.specs.List.{AllByRecursion};
 ghost use mathlib.Core.List.{IsPrefix};
 ghost use Rattle.vschema.specs.WellFormed.{is_vschema};
@@ -14,6 +14,7 @@ ghost use Rattle.shard_run.specs.Openings.{IsOpening};
 ghost use Rattle.shard_contents.specs.Shards.{MayFollow};
 ghost use Rattle.shard_contents.specs.Copying.{IsProgress, IsEntryFor};
 ghost use Rattle.follow.specs.Steps.{IsOnward, HasStepped, HasMoved, HasMovedWith, IsFull};
+ghost use Rattle.follow.specs.Turns.{HasLookedAt, IdleTries, IsOneStep, IsOneStepWith, looks_of};
 ghost use Rattle.follow.specs.inner.Given.{IsGiven, NoneLeft, IsNextEntry, AreNextRows, IsTakeable, HasTaken};
 
 use crate::member::Member;
@@ -76,16 +77,16 @@ fn try_progress<W: World, J: Naming>(
     requires legal { IsLegal (MayFollow W.opening) pass.old.seen }
     ensures progress { IfOk result (λ r. IfSome r (λ come. IsProgress W.opening pass.new.seen target.now source come.progress
         × (come.entries ≡ length (entries_on target.now.slot pass.new.seen)))) }
+    ensures looks { IfOk result (λ r. MatchOption r (pass.new ≡ pass.old) (λ _. HasLookedAt (target.now.slot ∷ []) pass.old pass.new)) }
     ensures onward { IsOnward W.opening pass.old pass.new }
     ensures err { IfErr result (λ e. e ≡ Refusal.OutOfMemory) }
 {
-    let entries = state.look(pass);
-    if state.is(target) && follows(state) {
-        let progress = state.progress(alloc, schema, source)?;
-        Ok(Some(Come { entries, progress }))
-    } else {
-        Ok(None)
+    if !(state.is(target) && follows(state)) {
+        return Ok(None);
     }
+    let entries = state.look(pass);
+    let progress = state.progress(alloc, schema, source)?;
+    Ok(Some(Come { entries, progress }))
 }
 
 // The entry that is next for a target, if one is left.
@@ -148,23 +149,59 @@ fn try_give<W: World, J: Naming>(
     schema: &VSchema,
     source: &Shard,
     place: &Place,
-    progress: SourceProgress,
+    progress: &SourceProgress,
 ) -> Result<Option<Given>, Refusal>
     requires schema { schema.now ≡ W.opening.schema }
     requires formed { IsTrue (is_vschema W.opening.schema) }
     requires legal { IsLegal (MayFollow W.opening) pass.old.seen }
-    requires there { IfSome progress.next (λ n. n.table < length schema.now.tables) }
-    ensures given { IfOk result (λ r. IfSome r (IsGiven W.opening pass.new.seen source.now place.now progress)) }
+    requires there { IfSome progress.now.next (λ n. n.table < length schema.now.tables) }
+    ensures given { IfOk result (λ r. IfSome r (IsGiven W.opening pass.new.seen source.now place.now progress.now)) }
+    ensures looks { IfOk result (λ r. MatchOption r (pass.new ≡ pass.old) (λ _. HasLookedAt (source.now.slot ∷ []) pass.old pass.new)) }
     ensures onward { IsOnward W.opening pass.old pass.new }
     ensures err { IfErr result (λ e. e ≡ Refusal.OutOfMemory) }
 {
-    let _ = state.look(pass);
-    if state.is(source) && serves(state) {
-        let given = give(state, alloc, schema, place, &progress)?;
-        Ok(Some(given))
-    } else {
-        Ok(None)
+    if !(state.is(source) && serves(state)) {
+        return Ok(None);
     }
+    let _ = state.look(pass);
+    let given = give(state, alloc, schema, place, progress)?;
+    Ok(Some(given))
+}
+
+// The same under the source's lock, until it serves.
+fn given_by<W: World, J: Naming>(
+    rt: &impl Wait,
+    alloc: Global,
+    pass: &mut Pass<ShardLaw<W>, J>,
+    schema: &VSchema,
+    source: &Member<W, J>,
+    place: &Place,
+    progress: &SourceProgress,
+) -> Result<Given, Refusal>
+    requires schema { schema.now ≡ W.opening.schema }
+    requires formed { IsTrue (is_vschema W.opening.schema) }
+    requires legal { IsLegal (MayFollow W.opening) pass.old.seen }
+    requires there { IfSome progress.now.next (λ n. n.table < length schema.now.tables) }
+    ensures given { IfOk result (IsGiven W.opening pass.new.seen source.now.which place.now progress.now) }
+    ensures looks { IfOk result (λ _. HasLookedAt (source.now.which.slot ∷ []) pass.old pass.new) }
+    ensures onward { IsOnward W.opening pass.old pass.new }
+    ensures err { IfErr result (λ e. e ≡ Refusal.OutOfMemory) }
+{
+    for _ in rt.forever() {
+        let given = try_give(
+            &mut source.shard.lock(rt),
+            alloc,
+            pass,
+            schema,
+            &source.which,
+            place,
+            progress,
+        )?;
+        if let Some(given) = given {
+            return Ok(given);
+        }
+    }
+    unreachable!()
 }
 
 // Follows the entry, where the state is the target's, and has as many entries as when it was found that this one is next.
@@ -181,6 +218,8 @@ fn try_follow<W: World, J: Naming>(
     requires legal { IsLegal (MayFollow W.opening) pass.old.seen }
     requires next { IsNextEntry W.opening pass.old.seen target.now entries taken.now }
     ensures followed { IfOk result (λ done. done ≡ true → (f : follow.Follow) × (f.source ≡ taken.now.source) × HasStepped W.opening target.now (Event.Follow f) pass.old pass.new) }
+    ensures looks { IfOk result (λ done. ((done ≡ true) × HasLookedAt (target.now.slot ∷ target.now.slot ∷ []) pass.old pass.new)
+        ⊎ ((done ≡ false) × ((found : ℕ) × HasLookedAt (found ∷ []) pass.old pass.new))) }
     ensures onward { IsOnward W.opening pass.old pass.new }
     ensures err { IfErr result (λ e. (e ≡ Refusal.OutOfMemory) ⊎ ((e ≡ Refusal.ShardFull) × IsFull W.limits target.now.slot pass.new.seen)) }
 {
@@ -206,6 +245,8 @@ fn try_copy<W: World, J: Naming>(
     requires legal { IsLegal (MayFollow W.opening) pass.old.seen }
     requires next { AreNextRows W.opening pass.old.seen target.now entries taken }
     ensures copied { IfOk result (λ done. done ≡ true → HasStepped W.opening target.now (Event.Copy taken) pass.old pass.new) }
+    ensures looks { IfOk result (λ done. ((done ≡ true) × HasLookedAt (target.now.slot ∷ target.now.slot ∷ []) pass.old pass.new)
+        ⊎ ((done ≡ false) × ((found : ℕ) × HasLookedAt (found ∷ []) pass.old pass.new))) }
     ensures onward { IsOnward W.opening pass.old pass.new }
     ensures err { IfErr result (λ e. (e ≡ Refusal.OutOfMemory) ⊎ ((e ≡ Refusal.ShardFull) × IsFull W.limits target.now.slot pass.new.seen)) }
 {
@@ -218,40 +259,32 @@ fn try_copy<W: World, J: Naming>(
     }
 }
 
-// Takes over what the source had for the target; none where the target has moved since.
+// Takes over what the source had for the target, where the state is the target's; none where it has moved since.
 fn take<W: World, J: Naming>(
-    rt: &impl Wait,
+    state: &mut ShardState<W, J>,
     alloc: Global,
     pass: &mut Pass<ShardLaw<W>, J>,
     schema: &VSchema,
-    target: &Member<W, J>,
+    target: &Shard,
     entries: u64,
     given: Given,
 ) -> Result<Option<Step>, Refusal>
     requires schema { schema.now ≡ W.opening.schema }
     requires legal { IsLegal (MayFollow W.opening) pass.old.seen }
-    requires given { IsTakeable W.opening pass.old.seen target.now.which entries given }
-    ensures taken { IfOk result (λ r. IfSome r (HasTaken W.opening target.now.which given pass.old pass.new)) }
+    requires given { IsTakeable W.opening pass.old.seen target.now entries given }
+    ensures taken { IfOk result (λ r. IfSome r (HasTaken W.opening target.now given pass.old pass.new)) }
+    ensures looks { IfOk result (λ r. MatchOption r ((found : ℕ) × HasLookedAt (found ∷ []) pass.old pass.new)
+        (λ step. HasLookedAt (looks_of target.now.slot step) pass.old pass.new)) }
     ensures onward { IsOnward W.opening pass.old pass.new }
-    ensures err { IfErr result (λ e. (e ≡ Refusal.OutOfMemory) ⊎ ((e ≡ Refusal.ShardFull) × IsFull W.limits target.now.which.slot pass.new.seen)) }
+    ensures err { IfErr result (λ e. (e ≡ Refusal.OutOfMemory) ⊎ ((e ≡ Refusal.ShardFull) × IsFull W.limits target.now.slot pass.new.seen)) }
 {
     let (done, step) = match given {
         Given::Entry(entry) => {
-            let mut state = target.shard.lock(rt);
-            let done = try_follow(
-                &mut state,
-                alloc,
-                pass,
-                schema,
-                &target.which,
-                entries,
-                &entry,
-            )?;
+            let done = try_follow(state, alloc, pass, schema, target, entries, &entry)?;
             (done, Step::Followed)
         }
         Given::Rows(rows) => {
-            let mut state = target.shard.lock(rt);
-            let done = try_copy(&mut state, alloc, pass, &target.which, entries, rows)?;
+            let done = try_copy(state, alloc, pass, target, entries, rows)?;
             (done, Step::Copied)
         }
         Given::Nothing => (true, Step::Level),
@@ -274,6 +307,8 @@ fn round<W: World, J: Naming>(
     requires of_source { Contains target.now.which.sources source.now.which.slot }
     requires legal { IsLegal (MayFollow W.opening) pass.old.seen }
     ensures moved { IfOk result (λ r. IfSome r (HasMoved W.opening source.now.which target.now.which pass.old pass.new)) }
+    ensures looks { IfOk result (λ r. MatchOption r ((idle : List ℕ) × IdleTries target.now.which.slot source.now.which.slot idle × HasLookedAt idle pass.old pass.new)
+        (λ step. HasLookedAt (target.now.which.slot ∷ source.now.which.slot ∷ looks_of target.now.which.slot step) pass.old pass.new)) }
     ensures onward { IsOnward W.opening pass.old pass.new }
     ensures err { IfErr result (λ e. (e ≡ Refusal.OutOfMemory) ⊎ ((e ≡ Refusal.ShardFull) × IsFull W.limits target.now.which.slot pass.new.seen)) }
 {
@@ -291,27 +326,26 @@ fn round<W: World, J: Naming>(
     };
     let Come { entries, progress } = come;
     let place = &target.which.place;
-    let given = try_give(
-        &mut source.shard.lock(rt),
+    let given = given_by(rt, alloc, pass, schema, source, place, &progress)?;
+    take(
+        &mut target.shard.lock(rt),
         alloc,
         pass,
         schema,
-        &source.which,
-        place,
-        progress,
-    )?;
-    let Some(given) = given else {
-        return Ok(None);
-    };
-    take(rt, alloc, pass, schema, target, entries, given)
+        &target.which,
+        entries,
+        given,
+    )
 }
 
 // Promise: A step of a target with one of its sources, or with the first of several that it isn't level with, appends exactly one entry, a
 // Copy behind all that the source had stored at a look of the step, or a Follow; or none, and then the target was level with what the
-// source had stored at a look. It is refused for want of memory, or where the target has as many entries as it may; that nothing was
-// appended then has no clause
+// source had stored at a look. That it is no more than one is told by the looks of its pass, since each Copy and each Follow comes right
+// after a look of its own: a step has those of one entry, or of none. It is refused for want of memory, or where the target has as many
+// entries as it may; that nothing was appended then has no clause
 // With: bring_forward_with
-// Refuses: step_answers_level_at_once, copied_without_an_entry, followed_without_an_entry, copies_beyond_an_entry_that_is_left
+// Refuses: step_answers_level_at_once, copied_without_an_entry, followed_without_an_entry, copies_beyond_an_entry_that_is_left,
+// steps_until_level
 /// Brings a target forward with a source of it: it takes over the entry that is next, where one is left, else it copies the next rows, at
 /// most 100 of them, else it is level. At most one entry is appended. Refuses for want of memory, and what would pass a limit of entries of
 /// the target.
@@ -329,6 +363,7 @@ pub fn bring_forward<W: World, J: Naming>(
     requires of_source { Contains target.now.which.sources source.now.which.slot }
     requires legal { IsLegal (MayFollow W.opening) pass.old.seen }
     ensures moved { IfOk result (HasMoved W.opening source.now.which target.now.which pass.old pass.new) }
+    ensures once { IfOk result (IsOneStep source.now.which target.now.which pass.old pass.new) }
     ensures onward { IsOnward W.opening pass.old pass.new }
     ensures err { IfErr result (λ e. (e ≡ Refusal.OutOfMemory) ⊎ ((e ≡ Refusal.ShardFull) × IsFull W.limits target.now.which.slot pass.new.seen)) }
 {
@@ -355,6 +390,7 @@ pub fn bring_forward_with<W: World, J: Naming>(
     requires of_source { AllByRecursion (λ s. Contains target.now.which.sources s.which.slot) sources.now }
     requires legal { IsLegal (MayFollow W.opening) pass.old.seen }
     ensures moved { IfOk result (HasMovedWith W.opening (map (λ s. s.which) sources.now) target.now.which pass.old pass.new) }
+    ensures once { IfOk result (IsOneStepWith (map (λ s. s.which) sources.now) target.now.which pass.old pass.new) }
     ensures onward { IsOnward W.opening pass.old pass.new }
     ensures err { IfErr result (λ e. (e ≡ Refusal.OutOfMemory) ⊎ ((e ≡ Refusal.ShardFull) × IsFull W.limits target.now.which.slot pass.new.seen)) }
 {

@@ -1,4 +1,6 @@
+use Rattle.std.specs.Prelude.{ℕ, List}
 use Rattle.follow.specs.Steps.{IsOnward}
+use Rattle.follow.specs.Turns.{HasLookedAt, IdleTries}
 use Rattle.follow.proofs.steps.bring_forward.Given as goal
 
 -- so far there were looks alone
@@ -8,4 +10,5 @@ invariant-loop g l =
       next : (goal.iterator-loop g).can_next l.iterator';
       finite : (goal.iterator-loop g).is_finite l.iterator';
       onward : IsOnward g.W.World.opening l.fn.pass l.pass;
+      tried : (idle : List ℕ) × IdleTries l.target.which.slot l.source.which.slot idle × HasLookedAt idle l.fn.pass l.pass;
     }

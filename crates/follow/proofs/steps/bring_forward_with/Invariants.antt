@@ -1,7 +1,8 @@
-use Rattle.std.proofs.Common.{take}
+use Rattle.std.proofs.Common.{map, take}
 use Rattle.std.specs.List.{AllByRecursion}
 use Rattle.follow.specs.declared.steps.Step.TheVariants.{Level}
 use Rattle.follow.specs.Steps.{IsOnward, HasMoved}
+use Rattle.follow.specs.Turns.{EachInTurn, IsOneStep}
 use Rattle.follow.proofs.steps.bring_forward_with.Given as goal
 
 -- the target is level with the sources so far
@@ -11,4 +12,6 @@ invariant-loop-source g l =
       onward : IsOnward g.W.World.opening l.fn.pass l.pass;
       level :
           AllByRecursion (λ s. HasMoved g.W.World.opening s.which l.target.which l.fn.pass l.pass Level) (take l.source-index l.sources);
+      once :
+          EachInTurn (λ s p q. IsOneStep s l.target.which p q Level) (map (λ s. s.which) (take l.source-index l.sources)) l.fn.pass l.pass;
     }

@@ -1,0 +1,44 @@
+-- Where a pass looks, and what is done one after the other.
+use Rattle.std.specs.Prelude.{◌≡◌, ℕ, List, [], ◌∷◌, ◌++◌, map}
+use Rattle.journal.specs.Views.{PassView}
+use Rattle.shard_run.specs.declared.Shard.{Shard}
+use Rattle.shard_run.specs.declared.Entry.{Entry}
+use Rattle.follow.specs.declared.steps.Step.{Step}
+use Rattle.follow.specs.declared.steps.Step.TheVariants.{Level}
+
+-- the pass looked at the shards on these slots, in this order, and at no other
+abbrev pub HasLookedAt : List ℕ → PassView Entry → PassView Entry → Type 0
+HasLookedAt slots p now = map (λ l. l.0) now.looks ≡ map (λ l. l.0) p.looks ++ slots
+
+-- Tries of a step that append nothing look at the target and at the source, and once more under the target's lock, where it was found that it
+-- had moved.
+pub data IdleTries (target source : ℕ) : List ℕ → Type 0 where
+  none : IdleTries target source []
+  one_more : {before : List ℕ} → IdleTries target source before → (found : ℕ) → IdleTries target source (before ++ target ∷ source ∷ found ∷ [])
+
+-- each Copy and each Follow comes right after a look of its own at the target, and that after one by which the target was found unmoved
+abbrev pub looks_of : ℕ → Step → List ℕ
+looks_of target Level = []
+looks_of target _ = target ∷ target ∷ []
+
+-- The looks of one step of a target with a source: the last try has those of its one entry, or, where the target is level, of none.
+pub record IsOneStep (source target : Shard) (p now : PassView Entry) (step : Step) : Type 0 where
+  pub idle : List ℕ
+  pub tries : IdleTries target.slot source.slot idle
+  pub looked : HasLookedAt (idle ++ target.slot ∷ source.slot ∷ looks_of target.slot step) p now
+
+module _ {X : Type 0} where
+  -- each of these does its part, one after the other
+  pub data EachInTurn (Part : X → PassView Entry → PassView Entry → Type 0) : List X → PassView Entry → PassView Entry → Type 0 where
+    none : {p : PassView Entry} → EachInTurn Part [] p p
+    next : {before : List X} {x : X} {p q now : PassView Entry} → EachInTurn Part before p q → Part x q now → EachInTurn Part (before ++ x ∷ []) p now
+
+  -- one after the other is level, until one moves
+  pub data FirstInTurn (Part : X → PassView Entry → PassView Entry → Step → Type 0) (xs : List X) (p now : PassView Entry) : Step → Type 0 where
+    one : {step : Step} (before after : List X) (x : X) (q : PassView Entry) → xs ≡ before ++ x ∷ after
+        → EachInTurn (λ x p q. Part x p q Level) before p q → Part x q now step → FirstInTurn Part xs p now step
+    all_level : EachInTurn (λ x p q. Part x p q Level) xs p now → FirstInTurn Part xs p now Level
+
+-- one step of a target with the first of several sources that it isn't level with
+abbrev pub IsOneStepWith : List Shard → Shard → PassView Entry → PassView Entry → Step → Type 0
+IsOneStepWith sources target p now step = FirstInTurn (λ s. IsOneStep s target) sources p now step
