@@ -1,5 +1,5 @@
 -- Sources serve again, one after the other.
-use Rattle.std.proofs.Common.{◌≡◌, ℕ, ◌+◌, ◌<◌, List, length, map, take, get_or, refl, sym, ap, ◌∙◌, true}
+use Rattle.std.proofs.Common.{◌≡◌, ℕ, ◌+◌, ◌<◌, ◌≤◌, List, [], ◌∷◌, ◌++◌, length, map, take, get_or, refl, sym, ap, ◌∙◌, true}
 use Rattle.std.specs.List.{AllByRecursion}
 use Rattle.std.proofs.lemmas.Bool.{eq-eqb}
 use Rattle.journal.specs.Views.{PassView}
@@ -9,12 +9,17 @@ use Rattle.shard_run.specs.declared.Entry.{Entry}
 use Rattle.shard_run.specs.declared.Event.{Event}
 use Rattle.shard_run.specs.declared.Mode.{Mode}
 use Rattle.shard_run.specs.declared.Mode.TheVariants.{Serving, Retired}
-use Rattle.shard_run.specs.Runs.{Opening, Run, mode, mode_after, is_on}
+use Rattle.shard_run.specs.Runs.{Opening, Run, held, mode, mode_after, is_on}
+use Rattle.shard_run.specs.Openings.{row_count}
+use Rattle.shard_contents.specs.declared.limits.Limits.{Limits}
+use Rattle.cutover_steps.specs.Takings.{Taking}
 use Rattle.shard_law.proofs.Runs.{mode-on}
 use Rattle.shard_law.proofs.Lists.{all-weaker}
 use Rattle.shard_contents.specs.Shards.{ShardView, HasAppended}
 use Rattle.follow.specs.Steps.{IsOnward}
-use Rattle.cutover_steps.specs.Looks.{IsServingAgain, IsOutOfUse}
+use Rattle.follow.specs.Turns.{HasLookedAt}
+use Rattle.follow.proofs.Turns.{unlooked, looked_at, looked_then, appended_since}
+use Rattle.cutover_steps.specs.Looks.{HasLookedOnlyAt, IsServingAgain, IsOutOfUse, IsWithinRows}
 use Rattle.cutover_steps.proofs.Retiring.{all_map_next}
 use Rattle.cutover_steps.proofs.Onward.{onward_trans}
 
@@ -65,4 +70,50 @@ module _ {S : Type 0} (which : S → Shard) (o : Opening) (p q now : PassView En
         run = now.seen;
         between = record { since = (onward_trans o p q now before on).later; until = prefix_self now.seen };
         retired = retired;
+      })
+
+-- ---- looks at one shard alone
+
+pub not_looked : (slot : ℕ) (p now : PassView Entry) → now ≡ p → HasLookedOnlyAt slot p now
+not_looked slot p now same = record { looks = []; alone = tt; looked = unlooked p now same }
+
+pub looked_once : (slot here : ℕ) (p now : PassView Entry) → here ≡ slot → HasLookedAt (here ∷ []) p now → HasLookedOnlyAt slot p now
+looked_once slot here p now same is = record { looks = here ∷ []; alone = (same, tt); looked = is }
+
+pub look_alone : (slot here : ℕ) (p now : PassView Entry) (run : Run) (n : ℕ) → here ≡ slot
+    → now ≡ record p { seen = run; looks = p.looks ++ (here, n) ∷ [] } → HasLookedOnlyAt slot p now
+look_alone slot here p now run n same is = looked_once slot here p now same (looked_at p now here run n is)
+
+pub append_alone : (slot : ℕ) (p now : PassView Entry) (run : Run) → now ≡ record p { seen = run } → HasLookedOnlyAt slot p now
+append_alone slot p now run is = record { looks = []; alone = tt; looked = appended_since p now run is }
+
+both_alone : (slot : ℕ) (a b : List ℕ) → AllByRecursion (λ n. n ≡ slot) a → AllByRecursion (λ n. n ≡ slot) b → AllByRecursion (λ n. n ≡ slot) (a ++ b)
+both_alone slot [] b all more = more
+both_alone slot (n ∷ a) b all more = (all.0, both_alone slot a b all.1 more)
+
+pub looked_on : (slot : ℕ) (p q now : PassView Entry) → HasLookedOnlyAt slot p q → HasLookedOnlyAt slot q now → HasLookedOnlyAt slot p now
+looked_on slot p q now first more = record {
+  looks = first.looks ++ more.looks;
+  alone = both_alone slot first.looks more.looks first.alone more.alone;
+  looked = looked_then first.looks more.looks p q now first.looked more.looked;
+}
+
+-- ---- rows within the limit
+
+module _ {T : Type 0} (f : T → Taking) (o : Opening) (most : Limits) (p q now : PassView Entry) (targets : List T) (n : ℕ) (t : T) where
+  pub within_next : n < length targets → t ≡ get_or targets n t → IsOnward o p q → IsOnward o q now → row_count (held o now.seen (f t).0) ≤ most.rows
+      → AllByRecursion (λ t. IsWithinRows o most t.0 p q) (map f (take n targets))
+      → AllByRecursion (λ t. IsWithinRows o most t.0 p now) (map f (take (n + 1) targets))
+  within_next there is before on few so_far =
+      all_map_next (λ t. IsWithinRows o most t.0 p now) f targets n t there is
+      (all-weaker (λ t. IsWithinRows o most t.0 p q) (λ t. IsWithinRows o most t.0 p now)
+      (λ t h. record {
+        run = h.run;
+        between = record { since = h.between.since; until = prefix_trans h.run q.seen now.seen h.between.until on.later };
+        few = h.few;
+      }) (map f (take n targets)) so_far)
+      (record {
+        run = now.seen;
+        between = record { since = (onward_trans o p q now before on).later; until = prefix_self now.seen };
+        few = few;
       })

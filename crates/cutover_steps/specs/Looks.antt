@@ -1,5 +1,5 @@
 -- What looks at the shards of a cutover show, at a run that the controller's pass came by.
-use Rattle.std.specs.Prelude.{◌≡◌, ◌<◌, List}
+use Rattle.std.specs.Prelude.{◌≡◌, ℕ, ◌<◌, ◌≤◌, List}
 use Rattle.std.specs.List.{AllByRecursion}
 use Rattle.journal.specs.Views.{PassView}
 use Rattle.shard_run.specs.declared.Shard.{Shard}
@@ -9,7 +9,8 @@ use Rattle.shard_run.specs.declared.Mode.TheVariants as modes
 use Rattle.shard_run.specs.Runs.{Opening, Run, mode, held}
 use Rattle.shard_run.specs.Openings.{row_count}
 use Rattle.shard_contents.specs.declared.limits.Limits.{Limits}
-use Rattle.follow.specs.Steps.{IsRunBetween}
+use Rattle.follow.specs.Steps.{IsOnward, IsRunBetween}
+use Rattle.follow.specs.Turns.{HasLookedAt}
 use Rattle.cutover_steps.specs.Steps.{HasEntry}
 use Rattle.cutover_steps.specs.Takings.{Taking}
 
@@ -18,6 +19,19 @@ pub record IsServingAgain (o : Opening) (s : Shard) (p now : PassView Entry) : T
   pub run : Run
   pub between : IsRunBetween p now run
   pub serving : mode o run s.slot ≡ modes.Serving
+
+-- the pass looked at the shard on the slot, as often as it may be, and at no other
+pub record HasLookedOnlyAt (slot : ℕ) (p now : PassView Entry) : Type 0 where
+  pub looks : List ℕ
+  pub alone : AllByRecursion (λ n. n ≡ slot) looks
+  pub looked : HasLookedAt looks p now
+
+-- The pass looked at this shard alone, and what it has seen then ends with the shard serving and not frozen: its last Freeze was followed by
+-- its Thaw, or there was none.
+pub record HasThawed (o : Opening) (s : Shard) (p now : PassView Entry) : Type 0 where
+  pub onward : IsOnward o p now
+  pub alone : HasLookedOnlyAt s.slot p now
+  pub serving : mode o now.seen s.slot ≡ modes.Serving
 
 -- At a run that the pass came by the shard was retired, so that no statement reads it from then on.
 pub record IsOutOfUse (o : Opening) (s : Shard) (p now : PassView Entry) : Type 0 where
@@ -45,3 +59,9 @@ pub record IsOverfull (o : Opening) (most : Limits) (t : Shard) (p now : PassVie
   pub run : Run
   pub between : IsRunBetween p now run
   pub many : most.rows < row_count (held o run t)
+
+-- at a run that the pass came by a target had no more rows than a shard that serves may have
+pub record IsWithinRows (o : Opening) (most : Limits) (t : Shard) (p now : PassView Entry) : Type 0 where
+  pub run : Run
+  pub between : IsRunBetween p now run
+  pub few : row_count (held o run t) ≤ most.rows

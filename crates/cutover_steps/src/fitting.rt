@@ -1,12 +1,13 @@
 //! Whether the targets have no more rows than shards that serve may have.
-ghost use Rattle.std.specs.Prelude.{◌≡◌, ◌<◌, false, Some, Contains, map};
+ghost use Rattle.std.specs.Prelude.{◌≡◌, ◌<◌, ◌≤◌, true, false, Some, Contains, map};
+ghost use Rattle.std.specs.List.{AllByRecursion};
 ghost use Rattle.journal.specs.Runs.{IsLegal};
 ghost use Rattle.shard_run.specs.Runs.{held};
 ghost use Rattle.shard_run.specs.Openings.{row_count};
 ghost use Rattle.shard_contents.specs.Shards.{MayFollow};
 ghost use Rattle.follow.specs.Steps.{IsOnward};
 ghost use Rattle.cutover_steps.specs.Takings.{Taking};
-ghost use Rattle.cutover_steps.specs.Looks.{IsOverfull};
+ghost use Rattle.cutover_steps.specs.Looks.{IsOverfull, IsWithinRows};
 
 use crate::steps::follows;
 use crate::target::Target;
@@ -24,6 +25,7 @@ fn try_fits<W: World, J: Naming>(
 ) -> Option<bool>
     requires legal { IsLegal (MayFollow W.opening) pass.old.seen }
     ensures many { result ≡ Some false → W.limits.rows < row_count (held W.opening pass.new.seen which.now) }
+    ensures few { result ≡ Some true → row_count (held W.opening pass.new.seen which.now) ≤ W.limits.rows }
     ensures onward { IsOnward W.opening pass.old pass.new }
 {
     let _ = state.look(pass);
@@ -42,6 +44,7 @@ fn fits<W: World, J: Naming>(
 ) -> bool
     requires legal { IsLegal (MayFollow W.opening) pass.old.seen }
     ensures many { result ≡ false → W.limits.rows < row_count (held W.opening pass.new.seen member.now.which) }
+    ensures few { result ≡ true → row_count (held W.opening pass.new.seen member.now.which) ≤ W.limits.rows }
     ensures onward { IsOnward W.opening pass.old pass.new }
 {
     for _ in rt.forever() {
@@ -52,6 +55,9 @@ fn fits<W: World, J: Naming>(
     unreachable!()
 }
 
+// Promise: Before the first source retires, each target is looked at: yes is answered only where each had no more rows than a shard that
+// serves may have, and no only where one had more
+// Refuses: fits_whatever_it_holds
 /// Whether each of the targets has no more rows than a shard that serves may have. Takes no memory.
 pub fn all_fit<W: World, J: Naming>(
     rt: &impl Wait,
@@ -60,6 +66,7 @@ pub fn all_fit<W: World, J: Naming>(
 ) -> bool
     requires legal { IsLegal (MayFollow W.opening) pass.old.seen }
     ensures many { result ≡ false → (t : Taking) × Contains (map (λ t. (t.member.which, map (λ s. s.which) t.sources.items)) targets.now) t × IsOverfull W.opening W.limits t.0 pass.old pass.new }
+    ensures few { result ≡ true → AllByRecursion (λ t. IsWithinRows W.opening W.limits t.0 pass.old pass.new) (map {B = Taking} (λ t. (t.member.which, map (λ s. s.which) t.sources.items)) targets.now) }
     ensures onward { IsOnward W.opening pass.old pass.new }
 {
     for target in targets {

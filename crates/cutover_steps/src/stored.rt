@@ -1,5 +1,5 @@
 //! How many entries a source has stored that is frozen, or retired already.
-ghost use Rattle.std.specs.Prelude.{◌≡◌, ◌<◌, length, map};
+ghost use Rattle.std.specs.Prelude.{◌≡◌, ◌<◌, length, map, slice_set};
 
 use crate::steps::{Source, is_source_of};
 use crate::target::Target;
@@ -8,10 +8,12 @@ use shard::{ShardState, World};
 use shard_run::Mode;
 use std::sync::Wait;
 
+// Promise: What a source had stored when it was frozen is noted as it was counted
 /// Notes how many entries a source had stored when it was frozen.
 pub fn note_stored<W: World, J: Naming>(sources: &mut [Source<W, J>], at: usize, stored: u64)
     requires there { at < length sources.old }
-    ensures { map (λ s. s.member.which) sources.new ≡ map (λ s. s.member.which) sources.old }
+    ensures shards { map (λ s. s.member.which) sources.new ≡ map (λ s. s.member.which) sources.old }
+    ensures stored { map (λ s. s.stored) sources.new ≡ slice_set (map (λ s. s.stored) sources.old) at stored }
 {
     sources[at].stored = stored;
 }

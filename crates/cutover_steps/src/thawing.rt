@@ -5,7 +5,8 @@ ghost use Rattle.journal.specs.Runs.{IsLegal};
 ghost use Rattle.shard_run.specs.Runs.{mode};
 ghost use Rattle.shard_contents.specs.Shards.{MayFollow};
 ghost use Rattle.follow.specs.Steps.{IsOnward};
-ghost use Rattle.cutover_steps.specs.Looks.{IsServingAgain};
+ghost use Rattle.follow.specs.Turns.{EachInTurn};
+ghost use Rattle.cutover_steps.specs.Looks.{HasLookedOnlyAt, HasThawed, IsServingAgain};
 
 use crate::steps::Source;
 use follow::Member;
@@ -22,12 +23,13 @@ fn try_unfreeze<W: World, J: Naming>(
 ) -> bool
     requires legal { IsLegal (MayFollow W.opening) pass.old.seen }
     ensures serves { result ≡ true → mode W.opening pass.new.seen which.now.slot ≡ Mode.Serving }
+    ensures alone { HasLookedOnlyAt which.now.slot pass.old pass.new }
     ensures onward { IsOnward W.opening pass.old pass.new }
 {
-    let _ = state.look(pass);
     if !state.is(which) {
         return false;
     }
+    let _ = state.look(pass);
     match state.mode() {
         Mode::Frozen => {
             state.thaw(pass);
@@ -45,7 +47,7 @@ fn unfreeze<W: World, J: Naming>(
     pass: &mut Pass<ShardLaw<W>, J>,
 )
     requires legal { IsLegal (MayFollow W.opening) pass.old.seen }
-    ensures serves { mode W.opening pass.new.seen member.now.which.slot ≡ Mode.Serving }
+    ensures thawed { HasThawed W.opening member.now.which pass.old pass.new }
     ensures onward { IsOnward W.opening pass.old pass.new }
 {
     for _ in rt.forever() {
@@ -56,6 +58,9 @@ fn unfreeze<W: World, J: Naming>(
     unreachable!()
 }
 
+// Promise: The sources of a cutover that is given up are thawed one after the other: what the pass has seen when it leaves one ends with that one
+// serving, and then it looks at no source but the next, so that none is frozen again
+// Refuses: thawed_source_freezes_again, failed_cutover_leaves_frozen
 /// Thaws each of the sources that is frozen. Takes no memory.
 pub fn unfreeze_all<W: World, J: Naming>(
     rt: &impl Wait,
@@ -64,6 +69,7 @@ pub fn unfreeze_all<W: World, J: Naming>(
 )
     requires legal { IsLegal (MayFollow W.opening) pass.old.seen }
     ensures serve { AllByRecursion (λ s. IsServingAgain W.opening s pass.old pass.new) (map (λ s. s.member.which) sources.now) }
+    ensures thawed { EachInTurn (HasThawed W.opening) (map (λ s. s.member.which) sources.now) pass.old pass.new }
     ensures onward { IsOnward W.opening pass.old pass.new }
 {
     for source in sources {

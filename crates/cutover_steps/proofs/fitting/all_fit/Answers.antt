@@ -1,6 +1,11 @@
-use Rattle.std.proofs.Common.{map, sym}
+use Rattle.std.proofs.Common.{map, sym, subst}
 use Rattle.journal.proofs.Fronts.{prefix_self}
-use Rattle.cutover_steps.proofs.Onward.{onward_trans}
+use Rattle.cutover_steps.proofs.Onward.{still, onward_trans}
+use Rattle.cutover_steps.proofs.Thaws.{within_next}
+use Rattle.cutover_steps.specs.Takings.{Taking}
+use Rattle.cutover_steps.specs.Looks.{IsWithinRows}
+use Rattle.shard_contents.proofs.Progress.{take_whole}
+use Rattle.std.specs.List.{AllByRecursion}
 use Rattle.cutover_steps.proofs.Retiring.{map_at}
 use Rattle.cutover_steps.proofs.fitting.all_fit.Goals as goal
 
@@ -16,7 +21,7 @@ returns-then-not-fits-clause-many g c e =
         run = now.seen;
         between = record {
           since =
-              (onward_trans g.W.World.opening c.args.pass.now c.loop-target.pass now c.loop-target.invariant c.fits.ensures.onward).later;
+              (onward_trans g.W.World.opening c.args.pass.now c.loop-target.pass now c.loop-target.invariant.onward c.fits.ensures.onward).later;
           until = prefix_self now.seen;
         };
         many = c.fits.ensures.many c.if-not-fits.true;
@@ -25,8 +30,28 @@ returns-then-not-fits-clause-many g c e =
 
 pub returns-then-not-fits-clause-onward : goal.returns-then-not-fits-clause-onward
 returns-then-not-fits-clause-onward g c =
-    onward_trans g.W.World.opening c.args.pass.now c.loop-target.pass c.fits.new.pass c.loop-target.invariant c.fits.ensures.onward
+    onward_trans g.W.World.opening c.args.pass.now c.loop-target.pass c.fits.new.pass c.loop-target.invariant.onward c.fits.ensures.onward
+
+pub loop-target-init : goal.loop-target-init
+loop-target-init g c = record { onward = still g.W.World.opening c.args.pass.now c.requires.legal; few = tt }
 
 pub loop-target-preserved : goal.loop-target-preserved
 loop-target-preserved g c =
-    onward_trans g.W.World.opening c.args.pass.now c.loop-target.pass c.fits.new.pass c.loop-target.invariant c.fits.ensures.onward
+    let o = g.W.World.opening in
+    let p = c.args.pass.now in
+    record {
+      onward = onward_trans o p c.loop-target.pass c.fits.new.pass c.loop-target.invariant.onward c.fits.ensures.onward;
+      few =
+          within_next (λ t. (t.member.which, map (λ s. s.which) t.sources.items)) o g.W.World.limits p c.loop-target.pass c.fits.new.pass
+          c.args.targets.now c.loop-target.target-index c.target-item.result c.loop-target-test.true c.target-item.is c.loop-target.invariant.onward
+          c.fits.ensures.onward (c.fits.ensures.few c.if-not-fits.false) c.loop-target.invariant.few;
+    }
+
+pub returns-clause-onward : goal.returns-clause-onward
+returns-clause-onward g c = c.loop-target.invariant.onward
+
+pub returns-clause-few : goal.returns-clause-few
+returns-clause-few g c e =
+    subst (λ l. AllByRecursion (λ t. IsWithinRows g.W.World.opening g.W.World.limits t.0 c.args.pass.now c.loop-target.pass)
+    (map {B = Taking} (λ t. (t.member.which, map (λ s. s.which) t.sources.items)) l))
+    (take_whole c.loop-target.target-index c.args.targets.now c.loop-target-test.false) c.loop-target.invariant.few

@@ -1,6 +1,16 @@
+use Rattle.std.proofs.Common.{map, take}
+use Rattle.std.specs.List.{AllByRecursion}
 use Rattle.follow.specs.Steps.{IsOnward}
+use Rattle.cutover_steps.specs.Takings.{Taking}
+use Rattle.cutover_steps.specs.Looks.{IsWithinRows}
 use Rattle.cutover_steps.proofs.fitting.all_fit.Given as goal
 
 -- the targets so far fit
 abbrev pub invariant-loop-target : goal.invariant-loop-target
-invariant-loop-target g l = IsOnward g.W.World.opening l.fn.pass l.pass
+invariant-loop-target g l =
+    record {
+      onward : IsOnward g.W.World.opening l.fn.pass l.pass;
+      few :
+          AllByRecursion (λ t. IsWithinRows g.W.World.opening g.W.World.limits t.0 l.fn.pass l.pass)
+          (map {B = Taking} (λ t. (t.member.which, map (λ s. s.which) t.sources.items)) (take l.target-index l.targets));
+    }

@@ -1,10 +1,28 @@
-use Rattle.std.proofs.Common.{refl}
+use Rattle.std.proofs.Common.{ap, ◌∙◌, refl}
+use Rattle.shard_run.specs.declared.Shard.{Shard}
 use Rattle.shard_run.specs.declared.Event.TheVariants.{Thaw}
 use Rattle.shard_run.specs.declared.Mode.TheVariants.{Serving}
-use Rattle.cutover_steps.proofs.Thaws.{mode_now}
+use Rattle.cutover_steps.proofs.Thaws.{mode_now, look_alone, append_alone, looked_on}
 use Rattle.cutover_steps.proofs.thawing.try_unfreeze.Goals as goal
 
 pub returns-in-Frozen-clause-serves : goal.returns-in-Frozen-clause-serves
 returns-in-Frozen-clause-serves g c e =
-    mode_now g.W.World.opening c.look.new.self Thaw c.look.new.pass c.thaw.new.pass c.thaw.ensures.appended c.args.which.now (c.is.ensures.0 c.if-not-is.false)
-    Serving (λ b. refl)
+    mode_now g.W.World.opening c.look.new.self Thaw c.look.new.pass c.thaw.new.pass c.thaw.ensures.appended c.args.which.now
+    (c.look.ensures.shard ∙ c.is.ensures.0 c.if-not-is.false) Serving (λ b. refl)
+
+pub returns-in-Frozen-clause-alone : goal.returns-in-Frozen-clause-alone
+returns-in-Frozen-clause-alone g c =
+    looked_on c.args.which.now.slot c.args.pass.now c.look.new.pass c.thaw.new.pass
+    (look_alone c.args.which.now.slot c.args.state.now.shard.slot c.args.pass.now c.look.new.pass _ _ (ap (λ (s : Shard). s.slot) (c.is.ensures.0 c.if-not-is.false))
+    c.look.ensures.pass)
+    (append_alone c.args.which.now.slot c.look.new.pass c.thaw.new.pass _ c.thaw.ensures.appended.pass)
+
+pub returns-in-Serving-clause-alone : goal.returns-in-Serving-clause-alone
+returns-in-Serving-clause-alone g c =
+    look_alone c.args.which.now.slot c.args.state.now.shard.slot c.args.pass.now c.look.new.pass _ _ (ap (λ (s : Shard). s.slot) (c.is.ensures.0 c.if-not-is.false))
+    c.look.ensures.pass
+
+pub returns-in_default-clause-alone : goal.returns-in_default-clause-alone
+returns-in_default-clause-alone g c =
+    look_alone c.args.which.now.slot c.args.state.now.shard.slot c.args.pass.now c.look.new.pass _ _ (ap (λ (s : Shard). s.slot) (c.is.ensures.0 c.if-not-is.false))
+    c.look.ensures.pass
