@@ -1,5 +1,5 @@
 -- The first of several targets that isn't level moves.
-use Rattle.std.proofs.Common.{◌≡◌, ◌⊎◌, inl, inr, ℕ, zero, suc, ◌+◌, ◌<◌, ◌≤◌, List, [], ◌∷◌, ◌++◌, length, map, take, drop, get_or, sym, ap, ◌∙◌, subst, arith}
+use Rattle.std.proofs.Common.{◌≡◌, ◌⊎◌, inl, inr, ℕ, ◌+◌, ◌<◌, ◌≤◌, List, [], ◌∷◌, ◌++◌, length, map, take, drop, get_or, sym, ap, ◌∙◌, subst}
 use Rattle.std.specs.List.{AllByRecursion}
 use Rattle.std.proofs.lemmas.List.{take_more, map-append}
 use Rattle.journal.specs.Views.{PassView}
@@ -14,7 +14,7 @@ use Rattle.follow.specs.declared.steps.Step.{Step}
 use Rattle.follow.specs.declared.steps.Step.TheVariants.{Copied, Followed, Level}
 use Rattle.follow.specs.Steps.{IsOnward, IsRunBetween, HasMoved, copied, followed, level, HasMovedWith, IsFull}
 use Rattle.follow.specs.Steps as moves
-use Rattle.follow.proofs.Moves.{level_later}
+use Rattle.follow.proofs.Moves.{level_later, split_at}
 use Rattle.cutover_steps.specs.Takings.{Taking}
 use Rattle.vt_value.specs.declared.refusal.Refusal.{Refusal}
 use Rattle.vt_value.specs.declared.refusal.Refusal.TheVariants.{OutOfMemory, ShardFull}
@@ -66,14 +66,6 @@ level_all : (o : Opening) (p q now : PassView Entry) → IsOnward o q now → (t
     → AllByRecursion (IsLevelWith o p now) targets
 level_all o p q now on targets h =
     all-weaker (IsLevelWith o p q) (IsLevelWith o p now) (λ t k. with_later o t.1 t.0 p q now on k) targets h
-
-pub split_at : {X : Type 0} (xs : List X) (n : ℕ) (x : X) → n < length xs → x ≡ get_or xs n x → xs ≡ take n xs ++ x ∷ drop (n + 1) xs
-split_at [] n x l e = absurd (omega (arith, l))
-split_at (y ∷ xs) zero x l e = ap (λ z. z ∷ xs) (sym e)
-split_at (y ∷ xs) (suc n) x l at =
-    let e : suc n + 1 ≡ suc (n + 1) = omega arith in
-    let h : drop (suc n + 1) (y ∷ xs) ≡ drop (n + 1) xs = ap (λ (k : ℕ). drop k (y ∷ xs)) e in
-    ap (λ l. y ∷ l) (split_at xs n x (omega (arith, l)) at ∙ ap (λ l. take n xs ++ x ∷ l) (sym h))
 
 -- the targets so far are level
 module _ {T : Type 0} (f : T → Taking) (o : Opening) (p q now : PassView Entry) (targets : List T) (i : ℕ) (t : T) (there : i < length targets)

@@ -10,6 +10,7 @@ use Rattle.shard_run.specs.declared.Shard.{Shard}
 use Rattle.shard_run.specs.declared.Entry.{Entry}
 use Rattle.shard_run.specs.Runs.{Opening}
 use Rattle.follow.specs.Steps.{HasMovedWith, IsFull}
+use Rattle.follow.specs.Turns.{FirstInTurn, IsOneStepWith}
 use Rattle.follow.specs.declared.steps.Step.{Step}
 use Rattle.follow.specs.declared.steps.Step.TheVariants.{Level}
 use Rattle.reshard_beginning.specs.declared.fault.ReshardFault.{ReshardFault}
@@ -45,6 +46,10 @@ pub data HasMovedFirst (o : Opening) (targets : List Taking) (p now : PassView E
   one : {step : Step} (before after : List Taking) (t : Taking) → targets ≡ before ++ t ∷ after → AllByRecursion (λ t. HasMovedWith o t.1 t.0 p now Level) before
       → HasMovedWith o t.1 t.0 p now step → HasMovedFirst o targets p now step
   all_level : AllByRecursion (λ t. HasMovedWith o t.1 t.0 p now Level) targets → HasMovedFirst o targets p now Level
+
+-- one step of the first of the targets, each with its sources, that isn't level with them
+abbrev pub IsOneStepFirst : List Taking → PassView Entry → PassView Entry → Step → Type 0
+IsOneStepFirst targets p now step = FirstInTurn (λ t. IsOneStepWith t.1 t.0) targets p now step
 
 -- why no target moves: want of memory, or one of them has as many entries as it may have
 pub data IsMoveRefusal (most : Limits) (targets : List Taking) (now : PassView Entry) : ReshardFault → Type 0 where

@@ -6,7 +6,7 @@ ghost use Rattle.shard_run.specs.Openings.{IsOpening};
 ghost use Rattle.shard_contents.specs.Shards.{MayFollow};
 ghost use Rattle.follow.specs.Steps.{IsOnward};
 ghost use Rattle.reshard_beginning.specs.Splits.{TakeFromOwn};
-ghost use Rattle.reshard_beginning.specs.Begun.{HasMovedFirst, IsMoveRefusal};
+ghost use Rattle.reshard_beginning.specs.Begun.{HasMovedFirst, IsMoveRefusal, IsOneStepFirst};
 
 use crate::fault::ReshardFault;
 use cutover_steps::Target;
@@ -18,7 +18,7 @@ use std::sync::Wait;
 use vschema::VSchema;
 use vt_value::Refusal;
 
-/// Brings the first of the targets forward that isn't level.
+/// Brings the first of the targets forward that isn't level, by one entry.
 pub fn move_first<W: World, J: Naming>(
     rt: &impl Wait,
     alloc: Global,
@@ -32,6 +32,7 @@ pub fn move_first<W: World, J: Naming>(
     requires own { TakeFromOwn (map (λ t. (t.member.which, map (λ s. s.which) t.sources.items)) targets.now) }
     requires legal { IsLegal (MayFollow W.opening) pass.old.seen }
     ensures moved { IfOk result (HasMovedFirst W.opening (map (λ t. (t.member.which, map (λ s. s.which) t.sources.items)) targets.now) pass.old pass.new) }
+    ensures once { IfOk result (IsOneStepFirst (map (λ t. (t.member.which, map (λ s. s.which) t.sources.items)) targets.now) pass.old pass.new) }
     ensures refused { IfErr result (λ e. IsMoveRefusal W.limits (map (λ t. (t.member.which, map (λ s. s.which) t.sources.items)) targets.now) pass.new (ReshardFault.Refused e)) }
     ensures onward { IsOnward W.opening pass.old pass.new }
 {

@@ -6,7 +6,10 @@ use Rattle.follow.specs.declared.steps.Step.{Step}
 use Rattle.follow.specs.declared.steps.Step.TheVariants.{Level}
 use Rattle.follow.specs.Steps.{HasMovedWith}
 use Rattle.cutover_steps.specs.Takings.{Taking}
-use Rattle.cutover_steps.proofs.Onward.{onward_trans}
+use Rattle.follow.specs.Turns.{IsOneStepWith}
+use Rattle.follow.specs.Turns as turns
+use Rattle.follow.proofs.Turns.{one_more_turn, moves_in_turn, all_took_turns}
+use Rattle.cutover_steps.proofs.Onward.{still, onward_trans}
 use Rattle.cutover_steps.proofs.Retiring.{item_of, map_at}
 use Rattle.reshard_beginning.proofs.Unfit.{residual_same}
 use Rattle.reshard_beginning.proofs.Moving.{first_moved, level_next, all_moved, unmapped, move_refusal}
@@ -56,9 +59,35 @@ loop-target-preserved g c =
           (subst (λ (s : Step). HasMovedWith o (map (λ s. s.which) t.sources.items) t.member.which c.loop-target.pass c.bring_forward_with.new.pass s) same
           (subst (λ l. HasMovedWith o (map (λ s. s.which) l) t.member.which c.loop-target.pass c.bring_forward_with.new.pass c.in_ok-step.step)
           c.as_slice.ensures.value c.in_ok-step.ensures.moved));
+      once =
+          one_more_turn (λ t. (t.member.which, map (λ s. s.which) t.sources.items)) c.args.targets.now c.loop-target.target-index t c.loop-target-test.true
+          c.target-item.is (λ (t : Taking) p q. IsOneStepWith t.1 t.0 p q Level) c.args.pass.now c.loop-target.pass c.bring_forward_with.new.pass
+          c.loop-target.invariant.once
+          (subst (λ (s : Step). IsOneStepWith (map (λ s. s.which) t.sources.items) t.member.which c.loop-target.pass c.bring_forward_with.new.pass s) same
+          (subst (λ l. IsOneStepWith (map (λ s. s.which) l) t.member.which c.loop-target.pass c.bring_forward_with.new.pass c.in_ok-step.step)
+          c.as_slice.ensures.value c.in_ok-step.ensures.once));
     }
 
 pub returns-clause-moved : goal.returns-clause-moved
 returns-clause-moved g c =
     all_moved (λ t. (t.member.which, map (λ s. s.which) t.sources.items)) g.W.World.opening c.args.pass.now c.loop-target.pass c.args.targets.now
     c.loop-target.target-index c.loop-target-test.false c.loop-target.invariant.level
+
+pub loop-target-init : goal.loop-target-init
+loop-target-init g c =
+    record { onward = still g.W.World.opening c.args.pass.now c.requires.legal; level = tt; once = turns.none }
+
+pub returns-then-ne-clause-once : goal.returns-then-ne-clause-once
+returns-then-ne-clause-once g c =
+    let t = c.target-item.result in
+    moves_in_turn (λ t. (t.member.which, map (λ s. s.which) t.sources.items)) c.args.targets.now c.loop-target.target-index t c.loop-target-test.true
+    c.target-item.is (λ (t : Taking). IsOneStepWith t.1 t.0) c.args.pass.now c.loop-target.pass c.bring_forward_with.new.pass c.in_ok-step.step
+    c.loop-target.invariant.once
+    (subst (λ l. IsOneStepWith (map (λ s. s.which) l) t.member.which c.loop-target.pass c.bring_forward_with.new.pass c.in_ok-step.step)
+    c.as_slice.ensures.value c.in_ok-step.ensures.once)
+
+pub returns-clause-once : goal.returns-clause-once
+returns-clause-once g c =
+    turns.all_level
+    (all_took_turns (λ t. (t.member.which, map (λ s. s.which) t.sources.items)) c.args.targets.now c.loop-target.target-index c.loop-target-test.false
+    (λ (t : Taking) p q. IsOneStepWith t.1 t.0 p q Level) c.args.pass.now c.loop-target.pass c.loop-target.invariant.once)

@@ -1,6 +1,9 @@
 use Rattle.std.proofs.Common.{map, take}
 use Rattle.std.specs.List.{AllByRecursion}
+use Rattle.follow.specs.declared.steps.Step.TheVariants.{Level}
 use Rattle.follow.specs.Steps.{IsOnward}
+use Rattle.follow.specs.Turns.{EachInTurn, IsOneStepWith}
+use Rattle.cutover_steps.specs.Takings.{Taking}
 use Rattle.reshard_beginning.proofs.Moving.{IsLevelWith}
 use Rattle.reshard_beginning.proofs.forward.move_first.Given as goal
 
@@ -11,4 +14,7 @@ invariant-loop-target g l = record {
   level :
       AllByRecursion (IsLevelWith g.W.World.opening l.fn.pass l.pass)
       (map (λ t. (t.member.which, map (λ s. s.which) t.sources.items)) (take l.target-index l.targets));
+  once :
+      EachInTurn (λ t p q. IsOneStepWith t.1 t.0 p q Level)
+      (map {B = Taking} (λ t. (t.member.which, map (λ s. s.which) t.sources.items)) (take l.target-index l.targets)) l.fn.pass l.pass;
 }
