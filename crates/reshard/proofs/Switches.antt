@@ -24,11 +24,14 @@ use Rattle.reshard_beginning.specs.Begun as begun
 use Rattle.cutover_steps.specs.Steps.{named_for}
 use Rattle.reshard.specs.Workflows.{WorkflowView}
 use Rattle.cutover_steps.specs.Takings.{Taking, shards_of}
-use Rattle.reshard.specs.Cutover.{HasSwitched, HasStopped, HasNoRoom, IsSwitchRefusal}
-use Rattle.cutover_steps.specs.Looks.{IsServingAgain}
+use Rattle.reshard.specs.Cutover.{HasSwitched, HasStopped, HasNoRoom, IsSwitchRefusal, MayRetireFirst}
+use Rattle.follow.specs.Turns.{EachInTurn}
+use Rattle.cutover_steps.specs.Looks.{HasThawed, IsServingAgain, IsWithinRows}
 use Rattle.reshard.specs.Cutover as cut
 use Rattle.cutover_steps.proofs.Onward.{stepped_after}
-use Rattle.reshard_beginning.proofs.Moving.{with_after}
+use Rattle.reshard_beginning.proofs.Moving.{with_after, with_later}
+use mathlib.Core.List.{IsPrefix}
+use Rattle.journal.proofs.Fronts.{prefix_trans, prefix_self}
 
 module _ (o : Opening) (targets : List Taking) (p q now : PassView Entry) (on : IsOnward o p q) where
   levels : (ts : List Taking) → AllByRecursion (λ t. HasMovedWith o t.1 t.0 q now Level) ts → AllByRecursion (λ t. HasMovedWith o t.1 t.0 p now Level) ts
@@ -96,8 +99,9 @@ when_none {X = X} o A B none h = subst (λ (x : Option X). MatchOption x A B) no
 -- a step stopped, and the cutover was given up
 pub stopped : (o : Opening) (most : Limits) (w mid now : WorkflowView) (p at q : PassView Entry) (e : ReshardFault) → IsOnward o p at
     → IsSwitchRefusal o most w.sources w.targets p at e → w.retired ≡ 0 → mid ≡ record w { prepared = mid.prepared }
-    → now ≡ record mid { stage = Following; frozen = 0 } → AllByRecursion (λ s. IsServingAgain o s at q) mid.sources → HasStopped o most w now p q e
-stopped o most w mid now p at q e on cause none same is again = record {
+    → now ≡ record mid { stage = Following; frozen = 0 } → AllByRecursion (λ s. IsServingAgain o s at q) mid.sources
+    → EachInTurn (HasThawed o) mid.sources at q → HasStopped o most w now p q e
+stopped o most w mid now p at q e on cause none same is again thawed = record {
   at = at;
   onward = on;
   cause = cause;
@@ -107,13 +111,62 @@ stopped o most w mid now p at q e on cause none same is again = record {
         is ∙ ap (λ (v : WorkflowView). record v { stage = Following; frozen = 0 }) same
         ∙ ap (λ (b : Bool). record w { stage = Following; frozen = 0; prepared = b }) (sym (ap (λ (v : WorkflowView). v.prepared) is));
     serve = subst (λ (l : List Shard). AllByRecursion (λ s. IsServingAgain o s at q) l) (ap (λ (v : WorkflowView). v.sources) same) again;
+    thawed = subst (λ (l : List Shard). EachInTurn (HasThawed o) l at q) (ap (λ (v : WorkflowView). v.sources) same) thawed;
   };
 }
 
 pub given_up : (o : Opening) (w now : WorkflowView) (p q : PassView Entry) → w.retired ≡ 0 → now ≡ record w { stage = Following; frozen = 0 }
-    → AllByRecursion (λ s. IsServingAgain o s p q) w.sources → cut.HasGivenUp o w now p q
-given_up o w now p q none is again = record {
+    → AllByRecursion (λ s. IsServingAgain o s p q) w.sources → EachInTurn (HasThawed o) w.sources p q → cut.HasGivenUp o w now p q
+given_up o w now p q none is again thawed = record {
   none = none;
   at = is ∙ ap (λ (b : Bool). record w { stage = Following; frozen = 0; prepared = b }) (sym (ap (λ (v : WorkflowView). v.prepared) is));
   serve = again;
+  thawed = thawed;
+}
+
+-- ---- the first source may retire
+
+module _ (o : Opening) (targets : List Taking) (p q now : PassView Entry) (on : IsOnward o q now) where
+  levels_later : (ts : List Taking) → AllByRecursion (λ t. HasMovedWith o t.1 t.0 p q Level) ts → AllByRecursion (λ t. HasMovedWith o t.1 t.0 p now Level) ts
+  levels_later ts h =
+      all-weaker (λ (t : Taking). HasMovedWith o t.1 t.0 p q Level) (λ (t : Taking). HasMovedWith o t.1 t.0 p now Level)
+      (λ t k. with_later o t.1 t.0 p q now on k) ts h
+
+  -- what was level stays so in what the pass sees later
+  pub level_later : HasMovedFirst o targets p q Level → HasMovedFirst o targets p now Level
+  level_later (begun.one before after t is all moved) =
+      begun.one before after t is (levels_later before all) (with_later o t.1 t.0 p q now on moved)
+  level_later (begun.all_level all) = begun.all_level (levels_later targets all)
+
+pub within_between : (o : Opening) (most : Limits) (targets : List Taking) (p p' now now' : PassView Entry) → IsPrefix p'.seen p.seen → IsPrefix now.seen now'.seen
+    → AllByRecursion (λ t. IsWithinRows o most t.0 p now) targets → AllByRecursion (λ t. IsWithinRows o most t.0 p' now') targets
+within_between o most targets p p' now now' early late all =
+    all-weaker (λ (t : Taking). IsWithinRows o most t.0 p now) (λ (t : Taking). IsWithinRows o most t.0 p' now')
+    (λ t h. record {
+      run = h.run;
+      between = record {
+        since = prefix_trans p'.seen p.seen h.run early h.between.since;
+        until = prefix_trans h.run now.seen now'.seen h.between.until late;
+      };
+      few = h.few;
+    }) targets all
+
+pub ready_later : (o : Opening) (most : Limits) (w : WorkflowView) (p q now : PassView Entry) → IsOnward o q now → MayRetireFirst o most w p q
+    → MayRetireFirst o most w p now
+ready_later o most w p q now on is = record {
+  frozen = is.frozen;
+  level = level_later o w.targets p q now on is.level;
+  fit = within_between o most w.targets p p q now (prefix_self p.seen) on.later is.fit;
+}
+
+-- by what a step found once the memory was made
+pub may_retire : (o : Opening) (most : Limits) (w w1 : WorkflowView) (p q now : PassView Entry) → w1 ≡ record w { prepared = true }
+    → length w1.sources ≤ w1.frozen → HasMovedFirst o w1.targets p q Level → IsOnward o q now
+    → AllByRecursion (λ t. IsWithinRows o most t.0 q now) w1.targets → IsPrefix p.seen q.seen → MayRetireFirst o most w p now
+may_retire o most w w1 p q now made all level on fit since = record {
+  frozen = subst (λ (v : WorkflowView). length v.sources ≤ v.frozen) made all;
+  level = level_later o w.targets p q now on (subst (λ (v : WorkflowView). HasMovedFirst o v.targets p q Level) made level);
+  fit =
+      within_between o most w.targets q p now now since (prefix_self now.seen)
+      (subst (λ (v : WorkflowView). AllByRecursion (λ t. IsWithinRows o most t.0 q now) v.targets) made fit);
 }

@@ -9,6 +9,7 @@ use Rattle.shard_run.specs.declared.Event.TheVariants as events
 use Rattle.shard_run.specs.Runs.{Opening, Run, entries_on}
 use Rattle.shard_contents.specs.declared.limits.Limits.{Limits}
 use Rattle.follow.specs.Steps.{IsOnward, IsRunBetween, HasStepped, IsFull}
+use Rattle.follow.specs.Turns.{EachInTurn}
 use Rattle.follow.specs.declared.steps.Step.TheVariants as moves
 use Rattle.reshard_beginning.specs.declared.fault.ReshardFault.{ReshardFault}
 use Rattle.reshard_beginning.specs.declared.fault.ReshardFault.TheVariants.{Refused}
@@ -18,7 +19,7 @@ use Rattle.reshard.specs.declared.finishing.Resumed.{Resumed}
 use Rattle.reshard.specs.declared.finishing.Resumed.TheVariants.{Thawed, Finished}
 use Rattle.reshard.specs.declared.cutover.CutoverStep.TheVariants.{Freeze, Copy, Follow, Retire, Serve, Publish, Release}
 use Rattle.cutover_steps.specs.Steps.{named_for}
-use Rattle.cutover_steps.specs.Looks.{IsServingAgain, IsCutOver, IsOverfull}
+use Rattle.cutover_steps.specs.Looks.{HasThawed, IsServingAgain, IsCutOver, IsOverfull, IsWithinRows}
 use Rattle.reshard.specs.Workflows.{WorkflowView}
 use Rattle.cutover_steps.specs.Takings.{Taking, shards_of}
 use Rattle.reshard_beginning.specs.Begun.{HasMovedFirst}
@@ -66,11 +67,20 @@ pub data HasSwitched (o : Opening) (w : WorkflowView) (now : WorkflowView) (p q 
   released : length w.sources ≤ w.retired → length w.targets ≤ w.served → now ≡ record w { stage = stages.Switched; prepared = true }
       → HasSwitched o w now p q Release
 
--- A cutover was given up of which no source was retired: its targets follow again, and each of its sources serves.
+-- The first source may retire: all are frozen, each target was found level with its sources, and then, at a run that the pass came by, with no
+-- more rows than a shard that serves may have.
+pub record MayRetireFirst (o : Opening) (most : Limits) (w : WorkflowView) (p now : PassView Entry) : Type 0 where
+  pub frozen : length w.sources ≤ w.frozen
+  pub level : HasMovedFirst o w.targets p now moves.Level
+  pub fit : AllByRecursion (λ t. IsWithinRows o most t.0 p now) w.targets
+
+-- A cutover was given up of which no source was retired: its targets follow again, and each of its sources serves. They were thawed one after
+-- the other, and none of them was frozen after that.
 pub record HasGivenUp (o : Opening) (w now : WorkflowView) (p q : PassView Entry) : Type 0 where
   pub none : w.retired ≡ 0
   pub at : now ≡ record w { stage = stages.Following; frozen = 0; prepared = now.prepared }
   pub serve : AllByRecursion (λ s. IsServingAgain o s p q) w.sources
+  pub thawed : EachInTurn (HasThawed o) w.sources p q
 
 -- A cutover is through: the pass has seen each source retired and each target serve, and the workflow is switched.
 pub record HasFinished (w now : WorkflowView) (q : PassView Entry) : Type 0 where

@@ -8,7 +8,7 @@ ghost use Rattle.shard_run.specs.Openings.{IsOpening};
 ghost use Rattle.shard_contents.specs.Shards.{MayFollow};
 ghost use Rattle.follow.specs.Steps.{IsOnward};
 ghost use Rattle.reshard_beginning.specs.Grounds.{IsFree, IsGround};
-ghost use Rattle.reshard_beginning.specs.Begun.{HasBegun, IsCreateRefusal, HasMovedFirst, IsMoveRefusal};
+ghost use Rattle.reshard_beginning.specs.Begun.{HasBegun, IsCreateRefusal, HasMovedFirst, IsMoveRefusal, IsOneStepFirst};
 
 use crate::workflow::{Stage, Workflow};
 use follow::Step;
@@ -126,9 +126,10 @@ impl<W: World, J: Naming> Workflow<W, J> {
         Ok(())
     }
 
-    // Promise: A step of a workflow brings the first target forward, in the order of their ranges, that isn't level with its sources, by at
-    // most one entry; or all are level. It is refused only where no targets follow (N4), a target has as many entries as it may have (F24),
-    // or for memory
+    // Promise: A step of a workflow brings the first target forward, in the order of their ranges, that isn't level with its sources, by
+    // exactly one entry; or all are level, and there is none. It is refused only where no targets follow (N4), a target has as many entries
+    // as it may have (F24), or for memory
+    // Refuses: step_moves_no_target, step_moves_twice
     /// Brings the first target forward, in their order, that isn't level with its sources: it takes over the entry that is next, else it
     /// copies the next rows; where all are level, nothing. Refuses where no targets follow; where a target has as many entries as it may
     /// have; and for want of memory.
@@ -144,6 +145,7 @@ impl<W: World, J: Naming> Workflow<W, J> {
         requires legal { IsLegal (MayFollow W.opening) pass.old.seen }
         ensures was { OnOk result (self.old.stage ≡ Stage.Following) }
         ensures moved { IfOk result (HasMovedFirst W.opening self.old.targets pass.old pass.new) }
+        ensures once { IfOk result (IsOneStepFirst self.old.targets pass.old pass.new) }
         ensures refused { IfErr result (λ e. ((e ≡ ReshardFault.WrongState) × (self.old.stage ≡ Stage.Following → ⊥))
             ⊎ ((self.old.stage ≡ Stage.Following) × IsMoveRefusal W.limits self.old.targets pass.new e)) }
         ensures same { self.new ≡ self.old }

@@ -10,7 +10,8 @@ ghost use Rattle.follow.specs.Steps.{IsOnward, HasStepped};
 ghost use Rattle.cutover_steps.specs.Steps.{named_for};
 ghost use Rattle.cutover_steps.specs.Takings.{Taking, shards_of};
 ghost use Rattle.reshard.specs.Cutover.{HasNoRoom};
-ghost use Rattle.cutover_steps.specs.Looks.{IsServingAgain};
+ghost use Rattle.follow.specs.Turns.{EachInTurn};
+ghost use Rattle.cutover_steps.specs.Looks.{HasThawed, IsServingAgain};
 
 use crate::workflow::{Stage, Workflow};
 use buffer::Buffer;
@@ -158,6 +159,7 @@ impl<W: World, J: Naming> Workflow<W, J> {
         requires none { self.old.retired ≡ 0 }
         ensures now { self.new ≡ record self.old { stage = Stage.Following; frozen = 0 } }
         ensures serve { AllByRecursion (λ s. IsServingAgain W.opening s pass.old pass.new) self.old.sources }
+        ensures thawed { EachInTurn (HasThawed W.opening) self.old.sources pass.old pass.new }
         ensures onward { IsOnward W.opening pass.old pass.new }
     {
         unfreeze_all(rt, self.sources.as_slice(), pass);

@@ -5,7 +5,8 @@ ghost use Rattle.journal.specs.Runs.{IsLegal};
 ghost use Rattle.shard_contents.specs.Shards.{MayFollow};
 ghost use Rattle.follow.specs.Steps.{IsOnward};
 ghost use Rattle.reshard.specs.Cutover.{MayCancel};
-ghost use Rattle.cutover_steps.specs.Looks.{IsServingAgain};
+ghost use Rattle.follow.specs.Turns.{EachInTurn};
+ghost use Rattle.cutover_steps.specs.Looks.{HasThawed, IsServingAgain};
 
 use crate::workflow::{Stage, Workflow};
 use buffer::Buffer;
@@ -43,9 +44,9 @@ impl<W: World, J: Naming> Workflow<W, J> {
     }
 
     // Promise: A workflow is given up exactly while its targets follow or no source is retired (else N4): each source that it froze serves
-    // again, the statements that wait go on, and it is none
+    // again, and none is frozen after that, the statements that wait go on, and it is none
     // Refuses: cancelled_after_a_retirement, cutover_steps::cancelled_target_serves, cutover_steps::failed_cutover_leaves_frozen,
-    // cancelled_targets_are_kept
+    // cancelled_targets_are_kept, cancelled_source_freezes_again
     /// Gives the workflow up, of which no source is retired: each source that is frozen is thawed, and the statements that wait go on. Its
     /// targets' slots are used up. Refuses where there is none, or a source is retired. Takes no memory.
     pub fn cancel(
@@ -58,6 +59,7 @@ impl<W: World, J: Naming> Workflow<W, J> {
         ensures was { OnOk result (MayCancel self.old) }
         ensures none { OnOk result (self.new ≡ record self.old { stage = Stage.None; sources = []; targets = []; frozen = 0; retired = 0; served = 0; prepared = false }) }
         ensures serve { OnOk result (AllByRecursion (λ s. IsServingAgain W.opening s pass.old pass.new) self.old.sources) }
+        ensures thawed { OnOk result (EachInTurn (HasThawed W.opening) self.old.sources pass.old pass.new) }
         ensures refused { IfErr result (λ e. (e ≡ ReshardFault.WrongState) × (MayCancel self.old → ⊥) × (self.new ≡ self.old) × (pass.new ≡ pass.old)) }
         ensures onward { IsOnward W.opening pass.old pass.new }
     {

@@ -102,8 +102,9 @@ impl<W: World, J: Naming> Workflow<W, J> {
         }
     }
 
-    // Promise: A cutover that had begun is thawed, of which no source was retired: each source serves again, and the targets follow; else
-    // it is finished: each source is retired, and each target serves. Refused exactly where none had begun (N4). It takes no memory
+    // Promise: A cutover that had begun is thawed, of which no source was retired: each source serves again, and none is frozen after that,
+    // and the targets follow; else it is finished: each source is retired, and each target serves. Refused exactly where none had begun (N4).
+    // It takes no memory
     // Refuses: resume_forgets_a_source
     /// Ends a cutover that has begun: where no source is retired, each is thawed that is frozen, the statements that waited go on, and the
     /// targets follow; else the cutover is finished. Refuses where none has begun. Takes no memory.

@@ -1,6 +1,6 @@
-use Rattle.std.proofs.Common.{true, List, length, map, refl, sym, ap, ◌∙◌, subst, arith}
+use Rattle.std.proofs.Common.{◌≡◌, true, List, length, map, refl, sym, ap, ◌∙◌, subst, arith}
 use Rattle.std.proofs.lemmas.List.{length-map}
-use Rattle.std.specs.Prelude.{IfErr}
+use Rattle.std.specs.Prelude.{IfOk, IfErr, MatchOption}
 use Rattle.journal.proofs.Fronts.{prefix_self}
 use Rattle.vt_value.specs.declared.refusal.Refusal.{Refusal}
 use Rattle.vt_value.specs.declared.refusal.Refusal.TheVariants.{ShardFull}
@@ -9,10 +9,15 @@ use Rattle.reshard_beginning.specs.declared.fault.ReshardFault.TheVariants.{Refu
 use Rattle.reshard_beginning.specs.Begun.{HasMovedFirst, IsMoveRefusal}
 use Rattle.reshard.specs.Workflows.{WorkflowView}
 use Rattle.cutover_steps.specs.Takings.{Taking}
-use Rattle.reshard.specs.Cutover.{IsSwitchRefusal, overfull}
+use Rattle.reshard.specs.declared.cutover.CutoverStep.{CutoverStep}
+use Rattle.reshard.specs.declared.cutover.CutoverStep.TheVariants.{Retire}
+use Rattle.follow.specs.declared.steps.Step.TheVariants.{Level}
+use Rattle.std.specs.List.{AllByRecursion}
+use Rattle.cutover_steps.specs.Looks.{IsWithinRows}
+use Rattle.reshard.specs.Cutover.{IsSwitchRefusal, overfull, MayRetireFirst}
 use Rattle.reshard.proofs.Nexts.{from_move, refusal_within}
 use Rattle.reshard_beginning.proofs.Unfit.{residual_same}
-use Rattle.reshard.proofs.Switches.{froze_after, copied_after, followed_after, memory_refused, room_refused, refused_as}
+use Rattle.reshard.proofs.Switches.{froze_after, copied_after, followed_after, memory_refused, room_refused, refused_as, may_retire}
 use Rattle.reshard.proofs.workflow.Workflow.switch_before.Goals.{then-all_fit, else-all_fit}
 use Rattle.reshard.proofs.workflow.Workflow.switch_before.Goals as goal
 
@@ -102,4 +107,36 @@ returns-clause-refused g c =
           (refusal_within o most w1.sources w1.targets q c.args.pass.now now now c.in_ok-move_first.ensures.onward.later (prefix_self now.seen) (Refused ShardFull)
           (let h = c.all_fit.ensures.many w.if-all_fit.false in
           overfull h.0 (subst (λ (l : List Taking). Rattle.std.specs.Prelude.Contains l h.0) ts h.1) h.2)))
+    ]
+
+pub returns-clause-ready : goal.returns-clause-ready
+returns-clause-ready g c =
+    let o = g.W.World.opening in
+    let most = g.W.World.limits in
+    let w = c.args.self.now in
+    let w1 = c.prepare.new.self in
+    let p = c.args.pass.now in
+    let q = c.move_first.new.pass in
+    let now = c.all_fit.new.pass in
+    let ts =
+    ap (map {B = Taking} (λ t. (t.member.which, map (λ s. s.which) t.sources.items))) c.as_slice.ensures.value ∙ ap (λ (w : WorkflowView). w.targets) c.self.view_is in
+    let ts2 =
+    ap (map {B = Taking} (λ t. (t.member.which, map (λ s. s.which) t.sources.items))) c.as_slice-2.ensures.value ∙ ap (λ (w : WorkflowView). w.targets) c.self.view_is in
+    let a = c.if-self-len.false in
+    let b = c.len.ensures in
+    let d = c.self.inside.sources.ok.0 in
+    let e = length-map c.self.inside.sources.items (λ s. s.member.which) in
+    let v = ap (λ (w : WorkflowView). length w.sources) c.self.view_is in
+    let n = ap (λ (w : WorkflowView). w.frozen) c.self.view_is in
+    let made = c.in_ok-prepare.ensures.now in
+    let level = subst (λ (l : List Taking). HasMovedFirst o l p q Level) ts
+    (subst (λ (s : Step). HasMovedFirst o (map {B = Taking} (λ t. (t.member.which, map (λ s. s.which) t.sources.items)) c.as_slice.result.now) p q s)
+    c.in-Level.is c.in_ok-move_first.ensures.moved) in
+    elim c.if-all_fit.branch [
+      | then-all_fit w' ↦
+          subst (λ r. IfOk r (λ r. MatchOption r (MayRetireFirst o most w p now) (λ (step : CutoverStep). step ≡ Retire → ⊥))) (sym w'.result-is)
+          (may_retire o most w w1 p q now made (omega (arith, a, b, d, e, v, n)) level c.all_fit.ensures.onward
+          (subst (λ (l : List Taking). AllByRecursion (λ t. IsWithinRows o most t.0 q now) l) ts2 (c.all_fit.ensures.few w'.if-all_fit.true)) c.move_first.ensures.onward.later)
+      | else-all_fit w' ↦
+          subst (λ r. IfOk r (λ r. MatchOption r (MayRetireFirst o most w p now) (λ (step : CutoverStep). step ≡ Retire → ⊥))) (sym w'.result-is) tt
     ]

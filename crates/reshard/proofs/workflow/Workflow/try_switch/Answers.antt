@@ -1,11 +1,11 @@
-use Rattle.std.proofs.Common.{sym, ◌∙◌, subst}
+use Rattle.std.proofs.Common.{sym, ap, ◌∙◌, subst}
 use Rattle.journal.specs.Views.{PassView}
 use Rattle.shard_run.specs.declared.Entry.{Entry}
 use Rattle.follow.specs.Steps.{IsOnward}
 use Rattle.reshard.specs.Workflows.{WorkflowView}
-use Rattle.reshard.specs.Cutover.{HasSwitched}
+use Rattle.reshard.specs.Cutover.{HasSwitched, MayRetireFirst}
 use Rattle.cutover_steps.proofs.Onward.{onward_trans}
-use Rattle.reshard.proofs.Switches.{switched_since, when_none}
+use Rattle.reshard.proofs.Switches.{switched_since, when_none, ready_later}
 use Rattle.reshard.proofs.workflow.Workflow.try_switch.Goals.{then-self-eq0+in_ok-step+in_default, else-self-eq0}
 use Rattle.reshard.proofs.workflow.Workflow.try_switch.Goals as goal
 
@@ -32,4 +32,16 @@ returns-clause-onward g c =
           onward_trans o c.args.pass.now c.if-self-eq0.pass c.switch_after.new.pass
           (subst (λ (q : PassView Entry). IsOnward o c.args.pass.now q) (sym w.pass-is) w.switch_before.ensures.onward) h
       | else-self-eq0 w ↦ subst (λ (q : PassView Entry). IsOnward o q c.switch_after.new.pass) w.pass-is h
+    ]
+
+pub returns-clause-ready : goal.returns-clause-ready
+returns-clause-ready g c step none =
+    let o = g.W.World.opening in
+    let most = g.W.World.limits in
+    elim c.if-self-eq0.branch [
+      | then-self-eq0+in_ok-step+in_default w ↦
+          ready_later o most c.args.self.now c.args.pass.now c.if-self-eq0.pass c.switch_after.new.pass c.switch_after.ensures.onward
+          (subst (λ (q : PassView Entry). MayRetireFirst o most c.args.self.now c.args.pass.now q) (sym w.pass-is)
+          (when_none w.in_ok-step.field-0 _ _ w.in_default.is w.in_ok-step.ensures.ready))
+      | else-self-eq0 w ↦ absurd (w.if-self-eq0.false (ap (λ (v : WorkflowView). v.retired) c.self.view_is ∙ none))
     ]
