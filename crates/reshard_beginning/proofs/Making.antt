@@ -15,10 +15,11 @@ use Rattle.shard_law.specs.Legal.{IsOnItsSlot}
 use Rattle.reshard_beginning.specs.declared.creating.Sight.{Sight}
 use Rattle.reshard_beginning.specs.declared.creating.Sight.TheVariants.{Serves, DoesNot, Another}
 use Rattle.reshard_beginning.specs.Splits.{AreOverlapped}
-use Rattle.reshard_beginning.specs.inner.Created.{HasGrown, added, left, IsSight, serves, does_not, another, IsMade, IsMadeOf, IsPicked, IsAway}
+use Rattle.reshard_beginning.specs.inner.Created.{HasGrown, added, left, IsSight, serves, does_not, another, IsMade, IsMadeOf, IsPicked, HasServed, IsAway}
 use mathlib.Core.List.{IsPrefix}
 use Rattle.journal.specs.Views.{PassView}
 use Rattle.journal.proofs.Fronts.{prefix_trans}
+use Rattle.shard_law.proofs.Lists.{all-weaker}
 use Rattle.serving.specs.Partitions.{Seat, AreOf}
 use Rattle.shard.specs.Seats.{seat_of}
 use Rattle.cutover_steps.specs.Takings.{Taking}
@@ -165,6 +166,36 @@ module _ {S : Type 0} (which : S → Shard) (o : Opening) (p q now : PassView En
         subst (AllByRecursion (λ s. (which s).place.keyspace ≡ k)) (sym grown)
             (AllByRecursion-push (λ s. (which s).place.keyspace ≡ k) sources s home (ap (λ (x : Place). x.keyspace) picked.place)),
       )
+
+-- the parts so far served
+pub served_next : (o : Opening) (p q now : PassView Entry) (k : ℕ) (parts : List Seat) (i : ℕ) (part : Seat) (s : Shard) → i < length parts → part ≡ get_or parts i part
+    → IsPrefix p.seen q.seen → IsPrefix q.seen now.seen → IsPicked o q now k part s → AllByRecursion (HasServed o p q k) (take i parts)
+    → AllByRecursion (HasServed o p now k) (take (i + 1) parts)
+served_next o p q now k parts i part s there is since until picked so_far =
+    subst (AllByRecursion (HasServed o p now k)) (sym (take_more parts i part there ∙ ap (λ (x : Seat). take i parts ++ x ∷ []) (sym is)))
+    (AllByRecursion-push (HasServed o p now k) (take i parts) part
+    (all-weaker (HasServed o p q k) (HasServed o p now k)
+    (λ seat h. (
+      h.0,
+      record {
+        run = h.1.run;
+        since = h.1.since;
+        until = prefix_trans h.1.run q.seen now.seen h.1.until until;
+        slot = h.1.slot;
+        place = h.1.place;
+        serving = h.1.serving;
+      },
+    )) (take i parts) so_far) (
+      s,
+      record {
+        run = picked.run;
+        since = prefix_trans p.seen q.seen picked.run since picked.since;
+        until = picked.until;
+        slot = picked.slot;
+        place = picked.place;
+        serving = picked.serving;
+      },
+    ))
 
 pub away_since : (o : Opening) (p q now : PassView Entry) (k : ℕ) (part : Seat) → IsPrefix p.seen q.seen → IsAway o q now k part → IsAway o p now k part
 away_since o p q now k part later is = record {

@@ -1,5 +1,5 @@
 -- What a workflow begins with, and why it isn't begun.
-use Rattle.std.specs.Prelude.{◌≡◌, ℕ, ◌<◌, ◌+◌, ◌++◌, ◌∷◌, List, length, map, Contains, IsPermutation}
+use Rattle.std.specs.Prelude.{◌≡◌, ◌⊎◌, ℕ, ◌<◌, ◌+◌, ◌++◌, ◌∷◌, List, length, map, Contains, IsPermutation}
 use Rattle.std.specs.List.{AllByRecursion}
 use Rattle.keyrange.specs.declared.KeyRange.{KeyRange}
 use Rattle.serving.specs.Partitions.{Seat, IsPartition}
@@ -15,10 +15,10 @@ use Rattle.follow.specs.declared.steps.Step.{Step}
 use Rattle.follow.specs.declared.steps.Step.TheVariants.{Level}
 use Rattle.reshard_beginning.specs.declared.fault.ReshardFault.{ReshardFault}
 use Rattle.reshard_beginning.specs.declared.fault.ReshardFault.TheVariants.{Refused, FewSlots}
-use Rattle.reshard_beginning.specs.Choices.{AreNamed, HoldTheSame}
+use Rattle.reshard_beginning.specs.Choices.{AreNamed, AreApart, HoldTheSame}
 use Rattle.reshard_beginning.specs.Splits.{TakesFrom}
 use Rattle.cutover_steps.specs.Takings.{Taking}
-use Rattle.reshard_beginning.specs.inner.Created.{IsUnfit}
+use Rattle.reshard_beginning.specs.inner.Created.{AreThere, IsUnfit}
 
 -- What a workflow begins with: the sources are shards of the keyspace, as many as ranges were named, each of one of them. The targets are of
 -- the other ranges, which hold the same ids; each takes from the sources that overlap it.
@@ -31,14 +31,14 @@ pub record HasBegun (sources : List Shard) (targets : List Taking) (keyspace : �
   pub same : HoldTheSame into (map (λ s. s.place.range) sources)
   pub takes : AllByRecursion (λ t. TakesFrom sources t.0) targets
 
--- Why a workflow isn't begun that may be: see the causes of a source, an overlap and a gap, over some partition; too few slots are free, or
--- the partition would have more parts than there are slots.
+-- Why a workflow isn't begun that may be, over some partition. The causes are judged in this order: a source, an overlap, what the targets hold,
+-- and last their number: too few slots are free, or the partition would have more parts than there are slots.
 pub data IsCreateRefusal (o : Opening) (p now : PassView Entry) (keyspace free : ℕ) (from into : List KeyRange) : ReshardFault → Type 0 where
   no_memory : IsCreateRefusal o p now keyspace free from into (Refused OutOfMemory)
   unfit : {e : ReshardFault} (seats taken rest : List Seat) → IsPartition seats → AreNamed from seats taken rest
       → IsUnfit o p now keyspace from into taken rest e → IsCreateRefusal o p now keyspace free from into e
-  few : free < length into → IsCreateRefusal o p now keyspace free from into FewSlots
-  many : (seats taken rest : List Seat) → IsPartition seats → AreNamed from seats taken rest → 64 < length rest + length into
+  few : (seats taken rest : List Seat) → IsPartition seats → AreNamed from seats taken rest → AreThere o p now keyspace from taken → AreApart into
+      → HoldTheSame into (map (λ s. s.1) taken) → (free < length into) ⊎ (64 < length rest + length into)
       → IsCreateRefusal o p now keyspace free from into FewSlots
 
 -- The first of the targets, each with its sources, that isn't level with them moves; or all are level.

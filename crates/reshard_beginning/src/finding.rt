@@ -1,13 +1,13 @@
 //! Which shards a workflow replaces, and whether these targets may take their place.
-ghost use Rattle.std.specs.Prelude.{◌≡◌, ◌⊎◌, ◌++◌, IfOk, IfErr, OnOk, MatchOption, Contains, map, length};
+ghost use Rattle.std.specs.Prelude.{◌≡◌, ◌⊎◌, ◌++◌, List, IfOk, IfErr, IfSome, OnOk, MatchOption, Contains, map, length};
 ghost use Rattle.std.specs.List.{AllByRecursion};
 ghost use Rattle.keyrange.specs.Ranges.{Cover};
-ghost use Rattle.serving.specs.Partitions.{Seat, AreOf};
+ghost use Rattle.serving.specs.Partitions.{Seat, AreOf, IsPartition};
 ghost use Rattle.journal.specs.Runs.{IsLegal};
 ghost use Rattle.shard_contents.specs.Shards.{MayFollow};
 ghost use Rattle.follow.specs.Steps.{IsOnward};
-ghost use Rattle.reshard_beginning.specs.Choices.{AreApart};
-ghost use Rattle.reshard_beginning.specs.inner.Created.{IsAway, IsUnfit};
+ghost use Rattle.reshard_beginning.specs.Choices.{AreApart, AreNamed};
+ghost use Rattle.reshard_beginning.specs.inner.Created.{AreThere, HasServed, IsAway, IsUnfit};
 
 use crate::choosing::{Chosen, any_overlap, next_ranges};
 use crate::creating::source_of;
@@ -34,6 +34,7 @@ pub(crate) fn sources_of<W: World, J: Naming>(
     ensures found { IfOk result (λ r. MatchOption r ((seat : Seat) × Contains parts.now seat × IsAway W.opening pass.old pass.new keyspace seat)
         (λ sources. (map (λ s. (s.member.which.slot, s.member.which.place.range, s.member.which.place.keyspace)) sources.items ≡ parts.now)
         × AllByRecursion (λ s. s.member.which.place.keyspace ≡ keyspace) sources.items)) }
+    ensures served { IfOk result (λ r. IfSome r (λ _. AllByRecursion (HasServed W.opening pass.old pass.new keyspace) parts.now)) }
     ensures onward { IsOnward W.opening pass.old pass.new }
     ensures err { IfErr result (λ e. e ≡ Refusal.OutOfMemory) }
 {
@@ -54,8 +55,9 @@ pub(crate) fn test_targets<W: World, J: Naming>(
     targets: &[KeyRange],
 ) -> Result<(), ReshardFault>
     ensures ok { OnOk result (Cover (map (λ s. s.1) rest.now ++ targets.now)) }
+    ensures apart { OnOk result (AreApart targets.now) }
     ensures err { IfErr result (λ e. (e ≡ ReshardFault.Refused Refusal.OutOfMemory) ⊎ (((e ≡ ReshardFault.Overlap) × (AreApart targets.now → ⊥))
-        ⊎ ((e ≡ ReshardFault.Gap) × (Cover (map (λ s. s.1) rest.now ++ targets.now) → ⊥)))) }
+        ⊎ ((e ≡ ReshardFault.Gap) × AreApart targets.now × (Cover (map (λ s. s.1) rest.now ++ targets.now) → ⊥)))) }
 {
     if any_overlap(targets) {
         return Err(ReshardFault::Overlap);
@@ -80,10 +82,13 @@ pub(crate) fn find_sources<W: World, J: Naming>(
 ) -> Result<Vec<Source<W, J>>, ReshardFault>
     requires legal { IsLegal (MayFollow W.opening) pass.old.seen }
     requires home { AreOf keyspace chosen.now.taken.items }
+    requires parts { (seats : List Seat) × IsPartition seats × AreNamed sources.now seats chosen.now.taken.items chosen.now.rest.items }
     ensures found { IfOk result (λ found. (map (λ s. (s.member.which.slot, s.member.which.place.range, s.member.which.place.keyspace)) found.items ≡ chosen.now.taken.items)
         × AllByRecursion (λ s. s.member.which.place.keyspace ≡ keyspace) found.items) }
     ensures cover { OnOk result (Cover (map (λ s. s.1) chosen.now.rest.items ++ targets.now)) }
     ensures count { OnOk result (length chosen.now.taken.items ≡ length sources.now) }
+    ensures there { OnOk result (AreThere W.opening pass.old pass.new keyspace sources.now chosen.now.taken.items) }
+    ensures apart { OnOk result (AreApart targets.now) }
     ensures onward { IsOnward W.opening pass.old pass.new }
     ensures err { IfErr result (IsUnfit W.opening pass.old pass.new keyspace sources.now targets.now chosen.now.taken.items chosen.now.rest.items) }
 {

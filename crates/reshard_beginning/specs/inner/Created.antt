@@ -16,7 +16,7 @@ use Rattle.vt_value.specs.declared.refusal.Refusal.TheVariants.{OutOfMemory}
 use Rattle.reshard_beginning.specs.declared.fault.ReshardFault.{ReshardFault}
 use Rattle.reshard_beginning.specs.declared.fault.ReshardFault.TheVariants.{Refused, Gap, WrongSource}
 use Rattle.reshard_beginning.specs.declared.fault.ReshardFault.TheVariants as faults
-use Rattle.reshard_beginning.specs.Choices.{AreNamed, AreApart}
+use Rattle.reshard_beginning.specs.Choices.{AreNamed, AreApart, HoldTheSame}
 use Rattle.reshard_beginning.specs.Splits.{TakesFrom}
 use Rattle.shard.specs.Seats.{seat_of}
 use Rattle.cutover_steps.specs.Takings.{Taking}
@@ -37,6 +37,15 @@ pub record IsPicked (o : Opening) (p now : PassView Entry) (keyspace : ℕ) (sea
   pub slot : s.slot ≡ seat.0
   pub place : s.place ≡ record { keyspace = keyspace; range = seat.1 }
   pub serving : mode o run s.slot ≡ modes.Serving
+
+abbrev pub HasServed : Opening → PassView Entry → PassView Entry → ℕ → Seat → Type 0
+HasServed o p now keyspace seat = (s : S.Shard) × IsPicked o p now keyspace seat s
+
+-- nothing stands against the sources: some are named, each is a part of the partition, and each served
+pub record AreThere (o : Opening) (p now : PassView Entry) (keyspace : ℕ) (sources : List KeyRange) (taken : List Seat) : Type 0 where
+  pub some : sources ≡ [] → ⊥
+  pub count : length taken ≡ length sources
+  pub served : AllByRecursion (HasServed o p now keyspace) taken
 
 -- or it didn't, or was frozen
 pub record IsAway (o : Opening) (p now : PassView Entry) (keyspace : ℕ) (seat : Seat) : Type 0 where
@@ -65,14 +74,16 @@ pub record IsMade (sources : List S.Shard) (keyspace : ℕ) (range : KeyRange) (
   pub at : t.0.place.range ≡ range
   pub is : IsMadeOf sources keyspace t
 
--- why these targets may not take the place of the parts that are named
+-- Why these targets may not take the place of the parts that are named. The sources are judged first, then whether targets overlap, then what they
+-- hold.
 pub data IsUnfit (o : Opening) (p now : PassView Entry) (keyspace : ℕ) (sources targets : List KeyRange) (taken rest : List Seat) : ReshardFault → Type 0 where
   no_memory : IsUnfit o p now keyspace sources targets taken rest (Refused OutOfMemory)
   none_named : sources ≡ [] → IsUnfit o p now keyspace sources targets taken rest WrongSource
   not_there : (length taken ≡ length sources → ⊥) → IsUnfit o p now keyspace sources targets taken rest WrongSource
   away : (seat : Seat) → Contains taken seat → IsAway o p now keyspace seat → IsUnfit o p now keyspace sources targets taken rest WrongSource
-  overlap : (AreApart targets → ⊥) → IsUnfit o p now keyspace sources targets taken rest faults.Overlap
-  gap : (Cover (map (λ s. s.1) rest ++ targets) → ⊥) → IsUnfit o p now keyspace sources targets taken rest Gap
+  overlap : AreThere o p now keyspace sources taken → (AreApart targets → ⊥) → IsUnfit o p now keyspace sources targets taken rest faults.Overlap
+  gap : AreThere o p now keyspace sources taken → AreApart targets → (HoldTheSame targets (map (λ s. s.1) taken) → ⊥)
+      → IsUnfit o p now keyspace sources targets taken rest Gap
 
 -- Of the parts of a partition those of the named ranges, whose shards are the sources; targets of the other ranges may stand beside the rest.
 pub record IsSurvey (keyspace : ℕ) (from into : List KeyRange) (parts : List Seat) (sources : List S.Shard) (rest : List Seat) : Type 0 where

@@ -16,6 +16,13 @@ find_sources-requires-clause-home g c =
     of_taken c.args.keyspace c.parts.result.now c.in_ok-chosen.chosen.taken.items c.in_ok-chosen.ensures.taken
     (subst (AreOf c.args.keyspace) (sym c.parts.ensures.seats) c.requires.home)
 
+pub find_sources-requires-clause-parts : goal.find_sources-requires-clause-parts
+find_sources-requires-clause-parts g c = (
+  c.parts.result.now,
+  subst IsPartition (sym c.parts.ensures.seats) c.parts.ensures.partition,
+  c.in_ok-chosen.ensures.ok,
+)
+
 pub returns-in_err-found-clause-err : goal.returns-in_err-found-clause-err
 returns-in_err-found-clause-err g c =
     residual_same c.from_residual-in_err-found.result c.in_err-found.field-0.0 _ c.from_residual-in_err-found.ensures.1
@@ -26,7 +33,8 @@ pub returns-then-lack_slots-clause-err : goal.returns-then-lack_slots-clause-err
 returns-then-lack_slots-clause-err g c =
     lacking g.W.World.opening c.args.pass.now c.find_sources.new.pass c.args.keyspace c.args.free c.args.sources.now c.args.targets.now
     c.parts.result.now c.in_ok-chosen.chosen.taken.items c.in_ok-chosen.chosen.rest.items
-    (subst IsPartition (sym c.parts.ensures.seats) c.parts.ensures.partition) c.in_ok-chosen.ensures.ok c.args.free c.len.result
+    (subst IsPartition (sym c.parts.ensures.seats) c.parts.ensures.partition) c.in_ok-chosen.ensures.ok c.in_ok-found.ensures.there c.in_ok-found.ensures.apart
+    c.in_ok-found.ensures.cover c.args.free c.len.result
     refl (c.len.ensures ∙ c.in_ok-chosen.chosen.rest.ok.0) (c.lack_slots.ensures.few c.if-lack_slots.true)
 
 pub returns-clause-found : goal.returns-clause-found

@@ -1,10 +1,10 @@
-use Rattle.std.proofs.Common.{◌≡◌, length, sym, subst, ◌∙◌}
+use Rattle.std.proofs.Common.{◌≡◌, ◌==◌, length, sym, ap, subst, ◌∙◌}
 use Rattle.std.specs.Prelude.{Contains}
-use Rattle.std.proofs.lemmas.Bool.{eqb-true}
+use Rattle.std.proofs.lemmas.Bool.{eqb-true, false≢true}
 use Rattle.serving.specs.Partitions.{Seat}
-use Rattle.follow.proofs.Moves.{at_not_some}
+use Rattle.follow.proofs.Moves.{at_not_some, if_some}
 use Rattle.reshard_beginning.specs.inner.Created.{none_named, not_there, away}
-use Rattle.reshard_beginning.proofs.Unfit.{no_items, residual, unfit_memory, tested}
+use Rattle.reshard_beginning.proofs.Unfit.{no_items, residual, unfit_memory, there_now, tested}
 use Rattle.reshard_beginning.proofs.finding.find_sources.Goals as goal
 
 pub returns-then-is_empty-clause-err : goal.returns-then-is_empty-clause-err
@@ -29,4 +29,13 @@ returns-in_default-clause-err g c =
 pub returns-in-Err-clause-err : goal.returns-in-Err-clause-err
 returns-in-Err-clause-err g c =
     tested g.W.World.opening c.args.pass.now c.sources_of.new.pass c.args.keyspace c.args.sources.now c.args.targets.now c.args.chosen.now.taken.items
-    c.args.chosen.now.rest.items c.in-Err.fault c.as_slice-2.result.now c.as_slice-2.ensures.value c.in-Err.ensures.err
+    c.args.chosen.now.rest.items c.requires.parts
+    (there_now g.W.World.opening c.args.pass.now c.sources_of.new.pass c.args.keyspace c.args.sources.now c.args.chosen.now.taken.items c.as_slice.result.now
+    (λ e. absurd (false≢true (sym c.if-is_empty.false ∙ c.is_empty.ensures ∙ ap (λ l. length l == 0) e))) (sym (c.len.ensures ∙ c.args.chosen.now.taken.ok.0) ∙ c.if-len-sources.false)
+    c.as_slice.ensures.value (if_some _ c.in_ok-found.field-0 c.in-Some.found c.in-Some.is c.in_ok-found.ensures.served)) c.in-Err.fault c.as_slice-2.result.now c.as_slice-2.ensures.value c.in-Err.ensures.err
+
+pub returns-in-Ok-clause-there : goal.returns-in-Ok-clause-there
+returns-in-Ok-clause-there g c =
+    there_now g.W.World.opening c.args.pass.now c.sources_of.new.pass c.args.keyspace c.args.sources.now c.args.chosen.now.taken.items c.as_slice.result.now
+    (λ e. absurd (false≢true (sym c.if-is_empty.false ∙ c.is_empty.ensures ∙ ap (λ l. length l == 0) e))) (sym (c.len.ensures ∙ c.args.chosen.now.taken.ok.0) ∙ c.if-len-sources.false)
+    c.as_slice.ensures.value (if_some _ c.in_ok-found.field-0 c.in-Some.found c.in-Some.is c.in_ok-found.ensures.served)
