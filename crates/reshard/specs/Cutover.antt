@@ -75,7 +75,7 @@ pub record MayRetireFirst (o : Opening) (most : Limits) (w : WorkflowView) (p no
   pub fit : AllByRecursion (λ t. IsWithinRows o most t.0 p now) w.targets
 
 -- A cutover was given up of which no source was retired: its targets follow again, and each of its sources serves. They were thawed one after
--- the other, and none of them was frozen after that.
+-- the other, and none of them was looked at after its turn.
 pub record HasGivenUp (o : Opening) (w now : WorkflowView) (p q : PassView Entry) : Type 0 where
   pub none : w.retired ≡ 0
   pub at : now ≡ record w { stage = stages.Following; frozen = 0; prepared = now.prepared }

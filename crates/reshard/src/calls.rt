@@ -22,12 +22,12 @@ use std::sync::Wait;
 use vschema::VSchema;
 
 impl<W: World, J: Naming> Workflow<W, J> {
-    // Promise: A workflow begins exactly with the shards that its first ranges name, which served and weren't frozen when they were looked
-    // at, and with targets of the other ranges on free slots, which hold the same ids; each target takes from the sources that overlap it,
-    // and with the parts that stay the targets make a partition. It is refused only for its cause, or for memory, and the causes are judged
-    // in this order: one is there already (N4); a source that isn't a part of the partition, is named twice or doesn't serve (N5); targets
-    // that overlap (N2); that don't hold what the named parts do (N1); too few slots (N3). Then nothing changed, and no slot is taken:
-    // targets that were made give theirs back. Which partition N5 speaks of has no clause
+    // Promise: A workflow begins exactly with shards of its keyspace that its first ranges name, and with targets of the other ranges on free
+    // slots, which hold the same ids; each target takes from the sources that overlap it, and with the parts that stay the targets make a
+    // partition. It is refused only for its cause, or for memory, and the causes are judged in this order: one is there already (N4); a
+    // source that isn't a part of the partition, is named twice or doesn't serve (N5); targets that overlap (N2); that don't hold what the
+    // named parts do (N1); too few slots (N3). Then nothing changed, and no slot is taken: targets that were made give theirs back. Which
+    // partition N5 speaks of has no clause
     // With: Workflow::{stage, create}
     // Refuses: reshard_beginning::create_takes_any_targets, reshard_beginning::create_refused_takes_a_slot,
     // reshard_beginning::shard_refused_takes_its_slot, reshard_beginning::overlap_is_judged_before_the_sources,

@@ -102,7 +102,7 @@ impl<W: World, J: Naming> Workflow<W, J> {
         }
     }
 
-    // Promise: A cutover that had begun is thawed, of which no source was retired: each source serves again, and none is frozen after that,
+    // Promise: A cutover that had begun is thawed, of which no source was retired: each source serves again and isn't looked at after that,
     // and the targets follow; else it is finished: each source is retired, and each target serves. Refused exactly where none had begun (N4).
     // It takes no memory
     // Refuses: resume_forgets_a_source

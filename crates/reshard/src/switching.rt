@@ -136,8 +136,8 @@ impl<W: World, J: Naming> Workflow<W, J> {
     // the first target that isn't level moves; once all are, the next source is retired for its targets; then the next target serves; then
     // the next partition is published, and then the statements that waited go on. It is taken exactly while targets follow or the cutover
     // has begun (else N4, and nothing changed). For want of memory, and where a source or a target would pass a limit (F24), which it tells
-    // only where the pass came by it, the cutover is given up, of which no source is retired: each source serves again, and none is frozen
-    // after that, and the targets follow. The first source retires only where the workflow has frozen all, and the step found each target
+    // only where the pass came by it, the cutover is given up, of which no source is retired: each source serves again and isn't looked
+    // at after that, and the targets follow. The first source retires only where the workflow has frozen all, and the step found each target
     // level, and then with no more rows than a shard that serves may have
     // Refuses: given_up_cutover_thaws_none, cutover_steps::failed_cutover_leaves_frozen, switch_step_takes_two,
     // cutover_without_looking_for_room, given_up_source_freezes_again, retires_behind_a_copy, retires_behind_a_follow,
