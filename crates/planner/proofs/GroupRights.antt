@@ -16,7 +16,7 @@ use Rattle.vschema.specs.declared.schema.Table.{Table}
 use Rattle.vschema.specs.declared.schema.VSchema.{VSchema}
 use Rattle.vschema.specs.Checks.{is_aggregate, is_aggregated, has_number}
 use Rattle.vschema.specs.declared.schema.Join.{Join}
-use Rattle.vschema.specs.Sources.{source_rows, source_tables, IsInPlace, JoinsInPlace}
+use Rattle.vschema.specs.Sources.{source_rows, source_tables, JoinsInPlace}
 use Rattle.sql_eval.specs.Conditions.{is_kept}
 use Rattle.sql_eval.specs.Groups.{group_values, group_rows, group_value, item_value}
 use Rattle.sql_eval.specs.Grouping.{aggregates_of}

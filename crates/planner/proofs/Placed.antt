@@ -1,5 +1,5 @@
 -- The rows of a shard lie in its range, and its tables may hold them.
-use Rattle.std.proofs.Common.{◌≡◌, ℕ, zero, suc, ◌<◌, ◌^◌, Bool, true, false, cond, List, [], ◌∷◌, ◌++◌, ◌+◌, length, get_or, map, filter, Contains, Option, Some, None, pos, negsuc, refl, sym, ap, subst, ◌∙◌, arith, slice_get}
+use Rattle.std.proofs.Common.{◌≡◌, ℕ, zero, suc, ◌<◌, ◌^◌, Bool, true, false, cond, List, [], ◌∷◌, ◌+◌, length, get_or, map, filter, Contains, Option, Some, None, pos, negsuc, refl, sym, ap, subst, ◌∙◌, arith, slice_get}
 use Rattle.std.specs.Prelude.{not, ◌||◌, ◌&&◌, ◌==◌, nat_lt, int_lt, option_map}
 use Rattle.std.specs.List.{AllByRecursion}
 use Rattle.std.proofs.lemmas.Bool.{lt-ltb, ltb-false, eqb-true}
@@ -24,7 +24,7 @@ use Rattle.vschema.specs.Storable.{is_storable_value, are_storable_values, is_st
 use Rattle.vschema.specs.Database.{Database, rows_of, lies_in, restricted, restrict}
 use Rattle.vschema.specs.declared.schema.Join.{Join}
 use Rattle.vschema.specs.declared.schema.Query.{Query}
-use Rattle.vschema.specs.Sources.{kind_of, padded, paired, is_pair, pairs_of, with_pairs, source_rows, join_tables, source_tables, HaveOneId, IsInPlace, JoinsInPlace}
+use Rattle.vschema.specs.Sources.{kind_of, paired, is_pair, pairs_of, with_pairs, source_rows, join_tables, source_tables, HaveOneId, JoinsInPlace}
 use Rattle.sql_eval.proofs.PairValues.{left_at, right_at}
 use Rattle.sql_eval.proofs.Pairs.{all_join}
 use Rattle.planner.specs.declared.keys.KeyColumn.{KeyColumn}

@@ -1,5 +1,5 @@
 -- The values of a row, and of a pair of rows, as they stand.
-use Rattle.std.specs.Prelude.{ℕ, List, [], ◌∷◌, ◌++◌, map, filter}
+use Rattle.std.specs.Prelude.{List, [], ◌∷◌, ◌++◌, map, filter}
 use Rattle.vt_value.specs.Values.{Row}
 use Rattle.vschema.specs.declared.schema.Join.{Join}
 use Rattle.vschema.specs.Sources.{padded, is_pair, paired, pairs_of}

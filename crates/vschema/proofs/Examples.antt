@@ -14,7 +14,6 @@ use Rattle.sql_tree.specs.declared.Statement.{Statement}
 use Rattle.sql_tree.specs.declared.Statement.TheVariants as statement
 use Rattle.vschema.specs.declared.schema.Typed.TheVariants.{Select, Rollback}
 use Rattle.sql_tree.specs.declared.ColumnName.{ColumnName}
-use Rattle.sql_tree.specs.declared.JoinOn.{JoinOn}
 use Rattle.vschema.specs.Resolved.{Name}
 use Rattle.vschema.specs.TypedStatement.{typed_statement}
 use Rattle.vschema.proofs.Example.{schema}

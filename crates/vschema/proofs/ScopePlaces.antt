@@ -1,5 +1,5 @@
 -- Places of columns in a table and in a scope.
-use Rattle.std.proofs.Common.{◌≡◌, ℕ, zero, suc, ◌+◌, ◌<◌, ◌≤◌, Bool, true, false, cond, List, [], ◌∷◌, ◌++◌, length, drop, map, Option, Some, None, refl, sym, ap, subst, ◌∙◌, arith, append_assoc}
+use Rattle.std.proofs.Common.{◌≡◌, ℕ, zero, suc, ◌+◌, ◌<◌, Bool, true, false, cond, List, [], ◌∷◌, length, drop, Option, Some, None, refl, sym, arith}
 use Rattle.std.specs.Prelude.{IfSome}
 use Rattle.vschema.specs.Schema.{place_from}
 use Rattle.vschema.specs.Resolved.{places_from}

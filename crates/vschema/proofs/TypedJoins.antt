@@ -1,9 +1,9 @@
 -- The join of a query that a statement means is one whose pairs lie on one shard each.
-use Rattle.std.proofs.Common.{◌≡◌, ℕ, zero, suc, ◌+◌, ◌-◌, ◌<◌, ◌≤◌, Bool, true, false, cond, List, [], ◌∷◌, ◌++◌, length, get_or, Option, Some, None, Ok, Err, Result, refl, sym, ap, subst, ◌∙◌, arith, slice_get}
+use Rattle.std.proofs.Common.{◌≡◌, ℕ, zero, suc, ◌+◌, ◌-◌, Bool, true, false, cond, List, [], ◌∷◌, ◌++◌, length, Option, Some, None, Ok, Err, Result, refl, sym, ap, subst, ◌∙◌, arith, slice_get}
 use Rattle.std.specs.Prelude.{not, ◌||◌, ◌&&◌, ◌==◌, nat_lt, nat_le, slice_index_or}
 use Rattle.std.proofs.lemmas.Bool.{ltb-true, leb-true, eqb-true}
 use Rattle.vt_value.specs.declared.refusal.Refusal.{Refusal}
-use Rattle.vt_value.specs.declared.refusal.Refusal.TheVariants.{UnknownTable, UnknownColumn, NotSupported, NotGrouped}
+use Rattle.vt_value.specs.declared.refusal.Refusal.TheVariants.{UnknownColumn, NotSupported, NotGrouped}
 use Rattle.vindex.specs.declared.AnyVindex.{AnyVindex}
 use Rattle.vindex.specs.declared.AnyVindex.TheVariants.{Numeric, ReverseBits, Binary, BinaryMd5}
 use Rattle.sql_tree.specs.declared.JoinOn.{JoinOn}
@@ -16,7 +16,7 @@ use Rattle.vschema.specs.declared.schema.Table.{Table}
 use Rattle.vschema.specs.declared.schema.VSchema.{VSchema}
 use Rattle.vschema.specs.Schema.{table_place, table_at, no_table}
 use Rattle.vschema.specs.Scopes.{Scope, only, scope_columns}
-use Rattle.vschema.specs.Checks.{differ, column_is_text, names_unknown_column, select_is_not_supported, shows_ungrouped, is_aggregated}
+use Rattle.vschema.specs.Checks.{names_unknown_column, select_is_not_supported, shows_ungrouped, is_aggregated}
 use Rattle.vschema.specs.Joins.{same_vindex, takes_keys, takes_columns, left_place, right_place, resolved_join, is_refused, join_is_refused}
 use Rattle.vschema.specs.Sources.{kind_of, type_at, HaveOneId, IsInPlace, JoinsInPlace}
 use Rattle.vschema.specs.TypedStatement.{join_over, over, checked, checked_pair, checked_second, checked_with, checked_first, checked_at, typed_select}

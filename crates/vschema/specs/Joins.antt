@@ -1,5 +1,5 @@
 -- Which joins are taken: those that each shard can make by itself.
-use Rattle.std.specs.Prelude.{ℕ, ◌+◌, Bool, true, false, not, ◌||◌, ◌&&◌, ◌==◌, nat_lt, nat_le, List, length, slice_get, Option, Some, None, if◌then◌else◌}
+use Rattle.std.specs.Prelude.{ℕ, ◌+◌, Bool, true, false, not, ◌||◌, ◌&&◌, ◌==◌, nat_lt, nat_le, length, slice_get, Option, Some, None, if◌then◌else◌}
 use Rattle.vindex.specs.declared.AnyVindex.{AnyVindex}
 use Rattle.vindex.specs.declared.AnyVindex.TheVariants.{Numeric, ReverseBits, Binary, BinaryMd5}
 use Rattle.sql_tree.specs.declared.JoinOn.{JoinOn}

@@ -1,4 +1,4 @@
-use Rattle.std.proofs.Common.{◌≡◌, ◌∙◌, sym, ap, Option, Some}
+use Rattle.std.proofs.Common.{◌∙◌, sym, ap, Option, Some}
 use Rattle.std.specs.Prelude.{option_map}
 use Rattle.std.proofs.lemmas.Result.{IfOk-weaker}
 use Rattle.vschema.specs.declared.schema.ColumnVindex.{ColumnVindex}

@@ -1,10 +1,10 @@
-use Rattle.std.proofs.Common.{◌≡◌, ◌∙◌, ap, sym}
+use Rattle.std.proofs.Common.{◌∙◌, ap, sym}
 use Rattle.std.specs.List.{list_any}
 use Rattle.vt_value.specs.declared.value.Value.{Value}
 use Rattle.keyrange.specs.Ranges.{has_id}
 use Rattle.vschema_document.proofs.Lists.{list_any_map}
 use Rattle.planner.specs.declared.members.Member.{Member}
-use Rattle.planner.specs.Routes.{id_of, takes}
+use Rattle.planner.specs.Routes.{id_of}
 use Rattle.planner.proofs.taking.takes.Goals as goal
 
 pub returns-in-In : goal.returns-in-In

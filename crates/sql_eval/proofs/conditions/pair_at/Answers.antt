@@ -1,4 +1,4 @@
-use Rattle.std.proofs.Common.{◌≡◌, ◌+◌, ◌-◌, ◌∙◌, sym, arith}
+use Rattle.std.proofs.Common.{◌-◌, ◌∙◌, sym, arith}
 use Rattle.sql_eval.proofs.PairValues.{left_at, right_at}
 use Rattle.sql_eval.proofs.conditions.pair_at.Goals as goal
 

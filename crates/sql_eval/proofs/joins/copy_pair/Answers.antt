@@ -1,5 +1,4 @@
-use Rattle.std.proofs.Common.{◌≡◌, ◌++◌, ◌∷◌, [], ◌∙◌, sym, ap}
-use Rattle.vschema.specs.Sources.{padded}
+use Rattle.std.proofs.Common.{◌++◌, ◌∷◌, [], ◌∙◌, sym}
 use Rattle.sql_eval.proofs.PairValues.{padded_next}
 use Rattle.sql_eval.proofs.joins.copy_pair.Goals as goal
 

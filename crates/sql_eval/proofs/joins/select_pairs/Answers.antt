@@ -1,4 +1,4 @@
-use Rattle.std.proofs.Common.{ℕ, List, map, filter, refl, sym, ap, subst, ◌∙◌}
+use Rattle.std.proofs.Common.{ℕ, List, map, filter, refl, ap, subst, ◌∙◌}
 use Rattle.std.specs.Prelude.{IfOk}
 use Rattle.sql_tree.specs.declared.Key.{Key}
 use Rattle.sql_eval.specs.Conditions.{is_kept}

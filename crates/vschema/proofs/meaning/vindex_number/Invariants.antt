@@ -1,5 +1,5 @@
 use Rattle.std.proofs.Common.{◌≡◌, drop}
-use Rattle.std.specs.Prelude.{bytes_eq, unwrap_or}
+use Rattle.std.specs.Prelude.{bytes_eq}
 use Rattle.vschema_document.specs.Faults.{vindexes}
 use Rattle.vschema_document.specs.Places.{place_from}
 use Rattle.vschema.proofs.meaning.vindex_number.Given as goal
