@@ -1,4 +1,4 @@
-use Rattle.std.proofs.Common.{◌≡◌, ℕ, List, Option, Some, None, IfSome, sym, subst}
+use Rattle.std.proofs.Common.{ℕ, List, sym, subst}
 use Rattle.vtgate_lines.specs.Partitions.{IsListOf}
 use Rattle.vtgate_lines.proofs.Blanks.{two_apart}
 use Rattle.vtgate_lines.proofs.admin_lines.two_lists.Goals as goal
