@@ -129,6 +129,19 @@ a: SELECT * FROM t WHERE id IN (1, 2, 4)
 LINES
 in_turn script "$work/script.input" script -80,80-
 
+runs joins script -80,80- <<'LINES'
+a: INSERT INTO t (id, c) VALUES (2, 7), (4, 9)
+a: INSERT INTO w (id, d) VALUES (2, 20), (2, 21), (4, 40)
+b: SELECT t.id, c, d FROM t JOIN w ON t.id = w.id WHERE d > 20 ORDER BY d DESC
+b: SELECT * FROM t JOIN w ON t.id = w.id WHERE w.id = 2 AND c = 7 ORDER BY d LIMIT 1
+a: BEGIN
+a: INSERT INTO w (id, d) VALUES (4, 41)
+a: SELECT c, d FROM t JOIN w ON w.id = t.id ORDER BY d
+a: COMMIT
+b: SELECT d FROM t JOIN w ON t.id = w.id ORDER BY d
+LINES
+in_turn joins "$work/joins.input" script -80,80-
+
 # A cutover that is refused memory leaves the sources serving and the targets following, as if it hadn't been asked for.
 runs split script -80,80- <<'LINES'
 a: INSERT INTO t (id, c) VALUES (2, 7), (4, 9), (6, 1)
