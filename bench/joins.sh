@@ -18,12 +18,7 @@ while [ $# -gt 0 ]; do
     esac
     shift
 done
-if ! dpkg -s mariadb-server mariadb-client > /dev/null 2>&1; then
-    as_root=()
-    [ "$(id -u)" = 0 ] || as_root=(sudo)
-    "${as_root[@]}" apt-get update -qq
-    DEBIAN_FRONTEND=noninteractive "${as_root[@]}" apt-get install -y -qq --no-install-recommends mariadb-server mariadb-client >&2
-fi
+have_packages mariadb-server mariadb-client
 program=$(program_of vtgate_main "$program")
 work=$(mktemp -d)
 trap 'rm -rf "$work"' EXIT

@@ -16,3 +16,12 @@ program_of() {
     [ -x "$program" ] || { echo "no program at ${program:-$crate/out}" >&2; exit 1; }
     echo "$program"
 }
+
+# have_packages NAME..: installs these packages of Debian where one isn't there.
+have_packages() {
+    local as_root=()
+    dpkg -s "$@" > /dev/null 2>&1 && return
+    [ "$(id -u)" = 0 ] || as_root=(sudo)
+    "${as_root[@]}" apt-get update -qq
+    DEBIAN_FRONTEND=noninteractive "${as_root[@]}" apt-get install -y -qq --no-install-recommends "$@" >&2
+}

@@ -6,12 +6,7 @@ set -euo pipefail
 top=$(cd "$(dirname "$0")/.." && pwd)
 . "$top/bench/program.sh"
 packages=(mariadb-client python3-pymysql golang-go golang-github-go-sql-driver-mysql-dev libdbd-mysql-perl libdbd-mariadb-perl)
-if ! dpkg -s "${packages[@]}" > /dev/null 2>&1; then
-    as_root=()
-    [ "$(id -u)" = 0 ] || as_root=(sudo)
-    "${as_root[@]}" apt-get update -qq
-    DEBIAN_FRONTEND=noninteractive "${as_root[@]}" apt-get install -y -qq --no-install-recommends "${packages[@]}" >&2
-fi
+have_packages "${packages[@]}"
 program=$(program_of vtgate_main "${1:-}")
 program=$(realpath "$program")
 work=$(mktemp -d)
