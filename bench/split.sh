@@ -3,10 +3,10 @@
 # copy, how soon targets are level beside writers at full speed, and steps a second by entries. Prints the tables; with --write puts them into
 # docs/PERFORMANCE.md.
 # Usage: bench/split.sh [--write] [--rows N,..] [--rounds N] [--seconds S] [PROGRAM]
-# PROGRAM is built by `rt run` in crates/vtgate_main where none is given. Needs a C compiler.
+# PROGRAM is proved and built where none is given. Needs a C compiler.
 set -euo pipefail
 top=$(cd "$(dirname "$0")/.." && pwd)
-. "$top/bench/program.sh"
+. "$top/scripts/program.sh"
 rows=1000,10000,100000 rounds=5 seconds=2 document=() program=''
 while [ $# -gt 0 ]; do
     case $1 in

@@ -3,12 +3,9 @@
 # Usage: examples/tour.sh [PROGRAM]
 set -euo pipefail
 top=$(cd "$(dirname "$0")/.." && pwd)
-. "$top/examples/program.sh"
+. "$top/scripts/program.sh"
+program=$(program_of vtgate_main "${1:-}")
 input=$(mktemp)
 trap 'rm -f "$input"' EXIT
 { tr -d '\n' < "$top/examples/shop.json"; echo; cat "$top/examples/tour.lines"; } > "$input"
-if [ $# -gt 0 ]; then
-    "$1" script -40,40-80,80-c0,c0- < "$input"
-else
-    run_program script -40,40-80,80-c0,c0- < "$input"
-fi
+"$program" script -40,40-80,80-c0,c0- < "$input"

@@ -1,10 +1,10 @@
 #!/usr/bin/env bash
 # Has real clients speak to the router over sockets: the mariadb command line, PyMySQL, go-sql-driver, DBD::mysql and DBD::MariaDB each run
 # the statements of tests/clients/statements, and what each shows is compared; then logins, packets, clients that go away, and the admin port.
-# Usage: tests/clients.sh [PROGRAM]   (built by `rt run` in crates/vtgate_main where none is given; installs Debian's packages of the clients)
+# Usage: tests/clients.sh [PROGRAM]   (proved and built where none is given; installs Debian's packages of the clients)
 set -euo pipefail
 top=$(cd "$(dirname "$0")/.." && pwd)
-. "$top/bench/program.sh"
+. "$top/scripts/program.sh"
 packages=(mariadb-client python3-pymysql golang-go golang-github-go-sql-driver-mysql-dev libdbd-mysql-perl libdbd-mariadb-perl)
 have_packages "${packages[@]}"
 program=$(program_of vtgate_main "${1:-}")

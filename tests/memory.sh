@@ -2,10 +2,10 @@
 # Runs scripts, with a split and a merge of shards, and a plan once for each growth of memory that they ask for, and has that one growth
 # refused. Then at most one line is refused for want of memory, and hasn't happened, or the program ends at once with status 1: nothing else
 # may come out.
-# Usage: tests/memory.sh [PROGRAM]   (built by `rt run` in crates/vtgate_main where none is given; needs a C compiler)
+# Usage: tests/memory.sh [PROGRAM]   (proved and built where none is given; needs a C compiler)
 set -euo pipefail
 top=$(cd "$(dirname "$0")/.." && pwd)
-. "$top/bench/program.sh"
+. "$top/scripts/program.sh"
 program=$(program_of vtgate_main "${1:-}")
 work=$(mktemp -d)
 trap 'rm -rf "$work"' EXIT

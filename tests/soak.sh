@@ -2,10 +2,10 @@
 # Splits shards and merges them back again and again, beside eight sessions in threads of one process that write, transact and read all their
 # rows, and compares each answer, and the rows at the end, with those of the accepted commands. Status 1 where something differs, 124 where
 # it hangs.
-# Usage: tests/soak.sh [SECONDS [SEED [PROGRAM]]]   (a minute, and any seed, where none is given; built by `rt run` in crates/testbed)
+# Usage: tests/soak.sh [SECONDS [SEED [PROGRAM]]]   (a minute, and any seed, where none is given; proved and built, where no program is)
 set -euo pipefail
 top=$(cd "$(dirname "$0")/.." && pwd)
-. "$top/bench/program.sh"
+. "$top/scripts/program.sh"
 program=$(program_of testbed "${3:-}")
 seconds=${1:-60}
 seed=${2:-$RANDOM}

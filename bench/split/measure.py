@@ -2,7 +2,9 @@
 beside writers at full speed, and steps a second by entries. Called by bench/split.sh."""
 
 import argparse
+import contextlib
 import datetime
+import io
 import os
 import pathlib
 import socket
@@ -13,10 +15,12 @@ import threading
 import time
 
 TOP = pathlib.Path(__file__).resolve().parents[2]
-sys.path[:0] = [str(TOP / "tests" / "clients"), str(TOP / "bench")]
+sys.path[:0] = [str(TOP / "tests" / "clients"), str(TOP / "bench"), str(TOP / "examples" / "demo")]
 
 import packets  # noqa: E402
 import page  # noqa: E402
+import picture  # noqa: E402
+import split as demo  # noqa: E402
 from router import free_ports  # noqa: E402
 
 # of the rows that `load fill` makes, each second one lies on the shard that is split
@@ -27,6 +31,8 @@ BETWEEN = 0.001
 MOST_COPIES = 30
 # the writers beside a split, each as fast as it is answered, and for how many seconds
 WRITERS, WRITING = "4", 5
+# steps that are sent at once until the targets are level, and how often at most
+BATCH, MOST_BATCHES = 2000, 500
 # for how many seconds they write before each figure of the steps a second
 STRETCHES = (0.01, 0.1, 1, 10)
 KINDS = ("point", "insert", "update", "scatter", "mix", "transaction")
@@ -223,6 +229,43 @@ def by_entries(words):
             before += steps
 
 
+def left(words, kind, rows=100000):
+    """Entries that are left to follow where the source is frozen by `advance` right behind steps that came level, beside clients at full speed."""
+    with Router(words, rows) as router:
+        writers = threading.Thread(target=lambda: write(router, kind, WRITING))
+        router.does("create -80 -40,40-80")
+        router.follow()
+        writers.start()
+        time.sleep(WRITING / 4)
+        for _ in range(MOST_BATCHES):
+            if router.answers(*["step"] * BATCH)[-1] == "ok level":
+                break
+        answers = router.answers(*["step"] * BATCH, *["advance"] * 2)[BATCH:]
+        while "ok retire" not in answers:
+            answers += router.answers(*["advance"] * 20)
+        writers.join()
+        return answers.index("ok retire") - 1 - answers.count("ok copy")
+
+
+def at_once(words, kind, rows=100000):
+    """Microseconds of a `switch` right behind `create`, and of the longest wait of a writer meanwhile, beside clients at full speed."""
+    with Router(words, rows) as router:
+        writer = Writer(router.port)
+        writers = threading.Thread(target=lambda: write(router, kind, WRITING))
+        writers.start()
+        writer.start()
+        time.sleep(WRITING / 4)
+        router.does("create -80 -40,40-80")
+        begin = time.perf_counter()
+        router.does("switch")
+        end = time.perf_counter()
+        time.sleep(0.2)
+        writer.enough = True
+        writer.join()
+        writers.join()
+        return 1e6 * (end - begin), 1e6 * writer.longest(begin, end + 0.01)
+
+
 def section(words):
     lines = [HEAD.format(day=datetime.date.today(), cores=os.cpu_count(), rounds=words.rounds)]
     lines += ["| rows | copied a second | `switch`, µs | longest wait before, µs | longest wait meanwhile, µs | of all rounds |", "|---|---|---|---|---|---|"]
@@ -238,10 +281,25 @@ def section(words):
     for kind in ("update", "insert", "point"):
         asked, steps, whole, behind = beside_writers(words, kind)
         lines.append(f"| {kind} | {asked} | {steps} | {whole:.1f} | {behind:.2f} |")
+    lines += ["", f"The freeze, likewise beside {WRITERS} clients at full speed: entries that are left to follow where `advance` freezes the source right behind steps"]
+    lines += ["that came level; and `switch` alone, right behind `create`, with the longest wait of a client that changes a row each millisecond:", ""]
+    lines += ["| statements | entries left | `switch`, ms | longest wait, ms |", "|---|---|---|---|"]
+    for kind in ("update", "insert", "point"):
+        entries = statistics.median(left(words, kind) for _ in range(words.rounds))
+        switch, wait = (statistics.median(it) for it in zip(*(at_once(words, kind) for _ in range(words.rounds))))
+        lines.append(f"| {kind} | {entries:.0f} | {switch / 1e3:.1f} | {wait / 1e3:.2f} |")
     lines += ["", "Steps a second in which two targets follow a source, by the steps that they had taken before:", ""]
     lines += ["| steps before | steps | a second |", "|---|---|---|"]
     lines += [f"| {before} | {steps} | {each:.0f} |" for before, steps, each in by_entries(words)]
     return "\n".join(lines) + "\n"
+
+
+def draw(program, file):
+    """Draws what the demo's clients feel."""
+    with contextlib.redirect_stdout(io.StringIO()):
+        times, marks = demo.run(program, *free_ports(2), 100000)
+    file.parent.mkdir(exist_ok=True)
+    file.write_text(picture.svg(list(demo.by_tenths(times, marks))))
 
 
 def main():
@@ -256,6 +314,7 @@ def main():
     part = section(words)
     if words.document:
         page.put(words.document, "split.sh", part)
+        draw(words.program, words.document.parent / "pictures" / "split.svg")
     else:
         print(part, end="")
 
