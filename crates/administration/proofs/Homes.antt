@@ -24,8 +24,8 @@ module _ (o : Opening) (most : Limits) (w now : WorkflowView) (p q : PassView En
   of_step step (cutover.followed all moved is) = ap (λ (x : WorkflowView). x.keyspace) is
   of_step step (cutover.retired s at done is) = ap (λ (x : WorkflowView). x.keyspace) is
   of_step step (cutover.served t at all done is) = ap (λ (x : WorkflowView). x.keyspace) is
-  of_step step (cutover.published all served is) = ap (λ (x : WorkflowView). x.keyspace) is
-  of_step step (cutover.released all served is) = ap (λ (x : WorkflowView). x.keyspace) is
+  of_step step (cutover.published not all served is) = ap (λ (x : WorkflowView). x.keyspace) is
+  of_step step (cutover.released was all served is) = ap (λ (x : WorkflowView). x.keyspace) is
 
   of_resumed : (r : Resumed) → IsResumed o w now p q r → now.keyspace ≡ w.keyspace
   of_resumed r (cutover.thawed h) = ap (λ (x : WorkflowView). x.keyspace) h.at

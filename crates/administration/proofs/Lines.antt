@@ -10,7 +10,6 @@ use Rattle.journal.specs.Views.{PassView}
 use Rattle.shard_run.specs.declared.Entry.{Entry}
 use Rattle.shard_run.specs.Runs.{Opening}
 use Rattle.shard_contents.specs.declared.limits.Limits.{Limits}
-use Rattle.reshard.specs.declared.workflow.Stage.{Stage}
 use Rattle.reshard_beginning.specs.declared.fault.ReshardFault.TheVariants as faults
 use Rattle.reshard.specs.Workflows.{WorkflowView}
 use Rattle.vtgate_lines.specs.Partitions.{IsListOf, last, more}
@@ -28,8 +27,8 @@ all_named text ranges (more {rest = rest} {ranges = others} is rest_is) = (is.0,
 pub without_memory : (words : List ℕ) (e : Refusal) → e ≡ OutOfMemory → IsAnsweredWithout words (Refused (faults.Refused e))
 without_memory words e is = subst (λ x. IsAnsweredWithout words (Refused (faults.Refused x))) (sym is) told.no_memory
 
-pub status_memory : (keyspace : ℕ) (stage : Stage) (e : Refusal) → e ≡ OutOfMemory → TellsStatus keyspace stage (Refused (faults.Refused e))
-status_memory keyspace stage e is = subst (λ x. TellsStatus keyspace stage (Refused (faults.Refused x))) (sym is) told.no_memory
+pub status_memory : (w : WorkflowView) (e : Refusal) → e ≡ OutOfMemory → TellsStatus w (Refused (faults.Refused e))
+status_memory w e is = subst (λ x. TellsStatus w (Refused (faults.Refused x))) (sym is) told.no_memory
 
 pub line_memory : (o : Opening) (most : Limits) (words : List ℕ) (w : WorkflowView) (p : PassView Entry) (e : Refusal) → e ≡ OutOfMemory
     → IsAnswered o most words w w p p (Refused (faults.Refused e))

@@ -16,7 +16,7 @@ use Rattle.administration.specs.Told.{HasCreated, AnswersStep, HasCutOver, HasAd
 use Rattle.administration.specs.Told as told
 
 module _ (o : Opening) (most : Limits) (w now : WorkflowView) (p q : PassView Entry) (e : ReshardFault) where
-  pub move_refused : ((e ≡ faults.WrongState) × (w.stage ≡ stages.Following → ⊥)) ⊎ ((w.stage ≡ stages.Following) × IsMoveRefusal most w.targets q e)
+  pub move_refused : ((e ≡ faults.WrongState) × (w.stage ≡ stages.Following → ⊥)) ⊎ ((w.stage ≡ stages.Following) × IsMoveRefusal o most w.targets q e)
       → now ≡ w → AnswersStep o most w now p q (Refused e)
   move_refused (inl h) same = subst (λ x. AnswersStep o most w now p q (Refused x)) (sym h.0) (told.wrong_state h.1 same)
   move_refused (inr h) same = told.refused h.0 h.1 same

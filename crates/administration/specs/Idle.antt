@@ -19,6 +19,7 @@ idle keyspace free = record {
   retired = 0;
   served = 0;
   prepared = false;
+  published = false;
 }
 
 -- the slots behind those of the opening's shards: there are 64

@@ -3,19 +3,19 @@ use Rattle.std.specs.Prelude.{◌≡◌, ℕ, false, List, [], ◌∷◌, ◌++�
 use Rattle.std.specs.List.{AllByRecursion}
 use Rattle.vt_value.specs.declared.refusal.Refusal.TheVariants.{OutOfMemory}
 use Rattle.keyrange.specs.declared.KeyRange.{KeyRange}
-use Rattle.serving.specs.Partitions.{Seat, IsPartition, AreOf}
+use Rattle.serving.specs.Partitions.{Seat, IsPartition, AreOf, ranges}
 use Rattle.journal.specs.Views.{PassView}
 use Rattle.shard_run.specs.declared.Entry.{Entry}
 use Rattle.shard_run.specs.Runs.{Opening}
 use Rattle.shard_contents.specs.declared.limits.Limits.{Limits}
 use Rattle.follow.specs.declared.steps.Step as moves
-use Rattle.reshard.specs.declared.workflow.Stage.{Stage}
 use Rattle.reshard.specs.declared.workflow.Stage.TheVariants as stages
 use Rattle.reshard.specs.declared.cutover.CutoverStep.{CutoverStep}
 use Rattle.reshard.specs.declared.finishing.Resumed.{Resumed}
 use Rattle.reshard_beginning.specs.declared.fault.ReshardFault.{ReshardFault}
 use Rattle.reshard_beginning.specs.declared.fault.ReshardFault.TheVariants as faults
 use Rattle.reshard.specs.Workflows.{WorkflowView}
+use Rattle.reshard.specs.Served.{AreServed}
 use Rattle.reshard_beginning.specs.Begun.{HasBegun, IsCreateRefusal, HasMovedFirst, IsMoveRefusal}
 use Rattle.reshard.specs.Cutover.{MaySwitch, MayCancel, HasSwitched, HasStopped, HasStoppedLater, HasFinished, IsResumed}
 use Rattle.cutover_steps.specs.Looks.{IsServingAgain, IsOutOfUse}
@@ -30,28 +30,32 @@ use Rattle.administration.specs.Words.{status_text}
 abbrev pub AdministratorView : Type 0
 AdministratorView = Option WorkflowView
 
--- the ranges of a partition of the keyspace, in the order of their begins, and the stage
-pub record IsStatus (keyspace : ℕ) (stage : Stage) (text : List ℕ) : Type 0 where
-  pub seats : List Seat
-  pub partition : IsPartition seats
-  pub home : AreOf keyspace seats
-  pub serving : List KeyRange
-  pub same : IsPermutation (map (λ seat. seat.1) seats) serving
-  pub sorted : IsSorted range_cmp serving
-  pub written : text ≡ status_text serving stage
+-- which ranges a status tells: in the midst of a cutover those of the shards that serve then, else those of some partition of the keyspace
+pub data AreTold (w : WorkflowView) (told : List KeyRange) : Type 0 where
+  cutover : w.stage ≡ stages.Switching → AreServed w told → AreTold w told
+  partition : (w.stage ≡ stages.Switching → ⊥) → (seats : List Seat) → IsPartition seats → AreOf w.keyspace seats → told ≡ ranges seats → AreTold w told
 
-pub data TellsStatus (keyspace : ℕ) (stage : Stage) : AdminReply → Type 0 where
-  told : {text : List ℕ} → IsStatus keyspace stage text → TellsStatus keyspace stage (Status text)
-  no_memory : TellsStatus keyspace stage (Refused (faults.Refused OutOfMemory))
+-- these ranges, in the order of their begins, and the stage
+pub record IsStatus (w : WorkflowView) (text : List ℕ) : Type 0 where
+  pub listed : List KeyRange
+  pub are : AreTold w listed
+  pub serving : List KeyRange
+  pub same : IsPermutation listed serving
+  pub sorted : IsSorted range_cmp serving
+  pub written : text ≡ status_text serving w.stage
+
+pub data TellsStatus (w : WorkflowView) : AdminReply → Type 0 where
+  told : {text : List ℕ} → IsStatus w text → TellsStatus w (Status text)
+  no_memory : TellsStatus w (Refused (faults.Refused OutOfMemory))
 
 -- no workflow any more, with the slots that are left
 abbrev pub HasEnded : WorkflowView → WorkflowView → Type 0
-HasEnded w now = now ≡ record w { stage = stages.None; sources = []; targets = []; frozen = 0; retired = 0; served = 0; prepared = false }
+HasEnded w now = now ≡ record w { stage = stages.None; sources = []; targets = []; frozen = 0; retired = 0; served = 0; prepared = false; published = false }
 
 -- `create` began a workflow, whose targets have the last of the free slots, one for each; or it was refused, and all is as it was.
 pub data HasCreated (o : Opening) (from into : List KeyRange) (w now : WorkflowView) (p q : PassView Entry) : AdminReply → Type 0 where
-  done : w.stage ≡ stages.None → HasBegun now.sources now.targets w.keyspace from into
-      → now ≡ record w { stage = stages.Following; free = now.free; sources = now.sources; targets = now.targets; frozen = 0; retired = 0; served = 0; prepared = false }
+  done : w.stage ≡ stages.None → HasBegun o p q now.sources now.targets w.keyspace from into
+      → now ≡ record w { stage = stages.Following; free = now.free; sources = now.sources; targets = now.targets; frozen = 0; retired = 0; served = 0; prepared = false; published = false }
       → w.free ≡ now.free ++ reverse (map (λ t. t.0.slot) now.targets) → HasCreated o from into w now p q Done
   refused : {e : ReshardFault} → w.stage ≡ stages.None → IsCreateRefusal o p q w.keyspace (length w.free) from into e
       → now ≡ w → HasCreated o from into w now p q (Refused e)
@@ -60,7 +64,7 @@ pub data HasCreated (o : Opening) (from into : List KeyRange) (w now : WorkflowV
 -- `step` moved the first target that isn't level.
 pub data AnswersStep (o : Opening) (most : Limits) (w now : WorkflowView) (p q : PassView Entry) : AdminReply → Type 0 where
   done : {step : moves.Step} → w.stage ≡ stages.Following → HasMovedFirst o w.targets p q step → now ≡ w → AnswersStep o most w now p q (Moved step)
-  refused : {e : ReshardFault} → w.stage ≡ stages.Following → IsMoveRefusal most w.targets q e → now ≡ w → AnswersStep o most w now p q (Refused e)
+  refused : {e : ReshardFault} → w.stage ≡ stages.Following → IsMoveRefusal o most w.targets q e → now ≡ w → AnswersStep o most w now p q (Refused e)
   wrong_state : (w.stage ≡ stages.Following → ⊥) → now ≡ w → AnswersStep o most w now p q (Refused faults.WrongState)
 
 -- `switch` took all steps of the cutover, or gave it up.
@@ -93,7 +97,7 @@ pub data HasCompleted (o : Opening) (w now : WorkflowView) (p q : PassView Entry
 -- What the words of a line did over a workflow. Where there is no memory to read it, nothing.
 pub data IsAnswered (o : Opening) (most : Limits) (words : List ℕ) (w now : WorkflowView) (p q : PassView Entry) : AdminReply → Type 0 where
   unread : now ≡ w → q ≡ p → IsAnswered o most words w now p q (Refused (faults.Refused OutOfMemory))
-  status : {reply : AdminReply} → words ≡ codes "status" → now ≡ w → q ≡ p → TellsStatus w.keyspace w.stage reply → IsAnswered o most words w now p q reply
+  status : {reply : AdminReply} → words ≡ codes "status" → now ≡ w → q ≡ p → TellsStatus w reply → IsAnswered o most words w now p q reply
   create : {reply : AdminReply} (from into : List KeyRange) → IsCreate words from into → HasCreated o from into w now p q reply
       → IsAnswered o most words w now p q reply
   step : {reply : AdminReply} → words ≡ codes "step" → AnswersStep o most w now p q reply → IsAnswered o most words w now p q reply

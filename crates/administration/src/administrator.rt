@@ -49,7 +49,7 @@ fn answer_over<W: World, J: Naming>(
         Err(refusal) => return refused(ReshardFault::Refused(refusal)),
     };
     match line {
-        AdminLine::Status => status(alloc, serving, workflow.stage()),
+        AdminLine::Status => status(alloc, workflow, serving),
         AdminLine::Create(sources, targets) => {
             create(
                 workflow, rt, alloc, pass, schema, serving, &sources, &targets,
@@ -107,10 +107,12 @@ impl<W: World, J: Naming> Administrator<W, J> {
 
     // Promise: An admin line does exactly what its words ask for over the workflow of the sharded keyspace, and its answer tells it: what
     // was done, which step was taken, or why not, by its number; other words are unknown and do nothing, and neither does a line that can't
-    // be read for want of memory. `status` tells the ranges of some partition of the keyspace, in their order, and how far the workflow is.
+    // be read for want of memory. `status` tells the ranges of some partition of the keyspace, or, in the midst of a
+    // cutover, those of the shards that serve then, in their order, and how far the workflow is.
     // Without a sharded keyspace there is no workflow. The answer's line takes no memory, so that what was done can be told
     // With: Administrator::answer, AdminReply::line
-    // Refuses: advance_takes_two_steps, cancel_answers_alone, create_is_told_unbegun, status_forgets_the_stage
+    // Refuses: advance_takes_two_steps, cancel_answers_alone, create_is_told_unbegun, status_forgets_the_stage, status_lists_the_partition,
+    // reshard::status_lists_retired_sources, reshard::status_lists_targets_that_follow
     /// Over the workflow of the sharded keyspace, or, without such a keyspace, none.
     pub fn new(workflow: Option<Workflow<W, J>>) -> Administrator<W, J>
         ensures { result ≡ workflow }

@@ -14,4 +14,5 @@ pub use administering::administer;
 pub use administrator::Administrator;
 pub use reply::AdminReply;
 pub use router::administered_router;
+pub use router_opening::widest_limits;
 pub use words::stage_word;

@@ -1,8 +1,7 @@
-ghost use Rattle.std.specs.Prelude.{◌≡◌, [], None, IsTrue, IfOk, IfErr, drop, length};
+ghost use Rattle.std.specs.Prelude.{◌≡◌, ◌≤◌, ◌^◌, [], None, IsTrue, IfOk, IfErr, drop, length};
 ghost use Rattle.vschema.specs.WellFormed.{is_vschema};
 ghost use Rattle.journal.specs.Views.{fresh_seats, new_pass};
 ghost use Rattle.shard_run.specs.Openings.{IsOpening};
-ghost use Rattle.shard_contents.specs.Shards.{most_limits};
 ghost use Rattle.empty_opening.specs.Empty.{empty_shards, opening_of, FitRanges};
 ghost use Rattle.administration.specs.Idle.{opening_workflow};
 
@@ -13,42 +12,32 @@ use keyrange::KeyRange;
 use reshard::{Ground, Workflow};
 use route_engine::{Engine, Gate};
 use router_opening::empty_router;
-use shard::{Limits, MOST_ROWS, MOST_STORED, ShardLaw, World};
+use shard::{Limits, ShardLaw, World};
 use std::alloc::Global;
 use vschema::VSchema;
 use vt_value::Refusal;
-
-// What is fixed of a keyspace whose shards may hold the most.
-fn most_of(keyspace: usize) -> Ground
-    ensures keyspace { result.keyspace ≡ keyspace }
-    ensures limits { result.limits ≡ most_limits }
-{
-    Ground {
-        keyspace,
-        limits: Limits {
-            rows: MOST_ROWS,
-            stored: MOST_STORED,
-        },
-    }
-}
 
 // The administrator of the sharded keyspace over the free slots, without a workflow.
 fn idle_administrator<W: World, J: Naming>(
     alloc: Global,
     schema: &VSchema,
     ranges: &[KeyRange],
+    limits: Limits,
     free: Vec<ShardSeat<ShardLaw<W>, J>>,
 ) -> Administrator<W, J>
     requires opens { IsOpening W.opening }
     requires opening { W.opening ≡ opening_of schema.now ranges.now }
-    requires limits { W.limits ≡ most_limits }
+    requires limits { W.limits ≡ limits }
+    requires most_rows { limits.rows ≤ 2 ^ 20 }
+    requires most_stored { limits.stored ≤ 2 ^ 20 }
     requires free { free.items ≡ drop (length (empty_shards schema.now ranges.now)) (fresh_seats 64) }
     ensures { result ≡ opening_workflow schema.now ranges.now }
 {
     let _ = ranges;
     match sharded_keyspace(schema) {
         Some(keyspace) => {
-            Administrator::new(Some(Workflow::new(alloc, most_of(keyspace), free)))
+            let ground = Ground { keyspace, limits };
+            Administrator::new(Some(Workflow::new(alloc, ground, free)))
         }
         None => {
             drop(free);
@@ -61,11 +50,13 @@ fn idle_administrator<W: World, J: Naming>(
 // Refuses: another_keyspace_is_administered
 /// The engine over a VSchema and the ranges of its sharded keyspace, whose tables are empty, in the journal that was opened; the
 /// administrator of its sharded keyspace, which has no workflow and the slots that none of the shards stands on; the opener of its sessions,
-/// and a first pass, which has seen nothing. So many statements may wait in its buffer. It refuses only for want of memory.
+/// and a first pass, which has seen nothing. Each shard has these limits, and so many statements may wait in its buffer. It refuses only for
+/// want of memory.
 pub fn administered_router<W: World + Send + Sync, J: Naming + Send + Sync, G: Gate>(
     alloc: Global,
     schema: VSchema,
     ranges: &[KeyRange],
+    limits: Limits,
     opened: Opened<ShardLaw<W>>,
     buffer_size: u64,
     gate: G,
@@ -80,7 +71,9 @@ pub fn administered_router<W: World + Send + Sync, J: Naming + Send + Sync, G: G
 >
     requires name { opened ≡ J.table }
     requires opening { W.opening ≡ opening_of schema ranges.now }
-    requires limits { W.limits ≡ most_limits }
+    requires limits { W.limits ≡ limits }
+    requires most_rows { limits.rows ≤ 2 ^ 20 }
+    requires most_stored { limits.stored ≤ 2 ^ 20 }
     requires schema { IsTrue (is_vschema schema) }
     requires ranges { FitRanges schema ranges.now }
     ensures schema { IfOk result (λ r. r.0 ≡ schema) }
@@ -93,10 +86,11 @@ pub fn administered_router<W: World + Send + Sync, J: Naming + Send + Sync, G: G
         alloc,
         schema,
         ranges,
+        limits,
         opened,
         buffer_size,
         gate,
     )?;
-    let administrator = idle_administrator(alloc, engine.schema(), ranges, free);
+    let administrator = idle_administrator(alloc, engine.schema(), ranges, limits, free);
     Ok((engine, administrator, opener, pass))
 }

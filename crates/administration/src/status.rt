@@ -1,15 +1,18 @@
 //! The status: which ranges are served, and how far a workflow is.
-ghost use Rattle.std.specs.Prelude.{◌≡◌, ◌++◌, IfOk, IfErr, OnOk, IsPermutation, IsSorted, codes, map};
+ghost use Rattle.std.specs.Prelude.{◌≡◌, ◌++◌, true, false, List, IfOk, IfErr, OnOk, IsPermutation, IsSorted, codes, map};
+ghost use Rattle.keyrange.specs.declared.KeyRange.{KeyRange};
 ghost use Rattle.keyrange.specs.Names.{range_text};
 ghost use Rattle.vtgate_lines.specs.Partitions.{range_cmp};
 ghost use Rattle.administration.specs.Words.{status_text};
-ghost use Rattle.administration.specs.Told.{IsAnsweredWithout, IsStatus, TellsStatus};
+ghost use Rattle.administration.specs.Told.{AreTold, IsAnsweredWithout, IsStatus, TellsStatus};
 
 use crate::reply::AdminReply;
 use crate::words::stage_word;
+use journal::Naming;
 use keyrange::KeyRange;
-use reshard::{ReshardFault, Stage};
+use reshard::{ReshardFault, Stage, Workflow};
 use serving::{Part, Seated, Serving};
+use shard::{Shard, World};
 use std::alloc::Global;
 use vt_value::{Items, Refusal};
 
@@ -37,43 +40,84 @@ fn status_line(alloc: Global, serving: &[KeyRange], stage: Stage) -> Result<Vec<
     Ok(out)
 }
 
-// The ranges of the parts, in the order of their begins.
+// Whether a cutover is under way.
+fn is_switching(stage: Stage) -> bool
+    ensures yes { result ≡ true → stage ≡ Stage.Switching }
+    ensures no { result ≡ false → stage ≡ Stage.Switching → ⊥ }
+{
+    match stage {
+        Stage::Switching => true,
+        _ => false,
+    }
+}
+
 fn ranges_of<S: Seated + Drop>(alloc: Global, parts: &[Part<S>]) -> Result<Vec<KeyRange>, Refusal>
-    ensures same { IfOk result (λ r. IsPermutation (map (λ seat. seat.1) parts.now) r.items) }
-    ensures sorted { IfOk result (λ r. IsSorted range_cmp r.items) }
+    ensures ok { IfOk result (λ r. r.items ≡ map (λ seat. seat.1) parts.now) }
     ensures err { IfErr result (λ e. e ≡ Refusal.OutOfMemory) }
 {
     let mut ranges = Vec::new(alloc);
     for part in parts {
         ranges.push(part.range())?;
     }
+    Ok(ranges)
+}
+
+// The ranges that are served.
+fn served_ranges<W: World, J: Naming>(
+    alloc: Global,
+    workflow: &Workflow<W, J>,
+    serving: &Serving<Shard<W, J>>,
+) -> Result<Vec<KeyRange>, Refusal>
+    requires home { serving.now ≡ workflow.now.keyspace }
+    ensures ok { IfOk result (λ r. AreTold workflow.now r.items) }
+    ensures err { IfErr result (λ e. e ≡ Refusal.OutOfMemory) }
+{
+    if is_switching(workflow.stage()) {
+        return workflow.served_ranges(alloc);
+    }
+    ranges_of(alloc, serving.current().parts())
+}
+
+// The same in the order of their begins.
+fn ordered_ranges<W: World, J: Naming>(
+    alloc: Global,
+    workflow: &Workflow<W, J>,
+    serving: &Serving<Shard<W, J>>,
+) -> Result<Vec<KeyRange>, Refusal>
+    requires home { serving.now ≡ workflow.now.keyspace }
+    ensures ok { IfOk result (λ r. (told : List KeyRange) × AreTold workflow.now told × IsPermutation told r.items × IsSorted range_cmp r.items) }
+    ensures err { IfErr result (λ e. e ≡ Refusal.OutOfMemory) }
+{
+    let mut ranges = served_ranges(alloc, workflow, serving)?;
     ranges.sort_unstable_by(|a, b| a.begin.as_slice().cmp(b.begin.as_slice()));
     Ok(ranges)
 }
 
 // The line of a keyspace's status.
-fn keyspace_line<S: Seated + Drop>(
+fn keyspace_line<W: World, J: Naming>(
     alloc: Global,
-    serving: &Serving<S>,
-    stage: Stage,
+    workflow: &Workflow<W, J>,
+    serving: &Serving<Shard<W, J>>,
 ) -> Result<Items<u8>, Refusal>
-    ensures ok { IfOk result (IsStatus serving.now stage) }
+    requires home { serving.now ≡ workflow.now.keyspace }
+    ensures ok { IfOk result (IsStatus workflow.now) }
     ensures err { IfErr result (λ e. e ≡ Refusal.OutOfMemory) }
 {
-    let ranges = ranges_of(alloc, serving.current().parts())?;
-    let line = status_line(alloc, ranges.as_slice(), stage)?;
+    let ranges = ordered_ranges(alloc, workflow, serving)?;
+    let line = status_line(alloc, ranges.as_slice(), workflow.stage())?;
     Ok(Items::from_vec(line))
 }
 
 /// Tells the status of a keyspace. Takes memory for its line.
-pub(crate) fn status<S: Seated + Drop>(
+pub(crate) fn status<W: World, J: Naming>(
     alloc: Global,
-    serving: &Serving<S>,
-    stage: Stage,
+    workflow: &Workflow<W, J>,
+    serving: &Serving<Shard<W, J>>,
 ) -> AdminReply
-    ensures { TellsStatus serving.now stage result }
+    requires home { serving.now ≡ workflow.now.keyspace }
+    ensures { TellsStatus workflow.now result }
 {
-    match keyspace_line(alloc, serving, stage) {
+    match keyspace_line(alloc, workflow, serving) {
         Ok(text) => AdminReply::Status(text),
         Err(refusal) => AdminReply::Refused(ReshardFault::Refused(refusal)),
     }

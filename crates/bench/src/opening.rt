@@ -12,7 +12,7 @@ use empty_opening::ranges_fit;
 use journal::{Naming, Opened};
 use keyrange::KeyRange;
 use route_engine::Open;
-use router_opening::empty_router;
+use router_opening::{empty_router, widest_limits};
 use shard::{ShardLaw, World};
 use std::alloc::Global;
 use std::marker::Brand;
@@ -83,7 +83,8 @@ fn run_opened<
     requires formed { IsTrue (is_vschema schema) }
     requires fit { FitRanges schema ranges.now }
 {
-    match empty_router::<W, J, Open>(alloc, schema, ranges, opened, 0, Open) {
+    let limits = widest_limits();
+    match empty_router::<W, J, Open>(alloc, schema, ranges, limits, opened, 0, Open) {
         Err(refusal) => Err(Unanswered::Refused(refusal)),
         Ok((engine, opener, first, free)) => {
             drop(free);

@@ -12,7 +12,7 @@ use empty_opening::ranges_fit;
 use journal::{Naming, Opened, Opener, Pass};
 use keyrange::KeyRange;
 use route_engine::{Engine, Open};
-use router_opening::empty_router;
+use router_opening::{empty_router, widest_limits};
 use session::{Access, Core, End, Reader, SessionFault, Sink, Source, Writer, serve};
 use shard::{ShardLaw, World};
 use std::alloc::Global;
@@ -283,8 +283,9 @@ fn serve_opened<W: World + Send + Sync, J: Naming + Send + Sync, R: Threads + Wa
     requires schema { IsTrue (is_vschema schema) }
     requires ranges { FitRanges schema ranges.now }
 {
+    let limits = widest_limits();
     let (engine, mut opener, mut first, free) = empty_router::<W, J, Open>(
-        alloc, schema, ranges, opened, 0, Open,
+        alloc, schema, ranges, limits, opened, 0, Open,
     )?;
     drop(free);
     serve_two(

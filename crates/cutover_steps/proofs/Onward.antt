@@ -1,18 +1,19 @@
 -- A controller's pass goes on, look by look and entry by entry.
 use Rattle.std.proofs.Common.{◌≡◌, ℕ, Bool, true, false, cond, ◌&&◌, filter, List, [], ◌∷◌, ◌++◌, refl, sym, ap, ◌∙◌, subst}
 use Rattle.std.proofs.lemmas.List.{append-nil}
+use Rattle.std.proofs.lemmas.List.Elements.{filter-append}
 use mathlib.Core.List.{IsPrefix}
 use Rattle.journal.specs.Runs.{IsLegal}
 use Rattle.journal.specs.Views.{SeatView, PassView, IsLater}
 use Rattle.shard_run.specs.declared.Shard.{Shard}
 use Rattle.shard_run.specs.declared.Event.{Event}
 use Rattle.shard_run.specs.declared.Entry.{Entry}
-use Rattle.shard_run.specs.Runs.{Run, Opening, stored_on, is_on, is_stored}
+use Rattle.shard_run.specs.Runs.{Run, Opening, entries_on, stored_on, is_on, is_stored}
 use Rattle.shard_law.specs.Legal.{Legal}
 use Rattle.shard_law.proofs.Law.{beginnings}
 use Rattle.shard_law.proofs.Runs.{stored_on-push}
-use Rattle.shard_contents.specs.Shards.{slot_of, commit_of, MayFollow, HasAppended, ShardView}
-use Rattle.shard_contents.proofs.States.{stored-same, contains_later}
+use Rattle.shard_contents.specs.Shards.{slot_of, commit_of, MayFollow, HasLooked, HasAppended, ShardView}
+use Rattle.shard_contents.proofs.States.{stored_in, stored-same, contains_later}
 use Rattle.follow.specs.Steps.{IsOnward, HasStepped}
 use Rattle.follow.proofs.Onward as follows
 use Rattle.cutover_steps.specs.Steps.{HasEntry}
@@ -31,6 +32,10 @@ looked o p q now seat run looks on later is = follows.looked o p q now seat run 
 pub looked_first : (o : Opening) (p now : PassView Entry) (seat : SeatView Entry) (run : Run) (looks : List (ℕ × ℕ)) → IsLegal (MayFollow o) p.seen
     → IsLater slot_of commit_of (MayFollow o) seat p run → now ≡ record p { seen = run; looks = looks } → IsOnward o p now
 looked_first o p now seat run looks legal later is = looked o p p now seat run looks (still o p legal) later is
+
+-- a look that is told by what it leaves
+pub has_looked : (o : Opening) (p q now : PassView Entry) (slot : ℕ) → IsOnward o p q → HasLooked o slot q now → IsOnward o p now
+has_looked o p q now slot on is = follows.has_looked o p q now slot on is
 
 pub stepped : (o : Opening) (p q now : PassView Entry) (v : ShardView) (which : Shard) (ev : Event) → IsOnward o p q → HasAppended o v ev q now
     → v.shard ≡ which → HasStepped o which ev p now
@@ -52,6 +57,15 @@ stored_stays o v ev p now is plain =
     by : (b : Bool) → cond {A = Run} (b && is_stored ev) (record { shard = v.shard; event = ev } ∷ []) [] ≡ []
     by true = ap (λ c. cond {A = Run} c (record { shard = v.shard; event = ev } ∷ []) []) plain
     by false = refl
+
+-- an entry that isn't stored, and no other of the shard
+pub stored_same : (slot : ℕ) (old new : Run) (e : Entry) → entries_on slot new ≡ entries_on slot old ++ e ∷ [] → is_stored e.event ≡ false
+    → stored_on slot new ≡ stored_on slot old
+stored_same slot old new e entry plain =
+    let none : filter (λ (x : Entry). is_stored x.event) (e ∷ []) ≡ [] = simp plain in
+    stored_in slot new ∙ ap (filter (λ (x : Entry). is_stored x.event)) entry ∙ filter-append (λ (x : Entry). is_stored x.event) (entries_on slot old) (e ∷ [])
+    ∙ ap (λ (l : Run). filter (λ (x : Entry). is_stored x.event) (entries_on slot old) ++ l) none ∙ append-nil (filter (λ (x : Entry). is_stored x.event) (entries_on slot old))
+    ∙ sym (stored_in slot old)
 
 pub legal_front : (o : Opening) (early run : Run) → IsPrefix early run → Legal o run → Legal o early
 legal_front o early run (rest, is) legal = beginnings o early rest (subst (Legal o) (sym is) legal)

@@ -15,7 +15,7 @@ use shard::{ShardLaw, ShardState, World};
 use shard_run::{Mode, Shard};
 use std::sync::Wait;
 
-// Thaws the shard, where it is this one and frozen. Whether it serves now.
+// Thaws the shard, where it is this one and frozen, and has it drop what it keeps for its targets. Whether it serves now.
 fn try_unfreeze<W: World, J: Naming>(
     state: &mut ShardState<W, J>,
     which: &Shard,
@@ -30,6 +30,7 @@ fn try_unfreeze<W: World, J: Naming>(
         return false;
     }
     let _ = state.look(pass);
+    state.drop_sorted();
     match state.mode() {
         Mode::Frozen => {
             state.thaw(pass);
@@ -59,8 +60,9 @@ fn unfreeze<W: World, J: Naming>(
 }
 
 // Promise: The sources of a cutover that is given up are thawed one after the other: what the pass has seen when it leaves one ends with that one
-// serving, and then it looks at no source but the next
-// Refuses: thawed_source_freezes_again, failed_cutover_leaves_frozen
+// serving, and then it looks at no source but the next. A Freeze comes right after a look of its own, so no source is frozen after its turn:
+// each Freeze of the call is followed by its Thaw
+// Refuses: thawed_source_freezes_again, earlier_source_freezes_again, failed_cutover_leaves_frozen
 /// Thaws each of the sources that is frozen. Takes no memory.
 pub fn unfreeze_all<W: World, J: Naming>(
     rt: &impl Wait,

@@ -1,10 +1,11 @@
 -- From what a target and its source had at two looks to the entry that the target appends.
 use Rattle.std.proofs.Common.{◌≡◌, ◌⊎◌, inl, inr, ℕ, zero, suc, ◌+◌, ◌<◌, ◌≤◌, not, ◌&&◌, List, [], ◌∷◌, ◌++◌, length, map, take, drop, get_or, filter, Option, Some, None, IsTrue, refl, sym, ap, ◌∙◌, subst, arith}
-use Rattle.std.specs.Prelude.{Contains, IsPermutation, MatchOption, IfSome, IfOk, Result, Ok, Err}
+use Rattle.std.specs.Prelude.{Contains, IsPermutation, MatchOption, IfSome, IfOk, IfErr, IsErrAnd, OnErr, Result, Ok, Err}
 use Rattle.std.specs.List.{AllByRecursion}
 use Rattle.std.proofs.lemmas.List.Elements.{filter_agree}
 use mathlib.Core.List.{IsPrefix}
 use Rattle.vt_value.specs.declared.refusal.Refusal.{Refusal}
+use Rattle.vt_value.specs.declared.refusal.Refusal.TheVariants.{OutOfMemory, ShardFull}
 use Rattle.vt_value.specs.Values.{Row}
 use Rattle.vschema.specs.declared.changes.RowChange.{RowChange}
 use Rattle.vschema.specs.Database.{lies_in, rows_of, changed_table, change_lies_in}
@@ -14,6 +15,8 @@ use Rattle.shard_run.specs.declared.Shard.{Shard}
 use Rattle.shard_run.specs.declared.Follow as F
 use Rattle.shard_run.specs.declared.Copied as C
 use Rattle.shard_run.specs.declared.Entry.{Entry}
+use Rattle.shard_run.specs.declared.Event.TheVariants.{Follow, Copy}
+use Rattle.shard_contents.specs.declared.limits.Limits.{Limits}
 use Rattle.shard_run.specs.Runs.{Run, Opening, held, entries_on, stored_on, stored_changes}
 use Rattle.shard_run.specs.Copies.{position, table_at, is_copied, change_is_copied}
 use Rattle.shard_law.specs.Legal.{Legal, Had, is_left}
@@ -22,8 +25,8 @@ use Rattle.shard_law.proofs.Law.{beginnings}
 use Rattle.shard_law.proofs.Lists.{all-filter, all-weaker, AllByRecursion-push}
 use Rattle.shard_contents.specs.declared.copying.NextTable.{NextTable}
 use Rattle.shard_contents.specs.declared.copying.SourceProgress.{SourceProgress}
-use Rattle.shard_contents.specs.Shards.{IsNext}
-use Rattle.shard_contents.specs.Copying.{IsProgress, IsEntryFor, IsCopyFor, IsNextTable, IsNextCopy, HasCopiedAll, is_reached, is_wanted}
+use Rattle.shard_contents.specs.Shards.{MayFollow, IsNext}
+use Rattle.shard_contents.specs.Copying.{PassesLimit, IsProgress, IsEntryFor, IsCopyFor, IsNextTable, IsNextCopy, HasCopiedAll, is_reached, is_wanted}
 use Rattle.shard_contents.proofs.Follows.{stored_later, none_left}
 use Rattle.shard_contents.proofs.Positions.{position-same, copied_all-same}
 use Rattle.shard_contents.proofs.CopySteps.{left-same, stored_there_now}
@@ -32,7 +35,8 @@ use Rattle.follow.specs.declared.steps.Given.TheVariants as givens
 use Rattle.follow.specs.declared.steps.Step.{Step}
 use Rattle.follow.specs.inner.Given.{IsGiven, NoneLeft, IsNextEntry, AreNextRows, IsTakeable, HasTaken, entry, rows, nothing}
 use Rattle.follow.specs.inner.Given as given
-use Rattle.follow.specs.Steps.{IsOnward, IsRunBetween, IsLevel, HasMoved, copied, followed, level, HasMovedWith, one, all_level}
+use Rattle.follow.specs.Steps.{IsOnward, IsRunBetween, IsLevel, HasMoved, copied, followed, level, HasMovedWith, one, all_level, IsFull}
+use Rattle.follow.specs.Steps as full
 use Rattle.follow.specs.declared.steps.Step.TheVariants.{Level}
 use Rattle.shard_contents.proofs.Progress.{take_whole}
 use Rattle.std.proofs.lemmas.List.{take_more, map-append}
@@ -200,6 +204,27 @@ module _ (o : Opening) (run seen : Run) (later : IsPrefix run seen) (legal : Leg
         rows = refl;
       }
 
+-- ---- why a step is refused
+
+module _ (o : Opening) (most : Limits) (run : Run) (s target : Shard) (same : s ≡ target) where
+  pub full_follow : (f : F.Follow) (e : Refusal) → MayFollow o run (record { shard = s; event = Follow f })
+      → (e ≡ OutOfMemory) ⊎ ((e ≡ ShardFull) × PassesLimit o most run s (Follow f)) → (e ≡ OutOfMemory) ⊎ ((e ≡ ShardFull) × IsFull o most target run)
+  full_follow f e may (inl h) = inl h
+  full_follow f e may (inr h) = inr (
+    h.0,
+    full.follow f (subst (λ (x : Shard). MayFollow o run (record { shard = x; event = Follow f })) same may)
+        (subst (λ (x : Shard). PassesLimit o most run x (Follow f)) same h.1),
+  )
+
+  pub full_copy : (c : C.Copied) (e : Refusal) → MayFollow o run (record { shard = s; event = Copy c })
+      → (e ≡ OutOfMemory) ⊎ ((e ≡ ShardFull) × PassesLimit o most run s (Copy c)) → (e ≡ OutOfMemory) ⊎ ((e ≡ ShardFull) × IsFull o most target run)
+  full_copy c e may (inl h) = inl h
+  full_copy c e may (inr h) = inr (
+    h.0,
+    full.copy c (subst (λ (x : Shard). MayFollow o run (record { shard = x; event = Copy c })) same may)
+        (subst (λ (x : Shard). PassesLimit o most run x (Copy c)) same h.1),
+  )
+
 -- ---- rounds before
 
 module _ (o : Opening) (source target : Shard) (p q now : PassView Entry) (on : IsOnward o p q) where
@@ -229,6 +254,15 @@ pub some_as : {X : Type 0} (r : Result (Option X) Refusal) (A B : X → Type 0) 
 some_as (Ok None) A B f is = is
 some_as (Ok (Some x)) A B f is = f x is
 some_as (Err e) A B f is = is
+
+-- what `?` hands on is the error that came
+pub err_as : {X : Type 0} (r : Result X Refusal) (e : Refusal) (P : Refusal → Type 0) → IsErrAnd r (λ f. f ≡ e) → P e → IfErr r P
+err_as (Ok x) e P h is = tt
+err_as (Err f) e P h is = subst P (sym h) is
+
+pub on_err_as : {X : Type 0} (r : Result X Refusal) (P Q : Type 0) → (P → Q) → OnErr r P → OnErr r Q
+on_err_as (Ok x) P Q f is = is
+on_err_as (Err e) P Q f is = f is
 
 -- ---- several sources
 

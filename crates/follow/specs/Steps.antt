@@ -1,5 +1,5 @@
 -- What a step of a target with a source leaves in what the pass has seen.
-use Rattle.std.specs.Prelude.{◌≡◌, ◌⊎◌, ◌≤◌, ◌^◌, ℕ, [], ◌∷◌, ◌++◌, length, Some, List}
+use Rattle.std.specs.Prelude.{◌≡◌, ℕ, [], ◌∷◌, ◌++◌, length, Some, List}
 use Rattle.std.specs.List.{AllByRecursion}
 use mathlib.Core.List.{IsPrefix}
 use Rattle.journal.specs.Runs.{IsLegal}
@@ -10,11 +10,11 @@ use Rattle.shard_run.specs.declared.Event.TheVariants as events
 use Rattle.shard_run.specs.declared.Copied as C
 use Rattle.shard_run.specs.declared.Follow as F
 use Rattle.shard_run.specs.declared.Entry.{Entry}
-use Rattle.shard_run.specs.Runs.{Run, Opening, stored_on, entries_on}
+use Rattle.shard_run.specs.Runs.{Run, Opening, stored_on}
 use Rattle.shard_run.specs.Copies.{position}
 use Rattle.shard_contents.specs.Shards.{MayFollow}
 use Rattle.shard_contents.specs.declared.limits.Limits.{Limits}
-use Rattle.shard_contents.specs.Copying.{HasCopiedAll}
+use Rattle.shard_contents.specs.Copying.{HasCopiedAll, PassesLimit}
 use Rattle.follow.specs.declared.steps.Step.{Step}
 use Rattle.follow.specs.declared.steps.Step.TheVariants.{Copied, Followed, Level}
 
@@ -42,9 +42,12 @@ pub record IsLevel (o : Opening) (source target : Shard) (run looked : Run) : Ty
   pub copied : HasCopiedAll o run target source.slot
   pub level : (n : ℕ) → position run target.slot source.slot ≡ Some n → n ≡ length (stored_on source.slot looked)
 
--- the shard on the slot has as many entries as it may have, or stores as many
-abbrev pub IsFull : Limits → ℕ → Run → Type 0
-IsFull most slot run = (2 ^ 40 ≤ length (entries_on slot run)) ⊎ (most.stored ≤ length (stored_on slot run))
+-- A Copy or a Follow of the target that may come next passes a limit of it.
+pub data IsFull (o : Opening) (most : Limits) (target : Shard) (run : Run) : Type 0 where
+  copy : (c : C.Copied) → MayFollow o run (record { shard = target; event = events.Copy c }) → PassesLimit o most run target (events.Copy c)
+      → IsFull o most target run
+  follow : (f : F.Follow) → MayFollow o run (record { shard = target; event = events.Follow f }) → PassesLimit o most run target (events.Follow f)
+      → IsFull o most target run
 
 -- What a step of a target with a source does. Either its one entry ends what the pass has seen: a Copy, behind all entries that the source had
 -- stored at a look since the step began, or a Follow. Or there is none, and the target was level with what the source had stored at a look.

@@ -1,5 +1,6 @@
 -- Where a pass looks, and what is done one after the other.
-use Rattle.std.specs.Prelude.{◌≡◌, ℕ, List, [], ◌∷◌, ◌++◌, map}
+use Rattle.std.specs.Prelude.{◌≡◌, ℕ, List, [], ◌∷◌, ◌++◌, map, length}
+use mathlib.Core.List.{IsPrefix}
 use Rattle.journal.specs.Views.{PassView}
 use Rattle.shard_run.specs.declared.Shard.{Shard}
 use Rattle.shard_run.specs.declared.Entry.{Entry}
@@ -9,6 +10,16 @@ use Rattle.follow.specs.declared.steps.Step.TheVariants.{Level}
 -- the pass looked at the shards on these slots, in this order, and at no other
 abbrev pub HasLookedAt : List ℕ → PassView Entry → PassView Entry → Type 0
 HasLookedAt slots p now = map (λ l. l.0) now.looks ≡ map (λ l. l.0) p.looks ++ slots
+
+-- The pass looked at the shards on the first of these slots, as far as it came, and at no other. The last that it did was a look, which saw all
+-- that the pass has seen: nothing was appended behind it.
+pub record IsCutShort (slots : List ℕ) (p now : PassView Entry) : Type 0 where
+  pub first : List ℕ
+  pub part : IsPrefix first slots
+  pub looked : HasLookedAt first p now
+  pub slot : ℕ
+  pub before : List (ℕ × ℕ)
+  pub last : now.looks ≡ before ++ (slot, length now.seen) ∷ []
 
 -- Tries of a step that append nothing look at the target and at the source, and once more under the target's lock, where it was found that it
 -- had moved.
@@ -27,6 +38,15 @@ pub record IsOneStep (source target : Shard) (p now : PassView Entry) (step : St
   pub tries : IdleTries target.slot source.slot idle
   pub looked : HasLookedAt (idle ++ target.slot ∷ source.slot ∷ looks_of target.slot step) p now
 
+-- The looks of a step of a target with a source that is refused: those of tries that append nothing, and the first of a try with an entry.
+-- Behind the last look nothing was appended. A try with an entry has two looks at the target at its end, and no try begins behind these.
+pub record IsNoStep (source target : Shard) (p now : PassView Entry) : Type 0 where
+  pub idle : List ℕ
+  pub tries : IdleTries target.slot source.slot idle
+  pub tried : PassView Entry
+  pub looked : HasLookedAt idle p tried
+  pub refused : IsCutShort (target.slot ∷ source.slot ∷ target.slot ∷ target.slot ∷ []) tried now
+
 module _ {X : Type 0} where
   -- each of these does its part, one after the other
   pub data EachInTurn (Part : X → PassView Entry → PassView Entry → Type 0) : List X → PassView Entry → PassView Entry → Type 0 where
@@ -39,6 +59,21 @@ module _ {X : Type 0} where
         → EachInTurn (λ x p q. Part x p q Level) before p q → Part x q now step → FirstInTurn Part xs p now step
     all_level : EachInTurn (λ x p q. Part x p q Level) xs p now → FirstInTurn Part xs p now Level
 
+  -- one after the other is level, until one is refused
+  pub record RefusedInTurn (Part : X → PassView Entry → PassView Entry → Step → Type 0) (No : X → PassView Entry → PassView Entry → Type 0)
+      (xs : List X) (p now : PassView Entry) : Type 0 where
+    pub before : List X
+    pub after : List X
+    pub x : X
+    pub among : xs ≡ before ++ x ∷ after
+    pub levelled : PassView Entry
+    pub level : EachInTurn (λ x p q. Part x p q Level) before p levelled
+    pub refused : No x levelled now
+
 -- one step of a target with the first of several sources that it isn't level with
 abbrev pub IsOneStepWith : List Shard → Shard → PassView Entry → PassView Entry → Step → Type 0
 IsOneStepWith sources target p now step = FirstInTurn (λ s. IsOneStep s target) sources p now step
+
+-- a step of a target with several sources that is refused: with those before it was level, and the step with one of them is refused
+abbrev pub IsNoStepWith : List Shard → Shard → PassView Entry → PassView Entry → Type 0
+IsNoStepWith sources target p now = RefusedInTurn (λ s. IsOneStep s target) (λ s. IsNoStep s target) sources p now

@@ -9,12 +9,13 @@ ghost use Rattle.journal.specs.Runs.{IsLegal};
 ghost use Rattle.shard_run.specs.declared.Entry.{Entry};
 ghost use Rattle.shard_run.specs.declared.Event.{Event};
 ghost use Rattle.shard_run.specs.declared.Follow as follow;
-ghost use Rattle.shard_run.specs.Runs.{mode, is_serving, entries_on, stored_on};
-ghost use Rattle.shard_run.specs.Openings.{IsOpening};
+ghost use Rattle.shard_run.specs.Runs.{mode, is_serving, entries_on, stored_on, held};
+ghost use Rattle.shard_run.specs.Openings.{IsOpening, row_count};
+ghost use Rattle.shard_law.specs.Law.{SourcesApart};
 ghost use Rattle.shard_contents.specs.Shards.{MayFollow};
 ghost use Rattle.shard_contents.specs.Copying.{IsProgress, IsEntryFor};
 ghost use Rattle.follow.specs.Steps.{IsOnward, HasStepped, HasMoved, HasMovedWith, IsFull};
-ghost use Rattle.follow.specs.Turns.{HasLookedAt, IdleTries, IsOneStep, IsOneStepWith, looks_of};
+ghost use Rattle.follow.specs.Turns.{HasLookedAt, IsCutShort, IdleTries, IsOneStep, IsOneStepWith, IsNoStep, IsNoStepWith, looks_of};
 ghost use Rattle.follow.specs.inner.Given.{IsGiven, NoneLeft, IsNextEntry, AreNextRows, IsTakeable, HasTaken};
 
 use crate::member::Member;
@@ -78,6 +79,7 @@ fn try_progress<W: World, J: Naming>(
     ensures progress { IfOk result (λ r. IfSome r (λ come. IsProgress W.opening pass.new.seen target.now source come.progress
         × (come.entries ≡ length (entries_on target.now.slot pass.new.seen)))) }
     ensures looks { IfOk result (λ r. MatchOption r (pass.new ≡ pass.old) (λ _. HasLookedAt (target.now.slot ∷ []) pass.old pass.new)) }
+    ensures refused { OnErr result (IsCutShort (target.now.slot ∷ []) pass.old pass.new) }
     ensures onward { IsOnward W.opening pass.old pass.new }
     ensures err { IfErr result (λ e. e ≡ Refusal.OutOfMemory) }
 {
@@ -115,7 +117,7 @@ fn next_entry<W: World, J: Naming>(
 
 // What a source that serves has for a target.
 fn give<W: World, J: Naming>(
-    state: &ShardState<W, J>,
+    state: &mut ShardState<W, J>,
     alloc: Global,
     schema: &VSchema,
     place: &Place,
@@ -123,10 +125,10 @@ fn give<W: World, J: Naming>(
 ) -> Result<Given, Refusal>
     requires schema { schema.now ≡ W.opening.schema }
     requires formed { IsTrue (is_vschema W.opening.schema) }
-    requires serves { is_serving (mode W.opening state.now.seen state.now.shard.slot) ≡ true }
-    requires legal { IsLegal (MayFollow W.opening) state.now.seen }
+    requires serves { is_serving (mode W.opening state.old.seen state.old.shard.slot) ≡ true }
+    requires legal { IsLegal (MayFollow W.opening) state.old.seen }
     requires there { IfSome progress.now.next (λ n. n.table < length schema.now.tables) }
-    ensures given { IfOk result (IsGiven W.opening state.now.seen state.now.shard place.now progress.now) }
+    ensures given { IfOk result (IsGiven W.opening state.old.seen state.old.shard place.now progress.now) }
     ensures err { IfErr result (λ e. e ≡ Refusal.OutOfMemory) }
 {
     if let Some(entry) = next_entry(state, alloc, schema, place, progress.behind)? {
@@ -157,6 +159,7 @@ fn try_give<W: World, J: Naming>(
     requires there { IfSome progress.now.next (λ n. n.table < length schema.now.tables) }
     ensures given { IfOk result (λ r. IfSome r (IsGiven W.opening pass.new.seen source.now place.now progress.now)) }
     ensures looks { IfOk result (λ r. MatchOption r (pass.new ≡ pass.old) (λ _. HasLookedAt (source.now.slot ∷ []) pass.old pass.new)) }
+    ensures refused { OnErr result (IsCutShort (source.now.slot ∷ []) pass.old pass.new) }
     ensures onward { IsOnward W.opening pass.old pass.new }
     ensures err { IfErr result (λ e. e ≡ Refusal.OutOfMemory) }
 {
@@ -184,6 +187,7 @@ fn given_by<W: World, J: Naming>(
     requires there { IfSome progress.now.next (λ n. n.table < length schema.now.tables) }
     ensures given { IfOk result (IsGiven W.opening pass.new.seen source.now.which place.now progress.now) }
     ensures looks { IfOk result (λ _. HasLookedAt (source.now.which.slot ∷ []) pass.old pass.new) }
+    ensures refused { OnErr result (IsCutShort (source.now.which.slot ∷ []) pass.old pass.new) }
     ensures onward { IsOnward W.opening pass.old pass.new }
     ensures err { IfErr result (λ e. e ≡ Refusal.OutOfMemory) }
 {
@@ -220,8 +224,10 @@ fn try_follow<W: World, J: Naming>(
     ensures followed { IfOk result (λ done. done ≡ true → (f : follow.Follow) × (f.source ≡ taken.now.source) × HasStepped W.opening target.now (Event.Follow f) pass.old pass.new) }
     ensures looks { IfOk result (λ done. ((done ≡ true) × HasLookedAt (target.now.slot ∷ target.now.slot ∷ []) pass.old pass.new)
         ⊎ ((done ≡ false) × ((found : ℕ) × HasLookedAt (found ∷ []) pass.old pass.new))) }
+    ensures within { IfOk result (λ done. done ≡ true → SourcesApart W.opening pass.new.seen target.now → row_count (held W.opening pass.new.seen target.now) ≤ W.limits.rows) }
+    ensures refused { OnErr result (IsCutShort (target.now.slot ∷ target.now.slot ∷ []) pass.old pass.new) }
     ensures onward { IsOnward W.opening pass.old pass.new }
-    ensures err { IfErr result (λ e. (e ≡ Refusal.OutOfMemory) ⊎ ((e ≡ Refusal.ShardFull) × IsFull W.limits target.now.slot pass.new.seen)) }
+    ensures err { IfErr result (λ e. (e ≡ Refusal.OutOfMemory) ⊎ ((e ≡ Refusal.ShardFull) × IsFull W.opening W.limits target.now pass.new.seen)) }
 {
     let now = state.look(pass);
     if state.is(target) && follows(state) && now == entries {
@@ -247,8 +253,10 @@ fn try_copy<W: World, J: Naming>(
     ensures copied { IfOk result (λ done. done ≡ true → HasStepped W.opening target.now (Event.Copy taken) pass.old pass.new) }
     ensures looks { IfOk result (λ done. ((done ≡ true) × HasLookedAt (target.now.slot ∷ target.now.slot ∷ []) pass.old pass.new)
         ⊎ ((done ≡ false) × ((found : ℕ) × HasLookedAt (found ∷ []) pass.old pass.new))) }
+    ensures within { IfOk result (λ done. done ≡ true → row_count (held W.opening pass.new.seen target.now) ≤ W.limits.rows) }
+    ensures refused { OnErr result (IsCutShort (target.now.slot ∷ target.now.slot ∷ []) pass.old pass.new) }
     ensures onward { IsOnward W.opening pass.old pass.new }
-    ensures err { IfErr result (λ e. (e ≡ Refusal.OutOfMemory) ⊎ ((e ≡ Refusal.ShardFull) × IsFull W.limits target.now.slot pass.new.seen)) }
+    ensures err { IfErr result (λ e. (e ≡ Refusal.OutOfMemory) ⊎ ((e ≡ Refusal.ShardFull) × IsFull W.opening W.limits target.now pass.new.seen)) }
 {
     let now = state.look(pass);
     if state.is(target) && follows(state) && now == entries {
@@ -275,8 +283,11 @@ fn take<W: World, J: Naming>(
     ensures taken { IfOk result (λ r. IfSome r (HasTaken W.opening target.now given pass.old pass.new)) }
     ensures looks { IfOk result (λ r. MatchOption r ((found : ℕ) × HasLookedAt (found ∷ []) pass.old pass.new)
         (λ step. HasLookedAt (looks_of target.now.slot step) pass.old pass.new)) }
+    ensures copied_within { IfOk result (λ r. r ≡ Some Step.Copied → row_count (held W.opening pass.new.seen target.now) ≤ W.limits.rows) }
+    ensures followed_within { IfOk result (λ r. r ≡ Some Step.Followed → SourcesApart W.opening pass.new.seen target.now → row_count (held W.opening pass.new.seen target.now) ≤ W.limits.rows) }
+    ensures refused { OnErr result (IsCutShort (target.now.slot ∷ target.now.slot ∷ []) pass.old pass.new) }
     ensures onward { IsOnward W.opening pass.old pass.new }
-    ensures err { IfErr result (λ e. (e ≡ Refusal.OutOfMemory) ⊎ ((e ≡ Refusal.ShardFull) × IsFull W.limits target.now.slot pass.new.seen)) }
+    ensures err { IfErr result (λ e. (e ≡ Refusal.OutOfMemory) ⊎ ((e ≡ Refusal.ShardFull) × IsFull W.opening W.limits target.now pass.new.seen)) }
 {
     let (done, step) = match given {
         Given::Entry(entry) => {
@@ -309,8 +320,11 @@ fn round<W: World, J: Naming>(
     ensures moved { IfOk result (λ r. IfSome r (HasMoved W.opening source.now.which target.now.which pass.old pass.new)) }
     ensures looks { IfOk result (λ r. MatchOption r ((idle : List ℕ) × IdleTries target.now.which.slot source.now.which.slot idle × HasLookedAt idle pass.old pass.new)
         (λ step. HasLookedAt (target.now.which.slot ∷ source.now.which.slot ∷ looks_of target.now.which.slot step) pass.old pass.new)) }
+    ensures copied_within { IfOk result (λ r. r ≡ Some Step.Copied → row_count (held W.opening pass.new.seen target.now.which) ≤ W.limits.rows) }
+    ensures followed_within { IfOk result (λ r. r ≡ Some Step.Followed → SourcesApart W.opening pass.new.seen target.now.which → row_count (held W.opening pass.new.seen target.now.which) ≤ W.limits.rows) }
+    ensures refused { OnErr result (IsCutShort (target.now.which.slot ∷ source.now.which.slot ∷ target.now.which.slot ∷ target.now.which.slot ∷ []) pass.old pass.new) }
     ensures onward { IsOnward W.opening pass.old pass.new }
-    ensures err { IfErr result (λ e. (e ≡ Refusal.OutOfMemory) ⊎ ((e ≡ Refusal.ShardFull) × IsFull W.limits target.now.which.slot pass.new.seen)) }
+    ensures err { IfErr result (λ e. (e ≡ Refusal.OutOfMemory) ⊎ ((e ≡ Refusal.ShardFull) × IsFull W.opening W.limits target.now.which pass.new.seen)) }
 {
     let slot = source.which.slot;
     let come = try_progress(
@@ -340,15 +354,22 @@ fn round<W: World, J: Naming>(
 
 // Promise: A step of a target with one of its sources, or with the first of several that it isn't level with, appends exactly one entry, a
 // Copy behind all that the source had stored at a look of the step, or a Follow; or none, and then the target was level with what the
-// source had stored at a look. That it is no more than one is told by the looks of its pass, since each Copy and each Follow comes right
-// after a look of its own: a step has those of one entry, or of none. It is refused for want of memory, or where the target has as many
-// entries as it may; that nothing was appended then has no clause
+// source had stored at a look. That it is no more than one is told by the looks of its pass, since each Copy, each Follow and each Freeze
+// comes right after a look of its own: a step has those of one entry, or of none. After a Copy the target has no more rows than it may,
+// and after a Follow too, if no two sources of it overlap
 // With: bring_forward_with
+// Clauses: moved, once, copied_within, followed_within, onward
 // Refuses: step_answers_level_at_once, copied_without_an_entry, followed_without_an_entry, copies_beyond_an_entry_that_is_left,
 // steps_until_level
+// Promise: It is refused for want of memory, or where a Copy or a Follow that may come next passes a limit of the target (F24): it has 2^40
+// entries, it stores as many as it may, which counts for a Follow alone, or with the step it would have more rows than it may. The looks of
+// its pass are then those of tries that append nothing, and the first of a try with an entry; nothing was appended behind the last
+// With: bring_forward_with
+// Clauses: err, nothing
+// Refuses: step_moves_and_is_refused, second_step_is_refused, long_entry_is_refused
 /// Brings a target forward with a source of it: it takes over the entry that is next, where one is left, else it copies the next rows, at
-/// most 100 of them, else it is level. At most one entry is appended. Refuses for want of memory, and what would pass a limit of entries of
-/// the target.
+/// most 100 of them, else it is level. At most one entry is appended. Refuses for want of memory, and what would pass a limit of the target;
+/// then nothing was appended.
 pub fn bring_forward<W: World, J: Naming>(
     rt: &impl Wait,
     alloc: Global,
@@ -364,8 +385,11 @@ pub fn bring_forward<W: World, J: Naming>(
     requires legal { IsLegal (MayFollow W.opening) pass.old.seen }
     ensures moved { IfOk result (HasMoved W.opening source.now.which target.now.which pass.old pass.new) }
     ensures once { IfOk result (IsOneStep source.now.which target.now.which pass.old pass.new) }
+    ensures copied_within { IfOk result (λ step. step ≡ Step.Copied → row_count (held W.opening pass.new.seen target.now.which) ≤ W.limits.rows) }
+    ensures followed_within { IfOk result (λ step. step ≡ Step.Followed → SourcesApart W.opening pass.new.seen target.now.which → row_count (held W.opening pass.new.seen target.now.which) ≤ W.limits.rows) }
+    ensures nothing { OnErr result (IsNoStep source.now.which target.now.which pass.old pass.new) }
     ensures onward { IsOnward W.opening pass.old pass.new }
-    ensures err { IfErr result (λ e. (e ≡ Refusal.OutOfMemory) ⊎ ((e ≡ Refusal.ShardFull) × IsFull W.limits target.now.which.slot pass.new.seen)) }
+    ensures err { IfErr result (λ e. (e ≡ Refusal.OutOfMemory) ⊎ ((e ≡ Refusal.ShardFull) × IsFull W.opening W.limits target.now.which pass.new.seen)) }
 {
     for _ in rt.forever() {
         if let Some(step) = round(rt, alloc, pass, schema, source, target)? {
@@ -391,8 +415,11 @@ pub fn bring_forward_with<W: World, J: Naming>(
     requires legal { IsLegal (MayFollow W.opening) pass.old.seen }
     ensures moved { IfOk result (HasMovedWith W.opening (map (λ s. s.which) sources.now) target.now.which pass.old pass.new) }
     ensures once { IfOk result (IsOneStepWith (map (λ s. s.which) sources.now) target.now.which pass.old pass.new) }
+    ensures copied_within { IfOk result (λ step. step ≡ Step.Copied → row_count (held W.opening pass.new.seen target.now.which) ≤ W.limits.rows) }
+    ensures followed_within { IfOk result (λ step. step ≡ Step.Followed → SourcesApart W.opening pass.new.seen target.now.which → row_count (held W.opening pass.new.seen target.now.which) ≤ W.limits.rows) }
+    ensures nothing { OnErr result (IsNoStepWith (map (λ s. s.which) sources.now) target.now.which pass.old pass.new) }
     ensures onward { IsOnward W.opening pass.old pass.new }
-    ensures err { IfErr result (λ e. (e ≡ Refusal.OutOfMemory) ⊎ ((e ≡ Refusal.ShardFull) × IsFull W.limits target.now.which.slot pass.new.seen)) }
+    ensures err { IfErr result (λ e. (e ≡ Refusal.OutOfMemory) ⊎ ((e ≡ Refusal.ShardFull) × IsFull W.opening W.limits target.now.which pass.new.seen)) }
 {
     for source in sources {
         let step = bring_forward(rt, alloc, pass, schema, source, target)?;

@@ -2,3 +2,4 @@ pub mod Nexts
 pub mod Through
 pub mod Switches
 pub mod Reopens
+pub mod Serving

@@ -83,7 +83,7 @@ module _ (o : Opening) (most : Limits) (sources : List Shard) (targets : List Ta
       overfull t among (record { run = is.run; between = between_within p p' now now' is.run early late is.between; many = is.many })
 
 module _ (o : Opening) (most : Limits) (sources : List Shard) (targets : List Taking) (p now : PassView Entry) where
-  pub from_move : (e : ReshardFault) → IsPrefix p.seen now.seen → IsMoveRefusal most targets now e → IsSwitchRefusal o most sources targets p now e
+  pub from_move : (e : ReshardFault) → IsPrefix p.seen now.seen → IsMoveRefusal o most targets now e → IsSwitchRefusal o most sources targets p now e
   from_move _ later begun.no_memory = no_memory
   from_move _ later (begun.full t among is) =
       stuck t among (record { run = now.seen; between = record { since = later; until = prefix_self now.seen }; full = is })

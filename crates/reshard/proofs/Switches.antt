@@ -52,8 +52,8 @@ module _ (o : Opening) (w now : WorkflowView) (p q r : PassView Entry) (on : IsO
   since _ (cut.followed f m e) = cut.followed f (first_after o w.targets p q r on Followed m) e
   since _ (cut.retired s at is e) = cut.retired s at (stepped_after o p q r s (events.Retire (named_for s (shards_of w.targets))) on is) e
   since _ (cut.served t at l is e) = cut.served t at l (stepped_after o p q r t.0 events.Serve on is) e
-  since _ (cut.published a b e) = cut.published a b e
-  since _ (cut.released a b e) = cut.released a b e
+  since _ (cut.published u a b e) = cut.published u a b e
+  since _ (cut.released u a b e) = cut.released u a b e
 
   -- and so does a step of the cutover, once the memory is made
   pub switched_since : (mid : WorkflowView) → mid ≡ record w { prepared = true } → (step : CutoverStep) → HasSwitched o mid now q r step

@@ -1,5 +1,5 @@
 -- A cutover goes on to its end.
-use Rattle.std.proofs.Common.{◌≡◌, ◌⊎◌, inl, inr, ◌+◌, true, List, refl, sym, ap, ◌∙◌, subst}
+use Rattle.std.proofs.Common.{◌≡◌, ◌⊎◌, inl, inr, ◌+◌, Bool, true, List, refl, sym, ap, ◌∙◌, subst}
 use Rattle.journal.specs.Views.{PassView}
 use Rattle.shard_run.specs.declared.Shard.{Shard}
 use Rattle.shard_run.specs.declared.Entry.{Entry}
@@ -8,6 +8,7 @@ use Rattle.shard_contents.specs.declared.limits.Limits.{Limits}
 use Rattle.follow.specs.Steps.{IsOnward}
 use Rattle.reshard_beginning.specs.declared.fault.ReshardFault.{ReshardFault}
 use Rattle.reshard_beginning.specs.declared.fault.ReshardFault.TheVariants.{WrongState}
+use Rattle.reshard.specs.declared.workflow.Stage.{Stage}
 use Rattle.reshard.specs.declared.workflow.Stage.TheVariants.{None, Switching, Switched}
 use Rattle.reshard.specs.declared.cutover.CutoverStep.{CutoverStep}
 use Rattle.reshard.specs.declared.cutover.CutoverStep.TheVariants.{Release}
@@ -22,7 +23,7 @@ further_still w = refl
 
 pub further_trans : (a b c : WorkflowView) → IsFurther a b → IsFurther b c → IsFurther a c
 further_trans a b c ab bc =
-    bc ∙ ap (λ (w : WorkflowView). record w { stage = c.stage; frozen = c.frozen; retired = c.retired; served = c.served; prepared = c.prepared }) ab
+    bc ∙ ap (λ (w : WorkflowView). record w { stage = c.stage; frozen = c.frozen; retired = c.retired; served = c.served; prepared = c.prepared; published = c.published }) ab
 
 module _ (o : Opening) (w now : WorkflowView) (p q : PassView Entry) where
   from : (v : WorkflowView) → now ≡ v → IsFurther w v → IsFurther w now
@@ -34,8 +35,8 @@ module _ (o : Opening) (w now : WorkflowView) (p q : PassView Entry) where
   further_switched _ (cut.followed f m e) = from (record w { prepared = true }) e refl
   further_switched _ (cut.retired s at is e) = from (record w { retired = w.retired + 1; prepared = true }) e refl
   further_switched _ (cut.served t at l is e) = from (record w { served = w.served + 1; prepared = true }) e refl
-  further_switched _ (cut.published a b e) = from (record w { prepared = true }) e refl
-  further_switched _ (cut.released a b e) = from (record w { stage = Switched; prepared = true }) e refl
+  further_switched _ (cut.published u a b e) = from (record w { prepared = true; published = true }) e refl
+  further_switched _ (cut.released u a b e) = from (record w { stage = Switched; prepared = true }) e refl
 
   pub switched_at_end : (step : CutoverStep) → HasSwitched o w now p q step → step ≡ Release → now.stage ≡ Switched
   switched_at_end _ (cut.froze s at is e) r = absurd (cc r)
@@ -43,8 +44,17 @@ module _ (o : Opening) (w now : WorkflowView) (p q : PassView Entry) where
   switched_at_end _ (cut.followed f m e) r = absurd (cc r)
   switched_at_end _ (cut.retired s at is e) r = absurd (cc r)
   switched_at_end _ (cut.served t at l is e) r = absurd (cc r)
-  switched_at_end _ (cut.published a b e) r = absurd (cc r)
-  switched_at_end _ (cut.released a b e) r = ap (λ (v : WorkflowView). v.stage) e
+  switched_at_end _ (cut.published u a b e) r = absurd (cc r)
+  switched_at_end _ (cut.released u a b e) r = ap (λ (v : WorkflowView). v.stage) e
+
+  pub published_at_end : (step : CutoverStep) → HasSwitched o w now p q step → step ≡ Release → now.published ≡ true
+  published_at_end _ (cut.froze s at is e) r = absurd (cc r)
+  published_at_end _ (cut.copied f m e) r = absurd (cc r)
+  published_at_end _ (cut.followed f m e) r = absurd (cc r)
+  published_at_end _ (cut.retired s at is e) r = absurd (cc r)
+  published_at_end _ (cut.served t at l is e) r = absurd (cc r)
+  published_at_end _ (cut.published u a b e) r = absurd (cc r)
+  published_at_end _ (cut.released u a b e) r = ap (λ (v : WorkflowView). v.published) e ∙ u
 
   stage_of : (v : WorkflowView) → now ≡ v → now.stage ≡ v.stage
   stage_of v is = ap (λ (x : WorkflowView). x.stage) is
@@ -55,8 +65,8 @@ module _ (o : Opening) (w now : WorkflowView) (p q : PassView Entry) where
   begun_still _ (cut.followed f m e) h n = h (sym (stage_of (record w { prepared = true }) e) ∙ n)
   begun_still _ (cut.retired s at is e) h n = h (sym (stage_of (record w { retired = w.retired + 1; prepared = true }) e) ∙ n)
   begun_still _ (cut.served t at l is e) h n = h (sym (stage_of (record w { served = w.served + 1; prepared = true }) e) ∙ n)
-  begun_still _ (cut.published a b e) h n = h (sym (stage_of (record w { prepared = true }) e) ∙ n)
-  begun_still _ (cut.released a b e) h n = let x : Switched ≡ None = sym (ap (λ (v : WorkflowView). v.stage) e) ∙ n in absurd (cc x)
+  begun_still _ (cut.published u a b e) h n = h (sym (stage_of (record w { prepared = true; published = true }) e) ∙ n)
+  begun_still _ (cut.released u a b e) h n = let x : Switched ≡ None = sym (ap (λ (v : WorkflowView). v.stage) e) ∙ n in absurd (cc x)
 
   kept : (v : WorkflowView) → now ≡ v → v.stage ≡ w.stage → MaySwitch w → MaySwitch now
   kept v is same (inl h) = inl (stage_of v is ∙ same ∙ h)
@@ -69,18 +79,19 @@ module _ (o : Opening) (w now : WorkflowView) (p q : PassView Entry) where
   may_still _ (cut.followed f h e) r m = kept (record w { prepared = true }) e refl m
   may_still _ (cut.retired s at is e) r m = kept (record w { retired = w.retired + 1; prepared = true }) e refl m
   may_still _ (cut.served t at l is e) r m = kept (record w { served = w.served + 1; prepared = true }) e refl m
-  may_still _ (cut.published a b e) r m = kept (record w { prepared = true }) e refl m
-  may_still _ (cut.released a b e) r m = absurd (r refl)
+  may_still _ (cut.published u a b e) r m = kept (record w { prepared = true; published = true }) e refl m
+  may_still _ (cut.released u a b e) r m = absurd (r refl)
 
-pub finished : (w now : WorkflowView) (q : PassView Entry) → IsFurther w now → now.stage ≡ Switched → (sources : List Shard) (targets : List Taking)
+pub finished : (w now : WorkflowView) (q : PassView Entry) → IsFurther w now → now.stage ≡ Switched → now.published ≡ true → (sources : List Shard) (targets : List Taking)
     → sources ≡ now.sources → targets ≡ now.targets → IsCutOver q.seen sources targets → HasFinished w now q
-finished w now q far end sources targets s t through = record {
+finished w now q far end out sources targets s t through = record {
   through =
       subst (λ (l : List Taking). IsCutOver q.seen w.sources l) (t ∙ ap (λ (v : WorkflowView). v.targets) far)
       (subst (λ (l : List Shard). IsCutOver q.seen l targets) (s ∙ ap (λ (v : WorkflowView). v.sources) far) through);
   at =
       far
-      ∙ ap (λ (x : _). record w { stage = x; frozen = now.frozen; retired = now.retired; served = now.served; prepared = now.prepared }) end;
+      ∙ ap (λ (x : Stage). record w { stage = x; frozen = now.frozen; retired = now.retired; served = now.served; prepared = now.prepared; published = now.published }) end
+      ∙ ap (λ (b : Bool). record w { stage = Switched; frozen = now.frozen; retired = now.retired; served = now.served; prepared = now.prepared; published = b }) out;
 }
 
 -- a refusal in a step of a cutover that had gone on

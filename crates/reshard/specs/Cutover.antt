@@ -1,5 +1,5 @@
 -- What the steps of a cutover do to a workflow and to what the controller's pass has seen.
-use Rattle.std.specs.Prelude.{◌≡◌, ◌⊎◌, ◌≤◌, ◌+◌, ◌^◌, true, List, length, Contains, Some, slice_get}
+use Rattle.std.specs.Prelude.{◌≡◌, ◌⊎◌, ◌≤◌, ◌+◌, ◌^◌, true, false, List, length, Contains, Some, slice_get}
 use Rattle.std.specs.List.{AllByRecursion}
 use Rattle.vt_value.specs.declared.refusal.Refusal.TheVariants.{OutOfMemory, ShardFull}
 use Rattle.journal.specs.Views.{PassView}
@@ -38,22 +38,22 @@ pub record HasNoRoom (s : Shard) (p now : PassView Entry) : Type 0 where
   pub between : IsRunBetween p now run
   pub full : 2 ^ 40 ≤ length (entries_on s.slot run)
 
--- at a run that the pass came by a target had as many entries as it may have, or stored as many
-pub record IsStuck (most : Limits) (t : Shard) (p now : PassView Entry) : Type 0 where
+-- at a run that the pass came by a step of a target that might come next passed a limit of it
+pub record IsStuck (o : Opening) (most : Limits) (t : Shard) (p now : PassView Entry) : Type 0 where
   pub run : Run
   pub between : IsRunBetween p now run
-  pub full : IsFull most t.slot run
+  pub full : IsFull o most t run
 
 -- Why a cutover gives up that hasn't retired a source: want of memory, or a limit of a shard would be passed.
 pub data IsSwitchRefusal (o : Opening) (most : Limits) (sources : List Shard) (targets : List Taking) (p now : PassView Entry) : ReshardFault → Type 0 where
   no_memory : IsSwitchRefusal o most sources targets p now (Refused OutOfMemory)
   no_room : (s : Shard) → Contains sources s → HasNoRoom s p now → IsSwitchRefusal o most sources targets p now (Refused ShardFull)
-  stuck : (t : Taking) → Contains targets t → IsStuck most t.0 p now → IsSwitchRefusal o most sources targets p now (Refused ShardFull)
+  stuck : (t : Taking) → Contains targets t → IsStuck o most t.0 p now → IsSwitchRefusal o most sources targets p now (Refused ShardFull)
   overfull : (t : Taking) → Contains targets t → IsOverfull o most t.0 p now → IsSwitchRefusal o most sources targets p now (Refused ShardFull)
 
 -- What a step of the cutover does: the next source is frozen; once all are, the first target that isn't level moves, else the next source
--- is retired for those of the targets that take from it; once all are, the next target serves; once all do, the next partition is published,
--- and then the workflow's statements are released.
+-- is retired for those of the targets that take from it; once all are, the next target serves; once all do, the next partition is published
+-- that wasn't, and once it was, the workflow's statements are released.
 pub data HasSwitched (o : Opening) (w : WorkflowView) (now : WorkflowView) (p q : PassView Entry) : CutoverStep → Type 0 where
   froze : (s : Shard) → slice_get w.sources w.frozen ≡ Some s → HasStepped o s events.Freeze p q
       → now ≡ record w { stage = stages.Switching; frozen = w.frozen + 1; prepared = true } → HasSwitched o w now p q Freeze
@@ -63,8 +63,9 @@ pub data HasSwitched (o : Opening) (w : WorkflowView) (now : WorkflowView) (p q 
       → now ≡ record w { retired = w.retired + 1; prepared = true } → HasSwitched o w now p q Retire
   served : (t : Taking) → slice_get w.targets w.served ≡ Some t → length w.sources ≤ w.retired → HasStepped o t.0 events.Serve p q
       → now ≡ record w { served = w.served + 1; prepared = true } → HasSwitched o w now p q Serve
-  published : length w.sources ≤ w.retired → length w.targets ≤ w.served → now ≡ record w { prepared = true } → HasSwitched o w now p q Publish
-  released : length w.sources ≤ w.retired → length w.targets ≤ w.served → now ≡ record w { stage = stages.Switched; prepared = true }
+  published : w.published ≡ false → length w.sources ≤ w.retired → length w.targets ≤ w.served → now ≡ record w { prepared = true; published = true }
+      → HasSwitched o w now p q Publish
+  released : w.published ≡ true → length w.sources ≤ w.retired → length w.targets ≤ w.served → now ≡ record w { stage = stages.Switched; prepared = true }
       → HasSwitched o w now p q Release
 
 -- The first source may retire: all are frozen, each target was found level with its sources, and then, at a run that the pass came by, with no
@@ -82,10 +83,11 @@ pub record HasGivenUp (o : Opening) (w now : WorkflowView) (p q : PassView Entry
   pub serve : AllByRecursion (λ s. IsServingAgain o s p q) w.sources
   pub thawed : EachInTurn (HasThawed o) w.sources p q
 
--- A cutover is through: the pass has seen each source retired and each target serve, and the workflow is switched.
+-- A cutover is through: the pass has seen each source retired and each target serve, the next partition was published, and the workflow is
+-- switched.
 pub record HasFinished (w now : WorkflowView) (q : PassView Entry) : Type 0 where
   pub through : IsCutOver q.seen w.sources w.targets
-  pub at : now ≡ record w { stage = stages.Switched; frozen = now.frozen; retired = now.retired; served = now.served; prepared = now.prepared }
+  pub at : now ≡ record w { stage = stages.Switched; frozen = now.frozen; retired = now.retired; served = now.served; prepared = now.prepared; published = true }
 
 -- A step of a cutover stopped for this cause, which the pass came by, and then the cutover was given up.
 pub record HasStopped (o : Opening) (most : Limits) (w now : WorkflowView) (p q : PassView Entry) (e : ReshardFault) : Type 0 where
@@ -96,7 +98,8 @@ pub record HasStopped (o : Opening) (most : Limits) (w now : WorkflowView) (p q 
 
 -- the same workflow, whose cutover may have gone on
 abbrev pub IsFurther : WorkflowView → WorkflowView → Type 0
-IsFurther w now = now ≡ record w { stage = now.stage; frozen = now.frozen; retired = now.retired; served = now.served; prepared = now.prepared }
+IsFurther w now =
+    now ≡ record w { stage = now.stage; frozen = now.frozen; retired = now.retired; served = now.served; prepared = now.prepared; published = now.published }
 
 -- A cutover went on, and then a step of it stopped.
 pub record HasStoppedLater (o : Opening) (most : Limits) (w now : WorkflowView) (p q : PassView Entry) (e : ReshardFault) : Type 0 where

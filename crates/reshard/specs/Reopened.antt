@@ -1,5 +1,6 @@
 -- What a workflow is once it is made again from its shards.
-use Rattle.std.specs.Prelude.{◌≡◌, ℕ, zero, suc, true, List}
+use Rattle.std.specs.Prelude.{◌≡◌, ◌==◌, ℕ, Bool, zero, suc, true, List}
+use Rattle.std.specs.List.{list_any}
 use Rattle.serving.specs.Partitions.{Seat}
 use Rattle.journal.specs.Views.{PassView}
 use Rattle.shard_run.specs.declared.Entry.{Entry}
@@ -14,9 +15,16 @@ abbrev pub stage_at : ℕ → Stage
 stage_at zero = stages.Following
 stage_at (suc n) = stages.Switching
 
--- The workflow is made again from the shards of these seats. The memory of its cutover is made.
+-- whether a part of the partition stands on the slot of one of these seats
+abbrev pub has_any : List Seat → List Seat → Bool
+has_any parts seats = list_any (λ seat. list_any (λ part. part.0 == seat.0) parts) seats
+
+-- The workflow is made again from the shards of these seats. The memory of its cutover is made, and the next partition was published where the
+-- partition that it is found in has one of the targets.
 pub record IsReopened (o : Opening) (p now : PassView Entry) (from into : List Seat) (w next : WorkflowView) : Type 0 where
-  pub made : AreMadeAgain o p now w.keyspace from into next.sources next.targets next.frozen next.retired next.served
+  pub parts : List Seat
+  pub made : AreMadeAgain o p now w.keyspace parts from into next.sources next.targets next.frozen next.retired next.served
+  pub published : next.published ≡ has_any parts into
   pub at : next ≡ record w {
     stage = stage_at next.frozen;
     sources = next.sources;
@@ -25,4 +33,5 @@ pub record IsReopened (o : Opening) (p now : PassView Entry) (from into : List S
     retired = next.retired;
     served = next.served;
     prepared = true;
+    published = next.published;
   }

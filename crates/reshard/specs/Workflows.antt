@@ -16,7 +16,8 @@ use Rattle.reshard_beginning.specs.Grounds.{IsGround, IsFree}
 use Rattle.reshard_beginning.specs.Splits.{IsSplit, target_seats}
 
 -- How far it is, in which keyspace, the slots that no shard ever stood on, and the shards that it replaces, and by which; how many of the
--- first of these are frozen or retired, and how many of those serve; whether the memory of the cutover is made.
+-- first of these are frozen or retired, and how many of those serve; whether the memory of the cutover is made, and whether the next partition was
+-- published.
 pub record WorkflowView : Type 0 where
   pub stage : Stage
   pub keyspace : ℕ
@@ -27,6 +28,7 @@ pub record WorkflowView : Type 0 where
   pub retired : ℕ
   pub served : ℕ
   pub prepared : Bool
+  pub published : Bool
 
 -- What it keeps: the targets may take the sources' place, and with the parts that stay they make a partition of the keyspace. The seats are
 -- those of the targets' shards.

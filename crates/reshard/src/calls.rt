@@ -8,7 +8,7 @@ ghost use Rattle.shard_run.specs.Openings.{IsOpening};
 ghost use Rattle.shard_contents.specs.Shards.{MayFollow};
 ghost use Rattle.follow.specs.Steps.{IsOnward};
 ghost use Rattle.reshard_beginning.specs.Grounds.{IsFree, IsGround};
-ghost use Rattle.reshard_beginning.specs.Begun.{HasBegun, IsCreateRefusal, HasMovedFirst, IsMoveRefusal, IsOneStepFirst};
+ghost use Rattle.reshard_beginning.specs.Begun.{HasBegun, IsCreateRefusal, HasMovedFirst, IsMoveRefusal, IsOneStepFirst, IsNoStepFirst};
 
 use crate::workflow::{Stage, Workflow};
 use follow::Step;
@@ -22,16 +22,21 @@ use std::sync::Wait;
 use vschema::VSchema;
 
 impl<W: World, J: Naming> Workflow<W, J> {
-    // Promise: A workflow begins exactly with shards of its keyspace that its first ranges name, and with targets of the other ranges on free
-    // slots, which hold the same ids; each target takes from the sources that overlap it, and with the parts that stay the targets make a
-    // partition. It is refused only for its cause, or for memory, and the causes are judged in this order: one is there already (N4); a
-    // source that isn't a part of the partition, is named twice or doesn't serve (N5); targets that overlap (N2); that don't hold what the
-    // named parts do (N1); too few slots (N3). Then nothing changed, and no slot is taken: targets that were made give theirs back. Which
-    // partition N5 speaks of has no clause
+    // Promise: A workflow begins exactly with one shard of its keyspace for each of its first ranges, none of which is named twice, and with
+    // targets of the other ranges on free slots, which don't overlap and hold the same ids. Each source served and wasn't frozen at a look of
+    // this call. Each target takes from exactly the sources that overlap it, at least one, and each source is taken from. Sources and targets
+    // stand in the order of their begins, and with the parts that stay the targets make a partition. It is refused only for its cause, or for
+    // memory, and the causes are judged in this order: one is there already (N4); no source is named, there are fewer parts of the named ranges
+    // than names, or the shard of one is frozen or retired (N5); targets that overlap (N2), or that don't hold what the named ranges do (N1);
+    // too few slots (N3). A partition that N5 or N3 speaks of is one of shards of the run, each of which was found in this call, and doesn't
+    // follow. Then nothing changed, and no slot is taken: targets that were made give theirs back
     // With: Workflow::{stage, create}
     // Refuses: reshard_beginning::create_takes_any_targets, reshard_beginning::create_refused_takes_a_slot,
     // reshard_beginning::shard_refused_takes_its_slot, reshard_beginning::overlap_is_judged_before_the_sources,
-    // reshard_beginning::slots_are_counted_before_the_sources
+    // reshard_beginning::slots_are_counted_before_the_sources, reshard_beginning::targets_in_falling_order,
+    // reshard_beginning::sources_in_falling_order, reshard_beginning::each_source_is_a_wrong_one, reshard_beginning::all_targets_leave_a_gap,
+    // reshard_beginning::frozen_source_is_taken, reshard_beginning::parts_are_not_looked_at, reshard_beginning::part_may_follow,
+    // reshard_beginning::target_takes_from_all_sources, reshard_beginning::source_may_be_named_twice
     /// A controller of a keyspace and these free slots, which has no workflow.
     pub fn new(
         alloc: Global,
@@ -51,6 +56,7 @@ impl<W: World, J: Naming> Workflow<W, J> {
           retired = 0;
           served = 0;
           prepared = false;
+          published = false;
         } }
     {
         Workflow {
@@ -64,6 +70,7 @@ impl<W: World, J: Naming> Workflow<W, J> {
             retired: 0,
             served: 0,
             prepared: false,
+            published: false,
             named: Vec::new(alloc).into_iter(),
             next: None,
         }
@@ -94,8 +101,8 @@ impl<W: World, J: Naming> Workflow<W, J> {
         requires legal { IsLegal (MayFollow W.opening) pass.old.seen }
         requires home { serving.now ≡ self.old.keyspace }
         requires named { AllByRecursion IsNamed targets.now }
-        ensures begun { OnOk result (HasBegun self.new.sources self.new.targets self.old.keyspace sources.now targets.now) }
-        ensures at { OnOk result (self.new ≡ record self.old { stage = Stage.Following; free = self.new.free; sources = self.new.sources; targets = self.new.targets; frozen = 0; retired = 0; served = 0; prepared = false }) }
+        ensures begun { OnOk result (HasBegun W.opening pass.old pass.new self.new.sources self.new.targets self.old.keyspace sources.now targets.now) }
+        ensures at { OnOk result (self.new ≡ record self.old { stage = Stage.Following; free = self.new.free; sources = self.new.sources; targets = self.new.targets; frozen = 0; retired = 0; served = 0; prepared = false; published = false }) }
         ensures was { OnOk result (self.old.stage ≡ Stage.None) }
         ensures refused { IfErr result (λ e. ((e ≡ ReshardFault.WrongState) × (self.old.stage ≡ Stage.None → ⊥))
             ⊎ ((self.old.stage ≡ Stage.None) × IsCreateRefusal W.opening pass.old pass.new self.old.keyspace (length self.old.free) sources.now targets.now e)) }
@@ -124,17 +131,19 @@ impl<W: World, J: Naming> Workflow<W, J> {
         self.retired = 0;
         self.served = 0;
         self.prepared = false;
+        self.published = false;
         self.stage = Stage::Following;
         Ok(())
     }
 
     // Promise: A step of a workflow brings the first target forward, in the order of their ranges, that isn't level with its sources, by
-    // exactly one entry; or all are level, and there is none. It is refused only where no targets follow (N4), a target has as many entries
-    // as it may have (F24), or for memory
-    // Refuses: step_moves_no_target, step_moves_twice
+    // exactly one entry; or all are level, and there is none. It is refused only where no targets follow (N4), a Copy or a Follow of a target
+    // that may come next passes a limit of it (F24), or for memory; then the looks of its pass are those of a step that is refused, and
+    // nothing was appended behind the last
+    // Refuses: step_moves_no_target, step_moves_twice, refused_step_has_moved
     /// Brings the first target forward, in their order, that isn't level with its sources: it takes over the entry that is next, else it
-    /// copies the next rows; where all are level, nothing. Refuses where no targets follow; where a target has as many entries as it may
-    /// have; and for want of memory.
+    /// copies the next rows; where all are level, nothing. Refuses where no targets follow; what would pass a limit of a target; and for
+    /// want of memory. Then nothing was appended.
     pub fn step(
         &mut self,
         rt: &impl Wait,
@@ -149,7 +158,8 @@ impl<W: World, J: Naming> Workflow<W, J> {
         ensures moved { IfOk result (HasMovedFirst W.opening self.old.targets pass.old pass.new) }
         ensures once { IfOk result (IsOneStepFirst self.old.targets pass.old pass.new) }
         ensures refused { IfErr result (λ e. ((e ≡ ReshardFault.WrongState) × (self.old.stage ≡ Stage.Following → ⊥))
-            ⊎ ((self.old.stage ≡ Stage.Following) × IsMoveRefusal W.limits self.old.targets pass.new e)) }
+            ⊎ ((self.old.stage ≡ Stage.Following) × IsMoveRefusal W.opening W.limits self.old.targets pass.new e)) }
+        ensures nothing { OnErr result (((self.old.stage ≡ Stage.Following → ⊥) × (pass.new ≡ pass.old)) ⊎ IsNoStepFirst self.old.targets pass.old pass.new) }
         ensures same { self.new ≡ self.old }
         ensures onward { IsOnward W.opening pass.old pass.new }
     {

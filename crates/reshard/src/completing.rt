@@ -25,7 +25,7 @@ impl<W: World, J: Naming> Workflow<W, J> {
     }
 
     // Promise: A workflow is completed exactly where its targets serve (else N4): each of its sources is retired, so that no statement
-    // reads it, and there is none. That the sources' rows are given up is a clause of the shard's own call alone
+    // reads it, and there is none. That the sources' rows are given up no clause tells
     // Refuses: completed_before_its_end
     /// Ends the workflow, whose targets serve: its sources' rows are dropped, and their slots are used up. Refuses where the targets don't
     /// serve. Takes no memory.
@@ -36,7 +36,7 @@ impl<W: World, J: Naming> Workflow<W, J> {
     ) -> Result<(), ReshardFault>
         requires legal { IsLegal (MayFollow W.opening) pass.old.seen }
         ensures was { OnOk result (self.old.stage ≡ Stage.Switched) }
-        ensures none { OnOk result (self.new ≡ record self.old { stage = Stage.None; sources = []; targets = []; frozen = 0; retired = 0; served = 0; prepared = false }) }
+        ensures none { OnOk result (self.new ≡ record self.old { stage = Stage.None; sources = []; targets = []; frozen = 0; retired = 0; served = 0; prepared = false; published = false }) }
         ensures out { OnOk result (AllByRecursion (λ s. IsOutOfUse W.opening s pass.old pass.new) self.old.sources) }
         ensures refused { IfErr result (λ e. (e ≡ ReshardFault.WrongState) × (self.old.stage ≡ Stage.Switched → ⊥) × (self.new ≡ self.old) × (pass.new ≡ pass.old)) }
         ensures onward { IsOnward W.opening pass.old pass.new }

@@ -2,7 +2,7 @@
 //! published.
 ghost use Rattle.shard_run.specs.declared.Shard as which;
 ghost use Rattle.shard_run.specs.declared.Event.{Event};
-ghost use Rattle.std.specs.Prelude.{◌≡◌, ◌+◌, ◌<◌, true, Some, IfErr, OnOk, OnErr, Contains, length, slice_get};
+ghost use Rattle.std.specs.Prelude.{◌≡◌, ◌+◌, ◌<◌, true, false, Some, IfErr, OnOk, OnErr, Contains, length, slice_get};
 ghost use Rattle.std.specs.List.{AllByRecursion};
 ghost use Rattle.journal.specs.Runs.{IsLegal};
 ghost use Rattle.shard_contents.specs.Shards.{MayFollow};
@@ -133,18 +133,16 @@ impl<W: World, J: Naming> Workflow<W, J> {
         self.served += 1;
     }
 
-    // Publishes the next partition, unless that was done. Whether it does.
-    pub(crate) fn publish_next(&mut self, serving: &Serving<Shard<W, J>>) -> bool
+    // Publishes the next partition.
+    pub(crate) fn publish_next(&mut self, serving: &Serving<Shard<W, J>>)
         requires home { serving.now ≡ self.old.keyspace }
-        ensures { self.new ≡ self.old }
+        requires prepared { self.old.prepared ≡ true }
+        requires unpublished { self.old.published ≡ false }
+        ensures { self.new ≡ record self.old { published = true } }
     {
-        match self.next.take() {
-            Some(next) => {
-                let _ = serving.publish(next);
-                true
-            }
-            None => false,
-        }
+        let next = self.next.take().unwrap();
+        let _ = serving.publish(next);
+        self.published = true;
     }
 
     // Each source that is frozen is thawed, and the statements that wait go on.

@@ -10,11 +10,18 @@ ghost use Rattle.cutover_steps.specs.Looks.{HasThawed, IsServingAgain};
 
 use crate::workflow::{Stage, Workflow};
 use buffer::Buffer;
-use cutover_steps::unfreeze_all;
+use cutover_steps::{Target, unfreeze_all};
 use journal::{Naming, Pass};
 use reshard_beginning::ReshardFault;
 use shard::{ShardLaw, World};
 use std::sync::Wait;
+
+// Marks each target, so that no controller takes it up again.
+fn mark_given_up<W: World, J: Naming>(rt: &impl Wait, targets: &[Target<W, J>]) {
+    for target in targets {
+        target.member.shard.lock(rt).give_up();
+    }
+}
 
 impl<W: World, J: Naming> Workflow<W, J> {
     fn may_cancel(&self) -> bool
@@ -30,13 +37,14 @@ impl<W: World, J: Naming> Workflow<W, J> {
 
     // Has no workflow from now on.
     pub(crate) fn forget(&mut self)
-        ensures { self.new ≡ record self.old { stage = Stage.None; sources = []; targets = []; frozen = 0; retired = 0; served = 0; prepared = false } }
+        ensures { self.new ≡ record self.old { stage = Stage.None; sources = []; targets = []; frozen = 0; retired = 0; served = 0; prepared = false; published = false } }
     {
         self.sources.clear();
         self.targets.clear();
         self.rest.clear();
         self.next = None;
         self.prepared = false;
+        self.published = false;
         self.frozen = 0;
         self.retired = 0;
         self.served = 0;
@@ -44,11 +52,12 @@ impl<W: World, J: Naming> Workflow<W, J> {
     }
 
     // Promise: A workflow is given up exactly while its targets follow or no source is retired (else N4): each source that it froze serves
-    // again and isn't looked at after that, the statements that wait go on, and it is none
+    // again and isn't looked at after that, and it is none. That the statements that wait go on, and that no controller takes its
+    // targets up again, is for tests
     // Refuses: cancelled_after_a_retirement, cutover_steps::cancelled_target_serves, cutover_steps::failed_cutover_leaves_frozen,
     // cancelled_targets_are_kept, cancelled_source_freezes_again
     /// Gives the workflow up, of which no source is retired: each source that is frozen is thawed, and the statements that wait go on. Its
-    /// targets' slots are used up. Refuses where there is none, or a source is retired. Takes no memory.
+    /// targets' slots are used up, and no controller takes them up again. Refuses where there is none, or a source is retired. Takes no memory.
     pub fn cancel(
         &mut self,
         rt: &impl Wait,
@@ -57,7 +66,7 @@ impl<W: World, J: Naming> Workflow<W, J> {
     ) -> Result<(), ReshardFault>
         requires legal { IsLegal (MayFollow W.opening) pass.old.seen }
         ensures was { OnOk result (MayCancel self.old) }
-        ensures none { OnOk result (self.new ≡ record self.old { stage = Stage.None; sources = []; targets = []; frozen = 0; retired = 0; served = 0; prepared = false }) }
+        ensures none { OnOk result (self.new ≡ record self.old { stage = Stage.None; sources = []; targets = []; frozen = 0; retired = 0; served = 0; prepared = false; published = false }) }
         ensures serve { OnOk result (AllByRecursion (λ s. IsServingAgain W.opening s pass.old pass.new) self.old.sources) }
         ensures thawed { OnOk result (EachInTurn (HasThawed W.opening) self.old.sources pass.old pass.new) }
         ensures refused { IfErr result (λ e. (e ≡ ReshardFault.WrongState) × (MayCancel self.old → ⊥) × (self.new ≡ self.old) × (pass.new ≡ pass.old)) }
@@ -67,6 +76,7 @@ impl<W: World, J: Naming> Workflow<W, J> {
             return Err(ReshardFault::WrongState);
         }
         unfreeze_all(rt, self.sources.as_slice(), pass);
+        mark_given_up(rt, self.targets.as_slice());
         self.forget();
         buffer.release(rt);
         Ok(())

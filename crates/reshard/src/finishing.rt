@@ -56,9 +56,11 @@ impl<W: World, J: Naming> Workflow<W, J> {
     }
 
     // Promise: A whole cutover, begun while targets follow, ends with each source retired and each target serving in what the pass has
-    // seen; else it stopped as a step does, with nothing retired, and was given up
-    /// Takes all steps of the cutover that are left: the targets serve then, in the place of the sources. Refuses where no targets follow, or a
-    /// cutover has begun. For want of memory, and where a shard would have more rows or entries than it may, the cutover is given up, of which
+    // seen, and the next partition published; else it stopped as a step does, with nothing retired, and was given up. That the targets
+    // come level before the first source freezes is for tests
+    /// Takes all steps of the cutover that are left: the targets serve then, in the place of the sources. Before the first source freezes it
+    /// brings the targets forward, as `step` does, until all are level, or twice as many entries were followed as their sources had stored.
+    /// Refuses where no targets follow, or a cutover has begun. For want of memory, and where a shard would have more rows or entries than it may, the cutover is given up, of which
     /// no source is retired: each source serves again, the statements that waited go on, and the targets follow.
     pub fn switch_traffic(
         &mut self,
@@ -82,6 +84,7 @@ impl<W: World, J: Naming> Workflow<W, J> {
         if self.stage != Stage::Following {
             return Err(ReshardFault::WrongState);
         }
+        self.keep_up(rt, alloc, pass, schema, buffer)?;
         for _ in rt.forever() {
             let step = self.switch_step(rt, alloc, pass, schema, serving, buffer)?;
             if step == CutoverStep::Release {

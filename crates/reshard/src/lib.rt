@@ -6,6 +6,8 @@ mod completing;
 mod cutover;
 mod ending;
 mod finishing;
+mod keeping_up;
+mod ranges;
 mod reopening;
 mod stopping;
 mod switching;

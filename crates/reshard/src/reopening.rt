@@ -1,9 +1,9 @@
 //! A workflow whose controller stopped is made again from its shards.
-ghost use Rattle.std.specs.Prelude.{◌≡◌, ◌⊎◌, IfErr, IfSome, OnOk, OnErr};
+ghost use Rattle.std.specs.Prelude.{◌≡◌, ◌⊎◌, false, IfErr, IfSome, IsSome, OnOk, OnErr};
 ghost use Rattle.journal.specs.Runs.{IsLegal};
 ghost use Rattle.shard_contents.specs.Shards.{MayFollow};
 ghost use Rattle.follow.specs.Steps.{IsOnward};
-ghost use Rattle.reshard.specs.Reopened.{IsReopened, stage_at};
+ghost use Rattle.reshard.specs.Reopened.{IsReopened, has_any, stage_at};
 ghost use Rattle.reshard_reopening.specs.MadeAgain.{IsReopenRefusal};
 
 use crate::workflow::{Stage, Workflow};
@@ -26,13 +26,10 @@ fn stage_of(frozen: usize) -> Stage
 }
 
 // Whether the partition has one of the shards.
-fn has_any<W: World, J: Naming>(parts: &[Part<Shard<W, J>>], into: &[Part<Shard<W, J>>]) -> bool {
-    for part in into {
-        if stands_on(part.slot(), parts) {
-            return true;
-        }
-    }
-    false
+fn has_any<W: World, J: Naming>(parts: &[Part<Shard<W, J>>], into: &[Part<Shard<W, J>>]) -> bool
+    ensures { result ≡ has_any parts.now into.now }
+{
+    into.iter().any(|part| stands_on(part.slot(), parts))
 }
 
 // The next partition, unless it was published.
@@ -40,7 +37,8 @@ fn unless_published<W: World, J: Naming>(
     published: bool,
     next: Box<Partition<Shard<W, J>>>,
 ) -> Option<Box<Partition<Shard<W, J>>>>
-    ensures { IfSome result (λ again. again.value ≡ next.value) }
+    ensures same { IfSome result (λ again. again.value ≡ next.value) }
+    ensures there { published ≡ false → IsSome result }
 {
     if published { None } else { Some(next) }
 }
@@ -48,17 +46,20 @@ fn unless_published<W: World, J: Naming>(
 impl<W: World, J: Naming> Workflow<W, J> {
     // Promise: A workflow that another controller stopped is made again from the shards of its sources and targets: with one look under
     // each lock, the first so many sources are retired, the next frozen and the others serve, the first so many targets serve and the
-    // others follow, and so far it is; each target takes from the sources that overlap it; the memory of the cutover is made. Refused only
-    // where there is a workflow already, where the shards found aren't those of one beside the other parts of some partition, or each
-    // source is retired and each target serves (N4), and for want of memory; then it stands as it stood. That N4 is answered of the last
-    // only where a source's rows were dropped is for tests
+    // others follow, and so far it is; each target takes from the sources that overlap it, and those that are retired named it; the memory
+    // of the cutover is made; the next partition was published exactly where the present one has a target. Refused only where there is a
+    // workflow already, where the shards found aren't those of one beside the other parts of some partition, where each source is retired
+    // and each target serves, or where no source is retired (N4), and for want of memory; then it stands as it stood. That N4 is answered of
+    // the last two only where a source's rows were dropped, and where the workflow was given up, is for tests
     // Refuses: reshard_reopening::frozen_is_found_serving, reshard_reopening::reopened_forgets_a_source,
-    // reshard_reopening::reopened_with_a_source_unfrozen
+    // reshard_reopening::reopened_with_a_source_unfrozen, reshard_reopening::target_is_taken_up_that_was_not_named,
+    // reshard_reopening::retired_source_is_found_to_name_nobody, reopened_once_more_publishes_nothing, reopened_publishes_again
     /// Takes up a workflow that another controller stopped, from the shards that are its sources and its targets, each in their order: each
     /// is looked at under its lock. Where a source is frozen or retired its cutover has begun, which `resume` ends and `switch_step` goes
     /// on with; else its targets follow. All memory of the cutover is made. Refuses where there is a workflow already; where the shards aren't
-    /// the sources and the targets of one, beside the other parts of the present partition, as a cutover leaves them; where the sources'
-    /// rows were dropped; and for want of memory. Then it stands as it stood. The slots that no shard ever stood on are those that it has.
+    /// the sources and the targets of one, beside the other parts of the present partition, as a cutover leaves them; where a source that is
+    /// retired didn't name a target that takes from it; where the sources' rows were dropped, or the workflow was given up; and for want of
+    /// memory. Then it stands as it stood. The slots that no shard ever stood on are those that it has.
     pub fn reopen(
         &mut self,
         rt: &impl Wait,
@@ -91,7 +92,8 @@ impl<W: World, J: Naming> Workflow<W, J> {
         self.retired = course.retired;
         self.served = course.served;
         self.named = taken.memory.named.into_iter();
-        self.next = unless_published(has_any(parts, targets), taken.memory.next);
+        self.published = has_any(parts, targets);
+        self.next = unless_published(self.published, taken.memory.next);
         self.prepared = true;
         self.stage = stage_of(course.frozen);
         Ok(())

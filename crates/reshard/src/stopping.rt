@@ -45,6 +45,7 @@ impl<W: World, J: Naming> Workflow<W, J> {
             retired: _,
             served: _,
             prepared: _,
+            published: _,
             named: _,
             next: _,
         } = self;

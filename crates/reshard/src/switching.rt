@@ -36,7 +36,7 @@ impl<W: World, J: Naming> Workflow<W, J> {
         requires begun { self.old.stage ≡ Stage.None → ⊥ }
         requires prepared { self.old.prepared ≡ true }
         ensures switched { HasSwitched W.opening self.old self.new pass.old pass.new result }
-        ensures steady { self.new ≡ record self.old { stage = self.new.stage; retired = self.new.retired; served = self.new.served } }
+        ensures steady { self.new ≡ record self.old { stage = self.new.stage; retired = self.new.retired; served = self.new.served; published = self.new.published } }
         ensures onward { IsOnward W.opening pass.old pass.new }
     {
         if self.retired < self.sources.len() {
@@ -47,7 +47,8 @@ impl<W: World, J: Naming> Workflow<W, J> {
             self.serve_next(rt, pass, schema);
             return CutoverStep::Serve;
         }
-        if self.publish_next(serving) {
+        if !self.published {
+            self.publish_next(serving);
             return CutoverStep::Publish;
         }
         buffer.release(rt);
@@ -134,14 +135,15 @@ impl<W: World, J: Naming> Workflow<W, J> {
 
     // Promise: A step of a cutover is exactly one of these, in this order, and it is told which: the next source is frozen; once all are,
     // the first target that isn't level moves; once all are, the next source is retired for its targets; then the next target serves; then
-    // the next partition is published, and then the statements that waited go on. It is taken exactly while targets follow or the cutover
-    // has begun (else N4, and nothing changed). For want of memory, and where a source or a target would pass a limit (F24), which it tells
+    // the next partition is published, once, and only then the statements that waited go on. That others see the partition then, and that
+    // the statements do go on, is for tests. It is taken exactly while targets follow or the cutover has begun (else N4, and nothing changed). For want of memory, and where a source or a target would pass a limit (F24), which it tells
     // only where the pass came by it, the cutover is given up, of which no source is retired: each source serves again and isn't looked
     // at after that, and the targets follow. The first source retires only where the workflow has frozen all, and the step found each target
     // level, and then with no more rows than a shard that serves may have
     // Refuses: given_up_cutover_thaws_none, cutover_steps::failed_cutover_leaves_frozen, switch_step_takes_two,
     // cutover_without_looking_for_room, given_up_source_freezes_again, retires_behind_a_copy, retires_behind_a_follow,
-    // first_source_retires_before_the_second_froze, cutover_steps::fits_whatever_it_holds
+    // first_source_retires_before_the_second_froze, cutover_steps::fits_whatever_it_holds, released_before_it_is_published,
+    // partition_is_dropped_unpublished
     /// Takes the next step of the cutover, and tells which: the next source is frozen; once all are, the first target moves that isn't level,
     /// else the next source is retired; then the targets serve, the next partition is published, and the statements that waited go on.
     /// Refuses where no targets follow and no cutover has begun. For want of memory, and where a shard would have more rows or entries than

@@ -36,14 +36,16 @@ pub struct Workflow<W: World, J: Naming> {
     pub(crate) frozen: usize,
     pub(crate) retired: usize,
     pub(crate) served: usize,
-    // the memory of a cutover: for each source that isn't retired the targets that it names, and the next partition, until it is published
+    // the memory of a cutover: for each source that isn't retired the targets that it names, and the next partition, which is there until it is
+    // published
     pub(crate) prepared: bool,
+    pub(crate) published: bool,
     pub(crate) named: IntoIter<Items<shard_run::Shard>>,
     pub(crate) next: Option<Box<Partition<Shard<W, J>>>>,
 }
 
 impl<W: World, J: Naming> Model for Workflow<W, J> {
-    ghost use Rattle.std.specs.Prelude.{map, IfSome};
+    ghost use Rattle.std.specs.Prelude.{◌≡◌, true, false, map, IfSome, IsSome};
     ghost use Rattle.serving.specs.Partitions.{AreOf};
     ghost use Rattle.std.specs.Vec.Iter.{into_iter_items};
     ghost use Rattle.reshard.specs.Workflows.{WorkflowView, IsWorkflow};
@@ -61,11 +63,13 @@ impl<W: World, J: Naming> Model for Workflow<W, J> {
       retired = w.retired;
       served = w.served;
       prepared = w.prepared;
+      published = w.published;
     } };
 
     ghost invariant = { λ w. IsWorkflow W.opening W.limits w.ground w.stage w.free.items (map (λ s. s.member.which) w.sources.items)
         (map (λ t. (t.member.which, map (λ s. s.which) t.sources.items)) w.targets.items) (map (λ t. t.member.shard.value) w.targets.items) w.rest.items
         × IsPrepared (map (λ s. s.member.which) w.sources.items) (map (λ t. (t.member.which, map (λ s. s.which) t.sources.items)) w.targets.items) w.retired w.prepared
         (into_iter_items w.named)
-        × IfSome w.next (λ next. AreOf w.ground.keyspace next.value) };
+        × IfSome w.next (λ next. AreOf w.ground.keyspace next.value)
+        × (w.prepared ≡ true → w.published ≡ false → IsSome w.next) };
 }

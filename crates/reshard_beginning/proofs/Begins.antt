@@ -1,41 +1,32 @@
 -- What a workflow begins with: the targets may take the sources' place, and with the parts that stay they make a partition.
-use Rattle.std.proofs.Common.{◌≡◌, ℕ, ◌+◌, ◌≤◌, ◌&&◌, true, List, [], ◌∷◌, ◌++◌, length, map, refl, sym, ap, ◌∙◌, subst, arith}
+use Rattle.std.proofs.Common.{◌≡◌, ℕ, ◌+◌, ◌≤◌, ◌&&◌, true, List, [], ◌∷◌, ◌++◌, length, map, count_by, refl, sym, ap, ◌∙◌, subst, arith, IsSorted}
 use Rattle.std.specs.Prelude.{Contains, IsPermutation}
 use Rattle.std.specs.List.{AllByRecursion}
 use Rattle.std.proofs.lemmas.List.{map-append, length-map}
-use Rattle.std.proofs.lemmas.List.Sorted.{sum_by-IsPermutation, Contains-permutation, length_permutation, IsPermutation-sym}
+use Rattle.std.proofs.lemmas.List.Sorted.{sum_by-IsPermutation, length_permutation, IsPermutation-map}
 use Rattle.keyrange.specs.declared.KeyRange.{KeyRange}
 use Rattle.keyrange.specs.Ranges.{has_id, IsByteString, Overlap, Cover}
 use Rattle.keyrange.specs.Names.{IsNamed}
 use Rattle.serving.specs.Partitions.{Seat, IsPartition, AreOf, ranges}
+use Rattle.journal.specs.Views.{PassView}
 use Rattle.shard_run.specs.declared.Shard.{Shard}
+use Rattle.shard_run.specs.declared.Entry.{Entry}
+use Rattle.shard_run.specs.Runs.{Opening}
 use Rattle.shard_law.proofs.Lists.{In, In-from_Contains, Contains-from_In, In-map, In-from_map, In-all, all-from_In, all-weaker}
-use Rattle.reshard_beginning.specs.Choices.{AreNamed, holders, HoldTheSame}
+use Rattle.reshard_beginning.specs.Choices.{AreApart, holders, HoldTheSame, begin_cmp}
 use Rattle.cutover_steps.specs.Steps.{named_for, FitTargets, IsTargetOf}
-use Rattle.reshard_beginning.specs.Splits.{TakesFrom, target_seats, IsSplit, AreOverlapped}
+use Rattle.reshard_beginning.specs.Splits.{target_seats, IsSplit, AreOverlapped}
+use Rattle.reshard_beginning.specs.inner.Takes.{TakesFrom}
 use Rattle.shard.specs.Seats.{seat_of}
 use Rattle.cutover_steps.specs.Takings.{Taking, shards_of}
-use Rattle.reshard_beginning.specs.Begun.{HasBegun}
-use Rattle.reshard_beginning.specs.inner.Created.{IsMadeOf, IsSurvey}
+use Rattle.reshard_beginning.specs.Begun.{AreSources, TakesItsOwn, IsTakenFrom, HasBegun}
+use Rattle.reshard_beginning.specs.inner.Created.{AreNamed, AreToldApart, IsMadeOf, IsSurvey}
+pub use Rattle.reshard_beginning.proofs.Lists.{map_twice, all_map, all_permuted}
+use Rattle.reshard_beginning.proofs.Lists.{all_from_map, all_both}
+use Rattle.reshard_beginning.proofs.Those.{all_those}
 use Rattle.reshard_beginning.proofs.Ranges.{counted-append, same_from_cover, at_most_one, held_too}
 use Rattle.reshard_beginning.proofs.Blank.{begins_inside}
 use Rattle.reshard_beginning.proofs.Splits.{fit, is_target}
-
-pub map_twice : {X Y Z : Type 0} (g : Y → Z) (f : X → Y) (xs : List X) → map g (map f xs) ≡ map (λ x. g (f x)) xs
-map_twice g f [] = refl
-map_twice g f (x ∷ xs) = ap (λ l. g (f x) ∷ l) (map_twice g f xs)
-
-pub all_map : {X Y : Type 0} (P : Y → Type 0) (f : X → Y) (xs : List X) → AllByRecursion (λ x. P (f x)) xs → AllByRecursion P (map f xs)
-all_map P f [] all = tt
-all_map P f (x ∷ xs) all = (all.0, all_map P f xs all.1)
-
-pub all_permuted : {X : Type 0} (P : X → Type 0) (xs ys : List X) → IsPermutation xs ys → AllByRecursion P xs → AllByRecursion P ys
-all_permuted P xs ys perm all =
-    all-from_In P ys (λ y h. In-all P y xs all (In-from_Contains y xs (Contains-permutation ys xs y (IsPermutation-sym xs ys perm) (Contains-from_In y ys h))))
-
-all_both : {X : Type 0} (P : X → Type 0) (xs ys : List X) → AllByRecursion P xs → AllByRecursion P ys → AllByRecursion P (xs ++ ys)
-all_both P [] ys a b = b
-all_both P (x ∷ xs) ys a b = (a.0, all_both P xs ys a.1 b)
 
 module _ (current taken rest : List Seat) (from into ordered : List KeyRange) (are : AreNamed from current taken rest) (among : AllByRecursion (Contains current) rest)
     (is : IsPartition current) (k : ℕ) (sources : List Shard) (seats : map seat_of sources ≡ taken) (home : AllByRecursion (λ s. s.place.keyspace ≡ k) sources)
@@ -96,20 +87,33 @@ module _ (current taken rest : List Seat) (from into ordered : List KeyRange) (a
       own = all-weaker (IsMadeOf sources k) (λ t. AllByRecursion (λ s. Contains t.0.sources s.slot) t.1) (λ t h. h.own) targets made;
     }
 
-    named_sources : AllByRecursion (λ s. Contains from s.place.range) sources
-    named_sources =
-        all-from_In (λ s. Contains from s.place.range) sources
-        (λ s h. In-all (λ (x : Seat). Contains from x.1) (seat_of s) taken are.named (subst (In (seat_of s)) seats (In-map seat_of s sources h)))
+    -- an id of a source lies in a target, which takes from it
+    taken_from : (s : Shard) → In s sources → IsNamed s.place.range → IsTakenFrom targets s
+    taken_from s h named =
+        let w = begins_inside s.place.range named in
+        let back : HoldTheSame (map (λ s. s.place.range) sources) ordered = λ id bytes. sym (same_ordered id bytes) in
+        let f = held_too (map (λ (x : Shard). x.place.range) sources) ordered back s.place.range.begin w.0 s.place.range
+        (In-map (λ (x : Shard). x.place.range) s sources h) w.1 in
+        let v = In-from_map (λ (t : Taking). t.0.place.range) f.0 targets (subst (In f.0) (sym at) f.1) in
+        let t = v.0 in
+        let lies : has_id t.0.place.range s.place.range.begin ≡ true = ap (λ (r : KeyRange). has_id r s.place.range.begin) v.2 ∙ f.2 in
+        let both : Overlap s.place.range t.0.place.range =
+        (s.place.range.begin, w.0, ap (λ c. c && has_id t.0.place.range s.place.range.begin) w.1 ∙ lies) in
+        let those = (In-all (IsMadeOf sources k) t targets made v.1).exactly.those in
+        (t, Contains-from_In t targets v.1, all_those t.0.place.range sources t.1 those s (Contains-from_In s sources h) both)
 
-    pub begun : length taken ≡ length from → HasBegun sources targets k from into
-    begun count = record {
-      named = named_sources;
-      count = sym (length-map sources seat_of) ∙ ap length seats ∙ count;
-      from_here = home;
+    pub begun : (o : Opening) (p now : PassView Entry) → AreSources o p now k from sources → AreApart into → AllByRecursion (λ s. IsNamed s.place.range) sources
+        → IsSorted begin_cmp (map (λ s. s.place.range) sources) → IsSorted begin_cmp ordered → HasBegun o p now sources targets k from into
+    begun o p now are_sources apart named sources_rise targets_rise = record {
+      are = are_sources;
       ranges = subst (IsPermutation into) (sym at) order;
       home = all-weaker (IsMadeOf sources k) (λ t. t.0.place.keyspace ≡ k) (λ t h. h.home) targets made;
-      same = same_into;
-      takes = all-weaker (IsMadeOf sources k) (λ t. TakesFrom sources t.0) (λ t h. h.takes) targets made;
+      apart = apart;
+      same = λ id bytes. same_into id bytes ∙ sum_by-IsPermutation _ from (map (λ (s : Shard). s.place.range) sources) are_sources.named;
+      takes = all-weaker (IsMadeOf sources k) (TakesItsOwn sources) (λ t h. h.exactly) targets made;
+      taken = all-from_In (IsTakenFrom targets) sources (λ s h. taken_from s h (In-all (λ (x : Shard). IsNamed x.place.range) s sources named h));
+      sources_rise = sources_rise;
+      targets_rise = subst (IsSorted begin_cmp) (sym at) targets_rise;
     }
 
     pub next : (seats' : List Seat) → seats' ≡ target_seats targets → AllByRecursion IsNamed into → length rest + length into ≤ 64
@@ -156,6 +160,16 @@ homes_here k parts rest seats targets among of seated homes =
     all_both (λ (s : Seat). s.2 ≡ k) rest seats (of_taken k parts rest among of)
     (subst (AreOf k) (sym seated) (all_map (λ (s : Seat). s.2 ≡ k) (λ (t : Taking). seat_of t.0) targets homes))
 
+pub told_apart : (k : ℕ) (from : List KeyRange) (current parts taken rest : List Seat) → parts ≡ current → IsPartition current → AreOf k current
+    → AreNamed from parts taken rest → AllByRecursion (Contains parts) taken → AllByRecursion (Contains parts) rest → AreToldApart k from parts taken rest
+told_apart k from current parts taken rest same is home are taken_among rest_among = record {
+  partition = subst IsPartition (sym same) is;
+  home = subst (AreOf k) (sym same) home;
+  are = are;
+  taken_among = taken_among;
+  rest_among = rest_among;
+}
+
 -- what is known once the targets' ranges are in order
 pub record Setting (parts taken rest : List Seat) (from into ordered : List KeyRange) (k : ℕ) (sources : List Shard) : Type 0 where
   pub is : IsPartition parts
@@ -166,20 +180,52 @@ pub record Setting (parts taken rest : List Seat) (from into ordered : List KeyR
   pub cover : Cover (map (λ s. s.1) rest ++ into)
   pub order : IsPermutation into ordered
 
-pub surveyed : {S : Type 0} (which : S → Shard) (parts current taken rest : List Seat) (from into : List KeyRange) (k : ℕ) (found : List S)
-    → parts ≡ current → AreNamed from parts taken rest → AllByRecursion (Contains parts) rest
+pub surveyed : {S : Type 0} (which : S → Shard) (parts current taken rest : List Seat) (from into : List KeyRange) (k : ℕ) (found : List S) → IsPartition current
+    → parts ≡ current → AreNamed from parts taken rest → AllByRecursion (Contains parts) taken → AllByRecursion (Contains parts) rest
     → (map {B = Seat} (λ s. ((which s).slot, (which s).place.range, (which s).place.keyspace)) found ≡ taken) × AllByRecursion (λ s. (which s).place.keyspace ≡ k) found
     → length taken ≡ length from → Cover (map (λ s. s.1) rest ++ into) → length rest + length into ≤ 64 → IsSurvey k from into current (map which found) rest
-surveyed which parts current taken rest from into k found same are among of count cover few = record {
-  taken = taken;
-  named = subst (λ (l : List Seat). AreNamed from l taken rest) same are;
-  among = subst (λ (l : List Seat). AllByRecursion (Contains l) rest) same among;
-  seats = map_twice seat_of which found ∙ of.0;
-  home = all_map (λ (s : Shard). s.place.keyspace ≡ k) which found of.1;
-  count = count;
-  cover = cover;
-  few = few;
-}
+surveyed which parts current taken rest from into k found is same are of_parts among of count cover few =
+    let at : map seat_of (map which found) ≡ taken = map_twice seat_of which found ∙ of.0 in
+    record {
+      taken = taken;
+      named = subst (λ (l : List Seat). AreNamed from l taken rest) same are;
+      among = subst (λ (l : List Seat). AllByRecursion (Contains l) rest) same among;
+      seats = at;
+      home = all_map (λ (s : Shard). s.place.keyspace ≡ k) which found of.1;
+      ranged =
+          all_from_map (λ (s : Seat). IsNamed s.1) seat_of (map which found)
+          (subst (AllByRecursion (λ (s : Seat). IsNamed s.1)) (sym at)
+          (all-from_In (λ (s : Seat). IsNamed s.1) taken
+          (λ s h. In-all IsNamed s.1 (ranges current) is.named
+          (In-map (λ (s : Seat). s.1) s current
+          (In-from_Contains s current (In-all (Contains current) s taken (subst (λ (l : List Seat). AllByRecursion (Contains l) taken) same of_parts) h))))));
+      count = count;
+      cover = cover;
+      few = few;
+    }
+
+-- the same with the sources in another order
+pub surveyed_again : {S : Type 0} (which : S → Shard) (parts rest : List Seat) (from into : List KeyRange) (k : ℕ) (xs ys : List S) → IsPermutation xs ys
+    → IsSurvey k from into parts (map which xs) rest → IsSurvey k from into parts (map which ys) rest
+surveyed_again which parts rest from into k xs ys order sv =
+    let perm = IsPermutation-map which xs ys order in
+    let as_seats = IsPermutation-map seat_of (map which xs) (map which ys) perm in
+    let seats : IsPermutation sv.taken (map seat_of (map which ys)) = subst (λ (l : List Seat). IsPermutation l (map seat_of (map which ys))) sv.seats as_seats in
+    record {
+      taken = map seat_of (map which ys);
+      named = record {
+        named = all_permuted (λ (s : Seat). Contains from s.1) sv.taken (map seat_of (map which ys)) seats sv.named.named;
+        not_named = sv.named.not_named;
+        all = λ p. sv.named.all p ∙ ap (λ (n : ℕ). n + count_by p rest) (sym (sum_by-IsPermutation _ sv.taken (map seat_of (map which ys)) seats));
+      };
+      among = sv.among;
+      seats = refl;
+      home = all_permuted (λ (s : Shard). s.place.keyspace ≡ k) (map which xs) (map which ys) perm sv.home;
+      ranged = all_permuted (λ (s : Shard). IsNamed s.place.range) (map which xs) (map which ys) perm sv.ranged;
+      count = length_permutation sv.taken (map seat_of (map which ys)) seats ∙ sv.count;
+      cover = sv.cover;
+      few = sv.few;
+    }
 
 pub setting : (parts rest : List Seat) (from into ordered : List KeyRange) (k : ℕ) (sources : List Shard) → IsPartition parts
     → (sv : IsSurvey k from into parts sources rest) → IsPermutation into ordered → Setting parts sv.taken rest from into ordered k sources
@@ -205,8 +251,11 @@ module _ (parts taken rest : List Seat) (from into ordered : List KeyRange) (k :
     pub split_here : IsSplit sources (map f ts)
     split_here = split parts taken rest from into ordered st.are st.among st.is k sources st.seats st.home st.cover st.order (map f ts) ranged made
 
-    pub begun_here : length taken ≡ length from → HasBegun sources (map f ts) k from into
-    begun_here = begun parts taken rest from into ordered st.are st.among st.is k sources st.seats st.home st.cover st.order (map f ts) ranged made
+    pub begun_here : (o : Opening) (p now : PassView Entry) → AreSources o p now k from sources → AreApart into → AllByRecursion (λ s. IsNamed s.place.range) sources
+        → IsSorted begin_cmp (map (λ s. s.place.range) sources) → IsSorted begin_cmp ordered → HasBegun o p now sources (map f ts) k from into
+    begun_here o p now are_sources apart named sources_rise targets_rise =
+        begun parts taken rest from into ordered st.are st.among st.is k sources st.seats st.home st.cover st.order (map f ts) ranged made o p now are_sources apart named
+        sources_rise targets_rise
 
     pub next_here : (seats : List Seat) → seats ≡ target_seats (map f ts) → AllByRecursion IsNamed into → length rest + length into ≤ 64 → IsPartition (rest ++ seats)
     next_here = next parts taken rest from into ordered st.are st.among st.is k sources st.seats st.home st.cover st.order (map f ts) ranged made

@@ -1,3 +1,7 @@
+pub mod Lists
+pub mod Rising
+pub mod Looks
+pub mod Parts
 pub mod Ranges
 pub mod Named
 pub mod Splits

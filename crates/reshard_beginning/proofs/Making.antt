@@ -9,16 +9,15 @@ use Rattle.shard_run.specs.declared.Shard.{Shard}
 use Rattle.shard_run.specs.declared.Entry.{Entry}
 use Rattle.shard_law.proofs.Lists.{In, In-from_Contains, Contains-from_In, In-left, In-last, In-push, AllByRecursion-push}
 use Rattle.vschema.specs.declared.schema.Place.{Place}
-use Rattle.shard_run.specs.declared.Mode.TheVariants.{Serving}
-use Rattle.shard_run.specs.Runs.{Opening, Run, mode}
-use Rattle.shard_law.specs.Legal.{IsOnItsSlot}
+use Rattle.shard_run.specs.Runs.{Opening, Run}
 use Rattle.reshard_beginning.specs.declared.creating.Sight.{Sight}
 use Rattle.reshard_beginning.specs.declared.creating.Sight.TheVariants.{Serves, DoesNot, Another}
-use Rattle.reshard_beginning.specs.Splits.{AreOverlapped}
-use Rattle.reshard_beginning.specs.inner.Created.{HasGrown, added, left, IsSight, serves, does_not, another, IsMade, IsMadeOf, IsPicked, HasServed, IsAway}
+use Rattle.reshard_beginning.specs.Splits.{AreOverlapped, AreThose}
+use Rattle.reshard_beginning.specs.Begun.{WasSeen, IsServing, IsAway}
+use Rattle.reshard_beginning.specs.inner.Created.{HasGrown, added, left, IsSighted, IsSight, serves, does_not, another, IsMade, IsMadeOf, IsSeenAt}
+use Rattle.reshard_beginning.proofs.Looks.{seat_is, seen_since, seen_until}
 use mathlib.Core.List.{IsPrefix}
 use Rattle.journal.specs.Views.{PassView}
-use Rattle.journal.proofs.Fronts.{prefix_trans}
 use Rattle.shard_law.proofs.Lists.{all-weaker}
 use Rattle.serving.specs.Partitions.{Seat, AreOf}
 use Rattle.shard.specs.Seats.{seat_of}
@@ -85,8 +84,8 @@ all_slots xs =
     (λ s h. Contains-from_In s.slot (map (λ s. s.slot) xs) (Rattle.shard_law.proofs.Lists.In-map (λ (s : Shard). s.slot) s xs h))
 
 pub made : (sources : List Shard) (k : ℕ) (range : KeyRange) (own : List Shard) (which : Shard) (place : Place) → which.place ≡ place → place.keyspace ≡ k → place.range ≡ range
-    → which.sources ≡ map (λ s. s.slot) own → AreOverlapped sources range own → IsMade sources k range (which, own)
-made sources k range own which place there home at are is = record {
+    → which.sources ≡ map (λ s. s.slot) own → AreOverlapped sources range own → AreThose range sources own → (own ≡ [] → ⊥) → IsMade sources k range (which, own)
+made sources k range own which place there home at are is those some = record {
   at = ap (λ (p : Place). p.range) there ∙ at;
   is = record {
     home = ap (λ (p : Place). p.keyspace) there ∙ home;
@@ -97,6 +96,11 @@ made sources k range own which place there home at are is = record {
       all = λ s h over. is.all s h (subst (λ (r : KeyRange). Overlap s.place.range r) (ap (λ (p : Place). p.range) there ∙ at) over);
     };
     own = subst (λ (l : List ℕ). AllByRecursion (λ s. Contains l s.slot) own) (sym are) (all_slots own);
+    exactly = record {
+      are = are;
+      those = subst (λ (r : KeyRange). AreThose r sources own) (sym (ap (λ (p : Place). p.range) there ∙ at)) those;
+      some = some;
+    };
   };
 }
 
@@ -106,17 +110,14 @@ module _ (o : Opening) (run : Run) (slot : ℕ) (place : Place) where
   shard_or s DoesNot = s
   shard_or s Another = s
 
-  pub seen_serving : (v : Sight) → IsSight o run slot place v → (w : Shard) → v ≡ Serves w → (w.slot ≡ slot) × (w.place ≡ place) × (mode o run slot ≡ Serving)
-  seen_serving (Serves s) (serves a b m) w e =
-      let same : s ≡ w = ap (shard_or s) e in
-      (subst (λ (x : Shard). x.slot ≡ slot) same a, subst (λ (x : Shard). x.place ≡ place) same b, m)
-  seen_serving DoesNot (does_not s a b c d) w e = absurd (cc e)
+  pub seen_serving : (v : Sight) → IsSight o run slot place v → (w : Shard) → v ≡ Serves w → IsSighted o run slot place IsServing w
+  seen_serving (Serves s) (serves is) w e = subst (IsSighted o run slot place IsServing) (ap (shard_or s) e) is
+  seen_serving DoesNot (does_not s is) w e = absurd (cc e)
   seen_serving Another another w e = absurd (cc e)
 
-  pub seen_away : (v : Sight) → IsSight o run slot place v → v ≡ DoesNot
-      → (s : Shard) × (s.slot ≡ slot) × (s.place ≡ place) × IsOnItsSlot o run s × (mode o run slot ≡ Serving → ⊥)
-  seen_away (Serves s) (serves a b m) e = absurd (cc e)
-  seen_away DoesNot (does_not s a b c d) e = (s, a, b, c, d)
+  pub seen_away : (v : Sight) → IsSight o run slot place v → v ≡ DoesNot → (s : Shard) × IsSighted o run slot place IsAway s
+  seen_away (Serves s) (serves is) e = absurd (cc e)
+  seen_away DoesNot (does_not s is) e = (s, is)
   seen_away Another another e = absurd (cc e)
 
 pub map_short : {X Y : Type 0} (f : X → Y) (xs : List X) (n : ℕ) → length xs ≤ n → length (map f xs) ≤ n
@@ -152,59 +153,24 @@ of_at (x ∷ parts) zero d l of = of.0
 of_at (x ∷ parts) (suc i) d l of = of_at parts i d (omega (arith, l)) of.1
 
 module _ {S : Type 0} (which : S → Shard) (o : Opening) (p q now : PassView Entry) (k : ℕ) (parts : List Seat) (i : ℕ) (part : Seat) (sources new : List S) (s : S) where
-  pub picked_next : i < length parts → part ≡ get_or parts i part → AreOf k parts → new ≡ sources ++ s ∷ [] → IsPicked o q now k part (which s)
+  pub picked_next : i < length parts → part ≡ get_or parts i part → AreOf k parts → new ≡ sources ++ s ∷ [] → IsSeenAt o q now k IsServing part (which s)
       → map {B = Seat} (λ s. ((which s).slot, (which s).place.range, (which s).place.keyspace)) sources ≡ take i parts → AllByRecursion (λ s. (which s).place.keyspace ≡ k) sources
       → (map {B = Seat} (λ s. ((which s).slot, (which s).place.range, (which s).place.keyspace)) new ≡ take (i + 1) parts) × AllByRecursion (λ s. (which s).place.keyspace ≡ k) new
   picked_next there is of grown picked so_far home =
       let here : part.2 ≡ k = subst (λ (x : Seat). x.2 ≡ k) (sym is) (of_at parts i part there of) in
       let r : S → Seat = λ s. ((which s).slot, (which s).place.range, (which s).place.keyspace) in
-      let one : r s ≡ part =
-      ap (λ (n : ℕ). (n, (which s).place.range, (which s).place.keyspace)) picked.slot ∙ ap (λ (x : Place). (part.0, x.range, x.keyspace)) picked.place
-      ∙ ap (λ (n : ℕ). (part.0, part.1, n)) (sym here) in (
+      let one : r s ≡ part = seat_is o q now k IsServing part (which s) here picked in (
         ap (map r) grown ∙ map-append r sources (s ∷ []) ∙ ap (λ (l : List Seat). l ++ r s ∷ []) so_far
             ∙ ap (λ (y : Seat). take i parts ++ y ∷ []) (one ∙ is) ∙ sym (take_more parts i part there),
         subst (AllByRecursion (λ s. (which s).place.keyspace ≡ k)) (sym grown)
             (AllByRecursion-push (λ s. (which s).place.keyspace ≡ k) sources s home (ap (λ (x : Place). x.keyspace) picked.place)),
       )
 
--- the parts so far served
-pub served_next : (o : Opening) (p q now : PassView Entry) (k : ℕ) (parts : List Seat) (i : ℕ) (part : Seat) (s : Shard) → i < length parts → part ≡ get_or parts i part
-    → IsPrefix p.seen q.seen → IsPrefix q.seen now.seen → IsPicked o q now k part s → AllByRecursion (HasServed o p q k) (take i parts)
-    → AllByRecursion (HasServed o p now k) (take (i + 1) parts)
-served_next o p q now k parts i part s there is since until picked so_far =
-    subst (AllByRecursion (HasServed o p now k)) (sym (take_more parts i part there ∙ ap (λ (x : Seat). take i parts ++ x ∷ []) (sym is)))
-    (AllByRecursion-push (HasServed o p now k) (take i parts) part
-    (all-weaker (HasServed o p q k) (HasServed o p now k)
-    (λ seat h. (
-      h.0,
-      record {
-        run = h.1.run;
-        since = h.1.since;
-        until = prefix_trans h.1.run q.seen now.seen h.1.until until;
-        slot = h.1.slot;
-        place = h.1.place;
-        serving = h.1.serving;
-      },
-    )) (take i parts) so_far) (
-      s,
-      record {
-        run = picked.run;
-        since = prefix_trans p.seen q.seen picked.run since picked.since;
-        until = picked.until;
-        slot = picked.slot;
-        place = picked.place;
-        serving = picked.serving;
-      },
-    ))
-
-pub away_since : (o : Opening) (p q now : PassView Entry) (k : ℕ) (part : Seat) → IsPrefix p.seen q.seen → IsAway o q now k part → IsAway o p now k part
-away_since o p q now k part later is = record {
-  run = is.run;
-  since = prefix_trans p.seen q.seen is.run later is.since;
-  until = is.until;
-  shard = is.shard;
-  slot = is.slot;
-  place = is.place;
-  stands = is.stands;
-  away = is.away;
-}
+  -- the sources so far served
+  pub served_next : new ≡ sources ++ s ∷ [] → IsPrefix p.seen q.seen → IsPrefix q.seen now.seen → IsSeenAt o q now k IsServing part (which s)
+      → AllByRecursion (λ s. WasSeen o p q IsServing (which s)) sources → AllByRecursion (λ s. WasSeen o p now IsServing (which s)) new
+  served_next grown before later picked so_far =
+      subst (AllByRecursion (λ s. WasSeen o p now IsServing (which s))) (sym grown)
+      (AllByRecursion-push (λ s. WasSeen o p now IsServing (which s)) sources s
+      (all-weaker (λ s. WasSeen o p q IsServing (which s)) (λ s. WasSeen o p now IsServing (which s)) (λ s h. seen_until o p q now IsServing (which s) later h) sources so_far)
+      (seen_since o p q now IsServing (which s) before picked.seen))

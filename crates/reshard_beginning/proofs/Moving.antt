@@ -93,8 +93,8 @@ pub unmapped : {X Y : Type 0} (P : Y → Type 0) (f : X → Y) (xs : List X) →
 unmapped P f [] all = tt
 unmapped P f (x ∷ xs) all = (all.0, unmapped P f xs all.1)
 
-pub move_refusal : (most : Limits) (targets : List Taking) (i : ℕ) (t : Taking) → i < length targets → t ≡ get_or targets i t → (now : PassView Entry) (e : Refusal)
-    → (e ≡ OutOfMemory) ⊎ ((e ≡ ShardFull) × IsFull most t.0.slot now.seen) → IsMoveRefusal most targets now (Refused e)
-move_refusal most targets i t there is now e (inl h) = subst (λ (x : Refusal). IsMoveRefusal most targets now (Refused x)) (sym h) begun.no_memory
-move_refusal most targets i t there is now e (inr h) =
-    subst (λ (x : Refusal). IsMoveRefusal most targets now (Refused x)) (sym h.0) (begun.full t (i, there, sym is) h.1)
+pub move_refusal : (o : Opening) (most : Limits) (targets : List Taking) (i : ℕ) (t : Taking) → i < length targets → t ≡ get_or targets i t → (now : PassView Entry) (e : Refusal)
+    → (e ≡ OutOfMemory) ⊎ ((e ≡ ShardFull) × IsFull o most t.0 now.seen) → IsMoveRefusal o most targets now (Refused e)
+move_refusal o most targets i t there is now e (inl h) = subst (λ (x : Refusal). IsMoveRefusal o most targets now (Refused x)) (sym h) begun.no_memory
+move_refusal o most targets i t there is now e (inr h) =
+    subst (λ (x : Refusal). IsMoveRefusal o most targets now (Refused x)) (sym h.0) (begun.full t (i, there, sym is) h.1)

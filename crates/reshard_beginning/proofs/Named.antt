@@ -9,7 +9,7 @@ use Rattle.std.specs.Option.{option_eq}
 use Rattle.std.specs.Cmp.Lexicographic.{pointwise}
 use Rattle.std.proofs.lemmas.Bool.{eq-eqb, false≢true}
 use Rattle.serving.specs.Partitions.{Seat}
-use Rattle.reshard_beginning.specs.Choices.{AreNamed}
+use Rattle.reshard_beginning.specs.inner.Created.{AreNamed}
 use Rattle.reshard_beginning.proofs.Ranges.{counted-cons, counted-append}
 
 pub all_push : {X : Type 0} (P : X → Type 0) (xs : List X) (x : X) → AllByRecursion P xs → P x → AllByRecursion P (xs ++ x ∷ [])

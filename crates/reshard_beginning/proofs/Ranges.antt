@@ -5,7 +5,8 @@ use Rattle.keyrange.specs.declared.KeyRange.{KeyRange}
 use Rattle.keyrange.specs.Ranges.{has_id, IsByteString, Cover}
 use Rattle.serving.specs.Partitions.{Seat}
 use Rattle.shard_law.proofs.Lists.{In}
-use Rattle.reshard_beginning.specs.Choices.{AreNamed, holders, HoldTheSame}
+use Rattle.reshard_beginning.specs.Choices.{holders, HoldTheSame}
+use Rattle.reshard_beginning.specs.inner.Created.{AreNamed}
 
 module _ {X : Type 0} (p : X → Bool) where
   pub counted-cons : (x : X) (xs : List X) → count_by p (x ∷ xs) ≡ cond (p x) 1 0 + count_by p xs
@@ -94,7 +95,7 @@ counted-map p f (x ∷ xs) =
 
 module _ (ranges : List KeyRange) (seats taken rest : List Seat) (are : AreNamed ranges seats taken rest) (targets : List KeyRange)
     (covers : Cover (map (λ s. s.1) seats)) where
-  present : (id : List ℕ) → IsByteString id → holders id (map (λ s. s.1) taken) + holders id (map (λ s. s.1) rest) ≡ 1
+  pub present : (id : List ℕ) → IsByteString id → holders id (map (λ s. s.1) taken) + holders id (map (λ s. s.1) rest) ≡ 1
   present id bytes =
       let p : KeyRange → Bool = λ r. has_id r id in
       let h = covers id bytes in

@@ -10,7 +10,7 @@ use Rattle.shard_law.specs.Legal.{Hold, PlacesOverlap}
 use Rattle.shard_law.proofs.Lists.{In, In-from_Contains, Contains-from_In, In-map, In-from_map, In-all, In-filter, all-passed, all-weaker}
 use Rattle.reshard_beginning.specs.Choices.{holders, HoldTheSame}
 use Rattle.cutover_steps.specs.Steps.{has_source, named_for, IsTargetOf, FitTargets}
-use Rattle.reshard_beginning.specs.Splits.{TakesFrom}
+use Rattle.reshard_beginning.specs.inner.Takes.{TakesFrom}
 use Rattle.reshard_beginning.proofs.Ranges.{counted-twice, counted-apart, counted-map, held_too}
 use Rattle.cutover_steps.proofs.Retiring.{any_in}
 

@@ -9,13 +9,6 @@ use Rattle.shard_run.specs.declared.Shard.{Shard}
 use Rattle.cutover_steps.specs.Steps.{named_for, IsTargetOf, FitTargets}
 use Rattle.cutover_steps.specs.Takings.{Taking, shards_of}
 
--- the target's sources are those of these whose ranges overlap its own
-pub record TakesFrom (sources : List Shard) (target : Shard) : Type 0 where
-  pub own : List Shard
-  pub among : AllByRecursion (Contains sources) own
-  pub are : target.sources ≡ map (λ s. s.slot) own
-  pub all : (s : Shard) → Contains sources s → Overlap s.place.range target.place.range → Contains own s
-
 -- of these sources the ones that overlap the range
 pub record AreOverlapped (sources : List Shard) (range : KeyRange) (own : List Shard) : Type 0 where
   pub among : AllByRecursion (Contains sources) own

@@ -1,5 +1,5 @@
 //! What a workflow begins with: its sources, its targets, and the parts of the partition that stay.
-ghost use Rattle.std.specs.Prelude.{◌≡◌, ◌≤◌, ◌++◌, ◌⊎◌, ◌<◌, ◌+◌, true, false, IfOk, IfErr, OnOk, OnErr, IsPermutation, map, reverse, length};
+ghost use Rattle.std.specs.Prelude.{◌≡◌, ◌≤◌, ◌++◌, ◌<◌, ◌+◌, true, false, IfOk, IfErr, OnOk, OnErr, IsPermutation, IsSorted, map, reverse, length};
 ghost use Rattle.std.specs.List.{AllByRecursion};
 ghost use Rattle.keyrange.specs.Names.{IsNamed};
 ghost use Rattle.journal.specs.Runs.{IsLegal};
@@ -9,7 +9,8 @@ ghost use Rattle.serving.specs.Partitions.{IsPartition, AreOf};
 ghost use Rattle.follow.specs.Steps.{IsOnward};
 ghost use Rattle.reshard_beginning.specs.Grounds.{IsFree, IsGround};
 ghost use Rattle.reshard_beginning.specs.Splits.{IsSplit, target_seats};
-ghost use Rattle.reshard_beginning.specs.Begun.{HasBegun, IsCreateRefusal};
+ghost use Rattle.reshard_beginning.specs.Choices.{AreApart, begin_cmp};
+ghost use Rattle.reshard_beginning.specs.Begun.{AreSources, HasBegun, IsCreateRefusal};
 ghost use Rattle.reshard_beginning.specs.inner.Created.{IsSurvey};
 
 use crate::choosing::choose;
@@ -17,6 +18,7 @@ use crate::creating::make_targets;
 use crate::fault::ReshardFault;
 use crate::finding::find_sources;
 use crate::ground::Ground;
+use crate::looking::look_at_each;
 use cutover_steps::{Source, Target};
 use journal::{Naming, Pass, ShardSeat};
 use keyrange::KeyRange;
@@ -41,6 +43,7 @@ pub struct Begun<W: World, J: Naming> {
 // The ranges in the order of their begins.
 fn in_order(alloc: Global, ranges: &[KeyRange]) -> Result<Vec<KeyRange>, Refusal>
     ensures ok { IfOk result (λ r. IsPermutation ranges.now r.items) }
+    ensures rise { IfOk result (λ r. IsSorted begin_cmp r.items) }
     ensures err { IfErr result (λ e. e ≡ Refusal.OutOfMemory) }
 {
     let mut ordered = Vec::from_slice(alloc, ranges)?;
@@ -48,12 +51,26 @@ fn in_order(alloc: Global, ranges: &[KeyRange]) -> Result<Vec<KeyRange>, Refusal
     Ok(ordered)
 }
 
-// Whether there are too few slots, or too many parts, for so many targets.
-fn lack_slots(free: usize, rest: usize, targets: usize) -> bool
-    ensures few { result ≡ true → (free < targets) ⊎ (64 < rest + targets) }
-    ensures enough { result ≡ false → (targets ≤ free) × (rest + targets ≤ 64) }
+// The sources in the order of their begins.
+fn by_begin<W: World, J: Naming>(sources: Vec<Source<W, J>>) -> Vec<Source<W, J>>
+    ensures same { IsPermutation sources.items result.items }
+    ensures rise { IsSorted begin_cmp (map (λ s. s.member.which.place.range) result.items) }
 {
-    free < targets || rest > MOST_PARTS || targets > MOST_PARTS - rest
+    let mut ordered = sources;
+    ordered.sort_unstable_by(|a, b| {
+        let first = &a.member.which.place.range;
+        let second = &b.member.which.place.range;
+        first.begin.as_slice().cmp(second.begin.as_slice())
+    });
+    ordered
+}
+
+// Whether so many parts are more than there are slots.
+fn are_too_many(rest: usize, targets: usize) -> bool
+    ensures yes { result ≡ true → 64 < rest + targets }
+    ensures no { result ≡ false → rest + targets ≤ 64 }
+{
+    rest > MOST_PARTS || targets > MOST_PARTS - rest
 }
 
 // The sources of a workflow, and the parts that stay.
@@ -77,6 +94,9 @@ fn survey<W: World, J: Naming>(
     requires legal { IsLegal (MayFollow W.opening) pass.old.seen }
     requires home { AreOf keyspace current.now }
     ensures found { IfOk result (λ f. IsSurvey keyspace sources.now targets.now current.now (map (λ s. s.member.which) f.sources.items) f.rest.items) }
+    ensures are { IfOk result (λ f. AreSources W.opening pass.old pass.new keyspace sources.now (map (λ s. s.member.which) f.sources.items)) }
+    ensures rise { IfOk result (λ f. IsSorted begin_cmp (map (λ s. s.member.which.place.range) f.sources.items)) }
+    ensures apart { OnOk result (AreApart targets.now) }
     ensures partition { IsPartition current.now }
     ensures enough { OnOk result (length targets.now ≤ free) }
     ensures onward { IsOnward W.opening pass.old pass.new }
@@ -84,11 +104,15 @@ fn survey<W: World, J: Naming>(
 {
     let chosen = choose(alloc, current.parts(), sources)?;
     let found = find_sources(rt, alloc, pass, keyspace, &chosen, sources, targets)?;
-    if lack_slots(free, chosen.rest.len(), targets.len()) {
+    if free < targets.len() {
+        return Err(ReshardFault::FewSlots);
+    }
+    if are_too_many(chosen.rest.len(), targets.len()) {
+        look_at_each(rt, pass, keyspace, chosen.rest.as_slice());
         return Err(ReshardFault::FewSlots);
     }
     Ok(Surveyed {
-        sources: found,
+        sources: by_begin(found),
         rest: chosen.rest,
     })
 }
@@ -114,7 +138,7 @@ pub fn begin<W: World, J: Naming>(
     requires free { AllByRecursion (IsFree W.opening) free.old.items }
     requires home { AreOf ground.keyspace current.now }
     requires named { AllByRecursion IsNamed targets.now }
-    ensures begun { IfOk result (λ b. HasBegun (map (λ s. s.member.which) b.sources.items) (map (λ t. (t.member.which, map (λ s. s.which) t.sources.items)) b.targets.items)
+    ensures begun { IfOk result (λ b. HasBegun W.opening pass.old pass.new (map (λ s. s.member.which) b.sources.items) (map (λ t. (t.member.which, map (λ s. s.which) t.sources.items)) b.targets.items)
         ground.keyspace sources.now targets.now) }
     ensures split { IfOk result (λ b. IsSplit (map (λ s. s.member.which) b.sources.items) (map (λ t. (t.member.which, map (λ s. s.which) t.sources.items)) b.targets.items)) }
     ensures seated { IfOk result (λ b. map (λ t. t.member.shard.value) b.targets.items

@@ -1,6 +1,7 @@
 //! Which parts of a partition are named, and the ranges once targets take their place.
 ghost use Rattle.std.specs.Prelude.{◌≡◌, ◌++◌, ◌∷◌, [], ◌↔◌, IsTrue, not, true, IfOk, IfErr, OnOk, Contains, map, false};
-ghost use Rattle.reshard_beginning.specs.Choices.{AreNamed, AreApart};
+ghost use Rattle.reshard_beginning.specs.Choices.{AreApart};
+ghost use Rattle.reshard_beginning.specs.inner.Created.{AreNamed};
 ghost use Rattle.keyrange.specs.Ranges.{Overlap};
 ghost use Rattle.std.specs.List.{AllByRecursion};
 

@@ -10,9 +10,11 @@ ghost use Rattle.follow.specs.Steps.{IsOnward};
 ghost use Rattle.reshard_beginning.specs.Splits.{target_seats, AreThose, AreOverlapped};
 ghost use Rattle.shard.specs.Seats.{seat_of};
 ghost use Rattle.reshard_beginning.specs.Grounds.{IsFree, IsGround};
-ghost use Rattle.reshard_beginning.specs.inner.Created.{IsSight, IsAway, IsPicked, HasGrown, IsMade, IsMadeOf};
+ghost use Rattle.reshard_beginning.specs.Begun.{IsServing, IsAway};
+ghost use Rattle.reshard_beginning.specs.inner.Created.{IsSight, IsSeenAt, HasSeen, HasGrown, IsMade, IsMadeOf};
 
 use crate::ground::Ground;
+use crate::looking::stands;
 use crate::undoing::{give_back, put, seat_back};
 use cutover_steps::{Source, Target, serves};
 use follow::Member;
@@ -26,7 +28,7 @@ use std::sync::{Arc, Wait};
 use vschema::{Place, VSchema};
 use vt_value::{Items, Refusal};
 
-// What a look at the shard of a slot and place shows.
+// What a look at the shard of a slot and place shows: it serves; or it is frozen or retired; or it is another, or follows.
 #[derive(Drop)]
 enum Sight {
     Serves(shard_run::Shard),
@@ -77,8 +79,7 @@ fn try_source<W: World, J: Naming>(
     ensures onward { IsOnward W.opening pass.old pass.new }
     ensures err { IfErr result (λ e. e ≡ Refusal.OutOfMemory) }
 {
-    let _ = state.look(pass);
-    if !state.stands_at(slot, place) {
+    if !stands(state, pass, slot, place) {
         return Ok(Sight::Another);
     }
     if !serves(state) {
@@ -125,8 +126,8 @@ pub(crate) fn source_of<W: World, J: Naming>(
     part: &Part<Shard<W, J>>,
 ) -> Result<Option<Member<W, J>>, Refusal>
     requires legal { IsLegal (MayFollow W.opening) pass.old.seen }
-    ensures found { IfOk result (λ r. MatchOption r (IsAway W.opening pass.old pass.new keyspace part.now)
-        (λ m. IsPicked W.opening pass.old pass.new keyspace part.now m.which)) }
+    ensures found { IfOk result (λ r. MatchOption r (HasSeen W.opening pass.old pass.new keyspace IsAway part.now)
+        (λ m. IsSeenAt W.opening pass.old pass.new keyspace IsServing part.now m.which)) }
     ensures onward { IsOnward W.opening pass.old pass.new }
     ensures err { IfErr result (λ e. e ≡ Refusal.OutOfMemory) }
 {

@@ -1,17 +1,19 @@
 //! Which shards a workflow replaces, and whether these targets may take their place.
-ghost use Rattle.std.specs.Prelude.{◌≡◌, ◌⊎◌, ◌++◌, List, IfOk, IfErr, IfSome, OnOk, MatchOption, Contains, map, length};
+ghost use Rattle.std.specs.Prelude.{◌≡◌, ◌⊎◌, ◌++◌, ℕ, List, IfOk, IfErr, IfSome, OnOk, MatchOption, Contains, map, length};
 ghost use Rattle.std.specs.List.{AllByRecursion};
 ghost use Rattle.keyrange.specs.Ranges.{Cover};
-ghost use Rattle.serving.specs.Partitions.{Seat, AreOf, IsPartition};
+ghost use Rattle.serving.specs.Partitions.{Seat, AreOf};
 ghost use Rattle.journal.specs.Runs.{IsLegal};
 ghost use Rattle.shard_contents.specs.Shards.{MayFollow};
 ghost use Rattle.follow.specs.Steps.{IsOnward};
-ghost use Rattle.reshard_beginning.specs.Choices.{AreApart, AreNamed};
-ghost use Rattle.reshard_beginning.specs.inner.Created.{AreThere, HasServed, IsAway, IsUnfit};
+ghost use Rattle.reshard_beginning.specs.Choices.{AreApart};
+ghost use Rattle.reshard_beginning.specs.Begun.{WasSeen, IsServing, IsAway, AreSources, IsCreateRefusal};
+ghost use Rattle.reshard_beginning.specs.inner.Created.{AreToldApart, HasSeen};
 
 use crate::choosing::{Chosen, any_overlap, next_ranges};
 use crate::creating::source_of;
 use crate::fault::ReshardFault;
+use crate::looking::look_at_each;
 use cutover_steps::Source;
 use journal::{Naming, Pass};
 use keyrange::{KeyRange, covers_once};
@@ -31,10 +33,10 @@ pub(crate) fn sources_of<W: World, J: Naming>(
 ) -> Result<Option<Vec<Source<W, J>>>, Refusal>
     requires legal { IsLegal (MayFollow W.opening) pass.old.seen }
     requires home { AreOf keyspace parts.now }
-    ensures found { IfOk result (λ r. MatchOption r ((seat : Seat) × Contains parts.now seat × IsAway W.opening pass.old pass.new keyspace seat)
+    ensures found { IfOk result (λ r. MatchOption r ((seat : Seat) × Contains parts.now seat × HasSeen W.opening pass.old pass.new keyspace IsAway seat)
         (λ sources. (map (λ s. (s.member.which.slot, s.member.which.place.range, s.member.which.place.keyspace)) sources.items ≡ parts.now)
         × AllByRecursion (λ s. s.member.which.place.keyspace ≡ keyspace) sources.items)) }
-    ensures served { IfOk result (λ r. IfSome r (λ _. AllByRecursion (HasServed W.opening pass.old pass.new keyspace) parts.now)) }
+    ensures served { IfOk result (λ r. IfSome r (λ sources. AllByRecursion (λ s. WasSeen W.opening pass.old pass.new IsServing s.member.which) sources.items)) }
     ensures onward { IsOnward W.opening pass.old pass.new }
     ensures err { IfErr result (λ e. e ≡ Refusal.OutOfMemory) }
 {
@@ -81,21 +83,22 @@ pub(crate) fn find_sources<W: World, J: Naming>(
     targets: &[KeyRange],
 ) -> Result<Vec<Source<W, J>>, ReshardFault>
     requires legal { IsLegal (MayFollow W.opening) pass.old.seen }
-    requires home { AreOf keyspace chosen.now.taken.items }
-    requires parts { (seats : List Seat) × IsPartition seats × AreNamed sources.now seats chosen.now.taken.items chosen.now.rest.items }
+    requires parts { (seats : List Seat) × AreToldApart keyspace sources.now seats chosen.now.taken.items chosen.now.rest.items }
     ensures found { IfOk result (λ found. (map (λ s. (s.member.which.slot, s.member.which.place.range, s.member.which.place.keyspace)) found.items ≡ chosen.now.taken.items)
         × AllByRecursion (λ s. s.member.which.place.keyspace ≡ keyspace) found.items) }
+    ensures are { IfOk result (λ found. AreSources W.opening pass.old pass.new keyspace sources.now (map (λ s. s.member.which) found.items)) }
     ensures cover { OnOk result (Cover (map (λ s. s.1) chosen.now.rest.items ++ targets.now)) }
     ensures count { OnOk result (length chosen.now.taken.items ≡ length sources.now) }
-    ensures there { OnOk result (AreThere W.opening pass.old pass.new keyspace sources.now chosen.now.taken.items) }
     ensures apart { OnOk result (AreApart targets.now) }
     ensures onward { IsOnward W.opening pass.old pass.new }
-    ensures err { IfErr result (IsUnfit W.opening pass.old pass.new keyspace sources.now targets.now chosen.now.taken.items chosen.now.rest.items) }
+    ensures err { IfErr result (λ e. (free : ℕ) → IsCreateRefusal W.opening pass.old pass.new keyspace free sources.now targets.now e) }
 {
     if sources.is_empty() {
         return Err(ReshardFault::WrongSource);
     }
     if chosen.taken.len() != sources.len() {
+        look_at_each(rt, pass, keyspace, chosen.taken.as_slice());
+        look_at_each(rt, pass, keyspace, chosen.rest.as_slice());
         return Err(ReshardFault::WrongSource);
     }
     let Some(found) = sources_of(rt, alloc, pass, keyspace, chosen.taken.as_slice())? else {

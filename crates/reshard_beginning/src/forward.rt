@@ -1,12 +1,12 @@
 //! Targets come forward, one after the other.
-ghost use Rattle.std.specs.Prelude.{◌≡◌, IfOk, IfErr, IsTrue, map};
+ghost use Rattle.std.specs.Prelude.{◌≡◌, IfOk, IfErr, OnErr, IsTrue, map};
 ghost use Rattle.vschema.specs.WellFormed.{is_vschema};
 ghost use Rattle.journal.specs.Runs.{IsLegal};
 ghost use Rattle.shard_run.specs.Openings.{IsOpening};
 ghost use Rattle.shard_contents.specs.Shards.{MayFollow};
 ghost use Rattle.follow.specs.Steps.{IsOnward};
 ghost use Rattle.reshard_beginning.specs.Splits.{TakeFromOwn};
-ghost use Rattle.reshard_beginning.specs.Begun.{HasMovedFirst, IsMoveRefusal, IsOneStepFirst};
+ghost use Rattle.reshard_beginning.specs.Begun.{HasMovedFirst, IsMoveRefusal, IsOneStepFirst, IsNoStepFirst};
 
 use crate::fault::ReshardFault;
 use cutover_steps::Target;
@@ -33,7 +33,8 @@ pub fn move_first<W: World, J: Naming>(
     requires legal { IsLegal (MayFollow W.opening) pass.old.seen }
     ensures moved { IfOk result (HasMovedFirst W.opening (map (λ t. (t.member.which, map (λ s. s.which) t.sources.items)) targets.now) pass.old pass.new) }
     ensures once { IfOk result (IsOneStepFirst (map (λ t. (t.member.which, map (λ s. s.which) t.sources.items)) targets.now) pass.old pass.new) }
-    ensures refused { IfErr result (λ e. IsMoveRefusal W.limits (map (λ t. (t.member.which, map (λ s. s.which) t.sources.items)) targets.now) pass.new (ReshardFault.Refused e)) }
+    ensures refused { IfErr result (λ e. IsMoveRefusal W.opening W.limits (map (λ t. (t.member.which, map (λ s. s.which) t.sources.items)) targets.now) pass.new (ReshardFault.Refused e)) }
+    ensures nothing { OnErr result (IsNoStepFirst (map (λ t. (t.member.which, map (λ s. s.which) t.sources.items)) targets.now) pass.old pass.new) }
     ensures onward { IsOnward W.opening pass.old pass.new }
 {
     for target in targets {

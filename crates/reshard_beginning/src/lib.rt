@@ -9,6 +9,7 @@ mod fault;
 mod finding;
 mod forward;
 mod ground;
+mod looking;
 mod undoing;
 
 pub use beginning::{Begun, MOST_PARTS, begin};

@@ -20,6 +20,7 @@ use Rattle.vt_value.specs.declared.refusal.Refusal.TheVariants.{OutOfMemory}
 use Rattle.keyrange.specs.Names.{IsNamed}
 use Rattle.reshard_beginning.specs.declared.fault.ReshardFault.TheVariants.{Refused}
 use Rattle.reshard_reopening.specs.MadeAgain.{Found, IsFound, IsReopenRefusal, no_memory}
+use Rattle.cutover_steps.specs.Steps.{HasEntry}
 use Rattle.reshard_reopening.specs.inner.Glances.{IsGlance}
 
 -- no entry of a run makes a shard's rows go
@@ -55,6 +56,7 @@ module _ (o : Opening) where
     between = record { since = is.between.since; until = prefix_trans is.run q.seen now.seen is.between.until later };
     stands = is.stands;
     mode = is.mode;
+    named = is.named;
   }
 
   pub found_since : (p q now : PassView Entry) (f : Found) → IsPrefix p.seen q.seen → IsFound o q now f → IsFound o p now f
@@ -63,6 +65,7 @@ module _ (o : Opening) where
     between = record { since = prefix_trans p.seen q.seen is.run since is.between.since; until = is.between.until };
     stands = is.stands;
     mode = is.mode;
+    named = is.named;
   }
 
   pub all_later : (p q now : PassView Entry) (fs : List Found) → IsPrefix q.seen now.seen → AllByRecursion (IsFound o p q) fs → AllByRecursion (IsFound o p now) fs
@@ -86,13 +89,16 @@ module _ (o : Opening) where
       (subst (AllByRecursion (IsFound o p now)) (sym (map-append view old (f ∷ [])))
       (AllByRecursion-push (IsFound o p now) (map view old) (view f) (all_later p q now (map view old) later so_far) (found_since p q now (view f) since one)))
 
-  pub found_at : (p now : PassView Entry) (slot : ℕ) (place : Place) (s w : Shard) (m n : Mode) → IsPrefix p.seen now.seen → IsGlance o now.seen slot place s m
-      → w ≡ s → n ≡ m → IsFound o p now (w, n)
-  found_at p now slot place s w m n later is same same' = record {
+  pub found_at : (p now : PassView Entry) (slot : ℕ) (place : Place) (s w : Shard) (m n : Mode) (ts us : List Shard) → IsPrefix p.seen now.seen
+      → IsGlance o now.seen slot place s m ts → w ≡ s → n ≡ m → us ≡ ts → IsFound o p now (w, n, us)
+  found_at p now slot place s w m n ts us later is same same' same'' = record {
     run = now.seen;
     between = record { since = later; until = prefix_self now.seen };
     stands = subst (Rattle.shard_law.specs.Legal.IsOnItsSlot o now.seen) (sym same) is.stands;
     mode = same' ∙ is.in_mode ∙ ap (λ (x : Shard). mode o now.seen x.slot) (sym same);
+    named = λ retired.
+        subst (λ (l : List Shard). HasEntry now.seen w (Retire l)) (sym same'')
+        (subst (λ (x : Shard). HasEntry now.seen x (Retire ts)) (sym same) (is.names (sym same' ∙ retired)));
   }
 
 -- the next one of a list that is seen as another

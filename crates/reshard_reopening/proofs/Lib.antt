@@ -4,3 +4,4 @@ pub mod Others
 pub mod Founds
 pub mod Refits
 pub mod Taken
+pub mod Names

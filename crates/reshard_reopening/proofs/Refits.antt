@@ -11,7 +11,8 @@ use Rattle.shard_run.specs.declared.Shard.{Shard}
 use Rattle.shard_law.proofs.Lists.{In, Contains-from_In, In-map, In-from_filter, In-all, all-from_In, all-weaker}
 use Rattle.reshard_beginning.specs.Choices.{holders, HoldTheSame}
 use Rattle.cutover_steps.specs.Steps.{named_for, FitTargets, IsTargetOf}
-use Rattle.reshard_beginning.specs.Splits.{TakesFrom, target_seats, IsSplit}
+use Rattle.reshard_beginning.specs.Splits.{target_seats, IsSplit}
+use Rattle.reshard_beginning.specs.inner.Takes.{TakesFrom}
 use Rattle.shard.specs.Seats.{seat_of}
 use Rattle.cutover_steps.specs.Takings.{Taking, shards_of}
 use Rattle.shard_run.specs.declared.Mode.TheVariants.{Serving, Frozen, Retired}

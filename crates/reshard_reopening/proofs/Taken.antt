@@ -2,12 +2,11 @@
 use Rattle.std.proofs.Common.{◌≡◌, List, [], ◌∷◌, map, sym, subst}
 use Rattle.std.specs.List.{AllByRecursion}
 use Rattle.shard_run.specs.declared.Shard.{Shard}
-use Rattle.shard_run.specs.declared.Mode.{Mode}
-use Rattle.reshard_beginning.specs.Splits.{TakesFrom}
+use Rattle.reshard_beginning.specs.inner.Takes.{TakesFrom}
 use Rattle.cutover_steps.specs.Takings.{Taking}
 use Rattle.reshard_reopening.specs.inner.Glances.{IsTakenUp}
 use Rattle.reshard_beginning.proofs.Begins.{map_twice}
-use Rattle.reshard_reopening.specs.MadeAgain.{TakesThose}
+use Rattle.reshard_reopening.specs.MadeAgain.{Found, TakesThose}
 use Rattle.reshard_beginning.proofs.Those.{among_those, all_those}
 
 pub takes_from : (sources : List Shard) (target : Shard) → TakesThose sources target → TakesFrom sources target
@@ -32,15 +31,15 @@ pub all_same : {X : Type 0} (P Q : X → Type 0) (xs : List X) → ((x : X) → 
 all_same P Q [] f all = tt
 all_same P Q (x ∷ xs) f all = (f x all.0, all_same P Q xs f all.1)
 
-module _ {F : Type 0} (view : F → Shard × Mode) (ss ts : List F) where
+module _ {F : Type 0} (view : F → Found) (ss ts : List F) where
   abbrev first : F → Shard
   first f = (view f).0
 
   pub takes_seen : AllByRecursion (λ t. TakesThose (map (λ f. f.0) (map view ss)) t.0) (map view ts) → AllByRecursion (TakesThose (map first ss)) (map first ts)
   takes_seen all =
-      subst (λ (l : List Shard). AllByRecursion (TakesThose l) (map first ts)) (map_twice (λ (f : Shard × Mode). f.0) view ss)
+      subst (λ (l : List Shard). AllByRecursion (TakesThose l) (map first ts)) (map_twice (λ (f : Found). f.0) view ss)
       (all_remap (TakesThose (map (λ f. f.0) (map view ss))) first ts
-      (all_unmap (λ (t : Shard × Mode). TakesThose (map (λ f. f.0) (map view ss)) t.0) view ts all))
+      (all_unmap (λ (t : Found). TakesThose (map (λ f. f.0) (map view ss)) t.0) view ts all))
 
   pub takes_again : {T : Type 0} (taking : T → Taking) (made : List T) → AllByRecursion (IsTakenUp (map first ss)) (map taking made)
       → map (λ t. (taking t).0) made ≡ map first ts → AllByRecursion (λ t. TakesThose (map (λ f. f.0) (map view ss)) t.0) (map view ts)
@@ -49,5 +48,5 @@ module _ {F : Type 0} (view : F → Shard × Mode) (ss ts : List F) where
       (all_same (λ t. IsTakenUp (map first ss) (taking t)) (λ t. TakesThose (map first ss) (taking t).0) made
       (λ t h. record { own = (taking t).1; those = h.those; are = h.are }) (all_unmap (IsTakenUp (map first ss)) taking made all)) in
       let seen = subst (AllByRecursion (TakesThose (map first ss))) same own in
-      subst (λ (l : List Shard). AllByRecursion (λ t. TakesThose l t.0) (map view ts)) (sym (map_twice (λ (f : Shard × Mode). f.0) view ss))
-      (all_remap (λ (t : Shard × Mode). TakesThose (map first ss) t.0) view ts (all_unmap (TakesThose (map first ss)) first ts seen))
+      subst (λ (l : List Shard). AllByRecursion (λ t. TakesThose l t.0) (map view ts)) (sym (map_twice (λ (f : Found). f.0) view ss))
+      (all_remap (λ (t : Found). TakesThose (map first ss) t.0) view ts (all_unmap (TakesThose (map first ss)) first ts seen))

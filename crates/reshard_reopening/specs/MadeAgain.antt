@@ -1,5 +1,5 @@
 -- What a workflow is that is made again from its shards, and why it isn't.
-use Rattle.std.specs.Prelude.{◌≡◌, ◌⊎◌, ℕ, ◌+◌, ◌≤◌, not, ◌==◌, List, [], ◌++◌, length, map, filter, replicate}
+use Rattle.std.specs.Prelude.{◌≡◌, ◌⊎◌, ℕ, ◌+◌, ◌≤◌, not, ◌==◌, List, [], ◌++◌, length, map, filter, replicate, Contains, IsTrue}
 use Rattle.std.specs.List.{AllByRecursion, list_any}
 use Rattle.vt_value.specs.declared.refusal.Refusal.TheVariants.{OutOfMemory}
 use Rattle.keyrange.specs.Ranges.{Cover}
@@ -9,25 +9,28 @@ use Rattle.shard_run.specs.declared.Shard.{Shard}
 use Rattle.shard_run.specs.declared.Entry.{Entry}
 use Rattle.shard_run.specs.declared.Mode.{Mode}
 use Rattle.shard_run.specs.declared.Mode.TheVariants as modes
+use Rattle.shard_run.specs.declared.Event.TheVariants as events
 use Rattle.shard_run.specs.Runs.{Run, Opening, mode}
 use Rattle.shard_law.specs.Legal.{IsOnItsSlot}
 use Rattle.follow.specs.Steps.{IsRunBetween}
 use Rattle.reshard_beginning.specs.declared.fault.ReshardFault.{ReshardFault}
 use Rattle.reshard_beginning.specs.declared.fault.ReshardFault.TheVariants.{Refused, WrongState}
 use Rattle.shard.specs.Seats.{seat_of}
+use Rattle.cutover_steps.specs.Steps.{HasEntry, has_source}
 use Rattle.cutover_steps.specs.Takings.{Taking, shards_of}
 use Rattle.reshard_beginning.specs.Splits.{IsSplit, target_seats, AreThose}
 
--- a shard, and its mode
+-- a shard, its mode, and the targets that it named as it retired
 abbrev pub Found : Type 0
-Found = Shard × Mode
+Found = Shard × Mode × List Shard
 
--- at a run that the pass came by the shard stood on its slot, in this mode
+-- at a run that the pass came by the shard stood on its slot, in this mode; where it was retired, its entry names these targets
 pub record IsFound (o : Opening) (p now : PassView Entry) (f : Found) : Type 0 where
   pub run : Run
   pub between : IsRunBetween p now run
   pub stands : IsOnItsSlot o run f.0
   pub mode : f.1 ≡ mode o run f.0.slot
+  pub named : f.1 ≡ modes.Retired → HasEntry run f.0 (events.Retire f.2)
 
 -- the shards of these seats, and the modes that a look at each found
 pub record AreFound (o : Opening) (p now : PassView Entry) (at : List Seat) (found : List Found) : Type 0 where
@@ -64,17 +67,22 @@ pub record MayReplace (keyspace : ℕ) (rest from into : List Seat) : Type 0 whe
   pub after : Cover (ranges rest ++ ranges into)
   pub few : length rest + length into ≤ 64
 
--- The shards are the sources and the targets of one workflow, beside the other parts of a partition, and its cutover is so far.
+-- a source that is retired named each of these targets that takes from it
+abbrev pub NamedThose : List Shard → Found → Type 0
+NamedThose targets source = source.1 ≡ modes.Retired → AllByRecursion (λ t. IsTrue (has_source source.0.slot t) → Contains source.2 t) targets
+
+-- The shards are the sources and the targets of one workflow, beside the other parts of a partition, those that are retired
+-- named the targets, and its cutover is so far.
 pub record IsWorkflowAt (keyspace : ℕ) (parts from into : List Seat) (sources targets : List Found) (frozen retired served : ℕ) : Type 0 where
   pub replace : MayReplace keyspace (others (from ++ into) parts) from into
   pub takes : AllByRecursion (λ t. TakesThose (map (λ f. f.0) sources) t.0) targets
+  pub named : AllByRecursion (NamedThose (map (λ f. f.0) targets)) sources
   pub course : IsCourse (map (λ f. f.1) sources) (map (λ f. f.1) targets) frozen retired served
 
--- Sources and targets are those of these seats, each target with those of the sources that overlap it, and the cutover is so far as the modes
--- tell that a look at each of them found.
-pub record AreMadeAgain (o : Opening) (p now : PassView Entry) (keyspace : ℕ) (from into : List Seat) (sources : List Shard) (targets : List Taking)
+-- Sources and targets are those of these seats, each target with those of the sources that overlap it, beside the other parts of this partition,
+-- and the cutover is so far as the modes tell that a look at each of them found.
+pub record AreMadeAgain (o : Opening) (p now : PassView Entry) (keyspace : ℕ) (parts from into : List Seat) (sources : List Shard) (targets : List Taking)
     (frozen retired served : ℕ) : Type 0 where
-  pub parts : List Seat
   pub partition : IsPartition parts
   pub found_sources : List Found
   pub found_targets : List Found
@@ -86,7 +94,8 @@ pub record AreMadeAgain (o : Opening) (p now : PassView Entry) (keyspace : ℕ) 
   pub own : AllByRecursion (λ t. AreThose t.0.place.range sources t.1) targets
 
 -- Why no workflow is made again of the shards of these seats, where there is none yet: want of memory; or by a look at each of them they aren't
--- those of one workflow, beside the other parts of some partition; or its cutover is through, so that the sources' rows may be gone.
+-- those of one workflow, beside the other parts of some partition; or its cutover is through, so that the sources' rows may be gone; or none of its
+-- sources is retired, so that it may have been given up.
 pub data IsReopenRefusal (o : Opening) (p now : PassView Entry) (keyspace : ℕ) (from into : List Seat) : ReshardFault → Type 0 where
   no_memory : IsReopenRefusal o p now keyspace from into (Refused OutOfMemory)
   unlike : (parts : List Seat) (sources targets : List Found) → IsPartition parts → AreFound o p now from sources → AreFound o p now into targets
@@ -94,6 +103,9 @@ pub data IsReopenRefusal (o : Opening) (p now : PassView Entry) (keyspace : ℕ)
       → IsReopenRefusal o p now keyspace from into WrongState
   through : (parts : List Seat) (sources targets : List Found) (frozen retired : ℕ) → IsPartition parts → AreFound o p now from sources
       → AreFound o p now into targets → IsWorkflowAt keyspace parts from into sources targets frozen retired (length targets)
+      → IsReopenRefusal o p now keyspace from into WrongState
+  given_up : (parts : List Seat) (sources targets : List Found) (frozen served : ℕ) → IsPartition parts → AreFound o p now from sources
+      → AreFound o p now into targets → IsWorkflowAt keyspace parts from into sources targets frozen 0 served
       → IsReopenRefusal o p now keyspace from into WrongState
 
 -- the targets may take the sources' place, and with the parts that stay their shards make a partition of the keyspace

@@ -4,6 +4,7 @@
 mod beside;
 mod course;
 mod looking;
+mod naming;
 mod preparing;
 mod refitting;
 mod reopening;

@@ -18,15 +18,18 @@ use shard_run::Mode;
 use std::alloc::Global;
 use std::sync::{Arc, Wait};
 use vschema::Place;
-use vt_value::Refusal;
+use vt_value::{Items, Refusal};
 
-/// A shard, its mode in the run, how many entries it has stored, where it is frozen, and whether its rows are gone.
+/// A shard, its mode in the run, the targets that it named, where it is retired, how many entries it has stored, where it is frozen, and whether
+/// its rows are gone, or its workflow was given up.
 #[derive(Drop)]
 pub(crate) struct Found<W: World, J: Naming> {
     pub(crate) member: Member<W, J>,
     pub(crate) mode: Mode,
+    pub(crate) named: Items<shard_run::Shard>,
     pub(crate) stored: u64,
     pub(crate) dropped: bool,
+    pub(crate) given_up: bool,
 }
 
 // The same without what lies behind its lock.
@@ -34,8 +37,10 @@ pub(crate) struct Found<W: World, J: Naming> {
 struct Glance {
     which: shard_run::Shard,
     mode: Mode,
+    named: Items<shard_run::Shard>,
     stored: u64,
     dropped: bool,
+    given_up: bool,
 }
 
 // The mode that the run tells, which doesn't know whether rows are gone.
@@ -61,6 +66,21 @@ fn stored_of<W: World, J: Naming>(state: &ShardState<W, J>) -> u64 {
     }
 }
 
+// The same shards once more.
+fn copy_shards(
+    alloc: Global,
+    shards: &[shard_run::Shard],
+) -> Result<Items<shard_run::Shard>, Refusal>
+    ensures ok { IfOk result (λ copies. copies ≡ shards.now) }
+    ensures err { IfErr result (λ e. e ≡ Refusal.OutOfMemory) }
+{
+    let mut copies = Items::new(alloc);
+    for shard in shards {
+        copies.push(copy_shard(alloc, shard)?)?;
+    }
+    Ok(copies)
+}
+
 // One look, where it is the shard of this slot and place.
 fn look_at<W: World, J: Naming>(
     state: &mut ShardState<W, J>,
@@ -70,7 +90,7 @@ fn look_at<W: World, J: Naming>(
     place: &Place,
 ) -> Result<Option<Glance>, Refusal>
     requires legal { IsLegal (MayFollow W.opening) pass.old.seen }
-    ensures seen { IfOk result (λ r. IfSome r (λ g. IsGlance W.opening pass.new.seen slot place.now g.which g.mode)) }
+    ensures seen { IfOk result (λ r. IfSome r (λ g. IsGlance W.opening pass.new.seen slot place.now g.which g.mode g.named)) }
     ensures onward { IsOnward W.opening pass.old pass.new }
     ensures err { IfErr result (λ e. e ≡ Refusal.OutOfMemory) }
 {
@@ -79,11 +99,14 @@ fn look_at<W: World, J: Naming>(
         return Ok(None);
     }
     let which = copy_shard(alloc, state.shard())?;
+    let named = copy_shards(alloc, state.named())?;
     Ok(Some(Glance {
         which,
         mode: mode_of(state),
+        named,
         stored: stored_of(state),
         dropped: is_dropped(state),
+        given_up: state.is_given_up(),
     }))
 }
 
@@ -97,7 +120,7 @@ fn look_locked<W: World, J: Naming>(
     place: &Place,
 ) -> Result<Option<Glance>, Refusal>
     requires legal { IsLegal (MayFollow W.opening) pass.old.seen }
-    ensures seen { IfOk result (λ r. IfSome r (λ g. IsGlance W.opening pass.new.seen slot place.now g.which g.mode)) }
+    ensures seen { IfOk result (λ r. IfSome r (λ g. IsGlance W.opening pass.new.seen slot place.now g.which g.mode g.named)) }
     ensures onward { IsOnward W.opening pass.old pass.new }
     ensures err { IfErr result (λ e. e ≡ Refusal.OutOfMemory) }
 {
@@ -110,6 +133,7 @@ fn found_of<W: World, J: Naming>(
 ) -> Result<Found<W, J>, Refusal>
     ensures which { IfOk result (λ f. f.member.which ≡ glance.which) }
     ensures mode { IfOk result (λ f. f.mode ≡ glance.mode) }
+    ensures named { IfOk result (λ f. f.named ≡ glance.named) }
     ensures shard { IfOk result (λ f. f.member.shard.value ≡ part.now) }
     ensures err { IfErr result (λ e. e ≡ Refusal.OutOfMemory) }
 {
@@ -117,14 +141,18 @@ fn found_of<W: World, J: Naming>(
     let Glance {
         which,
         mode,
+        named,
         stored,
         dropped,
+        given_up,
     } = glance;
     Ok(Found {
         member: Member { which, shard },
         mode,
+        named,
         stored,
         dropped,
+        given_up,
     })
 }
 
@@ -136,7 +164,7 @@ fn find<W: World, J: Naming>(
     part: &Part<Shard<W, J>>,
 ) -> Result<Found<W, J>, Refusal>
     requires legal { IsLegal (MayFollow W.opening) pass.old.seen }
-    ensures found { IfOk result (λ f. IsFound W.opening pass.old pass.new (f.member.which, f.mode)) }
+    ensures found { IfOk result (λ f. IsFound W.opening pass.old pass.new (f.member.which, f.mode, f.named)) }
     ensures seat { IfOk result (λ f. seat_of f.member.which ≡ part.now) }
     ensures shard { IfOk result (λ f. f.member.shard.value ≡ part.now) }
     ensures onward { IsOnward W.opening pass.old pass.new }
@@ -164,7 +192,7 @@ pub(crate) fn find_all<W: World, J: Naming>(
     parts: &[Part<Shard<W, J>>],
 ) -> Result<Vec<Found<W, J>>, Refusal>
     requires legal { IsLegal (MayFollow W.opening) pass.old.seen }
-    ensures found { IfOk result (λ found. AreFound W.opening pass.old pass.new parts.now (map (λ f. (f.member.which, f.mode)) found.items)) }
+    ensures found { IfOk result (λ found. AreFound W.opening pass.old pass.new parts.now (map (λ f. (f.member.which, f.mode, f.named)) found.items)) }
     ensures shards { IfOk result (λ found. map (λ f. f.member.shard.value) found.items ≡ parts.now) }
     ensures onward { IsOnward W.opening pass.old pass.new }
     ensures err { IfErr result (λ e. e ≡ Refusal.OutOfMemory) }
@@ -180,6 +208,16 @@ pub(crate) fn find_all<W: World, J: Naming>(
 pub(crate) fn any_dropped<W: World, J: Naming>(found: &[Found<W, J>]) -> bool {
     for one in found {
         if one.dropped {
+            return true;
+        }
+    }
+    false
+}
+
+/// Whether the workflow of one of them was given up.
+pub(crate) fn any_given_up<W: World, J: Naming>(found: &[Found<W, J>]) -> bool {
+    for one in found {
+        if one.given_up {
             return true;
         }
     }

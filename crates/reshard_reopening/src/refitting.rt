@@ -10,6 +10,7 @@ ghost use Rattle.reshard_reopening.specs.inner.Glances.{IsTakenUp};
 use crate::beside::{may_replace, others_of};
 use crate::course::{Course, course_of};
 use crate::looking::Found;
+use crate::naming::all_named;
 use cutover_steps::{Source, Target, note_retired};
 use journal::Naming;
 use reshard_beginning::{copy_member, own_of};
@@ -203,8 +204,8 @@ pub(crate) fn refit<W: World, J: Naming>(
     requires partition { IsPartition parts.now }
     requires home { AreOf keyspace parts.now }
     ensures stopped { IfOk result (λ r. MatchOption r ((frozen retired served : ℕ)
-        → IsWorkflowAt keyspace parts.now from.now into.now (map (λ f. (f.member.which, f.mode)) sources.now) (map (λ f. (f.member.which, f.mode)) targets.now) frozen retired served → ⊥)
-        (λ f. IsWorkflowAt keyspace parts.now from.now into.now (map (λ f. (f.member.which, f.mode)) sources.now) (map (λ f. (f.member.which, f.mode)) targets.now)
+        → IsWorkflowAt keyspace parts.now from.now into.now (map (λ f. (f.member.which, f.mode, f.named)) sources.now) (map (λ f. (f.member.which, f.mode, f.named)) targets.now) frozen retired served → ⊥)
+        (λ f. IsWorkflowAt keyspace parts.now from.now into.now (map (λ f. (f.member.which, f.mode, f.named)) sources.now) (map (λ f. (f.member.which, f.mode, f.named)) targets.now)
         f.course.frozen f.course.retired f.course.served)) }
     ensures sources { IfOk result (λ r. IfSome r (λ f. map (λ s. s.member.which) f.sources.items ≡ map (λ f. f.member.which) sources.now)) }
     ensures targets { IfOk result (λ r. IfSome r (λ f. map (λ t. t.member.which) f.targets.items ≡ map (λ f. f.member.which) targets.now)) }
@@ -220,6 +221,9 @@ pub(crate) fn refit<W: World, J: Naming>(
     let Some(rest) = rest_of(alloc, keyspace, parts, from, into)? else {
         return Ok(None);
     };
+    if !all_named(sources, targets) {
+        return Ok(None);
+    }
     let Some(sides) = sides_of(rt, alloc, course.retired, sources, targets)? else {
         return Ok(None);
     };

@@ -8,7 +8,7 @@ ghost use Rattle.cutover_steps.specs.Steps.{named_for};
 ghost use Rattle.reshard_reopening.specs.MadeAgain.{AreMadeAgain, IsReopenRefusal, IsRefitted};
 ghost use Rattle.reshard_reopening.specs.inner.Glances.{IsBoth};
 
-use crate::looking::{Found, any_dropped, find_all};
+use crate::looking::{Found, any_dropped, any_given_up, find_all};
 use crate::preparing::{named_of_all, next_partition};
 use crate::refitting::{Refitted, refit};
 use cutover_steps::{Source, Target};
@@ -35,8 +35,8 @@ fn find_both<W: World, J: Naming>(
     into: &[Part<Shard<W, J>>],
 ) -> Result<Both<W, J>, Refusal>
     requires legal { IsLegal (MayFollow W.opening) pass.old.seen }
-    ensures found { IfOk result (λ b. IsBoth W.opening pass.old pass.new from.now into.now (map (λ f. (f.member.which, f.mode)) b.sources.items)
-        (map (λ f. (f.member.which, f.mode)) b.targets.items)) }
+    ensures found { IfOk result (λ b. IsBoth W.opening pass.old pass.new from.now into.now (map (λ f. (f.member.which, f.mode, f.named)) b.sources.items)
+        (map (λ f. (f.member.which, f.mode, f.named)) b.targets.items)) }
     ensures shards { IfOk result (λ b. map (λ f. f.member.shard.value) b.targets.items ≡ into.now) }
     ensures onward { IsOnward W.opening pass.old pass.new }
     ensures err { IfErr result (λ e. e ≡ Refusal.OutOfMemory) }
@@ -59,7 +59,7 @@ fn find_again<W: World, J: Naming>(
     requires legal { IsLegal (MayFollow W.opening) pass.old.seen }
     requires partition { IsPartition parts.now }
     requires home { AreOf keyspace parts.now }
-    ensures made { IfOk result (λ a. AreMadeAgain W.opening pass.old pass.new keyspace from.now into.now (map (λ s. s.member.which) a.sources.items)
+    ensures made { IfOk result (λ a. AreMadeAgain W.opening pass.old pass.new keyspace parts.now from.now into.now (map (λ s. s.member.which) a.sources.items)
         (map (λ t. (t.member.which, map (λ s. s.which) t.sources.items)) a.targets.items) a.course.frozen a.course.retired a.course.served) }
     ensures fit { IfOk result (λ a. IsRefitted keyspace a.rest.items (map (λ s. s.member.which) a.sources.items)
         (map (λ t. (t.member.which, map (λ s. s.which) t.sources.items)) a.targets.items) (map (λ t. t.member.shard.value) a.targets.items)) }
@@ -81,6 +81,9 @@ fn find_again<W: World, J: Naming>(
         return Err(ReshardFault::WrongState);
     };
     if again.course.served == both.targets.len() && any_dropped(both.sources.as_slice()) {
+        return Err(ReshardFault::WrongState);
+    }
+    if again.course.retired == 0 && any_given_up(both.targets.as_slice()) {
         return Err(ReshardFault::WrongState);
     }
     Ok(again)
@@ -128,8 +131,8 @@ pub struct TakenUp<W: World, J: Naming> {
 }
 
 /// The workflow of the shards of these parts, each looked at under its lock, and the memory of the steps that are left. Refuses where the
-/// shards aren't the sources and the targets of one, beside the other parts of the partition, as a cutover leaves them; where the sources' rows
-/// were dropped; and for want of memory.
+/// shards aren't the sources and the targets of one, beside the other parts of the partition, as a cutover leaves them; where a source that is
+/// retired didn't name a target that takes from it; where the sources' rows were dropped, or the workflow was given up; and for want of memory.
 pub fn take_up<W: World, J: Naming>(
     rt: &impl Wait,
     alloc: Global,
@@ -142,7 +145,7 @@ pub fn take_up<W: World, J: Naming>(
     requires legal { IsLegal (MayFollow W.opening) pass.old.seen }
     requires partition { IsPartition parts.now }
     requires home { AreOf keyspace parts.now }
-    ensures made { IfOk result (λ t. AreMadeAgain W.opening pass.old pass.new keyspace from.now into.now (map (λ s. s.member.which) t.again.sources.items)
+    ensures made { IfOk result (λ t. AreMadeAgain W.opening pass.old pass.new keyspace parts.now from.now into.now (map (λ s. s.member.which) t.again.sources.items)
         (map (λ t. (t.member.which, map (λ s. s.which) t.sources.items)) t.again.targets.items) t.again.course.frozen t.again.course.retired t.again.course.served) }
     ensures fit { IfOk result (λ t. IsRefitted keyspace t.again.rest.items (map (λ s. s.member.which) t.again.sources.items)
         (map (λ t. (t.member.which, map (λ s. s.which) t.sources.items)) t.again.targets.items) (map (λ t. t.member.shard.value) t.again.targets.items)) }

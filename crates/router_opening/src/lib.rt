@@ -4,4 +4,4 @@
 
 mod router;
 
-pub use router::{empty_router, opened_seats};
+pub use router::{empty_router, opened_seats, widest_limits};

@@ -1,4 +1,4 @@
-ghost use Rattle.std.specs.Prelude.{◌≡◌, ◌==◌, ℕ, ◌<◌, ◌≤◌, [], None, IsTrue, IfOk, IfErr, Contains, length, map, filter, take, drop, slice_index_or};
+ghost use Rattle.std.specs.Prelude.{◌≡◌, ◌==◌, ℕ, ◌<◌, ◌≤◌, ◌^◌, [], None, IsTrue, IfOk, IfErr, Contains, length, map, filter, take, drop, slice_index_or};
 ghost use Rattle.std.specs.List.{range_with_len};
 ghost use Rattle.vschema.specs.WellFormed.{is_vschema};
 ghost use Rattle.journal.specs.Views.{fresh_seats, new_pass};
@@ -58,11 +58,14 @@ fn copy_shard(alloc: Global, shard: &shard_run::Shard) -> Result<shard_run::Shar
 fn empty_shard<W: World, J: Naming>(
     alloc: Global,
     tables: &[Table],
+    limits: Limits,
     seat: ShardSeat<ShardLaw<W>, J>,
     shard: &shard_run::Shard,
 ) -> Result<Arc<Shard<W, J>, Global>, Refusal>
     requires opens { IsOpening W.opening }
-    requires limits { W.limits ≡ most_limits }
+    requires limits { W.limits ≡ limits }
+    requires most_rows { limits.rows ≤ 2 ^ 20 }
+    requires most_stored { limits.stored ≤ 2 ^ 20 }
     requires rows { first_rows W.opening shard.now ≡ map (λ t. []) tables.now }
     requires opening { Contains (opening_shards W.opening) shard.now }
     requires seat { seat ≡ record { seen = []; slot = shard.now.slot } }
@@ -70,24 +73,33 @@ fn empty_shard<W: World, J: Naming>(
     ensures err { IfErr result (λ e. e ≡ Refusal.OutOfMemory) }
 {
     let store = empty_store(alloc, tables)?;
-    let limits = Limits {
-        rows: MOST_ROWS,
-        stored: MOST_STORED,
-    };
     let copy = copy_shard(alloc, shard)?;
     let state = ShardState::new(alloc, seat, copy, store, Mode::Serving, limits);
     Ok(Arc::new(alloc, Shard::new(state))?)
+}
+
+/// The limits of a shard that may hold the most.
+pub fn widest_limits() -> Limits
+    ensures { result ≡ most_limits }
+{
+    Limits {
+        rows: MOST_ROWS,
+        stored: MOST_STORED,
+    }
 }
 
 // The opening shards, each with the seat of its slot.
 fn empty_shards<W: World, J: Naming>(
     alloc: Global,
     tables: &[Table],
+    limits: Limits,
     shards: &[shard_run::Shard],
     seats: Vec<ShardSeat<ShardLaw<W>, J>>,
 ) -> Result<Vec<Arc<Shard<W, J>, Global>>, Refusal>
     requires opens { IsOpening W.opening }
-    requires limits { W.limits ≡ most_limits }
+    requires limits { W.limits ≡ limits }
+    requires most_rows { limits.rows ≤ 2 ^ 20 }
+    requires most_stored { limits.stored ≤ 2 ^ 20 }
     requires rows { (s : which.Shard) → Contains (opening_shards W.opening) s → first_rows W.opening s ≡ map (λ t. []) tables.now }
     requires opening { opening_shards W.opening ≡ shards.now }
     requires slots { (i : ℕ) (d : which.Shard) → i < length shards.now → (slice_index_or shards.now i d).slot ≡ i }
@@ -100,7 +112,7 @@ fn empty_shards<W: World, J: Naming>(
     let mut held = Vec::new(alloc);
     for shard in shards {
         let seat = seats.next().unwrap();
-        held.push(empty_shard(alloc, tables, seat, shard)?)?;
+        held.push(empty_shard(alloc, tables, limits, seat, shard)?)?;
     }
     Ok(held)
 }
@@ -109,6 +121,7 @@ fn empty_shards<W: World, J: Naming>(
 fn shards_and_seats<W: World, J: Naming>(
     alloc: Global,
     tables: &[Table],
+    limits: Limits,
     shards: &[shard_run::Shard],
     seats: Vec<ShardSeat<ShardLaw<W>, J>>,
 ) -> Result<
@@ -119,7 +132,9 @@ fn shards_and_seats<W: World, J: Naming>(
     Refusal,
 >
     requires opens { IsOpening W.opening }
-    requires limits { W.limits ≡ most_limits }
+    requires limits { W.limits ≡ limits }
+    requires most_rows { limits.rows ≤ 2 ^ 20 }
+    requires most_stored { limits.stored ≤ 2 ^ 20 }
     requires rows { (s : which.Shard) → Contains (opening_shards W.opening) s → first_rows W.opening s ≡ map (λ t. []) tables.now }
     requires opening { opening_shards W.opening ≡ shards.now }
     requires slots { (i : ℕ) (d : which.Shard) → i < length shards.now → (slice_index_or shards.now i d).slot ≡ i }
@@ -131,7 +146,7 @@ fn shards_and_seats<W: World, J: Naming>(
 {
     let mut seats = seats;
     let free = seats.split_off(shards.len())?;
-    match empty_shards(alloc, tables, shards, seats) {
+    match empty_shards(alloc, tables, limits, shards, seats) {
         Ok(held) => Ok((held, free)),
         Err(refusal) => {
             drop(free);
@@ -187,6 +202,7 @@ fn opening_keyspaces<W: World, J: Naming>(
 fn held_and_served<W: World, J: Naming>(
     alloc: Global,
     tables: &[Table],
+    limits: Limits,
     keyspaces: usize,
     shards: &[shard_run::Shard],
     seats: Vec<ShardSeat<ShardLaw<W>, J>>,
@@ -199,7 +215,9 @@ fn held_and_served<W: World, J: Naming>(
     Refusal,
 >
     requires opens { IsOpening W.opening }
-    requires limits { W.limits ≡ most_limits }
+    requires limits { W.limits ≡ limits }
+    requires most_rows { limits.rows ≤ 2 ^ 20 }
+    requires most_stored { limits.stored ≤ 2 ^ 20 }
     requires each { keyspaces ≡ length W.opening.schema.keyspaces }
     requires rows { (s : which.Shard) → Contains (opening_shards W.opening) s → first_rows W.opening s ≡ map (λ t. []) tables.now }
     requires opening { opening_shards W.opening ≡ shards.now }
@@ -211,7 +229,7 @@ fn held_and_served<W: World, J: Naming>(
     ensures free { IfOk result (λ r. r.2.items ≡ drop (length shards.now) (fresh_seats 64)) }
     ensures err { IfErr result (λ e. e ≡ Refusal.OutOfMemory) }
 {
-    let (held, free) = shards_and_seats(alloc, tables, shards, seats)?;
+    let (held, free) = shards_and_seats(alloc, tables, limits, shards, seats)?;
     match opening_keyspaces(alloc, keyspaces, shards, held.as_slice()) {
         Ok(all) => Ok((held, all, free)),
         Err(refusal) => {
@@ -228,6 +246,7 @@ pub fn opened_seats<W: World, J: Naming>(
     alloc: Global,
     schema: &VSchema,
     ranges: &[KeyRange],
+    limits: Limits,
     opened: Opened<ShardLaw<W>>,
 ) -> Result<
     (
@@ -241,7 +260,9 @@ pub fn opened_seats<W: World, J: Naming>(
 >
     requires name { opened ≡ J.table }
     requires opening { W.opening ≡ opening_of schema.now ranges.now }
-    requires limits { W.limits ≡ most_limits }
+    requires limits { W.limits ≡ limits }
+    requires most_rows { limits.rows ≤ 2 ^ 20 }
+    requires most_stored { limits.stored ≤ 2 ^ 20 }
     requires schema { IsTrue (is_vschema schema.now) }
     requires ranges { FitRanges schema.now ranges.now }
     ensures opens { IfOk result (λ r. IsOpening W.opening) }
@@ -256,7 +277,7 @@ pub fn opened_seats<W: World, J: Naming>(
     let (seats, opener, pass) = opened.named::<J>(alloc)?;
     let tables = schema.tables.as_slice();
     let keyspaces = schema.keyspaces.len();
-    let made = held_and_served(alloc, tables, keyspaces, shards.as_slice(), seats);
+    let made = held_and_served(alloc, tables, limits, keyspaces, shards.as_slice(), seats);
     drop(shards);
     match made {
         Ok((held, all, free)) => Ok((held, all, opener, pass, free)),
@@ -273,12 +294,13 @@ pub fn opened_seats<W: World, J: Naming>(
 // With: opened_seats
 // Refuses: half_of_the_shards, seats_in_another_order, a_table_more, every_part_has_the_first_shard
 /// The engine over a VSchema and the ranges of its sharded keyspace, whose tables are empty, in the journal that was opened; the opener
-/// of its sessions, a first pass, which has seen nothing, and the seats of the slots on which none of its shards stands. So many statements
-/// may wait in its buffer. It refuses only for want of memory.
+/// of its sessions, a first pass, which has seen nothing, and the seats of the slots on which none of its shards stands. Each shard has these
+/// limits, and so many statements may wait in its buffer. It refuses only for want of memory.
 pub fn empty_router<W: World + Send + Sync, J: Naming + Send + Sync, G: Gate>(
     alloc: Global,
     schema: VSchema,
     ranges: &[KeyRange],
+    limits: Limits,
     opened: Opened<ShardLaw<W>>,
     buffer_size: u64,
     gate: G,
@@ -293,7 +315,9 @@ pub fn empty_router<W: World + Send + Sync, J: Naming + Send + Sync, G: Gate>(
 >
     requires name { opened ≡ J.table }
     requires opening { W.opening ≡ opening_of schema ranges.now }
-    requires limits { W.limits ≡ most_limits }
+    requires limits { W.limits ≡ limits }
+    requires most_rows { limits.rows ≤ 2 ^ 20 }
+    requires most_stored { limits.stored ≤ 2 ^ 20 }
     requires schema { IsTrue (is_vschema schema) }
     requires ranges { FitRanges schema ranges.now }
     ensures schema { IfOk result (λ r. r.0 ≡ schema) }
@@ -304,7 +328,7 @@ pub fn empty_router<W: World + Send + Sync, J: Naming + Send + Sync, G: Gate>(
     ensures err { IfErr result (λ e. e ≡ Refusal.OutOfMemory) }
 {
     let (held, keyspaces, opener, pass, free) = opened_seats::<W, J>(
-        alloc, &schema, ranges, opened,
+        alloc, &schema, ranges, limits, opened,
     )?;
     drop(held);
     let engine = Engine::new(schema, keyspaces, Buffer::new(buffer_size), gate);

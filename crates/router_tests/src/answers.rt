@@ -1,5 +1,5 @@
 //! The answer of a case.
-use crate::{gates, lines, locks, opened, reads, stops, waiting, writes};
+use crate::{gates, limits, lines, locks, opened, reads, stops, waiting, writes};
 use case_fields::{Told, Unanswered};
 use std::alloc::Global;
 use std::sync::Wait;
@@ -49,6 +49,9 @@ fn answer_cutovers<R: Threads + Wait + Sync>(
         "a_split_into_more_shards_than_slots_are_free_is_refused" => told.put_went(
             lines::a_split_into_more_shards_than_slots_are_free_is_refused(rt, alloc),
         ),
+        "a_merge_of_too_many_rows_is_refused_and_both_shards_serve" => told.put_went(
+            limits::a_merge_of_too_many_rows_is_refused_and_both_shards_serve(rt, alloc),
+        ),
         "a_query_begun_before_the_freeze_reads_all_rows" => told.put_went(
             reads::a_query_begun_before_the_freeze_reads_all_rows(rt, alloc),
         ),
@@ -90,6 +93,9 @@ fn answer_stops<R: Threads + Wait + Sync>(
             ),
         "a_workflow_is_reopened_while_there_is_one" => told.put_went(
             stops::a_workflow_is_reopened_while_there_is_one(rt, alloc),
+        ),
+        "targets_of_a_workflow_that_was_given_up_are_not_taken_up_again" => told.put_went(
+            stops::targets_of_a_workflow_that_was_given_up_are_not_taken_up_again(rt, alloc),
         ),
         _ => Err(Unanswered::BadLine),
     }

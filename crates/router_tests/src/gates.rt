@@ -2,6 +2,7 @@
 use crate::acts::{Act, Asked};
 use crate::common::{ALL, EVEN, ODD, SEVEN, SHOP};
 use crate::scenes::{Played, Scene, play, plays_alone};
+use shard::MOST_ROWS;
 use std::alloc::Global;
 use std::sync::Wait;
 use std::thread::Threads;
@@ -42,6 +43,7 @@ pub(crate) fn one_mutex_round_all_shards_would_hold_up_a_read<R: Threads + Wait 
 ) -> Result<bool, Refusal> {
     let scene = Scene {
         schema: SHOP,
+        rows: MOST_ROWS,
         buffer: 0,
         locked: false,
         asked: Asked::AllRows,

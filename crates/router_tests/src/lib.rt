@@ -7,6 +7,7 @@ mod answers;
 mod common;
 mod gate;
 mod gates;
+mod limits;
 mod lines;
 mod locks;
 mod opened;

@@ -2,6 +2,7 @@
 use crate::acts::{Act, Asked};
 use crate::common::{SEVEN, SHOP};
 use crate::scenes::{Played, Scene, play};
+use shard::MOST_ROWS;
 use std::alloc::Global;
 use std::sync::Wait;
 use std::thread::Threads;
@@ -23,6 +24,7 @@ pub(crate) fn one_mutex_round_all_shards_would_hold_up_a_write<R: Threads + Wait
 ) -> Result<bool, Refusal> {
     let scene = Scene {
         schema: SHOP,
+        rows: MOST_ROWS,
         buffer: 0,
         locked: true,
         asked: Asked::Eight,

@@ -6,20 +6,34 @@ ghost use Rattle.administration.specs.Told.{keyspace_of};
 use crate::gate::HoldsFirst;
 use administration::Administrator;
 use journal::{Naming, Pass};
-use reshard::{ReshardFault, Source, Stopped, Target, Workflow};
+use reshard::{Ground, ReshardFault, Source, Stopped, Target, Workflow};
 use route_engine::Engine;
 use serving::Part;
 use shard::{Shard, ShardLaw, World};
 use std::alloc::Global;
+use std::marker::Model;
 use std::mem::replace;
 use std::sync::{Arc, Wait};
 use vt_value::Refusal;
 
-/// What a workflow is made again of: the shards of its sources, and those of its targets.
+/// What a workflow is made again of: the shards of its sources, and those of its targets, over what is fixed for all of its keyspace.
 #[derive(Drop)]
-struct Found<W: World, J: Naming> {
+pub(crate) struct Found<W: World, J: Naming> {
+    ground: Ground,
     sources: Vec<Part<Shard<W, J>>>,
     targets: Vec<Part<Shard<W, J>>>,
+}
+
+impl<W: World, J: Naming> Model for Found<W, J> {
+    ghost use Rattle.shard_run.specs.Openings.{IsOpening};
+    ghost use Rattle.reshard_beginning.specs.declared.ground.Ground.{Ground};
+    ghost use Rattle.reshard_beginning.specs.Grounds.{IsGround};
+
+    ghost Value = { Ground };
+
+    ghost view = { λ f. f.ground };
+
+    ghost invariant = { λ f. IsOpening W.opening × IsGround W.opening W.limits f.ground };
 }
 
 impl<W: World, J: Naming> Found<W, J> {
@@ -78,14 +92,14 @@ fn take_up<W: World + Send + Sync, J: Naming + Send + Sync>(
     )
 }
 
-// Another controller of the same slots and shards, and whether it took the workflow up.
+// Another controller of the same slots and shards, whether it took the workflow up, and of which shards.
 fn reopened<W: World + Send + Sync, J: Naming + Send + Sync>(
     rt: &impl Wait,
     alloc: Global,
     engine: &Engine<W, J, HoldsFirst>,
     pass: &mut Pass<ShardLaw<W>, J>,
     workflow: Workflow<W, J>,
-) -> (Workflow<W, J>, Result<(), ReshardFault>)
+) -> (Workflow<W, J>, Result<(), ReshardFault>, Found<W, J>)
     ensures home { result.0.keyspace ≡ workflow.keyspace }
 {
     let Stopped {
@@ -96,6 +110,7 @@ fn reopened<W: World + Send + Sync, J: Naming + Send + Sync>(
     } = workflow.stop();
     let mut next = Workflow::new(alloc, ground, free);
     let mut found = Found {
+        ground,
         sources: Vec::new(alloc),
         targets: Vec::new(alloc),
     };
@@ -110,16 +125,17 @@ fn reopened<W: World + Send + Sync, J: Naming + Send + Sync>(
         sources.as_slice(),
         targets.as_slice(),
     );
-    (next, done)
+    (next, done, found)
 }
 
-/// The administrator's controller stops, and another one takes its workflow up from the shards.
+/// The administrator's controller stops, and another one takes its workflow up from the shards, which are kept.
 pub(crate) fn reopen<W: World + Send + Sync, J: Naming + Send + Sync>(
     rt: &impl Wait,
     alloc: Global,
     engine: &Engine<W, J, HoldsFirst>,
     administrator: &mut Administrator<W, J>,
     pass: &mut Pass<ShardLaw<W>, J>,
+    last: &mut Option<Found<W, J>>,
 ) -> Result<(), ReshardFault>
     requires home { keyspace_of administrator.old ≡ sharded_keyspace engine.now }
     ensures home { keyspace_of administrator.new ≡ sharded_keyspace engine.now }
@@ -128,7 +144,34 @@ pub(crate) fn reopen<W: World + Send + Sync, J: Naming + Send + Sync>(
     let Some(workflow) = stopped.into_workflow() else {
         return Err(ReshardFault::WrongState);
     };
-    let (next, done) = reopened(rt, alloc, engine, pass, workflow);
+    let (next, done, found) = reopened(rt, alloc, engine, pass, workflow);
+    *last = Some(found);
     *administrator = Administrator::new(Some(next));
     done
+}
+
+/// A controller that has no slots takes up the workflow of these shards.
+pub(crate) fn reopen_last<W: World + Send + Sync, J: Naming + Send + Sync>(
+    rt: &impl Wait,
+    alloc: Global,
+    engine: &Engine<W, J, HoldsFirst>,
+    pass: &mut Pass<ShardLaw<W>, J>,
+    last: &Option<Found<W, J>>,
+) -> Result<(), ReshardFault> {
+    let Some(found) = last else {
+        return Err(ReshardFault::WrongState);
+    };
+    let Some(serving) = engine.partitions(found.ground.keyspace) else {
+        return Err(ReshardFault::WrongState);
+    };
+    let mut other = Workflow::new(alloc, found.ground, Vec::new(alloc));
+    let _ = pass.session();
+    other.reopen(
+        rt,
+        alloc,
+        pass,
+        serving,
+        found.sources.as_slice(),
+        found.targets.as_slice(),
+    )
 }

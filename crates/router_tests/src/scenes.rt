@@ -1,8 +1,7 @@
 //! Scenes, played over a router of their own.
 ghost use denote.Param.Send.{IsSend, IsSync};
-ghost use Rattle.std.specs.Prelude.{◌≡◌, IsTrue};
+ghost use Rattle.std.specs.Prelude.{◌≡◌, ◌≤◌, ◌^◌, IsTrue};
 ghost use Rattle.vschema.specs.WellFormed.{is_vschema};
-ghost use Rattle.shard_contents.specs.Shards.{most_limits};
 ghost use Rattle.empty_opening.specs.Empty.{opening_of, sharded_keyspace, FitRanges};
 ghost use Rattle.administration.specs.Told.{keyspace_of};
 
@@ -16,7 +15,7 @@ use administration::{Administrator, administered_router};
 use journal::{Naming, Opened, Opener, Pass};
 use keyrange::KeyRange;
 use route_engine::Engine;
-use shard::{ShardLaw, World};
+use shard::{Limits, MOST_ROWS, MOST_STORED, ShardLaw, World};
 use std::alloc::Global;
 use std::marker::Brand;
 use std::sync::{Arc, Wait};
@@ -28,6 +27,8 @@ use vt_value::Refusal;
 #[derive(Clone, Copy)]
 pub struct Scene<'t> {
     pub schema: &'t str,
+    /// Each shard may have so many rows, at most 2^20.
+    pub rows: u64,
     /// So many statements may wait in the buffer.
     pub buffer: u64,
     /// Whether a thread holds the lock of the first shard from the beginning.
@@ -127,6 +128,7 @@ fn play_opened<'e, W: World + Send + Sync, J: Naming + Send + Sync, R: Threads +
         administrator,
         admin,
         sessions: Vec::new(alloc),
+        last: None,
     };
     play_on(&mut stage, opener, scene)
 }
@@ -136,6 +138,7 @@ fn play_over<W: World + Send + Sync, J: Naming + Send + Sync, R: Threads + Wait 
     alloc: Global,
     schema: VSchema,
     ranges: &[KeyRange],
+    limits: Limits,
     opened: Opened<ShardLaw<W>>,
     gate: HoldsFirst,
     signals: &Signals,
@@ -143,12 +146,16 @@ fn play_over<W: World + Send + Sync, J: Naming + Send + Sync, R: Threads + Wait 
 ) -> Result<Played, Refusal>
     requires name { opened ≡ J.table }
     requires opening { W.opening ≡ opening_of schema ranges.now }
-    requires limits { W.limits ≡ most_limits }
+    requires limits { W.limits ≡ limits }
+    requires most_rows { limits.rows ≤ 2 ^ 20 }
+    requires most_stored { limits.stored ≤ 2 ^ 20 }
     requires schema { IsTrue (is_vschema schema) }
     requires ranges { FitRanges schema ranges.now }
 {
     let buffer = scene.buffer;
-    match administered_router::<W, J, HoldsFirst>(alloc, schema, ranges, opened, buffer, gate) {
+    match administered_router::<W, J, HoldsFirst>(
+        alloc, schema, ranges, limits, opened, buffer, gate,
+    ) {
         Ok((engine, administrator, mut opener, admin)) => {
             play_opened(
                 rt,
@@ -171,20 +178,36 @@ fn play_in_world<W: World + Send + Sync, R: Threads + Wait + Sync>(
     alloc: Global,
     schema: VSchema,
     ranges: &[KeyRange],
+    limits: Limits,
     gate: HoldsFirst,
     signals: &Signals,
     scene: &Scene<'_>,
 ) -> Result<Played, Refusal>
     requires opening { W.opening ≡ opening_of schema ranges.now }
-    requires limits { W.limits ≡ most_limits }
+    requires limits { W.limits ≡ limits }
+    requires most_rows { limits.rows ≤ 2 ^ 20 }
+    requires most_stored { limits.stored ≤ 2 ^ 20 }
     requires schema { IsTrue (is_vschema schema) }
     requires ranges { FitRanges schema ranges.now }
 {
     match Opened::<ShardLaw<W>>::new(alloc) {
         Ok(opened) => {
-            play_over::<W, Brand, R>(rt, alloc, schema, ranges, opened, gate, signals, scene)
+            play_over::<W, Brand, R>(
+                rt, alloc, schema, ranges, limits, opened, gate, signals, scene,
+            )
         }
         Err(refusal) => Err(refusal),
+    }
+}
+
+// Limits of shards that may have so many rows, but no more than any.
+fn limits_of(rows: u64) -> Limits
+    ensures rows { result.rows ≤ 2 ^ 20 }
+    ensures stored { result.stored ≤ 2 ^ 20 }
+{
+    Limits {
+        rows: rows.min(MOST_ROWS),
+        stored: MOST_STORED,
     }
 }
 
@@ -201,7 +224,8 @@ fn play_by<R: Threads + Wait + Sync>(
     };
     match read_schema(alloc, scene.schema, &ranges) {
         Ok(schema) => {
-            play_in_world::<Brand, R>(rt, alloc, schema, &ranges, gate, signals, scene)
+            let limits = limits_of(scene.rows);
+            play_in_world::<Brand, R>(rt, alloc, schema, &ranges, limits, gate, signals, scene)
         }
         Err(refusal) => Err(refusal),
     }
@@ -227,8 +251,20 @@ pub fn plays_alone<R: Threads + Wait + Sync>(
     schema: &str,
     acts: &[&[Act<'_>]],
 ) -> Result<bool, Refusal> {
+    plays_within(rt, alloc, schema, MOST_ROWS, acts)
+}
+
+/// The same where each shard may have so many rows.
+pub fn plays_within<R: Threads + Wait + Sync>(
+    rt: &R,
+    alloc: Global,
+    schema: &str,
+    rows: u64,
+    acts: &[&[Act<'_>]],
+) -> Result<bool, Refusal> {
     let scene = Scene {
         schema,
+        rows,
         buffer: 0,
         locked: false,
         asked: Asked::Nothing,
@@ -247,6 +283,7 @@ pub fn plays_beside<R: Threads + Wait + Sync>(
 ) -> Result<bool, Refusal> {
     let scene = Scene {
         schema: SHOP,
+        rows: MOST_ROWS,
         buffer: 1,
         locked: false,
         asked,

@@ -7,10 +7,11 @@ ghost use Rattle.administration.specs.Told.{keyspace_of};
 use crate::acts::{Act, Asked};
 use crate::common::{ALL, EIGHT};
 use crate::gate::{HoldsFirst, Signals, give, wait_for};
-use crate::reopening::reopen;
+use crate::reopening::{Found, reopen, reopen_last};
 use crate::session::Session;
 use administration::{Administrator, administer};
 use journal::{Naming, Opener, Pass};
+use reshard::ReshardFault;
 use route_engine::Engine;
 use shard::{Shard, ShardLaw, World};
 use std::alloc::Global;
@@ -35,6 +36,8 @@ pub(crate) struct Stage<'e, W: World, J: Naming, R> {
     pub(crate) administrator: Administrator<W, J>,
     pub(crate) admin: Pass<ShardLaw<W>, J>,
     pub(crate) sessions: Vec<Session<'e, W, J, R>>,
+    // the shards of the workflow whose controller stopped last
+    pub(crate) last: Option<Found<W, J>>,
     ghost home: { keyspace_of administrator ≡ sharded_keyspace engine.now },
 }
 
@@ -121,6 +124,17 @@ impl<'e, W: World + Send + Sync, J: Naming + Send + Sync, R: Threads + Wait + Sy
         true
     }
 
+    // A controller without slots takes up the shards of the workflow whose controller stopped last.
+    fn reopens_last(&mut self) -> Result<(), ReshardFault> {
+        reopen_last(
+            self.rt,
+            self.alloc,
+            self.engine,
+            &mut self.admin,
+            &self.last,
+        )
+    }
+
     // Whether an act gives what it is to give.
     fn is_right(&mut self, act: Act<'_>) -> bool {
         match act {
@@ -134,9 +148,11 @@ impl<'e, W: World + Send + Sync, J: Naming + Send + Sync, R: Threads + Wait + Sy
                     self.engine,
                     &mut self.administrator,
                     &mut self.admin,
+                    &mut self.last,
                 );
                 done == wanted
             }
+            Act::ReopenLast(wanted) => self.reopens_last() == wanted,
             _ => self.is_signalled(act),
         }
     }

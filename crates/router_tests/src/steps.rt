@@ -26,7 +26,7 @@ pub(crate) const UNSPLIT: Act<'static> = Act::Line(b"status", b"serving -80 80- 
 /// The status while the targets follow.
 pub(crate) const FOLLOWING: Act<'static> = Act::Line(b"status", b"serving -80 80- following\n");
 
-/// The status while the cutover is under way and the next partition isn't published.
+/// The status while the cutover is under way and the source isn't retired.
 pub(crate) const SWITCHING: Act<'static> = Act::Line(b"status", b"serving -80 80- switching\n");
 
 /// The status once the targets serve.

@@ -2,9 +2,11 @@
 ghost use Rattle.std.specs.Prelude.{◌<◌};
 
 use crate::acts::Act;
-use crate::common::{ALL, BEGUN, COPIED, EIGHT, EVEN, ODD, RESUMED, SHOP};
+use crate::common::{ALL, BEGUN, COPIED, EIGHT, EVEN, FREEZE, ODD, RESUMED, SHOP};
 use crate::scenes::plays_alone;
-use crate::steps::{CANCELLED, COMPLETED, FOLLOWING, SPLIT, SWITCH, SWITCHED, SWITCHING, UNSPLIT};
+use crate::steps::{
+    CANCELLED, COMPLETED, FOLLOWING, RETIRE, SERVE, SPLIT, SWITCH, SWITCHED, SWITCHING, UNSPLIT,
+};
 use reshard::ReshardFault;
 use std::alloc::Global;
 use std::sync::Wait;
@@ -56,9 +58,6 @@ const STEPS: [Act<'static>; 32] = [
 
 /// So many steps come before the one that retires the source.
 const UNTIL_RETIRED: usize = 3;
-
-/// With so many the next partition is published.
-const PUBLISHED: usize = 7;
 
 // Once the cutover was resumed, the same INSERTs: those that were accepted are there, the others are not.
 const AGAIN: [Act<'static>; 16] = [
@@ -123,14 +122,14 @@ fn ended(steps: usize) -> [Act<'static>; 2] {
     }
 }
 
-// What another controller finds.
+// What another controller finds: which ranges are served, behind the retirement, and as each target begins to serve.
 fn found(steps: usize) -> Act<'static> {
-    if steps == 0 {
-        FOLLOWING
-    } else if steps < PUBLISHED {
-        SWITCHING
-    } else {
-        Act::Line(b"status", b"serving -40 40-80 80- switching\n")
+    match steps {
+        0 => FOLLOWING,
+        1..=3 => SWITCHING,
+        4 => Act::Line(b"status", b"serving 80- switching\n"),
+        5 => Act::Line(b"status", b"serving -40 80- switching\n"),
+        _ => Act::Line(b"status", b"serving -40 40-80 80- switching\n"),
     }
 }
 
@@ -207,4 +206,41 @@ pub(crate) fn a_workflow_is_reopened_while_there_is_one<R: Threads + Wait + Sync
     alloc: Global,
 ) -> Result<bool, Refusal> {
     plays_alone(rt, alloc, SHOP, &[&NOTHING])
+}
+
+const WRONG_STATE: Act<'static> = Act::ReopenLast(Err(ReshardFault::WrongState));
+
+// The targets of a workflow that was given up aren't taken up again, and neither are they once a later one with targets of the same ranges has
+// retired the source.
+const GIVEN_UP: [Act<'static>; 24] = [
+    EVEN,
+    ODD,
+    BEGUN,
+    COPIED,
+    Act::Reopen(Ok(())),
+    Act::ReopenLast(Ok(())),
+    FOLLOWING,
+    CANCELLED,
+    WRONG_STATE,
+    BEGUN,
+    COPIED,
+    COPIED,
+    WRONG_STATE,
+    FREEZE,
+    WRONG_STATE,
+    RETIRE,
+    WRONG_STATE,
+    SERVE,
+    WRONG_STATE,
+    RESUMED,
+    WRONG_STATE,
+    SWITCHED,
+    COMPLETED,
+    WRONG_STATE,
+];
+
+pub(crate) fn targets_of_a_workflow_that_was_given_up_are_not_taken_up_again<
+    R: Threads + Wait + Sync,
+>(rt: &R, alloc: Global) -> Result<bool, Refusal> {
+    plays_alone(rt, alloc, SHOP, &[&GIVEN_UP])
 }

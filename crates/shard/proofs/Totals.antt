@@ -29,8 +29,8 @@ use Rattle.shard_run.specs.Runs.{Opening, Run, held, entries_on, stored_on}
 use Rattle.shard_law.specs.Legal.{AreChangesOf}
 use Rattle.shard_run.specs.Openings.{row_count}
 use Rattle.shard_contents.specs.declared.limits.Limits.{Limits}
-use Rattle.shard_contents.specs.Commits.{HasRoom}
-use Rattle.shard_contents.specs.inner.Transactions.{is_added, is_removed, has_room_for}
+use Rattle.shard_contents.specs.Commits.{HasRoom, is_added, is_removed}
+use Rattle.shard_contents.specs.inner.Transactions.{has_room_for}
 use Rattle.shard_contents.proofs.Changes.{AreOf, of_table}
 use Rattle.shard_contents.proofs.Commits.{applied-append}
 use Rattle.shard_contents.proofs.Counts.{rows_after, count_after}
@@ -38,23 +38,23 @@ use Rattle.shard_contents.proofs.Counts.{rows_after, count_after}
 -- ---- a row's removals
 
 -- how often a change takes the row away
-abbrev takes : Row → RowChange → ℕ
+abbrev pub takes : Row → RowChange → ℕ
 takes r (Added n row) = 0
 takes r (Replaced n old new) = once r old
 takes r (Removed n row) = once r row
 
 -- no row is taken away more often than it stands there
-abbrev AreTaken : List RowChange → List Row → Type 0
+abbrev pub AreTaken : List RowChange → List Row → Type 0
 AreTaken changes rows = (r : Row) → sum_by (takes r) changes ≤ count r rows
 
 count-cons : (r x : Row) (rows : List Row) → count r (x ∷ rows) ≡ once r x + count r rows
 count-cons r x rows = row_count-append r (x ∷ []) rows ∙ ap (λ n. n + count r rows) (count-one r x)
 
-once-itself : (r : Row) → once r r ≡ 1
+pub once-itself : (r : Row) → once r r ≡ 1
 once-itself r = ap (λ b. cond b 1 0) (same_self r)
 
 -- one row fewer, where it is there
-without-length : (r : Row) (rows : List Row) → 1 ≤ count r rows → length (without r rows) + 1 ≡ length rows
+pub without-length : (r : Row) (rows : List Row) → 1 ≤ count r rows → length (without r rows) + 1 ≡ length rows
 without-length r [] h = let z = count-none r in absurd (omega (arith, z, h))
 without-length r (x ∷ rows) h = by (same_row r x) refl (without-length r rows)
   where
@@ -71,7 +71,7 @@ without-length r (x ∷ rows) h = by (same_row r x) refl (without-length r rows)
 abbrev Counts : List RowChange → List Row → Type 0
 Counts changes rows = length (rows_after changes rows) + count_by is_removed changes ≡ length rows + count_by is_added changes
 
-by-cons : (p : RowChange → Bool) (c : RowChange) (changes : List RowChange) (b : Bool) → p c ≡ b → count_by p (c ∷ changes) ≡ cond b 1 0 + count_by p changes
+pub by-cons : (p : RowChange → Bool) (c : RowChange) (changes : List RowChange) (b : Bool) → p c ≡ b → count_by p (c ∷ changes) ≡ cond b 1 0 + count_by p changes
 by-cons p c changes b e =
     let h = count-append p (c ∷ []) changes in
     let k : count_by p (c ∷ []) ≡ 0 + cond b 1 0 = ap (λ b. 0 + cond b 1 0) e in
@@ -152,7 +152,7 @@ updated_taken n assignments condition (x ∷ rows) r =
     one true false = omega arith
     one false c = omega arith
 
-write_taken : (t : Table) (w : Write) (rows : List Row) (changes : List RowChange) → changes_over t w rows ≡ Ok changes → AreTaken changes rows
+pub write_taken : (t : Table) (w : Write) (rows : List Row) (changes : List RowChange) → changes_over t w rows ≡ Ok changes → AreTaken changes rows
 write_taken t (Insert n new) rows changes e = by (has_duplicate t rows new) e
   where
     by : (b : Bool) → cond b (Err DuplicateKey) (Ok (map (Added n) new)) ≡ Ok changes → AreTaken changes rows
@@ -164,10 +164,10 @@ write_taken t (Delete n condition) rows changes e =
     subst (λ l. AreTaken l rows) (ok_is (map (Removed n) (filter (is_kept condition) rows)) changes e) (deleted_taken n (is_kept condition) rows)
 
 -- in any order
-permuted_taken : (exact changes : List RowChange) (rows : List Row) → IsPermutation exact changes → AreTaken exact rows → AreTaken changes rows
+pub permuted_taken : (exact changes : List RowChange) (rows : List Row) → IsPermutation exact changes → AreTaken exact rows → AreTaken changes rows
 permuted_taken exact changes rows of taken r = let t = taken r in let s = sum_by-IsPermutation (takes r) exact changes of in omega (arith, t, s)
 
-permuted_of : (n : ℕ) (exact changes : List RowChange) → IsPermutation exact changes → AreOf n exact → AreOf n changes
+pub permuted_of : (n : ℕ) (exact changes : List RowChange) → IsPermutation exact changes → AreOf n exact → AreOf n changes
 permuted_of n exact changes of are =
     let P : RowChange → Type 0 = λ c. Rattle.vschema.specs.Database.changed_table c ≡ n in
     recursion_from_All P changes (All-permutation P exact changes of (All-from_recursion P exact are))

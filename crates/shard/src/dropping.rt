@@ -31,5 +31,6 @@ impl<W: World, J: Naming> ShardState<W, J> {
         ensures { self.new ≡ self.old }
     {
         empty(&mut self.contents);
+        self.sorted.clear();
     }
 }

@@ -1,10 +1,12 @@
 //! How a shard comes to take no commits, to take them again, to be retired, and to serve.
-ghost use Rattle.std.specs.Prelude.{◌≡◌, ◌<◌, ◌≤◌, ◌^◌, ℕ, length};
+ghost use Rattle.std.specs.Prelude.{◌≡◌, ◌<◌, ◌≤◌, ◌^◌, ◌++◌, ◌∷◌, [], ℕ, length};
 ghost use Rattle.shard_run.specs.declared.Event.{Event};
 ghost use Rattle.shard_run.specs.Runs.{mode, entries_on, held};
 ghost use Rattle.shard_run.specs.Openings.{row_count};
 ghost use Rattle.shard_law.specs.Legal.{MayRetire, MayServe};
-ghost use Rattle.shard_contents.specs.Shards.{HasAppended};
+ghost use Rattle.journal.specs.Views.{PassView};
+ghost use Rattle.shard_run.specs.declared.Entry.{Entry};
+ghost use Rattle.shard_contents.specs.Shards.{HasLooked, HasAppended};
 
 use crate::state::{ShardState, append_event};
 use crate::world::{ShardLaw, World};
@@ -14,17 +16,20 @@ use std::mem::replace;
 use vt_value::Items;
 
 impl<W: World, J: Naming> ShardState<W, J> {
-    // Promise: Freeze, thaw, retire and serve are exactly one entry each, and take no memory; a following step takes over the source's next
-    // entry as one entry, and is refused for want of memory or for a limit alone
-    // With: ShardState::{thaw, retire, serve, follow}
-    /// From now on it takes no commits. Takes no memory.
+    // Promise: Freeze, thaw, retire and serve are exactly one entry each, and take no memory. A freeze makes one look first, which the pass
+    // keeps, so that none is made that its pass doesn't tell
+    // With: ShardState::{thaw, retire, serve}
+    /// From now on it takes no commits: one look, which the pass keeps, and then one entry. Takes no memory.
     pub fn freeze(&mut self, pass: &mut Pass<ShardLaw<W>, J>)
         requires serving { mode W.opening self.old.seen self.old.shard.slot ≡ Mode.Serving }
         requires room { length (entries_on self.old.shard.slot self.old.seen) < 2 ^ 40 }
-        ensures appended { HasAppended W.opening self.old Event.Freeze pass.old pass.new }
+        ensures frozen { (looked : PassView Entry) × HasLooked W.opening self.old.shard.slot pass.old looked
+            × HasAppended W.opening (record { seen = looked.seen; shard = self.old.shard }) Event.Freeze looked pass.new }
+        ensures entry { entries_on self.old.shard.slot self.new.seen ≡ entries_on self.old.shard.slot self.old.seen ++ record { shard = self.old.shard; event = Event.Freeze } ∷ [] }
         ensures seen { self.new.seen ≡ pass.new.seen }
         ensures shard { self.new.shard ≡ self.old.shard }
     {
+        let _ = self.look(pass);
         let _ = append_event(
             &mut self.seat,
             &mut self.contents,
@@ -57,6 +62,7 @@ impl<W: World, J: Naming> ShardState<W, J> {
         ensures seen { self.new.seen ≡ pass.new.seen }
         ensures shard { self.new.shard ≡ self.old.shard }
     {
+        self.sorted.clear();
         let event = append_event(
             &mut self.seat,
             &mut self.contents,

@@ -13,7 +13,7 @@ ghost use Rattle.shard_contents.specs.inner.Shards.{is_plain};
 
 use crate::world::{ShardLaw, World};
 use journal::{Naming, Pass, ShardSeat};
-use shard_contents::{Author, Committed, Contents, Limits, MOST_ENTRIES, Read, Reading, Step};
+use shard_contents::{Author, Committed, Contents, Limits, Read, Reading, SortedTables, Step};
 use shard_run::{Entry, Event, Follow, Mode, Shard};
 use shard_store::StoredTables;
 use std::alloc::Global;
@@ -28,12 +28,17 @@ use vt_value::{Items, Refusal, Row};
 pub struct ShardState<W: World, J: Naming> {
     pub(crate) seat: ShardSeat<ShardLaw<W>, J>,
     pub(crate) contents: Contents,
+    // while they are copied to targets, the tables that are stored in another order than that of their primary keys
+    pub(crate) sorted: SortedTables,
     // once it is retired, those that take its place
     pub(crate) targets: Items<Shard>,
+    // whether it is the target of a workflow that was given up, which no run tells
+    pub(crate) given_up: bool,
 }
 
 impl<W: World, J: Naming> Model for ShardState<W, J> {
     ghost use Rattle.shard_contents.specs.Shards.{ShardView, IsAfter, Names};
+    ghost use Rattle.shard_contents.specs.inner.Earlier.{AllHadRows};
     ghost use Rattle.std.specs.Coded.{codes};
     ghost use Rattle.shard_run.specs.contracts.Entry as entry;
     ghost use Rattle.shard_run.specs.contracts.Shard as which;
@@ -44,8 +49,9 @@ impl<W: World, J: Naming> Model for ShardState<W, J> {
 
     ghost view = { λ s. record { seen = s.seat.seen; shard = s.contents.shard } };
 
-    // What it holds is what the run that it has seen leaves on it.
-    ghost invariant = { λ s. IsAfter W.opening W.limits s.seat s.contents × Names W.opening s.seat.seen s.contents.shard s.targets };
+    // What it holds is what the run that it has seen leaves on it, and the tables in order had their rows when they say.
+    ghost invariant = { λ s. IsAfter W.opening W.limits s.seat s.contents × Names W.opening s.seat.seen s.contents.shard s.targets
+        × AllHadRows s.contents.stored.items s.contents.store.rows s.sorted };
 }
 
 fn serves(mode: Mode) -> bool
@@ -76,6 +82,8 @@ pub(crate) fn append_event<W: World, J: Naming>(
     ensures seat { seat.new ≡ record seat.old { seen = seat.new.seen } }
     ensures pass { pass.new ≡ record pass.old { seen = seat.new.seen } }
     ensures shard { contents.new.shard ≡ contents.old.shard }
+    ensures stored { contents.new.stored.items ≡ contents.old.stored.items }
+    ensures rows { contents.new.store.rows ≡ contents.old.store.rows }
     ensures now { mode W.opening seat.new.seen contents.new.shard.slot ≡ next }
 {
     let none = Shard {
@@ -106,6 +114,8 @@ impl<W: World, J: Naming> ShardState<W, J> {
     ghost use Rattle.journal.specs.Views.{PassView};
     ghost use Rattle.shard_contents.specs.Shards.{HasLooked, HasAppended, Answers, opening_shards, seat_view, IsNext};
     ghost use Rattle.shard_contents.specs.Commits.{IsPlaced, HasCommitted, IsCommitRefusal, HasAnswered};
+    ghost use Rattle.shard_contents.specs.Copying.{PassesLimit};
+    ghost use Rattle.shard_law.specs.Law.{SourcesApart};
 
     // Promise: A shard's rows (as bags), mode, stored entries, targets and how far it has come with each source are those that the run
     // which its seat has seen leaves on it, within its limits where it serves: the invariant of the type. It is an opening shard or a
@@ -146,7 +156,9 @@ impl<W: World, J: Naming> ShardState<W, J> {
         ShardState {
             seat,
             contents,
+            sorted: SortedTables::new(alloc),
             targets: Items::new(alloc),
+            given_up: false,
         }
     }
 
@@ -380,8 +392,12 @@ impl<W: World, J: Naming> ShardState<W, J> {
         }
     }
 
+    // Promise: A following step takes over the source's next entry as one entry, behind a look. It is done only where the target had fewer than
+    // 2^40 entries and fewer stored ones than it may; then it has no more rows than it may, if no two sources of it overlap. It is refused for
+    // want of memory, or where it passes one of these limits (F24): for rows only where the target would have more than it may, with that
+    // entry behind the run. A refused one could have come next, and appended nothing
     /// Takes over what the source's next stored entry changes in its place: one look, which the pass keeps, and then one entry. Refuses for
-    /// want of memory, and what would pass a limit of entries; then the look was made, and nothing else.
+    /// want of memory, and what would pass a limit of the shard; then the look was made, and nothing else.
     pub fn follow(
         &mut self,
         alloc: Global,
@@ -392,16 +408,19 @@ impl<W: World, J: Naming> ShardState<W, J> {
         requires next { IsNext W.opening pass.old.seen self.old taken }
         ensures followed { OnOk result ((looked : PassView Entry) × HasLooked W.opening self.old.shard.slot pass.old looked
             × HasAppended W.opening (record { seen = looked.seen; shard = self.old.shard }) (Event.Follow taken) looked pass.new) }
+        ensures room { OnOk result ((length (entries_on self.old.shard.slot self.old.seen) < 2 ^ 40) × (length (stored_on self.old.shard.slot self.old.seen) < W.limits.stored)) }
+        ensures rows { OnOk result (SourcesApart W.opening pass.new.seen self.old.shard → row_count (held W.opening pass.new.seen self.old.shard) ≤ W.limits.rows) }
         ensures looked { OnErr result (HasLooked W.opening self.old.shard.slot pass.old pass.new) }
-        ensures err { IfErr result (λ e. (e ≡ Refusal.OutOfMemory) ⊎ ((e ≡ Refusal.ShardFull) × ((2 ^ 40 ≤ length (entries_on self.old.shard.slot pass.new.seen))
-            ⊎ (W.limits.stored ≤ length (stored_on self.old.shard.slot pass.new.seen))))) }
+        ensures may { OnErr result (MayFollow W.opening pass.new.seen (record { shard = self.old.shard; event = Event.Follow taken })) }
+        ensures err { IfErr result (λ e. (e ≡ Refusal.OutOfMemory) ⊎ ((e ≡ Refusal.ShardFull) × PassesLimit W.opening W.limits pass.new.seen self.old.shard (Event.Follow taken))) }
         ensures seen { self.new.seen ≡ pass.new.seen }
         ensures shard { self.new.shard ≡ self.old.shard }
     {
+        // a target gives no rows, so it keeps no table in order
+        self.sorted.clear();
         let entries = self.seat.look(pass);
-        if entries >= MOST_ENTRIES
-            || self.contents.stored.len() as u64 >= self.contents.limits.stored
-        {
+        let changes = taken.changes.as_slice();
+        if !self.contents.has_room_for(entries, changes) {
             return Err(Refusal::ShardFull);
         }
         let came = Step::Followed {

@@ -9,19 +9,20 @@ ghost use Rattle.journal.specs.Runs.{IsLegal};
 ghost use Rattle.journal.specs.Views.{PassView};
 ghost use Rattle.shard_run.specs.declared.Entry.{Entry};
 ghost use Rattle.shard_run.specs.declared.Event.{Event};
-ghost use Rattle.shard_run.specs.Runs.{mode, is_serving, entries_on, stored_on, stored_changes};
+ghost use Rattle.shard_run.specs.Runs.{mode, is_serving, entries_on, stored_on, stored_changes, held};
+ghost use Rattle.shard_run.specs.Openings.{row_count};
 ghost use Rattle.shard_run.specs.Copies.{position, table_at, has_copied_all, is_copied, change_is_copied};
 ghost use Rattle.shard_contents.specs.Progress.{behind};
 ghost use Rattle.shard_contents.specs.Shards.{MayFollow, HasLooked, HasAppended};
-ghost use Rattle.shard_contents.specs.Copying.{HasCopiedAll, IsNextTable, IsProgress, IsEntryFor, IsCopyFor, IsNextCopy, is_reached};
+ghost use Rattle.shard_contents.specs.Copying.{HasCopiedAll, IsNextTable, IsProgress, IsEntryFor, IsCopyFor, IsNextCopy, PassesLimit, is_reached};
 ghost use Rattle.shard_contents.specs.inner.Rowed.{row_of, first_named};
 
 use crate::state::ShardState;
 use crate::world::{ShardLaw, World};
 use journal::{Naming, Pass};
 use shard_contents::{
-    MOST_ENTRIES, NextTable, SourceProgress, changed_row, changed_table, copied, copy_change,
-    first_named, first_wanted, is_reached, restricted_changes, stored_changes,
+    NextTable, SourceProgress, changed_row, changed_table, copied, copy_change, first_named,
+    is_reached, restricted_changes, stored_changes,
 };
 use shard_run::{Copied, Entry, Follow, Mode};
 use std::alloc::Global;
@@ -107,15 +108,18 @@ impl<W: World, J: Naming> ShardState<W, J> {
 
     // Promise: A target tells how far it has come with a source, and where it copies on; a source tells what it has for it next: its entry
     // at a place, cut to the target's place, or that none is left; else at most 100 rows of a table of that place, in the order of their
-    // keys, behind the last that was copied, and whether they are the last. What is followed is cut to what is copied, and a Copy is
-    // exactly one entry, refused for want of memory or for the limit of entries alone
-    // With: ShardState::{behind, copied_changes, entry_for, rows_to_copy, copy}
+    // keys, behind the last that was copied, and whether they are the last. What is followed is cut to what is copied
+    // With: ShardState::{behind, copied_changes, entry_for, rows_to_copy}
     // Refuses: shard_contents::follows_without_range_filter, shard_contents::copies_one_row_too_few,
     // shard_contents::copies_rows_out_of_order, shard_contents::copies_beyond_the_place, shard_contents::walk_ends_at_a_row_with_a_place,
     // shard_contents::walk_ends_out_of_order, shard_contents::last_copy_is_forgotten, shard_contents::last_copy_is_dropped,
-    // shard_contents::rows_of_another_table_are_dropped, shard_contents::superseded_steps_alone_are_kept, shard_contents::position_of_an_entry_before,
+    // shard_contents::rows_of_another_table_are_dropped, shard_contents::superseded_steps_alone_are_kept, shard_contents::summary_is_a_step_behind,
+    // shard_contents::position_of_an_entry_before,
     // tables_of_another_source_are_copied, shard_contents::copies_a_row_again, shard_contents::copy_adds_no_rows,
-    // shard_contents::tables_in_any_order
+    // shard_contents::tables_in_any_order, shard_contents::sorted_rows_are_not_brought_forward,
+    // shard_contents::sorted_rows_are_brought_forward_twice, shard_contents::removed_row_stays_among_the_sorted,
+    // shard_contents::sorted_rows_are_of_another_table, shard_contents::sorts_the_rows_of_another_table,
+    // shard_contents::changes_of_another_table_are_sorted_in
     /// How far a target that follows has come with a source, by its slot. Refuses for want of memory.
     pub fn progress(
         &self,
@@ -214,9 +218,10 @@ impl<W: World, J: Naming> ShardState<W, J> {
     }
 
     /// The next rows of a table for a target, as a shard that serves has them: of those that lie in the target's place behind the last row
-    /// there, the first 100 by primary key. Refuses for want of memory.
+    /// there, the first 100 by primary key. A table that isn't stored in the order of its primary key is sorted at its first step, which
+    /// takes as long as that, and kept in that order until its last. Refuses for want of memory.
     pub fn rows_to_copy(
-        &self,
+        &mut self,
         alloc: Global,
         schema: &VSchema,
         place: &Place,
@@ -224,26 +229,39 @@ impl<W: World, J: Naming> ShardState<W, J> {
     ) -> Result<Copied, Refusal>
         requires schema { schema.now ≡ W.opening.schema }
         requires formed { IsTrue (is_vschema W.opening.schema) }
-        requires serves { is_serving (mode W.opening self.now.seen self.now.shard.slot) ≡ true }
-        requires legal { IsLegal (MayFollow W.opening) self.now.seen }
+        requires serves { is_serving (mode W.opening self.old.seen self.old.shard.slot) ≡ true }
+        requires legal { IsLegal (MayFollow W.opening) self.old.seen }
         requires there { next.now.table < length schema.now.tables }
-        ensures copy { IfOk result (λ c. (c.table ≡ next.now.table) × IsCopyFor W.opening self.now.seen self.now.shard place.now next.now.after c) }
+        ensures copy { IfOk result (λ c. (c.table ≡ next.now.table) × IsCopyFor W.opening self.old.seen self.old.shard place.now next.now.after c) }
         ensures err { IfErr result (λ e. e ≡ Refusal.OutOfMemory) }
+        ensures unchanged { self.new ≡ self.old }
     {
+        let source = self.slot();
+        let stored = self.stored();
         let table = &schema.tables.as_slice()[next.table];
-        let last = next.after.as_ref();
-        let rows = self.contents.store.behind(alloc, next.table, table, last)?;
-        let first = first_wanted(alloc, place, table, last, rows)?;
+        let rows = self
+            .contents
+            .first_wanted(alloc, &mut self.sorted, place, table, next)?;
         Ok(Copied {
-            source: self.slot(),
+            source,
             table: next.table,
-            place: self.stored(),
-            rows: Items::from_vec(first),
+            place: stored,
+            rows: Items::from_vec(rows),
         })
     }
 
+    /// Drops the tables that it keeps in order for targets, as where these are given up. Takes no memory.
+    pub fn drop_sorted(&mut self)
+        ensures { self.new ≡ self.old }
+    {
+        self.sorted.clear();
+    }
+
+    // Promise: A Copy is exactly one entry, behind a look. It is done only where the target had fewer than 2^40 entries, and has no more rows
+    // then than it may. It is refused for want of memory, or where it passes one of these limits (F24): for rows only where the target would
+    // have more than it may, with that entry behind the run. A refused one could have come next, and appended nothing
     /// Takes over the rows of a Copy that is next for it, on a target that follows: one look, which the pass keeps, and then one entry.
-    /// Refuses for want of memory, and what would pass the limit of entries; then the look was made, and nothing else.
+    /// Refuses for want of memory, and what would pass a limit of the shard; then the look was made, and nothing else.
     pub fn copy(
         &mut self,
         alloc: Global,
@@ -254,13 +272,19 @@ impl<W: World, J: Naming> ShardState<W, J> {
         requires next { IsNextCopy W.opening pass.old.seen self.old taken }
         ensures copied { OnOk result ((looked : PassView Entry) × HasLooked W.opening self.old.shard.slot pass.old looked
             × HasAppended W.opening (record { seen = looked.seen; shard = self.old.shard }) (Event.Copy taken) looked pass.new) }
+        ensures room { OnOk result (length (entries_on self.old.shard.slot self.old.seen) < 2 ^ 40) }
+        ensures rows { OnOk result (row_count (held W.opening pass.new.seen self.old.shard) ≤ W.limits.rows) }
         ensures looked { OnErr result (HasLooked W.opening self.old.shard.slot pass.old pass.new) }
-        ensures err { IfErr result (λ e. (e ≡ Refusal.OutOfMemory) ⊎ ((e ≡ Refusal.ShardFull) × (2 ^ 40 ≤ length (entries_on self.old.shard.slot pass.new.seen)))) }
+        ensures may { OnErr result (MayFollow W.opening pass.new.seen (record { shard = self.old.shard; event = Event.Copy taken })) }
+        ensures err { IfErr result (λ e. (e ≡ Refusal.OutOfMemory) ⊎ ((e ≡ Refusal.ShardFull) × PassesLimit W.opening W.limits pass.new.seen self.old.shard (Event.Copy taken))) }
         ensures seen { self.new.seen ≡ pass.new.seen }
         ensures shard { self.new.shard ≡ self.old.shard }
     {
+        // a target gives no rows, so it keeps no table in order
+        self.sorted.clear();
         let entries = self.seat.look(pass);
-        if entries >= MOST_ENTRIES {
+        let rows = taken.rows.len();
+        if !self.contents.has_room_to_copy(entries, rows) {
             return Err(Refusal::ShardFull);
         }
         let prepared = self.contents.prepare_copy(alloc, taken)?;

@@ -56,7 +56,9 @@ impl<W: World, J: Naming> ShardState<W, J> {
         let ShardState {
             seat,
             contents: _,
+            sorted: _,
             targets: _,
+            given_up: _,
         } = self;
         seat
     }

@@ -19,6 +19,7 @@ use Rattle.vschema.specs.Database.{Database, SameRows, rows_of, same_row, lies_i
 use Rattle.vschema.specs.WellFormed.{is_vschema}
 use Rattle.sql_eval.proofs.ChangeLemmas.{rows-same}
 use Rattle.sql_eval.proofs.Permutations.{IsPermutation-filter}
+use Rattle.journal.specs.Runs.{on_slot}
 use Rattle.journal.specs.Views.{SeatView, PassView, IsLater}
 use Rattle.journal.proofs.Fronts.{prefix_trans}
 use Rattle.shard_run.specs.declared.Shard.{Shard}
@@ -30,7 +31,7 @@ use Rattle.shard_run.specs.declared.Entry.{Entry}
 use Rattle.shard_run.specs.Runs.{Run, Opening, held, first_rows, mode, is_serving, is_on, is_stored, stored_on, stored_changes, entries_on}
 use Rattle.shard_run.specs.Copies.{position, is_key_before, table_at, is_last, has_copied_all, is_copied, is_copy_that, reaches}
 use Rattle.shard_law.specs.Legal.{Legal, MayCopy, Had, IsOnItsSlot, is_left}
-use Rattle.shard_run.specs.Openings.{IsOpening}
+use Rattle.shard_run.specs.Openings.{IsOpening, row_count}
 use Rattle.shard_law.specs.Law.{copied_by, rows_copied}
 use Rattle.shard_law.proofs.Databases.{length-all_applied}
 use Rattle.shard_law.proofs.Keys.{filter-permuted}
@@ -45,10 +46,13 @@ use Rattle.shard_contents.specs.Progress.{last_row, steps_of, steps_on}
 use Rattle.shard_contents.specs.Kept.{keep, kept_from, kept_on}
 use Rattle.shard_contents.specs.Shards as sh
 use Rattle.shard_contents.specs.Shards.{Holds, holds, Keeps, IsAfter, Names, ShardView, slot_of, commit_of, beyond}
-use Rattle.shard_contents.specs.Copying.{is_reached, is_wanted, IsCopyFor, IsNextCopy}
+use Rattle.shard_contents.specs.Copying.{is_reached, is_wanted, IsCopyFor, IsNextCopy, PassesLimit}
+use Rattle.shard_contents.specs.Copying as limits
+use Rattle.shard_contents.specs.inner.Copying.{has_room_to_copy}
 use Rattle.shard_contents.specs.inner.Placed.{AreFirst}
 use Rattle.shard_contents.specs.inner.Rowed.{row_of}
-use Rattle.shard_contents.proofs.Bags.{same_through, length-same, all_applied-same}
+use Rattle.shard_contents.proofs.StepRoom.{copied_count, room_to_copy, no_room_to_copy}
+use Rattle.shard_contents.proofs.Bags.{row_count-same, same_through, length-same, all_applied-same}
 use Rattle.shard_contents.proofs.FirstRows.{strictly}
 use Rattle.shard_contents.proofs.Commits.{applied-append}
 use Rattle.shard_contents.proofs.Follows as f
@@ -439,8 +443,8 @@ module _ (o : Opening) (most : Limits) (seat : SeatView Entry) (c : Contents) (i
 
 -- ---- the Copy as the code makes it
 
-module _ (o : Opening) (most : Limits) (seat looked : SeatView Entry) (c : Contents) (targets : List Shard) (p q : PassView Entry)
-    (inv : IsAfter o most seat c × Names o seat.seen c.shard targets) (further : IsLater slot_of commit_of (sh.MayFollow o) seat p looked.seen)
+module _ {X : Type 0} (o : Opening) (most : Limits) (seat looked : SeatView Entry) (c : Contents) (targets : List Shard) (p q : PassView Entry)
+    (inv : IsAfter o most seat c × Names o seat.seen c.shard targets × X) (further : IsLater slot_of commit_of (sh.MayFollow o) seat p looked.seen)
     (seat_is : looked ≡ record seat { seen = looked.seen }) (pass_is : q ≡ record p { seen = looked.seen; looks = p.looks ++ (seat.slot, length looked.seen) ∷ [] })
     (v : ShardView) (view : record { seen = seat.seen; shard = c.shard } ≡ v) (following : mode o v.seen v.shard.slot ≡ Following) (taken : C.Copied)
     (next : IsNextCopy o p.seen v taken) where
@@ -458,3 +462,62 @@ module _ (o : Opening) (most : Limits) (seat looked : SeatView Entry) (c : Conte
             (mode_there o most looked c now_is run more.alone
             ∙ f.follows_now o most seat looked c targets p q inv further seat_is pass_is v view following),
       )
+
+  abbrev adds : List RowChange
+  adds = map (Added taken.table) taken.rows
+
+  has_now : Holds o most looked.seen c
+  has_now = f.has_now o most seat looked c targets p q inv further seat_is pass_is v view following
+
+  shard_is : c.shard ≡ v.shard
+  shard_is = ap (λ (x : ShardView). x.shard) view
+
+  -- after its entry it has so many rows
+  copied_rows : (run : Run) → entries_on looked.slot run ≡ entries_on looked.slot looked.seen
+      → row_count (held o (run ++ record { shard = v.shard; event = Copy taken } ∷ []) v.shard) ≡ row_count c.store.rows + length taken.rows
+  copied_rows run alone =
+      let follows = f.follows_now o most seat looked c targets p q inv further seat_is pass_is v view following in
+      let changed = all_applied-same adds c.store.rows (held o looked.seen c.shard) has_now.rows in
+      let there = next.next.table.0 in
+      let tables = has_now.tables in
+      ap (λ (s : Shard). row_count (held o (run ++ record { shard = s; event = Copy taken } ∷ []) s)) (sym shard_is)
+      ∙ ap row_count (held_now o most looked c now_is follows run alone taken)
+      ∙ sym (row_count-same (all_applied adds c.store.rows) (all_applied adds (held o looked.seen c.shard)) changed)
+      ∙ copied_count taken.table taken.rows c.store.rows (omega (arith, there, tables))
+
+  -- after the run that was seen it may come
+  pub copy_lawful_now : sh.MayFollow o q.seen (record { shard = v.shard; event = Copy taken })
+  copy_lawful_now =
+      let seen_same : q.seen ≡ looked.seen = ap (λ (x : PassView Entry). x.seen) pass_is in
+      let h = copy_lawful looked.seen (f.nothing_since o looked q further.legal seen_same) in
+      subst (λ (r : Run). sh.MayFollow o r (record { shard = v.shard; event = Copy taken })) (sym seen_same)
+      (subst (λ (s : Shard). sh.MayFollow o looked.seen (record { shard = s; event = Copy taken })) shard_is h)
+
+  -- where the test by counts says no, a limit is passed
+  pub copy_passes : (n : ℕ) → n ≡ length (filter (on_slot slot_of seat.slot) looked.seen)
+      → has_room_to_copy c.limits n (row_count c.store.rows) (length taken.rows) ≡ false → PassesLimit o most q.seen v.shard (Copy taken)
+  copy_passes n ns h = by (no_room_to_copy c.limits n (row_count c.store.rows) (length taken.rows) h)
+    where
+      by : (2 ^ 40 ≤ n) ⊎ (c.limits.rows < row_count c.store.rows + length taken.rows) → PassesLimit o most q.seen v.shard (Copy taken)
+      by (inl h) =
+          let count = f.count_is o most seat looked c targets p q inv further seat_is pass_is v view following n ns in
+          let told = f.entries_told o most seat looked c targets p q inv further seat_is pass_is v view following in
+          limits.entries (omega (arith, count, told, h))
+      by (inr h) =
+          let rows = copied_rows looked.seen refl in
+          let limit = ap (λ (x : Limits). x.rows) inv.0.limits in
+          let seen_same : q.seen ≡ looked.seen = ap (λ (x : PassView Entry). x.seen) pass_is in
+          let told = ap (λ (r : Run). row_count (held o (r ++ record { shard = v.shard; event = Copy taken } ∷ []) v.shard)) seen_same in
+          limits.rows (omega (arith, rows, limit, told, h))
+
+  -- and where it says yes, none is
+  pub copy_within : (n : ℕ) (run seen : Run) → entries_on looked.slot run ≡ entries_on looked.slot looked.seen
+      → seen ≡ run ++ record { shard = c.shard; event = Copy taken } ∷ []
+      → has_room_to_copy c.limits n (row_count c.store.rows) (length taken.rows) ≡ true → row_count (held o seen v.shard) ≤ most.rows
+  copy_within n run seen alone end_is h =
+      let rows = copied_rows run alone in
+      let limit = ap (λ (x : Limits). x.rows) inv.0.limits in
+      let few = room_to_copy c.limits n (row_count c.store.rows) (length taken.rows) h in
+      let told = ap (λ (r : Run). row_count (held o r v.shard)) end_is
+      ∙ ap (λ (s : Shard). row_count (held o (run ++ record { shard = s; event = Copy taken } ∷ []) v.shard)) shard_is in
+      omega (arith, rows, limit, few, told)

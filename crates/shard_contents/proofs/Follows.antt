@@ -1,15 +1,15 @@
 -- A following step: when it is lawful, also where the source goes on meanwhile, and when nothing is left to follow.
-use Rattle.std.proofs.Common.{flat_map, ◌≡◌, ℕ, zero, suc, ◌+◌, ◌<◌, ◌≤◌, ◌^◌, Bool, true, ◌&&◌, List, [], ◌∷◌, ◌++◌, length, filter, slice_get, Some, refl, sym, ap, ◌∙◌, subst, arith, length-append}
-use Rattle.std.specs.Prelude.{Contains}
+use Rattle.std.proofs.Common.{flat_map, inl, inr, false, ◌≡◌, ℕ, zero, suc, ◌+◌, ◌<◌, ◌≤◌, ◌^◌, Bool, true, ◌&&◌, List, [], ◌∷◌, ◌++◌, length, filter, slice_get, Some, refl, sym, ap, ◌∙◌, subst, arith, length-append}
+use Rattle.std.specs.Prelude.{Contains, count_by}
 use Rattle.std.proofs.lemmas.List.Elements.{filter-append}
 use Rattle.std.specs.List.{AllByRecursion}
 use Rattle.std.proofs.lemmas.Bool.{eq-eqb, false≢true}
 use mathlib.Core.List.{IsPrefix}
 use Rattle.vschema.specs.declared.changes.RowChange.{RowChange}
 use Rattle.vschema.specs.Database.{SameRows, restricted_changes, all_applied, changed_table}
-use Rattle.journal.specs.Runs.{on_slot}
+use Rattle.journal.specs.Runs.{IsLegal, on_slot, by_session}
 use Rattle.journal.specs.Views.{SeatView, PassView, IsLater}
-use Rattle.journal.proofs.Fronts.{prefix_trans}
+use Rattle.journal.proofs.Fronts.{prefix_trans, prefix_self}
 use Rattle.shard_run.specs.declared.Shard.{Shard}
 use Rattle.shard_run.specs.declared.Mode.TheVariants.{Following}
 use Rattle.shard_run.specs.declared.Follow as F
@@ -19,7 +19,7 @@ use Rattle.shard_run.specs.Runs.{Run, Opening, held, first_rows, mode, is_servin
 use Rattle.shard_law.specs.Legal.{Legal, MayFollowSource, IsOnItsSlot}
 use Rattle.shard_run.specs.Copies.{position, change_is_copied}
 use Rattle.shard_contents.proofs.Positions.{position-same, copied-same}
-use Rattle.shard_run.specs.Openings.{IsOpening}
+use Rattle.shard_run.specs.Openings.{IsOpening, row_count}
 use Rattle.shard_law.proofs.Law.{slots}
 use Rattle.shard_law.proofs.Databases.{length-all_applied}
 use Rattle.shard_law.proofs.Runs.{log, log-on, mode-on, stored_on-push}
@@ -36,7 +36,12 @@ use Rattle.shard_contents.specs.Progress.{steps_of, steps_on}
 use Rattle.shard_contents.specs.Kept.{keep, kept_from, kept_on}
 use Rattle.shard_contents.proofs.Kept.{kept-push}
 use Rattle.shard_contents.proofs.Progress.{steps-push}
-use Rattle.shard_contents.proofs.Bags.{same_through, length-same, all_applied-same}
+use Rattle.shard_contents.specs.Commits.{is_added, is_removed}
+use Rattle.shard_contents.specs.Copying.{PassesLimit}
+use Rattle.shard_contents.specs.Copying as limits
+use Rattle.shard_contents.specs.inner.Transactions.{has_room_for}
+use Rattle.shard_contents.proofs.StepRoom.{IsNoRoomFor, no_room_for, room_by_rows, at_least}
+use Rattle.shard_contents.proofs.Bags.{row_count-same, same_through, length-same, all_applied-same}
 use Rattle.shard_contents.proofs.States.{held-same, stored-same, holds_of, entries-on, after_look, mode_after_look, alone_here}
 use Rattle.shard_contents.proofs.Modes.{here, stands_there, mode_there}
 
@@ -83,7 +88,16 @@ none_left o opens first second slot source stored n later legal is at level =
     let more = stored_more source first second later in
     omega (arith, is, level, more, most)
 
--- ---- room for all changes
+-- what was seen by a look is a run that seat and pass may meet
+pub nothing_since : (o : Opening) (looked : SeatView Entry) (q : PassView Entry) → IsLegal (sh.MayFollow o) looked.seen → q.seen ≡ looked.seen
+    → IsLater slot_of commit_of (sh.MayFollow o) looked q looked.seen
+nothing_since o looked q legal same = record {
+  legal = legal;
+  seat = prefix_self looked.seen;
+  pass = subst (λ (r : Run). IsPrefix r looked.seen) (sym same) (prefix_self looked.seen);
+  alone = refl;
+  own = λ n mine. ap (filter (by_session commit_of n)) (sym same);
+}
 
 -- ---- what a following step leaves
 
@@ -163,8 +177,8 @@ module _ (o : Opening) (most : Limits) (seat : SeatView Entry) (c : Contents) (i
 
 -- ---- the step as the code makes it
 
-module _ (o : Opening) (most : Limits) (seat looked : SeatView Entry) (c : Contents) (targets : List Shard) (p q : PassView Entry)
-    (inv : IsAfter o most seat c × Names o seat.seen c.shard targets) (later : IsLater slot_of commit_of (sh.MayFollow o) seat p looked.seen)
+module _ {X : Type 0} (o : Opening) (most : Limits) (seat looked : SeatView Entry) (c : Contents) (targets : List Shard) (p q : PassView Entry)
+    (inv : IsAfter o most seat c × Names o seat.seen c.shard targets × X) (later : IsLater slot_of commit_of (sh.MayFollow o) seat p looked.seen)
     (seat_is : looked ≡ record seat { seen = looked.seen }) (pass_is : q ≡ record p { seen = looked.seen; looks = p.looks ++ (seat.slot, length looked.seen) ∷ [] })
     (v : ShardView) (view : record { seen = seat.seen; shard = c.shard } ≡ v) (following : mode o v.seen v.shard.slot ≡ Following) where
   slot_same : looked.slot ≡ seat.slot
@@ -181,7 +195,7 @@ module _ (o : Opening) (most : Limits) (seat looked : SeatView Entry) (c : Conte
       mode_after_look o most seat looked p c targets later slot_same inv.0
       ∙ subst (λ (x : ShardView). mode o x.seen x.shard.slot ≡ Following) (sym view) following
 
-  has_now : Holds o most looked.seen c
+  pub has_now : Holds o most looked.seen c
   has_now = holds_of o most looked.seen c now_is.keeps (following_lives (mode o looked.seen c.shard.slot) follows_now)
 
   pub tables_now : length c.store.rows ≡ length o.schema.tables
@@ -219,6 +233,13 @@ module _ (o : Opening) (most : Limits) (seat looked : SeatView Entry) (c : Conte
               next.entry next.stored (next.filtered ∙ ap (λ (r : Run). taken r v.shard) v_seen ∙ ap (λ (s : Shard). taken seat.seen s) s_is),
         )
 
+    -- after the run that was seen too
+    pub lawful_now : sh.MayFollow o q.seen (record { shard = v.shard; event = Follow f })
+    lawful_now =
+        let h = lawful looked.seen (nothing_since o looked q later.legal seen_same) in
+        subst (λ (r : Run). sh.MayFollow o r (record { shard = v.shard; event = Follow f })) (sym seen_same)
+        (subst (λ (s : Shard). sh.MayFollow o looked.seen (record { shard = s; event = Follow f })) (ap (λ (x : ShardView). x.shard) view) h)
+
     -- and of tables that are there
     pub there_now : AllByRecursion (λ (x : RowChange). changed_table x < length o.schema.tables) f.changes
     there_now =
@@ -226,3 +247,48 @@ module _ (o : Opening) (most : Limits) (seat looked : SeatView Entry) (c : Conte
         (taken_there o looked.seen (legal_is o looked.seen later.legal) f.source f.place next.entry
         (stored_later f.source f.place p.seen looked.seen next.entry later.pass next.stored) v.shard.place
         (change_is_copied o.schema v.seen v.shard.slot f.source))
+
+    rows_told : row_count (all_applied f.changes c.store.rows) ≡ row_count (held o (q.seen ++ record { shard = v.shard; event = Follow f } ∷ []) v.shard)
+    rows_told =
+        let changed = all_applied-same f.changes c.store.rows (held o looked.seen c.shard) has_now.rows in
+        row_count-same (all_applied f.changes c.store.rows) (all_applied f.changes (held o looked.seen c.shard)) changed
+        ∙ ap row_count (sym (held_now o most looked c now_is follows_now looked.seen refl f))
+        ∙ ap (λ (r : Run). row_count (held o (r ++ record { shard = c.shard; event = Follow f } ∷ []) c.shard)) (sym seen_same)
+        ∙ ap (λ (s : Shard). row_count (held o (q.seen ++ record { shard = s; event = Follow f } ∷ []) s)) (ap (λ (x : ShardView). x.shard) view)
+
+    -- where the test by counts says no, a limit is passed
+    pub passes : (n stored : ℕ) → n ≡ length (filter (on_slot slot_of seat.slot) looked.seen) → stored ≡ length c.stored.items
+        → has_room_for c.limits n stored (row_count c.store.rows) f.changes ≡ false → PassesLimit o most q.seen v.shard (Follow f)
+    passes n stored ns ss h = by (no_room_for c.limits n stored (row_count c.store.rows) f.changes h)
+      where
+        by : IsNoRoomFor c.limits n stored (row_count c.store.rows) f.changes → PassesLimit o most q.seen v.shard (Follow f)
+        by (inl h) = let count = count_is n ns in let told = entries_told in limits.entries (omega (arith, count, told, h))
+        by (inr (inl h)) =
+            let told = stored_told in let limit = ap (λ (x : Limits). x.stored) inv.0.limits in limits.stored (omega (arith, told, ss, limit, h))
+        by (inr (inr h)) =
+            let told = rows_told in
+            let limit = ap (λ (x : Limits). x.rows) inv.0.limits in
+            let few = at_least f.changes c.store.rows (subst (λ k. AllByRecursion (λ (x : RowChange). changed_table x < k) f.changes) (sym tables_now) there_now) in
+            limits.rows (omega (arith, told, limit, few, h))
+
+    -- where it says yes, the rows are within the limit by counts
+    pub fits : (n stored : ℕ) → has_room_for c.limits n stored (row_count c.store.rows) f.changes ≡ true
+        → row_count c.store.rows + count_by is_added f.changes ≤ most.rows + count_by is_removed f.changes
+    fits n stored h =
+        let limit = ap (λ (x : Limits). x.rows) inv.0.limits in
+        let few = room_by_rows c.limits n stored (row_count c.store.rows) f.changes h in
+        omega (arith, limit, few)
+
+    -- and so they are after each run that seat and pass may meet
+    pub held_then : (run : Run) → IsLater slot_of commit_of (sh.MayFollow o) looked q run → row_count (held o run c.shard) ≡ row_count c.store.rows
+    held_then run more =
+        ap row_count (held-same o looked.seen run c.shard (here o most looked c now_is run more.alone))
+        ∙ sym (row_count-same c.store.rows (held o looked.seen c.shard) has_now.rows)
+
+    pub there_then : (run : Run) → IsLater slot_of commit_of (sh.MayFollow o) looked q run
+        → AllByRecursion (λ (x : RowChange). changed_table x < length (held o run c.shard)) f.changes
+    there_then run more =
+        let long : length o.schema.tables ≡ length (held o run c.shard) =
+        sym tables_now ∙ length-same c.store.rows (held o looked.seen c.shard) has_now.rows
+        ∙ ap length (sym (held-same o looked.seen run c.shard (here o most looked c now_is run more.alone))) in
+        subst (λ k. AllByRecursion (λ (x : RowChange). changed_table x < k) f.changes) long there_now

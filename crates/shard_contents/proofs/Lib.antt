@@ -4,6 +4,7 @@ pub mod Stores
 pub mod Changes
 pub mod Legality
 pub mod Counts
+pub mod StepRoom
 pub mod Places
 pub mod Commits
 pub mod Positions
@@ -19,3 +20,4 @@ pub mod FirstRows
 pub mod CopySteps
 pub mod OneTable
 pub mod SourceRows
+pub mod Earlier

@@ -32,7 +32,7 @@ filter_both {X} f g (x ∷ xs) = cases (f x) (filter_both f g xs)
     cases true rest = ap (λ (ys : List X). if g x then x ∷ ys else ys) rest
     cases false rest = rest
 
-stored_in : (slot : ℕ) (run : List Entry) → stored_on slot run ≡ filter (λ e. is_stored e.event) (entries_on slot run)
+pub stored_in : (slot : ℕ) (run : List Entry) → stored_on slot run ≡ filter (λ e. is_stored e.event) (entries_on slot run)
 stored_in slot run = filter_both (is_on slot) (λ e. is_stored e.event) run
 
 -- what two runs with the same entries on a slot leave there
@@ -162,14 +162,14 @@ module _ (o : Opening) (limits : Limits) (old new : SeatView Entry) (p : PassVie
   pub names_after_look : Names o old.seen c.shard targets → Names o new.seen c.shard targets
   names_after_look = still_names o old.seen new.seen c.shard targets alone_here later.seat
 
--- what lies beside a seat once it has looked
+-- what lies beside a seat once it has looked, whatever else the state keeps
 pub record Looked (o : Opening) (most : Limits) (seat : SeatView Entry) (c : Contents) (targets : List Shard) : Type 0 where
   pub is : IsAfter o most seat c
   pub names : Names o seat.seen c.shard targets
 
-pub looked : (o : Opening) (most : Limits) (old new : SeatView Entry) (p : PassView Entry) (c : Contents) (targets : List Shard)
+pub looked : {X : Type 0} (o : Opening) (most : Limits) (old new : SeatView Entry) (p : PassView Entry) (c : Contents) (targets : List Shard)
     → IsLater slot_of commit_of (MayFollow o) old p new.seen → new ≡ record old { seen = new.seen }
-    → IsAfter o most old c × Names o old.seen c.shard targets → Looked o most new c targets
+    → IsAfter o most old c × Names o old.seen c.shard targets × X → Looked o most new c targets
 looked o most old new p c targets later seat is = record {
   is = after_look o most old new p c targets later (ap (λ (s : SeatView Entry). s.slot) seat) is.0;
   names = names_after_look o most old new p c targets later (ap (λ (s : SeatView Entry). s.slot) seat) is.0 is.1;
@@ -180,9 +180,9 @@ pub record Served (o : Opening) (most : Limits) (seat : SeatView Entry) (c : Con
   pub serves : is_serving (mode o seat.seen c.shard.slot) ≡ true
   pub holds : Holds o most seat.seen c
 
-pub served : (o : Opening) (most : Limits) (old new : SeatView Entry) (p : PassView Entry) (c : Contents) (targets : List Shard)
+pub served : {X : Type 0} (o : Opening) (most : Limits) (old new : SeatView Entry) (p : PassView Entry) (c : Contents) (targets : List Shard)
     → IsLater slot_of commit_of (MayFollow o) old p new.seen → new ≡ record old { seen = new.seen }
-    → IsAfter o most old c × Names o old.seen c.shard targets → (v : ShardView) → record { seen = old.seen; shard = c.shard } ≡ v
+    → IsAfter o most old c × Names o old.seen c.shard targets × X → (v : ShardView) → record { seen = old.seen; shard = c.shard } ≡ v
     → is_serving (mode o v.seen v.shard.slot) ≡ true → Served o most new c
 served o most old new p c targets later seat is v view serves =
     let at = ap (λ (s : SeatView Entry). s.slot) seat in

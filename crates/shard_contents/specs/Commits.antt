@@ -1,5 +1,5 @@
 -- What a commit of one write on a shard does, and why it is refused.
-use Rattle.std.specs.Prelude.{◌≡◌, ℕ, ◌<◌, ◌≤◌, ◌^◌, false, IsTrue, List, [], ◌∷◌, ◌++◌, length, slice_index_or, Some, Ok, Err}
+use Rattle.std.specs.Prelude.{◌≡◌, ℕ, ◌<◌, ◌≤◌, ◌^◌, Bool, true, false, IsTrue, List, [], ◌∷◌, ◌++◌, length, slice_index_or, Some, Ok, Err}
 use Rattle.std.specs.List.{filter, list_all}
 use mathlib.Core.List.{IsPrefix}
 use Rattle.vt_value.specs.declared.refusal.Refusal.{Refusal}
@@ -10,6 +10,7 @@ use Rattle.vschema.specs.declared.schema.VSchema.{VSchema}
 use Rattle.vschema.specs.declared.changes.Write.{Write}
 use Rattle.vschema.specs.declared.changes.Write.TheVariants.{Insert}
 use Rattle.vschema.specs.declared.changes.RowChange.{RowChange}
+use Rattle.vschema.specs.declared.changes.RowChange.TheVariants.{Added, Replaced, Removed}
 use Rattle.vschema.specs.Schema.{no_table}
 use Rattle.vschema.specs.Database.{Database, lies_in, restrict, all_applied}
 use Rattle.sql_eval.specs.Writes.{written_table, changes_of, change}
@@ -39,6 +40,16 @@ IsPlaced schema place w =
 abbrev pub commit_entry : Shard → ℕ → ℕ → Write → List RowChange → Entry
 commit_entry s session number w changes =
     record { shard = s; event = Commit (record { session = session; number = number; statements = w ∷ []; changes = changes }) }
+
+abbrev pub is_added : RowChange → Bool
+is_added (Added n row) = true
+is_added (Replaced n old new) = false
+is_added (Removed n row) = false
+
+abbrev pub is_removed : RowChange → Bool
+is_removed (Added n row) = false
+is_removed (Replaced n old new) = false
+is_removed (Removed n row) = true
 
 -- after the run, one more stored entry with these changes passes no limit of the shard
 pub record HasRoom (o : Opening) (limits : Limits) (s : Shard) (run : Run) (changes : List RowChange) : Type 0 where

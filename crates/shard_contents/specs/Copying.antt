@@ -1,5 +1,5 @@
 -- What a target takes over of a source: how far it has come with it, and what the source has for it then.
-use Rattle.std.specs.Prelude.{◌≡◌, ◌⊎◌, ℕ, Bool, false, not, ◌&&◌, IsTrue, List, length, filter, take, AllPairs, Contains, IsPermutation, MatchOption, Option, Some, None, slice_get}
+use Rattle.std.specs.Prelude.{◌≡◌, ◌⊎◌, ℕ, ◌<◌, ◌≤◌, ◌^◌, Bool, false, not, ◌&&◌, IsTrue, List, [], ◌∷◌, ◌++◌, length, filter, take, AllPairs, Contains, IsPermutation, MatchOption, Option, Some, None, slice_get}
 use Rattle.vt_value.specs.Values.{Row}
 use Rattle.vschema.specs.declared.schema.Table.{Table}
 use Rattle.vschema.specs.declared.schema.Place.{Place}
@@ -10,10 +10,14 @@ use Rattle.shard_run.specs.declared.Shard.{Shard}
 use Rattle.shard_run.specs.declared.Entry.{Entry}
 use Rattle.shard_run.specs.declared.Follow as F
 use Rattle.shard_run.specs.declared.Copied.{Copied}
+use Rattle.shard_run.specs.declared.Event.{Event}
+use Rattle.shard_run.specs.declared.Event.TheVariants.{Follow}
 use Rattle.shard_run.specs.declared.Mode.TheVariants.{Following}
-use Rattle.shard_run.specs.Runs.{Run, Opening, IsShardOf, held, mode, is_serving, stored_on, stored_changes}
+use Rattle.shard_run.specs.Runs.{Run, Opening, IsShardOf, held, mode, is_serving, entries_on, stored_on, stored_changes}
+use Rattle.shard_run.specs.Openings.{row_count}
 use Rattle.shard_run.specs.Copies.{position, is_key_before, table_at, step, has_copied_all, is_copied}
 use Rattle.shard_law.specs.Legal.{Had, IsTableOf, is_left}
+use Rattle.shard_contents.specs.declared.limits.Limits.{Limits}
 use Rattle.shard_contents.specs.Shards.{ShardView}
 use Rattle.shard_contents.specs.declared.copying.SourceProgress.{SourceProgress}
 
@@ -70,6 +74,13 @@ pub record IsCopyFor (o : Opening) (run : Run) (source : Shard) (into : Place) (
   pub all : IsPermutation (filter (is_wanted into (table_at o.schema c.table) after) (rows_of (held o run source) c.table)) arranged
   pub in_order : AllPairs (IsBefore (table_at o.schema c.table)) arranged
   pub rows : c.rows ≡ take step arranged
+
+-- The step, a Copy or a Follow of a target, passes a limit of it: the target has as many entries as a shard may have; it stores as many as it
+-- may, and a Follow is stored; or with the step it has more rows than it may.
+pub data PassesLimit (o : Opening) (most : Limits) (run : Run) (s : Shard) : Event → Type 0 where
+  entries : {step : Event} → 2 ^ 40 ≤ length (entries_on s.slot run) → PassesLimit o most run s step
+  stored : {f : F.Follow} → most.stored ≤ length (stored_on s.slot run) → PassesLimit o most run s (Follow f)
+  rows : {step : Event} → most.rows < row_count (held o (run ++ record { shard = s; event = step } ∷ []) s) → PassesLimit o most run s step
 
 -- The Copy is next for the shard: of the first table that it hasn't wholly copied, at its position in the source, and of the first rows by
 -- key that aren't copied of those that the source had then.

@@ -1,7 +1,9 @@
 pub mod Placed
 pub mod Rowed
 pub mod Commits
+pub mod Copying
 pub mod Progress
 pub mod Shards
 pub mod Stores
 pub mod Transactions
+pub mod Earlier

@@ -10,12 +10,15 @@ ghost use Rattle.shard_run.specs.Copies.{is_last};
 ghost use Rattle.shard_store.specs.Stores.{IsReadyFor};
 ghost use Rattle.shard_contents.specs.Progress.{behind, last_row};
 ghost use Rattle.shard_contents.specs.Kept.{keep};
+ghost use Rattle.shard_run.specs.Openings.{row_count};
 ghost use Rattle.shard_contents.specs.inner.Rowed.{row_of, first_named};
+ghost use Rattle.shard_contents.specs.inner.Copying.{has_room_to_copy};
 
 use crate::choosing::{COPY_STEP, lies_in};
 use crate::contents::Contents;
 use crate::copies::{copy_change, copy_shard};
 use crate::forward::{Step, keep};
+use crate::limits::MOST_ENTRIES;
 use crate::store::changed_table;
 use shard_run::{Copied, Entry, Event};
 use shard_store::{KeyedChange, StoredTables};
@@ -194,6 +197,16 @@ fn prepare_rows(
 }
 
 impl Contents {
+    /// Whether a Copy of so many rows passes no limit, once the shard has so many entries.
+    pub fn has_room_to_copy(&self, entries: u64, rows: usize) -> bool
+        ensures { result ≡ has_room_to_copy self.now.limits entries (row_count self.now.store.rows) rows }
+    {
+        let added = rows as u64;
+        entries < MOST_ENTRIES
+            && added <= self.limits.rows
+            && self.store.has_at_most(self.limits.rows - added)
+    }
+
     // Makes all memory of a Copy; what the shard holds stays as it is.
     pub fn prepare_copy(&mut self, alloc: Global, taken: Copied) -> Result<PreparedCopy, Refusal>
         requires { taken.table < length self.old.store.rows }

@@ -11,11 +11,12 @@ mod limits;
 mod outcomes;
 mod pending;
 mod preparing;
+mod sorted;
 mod store;
 mod touch;
 
 pub use behind::changes_any;
-pub use choosing::{COPY_STEP, first_wanted, is_key_before, is_reached, lies_in};
+pub use choosing::{COPY_STEP, is_key_before, is_reached, lies_in};
 pub use contents::{Author, Contents, Prepared, written_table};
 pub use copies::{beside, copy_change, copy_changes, copy_shard, one};
 pub use copying::{
@@ -26,5 +27,6 @@ pub use forward::Step;
 pub use limits::{Limits, MOST_ENTRIES, MOST_ROWS, MOST_STORED};
 pub use outcomes::{Committed, Read, Reading};
 pub use pending::Pending;
+pub use sorted::{SortedTable, SortedTables};
 pub use store::{TableRows, changed_table};
 pub use touch::Touch;

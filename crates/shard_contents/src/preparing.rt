@@ -1,12 +1,13 @@
 //! What a transaction's commit needs before its entry is appended.
-ghost use Rattle.std.specs.Prelude.{◌≡◌, ◌<◌, ◌≤◌, ◌^◌, ◌++◌, ◌∷◌, [], true, IfOk, IfErr, OnOk, OnErr, length, vec_len, vec_capacity, count_by};
+ghost use Rattle.std.specs.Prelude.{◌≡◌, ◌+◌, ◌<◌, ◌≤◌, nat_le, ◌^◌, ◌++◌, ◌∷◌, [], true, IfOk, IfErr, OnOk, OnErr, length, vec_len, vec_capacity, count_by};
 ghost use Rattle.std.specs.List.{AllByRecursion};
 ghost use Rattle.vschema.specs.Database.{changed_table};
 ghost use Rattle.shard_run.specs.Openings.{row_count};
 ghost use Rattle.shard_run.specs.Runs.{held_changes};
 ghost use Rattle.shard_store.specs.Stores.{IsReadyFor};
 ghost use Rattle.shard_contents.specs.Transactions.{entry_of};
-ghost use Rattle.shard_contents.specs.inner.Transactions.{is_added, is_removed, has_room_for, IsAllUnprepared};
+ghost use Rattle.shard_contents.specs.Commits.{is_added, is_removed};
+ghost use Rattle.shard_contents.specs.inner.Transactions.{has_room_for, IsAllUnprepared};
 
 use crate::contents::{Author, Contents, Prepared};
 use crate::copies::copy_shard;
@@ -68,15 +69,24 @@ impl Pending {
 }
 
 impl Contents {
-    // Whether one more stored entry with these changes passes no limit.
-    fn has_room_for(&self, entries: u64, changes: &[RowChange]) -> bool
-        requires within { row_count self.now.store.rows ≤ self.now.limits.rows }
+    // Whether the rows, with those that are added and without those that are removed, are within the limit.
+    fn has_rows_for(&self, changes: &[RowChange]) -> bool
+        requires most { self.now.limits.rows ≤ 2 ^ 20 }
+        ensures { result ≡ nat_le (row_count self.now.store.rows + count_by is_added changes.now) (self.now.limits.rows + count_by is_removed changes.now) }
+    {
+        let added = added(changes) as u64;
+        let most = self.limits.rows + removed(changes) as u64;
+        added <= most && self.store.has_at_most(most - added)
+    }
+
+    /// Whether one more stored entry with these changes passes no limit, once the shard has so many entries.
+    pub fn has_room_for(&self, entries: u64, changes: &[RowChange]) -> bool
         requires most { self.now.limits.rows ≤ 2 ^ 20 }
         ensures { result ≡ has_room_for self.now.limits entries (vec_len self.now.stored) (row_count self.now.store.rows) changes.now }
     {
-        let rows = self.store.row_count() as u64 + added(changes) as u64;
-        let most = self.limits.rows + removed(changes) as u64;
-        entries < MOST_ENTRIES && (self.stored.len() as u64) < self.limits.stored && rows <= most
+        entries < MOST_ENTRIES
+            && (self.stored.len() as u64) < self.limits.stored
+            && self.has_rows_for(changes)
     }
 
     // The changes once more by keys, with room for them in the store and for an entry.

@@ -10,7 +10,7 @@ use crate::controller::Controller;
 use crate::lines::Done;
 use crate::session::{Client, Session, work};
 use crate::watch::Watch;
-use administration::{Administrator, administered_router};
+use administration::{Administrator, administered_router, widest_limits};
 use empty_opening::ranges_fit;
 use journal::{Naming, Opened, Opener, Pass};
 use keyrange::KeyRange;
@@ -216,7 +216,8 @@ fn play_over<W: World + Send + Sync, J: Naming + Send + Sync, R: Threads + Wait 
     requires schema { IsTrue (is_vschema schema) }
     requires ranges { FitRanges schema ranges.now }
 {
-    match administered_router::<W, J, Open>(alloc, schema, ranges, opened, WAITING, Open) {
+    let limits = widest_limits();
+    match administered_router::<W, J, Open>(alloc, schema, ranges, limits, opened, WAITING, Open) {
         Ok((engine, administrator, mut opener, first)) => {
             play_opened(
                 rt,

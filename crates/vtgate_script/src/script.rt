@@ -13,7 +13,7 @@ ghost use Rattle.vtgate_lines.specs.Partitions.{NamesPartition};
 ghost use Rattle.vtgate_script.specs.Scripted.{HasGiven, HasScripted};
 
 use crate::sessions::{Sessions, run_lines};
-use administration::{Administrator, administered_router};
+use administration::{Administrator, administered_router, widest_limits};
 use journal::{Naming, Opened, Opener, Pass};
 use keyrange::KeyRange;
 use route_engine::{Engine, Open};
@@ -73,7 +73,8 @@ fn run_opened<W: World + Send + Sync, J: Naming + Send + Sync, R: Threads + Wait
     requires ranges { FitRanges schema ranges.now }
     ensures { OnOk result (HasGiven (opening_of schema ranges.now) (opening_workflow schema ranges.now) lines.now (O.taken output.old) (O.taken output.new)) }
 {
-    match administered_router::<W, J, Open>(alloc, schema, ranges, opened, 0, Open) {
+    let limits = widest_limits();
+    match administered_router::<W, J, Open>(alloc, schema, ranges, limits, opened, 0, Open) {
         Err(_) => Err(Fault::OutOfMemory),
         Ok((engine, administrator, opener, pass)) => run_router(
             rt,

@@ -27,6 +27,9 @@ const BETWEEN_READS: u64 = 100;
 /// How many such reads in turn may give nothing: ten minutes.
 const SILENT_READS: u32 = 6000;
 
+/// How long a client may take no byte of an answer, in seconds.
+const ANSWER_PATIENCE: u64 = 60;
+
 /// Reads from a client of the admin port, until all is served.
 #[derive(Drop)]
 struct AdminSource<'s> {
@@ -92,7 +95,7 @@ fn serve_one<W: World + Send + Sync, J: Naming + Send + Sync, G: Gate>(
 {
     let _ = stream.set_nodelay(true);
     let _ = stream.set_read_timeout(Some(Duration::from_millis(BETWEEN_READS)));
-    let _ = stream.set_write_timeout(Some(Duration::from_millis(BETWEEN_READS)));
+    let _ = stream.set_write_timeout(Some(Duration::from_secs(ANSWER_PATIENCE)));
     let mut source = AdminSource {
         stream,
         ended,

@@ -16,7 +16,7 @@ ghost use Rattle.vtgate_serve.specs.Served.{HasServed, listening_text};
 use crate::connection::Welcome;
 use crate::entrance::Acceptor;
 use crate::ports::{Ports, bind, serve_beside_admin};
-use administration::{Administrator, administered_router};
+use administration::{Administrator, administered_router, widest_limits};
 use journal::{Naming, Opened, Opener, Pass};
 use keyrange::KeyRange;
 use route_engine::{Engine, Gate, Open};
@@ -243,7 +243,8 @@ pub fn serve_opened<
 {
     let asked = setting.asked;
     let waiting = u64::from(asked.buffer);
-    match administered_router::<W, J, G>(alloc, schema, ranges, opened, waiting, gate) {
+    let limits = widest_limits();
+    match administered_router::<W, J, G>(alloc, schema, ranges, limits, opened, waiting, gate) {
         Ok((engine, administrator, opener, pass)) => serve_owned(
             rt,
             alloc,

@@ -1,62 +1,58 @@
 -- What a workflow's beginning finds.
-use Rattle.std.specs.Prelude.{◌≡◌, ℕ, ◌+◌, ◌≤◌, ◌++◌, ◌∷◌, [], List, length, map, Contains}
+use Rattle.std.specs.Prelude.{◌≡◌, ℕ, Bool, ◌+◌, ◌≤◌, ◌++◌, ◌∷◌, [], List, length, map, Contains, count_by}
 use Rattle.std.specs.List.{AllByRecursion}
-use mathlib.Core.List.{IsPrefix}
 use Rattle.keyrange.specs.declared.KeyRange.{KeyRange}
 use Rattle.keyrange.specs.Ranges.{Overlap, Cover}
-use Rattle.serving.specs.Partitions.{Seat}
+use Rattle.keyrange.specs.Names.{IsNamed}
+use Rattle.serving.specs.Partitions.{Seat, IsPartition, AreOf}
 use Rattle.vschema.specs.declared.schema.Place.{Place}
 use Rattle.journal.specs.Views.{PassView}
 use Rattle.shard_run.specs.declared.Shard as S
 use Rattle.shard_run.specs.declared.Entry.{Entry}
-use Rattle.shard_run.specs.declared.Mode.TheVariants as modes
-use Rattle.shard_run.specs.Runs.{Run, Opening, mode}
-use Rattle.shard_law.specs.Legal.{IsOnItsSlot}
-use Rattle.vt_value.specs.declared.refusal.Refusal.TheVariants.{OutOfMemory}
-use Rattle.reshard_beginning.specs.declared.fault.ReshardFault.{ReshardFault}
-use Rattle.reshard_beginning.specs.declared.fault.ReshardFault.TheVariants.{Refused, Gap, WrongSource}
-use Rattle.reshard_beginning.specs.declared.fault.ReshardFault.TheVariants as faults
-use Rattle.reshard_beginning.specs.Choices.{AreNamed, AreApart, HoldTheSame}
-use Rattle.reshard_beginning.specs.Splits.{TakesFrom}
+use Rattle.shard_run.specs.declared.Mode.{Mode}
+use Rattle.shard_run.specs.Runs.{Run, Opening, IsShardOf, mode}
+use Rattle.reshard_beginning.specs.inner.Takes.{TakesFrom}
+use Rattle.reshard_beginning.specs.Begun.{WasSeen, IsServing, IsAway, TakesItsOwn}
 use Rattle.shard.specs.Seats.{seat_of}
 use Rattle.cutover_steps.specs.Takings.{Taking}
 use Rattle.reshard_beginning.specs.declared.creating.Sight.{Sight}
 use Rattle.reshard_beginning.specs.declared.creating.Sight.TheVariants.{Serves, DoesNot, Another}
 
--- after the run the shard of the slot and place is this one and serves, or it doesn't; or it wasn't found
+-- of these seats the ones whose ranges are named, and the rest
+pub record AreNamed (ranges : List KeyRange) (seats taken rest : List Seat) : Type 0 where
+  pub named : AllByRecursion (λ s. Contains ranges s.1) taken
+  pub not_named : AllByRecursion (λ s. Contains ranges s.1 → ⊥) rest
+  pub all : (p : Seat → Bool) → count_by p seats ≡ count_by p taken + count_by p rest
+
+-- the parts of a partition of the keyspace, told apart by the ranges that are named
+pub record AreToldApart (keyspace : ℕ) (ranges : List KeyRange) (seats taken rest : List Seat) : Type 0 where
+  pub partition : IsPartition seats
+  pub home : AreOf keyspace seats
+  pub are : AreNamed ranges seats taken rest
+  pub taken_among : AllByRecursion (Contains seats) taken
+  pub rest_among : AllByRecursion (Contains seats) rest
+
+-- after the run the shard of the slot and place is this one of the run, and its mode such
+pub record IsSighted (o : Opening) (run : Run) (slot : ℕ) (place : Place) (Such : Mode → Type 0) (s : S.Shard) : Type 0 where
+  pub on : s.slot ≡ slot
+  pub at : s.place ≡ place
+  pub of_run : IsShardOf o run s
+  pub such : Such (mode o run s.slot)
+
+-- what a look at the shard of the slot and place shows
 pub data IsSight (o : Opening) (run : Run) (slot : ℕ) (place : Place) : Sight → Type 0 where
-  serves : {s : S.Shard} → s.slot ≡ slot → s.place ≡ place → mode o run slot ≡ modes.Serving → IsSight o run slot place (Serves s)
-  does_not : (s : S.Shard) → s.slot ≡ slot → s.place ≡ place → IsOnItsSlot o run s → (mode o run slot ≡ modes.Serving → ⊥) → IsSight o run slot place DoesNot
+  serves : {s : S.Shard} → IsSighted o run slot place IsServing s → IsSight o run slot place (Serves s)
+  does_not : (s : S.Shard) → IsSighted o run slot place IsAway s → IsSight o run slot place DoesNot
   another : IsSight o run slot place Another
 
--- at a run that the pass came by the shard of the seat served
-pub record IsPicked (o : Opening) (p now : PassView Entry) (keyspace : ℕ) (seat : Seat) (s : S.Shard) : Type 0 where
-  pub run : Run
-  pub since : IsPrefix p.seen run
-  pub until : IsPrefix run now.seen
+-- the shard of the seat, as it was seen
+pub record IsSeenAt (o : Opening) (p now : PassView Entry) (keyspace : ℕ) (Such : Mode → Type 0) (seat : Seat) (s : S.Shard) : Type 0 where
   pub slot : s.slot ≡ seat.0
   pub place : s.place ≡ record { keyspace = keyspace; range = seat.1 }
-  pub serving : mode o run s.slot ≡ modes.Serving
+  pub seen : WasSeen o p now Such s
 
-abbrev pub HasServed : Opening → PassView Entry → PassView Entry → ℕ → Seat → Type 0
-HasServed o p now keyspace seat = (s : S.Shard) × IsPicked o p now keyspace seat s
-
--- nothing stands against the sources: some are named, each is a part of the partition, and each served
-pub record AreThere (o : Opening) (p now : PassView Entry) (keyspace : ℕ) (sources : List KeyRange) (taken : List Seat) : Type 0 where
-  pub some : sources ≡ [] → ⊥
-  pub count : length taken ≡ length sources
-  pub served : AllByRecursion (HasServed o p now keyspace) taken
-
--- or it didn't, or was frozen
-pub record IsAway (o : Opening) (p now : PassView Entry) (keyspace : ℕ) (seat : Seat) : Type 0 where
-  pub run : Run
-  pub since : IsPrefix p.seen run
-  pub until : IsPrefix run now.seen
-  pub shard : S.Shard
-  pub slot : shard.slot ≡ seat.0
-  pub place : shard.place ≡ record { keyspace = keyspace; range = seat.1 }
-  pub stands : IsOnItsSlot o run shard
-  pub away : mode o run shard.slot ≡ modes.Serving → ⊥
+abbrev pub HasSeen : Opening → PassView Entry → PassView Entry → ℕ → (Mode → Type 0) → Seat → Type 0
+HasSeen o p now keyspace Such seat = (s : S.Shard) × IsSeenAt o p now keyspace Such seat s
 
 -- a list of those that overlap the range grows by the shard where it does
 pub data HasGrown (range : KeyRange) (s : S.Shard) (old new : List S.Shard) : Type 0 where
@@ -68,22 +64,12 @@ pub record IsMadeOf (sources : List S.Shard) (keyspace : ℕ) (t : Taking) : Typ
   pub home : t.0.place.keyspace ≡ keyspace
   pub takes : TakesFrom sources t.0
   pub own : AllByRecursion (λ s. Contains t.0.sources s.slot) t.1
+  pub exactly : TakesItsOwn sources t
 
 -- and has this range
 pub record IsMade (sources : List S.Shard) (keyspace : ℕ) (range : KeyRange) (t : Taking) : Type 0 where
   pub at : t.0.place.range ≡ range
   pub is : IsMadeOf sources keyspace t
-
--- Why these targets may not take the place of the parts that are named. The sources are judged first, then whether targets overlap, then what they
--- hold.
-pub data IsUnfit (o : Opening) (p now : PassView Entry) (keyspace : ℕ) (sources targets : List KeyRange) (taken rest : List Seat) : ReshardFault → Type 0 where
-  no_memory : IsUnfit o p now keyspace sources targets taken rest (Refused OutOfMemory)
-  none_named : sources ≡ [] → IsUnfit o p now keyspace sources targets taken rest WrongSource
-  not_there : (length taken ≡ length sources → ⊥) → IsUnfit o p now keyspace sources targets taken rest WrongSource
-  away : (seat : Seat) → Contains taken seat → IsAway o p now keyspace seat → IsUnfit o p now keyspace sources targets taken rest WrongSource
-  overlap : AreThere o p now keyspace sources taken → (AreApart targets → ⊥) → IsUnfit o p now keyspace sources targets taken rest faults.Overlap
-  gap : AreThere o p now keyspace sources taken → AreApart targets → (HoldTheSame targets (map (λ s. s.1) taken) → ⊥)
-      → IsUnfit o p now keyspace sources targets taken rest Gap
 
 -- Of the parts of a partition those of the named ranges, whose shards are the sources; targets of the other ranges may stand beside the rest.
 pub record IsSurvey (keyspace : ℕ) (from into : List KeyRange) (parts : List Seat) (sources : List S.Shard) (rest : List Seat) : Type 0 where
@@ -92,6 +78,7 @@ pub record IsSurvey (keyspace : ℕ) (from into : List KeyRange) (parts : List S
   pub among : AllByRecursion (Contains parts) rest
   pub seats : map seat_of sources ≡ taken
   pub home : AllByRecursion (λ s. s.place.keyspace ≡ keyspace) sources
+  pub ranged : AllByRecursion (λ s. IsNamed s.place.range) sources
   pub count : length taken ≡ length from
   pub cover : Cover (map (λ s. s.1) rest ++ into)
   pub few : length rest + length into ≤ 64

@@ -4,20 +4,24 @@ use Rattle.serving.specs.Partitions.{Seat}
 use Rattle.vschema.specs.declared.schema.Place.{Place}
 use Rattle.shard_run.specs.declared.Shard as S
 use Rattle.shard_run.specs.declared.Mode.{Mode}
+use Rattle.shard_run.specs.declared.Mode.TheVariants as modes
+use Rattle.shard_run.specs.declared.Event.TheVariants as events
 use Rattle.shard_run.specs.Runs.{Run, Opening, mode}
 use Rattle.shard_law.specs.Legal.{IsOnItsSlot}
 use Rattle.journal.specs.Views.{PassView}
 use Rattle.shard_run.specs.declared.Entry.{Entry}
 use Rattle.reshard_beginning.specs.Splits.{AreThose}
 use Rattle.reshard_reopening.specs.MadeAgain.{Found, AreFound}
+use Rattle.cutover_steps.specs.Steps.{HasEntry}
 use Rattle.cutover_steps.specs.Takings.{Taking}
 
--- after the run this shard stands on the slot, at the place, in this mode
-pub record IsGlance (o : Opening) (run : Run) (slot : ℕ) (place : Place) (s : S.Shard) (m : Mode) : Type 0 where
+-- after the run this shard stands on the slot, at the place, in this mode; where it is retired, its entry names these targets
+pub record IsGlance (o : Opening) (run : Run) (slot : ℕ) (place : Place) (s : S.Shard) (m : Mode) (named : List S.Shard) : Type 0 where
   pub at : s.slot ≡ slot
   pub in_place : s.place ≡ place
   pub stands : IsOnItsSlot o run s
   pub in_mode : m ≡ mode o run s.slot
+  pub names : m ≡ modes.Retired → HasEntry run s (events.Retire named)
 
 -- the target is made again: it takes from those of the sources that overlap it
 pub record IsTakenUp (sources : List S.Shard) (t : Taking) : Type 0 where

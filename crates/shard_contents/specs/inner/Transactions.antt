@@ -1,20 +1,10 @@
 -- Room for the changes of a transaction by counts, and why its memory is not made.
-use Rattle.std.specs.Prelude.{◌≡◌, ℕ, ◌+◌, ◌^◌, ◌&&◌, nat_lt, nat_le, count_by, Bool, true, false, List}
+use Rattle.std.specs.Prelude.{◌≡◌, ℕ, ◌+◌, ◌^◌, ◌&&◌, nat_lt, nat_le, count_by, Bool, false, List}
 use Rattle.vt_value.specs.declared.refusal.Refusal.{Refusal}
 use Rattle.vt_value.specs.declared.refusal.Refusal.TheVariants.{OutOfMemory, ShardFull}
 use Rattle.vschema.specs.declared.changes.RowChange.{RowChange}
-use Rattle.vschema.specs.declared.changes.RowChange.TheVariants.{Added, Replaced, Removed}
 use Rattle.shard_contents.specs.declared.limits.Limits.{Limits}
-
-abbrev pub is_added : RowChange → Bool
-is_added (Added n row) = true
-is_added (Replaced n old new) = false
-is_added (Removed n row) = false
-
-abbrev pub is_removed : RowChange → Bool
-is_removed (Added n row) = false
-is_removed (Replaced n old new) = false
-is_removed (Removed n row) = true
+use Rattle.shard_contents.specs.Commits.{is_added, is_removed}
 
 -- the limits by counts alone: entries of all kinds, stored entries, and rows before the changes
 abbrev pub has_room_for : Limits → ℕ → ℕ → ℕ → List RowChange → Bool

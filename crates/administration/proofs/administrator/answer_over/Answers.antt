@@ -18,7 +18,7 @@ create-requires-clause-named g c =
 pub returns-in-Status-clause-answered : goal.returns-in-Status-clause-answered
 returns-in-Status-clause-answered g c =
     let asks = rw c.in-Status.is at c.in-Ok.ensures.ok in
-    told.status asks refl refl (rw (sym c.requires.home, sym c.stage.ensures) c.status.ensures)
+    told.status asks refl refl c.status.ensures
 
 pub returns-in-Create-clause-answered : goal.returns-in-Create-clause-answered
 returns-in-Create-clause-answered g c =

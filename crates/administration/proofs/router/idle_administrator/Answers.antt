@@ -1,7 +1,6 @@
-use Rattle.std.proofs.Common.{ℕ, ◌≤◌, ◌^◌, Option, Some, length, map, ap, ap₂, sym, subst, ◌∙◌, lit≤, arith}
+use Rattle.std.proofs.Common.{ℕ, Option, Some, length, map, ap, sym, subst, ◌∙◌, arith}
 use Rattle.std.specs.List.{AllByRecursion}
 use Rattle.journal.specs.Views.{SeatView}
-use Rattle.shard_contents.specs.declared.limits.Limits.{Limits}
 use Rattle.shard_run.specs.declared.Entry.{Entry}
 use Rattle.shard_run.specs.Runs.{Opening}
 use Rattle.reshard.specs.Workflows.{WorkflowView}
@@ -16,12 +15,11 @@ new-requires-clause-ground g c = record {
   keyspace =
       let is = sym c.sharded_keyspace.ensures ∙ c.in-Some.is in
       let below = place_below (λ k. k.sharded) 0 c.args.schema.now.keyspaces c.in-Some.keyspace is in
-      let same = c.most_of.ensures.keyspace in
       let many = ap (λ (o : Opening). length o.schema.keyspaces) c.requires.opening in
-      omega (arith, below, same, many);
-  limits = c.most_of.ensures.limits ∙ sym c.requires.limits;
-  rows = subst (λ (l : Limits). l.rows ≤ 2 ^ 20) (sym c.most_of.ensures.limits) (lit≤ tt);
-  stored = subst (λ (l : Limits). l.stored ≤ 2 ^ 20) (sym c.most_of.ensures.limits) (lit≤ tt);
+      omega (arith, below, many);
+  limits = sym c.requires.limits;
+  rows = c.requires.most_rows;
+  stored = c.requires.most_stored;
 }
 
 pub new-requires-clause-free : goal.new-requires-clause-free
@@ -34,5 +32,5 @@ returns-in-Some g c =
     let free = free_slots c.args.schema.now c.args.ranges.now in
     let is = sym c.sharded_keyspace.ensures ∙ c.in-Some.is in
     let slots = ap (map (λ (s : SeatView Entry). s.slot)) c.requires.free ∙ their_slots (length (empty_shards c.args.schema.now c.args.ranges.now)) in
-    c.new-in-Some.ensures ∙ ap (λ (w : WorkflowView). Some w) (c.new.ensures ∙ ap₂ idle c.most_of.ensures.keyspace slots)
+    c.new-in-Some.ensures ∙ ap (λ (w : WorkflowView). Some w) (c.new.ensures ∙ ap (idle c.in-Some.keyspace) slots)
     ∙ ap (λ (o : Option ℕ). idle_in o free) (sym is)

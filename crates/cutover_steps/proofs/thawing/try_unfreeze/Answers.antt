@@ -2,13 +2,14 @@ use Rattle.std.proofs.Common.{ap, ◌∙◌, refl}
 use Rattle.shard_run.specs.declared.Shard.{Shard}
 use Rattle.shard_run.specs.declared.Event.TheVariants.{Thaw}
 use Rattle.shard_run.specs.declared.Mode.TheVariants.{Serving}
+use Rattle.shard_contents.specs.Shards.{ShardView}
 use Rattle.cutover_steps.proofs.Thaws.{mode_now, look_alone, append_alone, looked_on}
 use Rattle.cutover_steps.proofs.thawing.try_unfreeze.Goals as goal
 
 pub returns-in-Frozen-clause-serves : goal.returns-in-Frozen-clause-serves
 returns-in-Frozen-clause-serves g c e =
-    mode_now g.W.World.opening c.look.new.self Thaw c.look.new.pass c.thaw.new.pass c.thaw.ensures.appended c.args.which.now
-    (c.look.ensures.shard ∙ c.is.ensures.0 c.if-not-is.false) Serving (λ b. refl)
+    mode_now g.W.World.opening c.drop_sorted.new.self Thaw c.look.new.pass c.thaw.new.pass c.thaw.ensures.appended c.args.which.now
+    (ap (λ (v : ShardView). v.shard) c.drop_sorted.ensures ∙ c.look.ensures.shard ∙ c.is.ensures.0 c.if-not-is.false) Serving (λ b. refl)
 
 pub returns-in-Frozen-clause-alone : goal.returns-in-Frozen-clause-alone
 returns-in-Frozen-clause-alone g c =

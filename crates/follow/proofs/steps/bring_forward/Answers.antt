@@ -1,10 +1,10 @@
-use Rattle.std.proofs.Common.{ℕ, List, [], ◌∷◌, ◌++◌, refl}
+use Rattle.std.proofs.Common.{ℕ, List, [], ◌∷◌, ◌++◌, refl, rules}
 use Rattle.follow.specs.declared.steps.Step.{Step}
 use Rattle.follow.specs.Steps.{HasMoved}
-use Rattle.follow.specs.Turns.{HasLookedAt, IdleTries, looks_of}
+use Rattle.follow.specs.Turns.{HasLookedAt, IdleTries, IsNoStep, looks_of}
 use Rattle.follow.specs.Turns as turns
 use Rattle.follow.proofs.Onward.{still, onward_trans}
-use Rattle.follow.proofs.Moves.{at_some, at_not_some, if_some, moved_after}
+use Rattle.follow.proofs.Moves.{err_as, at_some, at_not_some, if_some, moved_after}
 use Rattle.follow.proofs.Turns.{unlooked, looked_then, tried_again}
 use Rattle.follow.proofs.steps.bring_forward.Goals as goal
 
@@ -69,3 +69,18 @@ returns-in-Some-2-clause-once g c =
       tries = before.1;
       looked = looked_then before.0 (target ∷ source ∷ looks_of target step) p q now before.2 last;
     }
+
+pub returns-in_err-step-clause-nothing : goal.returns-in_err-step-clause-nothing
+returns-in_err-step-clause-nothing g c =
+    let before = c.loop.invariant.tried in
+    let none : IsNoStep c.args.source.now.which c.args.target.now.which c.args.pass.now c.round.new.pass = record {
+      idle = before.0;
+      tries = before.1;
+      tried = c.loop.pass;
+      looked = before.2;
+      refused = c.in_err-step.ensures.refused;
+    } in
+    search (rules, none)
+
+pub returns-in_err-step-clause-err : goal.returns-in_err-step-clause-err
+returns-in_err-step-clause-err g c = err_as c.from_residual.result c.in_err-step.field-0.0 _ c.from_residual.ensures.1 c.in_err-step.ensures.err

@@ -1,11 +1,11 @@
 use Rattle.std.proofs.Common.{◌≡◌, rules, subst}
 use Rattle.follow.specs.declared.steps.Step.TheVariants.{Level}
 use Rattle.follow.specs.Steps.{HasMoved}
-use Rattle.follow.specs.Turns.{IsOneStep}
+use Rattle.follow.specs.Turns.{IsOneStep, IsNoStep}
 use Rattle.follow.specs.Turns as turns
 use Rattle.follow.proofs.Onward.{still, onward_trans}
-use Rattle.follow.proofs.Moves.{moved_with, level_with, all_level_with}
-use Rattle.follow.proofs.Turns.{one_more_turn, moves_in_turn, all_took_turns}
+use Rattle.follow.proofs.Moves.{err_as, moved_with, level_with, all_level_with}
+use Rattle.follow.proofs.Turns.{one_more_turn, moves_in_turn, refused_in_turn, all_took_turns}
 use Rattle.follow.proofs.steps.bring_forward_with.Goals as goal
 
 pub bring_forward-requires-clause-legal : goal.bring_forward-requires-clause-legal
@@ -65,3 +65,13 @@ returns-clause-once g c =
     turns.all_level
     (all_took_turns (λ s. s.which) c.args.sources.now c.loop-source.source-index c.loop-source-test.false
     (λ s p q. IsOneStep s c.args.target.now.which p q Level) c.args.pass.now c.loop-source.pass c.loop-source.invariant.once)
+
+pub returns-in_err-step-clause-nothing : goal.returns-in_err-step-clause-nothing
+returns-in_err-step-clause-nothing g c =
+    let none = refused_in_turn (λ s. s.which) c.args.sources.now c.loop-source.source-index c.source-item.result c.loop-source-test.true c.source-item.is
+    (λ s. IsOneStep s c.args.target.now.which) (λ s. IsNoStep s c.args.target.now.which) c.args.pass.now c.loop-source.pass c.bring_forward.new.pass
+    c.loop-source.invariant.once c.in_err-step.ensures.nothing in
+    search (rules, none)
+
+pub returns-in_err-step-clause-err : goal.returns-in_err-step-clause-err
+returns-in_err-step-clause-err g c = err_as c.from_residual.result c.in_err-step.field-0.0 _ c.from_residual.ensures.1 c.in_err-step.ensures.err

@@ -1,4 +1,4 @@
-use Rattle.std.proofs.Common.{◌≡◌, ℕ, List, [], ◌∷◌, length, refl}
+use Rattle.std.proofs.Common.{◌≡◌, ℕ, List, [], ◌∷◌, length, refl, rules}
 use Rattle.shard_run.specs.Runs.{entries_on}
 use Rattle.shard_contents.specs.Copying.{IsProgress}
 use Rattle.shard_contents.proofs.Legality.{legal_is}
@@ -6,11 +6,11 @@ use Rattle.follow.specs.declared.steps.Come.{Come}
 use Rattle.follow.specs.declared.steps.Step.{Step}
 use Rattle.follow.specs.Steps.{HasMoved}
 use Rattle.follow.specs.inner.Given.{HasTaken}
-use Rattle.follow.specs.Turns.{HasLookedAt, IdleTries, looks_of}
+use Rattle.follow.specs.Turns.{HasLookedAt, IsCutShort, IdleTries, looks_of}
 use Rattle.follow.specs.Turns as turns
 use Rattle.follow.proofs.Onward.{onward_trans}
-use Rattle.follow.proofs.Moves.{at_some, at_not_some, if_some, match_as, some_as, takeable, moved}
-use Rattle.follow.proofs.Turns.{unlooked, looked_then}
+use Rattle.follow.proofs.Moves.{at_some, at_not_some, if_some, match_as, some_as, on_err_as, takeable, moved}
+use Rattle.follow.proofs.Turns.{unlooked, looked_then, cut_before, cut_after}
 use Rattle.follow.proofs.steps.round.Goals as goal
 
 pub take-requires-clause-given : goal.take-requires-clause-given
@@ -87,3 +87,34 @@ returns-clause-looks g c =
     (λ (step : Step). HasLookedAt (target ∷ source ∷ looks_of target step) p now)
     (λ f. (target ∷ source ∷ f.0 ∷ [], turns.one_more turns.none f.0, looked_then (target ∷ source ∷ []) (f.0 ∷ []) p r now both f.1))
     (λ (step : Step) t. looked_then (target ∷ source ∷ []) (looks_of target step) p r now both t) c.take.ensures.looks
+
+pub returns-in_err-come-clause-refused : goal.returns-in_err-come-clause-refused
+returns-in_err-come-clause-refused g c =
+    let source = c.args.source.now.which.slot in
+    let target = c.args.target.now.which.slot in
+    let cut = cut_before (target ∷ []) (source ∷ target ∷ target ∷ []) c.args.pass.now c.try_progress.new.pass c.in_err-come.ensures.refused in
+    search (rules, cut)
+
+pub returns-in_err-given-clause-refused : goal.returns-in_err-given-clause-refused
+returns-in_err-given-clause-refused g c =
+    let source = c.args.source.now.which.slot in
+    let target = c.args.target.now.which.slot in
+    let p = c.args.pass.now in
+    let q = c.try_progress.new.pass in
+    let at = at_some (q ≡ p) (λ (x : Come). HasLookedAt (target ∷ []) p q) c.in_ok-come.come c.in-Some.come c.in-Some.is c.in_ok-come.ensures.looks in
+    let cut = cut_after (target ∷ []) (source ∷ target ∷ target ∷ []) p q c.given_by.new.pass at
+    (cut_before (source ∷ []) (target ∷ target ∷ []) q c.given_by.new.pass c.in_err-given.ensures.refused) in
+    search (rules, cut)
+
+pub returns-clause-refused : goal.returns-clause-refused
+returns-clause-refused g c =
+    let source = c.args.source.now.which.slot in
+    let target = c.args.target.now.which.slot in
+    let p = c.args.pass.now in
+    let q = c.try_progress.new.pass in
+    let r = c.given_by.new.pass in
+    let now = c.take.new.pass in
+    let at = at_some (q ≡ p) (λ (x : Come). HasLookedAt (target ∷ []) p q) c.in_ok-come.come c.in-Some.come c.in-Some.is c.in_ok-come.ensures.looks in
+    let both = looked_then (target ∷ []) (source ∷ []) p q r at c.in_ok-given.ensures.looks in
+    on_err_as c.take.result (IsCutShort (target ∷ target ∷ []) r now) (IsCutShort (target ∷ source ∷ target ∷ target ∷ []) p now)
+    (λ cut. cut_after (target ∷ source ∷ []) (target ∷ target ∷ []) p r now both cut) c.take.ensures.refused

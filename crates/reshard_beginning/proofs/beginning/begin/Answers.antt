@@ -1,12 +1,13 @@
-use Rattle.std.proofs.Common.{◌≡◌, length, map, sym, ap, subst, List, [], arith}
+use Rattle.std.proofs.Common.{◌≡◌, length, map, sym, ap, subst, List, [], arith, IsSorted}
 use Rattle.std.specs.List.{AllByRecursion}
 use Rattle.std.proofs.lemmas.List.Sorted.{length_permutation}
 use Rattle.keyrange.specs.declared.KeyRange.{KeyRange}
 use Rattle.keyrange.specs.Names.{IsNamed}
 use Rattle.shard_run.specs.declared.Shard.{Shard}
+use Rattle.reshard_beginning.specs.Choices.{begin_cmp}
 use Rattle.reshard_beginning.specs.Splits.{AreOverlapped}
 use Rattle.reshard_beginning.specs.inner.Created.{IsMadeOf}
-use Rattle.reshard_beginning.proofs.Begins.{all_permuted, homes_here, setting, covered_here, split_here, begun_here, next_here}
+use Rattle.reshard_beginning.proofs.Begins.{map_twice, all_permuted, homes_here, setting, covered_here, split_here, begun_here, next_here}
 use Rattle.reshard_beginning.proofs.Unfit.{residual, create_memory}
 use Rattle.reshard_beginning.proofs.beginning.begin.Goals as goal
 
@@ -59,7 +60,9 @@ returns-clause-begun g c =
     begun_here c.args.current.now sv.taken c.in_ok-found.found.rest.items c.args.sources.now c.args.targets.now
     c.in_ok-ranges.ranges.items c.args.ground.keyspace sources st
     (λ t. (t.member.which, map (λ s. s.which) t.sources.items)) c.in_ok-made.made.items c.as_slice-2.result.now c.as_slice-2.ensures.value
-    c.in_ok-made.ensures.targets.0 made sv.count
+    c.in_ok-made.ensures.targets.0 made g.W.World.opening c.args.pass.now c.survey.new.pass c.in_ok-found.ensures.are c.in_ok-found.ensures.apart sv.ranged
+    (subst (IsSorted begin_cmp) (sym (map_twice (λ (s : Shard). s.place.range) (λ s. s.member.which) c.in_ok-found.found.sources.items)) c.in_ok-found.ensures.rise)
+    c.in_ok-ranges.ensures.rise
 
 pub returns-clause-split : goal.returns-clause-split
 returns-clause-split g c =

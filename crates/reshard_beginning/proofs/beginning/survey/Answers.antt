@@ -1,8 +1,7 @@
-use Rattle.std.proofs.Common.{refl, sym, subst, ◌∙◌, arith}
-use Rattle.serving.specs.Partitions.{IsPartition, AreOf}
-use Rattle.reshard_beginning.specs.Begun.{unfit}
-use Rattle.reshard_beginning.proofs.Begins.{of_taken, surveyed}
-use Rattle.reshard_beginning.proofs.Unfit.{residual, residual_same, create_memory, lacking}
+use Rattle.std.proofs.Common.{map, refl, ◌∙◌, arith}
+use Rattle.std.proofs.lemmas.List.Sorted.{IsPermutation-map}
+use Rattle.reshard_beginning.proofs.Begins.{told_apart, surveyed, surveyed_again}
+use Rattle.reshard_beginning.proofs.Unfit.{residual, residual_same, create_memory, sources_again, too_few, too_many}
 use Rattle.reshard_beginning.proofs.beginning.survey.Goals as goal
 
 pub returns-in_err-chosen-clause-err : goal.returns-in_err-chosen-clause-err
@@ -11,37 +10,50 @@ returns-in_err-chosen-clause-err g c =
     (create_memory g.W.World.opening c.args.pass.now c.args.pass.now c.args.keyspace c.args.free c.args.sources.now c.args.targets.now
     c.in_err-chosen.field-0.0 c.in_err-chosen.ensures.err)
 
-pub find_sources-requires-clause-home : goal.find_sources-requires-clause-home
-find_sources-requires-clause-home g c =
-    of_taken c.args.keyspace c.parts.result.now c.in_ok-chosen.chosen.taken.items c.in_ok-chosen.ensures.taken
-    (subst (AreOf c.args.keyspace) (sym c.parts.ensures.seats) c.requires.home)
-
 pub find_sources-requires-clause-parts : goal.find_sources-requires-clause-parts
 find_sources-requires-clause-parts g c = (
   c.parts.result.now,
-  subst IsPartition (sym c.parts.ensures.seats) c.parts.ensures.partition,
-  c.in_ok-chosen.ensures.ok,
+  told_apart c.args.keyspace c.args.sources.now c.args.current.now c.parts.result.now c.in_ok-chosen.chosen.taken.items c.in_ok-chosen.chosen.rest.items
+      c.parts.ensures.seats c.parts.ensures.partition c.requires.home c.in_ok-chosen.ensures.ok c.in_ok-chosen.ensures.taken c.in_ok-chosen.ensures.rest,
 )
 
 pub returns-in_err-found-clause-err : goal.returns-in_err-found-clause-err
 returns-in_err-found-clause-err g c =
-    residual_same c.from_residual-in_err-found.result c.in_err-found.field-0.0 _ c.from_residual-in_err-found.ensures.1
-    (unfit c.parts.result.now c.in_ok-chosen.chosen.taken.items c.in_ok-chosen.chosen.rest.items
-    (subst IsPartition (sym c.parts.ensures.seats) c.parts.ensures.partition) c.in_ok-chosen.ensures.ok c.in_err-found.ensures.err)
+    residual_same c.from_residual-in_err-found.result c.in_err-found.field-0.0 _ c.from_residual-in_err-found.ensures.1 (c.in_err-found.ensures.err c.args.free)
 
-pub returns-then-lack_slots-clause-err : goal.returns-then-lack_slots-clause-err
-returns-then-lack_slots-clause-err g c =
-    lacking g.W.World.opening c.args.pass.now c.find_sources.new.pass c.args.keyspace c.args.free c.args.sources.now c.args.targets.now
-    c.parts.result.now c.in_ok-chosen.chosen.taken.items c.in_ok-chosen.chosen.rest.items
-    (subst IsPartition (sym c.parts.ensures.seats) c.parts.ensures.partition) c.in_ok-chosen.ensures.ok c.in_ok-found.ensures.there c.in_ok-found.ensures.apart
-    c.in_ok-found.ensures.cover c.args.free c.len.result
-    refl (c.len.ensures ∙ c.in_ok-chosen.chosen.rest.ok.0) (c.lack_slots.ensures.few c.if-lack_slots.true)
+pub returns-then-free-targets-clause-err : goal.returns-then-free-targets-clause-err
+returns-then-free-targets-clause-err g c =
+    let told =
+    told_apart c.args.keyspace c.args.sources.now c.args.current.now c.parts.result.now c.in_ok-chosen.chosen.taken.items c.in_ok-chosen.chosen.rest.items
+    c.parts.ensures.seats c.parts.ensures.partition c.requires.home c.in_ok-chosen.ensures.ok c.in_ok-chosen.ensures.taken c.in_ok-chosen.ensures.rest in
+    too_few g.W.World.opening c.args.keyspace c.args.sources.now c.args.targets.now c.parts.result.now c.in_ok-chosen.chosen.taken.items
+    c.in_ok-chosen.chosen.rest.items told c.in_ok-found.ensures.count c.in_ok-found.ensures.cover c.args.pass.now
+    c.find_sources.new.pass c.args.free c.args.free (map (λ s. s.member.which) c.in_ok-found.found.items) c.in_ok-found.ensures.are c.in_ok-found.ensures.apart refl
+    c.if-free-targets.true
+
+pub returns-then-are_too_many-clause-err : goal.returns-then-are_too_many-clause-err
+returns-then-are_too_many-clause-err g c =
+    let told =
+    told_apart c.args.keyspace c.args.sources.now c.args.current.now c.parts.result.now c.in_ok-chosen.chosen.taken.items c.in_ok-chosen.chosen.rest.items
+    c.parts.ensures.seats c.parts.ensures.partition c.requires.home c.in_ok-chosen.ensures.ok c.in_ok-chosen.ensures.taken c.in_ok-chosen.ensures.rest in
+    too_many g.W.World.opening c.args.keyspace c.args.sources.now c.args.targets.now c.parts.result.now c.in_ok-chosen.chosen.taken.items
+    c.in_ok-chosen.chosen.rest.items told c.in_ok-found.ensures.count c.in_ok-found.ensures.cover (λ s. s.member.which)
+    c.args.pass.now c.find_sources.new.pass c.look_at_each.new.pass c.args.free c.in_ok-found.found.items c.in_ok-found.ensures.are c.in_ok-found.ensures.found.0
+    c.in_ok-found.ensures.apart c.as_slice.result.now c.as_slice.ensures.value c.len.result (c.len.ensures ∙ c.in_ok-chosen.chosen.rest.ok.0)
+    c.find_sources.ensures.onward.later c.look_at_each.ensures.onward.later c.look_at_each.ensures.seen (c.are_too_many.ensures.yes c.if-are_too_many.true)
 
 pub returns-clause-found : goal.returns-clause-found
 returns-clause-found g c =
-    let w = c.lack_slots.ensures.enough c.if-lack_slots.false in
-    let a = w.1 in
+    let w = c.are_too_many.ensures.no c.if-are_too_many.false in
     let b = c.len.ensures ∙ c.in_ok-chosen.chosen.rest.ok.0 in
-    surveyed (λ s. s.member.which) c.parts.result.now c.args.current.now c.in_ok-chosen.chosen.taken.items c.in_ok-chosen.chosen.rest.items c.args.sources.now
-    c.args.targets.now c.args.keyspace c.in_ok-found.found.items c.parts.ensures.seats c.in_ok-chosen.ensures.ok c.in_ok-chosen.ensures.rest
-    c.in_ok-found.ensures.found c.in_ok-found.ensures.count c.in_ok-found.ensures.cover (omega (arith, a, b))
+    surveyed_again (λ s. s.member.which) c.args.current.now c.in_ok-chosen.chosen.rest.items c.args.sources.now c.args.targets.now c.args.keyspace
+    c.in_ok-found.found.items c.by_begin.result.items c.by_begin.ensures.same
+    (surveyed (λ s. s.member.which) c.parts.result.now c.args.current.now c.in_ok-chosen.chosen.taken.items c.in_ok-chosen.chosen.rest.items c.args.sources.now
+    c.args.targets.now c.args.keyspace c.in_ok-found.found.items c.parts.ensures.partition c.parts.ensures.seats c.in_ok-chosen.ensures.ok c.in_ok-chosen.ensures.taken
+    c.in_ok-chosen.ensures.rest c.in_ok-found.ensures.found c.in_ok-found.ensures.count c.in_ok-found.ensures.cover (omega (arith, w, b)))
+
+pub returns-clause-are : goal.returns-clause-are
+returns-clause-are g c =
+    sources_again g.W.World.opening c.args.pass.now c.find_sources.new.pass c.args.keyspace c.args.sources.now (map (λ s. s.member.which) c.in_ok-found.found.items)
+    (map (λ s. s.member.which) c.by_begin.result.items) c.in_ok-found.ensures.are
+    (IsPermutation-map (λ s. s.member.which) c.in_ok-found.found.items c.by_begin.result.items c.by_begin.ensures.same)

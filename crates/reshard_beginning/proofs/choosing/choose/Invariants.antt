@@ -1,7 +1,7 @@
 use Rattle.std.proofs.Common.{take}
 use Rattle.std.specs.Prelude.{Contains}
 use Rattle.std.specs.List.{AllByRecursion}
-use Rattle.reshard_beginning.specs.Choices.{AreNamed}
+use Rattle.reshard_beginning.specs.inner.Created.{AreNamed}
 use Rattle.reshard_beginning.proofs.choosing.choose.Given as goal
 
 -- the parts so far

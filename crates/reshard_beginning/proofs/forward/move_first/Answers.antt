@@ -6,9 +6,9 @@ use Rattle.follow.specs.declared.steps.Step.{Step}
 use Rattle.follow.specs.declared.steps.Step.TheVariants.{Level}
 use Rattle.follow.specs.Steps.{HasMovedWith}
 use Rattle.cutover_steps.specs.Takings.{Taking}
-use Rattle.follow.specs.Turns.{IsOneStepWith}
+use Rattle.follow.specs.Turns.{IsOneStepWith, IsNoStepWith}
 use Rattle.follow.specs.Turns as turns
-use Rattle.follow.proofs.Turns.{one_more_turn, moves_in_turn, all_took_turns}
+use Rattle.follow.proofs.Turns.{one_more_turn, moves_in_turn, refused_in_turn, all_took_turns}
 use Rattle.cutover_steps.proofs.Onward.{still, onward_trans}
 use Rattle.cutover_steps.proofs.Retiring.{item_of, map_at}
 use Rattle.reshard_beginning.proofs.Unfit.{residual_same}
@@ -32,7 +32,7 @@ returns-in_err-step-clause-refused g c =
     let m =
     map_at (λ t. (t.member.which, map (λ s. s.which) t.sources.items)) c.args.targets.now c.loop-target.target-index t c.loop-target-test.true c.target-item.is in
     residual_same c.from_residual.result c.in_err-step.field-0.0 _ c.from_residual.ensures.1
-    (move_refusal g.W.World.limits (map (λ t. (t.member.which, map (λ s. s.which) t.sources.items)) c.args.targets.now) c.loop-target.target-index
+    (move_refusal g.W.World.opening g.W.World.limits (map (λ t. (t.member.which, map (λ s. s.which) t.sources.items)) c.args.targets.now) c.loop-target.target-index
     (t.member.which, map (λ s. s.which) t.sources.items) m.0 m.1 c.bring_forward_with.new.pass c.in_err-step.field-0.0 c.in_err-step.ensures.err)
 
 pub returns-then-ne-clause-moved : goal.returns-then-ne-clause-moved
@@ -91,3 +91,13 @@ returns-clause-once g c =
     turns.all_level
     (all_took_turns (λ t. (t.member.which, map (λ s. s.which) t.sources.items)) c.args.targets.now c.loop-target.target-index c.loop-target-test.false
     (λ (t : Taking) p q. IsOneStepWith t.1 t.0 p q Level) c.args.pass.now c.loop-target.pass c.loop-target.invariant.once)
+
+pub returns-in_err-step-clause-nothing : goal.returns-in_err-step-clause-nothing
+returns-in_err-step-clause-nothing g c =
+    let t = c.target-item.result in
+    let none = refused_in_turn (λ t. (t.member.which, map (λ s. s.which) t.sources.items)) c.args.targets.now c.loop-target.target-index t c.loop-target-test.true
+    c.target-item.is (λ (t : Taking). IsOneStepWith t.1 t.0) (λ (t : Taking). IsNoStepWith t.1 t.0) c.args.pass.now c.loop-target.pass c.bring_forward_with.new.pass
+    c.loop-target.invariant.once
+    (subst (λ l. IsNoStepWith (map (λ s. s.which) l) t.member.which c.loop-target.pass c.bring_forward_with.new.pass) c.as_slice.ensures.value
+    c.in_err-step.ensures.nothing) in
+    search (rules, none)

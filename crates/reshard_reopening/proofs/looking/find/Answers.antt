@@ -16,9 +16,10 @@ returns-in-Some-2-clause-found g c =
     let now = c.look_locked.new.pass in
     let place : Place = record { keyspace = c.keyspace.result; range = c.range.result } in
     found_at o c.args.pass.now now c.slot-slot.result place c.in-Some-2.glance.which c.in_ok-found.found.member.which c.in-Some-2.glance.mode c.in_ok-found.found.mode
+    c.in-Some-2.glance.named c.in_ok-found.found.named
     (onward_trans o c.args.pass.now c.loop.pass now c.loop.invariant.onward c.look_locked.ensures.onward).later
-    (subst (λ r. IfSome r (λ g. IsGlance o now.seen c.slot-slot.result place g.which g.mode)) c.in-Some-2.is c.in_ok-glance.ensures.seen)
-    c.in_ok-found.ensures.which c.in_ok-found.ensures.mode
+    (subst (λ r. IfSome r (λ g. IsGlance o now.seen c.slot-slot.result place g.which g.mode g.named)) c.in-Some-2.is c.in_ok-glance.ensures.seen)
+    c.in_ok-found.ensures.which c.in_ok-found.ensures.mode c.in_ok-found.ensures.named
 
 seat_at : (s w : Shard) (slot k : ℕ) (r : KeyRange) (part : Seat) → w ≡ s → s.slot ≡ slot → s.place ≡ record { keyspace = k; range = r } → slot ≡ part.0
     → r ≡ part.1 → k ≡ part.2 → seat_of w ≡ part
@@ -31,7 +32,7 @@ returns-in-Some-2-clause-seat g c =
     let o = g.W.World.opening in
     let now = c.look_locked.new.pass in
     let place : Place = record { keyspace = c.keyspace.result; range = c.range.result } in
-    let is = subst (λ r. IfSome r (λ g. IsGlance o now.seen c.slot-slot.result place g.which g.mode)) c.in-Some-2.is c.in_ok-glance.ensures.seen in
+    let is = subst (λ r. IfSome r (λ g. IsGlance o now.seen c.slot-slot.result place g.which g.mode g.named)) c.in-Some-2.is c.in_ok-glance.ensures.seen in
     seat_at c.in-Some-2.glance.which c.in_ok-found.found.member.which c.slot-slot.result c.keyspace.result c.range.result c.args.part.now
     c.in_ok-found.ensures.which is.at is.in_place c.slot-slot.ensures c.range.ensures c.keyspace.ensures
 

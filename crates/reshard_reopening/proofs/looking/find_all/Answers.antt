@@ -19,7 +19,7 @@ loop-part-preserved g c =
           seen_next (λ f. f.member.shard.value) c.args.parts.now c.loop-part.part-index c.part-item.result c.loop-part.found.items c.push.new.self.items
           c.in_ok-find.field-0 c.loop-part-test.true c.part-item.is c.in_ok-push.ensures.items c.loop-part.invariant.shards c.in_ok-find.ensures.shard;
       each =
-          found_next o (λ f. (f.member.which, f.mode)) c.args.pass.now c.loop-part.pass c.find.new.pass c.loop-part.found.items c.push.new.self.items
+          found_next o (λ f. (f.member.which, f.mode, f.named)) c.args.pass.now c.loop-part.pass c.find.new.pass c.loop-part.found.items c.push.new.self.items
           c.in_ok-find.field-0 c.loop-part.invariant.onward.later c.find.ensures.onward.later c.in_ok-push.ensures.items c.loop-part.invariant.each
           c.in_ok-find.ensures.found;
     }
@@ -27,7 +27,7 @@ loop-part-preserved g c =
 pub returns-clause-found : goal.returns-clause-found
 returns-clause-found g c = record {
   seats =
-      map_twice (λ (f : Found). seat_of f.0) (λ f. (f.member.which, f.mode)) c.loop-part.found.items ∙ c.loop-part.invariant.seats
+      map_twice (λ (f : Found). seat_of f.0) (λ f. (f.member.which, f.mode, f.named)) c.loop-part.found.items ∙ c.loop-part.invariant.seats
       ∙ take_whole c.loop-part.part-index c.args.parts.now c.loop-part-test.false;
   each = c.loop-part.invariant.each;
 }

@@ -11,5 +11,5 @@ invariant-loop-part g l = record {
   onward : IsOnward g.W.World.opening l.fn.pass l.pass;
   seats : map (λ f. seat_of f.member.which) l.found.items ≡ take l.part-index l.parts;
   shards : map (λ f. f.member.shard.value) l.found.items ≡ take l.part-index l.parts;
-  each : AllByRecursion (IsFound g.W.World.opening l.fn.pass l.pass) (map (λ f. (f.member.which, f.mode)) l.found.items);
+  each : AllByRecursion (IsFound g.W.World.opening l.fn.pass l.pass) (map (λ f. (f.member.which, f.mode, f.named)) l.found.items);
 }

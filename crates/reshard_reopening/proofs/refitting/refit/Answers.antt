@@ -1,8 +1,9 @@
-use Rattle.std.proofs.Common.{◌≡◌, map, sym, subst}
+use Rattle.std.proofs.Common.{◌≡◌, List, map, sym, subst}
 use Rattle.std.specs.Prelude.{IfSome}
 use Rattle.std.specs.List.{AllByRecursion}
 use Rattle.follow.proofs.Moves.{at_not_some, at_some}
-use Rattle.reshard_reopening.specs.MadeAgain.{Found}
+use Rattle.shard_run.specs.declared.Shard.{Shard}
+use Rattle.reshard_reopening.specs.MadeAgain.{Found, NamedThose}
 use Rattle.reshard_reopening.specs.inner.Glances.{IsTakenUp}
 use Rattle.reshard_beginning.proofs.Begins.{map_twice}
 use Rattle.reshard_reopening.proofs.Courses.{course_of_modes}
@@ -14,28 +15,37 @@ pub returns-in_default-clause-stopped : goal.returns-in_default-clause-stopped
 returns-in_default-clause-stopped g c frozen retired served is =
     at_not_some _ _ c.in_ok-course.field-0 c.in_default.not-Some c.in_ok-course.ensures.course frozen retired served
     (course_of_modes _ (map (λ f. f.mode) c.args.sources.now) _ (map (λ f. f.mode) c.args.targets.now) frozen retired served
-    (map_twice (λ (f : Found). f.1) (λ f. (f.member.which, f.mode)) c.args.sources.now)
-    (map_twice (λ (f : Found). f.1) (λ f. (f.member.which, f.mode)) c.args.targets.now) is.course)
+    (map_twice (λ (f : Found). f.1) (λ f. (f.member.which, f.mode, f.named)) c.args.sources.now)
+    (map_twice (λ (f : Found). f.1) (λ f. (f.member.which, f.mode, f.named)) c.args.targets.now) is.course)
 
 pub returns-in_default-3-clause-stopped : goal.returns-in_default-3-clause-stopped
 returns-in_default-3-clause-stopped g c frozen retired served is =
     at_not_some _ _ c.in_ok-sides.field-0 c.in_default-3.not-Some c.in_ok-sides.ensures.targets
-    (takes_seen (λ f. (f.member.which, f.mode)) c.args.sources.now c.args.targets.now is.takes)
+    (takes_seen (λ f. (f.member.which, f.mode, f.named)) c.args.sources.now c.args.targets.now is.takes)
+
+pub returns-then-not-all_named-clause-stopped : goal.returns-then-not-all_named-clause-stopped
+returns-then-not-all_named-clause-stopped g c frozen retired served is =
+    c.all_named.ensures.no c.if-not-all_named.true
+    (subst (λ (l : List Shard). AllByRecursion (NamedThose l) (map (λ f. (f.member.which, f.mode, f.named)) c.args.sources.now))
+    (map_twice (λ (f : Found). f.0) (λ f. (f.member.which, f.mode, f.named)) c.args.targets.now) is.named)
 
 pub returns-clause-stopped : goal.returns-clause-stopped
 returns-clause-stopped g c = record {
   replace = (at_some _ _ c.in_ok-rest.field-0 c.in-Some-2.rest c.in-Some-2.is c.in_ok-rest.ensures.rest).1;
   takes =
-      takes_again (λ f. (f.member.which, f.mode)) c.args.sources.now c.args.targets.now (λ t. (t.member.which, map (λ s. s.which) t.sources.items))
+      takes_again (λ f. (f.member.which, f.mode, f.named)) c.args.sources.now c.args.targets.now (λ t. (t.member.which, map (λ s. s.which) t.sources.items))
       c.in-Some-3.sides.targets.items
       (subst (λ r. IfSome r (λ s. AllByRecursion (IsTakenUp (map (λ f. f.member.which) c.args.sources.now))
       (map (λ t. (t.member.which, map (λ s. s.which) t.sources.items)) s.targets.items))) c.in-Some-3.is c.in_ok-sides.ensures.taken)
       (at_some _ _ c.in_ok-sides.field-0 c.in-Some-3.sides c.in-Some-3.is c.in_ok-sides.ensures.targets);
+  named =
+      subst (λ (l : List Shard). AllByRecursion (NamedThose l) (map (λ f. (f.member.which, f.mode, f.named)) c.args.sources.now))
+      (sym (map_twice (λ (f : Found). f.0) (λ f. (f.member.which, f.mode, f.named)) c.args.targets.now)) (c.all_named.ensures.yes c.if-not-all_named.false);
   course =
       course_of_modes (map (λ f. f.mode) c.args.sources.now) _ (map (λ f. f.mode) c.args.targets.now) _ c.in-Some.course.frozen c.in-Some.course.retired
       c.in-Some.course.served
-      (sym (map_twice (λ (f : Found). f.1) (λ f. (f.member.which, f.mode)) c.args.sources.now))
-      (sym (map_twice (λ (f : Found). f.1) (λ f. (f.member.which, f.mode)) c.args.targets.now))
+      (sym (map_twice (λ (f : Found). f.1) (λ f. (f.member.which, f.mode, f.named)) c.args.sources.now))
+      (sym (map_twice (λ (f : Found). f.1) (λ f. (f.member.which, f.mode, f.named)) c.args.targets.now))
       (at_some _ _ c.in_ok-course.field-0 c.in-Some.course c.in-Some.is c.in_ok-course.ensures.course);
 }
 

@@ -1,4 +1,4 @@
-use Rattle.std.proofs.Common.{◌≡◌, length, map, sym, ap, subst, ◌∙◌}
+use Rattle.std.proofs.Common.{◌≡◌, ℕ, length, map, sym, ap, subst, ◌∙◌}
 use Rattle.std.specs.Prelude.{IfSome}
 use Rattle.std.specs.List.{AllByRecursion}
 use Rattle.std.proofs.lemmas.List.{length-map}
@@ -7,7 +7,7 @@ use Rattle.follow.proofs.Moves.{at_not_some, at_some}
 use Rattle.shard_run.specs.declared.Shard.{Shard}
 use Rattle.shard.specs.Seats.{seat_of}
 use Rattle.cutover_steps.specs.Takings.{Taking}
-use Rattle.reshard_reopening.specs.MadeAgain.{Found, AreFound, IsWorkflowAt, unlike, through}
+use Rattle.reshard_reopening.specs.MadeAgain.{Found, AreFound, IsWorkflowAt, unlike, through, given_up}
 use Rattle.reshard_beginning.specs.Splits.{AreThose}
 use Rattle.reshard_reopening.specs.inner.Glances.{IsTakenUp}
 use Rattle.reshard_beginning.proofs.Begins.{map_twice}
@@ -25,17 +25,17 @@ returns-in_err-both-clause-refused g c =
 pub refit-requires-clause-sources : goal.refit-requires-clause-sources
 refit-requires-clause-sources g c =
     ap (map (λ f. seat_of f.member.which)) c.as_slice.ensures.value
-    ∙ sym (map_twice (λ (f : Found). seat_of f.0) (λ f. (f.member.which, f.mode)) c.in_ok-both.both.sources.items) ∙ c.in_ok-both.ensures.found.of_sources.seats
+    ∙ sym (map_twice (λ (f : Found). seat_of f.0) (λ f. (f.member.which, f.mode, f.named)) c.in_ok-both.both.sources.items) ∙ c.in_ok-both.ensures.found.of_sources.seats
 
 pub refit-requires-clause-targets : goal.refit-requires-clause-targets
 refit-requires-clause-targets g c =
     ap (map (λ f. seat_of f.member.which)) c.as_slice-2.ensures.value
-    ∙ sym (map_twice (λ (f : Found). seat_of f.0) (λ f. (f.member.which, f.mode)) c.in_ok-both.both.targets.items) ∙ c.in_ok-both.ensures.found.of_targets.seats
+    ∙ sym (map_twice (λ (f : Found). seat_of f.0) (λ f. (f.member.which, f.mode, f.named)) c.in_ok-both.both.targets.items) ∙ c.in_ok-both.ensures.found.of_targets.seats
 
 pub refit-requires-clause-named : goal.refit-requires-clause-named
 refit-requires-clause-named g c =
     subst (AllByRecursion (λ f. IsNamed f.member.which.place.range)) (sym c.as_slice-2.ensures.value)
-    (all_named g.W.World.opening (λ f. (f.member.which, f.mode)) c.args.pass.now c.find_both.new.pass c.in_ok-both.both.targets.items
+    (all_named g.W.World.opening (λ f. (f.member.which, f.mode, f.named)) c.args.pass.now c.find_both.new.pass c.in_ok-both.both.targets.items
     c.in_ok-both.ensures.found.of_targets.each)
 
 pub returns-in_err-again-clause-refused : goal.returns-in_err-again-clause-refused
@@ -47,30 +47,44 @@ returns-in_err-again-clause-refused g c =
 pub returns-in_default-clause-refused : goal.returns-in_default-clause-refused
 returns-in_default-clause-refused g c =
     let o = g.W.World.opening in
-    unlike c.args.parts.now (map (λ f. (f.member.which, f.mode)) c.as_slice.result.now) (map (λ f. (f.member.which, f.mode)) c.as_slice-2.result.now)
+    unlike c.args.parts.now (map (λ f. (f.member.which, f.mode, f.named)) c.as_slice.result.now) (map (λ f. (f.member.which, f.mode, f.named)) c.as_slice-2.result.now)
     c.requires.partition
-    (subst (λ l. AreFound o c.args.pass.now c.find_both.new.pass c.args.from.now (map (λ f. (f.member.which, f.mode)) l)) (sym c.as_slice.ensures.value)
+    (subst (λ l. AreFound o c.args.pass.now c.find_both.new.pass c.args.from.now (map (λ f. (f.member.which, f.mode, f.named)) l)) (sym c.as_slice.ensures.value)
     c.in_ok-both.ensures.found.of_sources)
-    (subst (λ l. AreFound o c.args.pass.now c.find_both.new.pass c.args.into.now (map (λ f. (f.member.which, f.mode)) l)) (sym c.as_slice-2.ensures.value)
+    (subst (λ l. AreFound o c.args.pass.now c.find_both.new.pass c.args.into.now (map (λ f. (f.member.which, f.mode, f.named)) l)) (sym c.as_slice-2.ensures.value)
     c.in_ok-both.ensures.found.of_targets)
     (at_not_some _ _ c.in_ok-again.field-0 c.in_default.not-Some c.in_ok-again.ensures.stopped)
 
 pub returns-then-any_dropped-clause-refused : goal.returns-then-any_dropped-clause-refused
 returns-then-any_dropped-clause-refused g c =
     let o = g.W.World.opening in
-    let sources = map {B = Found} (λ f. (f.member.which, f.mode)) c.as_slice.result.now in
-    let targets = map {B = Found} (λ f. (f.member.which, f.mode)) c.as_slice-2.result.now in
+    let sources = map {B = Found} (λ f. (f.member.which, f.mode, f.named)) c.as_slice.result.now in
+    let targets = map {B = Found} (λ f. (f.member.which, f.mode, f.named)) c.as_slice-2.result.now in
     let again = c.in-Some.again in
     let all : again.course.served ≡ length targets =
     c.if-again-len.true ∙ c.len.ensures ∙ c.in_ok-both.both.targets.ok.0 ∙ ap length (sym c.as_slice-2.ensures.value)
-    ∙ sym (length-map c.as_slice-2.result.now (λ f. (f.member.which, f.mode))) in
+    ∙ sym (length-map c.as_slice-2.result.now (λ f. (f.member.which, f.mode, f.named))) in
     through c.args.parts.now sources targets again.course.frozen again.course.retired c.requires.partition
-    (subst (λ l. AreFound o c.args.pass.now c.find_both.new.pass c.args.from.now (map (λ f. (f.member.which, f.mode)) l)) (sym c.as_slice.ensures.value)
+    (subst (λ l. AreFound o c.args.pass.now c.find_both.new.pass c.args.from.now (map (λ f. (f.member.which, f.mode, f.named)) l)) (sym c.as_slice.ensures.value)
     c.in_ok-both.ensures.found.of_sources)
-    (subst (λ l. AreFound o c.args.pass.now c.find_both.new.pass c.args.into.now (map (λ f. (f.member.which, f.mode)) l)) (sym c.as_slice-2.ensures.value)
+    (subst (λ l. AreFound o c.args.pass.now c.find_both.new.pass c.args.into.now (map (λ f. (f.member.which, f.mode, f.named)) l)) (sym c.as_slice-2.ensures.value)
     c.in_ok-both.ensures.found.of_targets)
     (subst (IsWorkflowAt c.args.keyspace c.args.parts.now c.args.from.now c.args.into.now sources targets again.course.frozen again.course.retired) all
     (at_some _ _ c.in_ok-again.field-0 again c.in-Some.is c.in_ok-again.ensures.stopped))
+
+pub returns-then-any_given_up-clause-refused : goal.returns-then-any_given_up-clause-refused
+returns-then-any_given_up-clause-refused g c =
+    let o = g.W.World.opening in
+    let sources = map {B = Found} (λ f. (f.member.which, f.mode, f.named)) c.as_slice.result.now in
+    let targets = map {B = Found} (λ f. (f.member.which, f.mode, f.named)) c.as_slice-2.result.now in
+    let again = c.in-Some.again in
+    given_up c.args.parts.now sources targets again.course.frozen again.course.served c.requires.partition
+    (subst (λ l. AreFound o c.args.pass.now c.find_both.new.pass c.args.from.now (map (λ f. (f.member.which, f.mode, f.named)) l)) (sym c.as_slice.ensures.value)
+    c.in_ok-both.ensures.found.of_sources)
+    (subst (λ l. AreFound o c.args.pass.now c.find_both.new.pass c.args.into.now (map (λ f. (f.member.which, f.mode, f.named)) l)) (sym c.as_slice-2.ensures.value)
+    c.in_ok-both.ensures.found.of_targets)
+    (subst (λ (n : ℕ). IsWorkflowAt c.args.keyspace c.args.parts.now c.args.from.now c.args.into.now sources targets again.course.frozen n again.course.served)
+    c.if-again-eq0.true (at_some _ _ c.in_ok-again.field-0 again c.in-Some.is c.in_ok-again.ensures.stopped))
 
 pub returns-clause-made : goal.returns-clause-made
 returns-clause-made g c =
@@ -80,22 +94,21 @@ returns-clause-made g c =
     subst (λ r. IfSome r (λ f. map (λ s. s.member.which) f.sources.items ≡ map (λ f. f.member.which) c.as_slice.result.now)) c.in-Some.is
     c.in_ok-again.ensures.sources in
     record {
-      parts = c.args.parts.now;
       partition = c.requires.partition;
-      found_sources = map (λ f. (f.member.which, f.mode)) c.as_slice.result.now;
-      found_targets = map (λ f. (f.member.which, f.mode)) c.as_slice-2.result.now;
+      found_sources = map (λ f. (f.member.which, f.mode, f.named)) c.as_slice.result.now;
+      found_targets = map (λ f. (f.member.which, f.mode, f.named)) c.as_slice-2.result.now;
       of_sources =
-          subst (λ l. AreFound o c.args.pass.now c.find_both.new.pass c.args.from.now (map (λ f. (f.member.which, f.mode)) l)) (sym c.as_slice.ensures.value)
+          subst (λ l. AreFound o c.args.pass.now c.find_both.new.pass c.args.from.now (map (λ f. (f.member.which, f.mode, f.named)) l)) (sym c.as_slice.ensures.value)
           c.in_ok-both.ensures.found.of_sources;
       of_targets =
-          subst (λ l. AreFound o c.args.pass.now c.find_both.new.pass c.args.into.now (map (λ f. (f.member.which, f.mode)) l)) (sym c.as_slice-2.ensures.value)
+          subst (λ l. AreFound o c.args.pass.now c.find_both.new.pass c.args.into.now (map (λ f. (f.member.which, f.mode, f.named)) l)) (sym c.as_slice-2.ensures.value)
           c.in_ok-both.ensures.found.of_targets;
       stopped = at_some _ _ c.in_ok-again.field-0 again c.in-Some.is c.in_ok-again.ensures.stopped;
-      same_sources = same ∙ sym (map_twice (λ (f : Found). f.0) (λ f. (f.member.which, f.mode)) c.as_slice.result.now);
+      same_sources = same ∙ sym (map_twice (λ (f : Found). f.0) (λ f. (f.member.which, f.mode, f.named)) c.as_slice.result.now);
       same_targets =
           map_twice (λ (t : Taking). t.0) (λ t. (t.member.which, map (λ s. s.which) t.sources.items)) again.targets.items
           ∙ subst (λ r. IfSome r (λ f. map (λ t. t.member.which) f.targets.items ≡ map (λ f. f.member.which) c.as_slice-2.result.now)) c.in-Some.is
-          c.in_ok-again.ensures.targets ∙ sym (map_twice (λ (f : Found). f.0) (λ f. (f.member.which, f.mode)) c.as_slice-2.result.now);
+          c.in_ok-again.ensures.targets ∙ sym (map_twice (λ (f : Found). f.0) (λ f. (f.member.which, f.mode, f.named)) c.as_slice-2.result.now);
       own =
           all_same (IsTakenUp (map (λ s. s.member.which) again.sources.items)) (λ t. AreThose t.0.place.range (map (λ s. s.member.which) again.sources.items) t.1)
           (map (λ t. (t.member.which, map (λ s. s.which) t.sources.items)) again.targets.items) (λ t h. h.those)

@@ -11,13 +11,13 @@ returns-clause-found g c =
       of_sources = record {
         seats = c.in_ok-sources.ensures.found.seats;
         each =
-            all_later o c.args.pass.now q now (map (λ f. (f.member.which, f.mode)) c.in_ok-sources.sources.items) c.find_all-2.ensures.onward.later
+            all_later o c.args.pass.now q now (map (λ f. (f.member.which, f.mode, f.named)) c.in_ok-sources.sources.items) c.find_all-2.ensures.onward.later
             c.in_ok-sources.ensures.found.each;
       };
       of_targets = record {
         seats = c.in_ok-targets.ensures.found.seats;
         each =
-            all_since o c.args.pass.now q now (map (λ f. (f.member.which, f.mode)) c.in_ok-targets.targets.items) c.find_all.ensures.onward.later
+            all_since o c.args.pass.now q now (map (λ f. (f.member.which, f.mode, f.named)) c.in_ok-targets.targets.items) c.find_all.ensures.onward.later
             c.in_ok-targets.ensures.found.each;
       };
     }

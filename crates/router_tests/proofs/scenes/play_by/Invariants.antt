@@ -1,7 +1,6 @@
-use Rattle.shard_contents.specs.Shards.{most_limits}
 use Rattle.empty_opening.specs.Empty.{opening_of}
 use Rattle.router_tests.proofs.scenes.play_by.Given as goal
 
--- the world of this VSchema and these ranges
+-- the world of this VSchema and these ranges, within these limits
 abbrev pub ghosts-play_in_world : goal.ghosts-play_in_world
-ghosts-play_in_world g a = record { opening = opening_of a.schema a.ranges.now; limits = most_limits }
+ghosts-play_in_world g a = record { opening = opening_of a.schema a.ranges.now; limits = a.limits }

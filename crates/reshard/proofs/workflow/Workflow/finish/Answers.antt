@@ -3,7 +3,7 @@ use Rattle.reshard.specs.declared.cutover.CutoverStep.TheVariants.{Release}
 use Rattle.reshard.specs.Workflows.{WorkflowView}
 use Rattle.cutover_steps.specs.Takings.{Taking}
 use Rattle.cutover_steps.proofs.Onward.{onward_trans}
-use Rattle.reshard.proofs.Through.{further_trans, further_switched, switched_at_end, begun_still, finished}
+use Rattle.reshard.proofs.Through.{further_trans, further_switched, switched_at_end, published_at_end, begun_still, finished}
 use Rattle.reshard.proofs.workflow.Workflow.finish.Goals as goal
 
 pub returns-then-eq-clause-finished : goal.returns-then-eq-clause-finished
@@ -17,6 +17,7 @@ returns-then-eq-clause-finished g c =
     finished c.args.self.now now c.confirm_cutover.new.pass
     (further_trans c.args.self.now mid now c.loop.invariant.further (further_switched o mid now c.loop.pass c.switch_after-step.new.pass step h))
     (switched_at_end o mid now c.loop.pass c.switch_after-step.new.pass step h last)
+    (published_at_end o mid now c.loop.pass c.switch_after-step.new.pass step h last)
     (map (λ s. s.member.which) c.as_slice.result.now) (map (λ t. (t.member.which, map (λ s. s.which) t.sources.items)) c.as_slice-then-eq.result.now)
     (ap (map (λ s. s.member.which)) c.as_slice.ensures.value ∙ ap (λ (w : WorkflowView). w.sources) c.self.view_is)
     (ap (map {B = Taking} (λ t. (t.member.which, map (λ s. s.which) t.sources.items))) c.as_slice-then-eq.ensures.value ∙ ap (λ (w : WorkflowView). w.targets) c.self.view_is)

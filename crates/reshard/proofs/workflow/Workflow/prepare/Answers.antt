@@ -1,4 +1,4 @@
-use Rattle.std.proofs.Common.{map, ap, ◌∙◌}
+use Rattle.std.proofs.Common.{map, refl, ap, ◌∙◌}
 use Rattle.std.specs.Vec.Iter.{into_iter_items}
 use Rattle.cutover_steps.specs.Steps.{named_for}
 use Rattle.reshard.proofs.Nexts.{prepared_now}
@@ -14,4 +14,5 @@ invariant_of-self g c =
       prepared_now (λ s. s.member.which) (λ t. (t.member.which, map (λ s. s.which) t.sources.items)) c.self.inside.sources.items c.self.inside.targets.items
           c.self.inside.retired (into_iter_items c.into_iter.result) (c.self.invariant.1.before c.if-self.false) (c.into_iter.ensures.rest ∙ is),
       c.in_ok-next.ensures.next,
+      λ _ _. refl,
     )

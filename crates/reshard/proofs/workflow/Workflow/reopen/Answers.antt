@@ -20,6 +20,7 @@ invariant_of-self g c =
       prepared_rest (λ s. s.member.which) (λ t. (t.member.which, map (λ s. s.which) t.sources.items)) c.in_ok-taken.taken.again.sources.items
           c.in_ok-taken.taken.again.targets.items c.in_ok-taken.taken.again.course.retired (into_iter_items c.into_iter.result)
           (c.into_iter.ensures.rest ∙ c.in_ok-taken.ensures.named),
-      some_same (λ b. b.value) c.in_ok-taken.taken.memory.next.value (AreOf c.self.inside.ground.keyspace) c.unless_published.result c.unless_published.ensures
+      some_same (λ b. b.value) c.in_ok-taken.taken.memory.next.value (AreOf c.self.inside.ground.keyspace) c.unless_published.result c.unless_published.ensures.same
           c.in_ok-taken.ensures.next,
+      λ _ e. c.unless_published.ensures.there e,
     )

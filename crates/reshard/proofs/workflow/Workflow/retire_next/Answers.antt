@@ -43,6 +43,7 @@ invariant_of-self g c =
       c.self.invariant.0,
       record { before = λ e. absurd (false≢true (sym e ∙ ready)); after = λ e. w.1 },
       c.self.invariant.2,
+      c.self.invariant.3,
     )
 
 pub returns-clause-retired : goal.returns-clause-retired

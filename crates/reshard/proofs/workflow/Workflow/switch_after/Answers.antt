@@ -1,4 +1,4 @@
-use Rattle.std.proofs.Common.{◌≡◌, ◌+◌, ◌≤◌, Bool, length, ap, ◌∙◌, arith}
+use Rattle.std.proofs.Common.{◌≡◌, ◌+◌, ◌≤◌, Bool, true, length, sym, ap, ◌∙◌, arith}
 use Rattle.std.proofs.lemmas.List.{length-map}
 use Rattle.reshard.specs.declared.workflow.Stage.TheVariants.{Switched}
 use Rattle.reshard.specs.Workflows.{WorkflowView}
@@ -25,8 +25,8 @@ returns-then-self-len-2-clause-switched g c =
     served h.0 h.1 (omega (arith, a, b, d, e, v, n)) h.2
     (c.serve_next.ensures.now ∙ ap (λ (b : Bool). record w { served = w.served + 1; prepared = b }) c.requires.prepared)
 
-pub returns-then-publish_next-clause-switched : goal.returns-then-publish_next-clause-switched
-returns-then-publish_next-clause-switched g c =
+pub returns-then-not-self-clause-switched : goal.returns-then-not-self-clause-switched
+returns-then-not-self-clause-switched g c =
     let w = c.args.self.now in
     let a = c.if-self-len.false in
     let b = c.len.ensures in
@@ -40,8 +40,8 @@ returns-then-publish_next-clause-switched g c =
     let e2 = length-map {B = Taking} c.self.inside.targets.items (λ t. (t.member.which, Rattle.std.proofs.Common.map (λ s. s.which) t.sources.items)) in
     let v2 = ap (λ (w : WorkflowView). length w.targets) c.self.view_is in
     let n2 = ap (λ (w : WorkflowView). w.served) c.self.view_is in
-    published (omega (arith, a, b, d, e, v, n)) (omega (arith, a2, b2, d2, e2, v2, n2))
-    (c.publish_next.ensures ∙ ap (λ (b : Bool). record w { prepared = b }) c.requires.prepared)
+    published (sym (ap (λ (w : WorkflowView). w.published) c.self.view_is) ∙ c.if-not-self.true) (omega (arith, a, b, d, e, v, n))
+    (omega (arith, a2, b2, d2, e2, v2, n2)) (c.publish_next.ensures ∙ ap (λ (b : Bool). record w { prepared = b; published = true }) c.requires.prepared)
 
 pub returns-clause-switched : goal.returns-clause-switched
 returns-clause-switched g c =
@@ -58,6 +58,7 @@ returns-clause-switched g c =
     let e2 = length-map {B = Taking} c.self.inside.targets.items (λ t. (t.member.which, Rattle.std.proofs.Common.map (λ s. s.which) t.sources.items)) in
     let v2 = ap (λ (w : WorkflowView). length w.targets) c.self.view_is in
     let n2 = ap (λ (w : WorkflowView). w.served) c.self.view_is in
-    released (omega (arith, a, b, d, e, v, n)) (omega (arith, a2, b2, d2, e2, v2, n2))
-    (ap (λ (v : WorkflowView). record v { stage = Switched }) (c.self-2.view_is ∙ c.publish_next.ensures)
+    released (sym (ap (λ (w : WorkflowView). w.published) c.self.view_is) ∙ c.if-not-self.false) (omega (arith, a, b, d, e, v, n))
+    (omega (arith, a2, b2, d2, e2, v2, n2))
+    (ap (λ (v : WorkflowView). record v { stage = Switched }) c.self.view_is
     ∙ ap (λ (b : Bool). record w { stage = Switched; prepared = b }) c.requires.prepared)

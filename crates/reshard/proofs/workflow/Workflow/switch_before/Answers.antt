@@ -52,7 +52,7 @@ returns-in_err-move_first-clause-refused g c =
     residual_same c.from_residual-in_err-move_first.result e _ c.from_residual-in_err-move_first.ensures.1
     (refused_as o most c.args.self.now w1 true c.args.pass.now now (Refused e) c.in_ok-prepare.ensures.now
     (from_move o most w1.sources w1.targets c.args.pass.now now (Refused e) c.move_first.ensures.onward.later
-    (subst (λ (l : List Taking). IsMoveRefusal most l now (Refused e)) ts c.in_err-move_first.ensures.refused)))
+    (subst (λ (l : List Taking). IsMoveRefusal o most l now (Refused e)) ts c.in_err-move_first.ensures.refused)))
 
 pub returns-in-Copied-clause-step : goal.returns-in-Copied-clause-step
 returns-in-Copied-clause-step g c =

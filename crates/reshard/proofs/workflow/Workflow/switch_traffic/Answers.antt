@@ -1,17 +1,44 @@
-use Rattle.std.proofs.Common.{rules, ◌≡◌, inr, map, ap, ◌∙◌}
+use Rattle.std.proofs.Common.{rules, ◌≡◌, inl, inr, map, sym, ap, subst, ◌∙◌}
 use Rattle.reshard.specs.declared.cutover.CutoverStep.TheVariants.{Release}
 use Rattle.reshard.specs.declared.workflow.Stage.TheVariants.{Following}
 use Rattle.reshard.specs.Workflows.{WorkflowView}
 use Rattle.cutover_steps.specs.Takings.{Taking}
-use Rattle.cutover_steps.proofs.Onward.{onward_trans}
+use Rattle.cutover_steps.proofs.Onward.{still, onward_trans}
+use Rattle.reshard.specs.Cutover.{IsFurther}
 use Rattle.reshard_beginning.proofs.Unfit.{residual_same}
-use Rattle.reshard.proofs.Through.{further_trans, further_switched, switched_at_end, may_still, finished, refused_later}
+use Rattle.reshard.proofs.Through.{further_still, further_trans, further_switched, switched_at_end, published_at_end, may_still, finished, stopped_later, refused_later}
 use Rattle.reshard.proofs.workflow.Workflow.switch_traffic.Goals as goal
+
+pub returns-in_err-keep_up-clause-refused : goal.returns-in_err-keep_up-clause-refused
+returns-in_err-keep_up-clause-refused g c =
+    let o = g.W.World.opening in
+    let w = c.args.self.now in
+    let p = c.args.pass.now in
+    let was : w.stage ≡ Following = search rules in
+    residual_same c.from_residual.result c.in_err-keep_up.field-0.0 _ c.from_residual.ensures.1
+    (inr (
+      was,
+      stopped_later o g.W.World.limits w w c.keep_up.new.self p p c.keep_up.new.pass c.in_err-keep_up.field-0.0 (further_still w) (still o p c.requires.legal)
+          c.in_err-keep_up.ensures.refused,
+    ))
+
+pub loop-init : goal.loop-init
+loop-init g c =
+    let w = c.args.self.now in
+    let was : w.stage ≡ Following = search rules in
+    let same = c.in_ok-keep_up.ensures.same in
+    record {
+      next = tt;
+      finite = tt;
+      further = subst (IsFurther w) (sym same) (further_still w);
+      may = inl (ap (λ (v : WorkflowView). v.stage) same ∙ was);
+      onward = c.keep_up.ensures.onward;
+    }
 
 pub returns-in_err-step-clause-refused : goal.returns-in_err-step-clause-refused
 returns-in_err-step-clause-refused g c =
     let was : c.args.self.now.stage ≡ Following = search rules in
-    residual_same c.from_residual.result c.in_err-step.field-0.0 _ c.from_residual.ensures.1
+    residual_same c.from_residual-in_err-step.result c.in_err-step.field-0.0 _ c.from_residual-in_err-step.ensures.1
     (inr (
       was,
       refused_later g.W.World.opening g.W.World.limits c.args.self.now c.loop.self c.switch_step.new.self c.args.pass.now c.loop.pass c.switch_step.new.pass
@@ -29,6 +56,7 @@ returns-then-eq-clause-through g c =
     finished c.args.self.now now c.confirm_cutover.new.pass
     (further_trans c.args.self.now mid now c.loop.invariant.further (further_switched o mid now c.loop.pass c.switch_step.new.pass step h))
     (switched_at_end o mid now c.loop.pass c.switch_step.new.pass step h last)
+    (published_at_end o mid now c.loop.pass c.switch_step.new.pass step h last)
     (map (λ s. s.member.which) c.as_slice.result.now) (map (λ t. (t.member.which, map (λ s. s.which) t.sources.items)) c.as_slice-then-eq.result.now)
     (ap (map (λ s. s.member.which)) c.as_slice.ensures.value ∙ ap (λ (w : WorkflowView). w.sources) c.self-in-loop.view_is)
     (ap (map {B = Taking} (λ t. (t.member.which, map (λ s. s.which) t.sources.items))) c.as_slice-then-eq.ensures.value ∙ ap (λ (w : WorkflowView). w.targets) c.self-in-loop.view_is)

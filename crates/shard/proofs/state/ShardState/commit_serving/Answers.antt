@@ -13,12 +13,13 @@ use Rattle.shard_contents.specs.declared.contents.Contents.{Contents}
 use Rattle.shard_contents.specs.declared.limits.Limits.{Limits}
 use Rattle.shard_run.specs.declared.Shard.{Shard}
 use Rattle.shard_law.specs.Legal.{IsOnItsSlot}
-use Rattle.shard_run.specs.Runs.{Opening, Run, mode, is_serving, held_changes}
+use Rattle.shard_run.specs.Runs.{Opening, Run, mode, is_serving, held_changes, stored_changes}
 use Rattle.vschema.specs.declared.changes.Write.{Write}
 use Rattle.vschema.specs.declared.changes.RowChange.{RowChange}
 use Rattle.journal.specs.Runs.{NumbersBelow}
 use Rattle.vschema.specs.Database.{Database, SameRows, all_applied}
 use Rattle.sql_eval.specs.Writes.{changes_of}
+use Rattle.shard_contents.proofs.Earlier.{all_had_next, all_had_same}
 use Rattle.shard.proofs.Steps as steps
 use Rattle.shard_run.proofs.Sent.{entry_send}
 use Rattle.shard.proofs.state.ShardState.commit_serving.Goals as goal
@@ -67,6 +68,7 @@ invariant_of-self g c =
       subst (λ (s : Shard). Names g.W.World.opening c.look-entries.new.self.seen s c.self.inside.targets) (sym p.shard)
           (names_after_look _ _ c.self.inside.seat c.look-entries.new.self c.args.pass.now c.self.inside.contents c.self.inside.targets l.seen
           (ap (λ (s : SeatView Entry). s.slot) l.seat) is c.self.invariant.1),
+      all_had_same _ _ _ _ c.self.inside.sorted p.stored p.rows c.self.invariant.2,
     )
 
 pub returns-in_err-prepared-clause-refused : goal.returns-in_err-prepared-clause-refused
@@ -132,7 +134,17 @@ left g c =
 pub invariant_of-self-2 : goal.invariant_of-self-2
 invariant_of-self-2 g c =
     let is = left g c in
-    (is.is_now, names_none g.W.World.opening c.append.new.self.seen c.take.new.self.shard c.self.inside.targets (lives_if (mode g.W.World.opening c.append.new.self.seen c.take.new.self.shard.slot) (ap is_serving is.serves_now)))
+    let ok = c.in_ok-prepared.ensures in
+    let t = c.take.ensures in
+    let e = c.in_ok-prepared.prepared.entry in (
+      is.is_now,
+      names_none g.W.World.opening c.append.new.self.seen c.take.new.self.shard c.self.inside.targets (lives_if (mode g.W.World.opening c.append.new.self.seen c.take.new.self.shard.slot) (ap is_serving is.serves_now)),
+      all_had_same _ _ _ _ c.self.inside.sorted (t.stored ∙ ap (λ (l : List Entry). l ++ e ∷ []) ok.stored) refl
+          (all_had_next c.self.inside.contents.stored.items e c.self.inside.contents.store.rows c.take.new.self.store.rows c.self.inside.sorted
+          (subst (λ (l : List RowChange). SameRows c.take.new.self.store.rows (all_applied l c.self.inside.contents.store.rows))
+          (sym (ap (λ (x : Entry). stored_changes x.event) ok.entry))
+          (subst (λ (db : Database). SameRows c.take.new.self.store.rows (all_applied (held_changes e.event) db)) ok.rows t.rows)) c.self.invariant.2),
+    )
 
 pub returns-clause-committed : goal.returns-clause-committed
 returns-clause-committed g c = rw (← c.self.view_is) ((left g c).committed)

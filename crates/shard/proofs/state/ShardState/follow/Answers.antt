@@ -1,23 +1,29 @@
 use denote.Param.Send.{sendable}
-use Rattle.std.proofs.Common.{◌<◌, List, [], ◌∷◌, ◌++◌, length, inl, inr, refl, sym, ap, subst, ◌∙◌, arith}
+use Rattle.std.proofs.Common.{◌≡◌, ◌<◌, ◌≤◌, true, false, List, [], ◌∷◌, ◌++◌, length, vec_len, inr, refl, sym, ap, subst, ◌∙◌, arith, rules}
 use Rattle.std.specs.List.{AllByRecursion}
 use Rattle.vschema.specs.declared.changes.RowChange.{RowChange}
 use Rattle.vschema.specs.Database.{SameRows, Database, changed_table, all_applied}
-use Rattle.journal.specs.Views.{SeatView}
+use Rattle.journal.specs.Views.{SeatView, PassView}
 use Rattle.shard_run.specs.declared.Shard.{Shard}
 use Rattle.shard_run.specs.declared.Entry.{Entry}
 use Rattle.shard_run.specs.declared.Event.TheVariants.{Follow}
-use Rattle.shard_run.specs.Runs.{mode}
+use Rattle.shard_run.specs.Runs.{mode, held}
 use Rattle.shard_contents.specs.declared.limits.Limits.{Limits}
 use Rattle.shard_contents.specs.Kept.{keep}
 use Rattle.shard_contents.specs.declared.forward.Step.TheVariants.{Followed}
-use Rattle.shard_contents.specs.Shards.{MayFollow, Names}
+use Rattle.shard_contents.specs.Shards.{ShardView, MayFollow, Names}
 use Rattle.shard_contents.proofs.Looks.{following_lives}
 use Rattle.shard_contents.proofs.States.{looked, same_contents, names_none}
+use Rattle.shard_contents.proofs.Earlier.{all_had_none}
 use Rattle.shard_contents.proofs.Follows as f
+use Rattle.shard_contents.proofs.StepRoom.{room_by_entries}
+use Rattle.shard_contents.proofs.Legality.{legal_is}
+use Rattle.shard_contents.specs.inner.Transactions.{has_room_for}
+use Rattle.shard_law.specs.Law.{SourcesApart}
+use Rattle.shard_run.specs.Openings.{row_count}
 use Rattle.shard_run.proofs.Sent.{entry_send}
+use Rattle.shard.proofs.FollowCounts.{follow_within}
 use Rattle.shard.proofs.state.ShardState.follow.Goals as goal
-use Rattle.shard.proofs.state.ShardState.follow.Goals.{then-entries-ge-MOST_ENTRIES-via-then-entries-ge-MOST_ENTRIES, then-entries-ge-MOST_ENTRIES-via-else-entries-ge-MOST_ENTRIES+then-len-self}
 
 pub append-requires-send-L-Entry : goal.append-requires-send-L-Entry
 append-requires-send-L-Entry g c κs within = search (entry_send, sendable)
@@ -25,7 +31,7 @@ append-requires-send-L-Entry g c κs within = search (entry_send, sendable)
 pub invariant_of-self : goal.invariant_of-self
 invariant_of-self g c =
     let l = looked _ _ c.self.inside.seat c.look-entries.new.self c.args.pass.now _ _ c.look-entries.ensures.seen c.look-entries.ensures.seat c.self.invariant in
-    (l.is, l.names)
+    (l.is, l.names, all_had_none _ _ _ c.clear.ensures)
 
 pub prepare_follow-requires : goal.prepare_follow-requires
 prepare_follow-requires g c =
@@ -44,6 +50,7 @@ invariant_of-self-in_err-step g c =
     let l = looked _ _ c.self.inside.seat c.look-entries.new.self c.args.pass.now _ _ c.look-entries.ensures.seen c.look-entries.ensures.seat c.self.invariant in (
       same_contents _ _ c.look-entries.new.self c.self.inside.contents c.prepare_follow.new.self l.is p.shard p.rows p.mode p.stored p.steps p.same_limits,
       subst (λ (s : Shard). Names g.W.World.opening c.look-entries.new.self.seen s c.self.inside.targets) (sym p.shard) l.names,
+      all_had_none _ _ _ c.clear.ensures,
     )
 
 pub append-requires-clause-lawful : goal.append-requires-clause-lawful
@@ -70,7 +77,8 @@ invariant_of-self-2 g c =
     c.args.self.now c.self.view_is c.requires.following in
     let count = f.count_is o most c.self.inside.seat seat had c.self.inside.targets c.args.pass.now c.look-entries.new.pass c.self.invariant l.seen l.seat l.pass
     c.args.self.now c.self.view_is c.requires.following c.look-entries.result l.count in
-    let few = c.if-entries-ge-MOST_ENTRIES.false in
+    let few = room_by_entries had.limits c.look-entries.result (vec_len had.stored) (row_count had.store.rows) c.as_slice-changes.result.now
+    (sym c.has_room_for.ensures ∙ c.if-not-has_room_for.false) in
     let ends = a.seen.2 ∙ ap (λ (e : Entry). a.seen.0 ++ e ∷ []) ok.entry in
     let shard_is = t.shard ∙ ok.shard in
     let changes = ok.changes in (
@@ -87,23 +95,64 @@ invariant_of-self-2 g c =
           (ap (λ (r : List Entry). mode o r c.take_step.new.self.shard.slot) ends
           ∙ ap (λ (s : Shard). mode o (a.seen.0 ++ record { shard = had.shard; event = Follow c.args.taken } ∷ []) s.slot) shard_is
           ∙ f.mode_follows o most seat had is follows a.seen.0 a.seen.1.alone c.args.taken)),
+      all_had_none _ _ _ c.clear.ensures,
     )
 
-pub returns-then-entries-ge-MOST_ENTRIES-clause-err : goal.returns-then-entries-ge-MOST_ENTRIES-clause-err
-returns-then-entries-ge-MOST_ENTRIES-clause-err g c =
+pub has_room_for-requires : goal.has_room_for-requires
+has_room_for-requires g c =
+    let a = ap (λ (x : Limits). x.rows) c.self.invariant.0.limits in
+    let b = c.self.invariant.0.most_rows in
+    omega (arith, a, b)
+
+pub returns-then-not-has_room_for-clause-err : goal.returns-then-not-has_room_for-clause-err
+returns-then-not-has_room_for-clause-err g c =
+    let l = c.look-entries.ensures in
+    let had = c.self.inside.contents in
+    let no = sym c.has_room_for.ensures ∙ c.if-not-has_room_for.true in
+    inr (
+      refl,
+      f.passes g.W.World.opening g.W.World.limits c.self.inside.seat c.look-entries.new.self had c.self.inside.targets c.args.pass.now c.look-entries.new.pass
+          c.self.invariant l.seen l.seat l.pass c.args.self.now c.self.view_is c.requires.following c.args.taken c.requires.next c.look-entries.result (vec_len had.stored)
+          l.count had.stored.ok.0
+          (subst (λ (x : List RowChange). has_room_for had.limits c.look-entries.result (vec_len had.stored) (row_count had.store.rows) x ≡ false)
+          c.as_slice-changes.ensures no),
+    )
+
+pub returns-then-not-has_room_for-clause-may : goal.returns-then-not-has_room_for-clause-may
+returns-then-not-has_room_for-clause-may g c =
+    let l = c.look-entries.ensures in
+    f.lawful_now g.W.World.opening g.W.World.limits c.self.inside.seat c.look-entries.new.self c.self.inside.contents c.self.inside.targets c.args.pass.now
+    c.look-entries.new.pass c.self.invariant l.seen l.seat l.pass c.args.self.now c.self.view_is c.requires.following c.args.taken c.requires.next
+
+pub returns-in_err-step-clause-may : goal.returns-in_err-step-clause-may
+returns-in_err-step-clause-may g c =
+    let l = c.look-entries.ensures in
+    let may = f.lawful_now g.W.World.opening g.W.World.limits c.self.inside.seat c.look-entries.new.self c.self.inside.contents c.self.inside.targets c.args.pass.now
+    c.look-entries.new.pass c.self.invariant l.seen l.seat l.pass c.args.self.now c.self.view_is c.requires.following c.args.taken c.requires.next in
+    search (rules, may)
+
+pub returns-clause-rows : goal.returns-clause-rows
+returns-clause-rows g c apart =
     let l = c.look-entries.ensures in
     let o = g.W.World.opening in
     let most = g.W.World.limits in
     let had = c.self.inside.contents in
-    let count = f.count_is o most c.self.inside.seat c.look-entries.new.self had c.self.inside.targets c.args.pass.now c.look-entries.new.pass c.self.invariant l.seen
-    l.seat l.pass c.args.self.now c.self.view_is c.requires.following c.look-entries.result l.count in
-    let told = f.entries_told o most c.self.inside.seat c.look-entries.new.self had c.self.inside.targets c.args.pass.now c.look-entries.new.pass c.self.invariant l.seen
-    l.seat l.pass c.args.self.now c.self.view_is c.requires.following in
-    let stored = f.stored_told o most c.self.inside.seat c.look-entries.new.self had c.self.inside.targets c.args.pass.now c.look-entries.new.pass c.self.invariant l.seen
-    l.seat l.pass c.args.self.now c.self.view_is c.requires.following in
-    let limit = ap (λ (x : Limits). x.stored) c.self.invariant.0.limits in
-    elim c.then-entries-ge-MOST_ENTRIES.branch [
-      | then-entries-ge-MOST_ENTRIES-via-then-entries-ge-MOST_ENTRIES w ↦ (let h = w.if-entries-ge-MOST_ENTRIES.true in inr (refl, inl (omega (arith, count, told, h))))
-      | then-entries-ge-MOST_ENTRIES-via-else-entries-ge-MOST_ENTRIES+then-len-self w ↦
-          (let h = w.if-len-self.true in let k = w.len.ensures in inr (refl, inr (omega (arith, stored, limit, h, k, had.stored.ok.0))))
-    ]
+    let a = c.append.ensures in
+    let run = a.seen.0 in
+    let taken = c.args.taken in
+    let seen : c.append.new.pass.seen ≡ c.append.new.self.seen = ap (λ (x : PassView Entry). x.seen) a.pass in
+    let ends = seen ∙ a.seen.2 ∙ ap (λ (e : Entry). run ++ e ∷ []) c.in_ok-step.ensures.entry in
+    let shard_is : had.shard ≡ c.args.self.now.shard = ap (λ (x : ShardView). x.shard) c.self.view_is in
+    let may = f.lawful o most c.self.inside.seat c.look-entries.new.self had c.self.inside.targets c.args.pass.now c.look-entries.new.pass c.self.invariant l.seen
+    l.seat l.pass c.args.self.now c.self.view_is c.requires.following taken c.requires.next run a.seen.1 in
+    let there = f.there_then o most c.self.inside.seat c.look-entries.new.self had c.self.inside.targets c.args.pass.now c.look-entries.new.pass c.self.invariant l.seen
+    l.seat l.pass c.args.self.now c.self.view_is c.requires.following taken c.requires.next run a.seen.1 in
+    let count = f.held_then o most c.self.inside.seat c.look-entries.new.self had c.self.inside.targets c.args.pass.now c.look-entries.new.pass c.self.invariant l.seen
+    l.seat l.pass c.args.self.now c.self.view_is c.requires.following taken c.requires.next run a.seen.1 in
+    let fits = f.fits o most c.self.inside.seat c.look-entries.new.self had c.self.inside.targets c.args.pass.now c.look-entries.new.pass c.self.invariant l.seen
+    l.seat l.pass c.args.self.now c.self.view_is c.requires.following taken c.requires.next c.look-entries.result (vec_len had.stored)
+    (subst (λ (x : List RowChange). has_room_for had.limits c.look-entries.result (vec_len had.stored) (row_count had.store.rows) x ≡ true)
+    c.as_slice-changes.ensures (sym c.has_room_for.ensures ∙ c.if-not-has_room_for.false)) in
+    subst (λ (s : Shard). row_count (held o c.append.new.pass.seen s) ≤ most.rows) shard_is
+    (follow_within o most c.self.invariant.0.opens run (legal_is o run a.seen.1.legal) had.shard taken may c.append.new.pass.seen ends
+    (subst (SourcesApart o c.append.new.pass.seen) (sym shard_is) apart) there (omega (arith, count, fits)))

@@ -1,5 +1,4 @@
-use Rattle.std.proofs.Common.{◌≡◌, ◌<◌, ◌++◌, true, length, refl, sym, ap, subst, ◌∙◌, arith}
-use Rattle.std.specs.Prelude.{option_copied}
+use Rattle.std.proofs.Common.{◌≡◌, ◌<◌, true, length, refl, sym, ap, subst, ◌∙◌, arith}
 use Rattle.vschema.specs.declared.schema.VSchema.{VSchema}
 use Rattle.vschema.specs.Database.{rows_of}
 use Rattle.journal.specs.Runs.{IsLegal}
@@ -9,12 +8,11 @@ use Rattle.shard_contents.specs.Shards.{ShardView, MayFollow}
 use Rattle.shard_contents.specs.Copying.{IsCopyFor}
 use Rattle.shard_contents.proofs.Legality.{legal_is}
 use Rattle.shard_contents.proofs.States.{holds_of, lives_if}
-use Rattle.shard_contents.proofs.FirstRows.{first_of}
 use Rattle.shard_contents.proofs.CopySteps.{copy_for, first_as, table_is}
 use Rattle.shard.proofs.state.ShardState.rows_to_copy.Goals as goal
 
-pub behind-requires : goal.behind-requires
-behind-requires g c =
+pub first_wanted-requires-clause-there : goal.first_wanted-requires-clause-there
+first_wanted-requires-clause-there g c =
     let o = g.W.World.opening in
     let seat = c.self.inside.seat in
     let had = c.self.inside.contents in
@@ -35,17 +33,15 @@ returns-clause-copy g c =
     let there : n < length c.as_slice.result.now = subst (λ l. n < length l) (sym c.as_slice.ensures) c.requires.there in
     let table = table_is c.args.schema.now c.as_slice.result.now c.as_slice.ensures n c.index-as_slice-next.result there c.index-as_slice-next.is
     ∙ ap (λ (s : VSchema). table_at s n) c.requires.schema in
-    let first = first_as c.args.place.now c.index-as_slice-next.result (table_at o.schema n) (option_copied c.as_ref-last.result) c.args.next.now.after (rows_of had.store.rows n)
-    (rows_of had.store.rows n) c.in_ok-first.first.items table c.as_ref-last.ensures.value refl
-    (first_of c.args.place.now c.index-as_slice-next.result (option_copied c.as_ref-last.result) (c.in_ok-rows.rows.slots ++ c.in_ok-rows.rows.beside)
-    (rows_of had.store.rows n) c.in_ok-first.first.items c.in_ok-rows.ensures.rows c.in_ok-first.ensures.ok) in
+    let first = first_as c.args.place.now c.index-as_slice-next.result (table_at o.schema n) c.args.next.now.after c.args.next.now.after (rows_of had.store.rows n)
+    (rows_of had.store.rows n) c.in_ok-rows.rows.items table refl refl c.in_ok-rows.ensures.ok in
     let legal = legal_is o seat.seen (subst (λ (x : ShardView). IsLegal (MayFollow o) x.seen) (sym view) c.requires.legal) in
     let serves = subst (λ (x : ShardView). is_serving (mode o x.seen x.shard.slot) ≡ true) (sym view) c.requires.serves in (
       refl,
       subst (λ (x : ShardView). IsCopyFor o x.seen x.shard c.args.place.now c.args.next.now.after
-          (record { source = c.slot.result; table = n; place = c.stored.result; rows = c.from_vec.result })) view
-          (copy_for o g.W.World.limits seat had c.self.invariant.0 c.requires.formed legal serves n c.args.place.now c.args.next.now.after c.in_ok-first.first.items
-          (record { source = c.slot.result; table = n; place = c.stored.result; rows = c.from_vec.result }) first
-          (c.slot.ensures.slot ∙ ap (λ (x : ShardView). x.shard.slot) (sym view)) refl
-          (c.stored.ensures ∙ ap (λ (x : ShardView). length (stored_on x.shard.slot x.seen)) (sym view)) c.from_vec.ensures),
+          (record { source = c.slot-source.result; table = n; place = c.stored-stored.result; rows = c.from_vec.result })) view
+          (copy_for o g.W.World.limits seat had c.self.invariant.0 c.requires.formed legal serves n c.args.place.now c.args.next.now.after c.in_ok-rows.rows.items
+          (record { source = c.slot-source.result; table = n; place = c.stored-stored.result; rows = c.from_vec.result }) first
+          (c.slot-source.ensures.slot ∙ ap (λ (x : ShardView). x.shard.slot) (sym view)) refl
+          (c.stored-stored.ensures ∙ ap (λ (x : ShardView). length (stored_on x.shard.slot x.seen)) (sym view)) c.from_vec.ensures),
     )

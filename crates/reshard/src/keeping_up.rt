@@ -1,0 +1,116 @@
+//! The targets come level before a cutover freezes their sources, so that writes wait for little.
+ghost use Rattle.std.specs.Prelude.{◌≡◌, IfErr, IsTrue, OnOk, map};
+ghost use Rattle.vschema.specs.WellFormed.{is_vschema};
+ghost use Rattle.journal.specs.Runs.{IsLegal};
+ghost use Rattle.shard_run.specs.Openings.{IsOpening};
+ghost use Rattle.shard_contents.specs.Shards.{MayFollow};
+ghost use Rattle.follow.specs.Steps.{IsOnward};
+ghost use Rattle.reshard_beginning.specs.Splits.{TakeFromOwn};
+ghost use Rattle.reshard_beginning.specs.Begun.{IsMoveRefusal};
+ghost use Rattle.reshard.specs.Cutover.{HasStopped};
+
+use crate::workflow::{Stage, Workflow};
+use buffer::Buffer;
+use cutover_steps::Target;
+use follow::Step;
+use journal::{Naming, Pass};
+use reshard_beginning::{ReshardFault, move_first};
+use shard::{ShardLaw, ShardState, World};
+use shard_run::Mode;
+use std::alloc::Global;
+use std::sync::Wait;
+use vschema::VSchema;
+use vt_value::Refusal;
+
+// How many entries a source has stored that serves.
+fn stored_in<W: World, J: Naming>(state: &ShardState<W, J>) -> u64 {
+    if state.mode() == Mode::Serving {
+        state.stored()
+    } else {
+        0
+    }
+}
+
+// How many its sources have stored together.
+fn stored_for<W: World, J: Naming>(rt: &impl Wait, target: &Target<W, J>) -> u64 {
+    let mut stored = 0u64;
+    for source in target.sources.as_slice() {
+        stored = stored.saturating_add(stored_in(&source.shard.lock(rt)));
+    }
+    stored
+}
+
+// Twice as many as the targets' sources have stored, each counted for each target that takes from it.
+fn most_followed<W: World, J: Naming>(rt: &impl Wait, targets: &[Target<W, J>]) -> u64 {
+    let mut stored = 0u64;
+    for target in targets {
+        stored = stored.saturating_add(stored_for(rt, target));
+    }
+    stored.saturating_mul(2)
+}
+
+// Brings the first target forward that isn't level, until all are, or so many entries were followed.
+fn come_level<W: World, J: Naming>(
+    rt: &impl Wait,
+    alloc: Global,
+    pass: &mut Pass<ShardLaw<W>, J>,
+    schema: &VSchema,
+    targets: &[Target<W, J>],
+    most: u64,
+) -> Result<(), Refusal>
+    requires opens { IsOpening W.opening }
+    requires schema { schema.now ≡ W.opening.schema }
+    requires formed { IsTrue (is_vschema W.opening.schema) }
+    requires own { TakeFromOwn (map (λ t. (t.member.which, map (λ s. s.which) t.sources.items)) targets.now) }
+    requires legal { IsLegal (MayFollow W.opening) pass.old.seen }
+    ensures refused { IfErr result (λ e. IsMoveRefusal W.opening W.limits (map (λ t. (t.member.which, map (λ s. s.which) t.sources.items)) targets.now) pass.new (ReshardFault.Refused e)) }
+    ensures onward { IsOnward W.opening pass.old pass.new }
+{
+    let mut left = most;
+    for _ in rt.forever() {
+        match move_first(rt, alloc, pass, schema, targets)? {
+            Step::Level => return Ok(()),
+            Step::Copied => {}
+            Step::Followed => {
+                if left <= 1 {
+                    return Ok(());
+                }
+                left -= 1;
+            }
+        }
+    }
+    unreachable!()
+}
+
+impl<W: World, J: Naming> Workflow<W, J> {
+    // Makes the moves that are left before a cutover begins. Where one is refused, the cutover is given up.
+    pub(crate) fn keep_up(
+        &mut self,
+        rt: &impl Wait,
+        alloc: Global,
+        pass: &mut Pass<ShardLaw<W>, J>,
+        schema: &VSchema,
+        buffer: &Buffer,
+    ) -> Result<(), ReshardFault>
+        requires begun { self.old.stage ≡ Stage.None → ⊥ }
+        requires schema { schema.now ≡ W.opening.schema }
+        requires formed { IsTrue (is_vschema W.opening.schema) }
+        requires legal { IsLegal (MayFollow W.opening) pass.old.seen }
+        ensures same { OnOk result (self.new ≡ self.old) }
+        ensures refused { IfErr result (HasStopped W.opening W.limits self.old self.new pass.old pass.new) }
+        ensures onward { IsOnward W.opening pass.old pass.new }
+    {
+        if self.retired > 0 {
+            return Ok(());
+        }
+        let targets = self.targets.as_slice();
+        let most = most_followed(rt, targets);
+        match come_level(rt, alloc, pass, schema, targets, most) {
+            Ok(()) => Ok(()),
+            Err(refusal) => {
+                self.give_up(rt, pass, buffer);
+                Err(ReshardFault::Refused(refusal))
+            }
+        }
+    }
+}

@@ -1,0 +1,93 @@
+//! Which ranges are served in the midst of a cutover.
+ghost use Rattle.std.specs.Prelude.{◌≡◌, ◌++◌, IfOk, IfErr, OnOk, drop, map, take};
+ghost use Rattle.reshard.specs.Served.{AreServed};
+
+use crate::workflow::Workflow;
+use cutover_steps::{Source, Target};
+use journal::Naming;
+use keyrange::KeyRange;
+use reshard_beginning::next_ranges;
+use shard::World;
+use std::alloc::Global;
+use vt_value::Refusal;
+
+// The sources behind the first so many.
+fn behind_first<W: World, J: Naming>(sources: &[Source<W, J>], n: usize) -> &[Source<W, J>]
+    ensures { result.now ≡ drop n sources.now }
+{
+    if n < sources.len() {
+        &sources[n..]
+    } else {
+        &sources[sources.len()..]
+    }
+}
+
+// The first so many targets.
+fn first<W: World, J: Naming>(targets: &[Target<W, J>], n: usize) -> &[Target<W, J>]
+    ensures { result.now ≡ take n targets.now }
+{
+    if n < targets.len() {
+        &targets[..n]
+    } else {
+        targets
+    }
+}
+
+fn ranges_of_sources<W: World, J: Naming>(
+    alloc: Global,
+    sources: &[Source<W, J>],
+) -> Result<Vec<KeyRange>, Refusal>
+    ensures ok { IfOk result (λ ranges. ranges.items ≡ map (λ s. s.member.which.place.range) sources.now) }
+    ensures err { IfErr result (λ e. e ≡ Refusal.OutOfMemory) }
+{
+    let mut ranges = Vec::new(alloc);
+    for source in sources {
+        ranges.push(source.member.which.place.range)?;
+    }
+    Ok(ranges)
+}
+
+fn put_targets<W: World, J: Naming>(
+    ranges: &mut Vec<KeyRange>,
+    targets: &[Target<W, J>],
+) -> Result<(), Refusal>
+    ensures ok { OnOk result (ranges.new.items ≡ ranges.old.items ++ map (λ t. t.member.which.place.range) targets.now) }
+    ensures err { IfErr result (λ e. e ≡ Refusal.OutOfMemory) }
+{
+    for target in targets {
+        ranges.push(target.member.which.place.range)?;
+    }
+    Ok(())
+}
+
+fn ranges_of_both<W: World, J: Naming>(
+    alloc: Global,
+    sources: &[Source<W, J>],
+    targets: &[Target<W, J>],
+) -> Result<Vec<KeyRange>, Refusal>
+    ensures ok { IfOk result (λ ranges. ranges.items ≡ map (λ s. s.member.which.place.range) sources.now ++ map (λ t. t.member.which.place.range) targets.now) }
+    ensures err { IfErr result (λ e. e ≡ Refusal.OutOfMemory) }
+{
+    let mut ranges = ranges_of_sources(alloc, sources)?;
+    put_targets(&mut ranges, targets)?;
+    Ok(ranges)
+}
+
+impl<W: World, J: Naming> Workflow<W, J> {
+    // Promise: In the midst of a cutover the ranges that are served are those of the parts that stay, which with the targets make a partition
+    // of the keyspace, of the sources that aren't retired, and of the targets that serve already
+    // Refuses: status_lists_retired_sources, status_lists_targets_that_follow
+    /// The ranges of the shards that serve now, or are frozen: of the parts that the workflow leaves, of its sources that aren't retired, and
+    /// of its targets that serve. Refuses for want of memory.
+    pub fn served_ranges(&self, alloc: Global) -> Result<Vec<KeyRange>, Refusal>
+        ensures ok { IfOk result (λ ranges. AreServed self.now ranges.items) }
+        ensures err { IfErr result (λ e. e ≡ Refusal.OutOfMemory) }
+    {
+        let own = ranges_of_both(
+            alloc,
+            behind_first(self.sources.as_slice(), self.retired),
+            first(self.targets.as_slice(), self.served),
+        )?;
+        next_ranges(alloc, self.rest.as_slice(), own.as_slice())
+    }
+}

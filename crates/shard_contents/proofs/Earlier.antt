@@ -1,0 +1,179 @@
+-- Tables as they were when a shard had stored so many entries: through its changes, and brought forward by them.
+use Rattle.std.proofs.Common.{◌≡◌, ℕ, zero, suc, ◌+◌, ◌<◌, ◌≤◌, Bool, List, [], ◌∷◌, ◌++◌, length, take, drop, get_or, filter, refl, sym, ap, ◌∙◌, subst, arith, IsPermutation, length-append}
+use Rattle.std.specs.List.{AllByRecursion, remove}
+use Rattle.std.proofs.lemmas.Bool.{eq-eqb, ne_eqb}
+use Rattle.std.proofs.lemmas.Grind.{flat_map-append}
+use Rattle.std.proofs.lemmas.List.{append-nil, take_more, drop-append-le}
+use Rattle.std.proofs.lemmas.List.Sorted.{IsPermutation-trans, IsPermutation-append_left}
+use Rattle.sql_eval.proofs.ChangeLemmas.{rows-same}
+use Rattle.sql_eval.proofs.Permutations.{IsPermutation-filter}
+use Rattle.vt_value.specs.Values.{Row}
+use Rattle.vschema.specs.declared.schema.Table.{Table}
+use Rattle.vschema.specs.declared.changes.RowChange.{RowChange}
+use Rattle.vschema.specs.declared.changes.RowChange.TheVariants.{Added, Replaced, Removed}
+use Rattle.vschema.specs.Database.{Database, SameRows, rows_of, without, all_applied, changed_table}
+use Rattle.shard_run.specs.declared.Entry.{Entry}
+use Rattle.shard_run.specs.Runs.{stored_changes}
+use Rattle.shard_law.proofs.Databases.{length-all_applied}
+use Rattle.shard_contents.specs.inner.Placed.{AreFirst}
+use Rattle.shard_contents.specs.inner.Stores.{row_after}
+use Rattle.shard_contents.specs.inner.Earlier.{EarlierTable, changes_by, HadRows, AllHadRows, IsCurrentTable}
+use Rattle.shard_contents.proofs.Bags.{same_self, same_back, same_through, length-same, all_applied-same}
+use Rattle.shard_contents.proofs.Commits.{applied-append}
+use Rattle.shard_contents.proofs.OneTable.{next_here, next_other}
+
+take-all : {X : Type 0} (xs : List X) (i : ℕ) → length xs ≤ i → take i xs ≡ xs
+take-all [] zero l = refl
+take-all [] (suc i) l = refl
+take-all (x ∷ xs) zero l = absurd (omega (arith, l))
+take-all (x ∷ xs) (suc i) l = ap (λ ys. x ∷ ys) (take-all xs i (omega (arith, l)))
+
+-- ---- changes of a table, whose rows are in any order
+
+without-same : (r : Row) (xs ys : List Row) → IsPermutation xs ys → IsPermutation (without r xs) (without r ys)
+without-same r xs ys h = (all_applied-same (Removed 0 r ∷ []) (xs ∷ []) (ys ∷ []) (h, tt)).0
+
+pub row_after-same : (c : RowChange) (xs ys : List Row) → IsPermutation xs ys → IsPermutation (row_after c xs) (row_after c ys)
+row_after-same (Added n row) xs ys h = IsPermutation-append_left (row ∷ []) xs ys h
+row_after-same (Replaced n old new) xs ys h = IsPermutation-append_left (new ∷ []) (without old xs) (without old ys) (without-same old xs ys h)
+row_after-same (Removed n row) xs ys h = without-same row xs ys h
+
+-- a row in another's place
+pub replaced : (n : ℕ) (old new : Row) (before less after : List Row) → IsPermutation less (without old before) → IsPermutation after (less ++ new ∷ [])
+    → IsPermutation after (row_after (Replaced n old new) before)
+replaced n old new before less after h k =
+    IsPermutation-trans after (less ++ new ∷ []) (without old before ++ new ∷ []) k (IsPermutation-append_left (new ∷ []) less (without old before) h)
+
+-- one more change, of the table or of another
+module _ (changes : List RowChange) (i : ℕ) (c : RowChange) (n : ℕ) (within : i < length changes) (is : c ≡ get_or changes i c) where
+  pub more_here : (db : Database) (rows later : List Row) → n < length db → changed_table c ≡ n → IsPermutation later (row_after c rows)
+      → IsPermutation rows (rows_of (all_applied (take i changes) db) n) → IsPermutation later (rows_of (all_applied (take (i + 1) changes) db) n)
+  more_here db rows later there of after h =
+      subst (IsPermutation later) (sym (next_here changes i c db n there within is (eq-eqb (changed_table c) n of)))
+      (IsPermutation-trans later (row_after c rows) (row_after c (rows_of (all_applied (take i changes) db) n)) after
+      (row_after-same c rows (rows_of (all_applied (take i changes) db) n) h))
+
+  pub more_other : (db : Database) (rows : List Row) → n < length db → (changed_table c ≡ n → ⊥)
+      → IsPermutation rows (rows_of (all_applied (take i changes) db) n) → IsPermutation rows (rows_of (all_applied (take (i + 1) changes) db) n)
+  more_other db rows there of h =
+      subst (IsPermutation rows) (sym (next_other changes i c db n there within is (ne_eqb (changed_table c) n of))) h
+
+-- all of them
+pub changes_done : (changes : List RowChange) (i : ℕ) (db : Database) (n : ℕ) (rows : List Row) → length changes ≤ i
+    → IsPermutation rows (rows_of (all_applied (take i changes) db) n) → IsPermutation rows (rows_of (all_applied changes db) n)
+changes_done changes i db n rows far h =
+    subst (λ (l : List RowChange). IsPermutation rows (rows_of (all_applied l db) n)) (take-all changes i far) h
+
+pub entries_done : (entries : List Entry) (i : ℕ) (db : Database) (n : ℕ) (rows : List Row) → length entries ≤ i
+    → IsPermutation rows (rows_of (all_applied (changes_by (take i entries)) db) n) → IsPermutation rows (rows_of (all_applied (changes_by entries) db) n)
+entries_done entries i db n rows far h =
+    subst (λ (l : List Entry). IsPermutation rows (rows_of (all_applied (changes_by l) db) n)) (take-all entries i far) h
+
+-- one more entry
+pub entry_next : (entries : List Entry) (i : ℕ) (e : Entry) (db : Database) → i < length entries → e ≡ get_or entries i e
+    → all_applied (changes_by (take (i + 1) entries)) db ≡ all_applied (stored_changes e.event) (all_applied (changes_by (take i entries)) db)
+entry_next entries i e db within is =
+    ap (λ (l : List Entry). all_applied (changes_by l) db) (take_more entries i e within ∙ ap (λ (x : Entry). take i entries ++ x ∷ []) (sym is))
+    ∙ ap (λ (l : List RowChange). all_applied l db)
+    (flat_map-append (λ (x : Entry). stored_changes x.event) (take i entries) (e ∷ [])
+    ∙ ap (λ (l : List RowChange). changes_by (take i entries) ++ l) (append-nil (stored_changes e.event)))
+    ∙ applied-append (changes_by (take i entries)) (stored_changes e.event) db
+
+-- ---- kept tables, while entries are stored
+
+had_next : (stored : List Entry) (e : Entry) (now later : Database) (t : EarlierTable) → SameRows later (all_applied (stored_changes e.event) now)
+    → HadRows stored now t → HadRows (stored ++ e ∷ []) later t
+had_next stored e now later t after h =
+    let since : List RowChange = changes_by (drop t.stored stored) in
+    let front : drop t.stored (stored ++ e ∷ []) ≡ drop t.stored stored ++ e ∷ [] = drop-append-le t.stored stored (e ∷ []) h.within in
+    let all : all_applied (changes_by (drop t.stored (stored ++ e ∷ []))) h.db ≡ all_applied (stored_changes e.event) (all_applied since h.db) =
+    ap (λ (l : List Entry). all_applied (changes_by l) h.db) front
+    ∙ ap (λ (l : List RowChange). all_applied l h.db)
+    (flat_map-append (λ (x : Entry). stored_changes x.event) (drop t.stored stored) (e ∷ []) ∙ ap (λ (l : List RowChange). since ++ l) (append-nil (stored_changes e.event)))
+    ∙ applied-append since (stored_changes e.event) h.db in
+    record {
+      within = let k = h.within in let l = length-append stored (e ∷ []) in omega (arith, k, l);
+      db = h.db;
+      since =
+          subst (λ (db : Database). SameRows db later) (sym all)
+          (same_through (all_applied (stored_changes e.event) (all_applied since h.db)) (all_applied (stored_changes e.event) now) later
+          (all_applied-same (stored_changes e.event) (all_applied since h.db) now h.since)
+          (same_back later (all_applied (stored_changes e.event) now) after));
+      rows = h.rows;
+    }
+
+-- one more stored entry, with what it changes
+pub all_had_next : (stored : List Entry) (e : Entry) (now later : Database) (tables : List EarlierTable)
+    → SameRows later (all_applied (stored_changes e.event) now) → AllHadRows stored now tables → AllHadRows (stored ++ e ∷ []) later tables
+all_had_next stored e now later [] after h = tt
+all_had_next stored e now later (t ∷ tables) after h = (had_next stored e now later t after h.0, all_had_next stored e now later tables after h.1)
+
+-- nothing stored, and no row changed
+pub all_had_same : (stored stored' : List Entry) (now now' : Database) (tables : List EarlierTable) → stored' ≡ stored → now' ≡ now → AllHadRows stored now tables
+    → AllHadRows stored' now' tables
+all_had_same stored stored' now now' tables entries rows h =
+    subst (λ (l : List Entry). AllHadRows l now' tables) (sym entries) (subst (λ (db : Database). AllHadRows stored db tables) (sym rows) h)
+
+-- ---- a table that is taken out, brought forward and put back
+
+pub all-remove : {X : Type 0} (P : X → Type 0) (xs : List X) (i : ℕ) → AllByRecursion P xs → AllByRecursion P (remove xs i)
+all-remove P [] zero h = tt
+all-remove P [] (suc i) h = tt
+all-remove P (x ∷ xs) zero h = h.1
+all-remove P (x ∷ xs) (suc i) h = (h.0, all-remove P xs i h.1)
+
+pub all-at : {X : Type 0} (P : X → Type 0) (xs : List X) (i : ℕ) (d : X) → i < length xs → AllByRecursion P xs → P (get_or xs i d)
+all-at P [] i d l h = absurd (omega (arith, l))
+all-at P (x ∷ xs) zero d l h = h.0
+all-at P (x ∷ xs) (suc i) d l h = all-at P xs i d (omega (arith, l)) h.1
+
+pub all-push : {X : Type 0} (P : X → Type 0) (xs : List X) (x : X) → AllByRecursion P xs → P x → AllByRecursion P (xs ++ x ∷ [])
+all-push P [] x h p = (p, tt)
+all-push P (y ∷ xs) x h p = (h.0, all-push P xs x h.1 p)
+
+drop_length : {X : Type 0} (xs : List X) → drop (length xs) xs ≡ []
+drop_length [] = refl
+drop_length (x ∷ xs) = drop_length xs
+
+pub had_now : (stored : List Entry) (now : Database) (n : ℕ) (t : EarlierTable) → IsCurrentTable n (length stored) now t → HadRows stored now t
+had_now stored now n t h = record {
+  within = let k = h.stored in omega (arith, k);
+  db = now;
+  since =
+      subst (λ (k : ℕ). SameRows (all_applied (changes_by (drop k stored)) now) now) (sym h.stored)
+      (subst (λ (l : List Entry). SameRows (all_applied (changes_by l) now) now) (sym (drop_length stored)) (same_self now));
+  rows = subst (λ (k : ℕ). IsPermutation t.rows (rows_of now k)) (sym h.table) h.rows;
+}
+
+pub has_now : (stored : List Entry) (now : Database) (n : ℕ) (old t : EarlierTable) → n < length now → old.table ≡ n → HadRows stored now old
+    → (items : List Entry) → items ≡ stored → t.table ≡ old.table → t.stored ≡ length items
+    → ((db : Database) → old.table < length db → IsPermutation old.rows (rows_of db old.table)
+    → IsPermutation t.rows (rows_of (all_applied (changes_by (drop old.stored items)) db) old.table))
+    → IsCurrentTable n (length stored) now t
+has_now stored now n old t there of h items items_are table entries forward =
+    let changes : List RowChange = changes_by (drop old.stored stored) in
+    let same = length-same (all_applied changes h.db) now h.since in
+    let long = length-all_applied changes h.db in
+    record {
+      table = table ∙ of;
+      stored = entries ∙ ap length items_are;
+      rows =
+          subst (λ (k : ℕ). IsPermutation t.rows (rows_of now k)) of
+          (IsPermutation-trans t.rows (rows_of (all_applied changes h.db) old.table) (rows_of now old.table)
+          (subst (λ (l : List Entry). IsPermutation t.rows (rows_of (all_applied (changes_by (drop old.stored l)) h.db) old.table)) items_are
+          (forward h.db (omega (arith, there, of, same, long)) h.rows))
+          (rows-same (all_applied changes h.db) now h.since old.table));
+    }
+
+-- the first of rows in any order
+pub first_permuted : (t : Table) (test : Row → Bool) (rows all first : List Row) → IsPermutation all rows → AreFirst t test rows first → AreFirst t test all first
+first_permuted t test rows all first h f = record {
+  arranged = f.arranged;
+  all = IsPermutation-trans (filter test all) (filter test rows) f.arranged (IsPermutation-filter test all rows h) f.all;
+  in_order = f.in_order;
+  is = f.is;
+}
+
+-- no table is kept
+pub all_had_none : (stored : List Entry) (now : Database) (tables : List EarlierTable) → tables ≡ [] → AllHadRows stored now tables
+all_had_none stored now tables none = subst (AllHadRows stored now) (sym none) tt

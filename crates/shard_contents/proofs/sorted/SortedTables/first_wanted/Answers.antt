@@ -1,0 +1,28 @@
+use Rattle.std.proofs.Common.{Option, subst}
+use Rattle.vt_value.specs.Values.{Row}
+use Rattle.vschema.specs.Database.{rows_of}
+use Rattle.shard_contents.specs.inner.Placed.{AreFirst}
+use Rattle.shard_contents.specs.Copying.{is_wanted}
+use Rattle.shard_contents.proofs.Earlier.{had_now, first_permuted}
+use Rattle.std.proofs.lemmas.List.Sorted.{IsPermutation-sym}
+use Rattle.shard_contents.proofs.sorted.SortedTables.first_wanted.Goals as goal
+
+pub returns-in_err-keep-clause-had : goal.returns-in_err-keep-clause-had
+returns-in_err-keep-clause-had c =
+    let stored = c.args.contents.now.stored.items in
+    let now = c.args.contents.now.store.rows in
+    c.keep.ensures.had stored now (had_now stored now c.args.next.now.table c.in_ok-sorted.sorted c.in_ok-sorted.ensures.ok) c.take_current.ensures.had
+
+pub returns-clause-had : goal.returns-clause-had
+returns-clause-had c =
+    let stored = c.args.contents.now.stored.items in
+    let now = c.args.contents.now.store.rows in
+    c.keep.ensures.had stored now (had_now stored now c.args.next.now.table c.in_ok-sorted.sorted c.in_ok-sorted.ensures.ok) c.take_current.ensures.had
+
+pub returns-clause-ok : goal.returns-clause-ok
+returns-clause-ok c =
+    let t = c.args.table.now in
+    let all = rows_of c.args.contents.now.store.rows c.args.next.now.table in
+    let rows = c.in_ok-sorted.sorted.rows in
+    subst (λ (x : Option Row). AreFirst t (is_wanted c.args.place.now t x) all c.in_ok-first.first.items) c.as_ref.ensures.value
+    (first_permuted t _ rows all c.in_ok-first.first.items (IsPermutation-sym rows all c.in_ok-sorted.ensures.ok.rows) c.in_ok-first.ensures.ok)
