@@ -241,7 +241,8 @@ def left(words, kind, rows=100000):
             if router.answers(*["step"] * BATCH)[-1] == "ok level":
                 break
         answers = router.answers(*["step"] * BATCH, *["advance"] * 2)[BATCH:]
-        while "ok retire" not in answers:
+        # to its end, else the clients wait for ever
+        while "ok release" not in answers:
             answers += router.answers(*["advance"] * 20)
         writers.join()
         return answers.index("ok retire") - 1 - answers.count("ok copy")
