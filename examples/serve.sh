@@ -20,6 +20,9 @@ while [ $# -gt 0 ]; do
     esac
     shift
 done
+# Whether the port takes connections.
+listens() { (exec 3<> "/dev/tcp/127.0.0.1/$port") 2> /dev/null; }
+! listens || { echo "port $port is in use: set PORT and ADMIN to two others" >&2; exit 1; }
 # A new nonce at each start: salts of logins are made of it.
 nonce=$(od -An -tx1 -N32 /dev/urandom | tr -d ' \n')
 words=(serve -40,40-80,80-c0,c0- "127.0.0.1:$port" "127.0.0.1:$admin" 8 100 0 app "$secret" "$nonce")
@@ -37,8 +40,6 @@ router=$!
 trap ended EXIT
 trap 'echo; exit 0' INT TERM
 
-# Whether the port takes connections.
-listens() { (exec 3<> "/dev/tcp/127.0.0.1/$port") 2> /dev/null; }
 until listens; do
     kill -0 "$router" 2> /dev/null || { cat "$log" >&2; exit 1; }
     [ $((SECONDS % 10)) != 9 ] || echo "  $SECONDS seconds" >&2
