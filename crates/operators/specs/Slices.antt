@@ -16,3 +16,8 @@ columns_of places row = map (value_at row) places
 abbrev pub first_is : {X : Type 0} → (X → Bool) → List X → Bool
 first_is test [] = false
 first_is test (x ∷ xs) = test x
+
+-- rows by the columns in these places, or as they are
+abbrev pub shown_at : Option (List ℕ) → List Row → List Row
+shown_at None rows = rows
+shown_at (Some places) rows = map (columns_of places) rows

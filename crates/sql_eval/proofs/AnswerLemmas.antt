@@ -49,7 +49,7 @@ shown_rows : (q : Query) → list_any is_aggregate q.items ≡ false → (rows :
 shown_rows q e [] = refl
 shown_rows q e (row ∷ rows) = rw (shown_items row q.items e, shown_rows q e rows) refl
 
-sliced_map : {X Y : Type 0} (f : X → Y) (limit : Option Limit) (xs : List X) → sliced limit (map f xs) ≡ map f (sliced limit xs)
+pub sliced_map : {X Y : Type 0} (f : X → Y) (limit : Option Limit) (xs : List X) → sliced limit (map f xs) ≡ map f (sliced limit xs)
 sliced_map f None xs = refl
 sliced_map f (Some l) xs = ap (take l.count) (drop-map f l.offset xs) ∙ take-map f l.count (drop l.offset xs)
 

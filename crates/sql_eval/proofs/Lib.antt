@@ -16,3 +16,4 @@ pub mod Counted
 pub mod LentRows
 pub mod Pairs
 pub mod PairValues
+pub mod NarrowLemmas

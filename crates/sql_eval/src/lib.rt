@@ -4,6 +4,7 @@
 mod conditions;
 mod groups;
 mod joins;
+mod narrowed;
 mod ordered;
 mod queries;
 mod rows;
@@ -13,6 +14,7 @@ mod writes;
 pub use conditions::{Seen, keeps, truth};
 pub use groups::{Grouping, copy_item, group_columns, group_order};
 pub use joins::{PairSource, SlicePairs, copy_seen, is_pair, select_pairs};
+pub use narrowed::{Narrowed, Whole};
 pub use queries::{select_from, select_local, show};
 pub use rows::same_row;
 pub use source::{RowSource, SliceRows, all_kept, next_kept};

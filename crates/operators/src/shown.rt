@@ -1,0 +1,126 @@
+//! Rows as they were read, and what is shown of each.
+ghost use Rattle.std.specs.Prelude.{◌≡◌, [], ◌∷◌, false, length, IfOk, IfErr, IfSome};
+ghost use Rattle.operators.specs.Slices.{shown_at};
+
+use crate::columns::project_row;
+use crate::pulling::{Operator, collect};
+use crate::stored::Rows;
+use std::alloc::Global;
+use std::marker::Model;
+use vt_value::{Items, Refusal, Row};
+
+/// Rows of which the columns in given places are shown, or all. What is shown of a row is made once it is pulled, so that what is held are
+/// the rows as they were read. Contracts see the rows as they are shown.
+#[derive(Drop)]
+pub struct ShownRows {
+    rows: Items<Row>,
+    places: Option<Items<usize>>,
+}
+
+impl Model for ShownRows {
+    ghost use Rattle.std.specs.Prelude.{List};
+    ghost use Rattle.vt_value.specs.declared.value.Value.{Value as V};
+    ghost use Rattle.operators.specs.Slices.{shown_at};
+
+    ghost Value = { List (List V) };
+
+    ghost view = { λ s. shown_at s.places s.rows };
+}
+
+impl ShownRows {
+    // Promise: Of rows the columns in given places are shown, each row as it is pulled; what is held are the rows as they were read
+    // With: ShownRows::len, ShownRows::whole, ShownRows::pulled, ShownRows::into_rows, PulledRows::next
+    // Refuses: rows_are_shown_as_they_were_read, row_is_shown_at_no_place, pulled_rows_are_none, shown_rows_recover, narrow_rows_are_whole,
+    // half_of_the_shown_rows_are_counted
+    /// Of each of these rows the values in these places, NULL behind its end, or the row as it is where there are no places. Takes no memory.
+    pub fn new(rows: Items<Row>, places: Option<Items<usize>>) -> ShownRows
+        ensures { result ≡ shown_at places rows }
+    {
+        ShownRows { rows, places }
+    }
+
+    /// How many rows there are.
+    pub fn len(&self) -> usize
+        ensures { result ≡ length self.now }
+    {
+        self.rows.len()
+    }
+
+    /// The rows, if each is shown as it is.
+    pub fn whole(&self) -> Option<&[Row]>
+        ensures { IfSome result (λ rows. rows.now ≡ self.now) }
+    {
+        match self.places {
+            None => Some(self.rows.as_slice()),
+            Some(_) => None,
+        }
+    }
+
+    /// Gives them, each as it is shown. Refuses only for want of memory.
+    pub fn pulled(self, alloc: Global) -> Result<PulledRows, Refusal>
+        ensures ok { IfOk result (λ made. ⟦<PulledRows as Operator>⟧.to_come made ≡ self) }
+        ensures fresh { IfOk result (λ made. ⟦<PulledRows as Operator>⟧.has_failed made ≡ false) }
+        ensures err { IfErr result (λ e. e ≡ Refusal.OutOfMemory) }
+    {
+        let ShownRows { rows, places } = self;
+        match Rows::new(alloc, rows) {
+            Ok(rows) => Ok(PulledRows {
+                rows,
+                places,
+                failed: false,
+            }),
+            Err(refusal) => {
+                drop(places);
+                Err(refusal)
+            }
+        }
+    }
+
+    /// All of them, as they are shown. Refuses only for want of memory.
+    pub fn into_rows(self, alloc: Global) -> Result<Items<Row>, Refusal>
+        ensures ok { IfOk result (λ rows. rows ≡ self) }
+        ensures err { IfErr result (λ e. e ≡ Refusal.OutOfMemory) }
+    {
+        let mut pulled = self.pulled(alloc)?;
+        collect(alloc, &mut pulled)
+    }
+}
+
+/// Rows that are given as they are shown, each dropped then.
+#[derive(Drop)]
+pub struct PulledRows {
+    rows: Rows,
+    places: Option<Items<usize>>,
+    failed: bool,
+}
+
+/// A row as it is shown.
+fn shown(alloc: Global, places: &Option<Items<usize>>, row: Row) -> Result<Row, Refusal>
+    ensures ok { IfOk result (λ made. shown_at places.now (row ∷ []) ≡ made ∷ []) }
+    ensures err { IfErr result (λ e. e ≡ Refusal.OutOfMemory) }
+{
+    match places {
+        None => Ok(row),
+        Some(places) => project_row(alloc, places.as_slice(), &row),
+    }
+}
+
+impl Operator for PulledRows {
+    ghost use Rattle.operators.specs.Slices.{shown_at};
+
+    ghost to_come = { λ pulled. shown_at pulled.places (⟦<Rows as Operator>⟧.to_come pulled.rows) };
+
+    ghost has_failed = { λ pulled. pulled.failed };
+
+    fn next(&mut self, alloc: Global) -> Result<Option<Row>, Refusal> {
+        if self.failed {
+            return Err(Refusal::OutOfMemory);
+        }
+        let Some(row) = self.rows.next(alloc)? else {
+            return Ok(None);
+        };
+        let made = shown(alloc, &self.places, row);
+        self.failed = made.is_err();
+        Ok(Some(made?))
+    }
+}

@@ -1,0 +1,249 @@
+//! A query that shows each of its items once, in place of one that may show some again and again: what it gives is as wide as there are
+//! different items, and each row is shown whole once it is asked for.
+ghost use Rattle.std.specs.Prelude.{◌≡◌, ℕ, ◌∷◌, ◌++◌, [], List, Some, None, IfOk, IfErr, IfSome, IfNone, OnOk, IsTrue, map, slice_get};
+ghost use Rattle.sql_tree.specs.declared.Item.{Item as I};
+ghost use Rattle.sql_eval.specs.Narrowing.{item_code, distinct_items, narrowed, whole_items, whole_places, ShowsAt};
+ghost use Rattle.sql_eval.specs.inner.Narrowings.{has_item, are_apart, IsSeen};
+
+use crate::groups::copy_item;
+use sql_tree::Item;
+use std::alloc::Global;
+use std::collections::BTreeMap;
+use std::marker::Model;
+use vschema::Query;
+use vt_value::{Items, Refusal};
+
+/// A list of at most so many items is compared item by item.
+const FEW: usize = 8;
+
+/// A number for each item, which no other has.
+fn item_code(item: &Item<usize>) -> u128
+    ensures { result ≡ item_code item.now }
+{
+    match item {
+        Item::Column(place) => 6 * (*place as u128),
+        Item::CountRows => 1,
+        Item::Count(place) => 6 * (*place as u128) + 2,
+        Item::Sum(place) => 6 * (*place as u128) + 3,
+        Item::Min(place) => 6 * (*place as u128) + 4,
+        Item::Max(place) => 6 * (*place as u128) + 5,
+    }
+}
+
+fn has_item(item: &Item<usize>, items: &[Item<usize>]) -> bool
+    ensures { result ≡ has_item item.now items.now }
+{
+    let code = item_code(item);
+    items.iter().any(|other| code == item_code(other))
+}
+
+/// Whether no item is there twice.
+fn are_apart(items: &[Item<usize>]) -> bool
+    ensures { result ≡ are_apart items.now }
+{
+    let mut rest = items;
+    while let Some((item, behind)) = rest.split_first() {
+        if has_item(item, behind) {
+            return false;
+        }
+        rest = behind;
+    }
+    true
+}
+
+/// The different items of a list so far, where each of the list stands among them, and where each is found by its number.
+#[derive(Drop)]
+struct Seen {
+    items: Items<Item<usize>>,
+    places: Items<usize>,
+    by_code: BTreeMap<u128, usize>,
+}
+
+impl Seen {
+    /// Puts an item behind those so far. Refuses only for want of memory.
+    fn add(&mut self, item: &Item<usize>) -> Result<(), Refusal>
+        ensures ok { OnOk result ((before : List (I ℕ)) → IsSeen before self.old → IsSeen (before ++ item.now ∷ []) self.new) }
+        ensures err { IfErr result (λ e. e ≡ Refusal.OutOfMemory) }
+    {
+        let code = item_code(item);
+        match self.by_code.get(&code).copied() {
+            Some(place) => self.places.push(place)?,
+            None => {
+                let place = self.items.len();
+                self.by_code.insert(code, place)?;
+                self.items.push(copy_item(item))?;
+                self.places.push(place)?;
+            }
+        }
+        Ok(())
+    }
+
+    /// Those of a list. Refuses only for want of memory.
+    fn of(alloc: Global, items: &[Item<usize>]) -> Result<Seen, Refusal>
+        ensures ok { IfOk result (IsSeen items.now) }
+        ensures err { IfErr result (λ e. e ≡ Refusal.OutOfMemory) }
+    {
+        let mut seen = Seen {
+            items: Items::new(alloc),
+            places: Items::new(alloc),
+            by_code: BTreeMap::new(alloc),
+        };
+        for item in items {
+            seen.add(item)?;
+        }
+        Ok(seen)
+    }
+}
+
+/// The items of a query that shows some of them again and again, and where each stands among the different ones.
+#[derive(Drop)]
+pub struct Whole {
+    pub items: Items<Item<usize>>,
+    pub places: Items<usize>,
+}
+
+/// The different items of a list, and where each of the list stands among them; `None` where all are different. Refuses only for want of
+/// memory.
+fn different(
+    alloc: Global,
+    items: &[Item<usize>],
+) -> Result<Option<(Items<Item<usize>>, Items<usize>)>, Refusal>
+    ensures all { IfOk result (λ r. IfNone r (distinct_items items.now ≡ items.now)) }
+    ensures items { IfOk result (λ r. IfSome r (λ s. s.0 ≡ distinct_items items.now)) }
+    ensures places { IfOk result (λ r. IfSome r (λ s. map (slice_get s.0) s.1 ≡ map Some items.now)) }
+    ensures err { IfErr result (λ e. e ≡ Refusal.OutOfMemory) }
+{
+    if items.len() <= FEW && are_apart(items) {
+        return Ok(None);
+    }
+    let seen = Seen::of(alloc, items)?;
+    if seen.items.len() == items.len() {
+        return Ok(None);
+    }
+    let Seen { items, places, .. } = seen;
+    Ok(Some((items, places)))
+}
+
+/// A query with these items in place of its own, and what it stands for with its own.
+fn showing(query: Query, items: Items<Item<usize>>, places: Items<usize>) -> (Query, Whole)
+    ensures query { result.0 ≡ record query { items = items } }
+    ensures items { result.1.items ≡ query.items }
+    ensures places { result.1.places ≡ places }
+{
+    let Query {
+        table,
+        join,
+        items: whole,
+        qualified,
+        filter,
+        group_by,
+        order_by,
+        limit,
+    } = query;
+    let narrow = Query {
+        table,
+        join,
+        items,
+        qualified,
+        filter,
+        group_by,
+        order_by,
+        limit,
+    };
+    let whole = Whole {
+        items: whole,
+        places,
+    };
+    (narrow, whole)
+}
+
+/// A query that is run with each of its items once. Contracts see the query that it stands for.
+#[derive(Drop)]
+pub struct Narrowed {
+    query: Query,
+    whole: Option<Whole>,
+}
+
+impl Model for Narrowed {
+    ghost use Rattle.vschema.specs.contracts.schema.Query as select;
+    ghost use Rattle.vschema.specs.declared.schema.Query.{Query as Q};
+    ghost use Rattle.sql_eval.specs.inner.Narrowings.{whole_query, IsNarrowing};
+
+    ghost Value = { Q };
+
+    ghost coded = { select.the_row.coded };
+
+    ghost view = { λ n. whole_query n.query n.whole };
+
+    ghost invariant = { λ n. IsNarrowing n.query n.whole };
+}
+
+impl Narrowed {
+    // Promise: A query that shows items again and again is run with each of them once: of whatever that may answer over rows, the columns in the
+    // places that are told are what the whole query may answer
+    // With: Narrowed::query, Narrowed::places, Narrowed::split, Narrowed::shown
+    // Refuses: item_is_shown_at_another_place, items_are_shown_in_another_order, second_item_is_lost, sum_has_the_number_of_a_count,
+    // narrow_items_are_told, narrow_rows_are_shown_as_they_are, short_list_is_taken_for_different
+    /// The query that shows each item of this one once. Refuses only for want of memory.
+    pub fn of(alloc: Global, query: Query) -> Result<Narrowed, Refusal>
+        ensures ok { IfOk result (λ n. n ≡ query) }
+        ensures err { IfErr result (λ e. e ≡ Refusal.OutOfMemory) }
+    {
+        match different(alloc, query.items.as_slice())? {
+            None => Ok(Narrowed { query, whole: None }),
+            Some((items, places)) => {
+                let (query, whole) = showing(query, items, places);
+                Ok(Narrowed {
+                    query,
+                    whole: Some(whole),
+                })
+            }
+        }
+    }
+
+    /// The query that is run.
+    pub fn query(&self) -> &Query
+        ensures { result.now ≡ narrowed self.now }
+    {
+        &self.query
+    }
+
+    /// Where the items of the whole query stand among those of the one that is run; `None` where they are the same. Refuses only for want of
+    /// memory.
+    pub fn places(&self, alloc: Global) -> Result<Option<Items<usize>>, Refusal>
+        ensures ok { IfOk result (ShowsAt self.now) }
+        ensures err { IfErr result (λ e. e ≡ Refusal.OutOfMemory) }
+    {
+        match &self.whole {
+            None => Ok(None),
+            Some(whole) => Ok(Some(Items::from_slice(alloc, whole.places.as_slice())?)),
+        }
+    }
+
+    /// The query that is run, and what it stands for.
+    pub fn split(self) -> (Query, Option<Whole>)
+        ensures query { result.0 ≡ narrowed self }
+        ensures items { whole_items result.1 result.0.items ≡ self.items }
+        ensures shows { ShowsAt self (whole_places result.1) }
+    {
+        let Narrowed { query, whole } = self;
+        (query, whole)
+    }
+
+    /// What the whole query shows, and whether each item was written with its table's name.
+    pub fn shown(self) -> (Items<Item<usize>>, Items<bool>)
+        ensures items { result.0 ≡ self.items }
+        ensures qualified { result.1 ≡ self.qualified }
+    {
+        let (query, whole) = self.split();
+        let Query {
+            items,
+            qualified,
+            ..
+        } = query;
+        match whole {
+            None => (items, qualified),
+            Some(whole) => (whole.items, qualified),
+        }
+    }
+}
