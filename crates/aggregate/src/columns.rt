@@ -2,7 +2,7 @@ ghost use Rattle.std.specs.Prelude.{◌≡◌, [], ◌∷◌, ◌+ℤ◌, map, F
 ghost use Rattle.std.specs.Int.{w128};
 ghost use Rattle.vt_value.specs.Values.{value_at};
 ghost use Rattle.aggregate.specs.Aggregates.{lesser, greater};
-ghost use Rattle.aggregate.specs.Parts.{join_options, present_value};
+ghost use Rattle.aggregate.specs.Parts.{join_options};
 ghost use Rattle.aggregate.specs.inner.Columns.{total_part, least_part, greatest_part, column_part, with_value, with_values, finished, CanHold, CanHoldAll};
 
 use crate::extremes::{Max, Min};
@@ -10,7 +10,7 @@ use crate::joining::Aggregate;
 use crate::sums::{Sum, number};
 use sql_tree::Item;
 use std::alloc::Global;
-use vt_value::{Refusal, Value, copy};
+use vt_value::{Refusal, Value};
 
 /// What is kept of a column of parts.
 #[derive(Drop)]
@@ -25,20 +25,6 @@ pub enum ColumnPart {
     Greatest(Option<Value>),
 }
 
-// A least or greatest value that a shard gave, none where it gave NULL.
-fn given(alloc: Global, value: &Value) -> Result<Option<Value>, Refusal>
-    ensures ok { IfOk result (λ part. part ≡ present_value value.now) }
-    ensures err { IfErr result (λ e. e ≡ Refusal.OutOfMemory) }
-{
-    match value {
-        Value::Null => Ok(None),
-        _ => {
-            let value = copy(alloc, value)?;
-            Ok(Some(value))
-        }
-    }
-}
-
 fn join_total(alloc: Global, part: &mut Option<i128>, value: &Value) -> Result<(), Refusal>
     requires { IfSome (join_options ◌+ℤ◌ part.old (total_part (value.now ∷ []))) (λ n. FitsSigned w128 n) }
     ensures ok { OnOk result (part.new ≡ join_options ◌+ℤ◌ part.old (total_part (value.now ∷ []))) }
@@ -51,16 +37,14 @@ fn join_least(alloc: Global, part: &mut Option<Value>, value: &Value) -> Result<
     ensures ok { OnOk result (part.new ≡ join_options lesser part.old (least_part (value.now ∷ []))) }
     ensures err { IfErr result (λ e. e ≡ Refusal.OutOfMemory) }
 {
-    let other = given(alloc, value)?;
-    Min::join(alloc, part, &other)
+    Min::add(alloc, part, value)
 }
 
 fn join_greatest(alloc: Global, part: &mut Option<Value>, value: &Value) -> Result<(), Refusal>
     ensures ok { OnOk result (part.new ≡ join_options greater part.old (greatest_part (value.now ∷ []))) }
     ensures err { IfErr result (λ e. e ≡ Refusal.OutOfMemory) }
 {
-    let other = given(alloc, value)?;
-    Max::join(alloc, part, &other)
+    Max::add(alloc, part, value)
 }
 
 impl ColumnPart {

@@ -8,48 +8,51 @@ ghost use Rattle.aggregate.specs.Groups.{joined_rows, AreSummable};
 ghost use Rattle.aggregate.specs.inner.Grouping.{key_values, part_lists, IsGrouped};
 
 use crate::columns::{ColumnPart, add_values, empty_parts};
-use crate::keys::GroupKey;
+use crate::keys::{BeginsAs, GroupKey};
 use indexmap::IndexSet;
 use operators::{Operator, Rows};
 use sql_tree::Item;
 use std::alloc::Global;
-use vt_value::{Items, Refusal, Row, Value, copy};
+use std::hash::DefaultHasher;
+use vt_value::{Items, Refusal, Row, Value};
 
 /// The groups of the rows so far.
 #[derive(Drop)]
 pub struct Groups {
-    keys: IndexSet<GroupKey>,
+    keys: IndexSet<GroupKey, BeginsAs>,
     /// For each key, what is kept of its group's columns of parts.
     parts: Vec<Vec<ColumnPart>>,
 }
 
-fn copy_values(alloc: Global, values: &[Value]) -> Result<Row, Refusal>
-    ensures ok { IfOk result (λ row. row ≡ values.now) }
+/// Moves the values after a row's group values, which stay.
+fn move_parts(row: &mut Row, width: usize, parts: &mut Vec<Value>) -> Result<(), Refusal>
+    ensures values { OnOk result (row.new ≡ take width row.old) }
+    ensures parts { OnOk result (parts.new.items ≡ drop width row.old) }
     ensures err { IfErr result (λ e. e ≡ Refusal.OutOfMemory) }
 {
-    let mut row = Items::new(alloc);
-    for value in values {
-        row.push(copy(alloc, value)?)?;
+    parts.clear();
+    while row.len() > width {
+        if let Some(value) = row.pop() {
+            parts.push(value)?;
+        }
     }
-    Ok(row)
-}
-
-/// The group values of a row, and the values behind them.
-fn split_row(row: &[Value], width: usize) -> (&[Value], &[Value])
-    ensures values { result.0.now ≡ take width row.now }
-    ensures parts { result.1.now ≡ drop width row.now }
-{
-    row.split_at(width.min(row.len()))
+    parts.reverse();
+    Ok(())
 }
 
 impl Groups {
     /// The groups of no rows: without group values there is one.
-    fn new(alloc: Global, aggregates: &[Item<usize>], width: usize) -> Result<Groups, Refusal>
+    fn new(
+        alloc: Global,
+        hasher: DefaultHasher,
+        aggregates: &[Item<usize>],
+        width: usize,
+    ) -> Result<Groups, Refusal>
         ensures ok { IfOk result (IsGrouped aggregates.now width []) }
         ensures err { IfErr result (λ e. e ≡ Refusal.OutOfMemory) }
     {
         let mut groups = Groups {
-            keys: IndexSet::new(alloc),
+            keys: IndexSet::with_hasher(alloc, BeginsAs { hasher }),
             parts: Vec::new(alloc),
         };
         if width == 0 {
@@ -92,21 +95,22 @@ impl Groups {
         Ok(())
     }
 
-    /// Joins a row's parts to those of its group.
+    /// Joins a row's parts to those of its group. They are moved through `parts`, so that a row of a known group takes no memory.
     fn add(
         &mut self,
         alloc: Global,
         aggregates: &[Item<usize>],
         width: usize,
-        row: &Row,
+        row: Row,
+        parts: &mut Vec<Value>,
     ) -> Result<(), Refusal>
-        requires { (rows : List Line) × IsGrouped aggregates.now width rows self.old × AreSummable width (rows ++ row.now ∷ []) }
+        requires { (rows : List Line) × IsGrouped aggregates.now width rows self.old × AreSummable width (rows ++ row ∷ []) }
         ensures ok { OnOk result ((rows : List Line) → IsGrouped aggregates.now width rows self.old
-            → IsGrouped aggregates.now width (rows ++ row.now ∷ []) self.new) }
+            → IsGrouped aggregates.now width (rows ++ row ∷ []) self.new) }
         ensures err { IfErr result (λ e. e ≡ Refusal.OutOfMemory) }
     {
-        let (values, parts) = split_row(row.as_slice(), width);
-        let values = copy_values(alloc, values)?;
+        let mut values = row;
+        move_parts(&mut values, width, parts)?;
         let place = self.open(alloc, aggregates, values)?;
         self.add_at(alloc, place, parts)?;
         Ok(())
@@ -156,13 +160,15 @@ impl GroupMerge {
     // Promise: The groups of several shards' rows are joined, each once, NULLs of a column in one; without group values there is one group,
     // also of no rows
     // With: GroupMerge::next
-    // Refuses: nulls_of_a_group_are_apart, groups_in_reverse, parts_are_lost
+    // Refuses: nulls_of_a_group_are_apart, groups_in_reverse, parts_are_lost, groups_of_one_length_are_one, known_group_is_the_first
     /// Joins the groups of the input's rows. A row begins with `width` group values, behind which stand the parts of the
     /// aggregates, one column each. Groups come in the order in which they come first; without group values there is one, also
     /// of no rows. NULLs of a group value are one group. The numbers of a column of parts stay below 2^127 together, as those of
-    /// 2^60 values that a column holds do. Refuses only for want of memory.
+    /// 2^60 values that a column holds do. Groups are found by hashes of their values that begin as `hasher`: one with a key that nobody
+    /// else knows keeps clients from choosing values with one hash. Refuses only for want of memory.
     pub fn new<O: Operator>(
         alloc: Global,
+        hasher: DefaultHasher,
         input: O,
         aggregates: &[Item<usize>],
         width: usize,
@@ -172,9 +178,10 @@ impl GroupMerge {
         ensures err { IfErr result (λ e. e ≡ Refusal.OutOfMemory) }
     {
         let mut input = input;
-        let mut groups = Groups::new(alloc, aggregates, width)?;
+        let mut groups = Groups::new(alloc, hasher, aggregates, width)?;
+        let mut parts = Vec::new(alloc);
         while let Some(row) = input.next(alloc)? {
-            groups.add(alloc, aggregates, width, &row)?;
+            groups.add(alloc, aggregates, width, row, &mut parts)?;
         }
         Ok(GroupMerge {
             rows: Rows::from_vec(groups.into_rows(alloc)?),

@@ -2,7 +2,7 @@ ghost use Rattle.std.specs.Prelude.{◌≡◌, fold};
 ghost use Rattle.vt_value.specs.Values.{same_row};
 ghost use Rattle.aggregate.specs.Keys.{value_writes};
 
-use std::hash::{Hash, Hasher};
+use std::hash::{BuildHasher, DefaultHasher, Hash, Hasher};
 use vt_value::{Row, Value, sort_order};
 
 /// The values of a group, where NULL is equal to NULL.
@@ -26,18 +26,20 @@ fn same(a: &[Value], b: &[Value]) -> bool
     true
 }
 
+// The first word tells the kind, and of a text its length: a keyed hasher takes all writes as one text, and rows that differ have to differ there.
 fn hash_value<H: Hasher>(value: &Value, state: &mut H)
     ensures { state.new ≡ fold H.write state.old (value_writes value.now) }
 {
     match value {
-        Value::Null => state.write_u8(0),
+        Value::Null => state.write_u64(0),
         Value::Int(number) => {
-            state.write_u8(1);
+            state.write_u64(1);
             state.write_i128(*number);
         }
         Value::Bytes(text) => {
-            state.write_u8(2);
-            state.write(text.as_slice());
+            let text = text.as_slice();
+            state.write_u64(2 + text.len() as u64);
+            state.write(text);
         }
     }
 }
@@ -76,5 +78,21 @@ impl Hash for GroupKey {
         for value in self.values.as_slice() {
             hash_value(value, state);
         }
+    }
+}
+
+/// Makes each hasher as a copy of one, which has its key already.
+#[derive(Clone, Copy)]
+pub struct BeginsAs {
+    pub hasher: DefaultHasher,
+}
+
+impl BuildHasher for BeginsAs {
+    type Hasher = DefaultHasher;
+
+    ghost build_hasher = { λ begin. begin.hasher };
+
+    fn build_hasher(&self) -> DefaultHasher {
+        self.hasher
     }
 }

@@ -118,7 +118,7 @@ shard_counts = refl
 
 joined_counts : finish_of by_c
     ≡ record {
-      grouping = Some (record { width = 1; aggregates = item.CountRows ∷ [] });
+      grouping = Some (record { width = 1; aggregates = item.CountRows ∷ []; hashing = tt });
       columns = 0 ∷ 1 ∷ [];
       order_by = record { column = 0; descending = false } ∷ [];
       limit = Some (record { count = 1; offset = 0 });

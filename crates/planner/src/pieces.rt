@@ -6,7 +6,7 @@ ghost use Rattle.keyrange.specs.Ranges.{has_id};
 ghost use Rattle.planner.specs.Routes.{members_beside, first_of, is_held, id_of};
 ghost use Rattle.planner.specs.Plans.{has_among, first_cut, cut_members, cut_in, cut_by, cut_of, is_member_of, shard_filter, piece_of};
 
-use crate::copies::{copy_condition, copy_items, copy_keys, copy_operand, copy_places};
+use crate::copies::{copy_condition, copy_items, copy_keys, copy_operand};
 use crate::keys::{Keys, keys_on, kind_in};
 use crate::members::Member;
 use crate::plans::Plan;
@@ -259,7 +259,7 @@ impl Plan {
     {
         let items = copy_items(alloc, self.piece.items.as_slice())?;
         let qualified = Items::from_slice(alloc, self.piece.qualified.as_slice())?;
-        let group_by = copy_places(alloc, self.piece.group_by.as_slice())?;
+        let group_by = self.piece.group_by.copy(alloc)?;
         let order_by = copy_keys(alloc, self.piece.order_by.as_slice())?;
         let filter = match &self.piece.filter {
             Some(condition) => {

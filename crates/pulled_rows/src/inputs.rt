@@ -7,6 +7,7 @@ use operators::*;
 use sql_tree::Key;
 use std::alloc::Global;
 use std::cell::Cell;
+use std::hash::DefaultHasher;
 use vt_value::{Items, Refusal, Row, Value};
 
 /// Counts the calls of `next`.
@@ -193,6 +194,6 @@ pub(crate) fn a_failed_input_gives_no_groups(alloc: Global) -> bool {
         left: 0,
         failed: false,
     };
-    let merge = GroupMerge::new(alloc, input, &[], 0);
+    let merge = GroupMerge::new(alloc, DefaultHasher::new(), input, &[], 0);
     matches!(merge, Err(Refusal::OutOfMemory))
 }

@@ -15,7 +15,10 @@ use shard_run::Mode;
 use sql_tree::{Assignment, Item};
 use std::alloc::Global;
 use std::sync::Wait;
-use vschema::{Column, ColumnType, Columns, Keyspace, Place, Query, Table, VSchema, Write};
+use vschema::{
+    Column, ColumnType, Columns, GroupBy, Hashing, Keyspace, Place, Query, Table, Tables, VSchema,
+    Write,
+};
 use vt_value::{Items, Refusal, Row, Value};
 
 // At most two rows, and at most four stored entries.
@@ -99,7 +102,7 @@ fn keyspaces(alloc: Global) -> Result<Items<Keyspace>, Refusal>
 pub(crate) fn schema(alloc: Global) -> Result<VSchema, Refusal>
     ensures { IfOk result (λ schema. schema ≡ small_schema) }
 {
-    let tables = tables(alloc)?;
+    let tables = Tables::new(tables(alloc)?);
     let keyspaces = keyspaces(alloc)?;
     Ok(VSchema { keyspaces, tables })
 }
@@ -201,7 +204,7 @@ pub(crate) fn query(alloc: Global, item: Item<usize>) -> Result<Query, Refusal>
         items: one(alloc, item)?,
         qualified: Items::new(alloc),
         filter: None,
-        group_by: Items::new(alloc),
+        group_by: GroupBy::new(Items::new(alloc), Hashing::known()),
         order_by: Items::new(alloc),
         limit: None,
     })

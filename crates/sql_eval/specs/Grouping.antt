@@ -40,7 +40,7 @@ abbrev pub behind_groups : Query → ℕ
 behind_groups q = length q.group_by + length q.items
 
 abbrev pub grouping_of : Query → Grouping
-grouping_of q = record { width = length q.group_by; aggregates = aggregates_of q.items }
+grouping_of q = record { width = length q.group_by; aggregates = aggregates_of q.items; hashing = tt }
 
 -- the places of the query's items in a group's row
 abbrev pub group_columns : Query → List ℕ

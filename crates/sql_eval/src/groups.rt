@@ -13,7 +13,7 @@ use aggregate::GroupMerge;
 use operators::{Operator, collect, project_row};
 use sql_tree::{Condition, Item, Key};
 use std::alloc::Global;
-use vschema::{FirstPlaces, Query};
+use vschema::{FirstPlaces, Hashing, Query};
 use vt_value::{Items, Refusal, Row, Value, copy};
 
 /// How parts are joined to groups.
@@ -23,6 +23,8 @@ pub struct Grouping {
     pub width: usize,
     /// The aggregates. Their parts stand behind these values, one column each.
     pub aggregates: Items<Item<usize>>,
+    /// The key by which the groups' values are hashed.
+    pub hashing: Hashing,
 }
 
 fn is_aggregate(item: &Item<usize>) -> bool
@@ -81,6 +83,7 @@ impl Grouping {
         Ok(Grouping {
             width: query.group_by.as_slice().len(),
             aggregates,
+            hashing: query.group_by.hashing().copy(),
         })
     }
 
@@ -91,7 +94,9 @@ impl Grouping {
         ensures ok { IfOk result (λ rows. rows ≡ grouped self.now (O.to_come parts)) }
         ensures err { IfErr result (λ e. e ≡ Refusal.OutOfMemory) }
     {
-        let mut merge = GroupMerge::new(alloc, parts, self.aggregates.as_slice(), self.width)?;
+        let hasher = self.hashing.hasher();
+        let aggregates = self.aggregates.as_slice();
+        let mut merge = GroupMerge::new(alloc, hasher, parts, aggregates, self.width)?;
         collect(alloc, &mut merge)
     }
 }

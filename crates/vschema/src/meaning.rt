@@ -6,7 +6,7 @@ ghost use Rattle.vschema.specs.Formed.{is_formed};
 ghost use Rattle.vschema.specs.WriteChecks.{has_twice};
 
 use crate::columns::Columns;
-use crate::schema::{ColumnVindex, Keyspace, Table, VSchema};
+use crate::schema::{ColumnVindex, Keyspace, Table, Tables, VSchema};
 use sql_tree::Name;
 use std::alloc::Global;
 use vschema_document::{
@@ -168,6 +168,6 @@ pub fn meant(alloc: Global, declared: &[DeclaredKeyspace]) -> Result<VSchema, Sc
     ensures err { IfErr result (λ e. e ≡ SchemaFault.OutOfMemory) }
 {
     let keyspaces = all_keyspaces(alloc, declared)?;
-    let tables = all_tables(alloc, declared)?;
+    let tables = Tables::new(all_tables(alloc, declared)?);
     Ok(VSchema { keyspaces, tables })
 }

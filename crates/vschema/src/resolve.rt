@@ -7,6 +7,8 @@ ghost use Rattle.vschema.specs.Resolved.{place, places_from, resolved_operand, r
 ghost use Rattle.vschema.specs.TypedStatement.{join_over, over, checked, checked_pair, checked_second, checked_with, typed_select, typed_statement};
 
 use crate::checks::{is_not_supported, names_unknown_column, shows_ungrouped};
+use crate::group_by::GroupBy;
+use crate::hashing::Hashing;
 use crate::joins::join_is_refused;
 use crate::names::{column_place, table_place};
 use crate::schema::{Join, Query, Table, Typed, VSchema};
@@ -340,6 +342,7 @@ fn join_over(scope: &Scope, second: Option<usize>, join: &Option<JoinOn>) -> Opt
 
 fn query_over(
     alloc: Global,
+    hashing: &Hashing,
     place: usize,
     second: Option<usize>,
     scope: &Scope,
@@ -359,7 +362,7 @@ fn query_over(
         items,
         qualified,
         filter,
-        group_by,
+        group_by: GroupBy::new(group_by, hashing.copy()),
         order_by,
         limit: select.limit,
     })
@@ -400,6 +403,7 @@ fn late_refusal(alloc: Global, scope: &Scope, query: &Query) -> Option<Refusal>
 
 fn resolve_over(
     alloc: Global,
+    hashing: &Hashing,
     place: usize,
     second: Option<usize>,
     scope: &Scope,
@@ -414,7 +418,7 @@ fn resolve_over(
     if is_not_supported(scope, select) {
         return Err(Refusal::NotSupported);
     }
-    let query = query_over(alloc, place, second, scope, select)?;
+    let query = query_over(alloc, hashing, place, second, scope, select)?;
     let refusal = late_refusal(alloc, scope, &query);
     unless_refused(query, refusal)
 }
@@ -422,6 +426,7 @@ fn resolve_over(
 // A query of two tables.
 fn resolve_both(
     alloc: Global,
+    hashing: &Hashing,
     place: usize,
     second: usize,
     table: &Table,
@@ -432,7 +437,7 @@ fn resolve_both(
     ensures err { IfErr result (λ e. (e ≡ Refusal.OutOfMemory) ⊎ (checked place (Some second) (both_of table.now other.now) select.now ≡ Err e)) }
 {
     let scope = Scope::of_both(table, other);
-    resolve_over(alloc, place, Some(second), &scope, select)
+    resolve_over(alloc, hashing, place, Some(second), &scope, select)
 }
 
 // The same with the second at its place.
@@ -448,7 +453,10 @@ fn resolve_beside(
     ensures err { IfErr result (λ e. (e ≡ Refusal.OutOfMemory) ⊎ (checked_pair select.now place second table.now (slice_get schema.now.tables second) ≡ Err e)) }
 {
     match schema.tables.as_slice().get(second) {
-        Some(other) => resolve_both(alloc, place, second, table, other, select),
+        Some(other) => {
+            let hashing = schema.tables.hashing();
+            resolve_both(alloc, hashing, place, second, table, other, select)
+        }
         None => Err(Refusal::UnknownTable),
     }
 }
@@ -474,6 +482,7 @@ fn resolve_pair(
 // A query of one table.
 fn resolve_alone(
     alloc: Global,
+    hashing: &Hashing,
     place: usize,
     table: &Table,
     select: &Select,
@@ -482,7 +491,7 @@ fn resolve_alone(
     ensures err { IfErr result (λ e. (e ≡ Refusal.OutOfMemory) ⊎ (checked place None (only table.now) select.now ≡ Err e)) }
 {
     let scope = Scope::of(table);
-    resolve_over(alloc, place, None, &scope, select)
+    resolve_over(alloc, hashing, place, None, &scope, select)
 }
 
 fn resolve_with(
@@ -497,7 +506,7 @@ fn resolve_with(
 {
     match &select.join {
         Some(join) => resolve_pair(alloc, schema, place, table, &join.table, select),
-        None => resolve_alone(alloc, place, table, select),
+        None => resolve_alone(alloc, schema.tables.hashing(), place, table, select),
     }
 }
 

@@ -1,10 +1,13 @@
-ghost use Rattle.std.specs.Prelude.{IsTrue};
+ghost use Rattle.std.specs.Prelude.{◌≡◌, IsTrue, length};
 ghost use Rattle.vschema.specs.Formed.{is_formed};
 
 use crate::changes::Write;
 use crate::columns::Columns;
+use crate::group_by::GroupBy;
+use crate::hashing::Hashing;
 use keyrange::KeyRange;
 use sql_tree::{Condition, Item, Key, Limit, Name};
+use std::marker::Model;
 use vindex::AnyVindex;
 use vschema_document::ColumnType;
 use vt_value::Items;
@@ -28,6 +31,63 @@ pub struct Table {
     pub vindex: Option<ColumnVindex>,
 }
 
+/// The tables of a VSchema, with the key by which the values of groups are hashed. Contracts see the list of the tables.
+#[derive(Drop)]
+pub struct Tables {
+    tables: Items<Table>,
+    hashing: Hashing,
+}
+
+impl Model for Tables {
+    ghost use Rattle.std.specs.Prelude.{List};
+    ghost use Rattle.vschema.specs.declared.schema.Table.{Table};
+
+    ghost Value = { List Table };
+
+    ghost view = { λ t. t.tables };
+}
+
+impl Tables {
+    /// These tables, with a key that everybody knows.
+    pub fn new(tables: Items<Table>) -> Tables
+        ensures { result ≡ tables }
+    {
+        Tables {
+            tables,
+            hashing: Hashing::known(),
+        }
+    }
+
+    /// The same tables, with another key.
+    pub fn keyed(self, hashing: Hashing) -> Tables
+        ensures { result ≡ self }
+    {
+        Tables {
+            tables: self.tables,
+            hashing,
+        }
+    }
+
+    /// The tables, in their order.
+    pub fn as_slice(&self) -> &[Table]
+        ensures { result.now ≡ self.now }
+    {
+        self.tables.as_slice()
+    }
+
+    /// How many tables there are.
+    pub fn len(&self) -> usize
+        ensures { result ≡ length self.now }
+    {
+        self.tables.len()
+    }
+
+    /// The key.
+    pub fn hashing(&self) -> &Hashing {
+        &self.hashing
+    }
+}
+
 /// A keyspace, by its name. The rows of a sharded one lie on several shards.
 #[derive(Drop)]
 pub struct Keyspace {
@@ -40,7 +100,7 @@ pub struct Keyspace {
 #[derive(Drop)]
 pub struct VSchema {
     pub keyspaces: Items<Keyspace>,
-    pub tables: Items<Table>,
+    pub tables: Tables,
     pub ghost formed: { IsTrue (is_formed keyspaces tables) },
 }
 
@@ -77,7 +137,7 @@ pub struct Query {
     /// Whether each item was written with its table's name, by which an aggregate is named; of `*` there are none.
     pub qualified: Items<bool>,
     pub filter: Option<Condition<usize>>,
-    pub group_by: Items<usize>,
+    pub group_by: GroupBy,
     pub order_by: Items<Key<usize>>,
     pub limit: Option<Limit>,
 }

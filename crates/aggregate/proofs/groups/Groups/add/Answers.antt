@@ -1,4 +1,4 @@
-use Rattle.std.proofs.Common.{◌∙◌, ap, take, drop}
+use Rattle.std.proofs.Common.{◌∙◌}
 use Rattle.aggregate.specs.inner.Grouping.{key_values, part_lists}
 use Rattle.aggregate.proofs.GroupingLemmas.{all_opened, within_lists, can_add_at, grown_at}
 use Rattle.aggregate.proofs.groups.Groups.add.Goals as goal
@@ -7,27 +7,27 @@ pub add_at-requires : goal.add_at-requires
 add_at-requires c =
     let aggregates = c.args.aggregates.now in
     let width = c.args.width in
-    let row = c.args.row.now in
+    let row = c.args.row in
     let keys = key_values c.open.new.self in
     let lists = part_lists c.open.new.self in
-    let key = c.in_ok-values.ensures.ok ∙ c.split_row.ensures.values ∙ ap (take width) c.as_slice.ensures in
-    let behind = c.split_row.ensures.parts ∙ ap (drop width) c.as_slice.ensures in
+    let key = c.in_ok-move_parts.ensures.values in
+    let behind = c.deref.ensures.value ∙ c.in_ok-move_parts.ensures.parts in
     let rows = c.requires.0 in
-    let all = all_opened aggregates width rows row c.in_ok-values.values key (key_values c.args.self.now) keys (part_lists c.args.self.now) lists c.requires.1 c.in_ok-place.ensures.keys c.in_ok-place.ensures.parts in
+    let all = all_opened aggregates width rows row c.move_parts.new.row key (key_values c.args.self.now) keys (part_lists c.args.self.now) lists c.requires.1 c.in_ok-place.ensures.keys c.in_ok-place.ensures.parts in
     record {
-      within = within_lists aggregates width rows row c.in_ok-values.values key keys lists all c.in_ok-place.place c.in_ok-place.ensures.place c.split_row.result.1.now behind;
-      holds = can_add_at aggregates width rows row c.in_ok-values.values key keys lists all c.in_ok-place.place c.in_ok-place.ensures.place c.split_row.result.1.now behind c.requires.2;
+      within = within_lists aggregates width rows row c.move_parts.new.row key keys lists all c.in_ok-place.place c.in_ok-place.ensures.place c.deref.result.now behind;
+      holds = can_add_at aggregates width rows row c.move_parts.new.row key keys lists all c.in_ok-place.place c.in_ok-place.ensures.place c.deref.result.now behind c.requires.2;
     }
 
 pub returns-clause-ok : goal.returns-clause-ok
 returns-clause-ok c = λ rows groups.
     (let aggregates = c.args.aggregates.now in
     let width = c.args.width in
-    let row = c.args.row.now in
+    let row = c.args.row in
     let keys = key_values c.open.new.self in
     let lists = part_lists c.open.new.self in
-    let key = c.in_ok-values.ensures.ok ∙ c.split_row.ensures.values ∙ ap (take width) c.as_slice.ensures in
-    let behind = c.split_row.ensures.parts ∙ ap (drop width) c.as_slice.ensures in
-    let all = all_opened aggregates width rows row c.in_ok-values.values key (key_values c.args.self.now) keys (part_lists c.args.self.now) lists groups c.in_ok-place.ensures.keys c.in_ok-place.ensures.parts in
-    grown_at aggregates width rows row c.in_ok-values.values key keys lists all c.in_ok-place.place c.in_ok-place.ensures.place c.split_row.result.1.now behind
+    let key = c.in_ok-move_parts.ensures.values in
+    let behind = c.deref.ensures.value ∙ c.in_ok-move_parts.ensures.parts in
+    let all = all_opened aggregates width rows row c.move_parts.new.row key (key_values c.args.self.now) keys (part_lists c.args.self.now) lists groups c.in_ok-place.ensures.keys c.in_ok-place.ensures.parts in
+    grown_at aggregates width rows row c.move_parts.new.row key keys lists all c.in_ok-place.place c.in_ok-place.ensures.place c.deref.result.now behind
     (key_values c.args.self.now) (key_values c.add_at.new.self) (part_lists c.add_at.new.self) groups.0 c.in_ok-place.ensures.keys c.in_ok-place.ensures.distinct c.in_ok-add_at.ensures.keys c.in_ok-add_at.ensures.parts)
