@@ -6,7 +6,7 @@ use mathlib.Core.List.{IsPrefix}
 use Rattle.journal.specs.Views.{PassView}
 use Rattle.journal.proofs.Fronts.{prefix_trans, prefix_self}
 use Rattle.vschema.specs.declared.schema.Place.{Place}
-use Rattle.serving.specs.Partitions.{Seat}
+use Rattle.serving.specs.Partitions.{Seat, IsPartition}
 use Rattle.shard_run.specs.declared.Entry.{Entry}
 use Rattle.shard_run.specs.declared.Shard.{Shard}
 use Rattle.shard_run.specs.declared.Mode.{Mode}
@@ -18,8 +18,8 @@ use Rattle.shard_law.proofs.Lists.{all-weaker, AllByRecursion-push}
 use Rattle.vt_value.specs.declared.refusal.Refusal.{Refusal}
 use Rattle.vt_value.specs.declared.refusal.Refusal.TheVariants.{OutOfMemory}
 use Rattle.keyrange.specs.Names.{IsNamed}
-use Rattle.reshard_beginning.specs.declared.fault.ReshardFault.TheVariants.{Refused}
-use Rattle.reshard_reopening.specs.MadeAgain.{Found, IsFound, IsReopenRefusal, no_memory}
+use Rattle.reshard_beginning.specs.declared.fault.ReshardFault.TheVariants.{Refused, WrongState}
+use Rattle.reshard_reopening.specs.MadeAgain.{Found, IsFound, AreFound, IsWorkflowAt, IsReopenRefusal, no_memory, through, given_up}
 use Rattle.cutover_steps.specs.Steps.{HasEntry}
 use Rattle.reshard_reopening.specs.inner.Glances.{IsGlance}
 
@@ -81,6 +81,15 @@ module _ (o : Opening) where
 
   pub reopen_memory : (p now : PassView Entry) (k : ℕ) (from into : List Seat) (e : Refusal) → e ≡ OutOfMemory → IsReopenRefusal o p now k from into (Refused e)
   reopen_memory p now k from into e is = subst (λ x. IsReopenRefusal o p now k from into (Refused x)) (sym is) no_memory
+
+  -- a workflow that may be through, or given up, isn't made again
+  pub over : (p now : PassView Entry) (k : ℕ) (parts from into : List Seat) (sources targets : List Found) (frozen retired served count : ℕ) → IsPartition parts
+      → AreFound o p now from sources → AreFound o p now into targets → count ≡ length targets
+      → IsWorkflowAt k parts from into sources targets frozen retired served → (served ≡ count) ⊎ (retired ≡ 0) → IsReopenRefusal o p now k from into WrongState
+  over p now k parts from into sources targets frozen retired served count partition s t all at (inl is) =
+      through parts sources targets frozen retired partition s t (subst (IsWorkflowAt k parts from into sources targets frozen retired) (is ∙ all) at)
+  over p now k parts from into sources targets frozen retired served count partition s t all at (inr is) =
+      given_up parts sources targets frozen served partition s t (subst (λ (n : ℕ). IsWorkflowAt k parts from into sources targets frozen n served) is at)
 
   pub found_next : {F : Type 0} (view : F → Found) (p q now : PassView Entry) (old new : List F) (f : F) → IsPrefix p.seen q.seen → IsPrefix q.seen now.seen
       → new ≡ old ++ f ∷ [] → AllByRecursion (IsFound o p q) (map view old) → IsFound o q now (view f) → AllByRecursion (IsFound o p now) (map view new)

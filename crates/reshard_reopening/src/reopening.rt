@@ -1,5 +1,5 @@
 //! What a workflow is made again of whose controller stopped.
-ghost use Rattle.std.specs.Prelude.{◌≡◌, ◌≤◌, ◌++◌, IfOk, IfErr, drop, length, map};
+ghost use Rattle.std.specs.Prelude.{◌≡◌, ◌⊎◌, ◌≤◌, ◌++◌, true, IfOk, IfErr, drop, length, map};
 ghost use Rattle.journal.specs.Runs.{IsLegal};
 ghost use Rattle.serving.specs.Partitions.{IsPartition, AreOf};
 ghost use Rattle.shard_contents.specs.Shards.{MayFollow};
@@ -8,6 +8,7 @@ ghost use Rattle.cutover_steps.specs.Steps.{named_for};
 ghost use Rattle.reshard_reopening.specs.MadeAgain.{AreMadeAgain, IsReopenRefusal, IsRefitted};
 ghost use Rattle.reshard_reopening.specs.inner.Glances.{IsBoth};
 
+use crate::course::Course;
 use crate::looking::{Found, any_dropped, any_given_up, find_all};
 use crate::preparing::{named_of_all, next_partition};
 use crate::refitting::{Refitted, refit};
@@ -46,6 +47,16 @@ fn find_both<W: World, J: Naming>(
     Ok(Both { sources, targets })
 }
 
+// Whether a workflow that is so far can't go on: it is through, and rows of a source are gone, or no source is retired, and it was given up.
+fn is_over<W: World, J: Naming>(course: Course, both: &Both<W, J>) -> bool
+    ensures { result ≡ true → (course.served ≡ length both.now.targets.items) ⊎ (course.retired ≡ 0) }
+{
+    if course.served == both.targets.len() && any_dropped(both.sources.as_slice()) {
+        return true;
+    }
+    course.retired == 0 && any_given_up(both.targets.as_slice())
+}
+
 // The workflow of the shards of these parts.
 fn find_again<W: World, J: Naming>(
     rt: &impl Wait,
@@ -80,10 +91,7 @@ fn find_again<W: World, J: Naming>(
     else {
         return Err(ReshardFault::WrongState);
     };
-    if again.course.served == both.targets.len() && any_dropped(both.sources.as_slice()) {
-        return Err(ReshardFault::WrongState);
-    }
-    if again.course.retired == 0 && any_given_up(both.targets.as_slice()) {
+    if is_over(again.course, &both) {
         return Err(ReshardFault::WrongState);
     }
     Ok(again)

@@ -7,12 +7,12 @@ use Rattle.follow.proofs.Moves.{at_not_some, at_some}
 use Rattle.shard_run.specs.declared.Shard.{Shard}
 use Rattle.shard.specs.Seats.{seat_of}
 use Rattle.cutover_steps.specs.Takings.{Taking}
-use Rattle.reshard_reopening.specs.MadeAgain.{Found, AreFound, IsWorkflowAt, unlike, through, given_up}
+use Rattle.reshard_reopening.specs.MadeAgain.{Found, AreFound, unlike}
 use Rattle.reshard_beginning.specs.Splits.{AreThose}
 use Rattle.reshard_reopening.specs.inner.Glances.{IsTakenUp}
 use Rattle.reshard_beginning.proofs.Begins.{map_twice}
 use Rattle.reshard_beginning.proofs.Unfit.{residual}
-use Rattle.reshard_reopening.proofs.Founds.{all_named, reopen_memory}
+use Rattle.reshard_reopening.proofs.Founds.{all_named, reopen_memory, over}
 use Rattle.reshard_reopening.proofs.Taken.{all_same}
 use Rattle.reshard_reopening.proofs.reopening.find_again.Goals as goal
 
@@ -55,36 +55,22 @@ returns-in_default-clause-refused g c =
     c.in_ok-both.ensures.found.of_targets)
     (at_not_some _ _ c.in_ok-again.field-0 c.in_default.not-Some c.in_ok-again.ensures.stopped)
 
-pub returns-then-any_dropped-clause-refused : goal.returns-then-any_dropped-clause-refused
-returns-then-any_dropped-clause-refused g c =
+pub returns-then-is_over-clause-refused : goal.returns-then-is_over-clause-refused
+returns-then-is_over-clause-refused g c =
     let o = g.W.World.opening in
     let sources = map {B = Found} (λ f. (f.member.which, f.mode, f.named)) c.as_slice.result.now in
     let targets = map {B = Found} (λ f. (f.member.which, f.mode, f.named)) c.as_slice-2.result.now in
     let again = c.in-Some.again in
-    let all : again.course.served ≡ length targets =
-    c.if-again-len.true ∙ c.len.ensures ∙ c.in_ok-both.both.targets.ok.0 ∙ ap length (sym c.as_slice-2.ensures.value)
-    ∙ sym (length-map c.as_slice-2.result.now (λ f. (f.member.which, f.mode, f.named))) in
-    through c.args.parts.now sources targets again.course.frozen again.course.retired c.requires.partition
-    (subst (λ l. AreFound o c.args.pass.now c.find_both.new.pass c.args.from.now (map (λ f. (f.member.which, f.mode, f.named)) l)) (sym c.as_slice.ensures.value)
-    c.in_ok-both.ensures.found.of_sources)
-    (subst (λ l. AreFound o c.args.pass.now c.find_both.new.pass c.args.into.now (map (λ f. (f.member.which, f.mode, f.named)) l)) (sym c.as_slice-2.ensures.value)
-    c.in_ok-both.ensures.found.of_targets)
-    (subst (IsWorkflowAt c.args.keyspace c.args.parts.now c.args.from.now c.args.into.now sources targets again.course.frozen again.course.retired) all
-    (at_some _ _ c.in_ok-again.field-0 again c.in-Some.is c.in_ok-again.ensures.stopped))
-
-pub returns-then-any_given_up-clause-refused : goal.returns-then-any_given_up-clause-refused
-returns-then-any_given_up-clause-refused g c =
-    let o = g.W.World.opening in
-    let sources = map {B = Found} (λ f. (f.member.which, f.mode, f.named)) c.as_slice.result.now in
-    let targets = map {B = Found} (λ f. (f.member.which, f.mode, f.named)) c.as_slice-2.result.now in
-    let again = c.in-Some.again in
-    given_up c.args.parts.now sources targets again.course.frozen again.course.served c.requires.partition
-    (subst (λ l. AreFound o c.args.pass.now c.find_both.new.pass c.args.from.now (map (λ f. (f.member.which, f.mode, f.named)) l)) (sym c.as_slice.ensures.value)
-    c.in_ok-both.ensures.found.of_sources)
-    (subst (λ l. AreFound o c.args.pass.now c.find_both.new.pass c.args.into.now (map (λ f. (f.member.which, f.mode, f.named)) l)) (sym c.as_slice-2.ensures.value)
-    c.in_ok-both.ensures.found.of_targets)
-    (subst (λ (n : ℕ). IsWorkflowAt c.args.keyspace c.args.parts.now c.args.from.now c.args.into.now sources targets again.course.frozen n again.course.served)
-    c.if-again-eq0.true (at_some _ _ c.in_ok-again.field-0 again c.in-Some.is c.in_ok-again.ensures.stopped))
+    let of_sources = subst (λ l. AreFound o c.args.pass.now c.find_both.new.pass c.args.from.now (map (λ f. (f.member.which, f.mode, f.named)) l))
+    (sym c.as_slice.ensures.value) c.in_ok-both.ensures.found.of_sources in
+    let of_targets = subst (λ l. AreFound o c.args.pass.now c.find_both.new.pass c.args.into.now (map (λ f. (f.member.which, f.mode, f.named)) l))
+    (sym c.as_slice-2.ensures.value) c.in_ok-both.ensures.found.of_targets in
+    let stopped = at_some _ _ c.in_ok-again.field-0 again c.in-Some.is c.in_ok-again.ensures.stopped in
+    let count : length c.in_ok-both.both.targets.items ≡ length targets =
+    ap length (sym c.as_slice-2.ensures.value) ∙ sym (length-map c.as_slice-2.result.now (λ f. (f.member.which, f.mode, f.named))) in
+    over o c.args.pass.now c.find_both.new.pass c.args.keyspace c.args.parts.now c.args.from.now c.args.into.now sources targets again.course.frozen
+    again.course.retired again.course.served (length c.in_ok-both.both.targets.items) c.requires.partition of_sources of_targets count stopped
+    (c.is_over.ensures c.if-is_over.true)
 
 pub returns-clause-made : goal.returns-clause-made
 returns-clause-made g c =
