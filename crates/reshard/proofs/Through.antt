@@ -1,5 +1,6 @@
 -- A cutover goes on to its end.
 use Rattle.std.proofs.Common.{◌≡◌, ◌⊎◌, inl, inr, ◌+◌, Bool, true, List, refl, sym, ap, ◌∙◌, subst}
+use Rattle.std.specs.Prelude.{IfErr, Result, Ok, Err}
 use Rattle.journal.specs.Views.{PassView}
 use Rattle.shard_run.specs.declared.Shard.{Shard}
 use Rattle.shard_run.specs.declared.Entry.{Entry}
@@ -16,6 +17,7 @@ use Rattle.reshard.specs.Workflows.{WorkflowView}
 use Rattle.cutover_steps.specs.Takings.{Taking}
 use Rattle.reshard.specs.Cutover.{IsFurther, HasFinished, HasSwitched, HasStopped, HasStoppedLater, MaySwitch}
 use Rattle.cutover_steps.specs.Looks.{IsCutOver}
+use Rattle.cutover_steps.proofs.Onward.{onward_trans}
 use Rattle.reshard.specs.Cutover as cut
 
 pub further_still : (w : WorkflowView) → IsFurther w w
@@ -105,3 +107,18 @@ pub refused_later : (o : Opening) (most : Limits) (w mid now : WorkflowView) (p 
     → HasStoppedLater o most w now p q e
 refused_later o most w mid now p before q e far may on (inl h) = absurd (h.1 may)
 refused_later o most w mid now p before q e far may on (inr h) = stopped_later o most w mid now p before q e far on h.1
+
+-- a cutover that stopped after the targets came level
+pub stopped_since : (o : Opening) (most : Limits) (w now : WorkflowView) (p since q : PassView Entry) (e : ReshardFault) → IsOnward o p since
+    → HasStoppedLater o most w now since q e → HasStoppedLater o most w now p q e
+stopped_since o most w now p since q e on is = record {
+  mid = is.mid;
+  further = is.further;
+  before = is.before;
+  onward = onward_trans o p since is.before on is.onward;
+  stopped = is.stopped;
+}
+
+pub err_as : {X E : Type 0} (r : Result X E) (A B : E → Type 0) → ((e : E) → A e → B e) → IfErr r A → IfErr r B
+err_as (Ok x) A B f is = is
+err_as (Err e) A B f is = f e is

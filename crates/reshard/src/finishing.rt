@@ -4,7 +4,7 @@ ghost use Rattle.vschema.specs.WellFormed.{is_vschema};
 ghost use Rattle.journal.specs.Runs.{IsLegal};
 ghost use Rattle.shard_contents.specs.Shards.{MayFollow};
 ghost use Rattle.follow.specs.Steps.{IsOnward};
-ghost use Rattle.reshard.specs.Cutover.{HasFinished, IsResumed, HasStoppedLater};
+ghost use Rattle.reshard.specs.Cutover.{HasFinished, IsResumed, HasStoppedLater, MaySwitch};
 
 use crate::cutover::CutoverStep;
 use crate::workflow::{Stage, Workflow};
@@ -55,6 +55,35 @@ impl<W: World, J: Naming> Workflow<W, J> {
         unreachable!()
     }
 
+    // Takes all steps of a cutover that are left.
+    fn switch_all(
+        &mut self,
+        rt: &impl Wait,
+        alloc: Global,
+        pass: &mut Pass<ShardLaw<W>, J>,
+        schema: &VSchema,
+        serving: &Serving<Shard<W, J>>,
+        buffer: &Buffer,
+    ) -> Result<(), ReshardFault>
+        requires may { MaySwitch self.old }
+        requires schema { schema.now ≡ W.opening.schema }
+        requires formed { IsTrue (is_vschema W.opening.schema) }
+        requires legal { IsLegal (MayFollow W.opening) pass.old.seen }
+        requires home { serving.now ≡ self.old.keyspace }
+        ensures through { OnOk result (HasFinished self.old self.new pass.new) }
+        ensures refused { IfErr result (HasStoppedLater W.opening W.limits self.old self.new pass.old pass.new) }
+        ensures onward { IsOnward W.opening pass.old pass.new }
+    {
+        for _ in rt.forever() {
+            let step = self.switch_step(rt, alloc, pass, schema, serving, buffer)?;
+            if step == CutoverStep::Release {
+                confirm_cutover(rt, self.sources.as_slice(), self.targets.as_slice(), pass);
+                return Ok(());
+            }
+        }
+        unreachable!()
+    }
+
     // Promise: A whole cutover, begun while targets follow, ends with each source retired and each target serving in what the pass has
     // seen, and the next partition published; else it stopped as a step does, with nothing retired, and was given up. That the targets
     // come level before the first source freezes is for tests
@@ -85,14 +114,7 @@ impl<W: World, J: Naming> Workflow<W, J> {
             return Err(ReshardFault::WrongState);
         }
         self.keep_up(rt, alloc, pass, schema, buffer)?;
-        for _ in rt.forever() {
-            let step = self.switch_step(rt, alloc, pass, schema, serving, buffer)?;
-            if step == CutoverStep::Release {
-                confirm_cutover(rt, self.sources.as_slice(), self.targets.as_slice(), pass);
-                return Ok(());
-            }
-        }
-        unreachable!()
+        self.switch_all(rt, alloc, pass, schema, serving, buffer)
     }
 
     fn is_switching(&self) -> bool

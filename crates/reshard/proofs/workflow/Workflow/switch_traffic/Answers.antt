@@ -1,12 +1,11 @@
-use Rattle.std.proofs.Common.{rules, ◌≡◌, inl, inr, map, sym, ap, subst, ◌∙◌}
-use Rattle.reshard.specs.declared.cutover.CutoverStep.TheVariants.{Release}
+use Rattle.std.proofs.Common.{rules, ◌≡◌, inl, inr, ap, ◌∙◌, subst}
+use Rattle.std.specs.Prelude.{OnOk}
 use Rattle.reshard.specs.declared.workflow.Stage.TheVariants.{Following}
 use Rattle.reshard.specs.Workflows.{WorkflowView}
-use Rattle.cutover_steps.specs.Takings.{Taking}
+use Rattle.reshard.specs.Cutover.{HasFinished, HasStoppedLater}
 use Rattle.cutover_steps.proofs.Onward.{still, onward_trans}
-use Rattle.reshard.specs.Cutover.{IsFurther}
 use Rattle.reshard_beginning.proofs.Unfit.{residual_same}
-use Rattle.reshard.proofs.Through.{further_still, further_trans, further_switched, switched_at_end, published_at_end, may_still, finished, stopped_later, refused_later}
+use Rattle.reshard.proofs.Through.{further_still, stopped_later, stopped_since, err_as}
 use Rattle.reshard.proofs.workflow.Workflow.switch_traffic.Goals as goal
 
 pub returns-in_err-keep_up-clause-refused : goal.returns-in_err-keep_up-clause-refused
@@ -22,58 +21,30 @@ returns-in_err-keep_up-clause-refused g c =
           c.in_err-keep_up.ensures.refused,
     ))
 
-pub loop-init : goal.loop-init
-loop-init g c =
-    let w = c.args.self.now in
-    let was : w.stage ≡ Following = search rules in
-    let same = c.in_ok-keep_up.ensures.same in
-    record {
-      next = tt;
-      finite = tt;
-      further = subst (IsFurther w) (sym same) (further_still w);
-      may = inl (ap (λ (v : WorkflowView). v.stage) same ∙ was);
-      onward = c.keep_up.ensures.onward;
-    }
-
-pub returns-in_err-step-clause-refused : goal.returns-in_err-step-clause-refused
-returns-in_err-step-clause-refused g c =
+pub switch_all-requires-clause-may : goal.switch_all-requires-clause-may
+switch_all-requires-clause-may g c =
     let was : c.args.self.now.stage ≡ Following = search rules in
-    residual_same c.from_residual-in_err-step.result c.in_err-step.field-0.0 _ c.from_residual-in_err-step.ensures.1
-    (inr (
+    inl (ap (λ (w : WorkflowView). w.stage) c.in_ok-keep_up.ensures.same ∙ was)
+
+pub returns-clause-through : goal.returns-clause-through
+returns-clause-through g c =
+    subst (λ (w : WorkflowView). OnOk c.switch_all.result (HasFinished w c.switch_all.new.self c.switch_all.new.pass)) c.in_ok-keep_up.ensures.same
+    c.switch_all.ensures.through
+
+pub returns-clause-refused : goal.returns-clause-refused
+returns-clause-refused g c =
+    let o = g.W.World.opening in
+    let now = c.switch_all.new.self in
+    let mid = c.keep_up.new.pass in
+    let q = c.switch_all.new.pass in
+    let was : c.args.self.now.stage ≡ Following = search rules in
+    err_as c.switch_all.result _ _
+    (λ e h. inr (
       was,
-      refused_later g.W.World.opening g.W.World.limits c.args.self.now c.loop.self c.switch_step.new.self c.args.pass.now c.loop.pass c.switch_step.new.pass
-          c.in_err-step.field-0.0 c.loop.invariant.further c.loop.invariant.may c.loop.invariant.onward c.in_err-step.ensures.refused,
-    ))
+      stopped_since o g.W.World.limits c.args.self.now now c.args.pass.now mid q e c.keep_up.ensures.onward
+          (subst (λ (w : WorkflowView). HasStoppedLater o g.W.World.limits w now mid q e) c.in_ok-keep_up.ensures.same h),
+    )) c.switch_all.ensures.refused
 
-pub returns-then-eq-clause-through : goal.returns-then-eq-clause-through
-returns-then-eq-clause-through g c =
-    let o = g.W.World.opening in
-    let mid = c.loop.self in
-    let now = c.switch_step.new.self in
-    let step = c.in_ok-step.step in
-    let h = c.in_ok-step.ensures.switched in
-    let last : step ≡ Release = search rules in
-    finished c.args.self.now now c.confirm_cutover.new.pass
-    (further_trans c.args.self.now mid now c.loop.invariant.further (further_switched o mid now c.loop.pass c.switch_step.new.pass step h))
-    (switched_at_end o mid now c.loop.pass c.switch_step.new.pass step h last)
-    (published_at_end o mid now c.loop.pass c.switch_step.new.pass step h last)
-    (map (λ s. s.member.which) c.as_slice.result.now) (map (λ t. (t.member.which, map (λ s. s.which) t.sources.items)) c.as_slice-then-eq.result.now)
-    (ap (map (λ s. s.member.which)) c.as_slice.ensures.value ∙ ap (λ (w : WorkflowView). w.sources) c.self-in-loop.view_is)
-    (ap (map {B = Taking} (λ t. (t.member.which, map (λ s. s.which) t.sources.items))) c.as_slice-then-eq.ensures.value ∙ ap (λ (w : WorkflowView). w.targets) c.self-in-loop.view_is)
-    c.confirm_cutover.ensures.through
-
-pub loop-preserved : goal.loop-preserved
-loop-preserved g c =
-    let o = g.W.World.opening in
-    let mid = c.loop.self in
-    let now = c.switch_step.new.self in
-    let step = c.in_ok-step.step in
-    let h = c.in_ok-step.ensures.switched in
-    let n : step ≡ Release → ⊥ = search rules in
-    record {
-      next = tt;
-      finite = tt;
-      further = further_trans c.args.self.now mid now c.loop.invariant.further (further_switched o mid now c.loop.pass c.switch_step.new.pass step h);
-      may = may_still o mid now c.loop.pass c.switch_step.new.pass step h n c.loop.invariant.may;
-      onward = onward_trans o c.args.pass.now c.loop.pass c.switch_step.new.pass c.loop.invariant.onward c.switch_step.ensures.onward;
-    }
+pub returns-clause-onward : goal.returns-clause-onward
+returns-clause-onward g c =
+    onward_trans g.W.World.opening c.args.pass.now c.keep_up.new.pass c.switch_all.new.pass c.keep_up.ensures.onward c.switch_all.ensures.onward

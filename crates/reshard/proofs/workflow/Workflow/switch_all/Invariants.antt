@@ -1,6 +1,6 @@
 use Rattle.follow.specs.Steps.{IsOnward}
 use Rattle.reshard.specs.Cutover.{IsFurther, MaySwitch}
-use Rattle.reshard.proofs.workflow.Workflow.switch_traffic.Given as goal
+use Rattle.reshard.proofs.workflow.Workflow.switch_all.Given as goal
 
 -- so far the cutover went on
 abbrev pub invariant-loop : goal.invariant-loop
