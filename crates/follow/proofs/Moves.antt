@@ -1,6 +1,6 @@
 -- From what a target and its source had at two looks to the entry that the target appends.
 use Rattle.std.proofs.Common.{◌≡◌, ◌⊎◌, inl, inr, ℕ, zero, suc, ◌+◌, ◌<◌, ◌≤◌, not, ◌&&◌, List, [], ◌∷◌, ◌++◌, length, map, take, drop, get_or, filter, Option, Some, None, IsTrue, refl, sym, ap, ◌∙◌, subst, arith}
-use Rattle.std.specs.Prelude.{Contains, IsPermutation, MatchOption, IfSome, IfOk, IfErr, IsErrAnd, OnErr, Result, Ok, Err}
+use Rattle.std.specs.Prelude.{Contains, IsPermutation, MatchOption, IfSome, IfOk, IfErr, IsErrAnd, OnOk, OnErr, Result, Ok, Err}
 use Rattle.std.specs.List.{AllByRecursion}
 use Rattle.std.proofs.lemmas.List.Elements.{filter_agree}
 use mathlib.Core.List.{IsPrefix}
@@ -25,22 +25,21 @@ use Rattle.shard_law.proofs.Law.{beginnings}
 use Rattle.shard_law.proofs.Lists.{all-filter, all-weaker, AllByRecursion-push}
 use Rattle.shard_contents.specs.declared.copying.NextTable.{NextTable}
 use Rattle.shard_contents.specs.declared.copying.SourceProgress.{SourceProgress}
-use Rattle.shard_contents.specs.Shards.{MayFollow, IsNext}
+use Rattle.shard_contents.specs.Shards.{MayFollow, IsNext, ShardView}
 use Rattle.shard_contents.specs.Copying.{PassesLimit, IsProgress, IsEntryFor, IsCopyFor, IsNextTable, IsNextCopy, HasCopiedAll, is_reached, is_wanted}
-use Rattle.shard_contents.proofs.Follows.{stored_later, none_left}
-use Rattle.shard_contents.proofs.Positions.{position-same, copied_all-same}
-use Rattle.shard_contents.proofs.CopySteps.{left-same, stored_there_now}
+use Rattle.shard_contents.proofs.Follows.{none_left}
+use Rattle.shard_contents.proofs.CopySteps.{stored_there_now}
 use Rattle.follow.specs.declared.steps.Given.{Given}
 use Rattle.follow.specs.declared.steps.Given.TheVariants as givens
 use Rattle.follow.specs.declared.steps.Step.{Step}
-use Rattle.follow.specs.inner.Given.{IsGiven, NoneLeft, IsNextEntry, AreNextRows, IsTakeable, HasTaken, entry, rows, nothing}
+use Rattle.follow.specs.inner.Given.{IsGiven, NoneLeft, IsNextEntry, IsTakeable, HasTaken, entry, rows, nothing}
 use Rattle.follow.specs.inner.Given as given
 use Rattle.follow.specs.Steps.{IsOnward, IsRunBetween, IsLevel, HasMoved, copied, followed, level, HasMovedWith, one, all_level, IsFull}
 use Rattle.follow.specs.Steps as full
 use Rattle.follow.specs.declared.steps.Step.TheVariants.{Level}
 use Rattle.shard_contents.proofs.Progress.{take_whole}
 use Rattle.std.proofs.lemmas.List.{take_more, map-append}
-use Rattle.follow.proofs.Onward.{same_entries, onward_trans, stepped_after}
+use Rattle.follow.proofs.Onward.{onward_trans, stepped_after}
 
 pub match_as : {X : Type 0} (r : Result (Option X) Refusal) (P Q : Type 0) (A B : X → Type 0) → (P → Q) → ((x : X) → A x → B x)
     → IfOk r (λ o. MatchOption o P A) → IfOk r (λ o. MatchOption o Q B)
@@ -62,176 +61,136 @@ next_there o run target source p is = by p.next is.next
     by None h = tt
     by (Some n) h = h.0.table.0
 
-module _ (o : Opening) (opens : IsOpening o) (early run : Run) (later : IsPrefix early run) (legal : Legal o run) (source target : Shard) (p : SourceProgress)
-    (entries : ℕ) (of_source : Contains target.sources source.slot) (is : IsProgress o early target source.slot p)
-    (count : entries ≡ length (entries_on target.slot early)) where
+-- the target is locked, and the pass has seen `run` by a look at the source
+module _ (o : Opening) (opens : IsOpening o) (run : Run) (legal : Legal o run) (source : Shard) (target : ShardView) (later : IsPrefix target.seen run)
+    (of_source : Contains target.shard.sources source.slot) where
   -- where the source has stored no more, the target stands behind all that it has
-  level_at : NoneLeft run source.slot p.behind → (n : ℕ) → position early target.slot source.slot ≡ Some n → n ≡ length (stored_on source.slot run)
-  level_at none n at =
-      none_left o opens early run target.slot source.slot (length (stored_on source.slot run)) n later (legal_front o early run later legal) refl at
+  level_at : (p : SourceProgress) → IsProgress o target.seen target.shard source.slot p → NoneLeft run source.slot p.behind → (n : ℕ)
+      → position target.seen target.shard.slot source.slot ≡ Some n → n ≡ length (stored_on source.slot run)
+  level_at p is none n at =
+      none_left o opens target.seen run target.shard.slot source.slot (length (stored_on source.slot run)) n later (legal_front o target.seen run later legal) refl at
       (none n (is.behind ∙ at))
 
-  place_at : (c : C.Copied) → c.place ≡ length (stored_on source.slot run) → NoneLeft run source.slot p.behind → (b : Option ℕ) → p.behind ≡ b
-      → (position early target.slot source.slot ≡ None) ⊎ (position early target.slot source.slot ≡ Some c.place)
-  place_at c place none None e = inl (sym is.behind ∙ e)
-  place_at c place none (Some m) e =
+  place_at : (p : SourceProgress) → IsProgress o target.seen target.shard source.slot p → (c : C.Copied) → c.place ≡ length (stored_on source.slot run)
+      → NoneLeft run source.slot p.behind → (b : Option ℕ) → p.behind ≡ b
+      → (position target.seen target.shard.slot source.slot ≡ None) ⊎ (position target.seen target.shard.slot source.slot ≡ Some c.place)
+  place_at p is c place none None e = inl (sym is.behind ∙ e)
+  place_at p is c place none (Some m) e =
       let at = sym is.behind ∙ e in
-      inr (at ∙ ap Some (level_at none m at ∙ sym place))
+      inr (at ∙ ap Some (level_at p is none m at ∙ sym place))
 
-  pub takeable : (g : Given) → IsGiven o run source target.place p g → IsTakeable o run target entries g
-  takeable _ (entry f behind e) = entry (record {
-    early = early;
-    since = later;
-    count = count;
-    of_source = subst (Contains target.sources) (sym e.of_source) of_source;
-    next = subst (λ s. position early target.slot s ≡ Some f.place) (sym e.of_source) (sym is.behind ∙ behind);
-    given = subst (λ s. IsEntryFor o run s target.place f) (sym e.of_source) e;
-  })
-  takeable _ (rows c n next table e none) =
-      let told = subst (λ (next : Option NextTable). MatchOption next (HasCopiedAll o early target source.slot)
-      (λ n. IsNextTable o early target source.slot n.table
-      × ((row : Row) → is_copied o.schema early target.slot source.slot n.table row ≡ is_reached (table_at o.schema n.table) n.after row))) next is.next in
-      let from : source.slot ≡ c.source = sym e.of_source in
-      rows (record {
-        early = early;
-        since = later;
-        count = count;
-        of_source = subst (Contains target.sources) from of_source;
-        next = subst (λ s. IsNextTable o early target s c.table) from (subst (IsNextTable o early target source.slot) (sym table) told.0);
-        place = subst (λ s. (position early target.slot s ≡ None) ⊎ (position early target.slot s ≡ Some c.place)) from (place_at c e.place none p.behind refl);
-        after = n.after;
-        reached = λ row.
-            subst (λ s. is_copied o.schema early target.slot s c.table row ≡ is_reached (table_at o.schema c.table) n.after row) from
-            (subst (λ m. is_copied o.schema early target.slot source.slot m row ≡ is_reached (table_at o.schema m) n.after row) (sym table) (told.1 row));
-        source = source;
-        looked = run;
-        upto = prefix_self run;
-        given = e;
-      })
-  takeable _ (nothing next none) = nothing
-
-  -- nothing is left
-  pub is_level : IsGiven o run source target.place p givens.Nothing → IsLevel o source target early run
-  is_level (nothing next none) = record {
-    copied = subst (λ (next : Option NextTable). MatchOption next (HasCopiedAll o early target source.slot)
-        (λ n. IsNextTable o early target source.slot n.table
-        × ((row : Row) → is_copied o.schema early target.slot source.slot n.table row ≡ is_reached (table_at o.schema n.table) n.after row))) next is.next;
-    level = level_at none;
-  }
-
-  -- what was taken over of what was given is what the step did
-  pub moved : (before q now : PassView Entry) (g : Given) (s : Step) → q.seen ≡ run → IsOnward o before q → IsPrefix before.seen early → IsPrefix q.seen now.seen
-      → IsOnward o before now → IsGiven o run source target.place p g → HasTaken o target g q now s → HasMoved o source target before now s
-  moved before q now _ _ seen on since until whole (entry f behind e) (given.entry taken same stepped) =
-      followed taken (same ∙ e.of_source) (stepped_after o before q now target _ on stepped)
-  moved before q now _ _ seen on since until whole (rows c n next table e none) (given.rows stepped) =
-      copied c e.of_source run (record { since = prefix_trans before.seen early run since later; until = subst (λ r. IsPrefix r now.seen) seen until }) e.place
-      (stepped_after o before q now target _ on stepped)
-  moved before q now _ _ seen on since until whole (nothing next none) given.nothing =
-      level whole early run
-      (record { since = since; until = prefix_trans early run now.seen later (subst (λ r. IsPrefix r now.seen) seen until) })
-      (record { since = prefix_trans before.seen early run since later; until = subst (λ r. IsPrefix r now.seen) seen until })
-      (is_level (nothing next none))
-
--- ---- under the target's lock
-
-module _ (o : Opening) (run seen : Run) (later : IsPrefix run seen) (legal : Legal o seen) (target : Shard) (entries : ℕ) where
-  quiet : (early : Run) → IsPrefix early run → entries ≡ length (entries_on target.slot early) → entries ≡ length (entries_on target.slot seen)
-      → entries_on target.slot seen ≡ entries_on target.slot early
-  quiet early since count now = same_entries target.slot early seen (prefix_trans early run seen since later) (sym now ∙ count)
-
-  pub entry_there : (f : F.Follow) → IsNextEntry o run target entries f → AllByRecursion (λ c. changed_table c < length o.schema.tables) f.changes
-  entry_there f is =
-      subst (AllByRecursion (λ (c : RowChange). changed_table c < length o.schema.tables)) (sym is.given.changes)
-      (all-filter (λ (c : RowChange). changed_table c < length o.schema.tables) (change_lies_in o.schema target.place) (stored_changes is.given.entry.event)
-      (stored_there_now o seen legal f.source f.place is.given.entry (stored_later f.source f.place run seen is.given.entry later is.given.stored)))
-
-  pub follow_next : (f taken : F.Follow) → IsNextEntry o run target entries f → entries ≡ length (entries_on target.slot seen)
-      → taken ≡ record f { changes = filter (change_is_copied o.schema seen target.slot f.source) f.changes }
-      → IsNext o seen (record { seen = seen; shard = target }) taken
-  follow_next f taken is now taken_is =
-      let same = quiet is.early is.since is.count now in
-      subst (λ (x : F.Follow). IsNext o seen (record { seen = seen; shard = target }) x) (sym taken_is) (record {
-        of_source = is.of_source;
-        next = position-same is.early seen target.slot f.source same ∙ is.next;
-        entry = is.given.entry;
-        stored = stored_later f.source f.place run seen is.given.entry later is.given.stored;
-        filtered = ap (filter (change_is_copied o.schema seen target.slot f.source)) is.given.changes;
-      })
-
-  pub copy_next : (c : C.Copied) → AreNextRows o run target entries c → entries ≡ length (entries_on target.slot seen)
-      → IsNextCopy o seen (record { seen = seen; shard = target }) c
-  copy_next c is now =
-      let same = quiet is.early is.since is.count now in
-      let all : IsPrefix is.looked seen = prefix_trans is.looked run seen is.upto later in
+  had : (c : C.Copied) (after : Option Row) → IsCopyFor o run source target.shard.place after c → Had o run c.source c.place (held o run source)
+  had c after e =
+      let whole = prefix_self run in
       record {
-        of_source = is.of_source;
-        next = record {
-          table = is.next.table;
-          unfinished = copied_all-same is.early seen target.slot c.source c.table same ∙ is.next.unfinished;
-          first = λ m of_table before. copied_all-same is.early seen target.slot c.source m same ∙ is.next.first m of_table before;
-        };
-        place = by is.place (position-same is.early seen target.slot c.source same);
-        db = held o is.looked is.source;
-        had = had all is.given;
-        arranged = is.given.arranged;
-        all =
-            subst (λ (l : List Row). IsPermutation l is.given.arranged)
-            (filter_agree (is_wanted target.place (table_at o.schema c.table) is.after) (is_left o seen target c.source c.table)
-            (λ row. ap (λ b. lies_in target.place (table_at o.schema c.table) row && not b) (sym (is.reached row))
-            ∙ sym (left-same o is.early seen target same c.source c.table row))
-            (rows_of (held o is.looked is.source) c.table)) is.given.all;
-        in_order = is.given.in_order;
-        rows = is.given.rows;
-      }
-    where
-      by : (position is.early target.slot c.source ≡ None) ⊎ (position is.early target.slot c.source ≡ Some c.place)
-          → position seen target.slot c.source ≡ position is.early target.slot c.source
-          → (position seen target.slot c.source ≡ None) ⊎ (position seen target.slot c.source ≡ Some c.place)
-      by (inl e) s = inl (s ∙ e)
-      by (inr e) s = inr (s ∙ e)
-
-      had : IsPrefix is.looked seen → IsCopyFor o is.looked is.source target.place is.after c → Had o seen c.source c.place (held o is.looked is.source)
-      had (rest, e) g = record {
-        front = is.looked;
-        back = rest;
-        is = sym e;
-        shard = is.source;
-        of_run = g.of_run;
-        on = sym g.of_source;
-        serves = subst (λ s. IsTrue (Rattle.shard_run.specs.Runs.is_serving (Rattle.shard_run.specs.Runs.mode o is.looked s))) (sym g.of_source) g.serves;
-        stored = subst (λ s. length (stored_on s is.looked) ≡ c.place) (sym g.of_source) (sym g.place);
+        front = run;
+        back = whole.0;
+        is = sym whole.1;
+        shard = source;
+        of_run = e.of_run;
+        on = sym e.of_source;
+        serves = subst (λ s. IsTrue (Rattle.shard_run.specs.Runs.is_serving (Rattle.shard_run.specs.Runs.mode o run s))) (sym e.of_source) e.serves;
+        stored = subst (λ s. length (stored_on s run) ≡ c.place) (sym e.of_source) (sym e.place);
         rows = refl;
       }
 
+  -- how far it has copied, by the table that is next
+  told : (p : SourceProgress) (next : Option NextTable) → IsProgress o target.seen target.shard source.slot p → p.next ≡ next
+      → MatchOption next (HasCopiedAll o target.seen target.shard source.slot)
+      (λ n. IsNextTable o target.seen target.shard source.slot n.table
+      × ((row : Row) → is_copied o.schema target.seen target.shard.slot source.slot n.table row ≡ is_reached (table_at o.schema n.table) n.after row))
+  told p next is e =
+      subst (λ (next : Option NextTable). MatchOption next (HasCopiedAll o target.seen target.shard source.slot)
+      (λ n. IsNextTable o target.seen target.shard source.slot n.table
+      × ((row : Row) → is_copied o.schema target.seen target.shard.slot source.slot n.table row ≡ is_reached (table_at o.schema n.table) n.after row))) e is.next
+
+  pub takeable : (g : Given) → IsGiven o run source target g → IsTakeable o run target g
+  takeable _ (entry f behind e) = given.entry (record {
+    of_source = subst (Contains target.shard.sources) (sym e.of_source) of_source;
+    next = subst (λ s. position target.seen target.shard.slot s ≡ Some f.place) (sym e.of_source) behind;
+    given = subst (λ s. IsEntryFor o run s target.shard.place f) (sym e.of_source) e;
+  })
+  takeable _ (rows p c n is none next table e) =
+      let at = told p (Some n) is next in
+      let from : source.slot ≡ c.source = sym e.of_source in
+      let reached = λ (row : Row). subst (λ s. is_copied o.schema target.seen target.shard.slot s c.table row ≡ is_reached (table_at o.schema c.table) n.after row) from
+      (subst (λ m. is_copied o.schema target.seen target.shard.slot source.slot m row ≡ is_reached (table_at o.schema m) n.after row) (sym table) (at.1 row)) in
+      given.rows (record {
+        of_source = subst (Contains target.shard.sources) from of_source;
+        next = subst (λ s. IsNextTable o target.seen target.shard s c.table) from (subst (IsNextTable o target.seen target.shard source.slot) (sym table) at.0);
+        place =
+            subst (λ s. (position target.seen target.shard.slot s ≡ None) ⊎ (position target.seen target.shard.slot s ≡ Some c.place)) from
+            (place_at p is c e.place none p.behind refl);
+        db = held o run source;
+        had = had c n.after e;
+        arranged = e.arranged;
+        all =
+            subst (λ (l : List Row). IsPermutation l e.arranged)
+            (filter_agree (is_wanted target.shard.place (table_at o.schema c.table) n.after) (is_left o target.seen target.shard c.source c.table)
+            (λ row. ap (λ b. lies_in target.shard.place (table_at o.schema c.table) row && not b) (sym (reached row))) (rows_of (held o run source) c.table)) e.all;
+        in_order = e.in_order;
+        rows = e.rows;
+      })
+  takeable _ (nothing p is none next) = given.nothing
+
+  -- what was taken over of what was given is what the step did
+  pub moved : (before q now : PassView Entry) (g : Given) (s : Step) → q.seen ≡ run → IsOnward o before q → IsPrefix before.seen target.seen
+      → IsPrefix q.seen now.seen → IsOnward o before now → IsGiven o run source target g → HasTaken o target.shard g q now s
+      → HasMoved o source target.shard before now s
+  moved before q now _ _ seen on since until whole (entry f behind e) (given.entry taken same stepped at) =
+      followed taken (same ∙ e.of_source) (stepped_after o before q now target.shard _ on stepped)
+  moved before q now _ _ seen on since until whole (rows p c n is none next table e) (given.rows stepped at) =
+      copied c e.of_source run
+      (record { since = prefix_trans before.seen target.seen run since later; until = subst (λ r. IsPrefix r now.seen) seen until }) e.place
+      (stepped_after o before q now target.shard _ on stepped)
+  moved before q now _ _ seen on since until whole (nothing p is none next) given.nothing =
+      level whole target.seen run
+      (record { since = since; until = prefix_trans target.seen run now.seen later (subst (λ r. IsPrefix r now.seen) seen until) })
+      (record { since = prefix_trans before.seen target.seen run since later; until = subst (λ r. IsPrefix r now.seen) seen until })
+      (record { copied = told p None is next; level = level_at p is none })
+
+-- ---- under the target's lock
+
+pub rows_next : (o : Opening) (run : Run) (target : ShardView) (c : C.Copied) → IsTakeable o run target (givens.Rows c) → IsNextCopy o run target c
+rows_next o run target c (given.rows is) = is
+
+module _ (o : Opening) (run : Run) (legal : Legal o run) (target : ShardView) (f : F.Follow) (is : IsNextEntry o run target f) where
+  pub entry_there : AllByRecursion (λ c. changed_table c < length o.schema.tables) f.changes
+  entry_there =
+      subst (AllByRecursion (λ (c : RowChange). changed_table c < length o.schema.tables)) (sym is.given.changes)
+      (all-filter (λ (c : RowChange). changed_table c < length o.schema.tables) (change_lies_in o.schema target.shard.place) (stored_changes is.given.entry.event)
+      (stored_there_now o run legal f.source f.place is.given.entry is.given.stored))
+
+  pub follow_next : (taken : F.Follow) → taken ≡ record f { changes = filter (change_is_copied o.schema target.seen target.shard.slot f.source) f.changes }
+      → IsNext o run target taken
+  follow_next taken taken_is = subst (λ (x : F.Follow). IsNext o run target x) (sym taken_is) (record {
+    of_source = is.of_source;
+    next = is.next;
+    entry = is.given.entry;
+    stored = is.given.stored;
+    filtered = ap (filter (change_is_copied o.schema target.seen target.shard.slot f.source)) is.given.changes;
+  })
+
 -- ---- why a step is refused
 
-module _ (o : Opening) (most : Limits) (run : Run) (s target : Shard) (same : s ≡ target) where
+module _ (o : Opening) (most : Limits) (run : Run) (s : Shard) where
   pub full_follow : (f : F.Follow) (e : Refusal) → MayFollow o run (record { shard = s; event = Follow f })
-      → (e ≡ OutOfMemory) ⊎ ((e ≡ ShardFull) × PassesLimit o most run s (Follow f)) → (e ≡ OutOfMemory) ⊎ ((e ≡ ShardFull) × IsFull o most target run)
+      → (e ≡ OutOfMemory) ⊎ ((e ≡ ShardFull) × PassesLimit o most run s (Follow f)) → (e ≡ OutOfMemory) ⊎ ((e ≡ ShardFull) × IsFull o most s run)
   full_follow f e may (inl h) = inl h
-  full_follow f e may (inr h) = inr (
-    h.0,
-    full.follow f (subst (λ (x : Shard). MayFollow o run (record { shard = x; event = Follow f })) same may)
-        (subst (λ (x : Shard). PassesLimit o most run x (Follow f)) same h.1),
-  )
+  full_follow f e may (inr h) = inr (h.0, full.follow f may h.1)
 
   pub full_copy : (c : C.Copied) (e : Refusal) → MayFollow o run (record { shard = s; event = Copy c })
-      → (e ≡ OutOfMemory) ⊎ ((e ≡ ShardFull) × PassesLimit o most run s (Copy c)) → (e ≡ OutOfMemory) ⊎ ((e ≡ ShardFull) × IsFull o most target run)
+      → (e ≡ OutOfMemory) ⊎ ((e ≡ ShardFull) × PassesLimit o most run s (Copy c)) → (e ≡ OutOfMemory) ⊎ ((e ≡ ShardFull) × IsFull o most s run)
   full_copy c e may (inl h) = inl h
-  full_copy c e may (inr h) = inr (
-    h.0,
-    full.copy c (subst (λ (x : Shard). MayFollow o run (record { shard = x; event = Copy c })) same may)
-        (subst (λ (x : Shard). PassesLimit o most run x (Copy c)) same h.1),
-  )
+  full_copy c e may (inr h) = inr (h.0, full.copy c may h.1)
 
--- ---- rounds before
+-- ---- steps before
 
 module _ (o : Opening) (source target : Shard) (p q now : PassView Entry) (on : IsOnward o p q) where
   widen : (run : Run) → IsRunBetween q now run → IsRunBetween p now run
   widen run b = record { since = prefix_trans p.seen q.seen run on.later b.since; until = b.until }
 
-  -- what a round did after looks is what the step did
+  -- what a later step did is what it does from here
   pub moved_after : (s : Step) → HasMoved o source target q now s → HasMoved o source target p now s
   moved_after _ (copied c of_source run between place stepped) =
       copied c of_source run (widen run between) place (stepped_after o p q now target _ on stepped)
@@ -260,9 +219,26 @@ pub err_as : {X : Type 0} (r : Result X Refusal) (e : Refusal) (P : Refusal → 
 err_as (Ok x) e P h is = tt
 err_as (Err f) e P h is = subst P (sym h) is
 
-pub on_err_as : {X : Type 0} (r : Result X Refusal) (P Q : Type 0) → (P → Q) → OnErr r P → OnErr r Q
+pub on_err_as : {X E : Type 0} (r : Result X E) (P Q : Type 0) → (P → Q) → OnErr r P → OnErr r Q
 on_err_as (Ok x) P Q f is = is
 on_err_as (Err e) P Q f is = f is
+
+pub on_ok_as : {X E : Type 0} (r : Result X E) (P Q : Type 0) → (P → Q) → OnOk r P → OnOk r Q
+on_ok_as (Ok x) P Q f is = f is
+on_ok_as (Err e) P Q f is = is
+
+pub if_err_as : {X E : Type 0} (r : Result X E) (P : Type 0) (A B : E → Type 0) → ((e : E) → P → A e → B e) → OnErr r P → IfErr r A → IfErr r B
+if_err_as (Ok x) P A B f on is = is
+if_err_as (Err e) P A B f on is = f e on is
+
+pub if_ok_as : {X E : Type 0} (r : Result X E) (A B : X → Type 0) → ((x : X) → A x → B x) → IfOk r A → IfOk r B
+if_ok_as (Ok x) A B f is = f x is
+if_ok_as (Err e) A B f is = is
+
+-- whether it succeeds or is refused
+pub either_way : {X E : Type 0} (r : Result X E) (P Q A : Type 0) → (P → A) → (Q → A) → OnOk r P → OnErr r Q → A
+either_way (Ok x) P Q A f h ok err = f ok
+either_way (Err e) P Q A f h ok err = h err
 
 -- ---- several sources
 

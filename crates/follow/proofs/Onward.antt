@@ -1,7 +1,5 @@
 -- A controller's pass goes on, look by look and entry by entry.
-use Rattle.std.proofs.Common.{◌≡◌, ℕ, List, [], ◌∷◌, ◌++◌, length, length-append, arith, refl, sym, ap, ◌∙◌, subst}
-use Rattle.std.proofs.lemmas.List.{append-nil}
-use Rattle.std.proofs.lemmas.List.Elements.{filter-append}
+use Rattle.std.proofs.Common.{◌≡◌, ℕ, List, [], ◌∷◌, ◌++◌, refl, sym, ap, ◌∙◌, subst}
 use mathlib.Core.List.{IsPrefix}
 use Rattle.journal.specs.Runs.{IsLegal}
 use Rattle.journal.specs.Views.{SeatView, PassView, IsLater}
@@ -9,7 +7,7 @@ use Rattle.journal.proofs.Fronts.{prefix_trans, prefix_self}
 use Rattle.shard_run.specs.declared.Shard.{Shard}
 use Rattle.shard_run.specs.declared.Event.{Event}
 use Rattle.shard_run.specs.declared.Entry.{Entry}
-use Rattle.shard_run.specs.Runs.{Run, Opening, entries_on, is_on}
+use Rattle.shard_run.specs.Runs.{Run, Opening}
 use Rattle.shard_contents.specs.Shards.{slot_of, commit_of, MayFollow, HasLooked, HasAppended, ShardView}
 use Rattle.follow.specs.Steps.{IsOnward, HasStepped}
 
@@ -59,17 +57,3 @@ stepped_after o p q now which ev on is = record {
   since = prefix_trans p.seen q.seen is.before on.later is.since;
   seen = is.seen;
 }
-
-none_left : {X : Type 0} (xs : List X) → length xs ≡ 0 → xs ≡ []
-none_left [] e = refl
-none_left (x ∷ xs) e = absurd (omega (arith, e))
-
--- a run that goes on without a further entry on the slot has the same ones there
-pub same_entries : (slot : ℕ) (old new : Run) → IsPrefix old new → length (entries_on slot new) ≡ length (entries_on slot old) → entries_on slot new ≡ entries_on slot old
-same_entries slot old new (rest, is) count =
-    let all = filter-append (is_on slot) old rest in
-    let here : entries_on slot new ≡ entries_on slot old ++ entries_on slot rest = ap (entries_on slot) (sym is) ∙ all in
-    let h = ap length here in
-    let k = length-append (entries_on slot old) (entries_on slot rest) in
-    let none = none_left (entries_on slot rest) (omega (arith, count, h, k)) in
-    here ∙ ap (λ (l : Run). entries_on slot old ++ l) none ∙ append-nil (entries_on slot old)

@@ -1,16 +1,23 @@
 -- Where a pass has looked, piece by piece, and what is done one after the other.
-use Rattle.std.proofs.Common.{◌≡◌, ℕ, ◌+◌, ◌<◌, ◌≤◌, List, [], ◌∷◌, ◌++◌, length, map, take, drop, get_or, refl, sym, ap, ◌∙◌, subst, append_assoc}
+use Rattle.std.proofs.Common.{◌≡◌, ◌⊎◌, inl, inr, ℕ, ◌+◌, ◌<◌, ◌≤◌, List, [], ◌∷◌, ◌++◌, length, map, take, drop, get_or, refl, sym, ap, ◌∙◌, subst, append_assoc}
 use Rattle.std.proofs.lemmas.List.{append-nil, map-append, take_more}
+use Rattle.journal.specs.Runs.{IsLegal}
 use Rattle.journal.specs.Views.{PassView}
+use Rattle.shard_run.specs.declared.Shard.{Shard}
 use Rattle.shard_run.specs.declared.Entry.{Entry}
 use Rattle.shard_run.specs.declared.Event.{Event}
 use Rattle.shard_run.specs.Runs.{Run, Opening}
-use Rattle.shard_contents.specs.Shards.{ShardView, HasLooked, HasAppended}
+use Rattle.shard_contents.specs.Shards.{ShardView, MayFollow, HasLooked, HasAppended}
 use Rattle.shard_contents.proofs.Progress.{take_whole}
 use Rattle.follow.specs.declared.steps.Step.{Step}
 use Rattle.follow.specs.declared.steps.Step.TheVariants.{Level}
-use Rattle.follow.specs.Turns.{HasLookedAt, IsCutShort, IdleTries, IsOneStep, EachInTurn, FirstInTurn, RefusedInTurn, looks_of}
+use Rattle.follow.specs.Turns.{HasLookedAt, EndsInLook, IsOneStep, IsNoStep, EachInTurn, FirstInTurn, RefusedInTurn}
 use Rattle.follow.specs.Turns as turns
+use Rattle.follow.specs.declared.steps.Given.{Given}
+use Rattle.follow.specs.inner.Given.{IsOneLook, HasTaken}
+use Rattle.follow.specs.inner.Given as taken
+use Rattle.follow.specs.Steps.{HasStepped}
+use Rattle.follow.proofs.Onward.{still, has_looked, stepped}
 use Rattle.follow.proofs.Moves.{split_at}
 
 -- ---- looks
@@ -29,59 +36,85 @@ looked_then a b p q now first then' =
 pub appended_since : (p now : PassView Entry) (run : Run) → now ≡ record p { seen = run } → HasLookedAt [] p now
 appended_since p now run is = ap (λ (x : PassView Entry). map (λ l. l.0) x.looks) is ∙ sym (append-nil (map (λ l. l.0) p.looks))
 
--- tries and further tries are tries
-pub tried_again : (target source : ℕ) (a b : List ℕ) → IdleTries target source a → IdleTries target source b → IdleTries target source (a ++ b)
-tried_again target source a _ first turns.none = subst (IdleTries target source) (sym (append-nil a)) first
-tried_again target source a _ first (turns.one_more {before} rest found) =
-    subst (IdleTries target source) (append_assoc a before (target ∷ source ∷ found ∷ []))
-    (turns.one_more (tried_again target source a before first rest) found)
-
--- an entry behind a look of its own
+-- an entry after a look of its own
 pub look_and_append : (o : Opening) (v : ShardView) (ev : Event) (here slot : ℕ) (p looked now : PassView Entry) → here ≡ slot → HasLooked o here p looked
     → HasAppended o v ev looked now → HasLookedAt (slot ∷ []) p now
 look_and_append o v ev here slot p looked now same look append =
     subst (λ (n : ℕ). HasLookedAt (n ∷ []) p now) same
     (looked_then (here ∷ []) [] p looked now (looked_at p looked here looked.seen (length looked.seen) look.pass) (appended_since looked now now.seen append.pass))
 
--- ---- a try that is cut short
+-- the step of a shard by a look and an entry
+pub took : (o : Opening) (s : Shard) (ev : Event) (p now : PassView Entry) → IsLegal (MayFollow o) p.seen
+    → (looked : PassView Entry) × HasLooked o s.slot p looked × HasAppended o (record { seen = looked.seen; shard = s }) ev looked now
+    → HasStepped o s ev p now × HasLookedAt (s.slot ∷ []) p now
+took o s ev p now legal w = (
+  stepped o p w.0 now (record { seen = w.0.seen; shard = s }) s ev (has_looked o p p w.0 s.slot (still o p legal) w.1) w.2 refl,
+  look_and_append o (record { seen = w.0.seen; shard = s }) ev s.slot s.slot p w.0 now refl w.1 w.2,
+)
 
-pub cut_here : (p now : PassView Entry) (slot : ℕ) (run : Run) → now ≡ record p { seen = run; looks = p.looks ++ (slot, length run) ∷ [] }
-    → IsCutShort (slot ∷ []) p now
-cut_here p now slot run is = record {
-  first = slot ∷ [];
-  part = ([], refl);
-  looked = looked_at p now slot run (length run) is;
-  slot = slot;
-  before = p.looks;
-  last =
-      ap (λ (x : PassView Entry). x.looks) is
-      ∙ ap (λ (r : Run). p.looks ++ (slot, length r) ∷ []) (sym (ap (λ (x : PassView Entry). x.seen) is));
-}
+-- one look, and nothing after it
+pub one_look : (p now : PassView Entry) (slot : ℕ) (run : Run) → now ≡ record p { seen = run; looks = p.looks ++ (slot, length run) ∷ [] } → IsOneLook slot p now
+one_look p now slot run is =
+    ap (λ (x : PassView Entry). x.looks) is ∙ ap (λ (r : Run). p.looks ++ (slot, length r) ∷ []) (sym (ap (λ (x : PassView Entry). x.seen) is))
 
--- by a look of this shard
-pub cut_at : (p now : PassView Entry) (here slot : ℕ) (run : Run) → here ≡ slot → now ≡ record p { seen = run; looks = p.looks ++ (here, length run) ∷ [] }
-    → IsCutShort (slot ∷ []) p now
-cut_at p now here slot run same is = subst (λ (n : ℕ). IsCutShort (n ∷ []) p now) same (cut_here p now here run is)
+-- at this shard
+pub one_look_here : (p now : PassView Entry) (here slot : ℕ) (run : Run) → here ≡ slot → now ≡ record p { seen = run; looks = p.looks ++ (here, length run) ∷ [] }
+    → IsOneLook slot p now
+one_look_here p now here slot run same is = subst (λ (n : ℕ). IsOneLook n p now) same (one_look p now here run is)
 
-pub cut_after : (a b : List ℕ) (p q now : PassView Entry) → HasLookedAt a p q → IsCutShort b q now → IsCutShort (a ++ b) p now
-cut_after a b p q now looks cut = record {
-  first = a ++ cut.first;
-  part = (cut.part.0, append_assoc a cut.first cut.part.0 ∙ ap (λ (l : List ℕ). a ++ l) cut.part.1);
-  looked = looked_then a cut.first p q now looks cut.looked;
-  slot = cut.slot;
-  before = cut.before;
-  last = cut.last;
-}
+pub looked_once : (o : Opening) (slot : ℕ) (p now : PassView Entry) → HasLooked o slot p now → IsOneLook slot p now
+looked_once o slot p now is = one_look p now slot now.seen is.pass
 
-pub cut_before : (a b : List ℕ) (p now : PassView Entry) → IsCutShort a p now → IsCutShort (a ++ b) p now
-cut_before a b p now cut = record {
-  first = cut.first;
-  part = (cut.part.0 ++ b, sym (append_assoc cut.first cut.part.0 b) ∙ ap (λ (l : List ℕ). l ++ b) cut.part.1);
-  looked = cut.looked;
-  slot = cut.slot;
-  before = cut.before;
-  last = cut.last;
-}
+at_look : (p now : PassView Entry) (slot : ℕ) → IsOneLook slot p now → HasLookedAt (slot ∷ []) p now
+at_look p now slot is = ap (map (λ l. l.0)) is ∙ map-append (λ l. l.0) p.looks ((slot, length now.seen) ∷ [])
+
+ends : (p now : PassView Entry) (slot : ℕ) → IsOneLook slot p now → EndsInLook now
+ends p now slot is = record { slot = slot; before = p.looks; last = is }
+
+-- ---- one step
+
+module _ (source target : Shard) (p q : PassView Entry) (first : IsOneLook target.slot p q) where
+  both : (r : PassView Entry) → IsOneLook source.slot q r → HasLookedAt (target.slot ∷ source.slot ∷ []) p r
+  both r second = looked_then (target.slot ∷ []) (source.slot ∷ []) p q r (at_look p q target.slot first) (at_look q r source.slot second)
+
+  -- what was taken over after a look at each is one step
+  pub one_step : (o : Opening) (r now : PassView Entry) (g : Given) (s : Step) → IsOneLook source.slot q r → HasTaken o target g r now s
+      → IsOneStep source target p now s
+  one_step o r now _ _ second (taken.entry f same stepped at) = record {
+    looked = looked_then (target.slot ∷ source.slot ∷ []) (target.slot ∷ []) p r now (both r second) at;
+    still = λ e. absurd (cc e);
+  }
+  one_step o r now _ _ second (taken.rows stepped at) = record {
+    looked = looked_then (target.slot ∷ source.slot ∷ []) (target.slot ∷ []) p r now (both r second) at;
+    still = λ e. absurd (cc e);
+  }
+  one_step o r now _ _ second taken.nothing = record { looked = both r second; still = λ e. ends q r source.slot second }
+
+  -- it was refused after the first look
+  pub refused_first : IsNoStep source target p q
+  refused_first = record {
+    first = target.slot ∷ [];
+    part = (source.slot ∷ target.slot ∷ [], refl);
+    looked = at_look p q target.slot first;
+    ends = ends p q target.slot first;
+  }
+
+  pub refused_second : (r : PassView Entry) → IsOneLook source.slot q r → IsNoStep source target p r
+  refused_second r second = record {
+    first = target.slot ∷ source.slot ∷ [];
+    part = (target.slot ∷ [], refl);
+    looked = both r second;
+    ends = ends q r source.slot second;
+  }
+
+  pub refused_last : (r now : PassView Entry) → IsOneLook source.slot q r → (now ≡ r) ⊎ IsOneLook target.slot r now → IsNoStep source target p now
+  refused_last r now second (inl same) = subst (IsNoStep source target p) (sym same) (refused_second r second)
+  refused_last r now second (inr third) = record {
+    first = target.slot ∷ source.slot ∷ target.slot ∷ [];
+    part = ([], refl);
+    looked = looked_then (target.slot ∷ source.slot ∷ []) (target.slot ∷ []) p r now (both r second) (at_look r now target.slot third);
+    ends = ends r now target.slot third;
+  }
 
 -- ---- turns
 

@@ -11,41 +11,34 @@ use Rattle.follow.specs.declared.steps.Step.TheVariants.{Level}
 abbrev pub HasLookedAt : List ℕ → PassView Entry → PassView Entry → Type 0
 HasLookedAt slots p now = map (λ l. l.0) now.looks ≡ map (λ l. l.0) p.looks ++ slots
 
--- The pass looked at the shards on the first of these slots, as far as it came, and at no other. The last that it did was a look, which saw all
--- that the pass has seen: nothing was appended behind it.
-pub record IsCutShort (slots : List ℕ) (p now : PassView Entry) : Type 0 where
-  pub first : List ℕ
-  pub part : IsPrefix first slots
-  pub looked : HasLookedAt first p now
+-- the last that a pass did was a look, which saw all that it has seen: nothing was appended after it
+pub record EndsInLook (now : PassView Entry) : Type 0 where
   pub slot : ℕ
   pub before : List (ℕ × ℕ)
   pub last : now.looks ≡ before ++ (slot, length now.seen) ∷ []
 
--- Tries of a step that append nothing look at the target and at the source, and once more under the target's lock, where it was found that it
--- had moved.
-pub data IdleTries (target source : ℕ) : List ℕ → Type 0 where
-  none : IdleTries target source []
-  one_more : {before : List ℕ} → IdleTries target source before → (found : ℕ) → IdleTries target source (before ++ target ∷ source ∷ found ∷ [])
+-- the pass looked at the shards on the first of these slots, as far as it came, and at no other, and nothing was appended after the last look
+pub record IsCutShort (slots : List ℕ) (p now : PassView Entry) : Type 0 where
+  pub first : List ℕ
+  pub part : IsPrefix first slots
+  pub looked : HasLookedAt first p now
+  pub ends : EndsInLook now
 
--- each Copy and each Follow comes right after a look of its own at the target, and that after one by which the target was found unmoved
+-- each Copy and each Follow comes right after a look of its own at the target
 abbrev pub looks_of : ℕ → Step → List ℕ
 looks_of target Level = []
-looks_of target _ = target ∷ target ∷ []
+looks_of target _ = target ∷ []
 
--- The looks of one step of a target with a source: the last try has those of its one entry, or, where the target is level, of none.
+-- The looks of one step of a target with a source: one at the target, one at the source, and one more at the target for an entry. Where there
+-- is none, nothing was appended after the last look.
 pub record IsOneStep (source target : Shard) (p now : PassView Entry) (step : Step) : Type 0 where
-  pub idle : List ℕ
-  pub tries : IdleTries target.slot source.slot idle
-  pub looked : HasLookedAt (idle ++ target.slot ∷ source.slot ∷ looks_of target.slot step) p now
+  pub looked : HasLookedAt (target.slot ∷ source.slot ∷ looks_of target.slot step) p now
+  pub still : step ≡ Level → EndsInLook now
 
--- The looks of a step of a target with a source that is refused: those of tries that append nothing, and the first of a try with an entry.
--- Behind the last look nothing was appended. A try with an entry has two looks at the target at its end, and no try begins behind these.
-pub record IsNoStep (source target : Shard) (p now : PassView Entry) : Type 0 where
-  pub idle : List ℕ
-  pub tries : IdleTries target.slot source.slot idle
-  pub tried : PassView Entry
-  pub looked : HasLookedAt idle p tried
-  pub refused : IsCutShort (target.slot ∷ source.slot ∷ target.slot ∷ target.slot ∷ []) tried now
+-- The looks of a step of a target with a source that is refused: the first of those of a step with an entry, and nothing was appended after
+-- the last.
+abbrev pub IsNoStep : Shard → Shard → PassView Entry → PassView Entry → Type 0
+IsNoStep source target p now = IsCutShort (target.slot ∷ source.slot ∷ target.slot ∷ []) p now
 
 module _ {X : Type 0} where
   -- each of these does its part, one after the other

@@ -1,7 +1,9 @@
-//! One step: a look at the target, then one at the source, then, where something is left, an entry of the target. Each is made under its own
-//! lock, one lock after the other. A lock can't tell which shard it holds, nor that the target is as it was, so both are tested under it;
-//! where that fails, which no run of one controller meets, the lock is taken again, or the step begins again.
-ghost use Rattle.std.specs.Prelude.{◌≡◌, ◌⊎◌, ◌<◌, ◌≤◌, ◌^◌, ℕ, List, [], ◌∷◌, true, false, Some, IsTrue, IfOk, IfErr, IfSome, OnErr, MatchOption, Contains, length, map};
+//! One step: a look at the target, then one at the source, then, if something is left, an entry of the target. The target's lock is held for
+//! the whole step, and the source's for the look at it, so that the target is as it was when the entry comes. Locks are taken in this order
+//! alone, target before source, and a target never is a source of its own sources, so no two steps wait for each other. A lock can't tell
+//! which shard it holds, so that is tested before the first look; if it is another, which no run of one controller meets, the lock is taken
+//! again.
+ghost use Rattle.std.specs.Prelude.{◌≡◌, ◌⊎◌, ◌<◌, ◌≤◌, ◌^◌, ℕ, List, [], ◌∷◌, true, false, Some, IsTrue, IfOk, IfErr, IfSome, OnOk, OnErr, MatchOption, Contains, length, map};
 ghost use Rattle.std.specs.List.{AllByRecursion};
 ghost use mathlib.Core.List.{IsPrefix};
 ghost use Rattle.vschema.specs.WellFormed.{is_vschema};
@@ -9,18 +11,18 @@ ghost use Rattle.journal.specs.Runs.{IsLegal};
 ghost use Rattle.shard_run.specs.declared.Entry.{Entry};
 ghost use Rattle.shard_run.specs.declared.Event.{Event};
 ghost use Rattle.shard_run.specs.declared.Follow as follow;
-ghost use Rattle.shard_run.specs.Runs.{mode, is_serving, entries_on, stored_on, held};
+ghost use Rattle.shard_run.specs.Runs.{mode, is_serving, stored_on, held};
 ghost use Rattle.shard_run.specs.Openings.{IsOpening, row_count};
 ghost use Rattle.shard_law.specs.Law.{SourcesApart};
 ghost use Rattle.shard_contents.specs.Shards.{MayFollow};
-ghost use Rattle.shard_contents.specs.Copying.{IsProgress, IsEntryFor};
+ghost use Rattle.shard_contents.specs.Copying.{IsEntryFor, IsNextCopy};
 ghost use Rattle.follow.specs.Steps.{IsOnward, HasStepped, HasMoved, HasMovedWith, IsFull};
-ghost use Rattle.follow.specs.Turns.{HasLookedAt, IsCutShort, IdleTries, IsOneStep, IsOneStepWith, IsNoStep, IsNoStepWith, looks_of};
-ghost use Rattle.follow.specs.inner.Given.{IsGiven, NoneLeft, IsNextEntry, AreNextRows, IsTakeable, HasTaken};
+ghost use Rattle.follow.specs.Turns.{IsOneStep, IsOneStepWith, IsNoStep, IsNoStepWith};
+ghost use Rattle.follow.specs.inner.Given.{IsGiven, IsOneLook, NoneLeft, IsNextEntry, IsTakeable, HasTaken};
 
 use crate::member::Member;
 use journal::{Naming, Pass};
-use shard::{ShardLaw, ShardState, SourceProgress, World};
+use shard::{ShardLaw, ShardState, World};
 use shard_run::{Copied, Follow, Mode, Shard};
 use std::alloc::Global;
 use std::sync::Wait;
@@ -46,49 +48,17 @@ enum Given {
     Nothing,
 }
 
-// How far a target has come, and how many entries it had then.
-#[derive(Drop)]
-struct Come {
-    entries: u64,
-    progress: SourceProgress,
-}
-
-fn follows<W: World, J: Naming>(state: &ShardState<W, J>) -> bool
-    ensures { result ≡ true → mode W.opening state.now.seen state.now.shard.slot ≡ Mode.Following }
+// Whether the state is the target's, and it follows.
+fn follows<W: World, J: Naming>(state: &ShardState<W, J>, target: &Shard) -> bool
+    ensures { result ≡ true → (state.now.shard ≡ target.now) × (mode W.opening state.now.seen state.now.shard.slot ≡ Mode.Following) }
 {
-    state.mode() == Mode::Following
+    state.is(target) && state.mode() == Mode::Following
 }
 
 fn serves<W: World, J: Naming>(state: &ShardState<W, J>) -> bool
     ensures { result ≡ true → is_serving (mode W.opening state.now.seen state.now.shard.slot) ≡ true }
 {
     matches!(state.mode(), Mode::Serving | Mode::Frozen)
-}
-
-// How far the target has come with the source, where the state is the target's and it follows.
-fn try_progress<W: World, J: Naming>(
-    state: &mut ShardState<W, J>,
-    alloc: Global,
-    pass: &mut Pass<ShardLaw<W>, J>,
-    schema: &VSchema,
-    target: &Shard,
-    source: usize,
-) -> Result<Option<Come>, Refusal>
-    requires schema { schema.now ≡ W.opening.schema }
-    requires legal { IsLegal (MayFollow W.opening) pass.old.seen }
-    ensures progress { IfOk result (λ r. IfSome r (λ come. IsProgress W.opening pass.new.seen target.now source come.progress
-        × (come.entries ≡ length (entries_on target.now.slot pass.new.seen)))) }
-    ensures looks { IfOk result (λ r. MatchOption r (pass.new ≡ pass.old) (λ _. HasLookedAt (target.now.slot ∷ []) pass.old pass.new)) }
-    ensures refused { OnErr result (IsCutShort (target.now.slot ∷ []) pass.old pass.new) }
-    ensures onward { IsOnward W.opening pass.old pass.new }
-    ensures err { IfErr result (λ e. e ≡ Refusal.OutOfMemory) }
-{
-    if !(state.is(target) && follows(state)) {
-        return Ok(None);
-    }
-    let entries = state.look(pass);
-    let progress = state.progress(alloc, schema, source)?;
-    Ok(Some(Come { entries, progress }))
 }
 
 // The entry that is next for a target, if one is left.
@@ -115,25 +85,28 @@ fn next_entry<W: World, J: Naming>(
     state.entry_for(alloc, schema, place, behind as u64)
 }
 
-// What a source that serves has for a target.
+// What a source that serves has for a target that follows. How far the target has copied it is asked only once no entry is left.
 fn give<W: World, J: Naming>(
     state: &mut ShardState<W, J>,
     alloc: Global,
     schema: &VSchema,
-    place: &Place,
-    progress: &SourceProgress,
+    target: &ShardState<W, J>,
 ) -> Result<Given, Refusal>
     requires schema { schema.now ≡ W.opening.schema }
     requires formed { IsTrue (is_vschema W.opening.schema) }
     requires serves { is_serving (mode W.opening state.old.seen state.old.shard.slot) ≡ true }
     requires legal { IsLegal (MayFollow W.opening) state.old.seen }
-    requires there { IfSome progress.now.next (λ n. n.table < length schema.now.tables) }
-    ensures given { IfOk result (IsGiven W.opening state.old.seen state.old.shard place.now progress.now) }
+    requires follows { mode W.opening target.now.seen target.now.shard.slot ≡ Mode.Following }
+    requires came { IsLegal (MayFollow W.opening) target.now.seen }
+    ensures given { IfOk result (IsGiven W.opening state.old.seen state.old.shard target.now) }
     ensures err { IfErr result (λ e. e ≡ Refusal.OutOfMemory) }
 {
-    if let Some(entry) = next_entry(state, alloc, schema, place, progress.behind)? {
+    let source = state.slot();
+    let place = &target.shard().place;
+    if let Some(entry) = next_entry(state, alloc, schema, place, target.behind(source))? {
         return Ok(Given::Entry(entry));
     }
+    let progress = target.progress(alloc, schema, source)?;
     match &progress.next {
         Some(next) => {
             let rows = state.rows_to_copy(alloc, schema, place, next)?;
@@ -150,16 +123,16 @@ fn try_give<W: World, J: Naming>(
     pass: &mut Pass<ShardLaw<W>, J>,
     schema: &VSchema,
     source: &Shard,
-    place: &Place,
-    progress: &SourceProgress,
+    target: &ShardState<W, J>,
 ) -> Result<Option<Given>, Refusal>
     requires schema { schema.now ≡ W.opening.schema }
     requires formed { IsTrue (is_vschema W.opening.schema) }
     requires legal { IsLegal (MayFollow W.opening) pass.old.seen }
-    requires there { IfSome progress.now.next (λ n. n.table < length schema.now.tables) }
-    ensures given { IfOk result (λ r. IfSome r (IsGiven W.opening pass.new.seen source.now place.now progress.now)) }
-    ensures looks { IfOk result (λ r. MatchOption r (pass.new ≡ pass.old) (λ _. HasLookedAt (source.now.slot ∷ []) pass.old pass.new)) }
-    ensures refused { OnErr result (IsCutShort (source.now.slot ∷ []) pass.old pass.new) }
+    requires follows { mode W.opening target.now.seen target.now.shard.slot ≡ Mode.Following }
+    requires came { IsLegal (MayFollow W.opening) target.now.seen }
+    ensures given { IfOk result (λ r. IfSome r (IsGiven W.opening pass.new.seen source.now target.now)) }
+    ensures looked { IfOk result (λ r. MatchOption r (pass.new ≡ pass.old) (λ _. IsOneLook source.now.slot pass.old pass.new)) }
+    ensures refused { OnErr result (IsOneLook source.now.slot pass.old pass.new) }
     ensures onward { IsOnward W.opening pass.old pass.new }
     ensures err { IfErr result (λ e. e ≡ Refusal.OutOfMemory) }
 {
@@ -167,7 +140,7 @@ fn try_give<W: World, J: Naming>(
         return Ok(None);
     }
     let _ = state.look(pass);
-    let given = give(state, alloc, schema, place, progress)?;
+    let given = give(state, alloc, schema, target)?;
     Ok(Some(given))
 }
 
@@ -178,16 +151,15 @@ fn given_by<W: World, J: Naming>(
     pass: &mut Pass<ShardLaw<W>, J>,
     schema: &VSchema,
     source: &Member<W, J>,
-    place: &Place,
-    progress: &SourceProgress,
+    target: &ShardState<W, J>,
 ) -> Result<Given, Refusal>
     requires schema { schema.now ≡ W.opening.schema }
     requires formed { IsTrue (is_vschema W.opening.schema) }
     requires legal { IsLegal (MayFollow W.opening) pass.old.seen }
-    requires there { IfSome progress.now.next (λ n. n.table < length schema.now.tables) }
-    ensures given { IfOk result (IsGiven W.opening pass.new.seen source.now.which place.now progress.now) }
-    ensures looks { IfOk result (λ _. HasLookedAt (source.now.which.slot ∷ []) pass.old pass.new) }
-    ensures refused { OnErr result (IsCutShort (source.now.which.slot ∷ []) pass.old pass.new) }
+    requires follows { mode W.opening target.now.seen target.now.shard.slot ≡ Mode.Following }
+    requires came { IsLegal (MayFollow W.opening) target.now.seen }
+    ensures given { IfOk result (IsGiven W.opening pass.new.seen source.now.which target.now) }
+    ensures looked { IsOneLook source.now.which.slot pass.old pass.new }
     ensures onward { IsOnward W.opening pass.old pass.new }
     ensures err { IfErr result (λ e. e ≡ Refusal.OutOfMemory) }
 {
@@ -198,8 +170,7 @@ fn given_by<W: World, J: Naming>(
             pass,
             schema,
             &source.which,
-            place,
-            progress,
+            target,
         )?;
         if let Some(given) = given {
             return Ok(given);
@@ -208,165 +179,156 @@ fn given_by<W: World, J: Naming>(
     unreachable!()
 }
 
-// Follows the entry, where the state is the target's, and has as many entries as when it was found that this one is next.
-fn try_follow<W: World, J: Naming>(
+// Follows the entry that is next for the target.
+fn follow_entry<W: World, J: Naming>(
     state: &mut ShardState<W, J>,
     alloc: Global,
     pass: &mut Pass<ShardLaw<W>, J>,
     schema: &VSchema,
-    target: &Shard,
-    entries: u64,
-    taken: &Follow,
-) -> Result<bool, Refusal>
+    entry: &Follow,
+) -> Result<(), Refusal>
     requires schema { schema.now ≡ W.opening.schema }
+    requires following { mode W.opening state.old.seen state.old.shard.slot ≡ Mode.Following }
+    requires mine { IsLegal (MayFollow W.opening) state.old.seen }
     requires legal { IsLegal (MayFollow W.opening) pass.old.seen }
-    requires next { IsNextEntry W.opening pass.old.seen target.now entries taken.now }
-    ensures followed { IfOk result (λ done. done ≡ true → (f : follow.Follow) × (f.source ≡ taken.now.source) × HasStepped W.opening target.now (Event.Follow f) pass.old pass.new) }
-    ensures looks { IfOk result (λ done. ((done ≡ true) × HasLookedAt (target.now.slot ∷ target.now.slot ∷ []) pass.old pass.new)
-        ⊎ ((done ≡ false) × ((found : ℕ) × HasLookedAt (found ∷ []) pass.old pass.new))) }
-    ensures within { IfOk result (λ done. done ≡ true → SourcesApart W.opening pass.new.seen target.now → row_count (held W.opening pass.new.seen target.now) ≤ W.limits.rows) }
-    ensures refused { OnErr result (IsCutShort (target.now.slot ∷ target.now.slot ∷ []) pass.old pass.new) }
+    requires next { IsNextEntry W.opening pass.old.seen state.old entry.now }
+    ensures taken { OnOk result (HasTaken W.opening state.old.shard (Given.Entry entry.now) pass.old pass.new Step.Followed) }
+    ensures within { OnOk result (SourcesApart W.opening pass.new.seen state.old.shard → row_count (held W.opening pass.new.seen state.old.shard) ≤ W.limits.rows) }
+    ensures refused { OnErr result ((pass.new ≡ pass.old) ⊎ IsOneLook state.old.shard.slot pass.old pass.new) }
     ensures onward { IsOnward W.opening pass.old pass.new }
-    ensures err { IfErr result (λ e. (e ≡ Refusal.OutOfMemory) ⊎ ((e ≡ Refusal.ShardFull) × IsFull W.opening W.limits target.now pass.new.seen)) }
+    ensures err { IfErr result (λ e. (e ≡ Refusal.OutOfMemory) ⊎ ((e ≡ Refusal.ShardFull) × IsFull W.opening W.limits state.old.shard pass.new.seen)) }
 {
-    let now = state.look(pass);
-    if state.is(target) && follows(state) && now == entries {
-        let taken = state.copied_changes(alloc, schema, taken)?;
-        state.follow(alloc, pass, taken)?;
-        Ok(true)
-    } else {
-        Ok(false)
-    }
+    let taken = state.copied_changes(alloc, schema, entry)?;
+    state.follow(alloc, pass, taken)
 }
 
-// Copies the rows, where the state is the target's, and has as many entries as when it was found that these are next.
-fn try_copy<W: World, J: Naming>(
+// Copies the rows that are next for the target.
+fn copy_rows<W: World, J: Naming>(
     state: &mut ShardState<W, J>,
     alloc: Global,
     pass: &mut Pass<ShardLaw<W>, J>,
-    target: &Shard,
-    entries: u64,
-    taken: Copied,
-) -> Result<bool, Refusal>
+    rows: Copied,
+) -> Result<(), Refusal>
+    requires following { mode W.opening state.old.seen state.old.shard.slot ≡ Mode.Following }
     requires legal { IsLegal (MayFollow W.opening) pass.old.seen }
-    requires next { AreNextRows W.opening pass.old.seen target.now entries taken }
-    ensures copied { IfOk result (λ done. done ≡ true → HasStepped W.opening target.now (Event.Copy taken) pass.old pass.new) }
-    ensures looks { IfOk result (λ done. ((done ≡ true) × HasLookedAt (target.now.slot ∷ target.now.slot ∷ []) pass.old pass.new)
-        ⊎ ((done ≡ false) × ((found : ℕ) × HasLookedAt (found ∷ []) pass.old pass.new))) }
-    ensures within { IfOk result (λ done. done ≡ true → row_count (held W.opening pass.new.seen target.now) ≤ W.limits.rows) }
-    ensures refused { OnErr result (IsCutShort (target.now.slot ∷ target.now.slot ∷ []) pass.old pass.new) }
+    requires next { IsNextCopy W.opening pass.old.seen state.old rows }
+    ensures taken { OnOk result (HasTaken W.opening state.old.shard (Given.Rows rows) pass.old pass.new Step.Copied) }
+    ensures within { OnOk result (row_count (held W.opening pass.new.seen state.old.shard) ≤ W.limits.rows) }
+    ensures refused { OnErr result ((pass.new ≡ pass.old) ⊎ IsOneLook state.old.shard.slot pass.old pass.new) }
     ensures onward { IsOnward W.opening pass.old pass.new }
-    ensures err { IfErr result (λ e. (e ≡ Refusal.OutOfMemory) ⊎ ((e ≡ Refusal.ShardFull) × IsFull W.opening W.limits target.now pass.new.seen)) }
+    ensures err { IfErr result (λ e. (e ≡ Refusal.OutOfMemory) ⊎ ((e ≡ Refusal.ShardFull) × IsFull W.opening W.limits state.old.shard pass.new.seen)) }
 {
-    let now = state.look(pass);
-    if state.is(target) && follows(state) && now == entries {
-        state.copy(alloc, pass, taken)?;
-        Ok(true)
-    } else {
-        Ok(false)
-    }
+    state.copy(alloc, pass, rows)
 }
 
-// Takes over what the source had for the target, where the state is the target's; none where it has moved since.
+// Takes over what the source has for the target.
 fn take<W: World, J: Naming>(
     state: &mut ShardState<W, J>,
     alloc: Global,
     pass: &mut Pass<ShardLaw<W>, J>,
     schema: &VSchema,
-    target: &Shard,
-    entries: u64,
     given: Given,
-) -> Result<Option<Step>, Refusal>
+) -> Result<Step, Refusal>
     requires schema { schema.now ≡ W.opening.schema }
+    requires following { mode W.opening state.old.seen state.old.shard.slot ≡ Mode.Following }
+    requires mine { IsLegal (MayFollow W.opening) state.old.seen }
     requires legal { IsLegal (MayFollow W.opening) pass.old.seen }
-    requires given { IsTakeable W.opening pass.old.seen target.now entries given }
-    ensures taken { IfOk result (λ r. IfSome r (HasTaken W.opening target.now given pass.old pass.new)) }
-    ensures looks { IfOk result (λ r. MatchOption r ((found : ℕ) × HasLookedAt (found ∷ []) pass.old pass.new)
-        (λ step. HasLookedAt (looks_of target.now.slot step) pass.old pass.new)) }
-    ensures copied_within { IfOk result (λ r. r ≡ Some Step.Copied → row_count (held W.opening pass.new.seen target.now) ≤ W.limits.rows) }
-    ensures followed_within { IfOk result (λ r. r ≡ Some Step.Followed → SourcesApart W.opening pass.new.seen target.now → row_count (held W.opening pass.new.seen target.now) ≤ W.limits.rows) }
-    ensures refused { OnErr result (IsCutShort (target.now.slot ∷ target.now.slot ∷ []) pass.old pass.new) }
+    requires given { IsTakeable W.opening pass.old.seen state.old given }
+    ensures taken { IfOk result (HasTaken W.opening state.old.shard given pass.old pass.new) }
+    ensures copied_within { IfOk result (λ step. step ≡ Step.Copied → row_count (held W.opening pass.new.seen state.old.shard) ≤ W.limits.rows) }
+    ensures followed_within { IfOk result (λ step. step ≡ Step.Followed → SourcesApart W.opening pass.new.seen state.old.shard → row_count (held W.opening pass.new.seen state.old.shard) ≤ W.limits.rows) }
+    ensures refused { OnErr result ((pass.new ≡ pass.old) ⊎ IsOneLook state.old.shard.slot pass.old pass.new) }
     ensures onward { IsOnward W.opening pass.old pass.new }
-    ensures err { IfErr result (λ e. (e ≡ Refusal.OutOfMemory) ⊎ ((e ≡ Refusal.ShardFull) × IsFull W.opening W.limits target.now pass.new.seen)) }
+    ensures err { IfErr result (λ e. (e ≡ Refusal.OutOfMemory) ⊎ ((e ≡ Refusal.ShardFull) × IsFull W.opening W.limits state.old.shard pass.new.seen)) }
 {
-    let (done, step) = match given {
+    match given {
         Given::Entry(entry) => {
-            let done = try_follow(state, alloc, pass, schema, target, entries, &entry)?;
-            (done, Step::Followed)
+            follow_entry(state, alloc, pass, schema, &entry)?;
+            Ok(Step::Followed)
         }
         Given::Rows(rows) => {
-            let done = try_copy(state, alloc, pass, target, entries, rows)?;
-            (done, Step::Copied)
+            copy_rows(state, alloc, pass, rows)?;
+            Ok(Step::Copied)
         }
-        Given::Nothing => (true, Step::Level),
-    };
-    Ok(if done { Some(step) } else { None })
+        Given::Nothing => Ok(Step::Level),
+    }
 }
 
-// One round of a step; none where it has to begin again.
-fn round<W: World, J: Naming>(
+// One step of a target that follows, whose lock is held until its end, so that nothing comes to it meanwhile.
+fn come_forward<W: World, J: Naming>(
     rt: &impl Wait,
     alloc: Global,
     pass: &mut Pass<ShardLaw<W>, J>,
     schema: &VSchema,
     source: &Member<W, J>,
-    target: &Member<W, J>,
+    state: &mut ShardState<W, J>,
+) -> Result<Step, Refusal>
+    requires opens { IsOpening W.opening }
+    requires schema { schema.now ≡ W.opening.schema }
+    requires formed { IsTrue (is_vschema W.opening.schema) }
+    requires following { mode W.opening state.old.seen state.old.shard.slot ≡ Mode.Following }
+    requires of_source { Contains state.old.shard.sources source.now.which.slot }
+    requires legal { IsLegal (MayFollow W.opening) pass.old.seen }
+    ensures moved { IfOk result (HasMoved W.opening source.now.which state.old.shard pass.old pass.new) }
+    ensures once { IfOk result (IsOneStep source.now.which state.old.shard pass.old pass.new) }
+    ensures copied_within { IfOk result (λ step. step ≡ Step.Copied → row_count (held W.opening pass.new.seen state.old.shard) ≤ W.limits.rows) }
+    ensures followed_within { IfOk result (λ step. step ≡ Step.Followed → SourcesApart W.opening pass.new.seen state.old.shard → row_count (held W.opening pass.new.seen state.old.shard) ≤ W.limits.rows) }
+    ensures nothing { OnErr result (IsNoStep source.now.which state.old.shard pass.old pass.new) }
+    ensures onward { IsOnward W.opening pass.old pass.new }
+    ensures err { IfErr result (λ e. (e ≡ Refusal.OutOfMemory) ⊎ ((e ≡ Refusal.ShardFull) × IsFull W.opening W.limits state.old.shard pass.new.seen)) }
+{
+    let _ = state.look(pass);
+    let given = given_by(rt, alloc, pass, schema, source, state)?;
+    take(state, alloc, pass, schema, given)
+}
+
+// The same, where the state is the target's and it follows.
+fn try_step<W: World, J: Naming>(
+    rt: &impl Wait,
+    alloc: Global,
+    pass: &mut Pass<ShardLaw<W>, J>,
+    schema: &VSchema,
+    source: &Member<W, J>,
+    target: &Shard,
+    state: &mut ShardState<W, J>,
 ) -> Result<Option<Step>, Refusal>
     requires opens { IsOpening W.opening }
     requires schema { schema.now ≡ W.opening.schema }
     requires formed { IsTrue (is_vschema W.opening.schema) }
-    requires of_source { Contains target.now.which.sources source.now.which.slot }
+    requires of_source { Contains target.now.sources source.now.which.slot }
     requires legal { IsLegal (MayFollow W.opening) pass.old.seen }
-    ensures moved { IfOk result (λ r. IfSome r (HasMoved W.opening source.now.which target.now.which pass.old pass.new)) }
-    ensures looks { IfOk result (λ r. MatchOption r ((idle : List ℕ) × IdleTries target.now.which.slot source.now.which.slot idle × HasLookedAt idle pass.old pass.new)
-        (λ step. HasLookedAt (target.now.which.slot ∷ source.now.which.slot ∷ looks_of target.now.which.slot step) pass.old pass.new)) }
-    ensures copied_within { IfOk result (λ r. r ≡ Some Step.Copied → row_count (held W.opening pass.new.seen target.now.which) ≤ W.limits.rows) }
-    ensures followed_within { IfOk result (λ r. r ≡ Some Step.Followed → SourcesApart W.opening pass.new.seen target.now.which → row_count (held W.opening pass.new.seen target.now.which) ≤ W.limits.rows) }
-    ensures refused { OnErr result (IsCutShort (target.now.which.slot ∷ source.now.which.slot ∷ target.now.which.slot ∷ target.now.which.slot ∷ []) pass.old pass.new) }
+    ensures moved { IfOk result (λ r. IfSome r (HasMoved W.opening source.now.which target.now pass.old pass.new)) }
+    ensures once { IfOk result (λ r. MatchOption r (pass.new ≡ pass.old) (IsOneStep source.now.which target.now pass.old pass.new)) }
+    ensures copied_within { IfOk result (λ r. r ≡ Some Step.Copied → row_count (held W.opening pass.new.seen target.now) ≤ W.limits.rows) }
+    ensures followed_within { IfOk result (λ r. r ≡ Some Step.Followed → SourcesApart W.opening pass.new.seen target.now → row_count (held W.opening pass.new.seen target.now) ≤ W.limits.rows) }
+    ensures nothing { OnErr result (IsNoStep source.now.which target.now pass.old pass.new) }
     ensures onward { IsOnward W.opening pass.old pass.new }
-    ensures err { IfErr result (λ e. (e ≡ Refusal.OutOfMemory) ⊎ ((e ≡ Refusal.ShardFull) × IsFull W.opening W.limits target.now.which pass.new.seen)) }
+    ensures err { IfErr result (λ e. (e ≡ Refusal.OutOfMemory) ⊎ ((e ≡ Refusal.ShardFull) × IsFull W.opening W.limits target.now pass.new.seen)) }
 {
-    let slot = source.which.slot;
-    let come = try_progress(
-        &mut target.shard.lock(rt),
-        alloc,
-        pass,
-        schema,
-        &target.which,
-        slot,
-    )?;
-    let Some(come) = come else {
+    if !follows(state, target) {
         return Ok(None);
-    };
-    let Come { entries, progress } = come;
-    let place = &target.which.place;
-    let given = given_by(rt, alloc, pass, schema, source, place, &progress)?;
-    take(
-        &mut target.shard.lock(rt),
-        alloc,
-        pass,
-        schema,
-        &target.which,
-        entries,
-        given,
-    )
+    }
+    let done = come_forward(rt, alloc, pass, schema, source, state)?;
+    Ok(Some(done))
 }
 
 // Promise: A step of a target with one of its sources, or with the first of several that it isn't level with, appends exactly one entry, a
 // Copy behind all that the source had stored at a look of the step, or a Follow; or none, and then the target was level with what the
-// source had stored at a look. That it is no more than one is told by the looks of its pass, since each Copy, each Follow and each Freeze
-// comes right after a look of its own: a step has those of one entry, or of none. After a Copy the target has no more rows than it may,
-// and after a Follow too, if no two sources of it overlap
+// source had stored at a look. Its pass looks once at the target and once at the source, once more at the target right before the entry, and
+// nowhere else. Each Copy and each Follow makes a look at the target right before it, and takes what a look at the source showed, so there is no
+// second one. Without an entry nothing was appended after the last look. After a Copy the target has no more rows than it may, and after a
+// Follow too, if no two sources of it overlap
 // With: bring_forward_with
 // Clauses: moved, once, copied_within, followed_within, onward
 // Refuses: step_answers_level_at_once, copied_without_an_entry, followed_without_an_entry, copies_beyond_an_entry_that_is_left,
-// steps_until_level
+// steps_until_level, step_looks_at_the_source_alone_and_moves_again, next_source_is_tried_after_a_step, step_thaws_its_source
 // Promise: It is refused for want of memory, or where a Copy or a Follow that may come next passes a limit of the target (F24): it has 2^40
 // entries, it stores as many as it may, which counts for a Follow alone, or with the step it would have more rows than it may. The looks of
-// its pass are then those of tries that append nothing, and the first of a try with an entry; nothing was appended behind the last
+// its pass are then the first of those of a step with an entry, and nothing was appended after the last
 // With: bring_forward_with
 // Clauses: err, nothing
-// Refuses: step_moves_and_is_refused, second_step_is_refused, long_entry_is_refused
+// Refuses: step_moves_and_is_refused, second_step_is_refused, long_entry_is_refused, shard_contents::copy_is_full_one_step_too_late,
+// shard_contents::removed_rows_are_not_counted
 /// Brings a target forward with a source of it: it takes over the entry that is next, where one is left, else it copies the next rows, at
 /// most 100 of them, else it is level. At most one entry is appended. Refuses for want of memory, and what would pass a limit of the target;
 /// then nothing was appended.
@@ -392,7 +354,16 @@ pub fn bring_forward<W: World, J: Naming>(
     ensures err { IfErr result (λ e. (e ≡ Refusal.OutOfMemory) ⊎ ((e ≡ Refusal.ShardFull) × IsFull W.opening W.limits target.now.which pass.new.seen)) }
 {
     for _ in rt.forever() {
-        if let Some(step) = round(rt, alloc, pass, schema, source, target)? {
+        let tried = try_step(
+            rt,
+            alloc,
+            pass,
+            schema,
+            source,
+            &target.which,
+            &mut target.shard.lock(rt),
+        )?;
+        if let Some(step) = tried {
             return Ok(step);
         }
     }
