@@ -12,13 +12,14 @@ use crate::names::table_place;
 use crate::resolve::{place, resolve_filter, resolve_names};
 use crate::schema::{Table, VSchema};
 use crate::scope::Scope;
-use crate::twice::{has_twice, sets_twice};
+use crate::twice::sets_twice;
 use crate::write_checks::{
     StoredCheck, assignments_fail, has_wrong_count, leaves_out_column, rows_fail, sets_key,
     sets_unknown,
 };
 use sql_tree::{Assignment, Delete, Insert, Name, Update};
 use std::alloc::Global;
+use vschema_document::has_twice;
 use vt_value::{Items, Refusal, Row, Value, copy};
 
 fn all_places(alloc: Global, table: &Table) -> Result<Items<usize>, Refusal>

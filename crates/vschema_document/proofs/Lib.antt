@@ -2,4 +2,5 @@ pub mod Lists
 pub mod Sizes
 pub mod Formats
 pub mod Options
-pub mod Tables
+pub mod Repeats
+pub mod Named

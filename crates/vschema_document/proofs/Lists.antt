@@ -1,6 +1,5 @@
 -- Lists that are read element by element, and JSON arrays and objects beside the values that hold them.
-use Rattle.std.proofs.Common.{◌≡◌, ℕ, ◌+◌, ◌<◌, ◌||◌, length, drop, get_or, true, List, [], ◌∷◌, ◌++◌, map, Option, Some, None, option_map, Bool, String, Global, string_bytes, string_cmp, nat_cmp, is_eq, Less, bytes_eq, false, refl, sym, ap, ◌∙◌, append_assoc}
-use Rattle.std.proofs.lemmas.List.{drop_more}
+use Rattle.std.proofs.Common.{◌≡◌, ℕ, List, [], ◌∷◌, ◌++◌, map, Option, Some, None, option_map, Bool, String, Global, string_bytes, string_cmp, nat_cmp, is_eq, Less, bytes_eq, false, refl, sym, ap, ◌∙◌, append_assoc}
 use Rattle.std.proofs.lemmas.Map.Text.{is_eq-slice_cmp}
 use Rattle.std.specs.Cmp.Lexicographic.{slice_cmp}
 use Rattle.std.specs.List.{list_any, AllByRecursion}
@@ -64,22 +63,3 @@ all_seen reads (v ∷ vs) = ap (λ xs. reads (view v) ∷ xs) (all_seen reads vs
 
 pub array_seen : {B : Type 0} (reads : Data → Option B) (vs : List Value) (d : Data) → Some (items_view vs) ≡ as_array d → array_of reads d ≡ all_some (map (λ v. reads (view v)) vs)
 array_seen reads vs d e = rw (sym e) (ap all_some (all_seen reads vs))
-
-or_grouped : (a b c : Bool) → a || (b || c) ≡ (a || b) || c
-or_grouped true b c = refl
-or_grouped false b c = refl
-
--- a name among those of two lists
-pub any_name_append : {X : Type 0} (p : List ℕ → Bool) (name : X → List ℕ) (xs ys : List X) → list_any p (map name (xs ++ ys)) ≡ (list_any (λ x. p (name x)) xs || list_any p (map name ys))
-any_name_append p name [] ys = refl
-any_name_append p name (x ∷ xs) ys = rw (any_name_append p name xs ys) (or_grouped (p (name x)) (list_any (λ x. p (name x)) xs) (list_any p (map name ys)))
-
--- the element that a loop is at, and those behind it
-pub at_element : {X : Type 0} (all : List X) (i : ℕ) (x : X) → i < length all → x ≡ get_or all i x → drop i all ≡ x ∷ drop (i + 1) all
-at_element all i x less is = drop_more all i x less ∙ ap (λ y. y ∷ drop (i + 1) all) (sym is)
-
--- whether a name stands twice, from that element on
-pub twice_from : {X : Type 0} (name : X → List ℕ) (all : List X) (i : ℕ) (x : X) (b : Bool) → i < length all → x ≡ get_or all i x → b ≡ list_any (λ y. bytes_eq (name x) (name y)) (drop (i + 1) all)
-    → has_twice (map name (drop i all)) ≡ (b || has_twice (map name (drop (i + 1) all)))
-twice_from name all i x b less is e =
-    ap (λ xs. has_twice (map name xs)) (at_element all i x less is) ∙ rw (list_any_map (bytes_eq (name x)) name (drop (i + 1) all), sym e) refl

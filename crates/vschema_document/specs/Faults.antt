@@ -9,7 +9,7 @@ use Rattle.vschema_document.specs.declared.document.DeclaredKey.{DeclaredKey}
 use Rattle.vschema_document.specs.declared.document.DeclaredTable.{DeclaredTable}
 use Rattle.vschema_document.specs.declared.document.DeclaredKeyspace.{DeclaredKeyspace}
 use Rattle.vschema_document.specs.declared.fault.SchemaFault.{SchemaFault}
-use Rattle.vschema_document.specs.declared.fault.SchemaFault.TheVariants.{OutOfMemory, NotJson, IllFormed, UnknownVindex, MissingColumn, WrongKeyType, NullableKey, KeyWithoutVindex, NamedTwice, AboveLimit}
+use Rattle.vschema_document.specs.declared.fault.SchemaFault.TheVariants.{IllFormed, UnknownVindex, MissingColumn, WrongKeyType, NullableKey, KeyWithoutVindex, NamedTwice, AboveLimit}
 use Rattle.vschema_document.specs.Places.{place_from}
 use Rattle.vschema_document.specs.Twice.{has_twice}
 use Rattle.vschema_document.specs.ColumnTypes.{takes_type}

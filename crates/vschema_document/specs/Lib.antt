@@ -6,3 +6,4 @@ pub mod Refused
 pub mod FaultNumbers
 pub mod ColumnTypes
 pub mod Faults
+pub mod inner

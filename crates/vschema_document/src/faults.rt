@@ -1,15 +1,17 @@
-ghost use Rattle.std.specs.Prelude.{◌≡◌, ◌||◌, ◌++◌, not, map, find, filter, length, nat_lt, bytes_eq, is_none};
+ghost use Rattle.std.specs.Prelude.{◌≡◌, ◌||◌, ◌++◌, not, map, find, filter, length, nat_lt, bytes_eq, is_none, IfOk};
 ghost use Rattle.std.specs.List.{list_any};
 ghost use Rattle.vschema_document.specs.Twice.{has_twice};
 ghost use Rattle.vschema_document.specs.Faults.{keys, vindexes, lacks_column, is_nullable, vindex_of, mismatch, column_of, is_misplaced, table_has, is_out_of_place, keyspace_has, all_tables, whole_has, has, first_fault};
 
-use crate::column::Column;
 use crate::document::{DeclaredKey, DeclaredKeyspace, DeclaredTable, DeclaredVindex};
 use crate::fault::SchemaFault;
-use crate::lookups::{is_nullable, keys, lacks_column, mismatch, vindex_of, vindexes};
-use crate::names::{has_name, is_name};
+use crate::indexes::{KeyspaceIndex, TableIndex};
+use crate::lookups::{is_nullable, keys, lacks_column, mismatch, vindexes};
+use crate::name_places::NamePlaces;
+use crate::twice::{has_column_twice, has_twice, texts_of};
 use crate::whole::whole_has;
 use sql_tree::Name;
+use std::alloc::{AllocError, Global};
 use vt_value::Items;
 
 /// The most columns of a table.
@@ -36,105 +38,154 @@ fn is_misplaced(sharded: bool, found: &Option<Items<DeclaredKey>>) -> bool
     }
 }
 
-fn has_twice(names: &[Name]) -> bool
-    ensures { result ≡ has_twice names.now }
+fn is_table_ill_formed(
+    alloc: Global,
+    keyspace: &DeclaredKeyspace,
+    table: &DeclaredTable,
+) -> Result<bool, AllocError>
+    ensures { IfOk result (λ has. has ≡ table_has SchemaFault.IllFormed keyspace.now table.now) }
 {
-    for (i, name) in names.iter().enumerate() {
-        if has_name(&names[i + 1..], name) {
+    if table.columns.len() == 0 || table.primary_key.len() == 0 {
+        return Ok(true);
+    }
+    let twice = has_twice(alloc, table.primary_key.as_slice())?;
+    Ok(twice || is_misplaced(keyspace.sharded, &table.column_vindexes))
+}
+
+fn some_key_names_unknown_vindex<'d>(keyspace: &KeyspaceIndex<'d>, keys: &'d [DeclaredKey]) -> bool
+    ensures { result ≡ list_any (λ e. is_none (vindex_of keyspace.now e.vindex)) keys.now }
+{
+    for key in keys {
+        if keyspace.vindex_of(&key.vindex).is_none() {
             return true;
         }
     }
     false
 }
 
-fn is_table_ill_formed(keyspace: &DeclaredKeyspace, table: &DeclaredTable) -> bool
-    ensures { result ≡ table_has SchemaFault.IllFormed keyspace.now table.now }
-{
-    table.columns.len() == 0
-        || table.primary_key.len() == 0
-        || has_twice(table.primary_key.as_slice())
-        || is_misplaced(keyspace.sharded, &table.column_vindexes)
-}
-
-fn names_unknown_vindex(keyspace: &DeclaredKeyspace, table: &DeclaredTable) -> bool
-    ensures { result ≡ table_has SchemaFault.UnknownVindex keyspace.now table.now }
-{
-    keys(table)
-        .iter()
-        .any(|key| vindex_of(keyspace, &key.vindex).is_none())
-}
-
-fn some_name_lacks(table: &DeclaredTable, names: &[Name]) -> bool
+fn some_name_lacks<'t>(table: &TableIndex<'t>, names: &'t [Name]) -> bool
     ensures { result ≡ list_any (lacks_column table.now) names.now }
 {
-    names.iter().any(|name| lacks_column(table, name))
-}
-
-fn some_key_lacks(table: &DeclaredTable, keys: &[DeclaredKey]) -> bool
-    ensures { result ≡ list_any (λ e. lacks_column table.now e.column) keys.now }
-{
-    keys.iter().any(|key| lacks_column(table, &key.column))
-}
-
-fn has_wrong_type(keyspace: &DeclaredKeyspace, table: &DeclaredTable) -> bool
-    ensures { result ≡ table_has SchemaFault.WrongKeyType keyspace.now table.now }
-{
-    keys(table).iter().any(|key| mismatch(keyspace, table, key))
-}
-
-fn some_name_nullable(table: &DeclaredTable, names: &[Name]) -> bool
-    ensures { result ≡ list_any (is_nullable table.now) names.now }
-{
-    names.iter().any(|name| is_nullable(table, name))
-}
-
-fn some_key_nullable(table: &DeclaredTable, keys: &[DeclaredKey]) -> bool
-    ensures { result ≡ list_any (λ e. is_nullable table.now e.column) keys.now }
-{
-    keys.iter().any(|key| is_nullable(table, &key.column))
-}
-
-fn some_key_is_outside(names: &[Name], keys: &[DeclaredKey]) -> bool
-    ensures { result ≡ list_any (λ e. not (list_any (bytes_eq e.column) names.now)) keys.now }
-{
-    keys.iter().any(|key| !has_name(names, &key.column))
-}
-
-fn has_column(columns: &[Column], name: &Name) -> bool
-    ensures { result ≡ list_any (λ c. bytes_eq name.now c.name) columns.now }
-{
-    columns.iter().any(|column| is_name(name, &column.name))
-}
-
-#[tactic(auto, using(crate::proofs::Lists::list_any_map))]
-fn has_column_twice(columns: &[Column]) -> bool
-    ensures { result ≡ has_twice (map (λ c. c.name) columns.now) }
-{
-    for (i, column) in columns.iter().enumerate() {
-        if has_column(&columns[i + 1..], &column.name) {
+    for name in names {
+        if lacks_column(table, name) {
             return true;
         }
     }
     false
 }
 
-fn table_has(fault: SchemaFault, keyspace: &DeclaredKeyspace, table: &DeclaredTable) -> bool
-    ensures { result ≡ table_has fault keyspace.now table.now }
+fn some_key_lacks<'t>(table: &TableIndex<'t>, keys: &'t [DeclaredKey]) -> bool
+    ensures { result ≡ list_any (λ e. lacks_column table.now e.column) keys.now }
 {
-    let names = table.primary_key.as_slice();
-    let keys = keys(table);
-    match fault {
-        SchemaFault::IllFormed => is_table_ill_formed(keyspace, table),
-        SchemaFault::UnknownVindex => names_unknown_vindex(keyspace, table),
-        SchemaFault::MissingColumn => some_name_lacks(table, names) || some_key_lacks(table, keys),
-        SchemaFault::WrongKeyType => has_wrong_type(keyspace, table),
-        SchemaFault::NullableKey => {
-            some_name_nullable(table, names) || some_key_nullable(table, keys)
+    for key in keys {
+        if lacks_column(table, &key.column) {
+            return true;
         }
-        SchemaFault::KeyWithoutVindex => some_key_is_outside(names, keys),
-        SchemaFault::NamedTwice => has_column_twice(table.columns.as_slice()),
-        SchemaFault::AboveLimit => table.columns.len() > MAX_COLUMNS || keys.len() > 1,
-        SchemaFault::OutOfMemory | SchemaFault::NotJson => false,
+    }
+    false
+}
+
+fn misses_column(alloc: Global, table: &DeclaredTable) -> Result<bool, AllocError>
+    ensures { IfOk result (λ has. has ≡ (list_any (lacks_column table.now) table.now.primary_key || list_any (λ e. lacks_column table.now e.column) (keys table.now))) }
+{
+    let index = TableIndex::of(alloc, table)?;
+    Ok(some_name_lacks(&index, table.primary_key.as_slice()) || some_key_lacks(&index, keys(table)))
+}
+
+fn some_key_mismatches<'d>(
+    keyspace: &KeyspaceIndex<'d>,
+    table: &TableIndex<'d>,
+    keys: &'d [DeclaredKey],
+) -> bool
+    ensures { result ≡ list_any (λ e. mismatch (vindex_of keyspace.now e.vindex) (column_of table.now e.column)) keys.now }
+{
+    for key in keys {
+        if mismatch(keyspace, table, key) {
+            return true;
+        }
+    }
+    false
+}
+
+fn has_wrong_type<'d>(
+    alloc: Global,
+    keyspace: &KeyspaceIndex<'d>,
+    table: &'d DeclaredTable,
+) -> Result<bool, AllocError>
+    ensures { IfOk result (λ has. has ≡ table_has SchemaFault.WrongKeyType keyspace.now table.now) }
+{
+    let index = TableIndex::of(alloc, table)?;
+    Ok(some_key_mismatches(keyspace, &index, keys(table)))
+}
+
+fn some_name_nullable<'t>(table: &TableIndex<'t>, names: &'t [Name]) -> bool
+    ensures { result ≡ list_any (is_nullable table.now) names.now }
+{
+    for name in names {
+        if is_nullable(table, name) {
+            return true;
+        }
+    }
+    false
+}
+
+fn some_key_nullable<'t>(table: &TableIndex<'t>, keys: &'t [DeclaredKey]) -> bool
+    ensures { result ≡ list_any (λ e. is_nullable table.now e.column) keys.now }
+{
+    for key in keys {
+        if is_nullable(table, &key.column) {
+            return true;
+        }
+    }
+    false
+}
+
+fn has_nullable_key(alloc: Global, table: &DeclaredTable) -> Result<bool, AllocError>
+    ensures { IfOk result (λ has. has ≡ (list_any (is_nullable table.now) table.now.primary_key || list_any (λ e. is_nullable table.now e.column) (keys table.now))) }
+{
+    let index = TableIndex::of(alloc, table)?;
+    Ok(
+        some_name_nullable(&index, table.primary_key.as_slice())
+            || some_key_nullable(&index, keys(table)),
+    )
+}
+
+fn some_key_is_outside<'t>(names: &NamePlaces<'t>, keys: &'t [DeclaredKey]) -> bool
+    ensures { result ≡ list_any (λ e. not (list_any (bytes_eq e.column) names.now)) keys.now }
+{
+    for key in keys {
+        if !names.has(&key.column) {
+            return true;
+        }
+    }
+    false
+}
+
+fn has_key_outside(alloc: Global, table: &DeclaredTable) -> Result<bool, AllocError>
+    ensures { IfOk result (λ has. has ≡ list_any (λ e. not (list_any (bytes_eq e.column) table.now.primary_key)) (keys table.now)) }
+{
+    let names = NamePlaces::of(alloc, texts_of(alloc, table.primary_key.as_slice())?)?;
+    Ok(some_key_is_outside(&names, keys(table)))
+}
+
+fn table_has<'d>(
+    alloc: Global,
+    fault: SchemaFault,
+    keyspace: &KeyspaceIndex<'d>,
+    table: &'d DeclaredTable,
+) -> Result<bool, AllocError>
+    ensures { IfOk result (λ has. has ≡ table_has fault keyspace.now table.now) }
+{
+    match fault {
+        SchemaFault::IllFormed => is_table_ill_formed(alloc, keyspace.keyspace(), table),
+        SchemaFault::UnknownVindex => Ok(some_key_names_unknown_vindex(keyspace, keys(table))),
+        SchemaFault::MissingColumn => misses_column(alloc, table),
+        SchemaFault::WrongKeyType => has_wrong_type(alloc, keyspace, table),
+        SchemaFault::NullableKey => has_nullable_key(alloc, table),
+        SchemaFault::KeyWithoutVindex => has_key_outside(alloc, table),
+        SchemaFault::NamedTwice => has_column_twice(alloc, table.columns.as_slice()),
+        SchemaFault::AboveLimit => Ok(table.columns.len() > MAX_COLUMNS || keys(table).len() > 1),
+        SchemaFault::OutOfMemory | SchemaFault::NotJson => Ok(false),
     }
 }
 
@@ -165,43 +216,86 @@ fn keyspace_has(fault: SchemaFault, keyspace: &DeclaredKeyspace) -> bool
     }
 }
 
-fn some_table_has(fault: SchemaFault, keyspace: &DeclaredKeyspace) -> bool
-    ensures { result ≡ list_any (table_has fault keyspace.now) keyspace.now.tables }
+fn some_table_has<'d>(
+    alloc: Global,
+    fault: SchemaFault,
+    keyspace: &KeyspaceIndex<'d>,
+    tables: &'d [DeclaredTable],
+) -> Result<bool, AllocError>
+    ensures { IfOk result (λ has. has ≡ list_any (table_has fault keyspace.now) tables.now) }
 {
-    keyspace
-        .tables
-        .as_slice()
-        .iter()
-        .any(|table| table_has(fault, keyspace, table))
-}
-
-fn some_keyspace_has(fault: SchemaFault, keyspaces: &[DeclaredKeyspace]) -> bool
-    ensures { result ≡ list_any (λ k. keyspace_has fault k || list_any (table_has fault k) k.tables) keyspaces.now }
-{
-    keyspaces.iter().any(|keyspace| keyspace_has(fault, keyspace)
-        || some_table_has(fault, keyspace))
-}
-
-fn has(fault: SchemaFault, keyspaces: &[DeclaredKeyspace]) -> bool
-    ensures { result ≡ has fault keyspaces.now }
-{
-    whole_has(fault, keyspaces) || some_keyspace_has(fault, keyspaces)
-}
-
-fn first_of(faults: &[SchemaFault], keyspaces: &[DeclaredKeyspace]) -> Option<SchemaFault>
-    ensures { result ≡ find (λ fault. has fault keyspaces.now) faults.now }
-{
-    for fault in faults {
-        if has(*fault, keyspaces) {
-            return Some(*fault);
+    for table in tables {
+        if table_has(alloc, fault, keyspace, table)? {
+            return Ok(true);
         }
     }
-    None
+    Ok(false)
 }
 
-/// The fault with the least number, if there is one.
-pub fn first_fault(keyspaces: &[DeclaredKeyspace]) -> Option<SchemaFault>
-    ensures { result ≡ first_fault keyspaces.now }
+// Whether the fault lies in a keyspace or one of its tables.
+fn is_within(
+    alloc: Global,
+    fault: SchemaFault,
+    keyspace: &DeclaredKeyspace,
+) -> Result<bool, AllocError>
+    ensures { IfOk result (λ has. has ≡ (keyspace_has fault keyspace.now || list_any (table_has fault keyspace.now) keyspace.now.tables)) }
 {
-    first_of(&FAULTS, keyspaces)
+    if keyspace_has(fault, keyspace) {
+        return Ok(true);
+    }
+    let index = KeyspaceIndex::of(alloc, keyspace)?;
+    some_table_has(alloc, fault, &index, keyspace.tables.as_slice())
+}
+
+fn some_keyspace_has(
+    alloc: Global,
+    fault: SchemaFault,
+    keyspaces: &[DeclaredKeyspace],
+) -> Result<bool, AllocError>
+    ensures { IfOk result (λ has. has ≡ list_any (λ k. keyspace_has fault k || list_any (table_has fault k) k.tables) keyspaces.now) }
+{
+    for keyspace in keyspaces {
+        if is_within(alloc, fault, keyspace)? {
+            return Ok(true);
+        }
+    }
+    Ok(false)
+}
+
+fn has(
+    alloc: Global,
+    fault: SchemaFault,
+    keyspaces: &[DeclaredKeyspace],
+) -> Result<bool, AllocError>
+    ensures { IfOk result (λ found. found ≡ has fault keyspaces.now) }
+{
+    if whole_has(alloc, fault, keyspaces)? {
+        return Ok(true);
+    }
+    some_keyspace_has(alloc, fault, keyspaces)
+}
+
+fn first_of(
+    alloc: Global,
+    faults: &[SchemaFault],
+    keyspaces: &[DeclaredKeyspace],
+) -> Result<Option<SchemaFault>, AllocError>
+    ensures { IfOk result (λ first. first ≡ find (λ fault. has fault keyspaces.now) faults.now) }
+{
+    for fault in faults {
+        if has(alloc, *fault, keyspaces)? {
+            return Ok(Some(*fault));
+        }
+    }
+    Ok(None)
+}
+
+/// The fault with the least number, if there is one, in time n log n, whatever a text declares. Refuses only for want of memory.
+pub fn first_fault(
+    alloc: Global,
+    keyspaces: &[DeclaredKeyspace],
+) -> Result<Option<SchemaFault>, AllocError>
+    ensures { IfOk result (λ fault. fault ≡ first_fault keyspaces.now) }
+{
+    first_of(alloc, &FAULTS, keyspaces)
 }

@@ -5,6 +5,7 @@ ghost use Rattle.vschema_document.specs.ColumnTypes.{takes_type};
 
 use crate::column::{Column, ColumnType};
 use crate::document::{DeclaredKey, DeclaredKeyspace, DeclaredTable, DeclaredVindex};
+use crate::indexes::{KeyspaceIndex, TableIndex};
 use crate::names::{is_name, place_among};
 use sql_tree::Name;
 use vindex::AnyVindex;
@@ -36,10 +37,11 @@ pub fn place_of(table: &DeclaredTable, name: &Name) -> Option<usize>
     place_among(table.columns.as_slice(), name)
 }
 
-pub fn column_of<'t>(table: &'t DeclaredTable, name: &Name) -> Option<&'t Column>
+/// The first column with this name.
+pub fn column_of<'t>(table: &TableIndex<'t>, name: &'t Name) -> Option<&'t Column>
     ensures { option_copied result ≡ column_of table.now name.now }
 {
-    table.columns.get(place_of(table, name)?)
+    table.table().columns.get(table.place_of(name)?)
 }
 
 /// The vindex that a keyspace declares under this name, where its type is known.
@@ -56,14 +58,14 @@ pub fn vindex_of(keyspace: &DeclaredKeyspace, name: &Name) -> Option<AnyVindex>
 }
 
 /// Whether the table has no column of this name.
-pub fn lacks_column(table: &DeclaredTable, name: &Name) -> bool
+pub fn lacks_column<'t>(table: &TableIndex<'t>, name: &'t Name) -> bool
     ensures { result ≡ lacks_column table.now name.now }
 {
-    place_of(table, name).is_none()
+    table.place_of(name).is_none()
 }
 
 /// Whether the column with this name may be NULL.
-pub fn is_nullable(table: &DeclaredTable, name: &Name) -> bool
+pub fn is_nullable<'t>(table: &TableIndex<'t>, name: &'t Name) -> bool
     ensures { result ≡ is_nullable table.now name.now }
 {
     match column_of(table, name) {
@@ -82,11 +84,15 @@ fn takes_type(vindex: AnyVindex, kind: ColumnType) -> bool
 }
 
 /// Whether the vindex of a column can't take its type.
-pub fn mismatch(keyspace: &DeclaredKeyspace, table: &DeclaredTable, key: &DeclaredKey) -> bool
+pub fn mismatch<'d>(
+    keyspace: &KeyspaceIndex<'d>,
+    table: &TableIndex<'d>,
+    key: &'d DeclaredKey,
+) -> bool
     ensures { result ≡ mismatch (vindex_of keyspace.now key.now.vindex) (column_of table.now key.now.column) }
 {
     match (
-        vindex_of(keyspace, &key.vindex),
+        keyspace.vindex_of(&key.vindex),
         column_of(table, &key.column),
     ) {
         (Some(vindex), Some(column)) => !takes_type(vindex, column.kind),

@@ -1,6 +1,5 @@
 //! Names, which are compared byte by byte.
 ghost use Rattle.std.specs.Prelude.{◌≡◌, bytes_eq};
-ghost use Rattle.std.specs.List.{list_any};
 ghost use Rattle.vschema_document.specs.Places.{place_from};
 
 use crate::column::Column;
@@ -11,13 +10,6 @@ pub fn is_name(name: &Name, wanted: &Name) -> bool
     ensures { result ≡ bytes_eq name.now wanted.now }
 {
     name.as_slice() == wanted.as_slice()
-}
-
-/// Whether the name is one of these.
-pub fn has_name(names: &[Name], name: &Name) -> bool
-    ensures { result ≡ list_any (bytes_eq name.now) names.now }
-{
-    names.iter().any(|other| is_name(name, other))
 }
 
 /// The place of the first column with this name.

@@ -11,6 +11,6 @@ use Rattle.vschema.proofs.schema.VSchema.read.Goals as goal
 pub meant-requires-clause-formed : goal.meant-requires-clause-formed
 meant-requires-clause-formed c =
     let ks = c.in_ok-declared.declared in
-    let none : first_fault ks ≡ None = ap first_fault (sym c.as_slice.ensures) ∙ sym c.first_fault.ensures ∙ c.in-None.is in
+    let none : first_fault ks ≡ None = ap first_fault (sym c.as_slice.ensures) ∙ sym c.in_ok-fault.ensures ∙ c.in-None.is in
     let lawful = meant_is_formed ks (document_good (view c.in_ok-value.value) ks c.in_ok-declared.ensures.ok) c.in_ok-declared.ensures.distinct none in
     subst (λ ks. IsTrue (is_formed (meant ks).keyspaces (meant ks).tables)) (sym c.as_slice-in-None.ensures) lawful
