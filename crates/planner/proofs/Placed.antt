@@ -144,6 +144,9 @@ stored_key BinaryMd5 column Null e = refl
 stored_key BinaryMd5 column (Int n) e = refl
 stored_key BinaryMd5 column (Bytes t) e = refl
 
+pub id_none : (t : Table) (row : Row) → t.vindex ≡ None → row_id t row ≡ []
+id_none t row e = rw e refl
+
 id-row : (t : Table) (row : Row) (v : ColumnVindex) → t.vindex ≡ Some v → row_id t row ≡ keyspace_id v.vindex (value_at row v.column)
 id-row t row v e = rw e refl
 
@@ -172,7 +175,7 @@ AreKeysHome t shard row keys = IsKeyHome t shard row keys.first × IsSecondHome 
 
 -- what is known of each row that a query is over on a shard
 abbrev pub IsHome : Table → Option Keys → Shard → Row → Type 0
-IsHome t None shard row = Unit {0}
+IsHome t None shard row = has_id shard.0 [] ≡ true
 IsHome t (Some keys) shard row = AreKeysHome t shard row keys
 
 same_kind : (a b : ColumnType) → Some a ≡ Some b → a ≡ b
@@ -218,7 +221,7 @@ row_home : (t : Table) (shard : Shard) (row : Row) → IsStored t shard row → 
 row_home t shard row stored = by t.vindex refl
   where
     by : (vindex : Option ColumnVindex) → t.vindex ≡ vindex → IsHome t (option_map (λ v. keys_on t v None) vindex) shard row
-    by None is = tt
+    by None is = subst (λ id. has_id shard.0 id ≡ true) (id_none t row is) stored.lies
     by (Some v) is = (vindex_home t shard row v is stored, tt)
 
 pub rows_are_home : (t : Table) (shard : Shard) (rows : List Row) → AllByRecursion (IsStored t shard) rows → AllByRecursion (IsHome t (keys_of t None) shard) rows
@@ -246,9 +249,6 @@ rows_home schema n shard is =
     rows_are_home (table_at schema n) shard (rows_of shard.1 n) (rows_stored schema (table_at schema n).keyspace n shard is.placed is.storable.0)
 
 -- ---- pairs
-
-id_none : (t : Table) (row : Row) → t.vindex ≡ None → row_id t row ≡ []
-id_none t row e = rw e refl
 
 -- a join of two tables
 module _ (t u : Table) (j : Join) (second : ℕ) (first : j.first < j.width) (place : j.second ≡ j.width + second) where
@@ -280,7 +280,7 @@ module _ (t u : Table) (j : Join) (second : ℕ) (first : j.first < j.width) (pl
     where
       by : (x y : Option ColumnVindex) → t.vindex ≡ x → u.vindex ≡ y → HaveOneId j.first second x y
           → IsHome t (option_map (λ v. keys_on t v (Some j)) x) shard (paired j a b)
-      by None None p q h = tt
+      by None None p q h = subst (λ id. has_id shard.0 id ≡ true) (id_none t a p) here.lies
       by None (Some w) p q h = absurd h
       by (Some v) None p q h = absurd h
       by (Some v) (Some w) p q h =

@@ -102,7 +102,7 @@ module _ (t : Table) (shard : Shard) (row : Row) (keys : Keys) (home : AreKeysHo
 -- a shard with a row that is kept is taken
 taken : (t : Table) (keys : Option Keys) (shard : Shard) (row : Row) → IsHome t keys shard row → (filter' : Option (Condition ℕ)) → is_kept filter' row ≡ true
     → takes t (route_through keys filter') shard.0 ≡ true
-taken t None shard row home filter' e = refl
+taken t None shard row home filter' e = home
 taken t (Some keys) shard row home filter' e = by_filter t shard row keys home filter' e
 
 none_kept : (kept taken : Bool) → (kept ≡ true → taken ≡ true) → taken ≡ false → kept ≡ false

@@ -162,9 +162,9 @@ id_by (Some v) x = if is_key v.vindex x then keyspace_id v.vindex x else []
 abbrev pub id_of : Table → Value → List ℕ
 id_of t x = id_by t.vindex x
 
--- whether the route takes the shard of a range
+-- Whether the route takes the shard of a range. All rows of an unsharded table have the empty keyspace id, which one range of a partition holds.
 abbrev pub takes : Table → Route → KeyRange → Bool
-takes t route.Unsharded range = true
+takes t route.Unsharded range = has_id range []
 takes t route.None range = false
 takes t (route.EqualUnique v) range = has_id range (id_of t v)
 takes t (route.In values) range = list_any (λ v. has_id range (id_of t v)) values

@@ -53,8 +53,9 @@ pub fn takes(table: &Table, route: &Route, range: &KeyRange) -> bool
     ensures { result ≡ takes table.now route.now range.now }
 {
     match route {
-        Route::Unsharded | Route::Scatter => true,
+        Route::Unsharded => range.contains(&[]),
         Route::None => false,
+        Route::Scatter => true,
         Route::EqualUnique(value) => has_value(table, range, value),
         Route::In(values) => has_one_of(table, range, values.as_slice()),
     }
