@@ -44,12 +44,16 @@ use Rattle.route_engine.proofs.WholeWrites.{whole_changes}
 pub stands_met : (o : Opening) (p q : PassView Entry) (v : Option OpenView) (t : Option Transaction) → IsPrefix p.seen q.seen → q.session ≡ p.session
     → ((n : ℕ) → p.session ≡ Some n → filter (by_session commit_of n) q.seen ≡ filter (by_session commit_of n) p.seen) → Stands o p v t → Stands o q v t
 stands_met o p q _ _ more same own stands.closed = stands.closed
-stands_met o p q _ _ more same own (stands.unbound {t} legal all) = stands.unbound legal all
+stands_met o p q _ _ more same own (stands.unbound {t} legal all none) = stands.unbound legal all none
 stands_met o p q _ _ more same own (stands.bound {v} {t} is) = stands.bound (record {
   shard = is.shard;
   stands = is.stands;
   serves = is.serves;
+  seats = is.seats;
   bound = is.bound;
+  partition = is.partition;
+  seated = is.seated;
+  kept = is.kept;
   uses = is.uses;
   pending = is.pending;
   told = is.told;

@@ -1,6 +1,7 @@
 -- What the engine's parts do in an open transaction, from what they tell of its shard.
 use Rattle.std.proofs.Common.{◌≡◌, ◌⊎◌, inl, inr, ℕ, ◌≤◌, true, List, [], ◌∷◌, length, Option, Some, None, Result, Ok, Err, refl, sym, ap, subst, ◌∙◌}
 use Rattle.std.specs.Prelude.{IsSome, IfOk, IfErr, OnOk}
+use Rattle.std.specs.List.{AllByRecursion}
 use Rattle.vt_value.specs.declared.refusal.Refusal.{Refusal}
 use Rattle.vt_value.specs.declared.refusal.Refusal.TheVariants.{OutOfMemory, SeveralShards, NotSupported}
 use Rattle.vt_value.specs.Values.{Row}
@@ -18,7 +19,7 @@ use Rattle.planner.specs.declared.routes.Route.{Route}
 use Rattle.planner.specs.Routes.{table_at, route_of, write_route}
 use Rattle.journal.specs.Runs.{IsLegal, NumbersBelow}
 use Rattle.journal.specs.Views.{PassView}
-use Rattle.serving.specs.Partitions.{Seat}
+use Rattle.serving.specs.Partitions.{Seat, IsPartition, AreOf}
 use Rattle.shard_run.specs.declared.Shard.{Shard}
 use Rattle.shard_run.specs.declared.Entry.{Entry}
 use Rattle.shard_run.specs.Runs.{Opening}
@@ -30,12 +31,12 @@ use Rattle.shard.proofs.LooksIn.{Of, session_of}
 use Rattle.shard_calls.specs.declared.reply.Answer.TheVariants.{Rows, Count}
 use Rattle.shard_calls.specs.declared.reply.Reply.{Reply}
 use Rattle.shard_calls.specs.declared.reply.ShardRead.{ShardRead}
-use Rattle.shard_calls.specs.Answers.{needed}
+use Rattle.shard_calls.specs.Answers.{needed, HasGone, WasFound}
 use Rattle.shard_calls.specs.Transactions as t
 use Rattle.shard_calls.specs.Transactions.{Transaction, Standing, GivesIn, IsRefusedIn}
 use Rattle.shard_calls.specs.Pendings as stands
 use Rattle.shard_calls.specs.Pendings.{BoundView, OpenView, Stands, IsOf, bound_of}
-use Rattle.shard_calls.specs.inner.Within.{GoesOnIn, IsRefusedStep, IsSeatOf, NeedsNoSeat, NeedsSeveral, NeedsOther, HasReadAt, IsNotReadAt, HasWrittenAt, IsNotWrittenAt, HasCommittedAt, IsNotCommittedAt}
+use Rattle.shard_calls.specs.inner.Within.{GoesOnIn, IsRefusedStep, IsSeatOf, NeedsNoSeat, NeedsOther, HasReadAt, IsNotReadAt, HasWrittenAt, IsNotWrittenAt, HasCommittedAt, IsNotCommittedAt}
 use Rattle.route_engine.proofs.Anywhere.{reads_nowhere, writes_nowhere, names_anywhere}
 use Rattle.shard_calls.proofs.Gathers.{stays}
 use Rattle.route_engine.proofs.Stepping as s
@@ -47,7 +48,7 @@ always (Err e) h = tt
 
 -- some transaction stands for what the program keeps
 pub open_one : (o : Opening) (p : PassView Entry) (v : OpenView) → IsOf o (Some v) p → (tr : Transaction) × Stands o p (Some v) (Some tr)
-open_one o p v (_, stands.unbound {t = tr} l all) = (tr, stands.unbound l all)
+open_one o p v (_, stands.unbound {t = tr} l all none) = (tr, stands.unbound l all none)
 open_one o p v (_, stands.bound {t = tr} is) = (tr, stands.bound is)
 
 module _ (o : Opening) (opens : IsOpening o) (formed : is_vschema o.schema ≡ true) (limits : Limits) (p : PassView Entry)
@@ -60,13 +61,16 @@ module _ (o : Opening) (opens : IsOpening o) (formed : is_vschema o.schema ≡ t
   below = above mine.session mine.is
 
   -- what the shard's calls ask
-  pub tied_to : IsOf o (Some v) p → (b : BoundView) → Fits v b → (u : Shard) → bound_of u ≡ b → IsPendingOf o u v.pending p
+  pub tied_to : IsOf o (Some v) p → (b : BoundView) → Fits v b → (u : Shard) → bound_of u b.seats ≡ b → IsPendingOf o u v.pending p
   tied_to of b fits u same =
       let tr = open_one o p v of in s.tied o opens formed limits p legal mine.session mine.is below v tr.0 tr.1 b fits u same
 
   -- a growth is refused
   pub without_memory : (typed : Typed) → IsRefusedStep o limits p v typed OutOfMemory p
   without_memory typed = record { from = λ tr st. t.no_memory ([], stays o p legal) }
+
+  pub without_memory_after : (typed : Typed) (now : PassView Entry) → HasGone o p now → IsRefusedStep o limits p v typed OutOfMemory now
+  without_memory_after typed now gone = record { from = λ tr st. t.no_memory gone }
 
   -- a query
   module _ (q : Query) (there : SourcesThere (length o.schema.tables) q) (joins : JoinsInPlace o.schema q) (table : Table) (table_is : table ≡ table_at o.schema q.table) (route : Route)
@@ -83,9 +87,8 @@ module _ (o : Opening) (opens : IsOpening o) (formed : is_vschema o.schema ≡ t
     seat_is : (b : BoundView) → IsSeatOf table route b → IsSeatOf (table_at o.schema q.table) (route_of (table_at o.schema q.table) q.join q.filter) b
     seat_is b is = record {
       keyspace = is.keyspace ∙ ap (λ (x : Table). x.keyspace) table_is;
-      seats = is.seats;
       partition = is.partition;
-      only = sym (needed_is is.seats) ∙ is.only;
+      only = sym (needed_is b.seats) ∙ is.only;
     }
 
     pub read_goes : (b : BoundView) → Fits v b → IsSeatOf table route b → (rows : List Row) (reads : List ShardRead) (now : PassView Entry) (pending : PendingView)
@@ -115,22 +118,27 @@ module _ (o : Opening) (opens : IsOpening o) (formed : is_vschema o.schema ≡ t
     pub read_elsewhere : (b : BoundView) → v.bound ≡ Some b → NeedsOther table route b → IsRefusedStep o limits p v (typed.Select q) SeveralShards p
     read_elsewhere b at fault = record {
       from = λ tr st. s.other_shard o opens formed limits p legal mine.session mine.is below v tr st b at (typed.Select q) (table_at o.schema q.table).keyspace refl fault.seats
-          fault.partition (elsewhere fault.other);
+          fault.partition (λ here. fault.kept (here ∙ ap (λ (x : Table). x.keyspace) (sym table_is))) (λ none. fault.some (needed_is fault.seats ∙ none))
+          (λ here only. fault.other (here ∙ ap (λ (x : Table). x.keyspace) (sym table_is)) (needed_is fault.seats ∙ only));
     }
-      where
-        elsewhere : ((2 ≤ length (needed table route fault.seats)) ⊎ ((seat : Seat) × (needed table route fault.seats ≡ seat ∷ []) × (b ≡ record { keyspace = table.keyspace; seat = seat } → ⊥)))
-            → (2 ≤ length (t.needed_for o q fault.seats)) ⊎ ((seat : Seat) × (t.needed_for o q fault.seats ≡ seat ∷ []) × (b ≡ record { keyspace = (table_at o.schema q.table).keyspace; seat = seat } → ⊥))
-        elsewhere (inl more) = inl (subst (λ (l : List Seat). 2 ≤ length l) (needed_is fault.seats) more)
-        elsewhere (inr (seat, only, differs)) =
-            inr (seat, sym (needed_is fault.seats) ∙ only, λ same. differs (same ∙ ap (λ (x : Table). s.view_of x.keyspace seat) (sym table_is)))
 
-    pub read_of_several : NeedsSeveral table route → IsRefusedStep o limits p v (typed.Select q) SeveralShards p
-    read_of_several (seats, partition, more) =
-        record { from = λ tr st. t.several seats partition (subst (λ (l : List Seat). 2 ≤ length l) (needed_is seats) more) }
+    pub read_of_several : v.bound ≡ None → (now : PassView Entry) (seats : List Seat) → IsPartition seats → AreOf table.keyspace seats
+        → AllByRecursion (WasFound o p.seen now.seen) seats → HasGone o p now → 2 ≤ length (needed table route seats)
+        → IsRefusedStep o limits p v (typed.Select q) SeveralShards now
+    read_of_several unbound now seats partition home found gone more = record {
+      from = λ tr st.
+          t.several (table_at o.schema q.table).keyspace seats (s.none_used_by o p v tr st unbound) refl
+          (record { partition = partition; home = subst (λ (x : Table). AreOf x.keyspace seats) table_is home; found = found })
+          (subst (λ (l : List Seat). 2 ≤ length l) (needed_is seats) more) gone;
+    }
 
-    pub read_not_bound : (e : Refusal) → ((e ≡ OutOfMemory) ⊎ ((e ≡ SeveralShards) × NeedsSeveral table route)) → IsRefusedStep o limits p v (typed.Select q) e p
-    read_not_bound e (inl is) = subst (λ (x : Refusal). IsRefusedStep o limits p v (typed.Select q) x p) (sym is) (without_memory (typed.Select q))
-    read_not_bound e (inr (is, several)) = subst (λ (x : Refusal). IsRefusedStep o limits p v (typed.Select q) x p) (sym is) (read_of_several several)
+    pub read_not_bound : v.bound ≡ None → (now : PassView Entry) (seats : List Seat) → IsPartition seats → AreOf table.keyspace seats
+        → AllByRecursion (WasFound o p.seen now.seen) seats → HasGone o p now → (e : Refusal)
+        → ((e ≡ OutOfMemory) ⊎ ((e ≡ SeveralShards) × (2 ≤ length (needed table route seats)))) → IsRefusedStep o limits p v (typed.Select q) e now
+    read_not_bound unbound now seats partition home found gone e (inl is_e) =
+        subst (λ (x : Refusal). IsRefusedStep o limits p v (typed.Select q) x now) (sym is_e) (without_memory_after (typed.Select q) now gone)
+    read_not_bound unbound now seats partition home found gone e (inr (is_e, more)) =
+        subst (λ (x : Refusal). IsRefusedStep o limits p v (typed.Select q) x now) (sym is_e) (read_of_several unbound now seats partition home found gone more)
 
     -- of what a call gave
     pub all_read : (b : BoundView) → Fits v b → IsSeatOf table route b → (now : PassView Entry) (after : Option BoundView) (pending : PendingView)
@@ -172,9 +180,8 @@ module _ (o : Opening) (opens : IsOpening o) (formed : is_vschema o.schema ≡ t
     seat_by : (b : BoundView) → IsSeatOf table route b → IsSeatOf (table_at o.schema (written_table wr)) (write_route o.schema wr) b
     seat_by b of = record {
       keyspace = of.keyspace ∙ ap (λ (x : Table). x.keyspace) table_is;
-      seats = of.seats;
       partition = of.partition;
-      only = sym (needed_by_is of.seats) ∙ of.only;
+      only = sym (needed_by_is b.seats) ∙ of.only;
     }
 
     pub write_goes : (b : BoundView) → Fits v b → IsSeatOf table route b → (count : ℕ) (now : PassView Entry) (pending : PendingView)
@@ -205,23 +212,28 @@ module _ (o : Opening) (opens : IsOpening o) (formed : is_vschema o.schema ≡ t
 
     pub write_elsewhere : (b : BoundView) → v.bound ≡ Some b → NeedsOther table route b → IsRefusedStep o limits p v (typed.Write wr) SeveralShards p
     write_elsewhere b at fault = record {
-      from = λ tr st. s.other_shard o opens formed limits p legal mine.session mine.is below v tr st b at (typed.Write wr)
-          (table_at o.schema (written_table wr)).keyspace refl fault.seats fault.partition (elsewhere fault.other);
+      from = λ tr st. s.other_shard o opens formed limits p legal mine.session mine.is below v tr st b at (typed.Write wr) (table_at o.schema (written_table wr)).keyspace refl fault.seats
+          fault.partition (λ here. fault.kept (here ∙ ap (λ (x : Table). x.keyspace) (sym table_is))) (λ none. fault.some (needed_by_is fault.seats ∙ none))
+          (λ here only. fault.other (here ∙ ap (λ (x : Table). x.keyspace) (sym table_is)) (needed_by_is fault.seats ∙ only));
     }
-      where
-        elsewhere : ((2 ≤ length (needed table route fault.seats)) ⊎ ((seat : Seat) × (needed table route fault.seats ≡ seat ∷ []) × (b ≡ record { keyspace = table.keyspace; seat = seat } → ⊥)))
-            → (2 ≤ length (Rattle.shard_calls.specs.Answers.needed_by o wr fault.seats)) ⊎ ((seat : Seat) × (Rattle.shard_calls.specs.Answers.needed_by o wr fault.seats ≡ seat ∷ []) × (b ≡ record { keyspace = (table_at o.schema (written_table wr)).keyspace; seat = seat } → ⊥))
-        elsewhere (inl more) = inl (subst (λ (l : List Seat). 2 ≤ length l) (needed_by_is fault.seats) more)
-        elsewhere (inr (seat, only, differs)) =
-            inr (seat, sym (needed_by_is fault.seats) ∙ only, λ same. differs (same ∙ ap (λ (x : Table). s.view_of x.keyspace seat) (sym table_is)))
 
-    pub write_of_several : NeedsSeveral table route → IsRefusedStep o limits p v (typed.Write wr) SeveralShards p
-    write_of_several (seats, partition, more) =
-        record { from = λ tr st. t.several seats partition (subst (λ (l : List Seat). 2 ≤ length l) (needed_by_is seats) more) }
+    pub write_of_several : v.bound ≡ None → (now : PassView Entry) (seats : List Seat) → IsPartition seats → AreOf table.keyspace seats
+        → AllByRecursion (WasFound o p.seen now.seen) seats → HasGone o p now → 2 ≤ length (needed table route seats)
+        → IsRefusedStep o limits p v (typed.Write wr) SeveralShards now
+    write_of_several unbound now seats partition home found gone more = record {
+      from = λ tr st.
+          t.several (table_at o.schema (written_table wr)).keyspace seats (s.none_used_by o p v tr st unbound) refl
+          (record { partition = partition; home = subst (λ (x : Table). AreOf x.keyspace seats) table_is home; found = found })
+          (subst (λ (l : List Seat). 2 ≤ length l) (needed_by_is seats) more) gone;
+    }
 
-    pub write_not_bound : (e : Refusal) → ((e ≡ OutOfMemory) ⊎ ((e ≡ SeveralShards) × NeedsSeveral table route)) → IsRefusedStep o limits p v (typed.Write wr) e p
-    write_not_bound e (inl is_e) = subst (λ (x : Refusal). IsRefusedStep o limits p v (typed.Write wr) x p) (sym is_e) (without_memory (typed.Write wr))
-    write_not_bound e (inr (is_e, several)) = subst (λ (x : Refusal). IsRefusedStep o limits p v (typed.Write wr) x p) (sym is_e) (write_of_several several)
+    pub write_not_bound : v.bound ≡ None → (now : PassView Entry) (seats : List Seat) → IsPartition seats → AreOf table.keyspace seats
+        → AllByRecursion (WasFound o p.seen now.seen) seats → HasGone o p now → (e : Refusal)
+        → ((e ≡ OutOfMemory) ⊎ ((e ≡ SeveralShards) × (2 ≤ length (needed table route seats)))) → IsRefusedStep o limits p v (typed.Write wr) e now
+    write_not_bound unbound now seats partition home found gone e (inl is_e) =
+        subst (λ (x : Refusal). IsRefusedStep o limits p v (typed.Write wr) x now) (sym is_e) (without_memory_after (typed.Write wr) now gone)
+    write_not_bound unbound now seats partition home found gone e (inr (is_e, more)) =
+        subst (λ (x : Refusal). IsRefusedStep o limits p v (typed.Write wr) x now) (sym is_e) (write_of_several unbound now seats partition home found gone more)
 
     -- of what a call gave
     pub all_written : (b : BoundView) → Fits v b → IsSeatOf table route b → (now : PassView Entry) (after : Option BoundView) (pending : PendingView)

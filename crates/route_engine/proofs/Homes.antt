@@ -1,5 +1,5 @@
 -- The parts that are needed are of the partition's keyspace, and each keyspace's partitions lie at its place.
-use Rattle.std.proofs.Common.{◌≡◌, ℕ, ◌+◌, ◌<◌, Bor, List, [], ◌∷◌, length, get_or, Option, Some, None, sym, ap, subst, ◌∙◌, refl, inl, inr, arith}
+use Rattle.std.proofs.Common.{◌≡◌, ℕ, ◌+◌, ◌<◌, ◌≤◌, Bor, List, [], ◌∷◌, length, get_or, Option, Some, None, sym, ap, subst, ◌∙◌, refl, inl, inr, arith}
 use Rattle.std.specs.Prelude.{IsSome, IfSome}
 use Rattle.std.specs.List.{range_with_len}
 use Rattle.std.specs.Slice.{IsItemAt}
@@ -9,6 +9,7 @@ use Rattle.vschema.specs.declared.schema.Table.{Table}
 use Rattle.planner.specs.declared.routes.Route.{Route}
 use Rattle.planner.specs.Routes.{takes}
 use Rattle.shard_law.proofs.Lists.{In, In-all, In-from_filter}
+use Rattle.shard_law.proofs.Rows.{head_is}
 use Rattle.serving.specs.Partitions.{Seat, IsPartition, AreOf}
 use Rattle.shard_calls.specs.Answers.{needed}
 use Rattle.shard_calls.specs.Pendings.{BoundView}
@@ -26,20 +27,36 @@ module _ (t : Table) (r : Route) (parts seats : List Seat) (are : parts ≡ seat
       let h = In-from_filter (λ (s : Seat). takes t r s.1) part seats (subst (In part) (sym one) (inl refl)) in
       In-all (λ (s : Seat). s.2 ≡ t.keyspace) part seats of h.0
 
-  module _ (is : IsPartition seats) (b : BoundView) where
-    pub is_seat : b ≡ record { keyspace = part.2; seat = part } → IsSeatOf t r b
-    is_seat same = record {
-      keyspace = ap (λ (x : BoundView). x.keyspace) same ∙ home;
-      seats = seats;
-      partition = is;
-      only = one ∙ ap (λ (x : BoundView). x.seat ∷ []) (sym same);
-    }
+  module _ (is : IsPartition seats) (b : BoundView) (kept : b.keyspace ≡ t.keyspace → seats ≡ b.seats) where
+    pub is_seat : (b.keyspace ≡ part.2) × (b.seat ≡ part) → IsSeatOf t r b
+    is_seat same =
+        let k : b.keyspace ≡ t.keyspace = same.0 ∙ home in
+        record {
+          keyspace = k;
+          partition = subst IsPartition (kept k) is;
+          only = subst (λ (l : List Seat). needed t r l ≡ b.seat ∷ []) (kept k) (one ∙ ap (λ (x : Seat). x ∷ []) (sym same.1));
+        }
 
-    pub is_other : (b ≡ record { keyspace = part.2; seat = part } → ⊥) → NeedsOther t r b
+    pub is_other : ((b.keyspace ≡ part.2) × (b.seat ≡ part) → ⊥) → NeedsOther t r b
     is_other differs = record {
       seats = seats;
       partition = is;
-      other = inr (part, one, λ e. differs (e ∙ ap (λ (n : ℕ). record { keyspace = n; seat = part }) (sym home)));
+      kept = kept;
+      some = λ none. let wrong : part ∷ [] ≡ [] = sym one ∙ none in cc wrong;
+      other = λ k only. differs (k ∙ sym home, head_is (sym only ∙ one));
+    }
+
+-- several parts that are needed
+pub is_several : (t : Table) (r : Route) (parts seats : List Seat) → parts ≡ seats → IsPartition seats → (b : BoundView) → (b.keyspace ≡ t.keyspace → seats ≡ b.seats)
+    → 2 ≤ length (needed t r parts) → NeedsOther t r b
+is_several t r parts seats are is b kept more =
+    let two : 2 ≤ length (needed t r seats) = subst (λ (l : List Seat). 2 ≤ length (needed t r l)) are more in
+    record {
+      seats = seats;
+      partition = is;
+      kept = kept;
+      some = λ none. let l = ap length none in absurd (omega (arith, two, l));
+      other = λ k only. let l = ap length only in absurd (omega (arith, two, l));
     }
 
 -- ---- the partitions of a keyspace

@@ -5,6 +5,7 @@ use Rattle.std.specs.List.{AllByRecursion}
 use Rattle.std.proofs.lemmas.Grind.{flat_map-append}
 use mathlib.Core.List.{IsPrefix}
 use Rattle.vschema.specs.declared.schema.Query.{Query}
+use Rattle.vschema.specs.declared.schema.Table.{Table}
 use Rattle.vschema.specs.declared.schema.Typed.TheVariants as typed
 use Rattle.vschema.specs.declared.changes.Write.{Write}
 use Rattle.vschema.specs.Database.{all_applied}
@@ -12,10 +13,13 @@ use Rattle.vschema.specs.Sources.{source_tables, SourcesThere, JoinsInPlace}
 use Rattle.vschema.specs.TypedWrites.{IsTypedWrite}
 use Rattle.vschema.specs.WellFormed.{is_vschema}
 use Rattle.sql_eval.specs.Writes.{written_table}
+use Rattle.planner.specs.declared.routes.Route.{Route}
+use Rattle.planner.specs.Routes.{table_at, route_of, write_route, takes}
 use Rattle.journal.specs.Runs.{IsLegal, NumbersBelow, by_session}
 use Rattle.journal.specs.Views.{PassView}
 use Rattle.journal.proofs.Fronts.{prefix_self, prefix_trans, legal_prefix}
-use Rattle.shard_law.proofs.Lists.{In, Contains-from_In, In-from_Contains, In-left, In-last, all-weaker, all-each, all-from_In}
+use Rattle.shard_law.proofs.Lists.{In, Contains-from_In, In-from_Contains, In-from_filter, In-left, In-last, all-weaker, all-each, all-from_In}
+use Rattle.serving.specs.Partitions.{Seat, IsPartition}
 use Rattle.shard_run.specs.declared.Mode.TheVariants.{Serving}
 use Rattle.shard_run.specs.declared.Shard.{Shard}
 use Rattle.shard_run.specs.declared.Entry.{Entry}
@@ -29,9 +33,10 @@ use Rattle.shard_contents.specs.Transactions.{PendingView, nothing_done, touched
 use Rattle.shard.proofs.Moves.{all_touched, touch_of, all_touched_all}
 use Rattle.shard_calls.specs.declared.reply.Selected.{Selected}
 use Rattle.shard_calls.specs.declared.reply.Answer.TheVariants.{Rows, Count}
-use Rattle.shard_calls.specs.Answers.{NeedsAlone}
+use Rattle.shard.specs.Seats.{seat_of}
+use Rattle.shard_calls.specs.Answers.{needed, NeedsAlone}
 use Rattle.shard_calls.specs.Transactions as gives
-use Rattle.shard_calls.specs.Transactions.{Step, Transaction, Standing, GiveOver, AreOver, GivesIn, IsCommitted, IsConflict, ReadsAlone, tables_of, if_any, used, writes_in, with_step, reads_of}
+use Rattle.shard_calls.specs.Transactions.{Step, Kept, Transaction, Standing, NeedsBy, GiveOver, AreOver, GivesIn, IsCommitted, IsConflict, ReadsAlone, tables_of, if_any, used, writes_in, with_step, reads_of}
 use Rattle.shard_calls.specs.Pendings as stands
 use Rattle.shard_calls.specs.Pendings.{OpenView, BoundView, IsBound, IsTouchOf, HasTouched, Stands, IsAnywhere, AreTold, bound_of}
 use Rattle.route_engine.proofs.Going as g
@@ -111,16 +116,31 @@ module _ (o : Opening) (opens : IsOpening o) (formed : is_vschema o.schema ≡ t
       (Rattle.shard_law.proofs.Lists.In-right s (used t.steps) (if_any last.on ++ [])
       (subst (λ (l : List Shard). In s (l ++ [])) (sym one) (inl refl))))
 
+  -- the partition that it keeps then
+  abbrev kept_on : List Seat → Option Kept
+  kept_on seats = Some (record { keyspace = s.place.keyspace; seats = seats })
+
+  -- a seat that is needed is one of the partition
+  needed_in : (table : Table) (route : Route) (seats : List Seat) → needed table route seats ≡ seat_of s ∷ [] → Contains seats (seat_of s)
+  needed_in table route seats only =
+      Contains-from_In (seat_of s) seats
+      (In-from_filter (λ (x : Seat). takes table route x.1) (seat_of s) seats (subst (In (seat_of s)) (sym only) (inl refl))).0
+
   -- it is bound as before, or from now on, one statement further
-  further : (pending : PendingView) (last : Step) → last.on ≡ Some s → mode o now.seen s.slot ≡ Serving → g.IsAt o s now.seen pending (t.steps ++ last ∷ [])
+  further : (pending : PendingView) (last : Step) (seats : List Seat) → IsPartition seats → Contains seats (seat_of s) → last.on ≡ Some s → mode o now.seen s.slot ≡ Serving → g.IsAt o s now.seen pending (t.steps ++ last ∷ [])
       → AllByRecursion (IsTouchOf o s now.session now.seen (t.steps ++ last ∷ [])) pending.touched
       → AllByRecursion (HasTouched s pending.touched) (t.steps ++ last ∷ [])
-      → Stands o now (Some (record { bound = Some (bound_of s); pending = pending })) (Some (record { at = now.seen; steps = t.steps ++ last ∷ [] }))
-  further pending last on serves at touches behind = stands.bound (record {
+      → Stands o now (Some (record { bound = Some (bound_of s seats); pending = pending }))
+      (Some (record { at = now.seen; steps = t.steps ++ last ∷ []; kept = Some (record { keyspace = s.place.keyspace; seats = seats }) }))
+  further pending last seats partition seated on serves at touches behind = stands.bound (record {
     shard = s;
     stands = ready.on_slot;
     serves = serves;
+    seats = seats;
     bound = refl;
+    partition = partition;
+    seated = seated;
+    kept = refl;
     uses = in_use last on;
     pending = at.pending;
     told = at.told;
@@ -131,14 +151,15 @@ module _ (o : Opening) (opens : IsOpening o) (formed : is_vschema o.schema ≡ t
   })
 
   -- A query.
-  pub reads_in : (q : Query) (selected : Selected) (entries : ℕ) (pending : PendingView) → ReadsAlone o q s → SourcesThere (length o.schema.tables) q
+  pub reads_in : (q : Query) (selected : Selected) (entries : ℕ) (pending : PendingView) (seats : List Seat) → NeedsBy o t (typed.Select q) seats s
+      → ReadsAlone o q s → SourcesThere (length o.schema.tables) q
       → JoinsInPlace o.schema q → selected.table ≡ q.table → selected.join ≡ q.join → selected.items ≡ q.items
       → selected.qualified ≡ q.qualified → HasReadIn o s v now.seen q selected.rows entries pending
       → GivesIn o limits p t (typed.Select q) (record { answer = Rows selected; reads = record { slot = s.slot; entries = entries } ∷ [] })
-      (record { pass = now; tx = Some (record { at = now.seen; steps = with_step t.steps (typed.Select q) (Rows selected) (Some s) now.seen }) })
-      × Stands o now (Some (record { bound = Some (bound_of s); pending = pending }))
-      (Some (record { at = now.seen; steps = with_step t.steps (typed.Select q) (Rows selected) (Some s) now.seen }))
-  reads_in q selected entries pending alone there joins table join items qualified has =
+      (record { pass = now; tx = Some (record { at = now.seen; steps = with_step t.steps (typed.Select q) (Rows selected) (Some s) now.seen; kept = kept_on seats }) })
+      × Stands o now (Some (record { bound = Some (bound_of s seats); pending = pending }))
+      (Some (record { at = now.seen; steps = with_step t.steps (typed.Select q) (Rows selected) (Some s) now.seen; kept = kept_on seats }))
+  reads_in q selected entries pending seats by alone there joins table join items qualified has =
       let last : Step = record { typed = typed.Select q; answer = Rows selected; on = Some s; seen = now.seen } in
       let next : PendingView = record v { touched = touched_all v.touched (source_tables q) stored_now } in
       let serves = has.clear.serving in
@@ -150,20 +171,21 @@ module _ (o : Opening) (opens : IsOpening o) (formed : is_vschema o.schema ≡ t
       (all-from_In (λ n. IsTouchOf o s now.session now.seen (t.steps ++ last ∷ []) (touch_of stored_now n)) (source_tables q)
       (λ n h. touch_last last (touch_of stored_now n) refl (Contains-from_In n (source_tables q) h) refl serves refl)) in (
         subst (λ (n : ℕ). GivesIn o limits p t (typed.Select q) (record { answer = Rows selected; reads = record { slot = s.slot; entries = n } ∷ [] })
-            (record { pass = now; tx = Some (record { at = now.seen; steps = t.steps ++ last ∷ [] }) })) (sym has.count)
-            (gives.on_shard s alone ready.alone looked serves (undisturbed has.clear) (all_applied next.changes (one o now.seen), over)),
-        subst (λ (x : PendingView). Stands o now (Some (record { bound = Some (bound_of s); pending = x })) (Some (record { at = now.seen; steps = t.steps ++ last ∷ [] })))
-            (sym has.touch) (further next last refl serves at touches (behind_more last (source_tables q) has.clear (λ n h. In-from_Contains n (source_tables q) h) refl)),
+            (record { pass = now; tx = Some (record { at = now.seen; steps = t.steps ++ last ∷ []; kept = kept_on seats }) })) (sym has.count)
+            (gives.on_shard s seats by ready.alone looked serves (undisturbed has.clear) (all_applied next.changes (one o now.seen), over)),
+        subst (λ (x : PendingView). Stands o now (Some (record { bound = Some (bound_of s seats); pending = x }))
+            (Some (record { at = now.seen; steps = t.steps ++ last ∷ []; kept = kept_on seats })))
+            (sym has.touch) (further next last seats by.judged.partition (needed_in (table_at o.schema q.table) (route_of (table_at o.schema q.table) q.join q.filter) seats by.only) refl serves at touches (behind_more last (source_tables q) has.clear (λ n h. In-from_Contains n (source_tables q) h) refl)),
       )
 
   -- A write.
-  pub writes_here : (w : Write) (count : ℕ) (pending : PendingView) → NeedsAlone o w s → IsTypedWrite o.schema w
+  pub writes_here : (w : Write) (count : ℕ) (pending : PendingView) (seats : List Seat) → NeedsBy o t (typed.Write w) seats s → NeedsAlone o w s → IsTypedWrite o.schema w
       → HasWrittenIn o s v now.seen w count pending
       → GivesIn o limits p t (typed.Write w) (record { answer = Count count; reads = [] })
-      (record { pass = now; tx = Some (record { at = now.seen; steps = with_step t.steps (typed.Write w) (Count count) (Some s) now.seen }) })
-      × Stands o now (Some (record { bound = Some (bound_of s); pending = pending }))
-      (Some (record { at = now.seen; steps = with_step t.steps (typed.Write w) (Count count) (Some s) now.seen }))
-  writes_here w count pending alone is has =
+      (record { pass = now; tx = Some (record { at = now.seen; steps = with_step t.steps (typed.Write w) (Count count) (Some s) now.seen; kept = kept_on seats }) })
+      × Stands o now (Some (record { bound = Some (bound_of s seats); pending = pending }))
+      (Some (record { at = now.seen; steps = with_step t.steps (typed.Write w) (Count count) (Some s) now.seen; kept = kept_on seats }))
+  writes_here w count pending seats by alone is has =
       let n : ℕ = length has.changes in
       let last : Step = record { typed = typed.Write w; answer = Count n; on = Some s; seen = now.seen } in
       let touch : Touch = record { table = written_table w; stored = length (stored_on s.slot now.seen) } in
@@ -178,12 +200,13 @@ module _ (o : Opening) (opens : IsOpening o) (formed : is_vschema o.schema ≡ t
       let touches = all_touched v.touched touch (IsTouchOf o s now.session now.seen (t.steps ++ last ∷ [])) (touches_more last)
       (touch_last last touch refl (Contains-from_In (written_table w) (written_table w ∷ []) (inl refl)) refl serves refl) in
       subst (λ (k : ℕ). GivesIn o limits p t (typed.Write w) (record { answer = Count k; reads = [] })
-      (record { pass = now; tx = Some (record { at = now.seen; steps = with_step t.steps (typed.Write w) (Count k) (Some s) now.seen }) })
-      × Stands o now (Some (record { bound = Some (bound_of s); pending = pending }))
-      (Some (record { at = now.seen; steps = with_step t.steps (typed.Write w) (Count k) (Some s) now.seen }))) (sym has.counted) (
-        gives.on_shard s alone ready.alone looked serves (undisturbed has.clear) (all_applied next.changes (one o now.seen), over),
-        subst (λ (x : PendingView). Stands o now (Some (record { bound = Some (bound_of s); pending = x })) (Some (record { at = now.seen; steps = t.steps ++ last ∷ [] })))
-            (sym has.kept) (further next last refl serves at touches
+      (record { pass = now; tx = Some (record { at = now.seen; steps = with_step t.steps (typed.Write w) (Count k) (Some s) now.seen; kept = kept_on seats }) })
+      × Stands o now (Some (record { bound = Some (bound_of s seats); pending = pending }))
+      (Some (record { at = now.seen; steps = with_step t.steps (typed.Write w) (Count k) (Some s) now.seen; kept = kept_on seats }))) (sym has.counted) (
+        gives.on_shard s seats by ready.alone looked serves (undisturbed has.clear) (all_applied next.changes (one o now.seen), over),
+        subst (λ (x : PendingView). Stands o now (Some (record { bound = Some (bound_of s seats); pending = x }))
+            (Some (record { at = now.seen; steps = t.steps ++ last ∷ []; kept = kept_on seats })))
+            (sym has.kept) (further next last seats by.judged.partition (needed_in (table_at o.schema (written_table w)) (write_route o.schema w) seats by.only) refl serves at touches
             (behind_more last (written_table w ∷ []) has.clear (λ n h. In-from_Contains n (written_table w ∷ []) h) refl)),
       )
 
@@ -245,8 +268,8 @@ module _ (o : Opening) (opens : IsOpening o) (p : PassView Entry) (v : OpenView)
 
 -- bound to the shard
 pub ready_bound : (o : Opening) → IsOpening o → (p now : PassView Entry) (v : OpenView) (t : Transaction) → IsBound o p v t → (s : Shard)
-    → v.bound ≡ Some (bound_of s) → IsOnItsSlot o now.seen s → HasLooked o s.slot p now → ReadyOn o s p now v.pending t
-ready_bound o opens p now v t bound s is on_slot looked =
+    → (seats : List Seat) → v.bound ≡ Some (bound_of s seats) → IsOnItsSlot o now.seen s → HasLooked o s.slot p now → ReadyOn o s p now v.pending t
+ready_bound o opens p now v t bound s seats is on_slot looked =
     let slot : bound.shard.slot ≡ s.slot = ap (λ (b : Option BoundView). slot_of_bound b) (sym bound.bound ∙ is) in
     let here = same_shard o opens p v t bound s slot now.seen looked.later on_slot in
     record {

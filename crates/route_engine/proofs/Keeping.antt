@@ -28,7 +28,7 @@ use Rattle.route_engine.proofs.Stepping.{refused_session}
 module _ (o : Opening) (l : Limits) (p : PassView Entry) where
   gives_in_session : (tr : Transaction) (ty : Typed) (reply : Reply) (now : Standing) → GivesIn o l p tr ty reply now → now.pass.session ≡ p.session
   gives_in_session tr _ _ _ (t.nowhere none over) = refl
-  gives_in_session tr _ _ _ (t.on_shard {now = now} s only alone looked serves clear over) = looked_session o s.slot p now looked
+  gives_in_session tr _ _ _ (t.on_shard {now = now} s seats by alone looked serves clear over) = looked_session o s.slot p now looked
   gives_in_session tr _ _ _ (t.commits_nothing none) = refl
   gives_in_session tr _ _ _ (t.commits_reads {now = now} s uses none looked serves clear over) = looked_session o s.slot p now looked
   gives_in_session tr _ _ _ (t.commits_writes {now = now} s uses some done) =
@@ -48,9 +48,9 @@ module _ (o : Opening) (l : Limits) (p : PassView Entry) where
 
   not_written_session : (w : Write) (e : Refusal) (now : PassView Entry) → MayWriteRefuse o l p w e now → now.session ≡ p.session
   not_written_session w _ now (a.no_memory gone) = gone_session o p now gone
-  not_written_session w _ now (a.several seats partition more gone) = gone_session o p now gone
+  not_written_session w _ now (a.several seats found more gone) = gone_session o p now gone
   not_written_session w _ now (a.buffer_full gone held) = gone_session o p now gone
-  not_written_session w _ now (a.refused {since = since} s alone gone looked why) = looked_session o s.slot since now looked ∙ gone_session o p since gone
+  not_written_session w _ now (a.refused {since = since} s alone gone looked served serves why) = looked_session o s.slot since now looked ∙ gone_session o p since gone
 
   refused_by_session : (tr : Option Transaction) (ty : Typed) (e : Refusal) (now : Standing) → IsRefusedBy o l p tr ty e now → now.pass.session ≡ p.session
   refused_by_session _ _ e _ (t.not_read {q} {now = now} why) = not_read_session q e now why

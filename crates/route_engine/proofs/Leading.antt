@@ -47,7 +47,7 @@ module _ (o : Opening) (limits : Limits) (p now : PassView Entry) where
     where
       by : (v : OpenView) → GoesOnIn o limits p v typed reply now w → (tr : Option Transaction) → Stands o p (Some v) tr
           → (u : Option Transaction) × GivesAt o limits p tr typed reply (record { pass = now; tx = u }) × Stands o now w u
-      by _ goes _ (stands.unbound {t = tr} l all) = let r = goes.from tr (stands.unbound l all) in (r.0, t.within r.1, r.2)
+      by _ goes _ (stands.unbound {t = tr} l all none) = let r = goes.from tr (stands.unbound l all none) in (r.0, t.within r.1, r.2)
       by v goes _ (stands.bound {t = tr} is) = let r = goes.from tr (stands.bound is) in (r.0, t.within r.1, r.2)
 
   -- or is refused
@@ -61,9 +61,9 @@ module _ (o : Opening) (limits : Limits) (p now : PassView Entry) where
 
       by : (v : OpenView) → IsRefusedStep o limits p v typed e now → (tr : Option Transaction) → Stands o p (Some v) tr
           → (u : Option Transaction) × IsRefusedBy o limits p tr typed e (record { pass = now; tx = u }) × Stands o now (cond (ends e) None (Some v)) u
-      by _ step _ (stands.unbound {t = tr} l all) =
-          let r = step.from tr (stands.unbound l all) in
-          (left_by e tr, t.within r, left _ tr (ends e) (stands_left o limits p _ tr typed e (record { pass = now; tx = left_by e tr }) r (stands.unbound l all)))
+      by _ step _ (stands.unbound {t = tr} l all none) =
+          let r = step.from tr (stands.unbound l all none) in
+          (left_by e tr, t.within r, left _ tr (ends e) (stands_left o limits p _ tr typed e (record { pass = now; tx = left_by e tr }) r (stands.unbound l all none)))
       by v step _ (stands.bound {t = tr} is) =
           let r = step.from tr (stands.bound is) in
           (left_by e tr, t.within r, left v tr (ends e) (stands_left o limits p v tr typed e (record { pass = now; tx = left_by e tr }) r (stands.bound is)))
@@ -125,9 +125,9 @@ module _ (o : Opening) (limits : Limits) (p : PassView Entry) (w : Option OpenVi
   -- a transaction begins
   pub begins_alone : IsLegal (MayFollow o) p.seen → w ≡ Some (record { bound = None; pending = nothing_done }) → Counts typed.Begin w
   begins_alone legal is =
-      closed_leads o limits p p w (Some (record { at = p.seen; steps = [] }))
+      closed_leads o limits p p w (Some (record { at = p.seen; steps = []; kept = None }))
       (λ tr u. GivesAt o limits p tr typed.Begin (record { answer = Count 0; reads = [] }) (record { pass = p; tx = u })) t.begins
-      (subst (λ (x : Option OpenView). Stands o p x (Some (record { at = p.seen; steps = [] }))) (sym is) (stands.unbound legal tt))
+      (subst (λ (x : Option OpenView). Stands o p x (Some (record { at = p.seen; steps = []; kept = None }))) (sym is) (stands.unbound legal tt refl))
 
 -- ---- what stays open
 

@@ -14,6 +14,7 @@ pub mod Trying
 pub mod NoOthers
 pub mod WholeWrites
 pub mod Over
+pub mod Committing
 pub mod Openings
 pub mod Told
 pub mod Going

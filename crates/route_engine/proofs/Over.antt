@@ -33,8 +33,7 @@ use Rattle.shard_law.proofs.Lists.{all-weaker}
 use Rattle.shard_law.proofs.Runs.{commits, commits-push}
 use Rattle.shard_contents.specs.declared.limits.Limits.{Limits}
 use Rattle.shard_contents.specs.Shards.{MayFollow, HasLooked}
-use Rattle.shard_contents.specs.Commits.{HasCommitted, IsCommitRefusal, commit_entry}
-use Rattle.shard_contents.specs.Commits as commits
+use Rattle.shard_contents.specs.Commits.{HasCommitted}
 use Rattle.shard_contents.proofs.Legality.{legal_is}
 use Rattle.shard_calls.specs.declared.reply.Answer.TheVariants.{Rows, Count}
 use Rattle.shard_calls.specs.declared.reply.Reply.{Reply}
@@ -42,7 +41,7 @@ use Rattle.shard_calls.specs.Mix.{Part, LiesBetween, mixed_rows}
 use Rattle.shard_calls.specs.Answers as a
 use Rattle.route_engine.specs.inner.Answers as i
 use Rattle.serving.specs.Partitions.{Seat, IsPartition}
-use Rattle.shard_calls.specs.Answers.{counted, HasGone, IsSelected, Gives, MayReadRefuse, MayWriteRefuse, NeedsAlone, needed_by}
+use Rattle.shard_calls.specs.Answers.{counted, HasGone, IsSelected, Gives, IsShardRefusal, MayReadRefuse, MayWriteRefuse, needed_by}
 use Rattle.route_engine.specs.inner.Answers.{IsReply, IsRefused, IsRefusal}
 use Rattle.shard_calls.specs.Alone as over
 use Rattle.shard_calls.specs.Alone.{NoOthers, NoCommits, GivesOver, IsRefusedOver}
@@ -53,7 +52,7 @@ use Rattle.route_engine.proofs.NoOthers.{one_still, still_self, still_trans, sti
 use Rattle.route_engine.proofs.Sessions.{is_typed}
 use Rattle.route_engine.proofs.Theirs.{query_there, query_joins}
 use Rattle.route_engine.proofs.Trying.{same_session}
-use Rattle.route_engine.proofs.WholeWrites.{whole_changes, no_changes}
+use Rattle.route_engine.proofs.WholeWrites.{no_changes}
 
 -- ---- what a statement leaves of a pass: it goes on from what was seen, which stays legal
 
@@ -77,8 +76,8 @@ gone_on o p now gone = record { later = gone.1.later; legal = λ h. gone.1.legal
 
 gives_on : (o : Opening) (l : Limits) (p : PassView Entry) (t : Typed) (reply : Reply) (now : PassView Entry) → Gives o l p t reply now → GoesOn o p now
 gives_on o l p _ _ now (a.selects (a.read is)) = record { later = is.gone.later; legal = λ h. is.gone.legal }
-gives_on o l p _ _ now (a.writes (a.nowhere seats partition none gone)) = gone_on o p now gone
-gives_on o l p _ _ now (a.writes {w} (a.wrote {count} {since} s needed gone c)) =
+gives_on o l p _ _ now (a.writes (a.nowhere seats partition none gone means)) = gone_on o p now gone
+gives_on o l p _ _ now (a.writes {w} (a.wrote {count} {since} s needed gone c means)) =
     record { later = prefix_trans p.seen since.seen now.seen gone.1.later (committed_later o l s since now w count c); legal = λ h. c.legal }
 gives_on o l p _ _ _ a.sets_names = stays o p
 
@@ -88,16 +87,15 @@ not_read_on o p q _ now (a.buffer_full gone held) = gone
 
 not_written_on : (o : Opening) (l : Limits) (p : PassView Entry) (w : Write) (e : Refusal) (now : PassView Entry) → MayWriteRefuse o l p w e now → GoesOn o p now
 not_written_on o l p w _ now (a.no_memory gone) = gone_on o p now gone
-not_written_on o l p w _ now (a.several seats partition more gone) = gone_on o p now gone
+not_written_on o l p w _ now (a.several seats found more gone) = gone_on o p now gone
 not_written_on o l p w _ now (a.buffer_full gone held) = gone_on o p now gone
-not_written_on o l p w _ now (a.refused {since = since} s needed gone looked why) =
+not_written_on o l p w _ now (a.refused {since = since} s needed gone looked served serves why) =
     record { later = prefix_trans p.seen since.seen now.seen gone.1.later looked.later; legal = λ h. looked.legal }
 
 refused_on : (o : Opening) (l : Limits) (p : PassView Entry) (text : List ℕ) (e : Refusal) (now : PassView Entry) → IsRefused o l p text e now → GoesOn o p now
 refused_on o l p text _ now (i.no_memory gone) = gone_on o p now gone
 refused_on o l p text _ _ (i.no_tree none) = stays o p
 refused_on o l p text _ _ (i.not_typed tree reads typed) = stays o p
-refused_on o l p text _ _ (i.not_run tree t reads is none) = stays o p
 refused_on o l p text e now (i.not_read tree q reads is why) = gone_on o p now (not_read_on o p q e now why)
 refused_on o l p text e now (i.not_written tree w reads is why) = not_written_on o l p w e now why
 
@@ -129,7 +127,7 @@ one_push o before e =
     ∙ all_applied-append (commits before) (commit_changes e.event) (opening_rows o)
 
 -- the changes of one write
-only_changes : (schema : VSchema) (w : Write) (db : Database) (changes : List RowChange) → AreChangesOf schema (w ∷ []) db changes → IsChangeOf schema w db changes
+pub only_changes : (schema : VSchema) (w : Write) (db : Database) (changes : List RowChange) → AreChangesOf schema (w ∷ []) db changes → IsChangeOf schema w db changes
 only_changes schema w db changes (first, rest, is, of, none) =
     subst (IsChangeOf schema w db) (sym (is ∙ ap (λ (l : List RowChange). first ++ l) none ∙ append-nil first)) of
 
@@ -137,7 +135,7 @@ number_of : Result (Database × ℕ) Refusal → ℕ
 number_of (Ok r) = r.1
 number_of (Err e) = 0
 
-count_is : (schema : VSchema) (w : Write) (db after : Database) (exact : List RowChange) (count : ℕ) → changes_of schema w db ≡ Ok exact
+pub count_is : (schema : VSchema) (w : Write) (db after : Database) (exact : List RowChange) (count : ℕ) → changes_of schema w db ≡ Ok exact
     → change schema w db ≡ Ok (after, count) → length exact ≡ count
 unfolding number_of
 count_is schema w db after exact count is changed =
@@ -164,23 +162,12 @@ module _ (o : Opening) (opens : IsOpening o) (formed : is_vschema o.schema ≡ t
       (over.selects is.table is.join is.items is.qualified answer)
 
   -- a write
-  pub committed_over : (w : Write) (s : Shard) (count : ℕ) → NeedsAlone o w s → HasCommitted o l s p w count now
+  pub committed_over : (w : Write) (s : Shard) (count : ℕ) (c : HasCommitted o l s p w count now)
+      → GivesOver o.schema (one o c.before) (typed.Write w) (Count count) (one o now.seen)
       → GivesOver o.schema (one o p.seen) (typed.Write w) (Count count) (one o now.seen)
-  committed_over w s count needed c =
-      let e : Entry = commit_entry s c.session p.statements w c.changes in
-      let legal : IsLegal (MayFollow o) (c.before ++ e ∷ []) = subst (IsLegal (MayFollow o)) c.seen c.legal in
-      let may : MayFollow o c.before e = legal_last o [] c.before e legal in
-      let may_commit = may.1 in
-      let first = only_changes o.schema w (restrict o.schema s.place (one o c.before)) c.changes may_commit.meant in
-      let whole = whole_changes o opens formed c.before (legal_is o c.before (legal_front (MayFollow o) [] c.before (e ∷ []) legal)) w may_commit.typed.0 s needed in
-      let counted' : length c.changes ≡ count =
-      length_permutation first.0 c.changes first.2 ∙ count_is o.schema w (restrict o.schema s.place (one o c.before)) c.after first.0 count first.1 c.counted in
+  committed_over w s count c means =
       let there : one o c.before ≡ one o p.seen = one_still o p.seen c.before (committed_at p now alone o l s w count c) in
-      let left : one o now.seen ≡ all_applied c.changes (one o p.seen) =
-      ap (one o) c.seen ∙ one_push o c.before e ∙ ap (λ (db : Database). all_applied c.changes db) there in
-      let is : IsChangeOf o.schema w (one o p.seen) c.changes = subst (λ (db : Database). IsChangeOf o.schema w db c.changes) there (first.0, sym whole ∙ first.1, first.2) in
-      subst (λ (db : Database). GivesOver o.schema (one o p.seen) (typed.Write w) (Count count) db) (sym left)
-      (subst (λ (n : ℕ). GivesOver o.schema (one o p.seen) (typed.Write w) (Count n) (all_applied c.changes (one o p.seen))) counted' (over.writes c.changes is))
+      subst (λ (db : Database). GivesOver o.schema db (typed.Write w) (Count count) (one o now.seen)) there means
 
 -- a write that needs no shard
 pub nowhere_over : (o : Opening) → IsOpening o → is_vschema o.schema ≡ true → (run : Run) → Legal o run → (w : Write) → IsTypedWrite o.schema w
@@ -190,14 +177,14 @@ nowhere_over o opens formed run legal w is seats partition none =
 
 -- a write after looks
 module _ (o : Opening) (opens : IsOpening o) (formed : is_vschema o.schema ≡ true) (l : Limits) (p now : PassView Entry) (alone : NoOthers p now) where
-  wrote_over : (w : Write) (s : Shard) (count : ℕ) (since : PassView Entry) → NeedsAlone o w s → HasGone o p since → HasCommitted o l s since w count now
-      → GivesOver o.schema (one o p.seen) (typed.Write w) (Count count) (one o now.seen)
-  wrote_over w s count since needed gone c =
+  wrote_over : (w : Write) (s : Shard) (count : ℕ) (since : PassView Entry) → HasGone o p since → (c : HasCommitted o l s since w count now)
+      → GivesOver o.schema (one o c.before) (typed.Write w) (Count count) (one o now.seen) → GivesOver o.schema (one o p.seen) (typed.Write w) (Count count) (one o now.seen)
+  wrote_over w s count since gone c means =
       let after = committed_later o l s since now w count c in
       let same : NoCommits p.seen since.seen = gone_same p since (up_to p now alone since gone.1.later after) o gone in
       let later : NoOthers since now = behind p now alone since gone.1.later after (same_session o p since gone) in
       subst (λ (db : Database). GivesOver o.schema db (typed.Write w) (Count count) (one o now.seen)) (one_still o p.seen since.seen same)
-      (committed_over o opens formed l since now later w s count needed c)
+      (committed_over o opens formed l since now later w s count c means)
 
   left_over : (w : Write) → IsTypedWrite o.schema w → IsLegal (MayFollow o) p.seen → (seats : List Seat) → IsPartition seats → needed_by o w seats ≡ [] → HasGone o p now
       → GivesOver o.schema (one o p.seen) (typed.Write w) (Count 0) (one o now.seen)
@@ -210,10 +197,10 @@ module _ (o : Opening) (opens : IsOpening o) (formed : is_vschema o.schema ≡ t
       → IsLegal (MayFollow o) p.seen → NoOthers p now → GivesOver o.schema (one o p.seen) t reply.answer (one o now.seen)
   gives_over p _ _ now (a.selects {query} (a.read {selected} {reads} is)) typed_is legal alone =
       selected_over o opens formed l p now alone query selected reads (query_there o.schema tree query typed_is) (query_joins o.schema tree query typed_is) is
-  gives_over p _ _ now (a.writes {w} (a.nowhere seats partition none gone)) typed_is legal alone =
+  gives_over p _ _ now (a.writes {w} (a.nowhere seats partition none gone means)) typed_is legal alone =
       left_over o opens formed l p now alone w (is_typed o.schema tree w typed_is) legal seats partition none gone
-  gives_over p _ _ now (a.writes {w} (a.wrote {count} {since} s needed gone c)) typed_is legal alone =
-      wrote_over o opens formed l p now alone w s count since needed gone c
+  gives_over p _ _ now (a.writes {w} (a.wrote {count} {since} s needed gone c means)) typed_is legal alone =
+      wrote_over o opens formed l p now alone w s count since gone c means
   gives_over p _ _ _ a.sets_names typed_is legal alone = over.sets_names
 
 -- a numbered pass has seen as much
@@ -237,34 +224,32 @@ module _ (o : Opening) (opens : IsOpening o) (formed : is_vschema o.schema ≡ t
     pub same : NoCommits p.seen now.seen
 
   commit_refused : (p now : PassView Entry) (tree : Statement) (w : Write) (s : Shard) (e : Refusal) → Reads text tree → typed_statement o.schema tree ≡ Ok (typed.Write w)
-      → NeedsAlone o w s → IsLegal (MayFollow o) now.seen → IsCommitRefusal o l s now.seen w e → one o now.seen ≡ one o p.seen → IsRefusedOver o.schema (one o p.seen) text e
-  commit_refused p now tree w s _ reads is needed legal commits.no_memory same = over.no_memory
-  commit_refused p now tree w s _ reads is needed legal (commits.full changes of room) same = over.full
-  commit_refused p now tree w s _ reads is needed legal (commits.duplicate twice) same =
-      let whole = whole_changes o opens formed now.seen (legal_is o now.seen legal) w (is_typed o.schema tree w is) s needed in
-      over.duplicate tree w reads is (ap (λ (db : Database). changes_of o.schema w db) (sym same) ∙ sym whole ∙ twice)
+      → IsShardRefusal o l s now.seen w e → one o now.seen ≡ one o p.seen → IsRefusedOver o.schema (one o p.seen) text e
+  commit_refused p now tree w s _ reads is a.no_memory same = over.no_memory
+  commit_refused p now tree w s _ reads is (a.full changes of room) same = over.full
+  commit_refused p now tree w s _ reads is (a.duplicate twice) same =
+      over.duplicate tree w reads is (ap (λ (db : Database). changes_of o.schema w db) (sym same) ∙ twice)
 
   refused_later : (p now : PassView Entry) → NoOthers p now → (tree : Statement) (w : Write) (s : Shard) (e : Refusal) (since : PassView Entry) → Reads text tree
-      → typed_statement o.schema tree ≡ Ok (typed.Write w) → NeedsAlone o w s → HasGone o p since → HasLooked o s.slot since now
-      → IsCommitRefusal o l s now.seen w e → Refuses p e now
-  refused_later p now h tree w s e since reads is needed gone looked why =
+      → typed_statement o.schema tree ≡ Ok (typed.Write w) → HasGone o p since → HasLooked o s.slot since now
+      → IsShardRefusal o l s now.seen w e → Refuses p e now
+  refused_later p now h tree w s e since reads is gone looked why =
       let same : NoCommits p.seen since.seen = gone_same p since (up_to p now h since gone.1.later looked.later) o gone in
       let later : NoOthers since now = behind p now h since gone.1.later looked.later (same_session o p since gone) in
       let left : NoCommits p.seen now.seen = still_trans p.seen since.seen now.seen same (looked_unchanged since now later o s.slot looked) in
-      record { why = commit_refused p now tree w s e reads is needed looked.legal why (one_still o p.seen now.seen left); same = left }
+      record { why = commit_refused p now tree w s e reads is why (one_still o p.seen now.seen left); same = left }
 
   refused_over : (p : PassView Entry) (e : Refusal) (now : PassView Entry) → IsRefused o l p text e now → NoOthers p now → Refuses p e now
   refused_over p _ now (i.no_memory gone) h = record { why = over.no_memory; same = gone_same p now h o gone }
   refused_over p _ _ (i.no_tree none) h = record { why = over.no_tree none; same = still_self p.seen }
   refused_over p _ _ (i.not_typed tree reads typed) h = record { why = over.not_typed tree reads typed; same = still_self p.seen }
-  refused_over p _ _ (i.not_run tree t reads is none) h = record { why = over.not_run tree t reads is none; same = still_self p.seen }
   refused_over p _ now (i.not_read tree q reads is (a.no_memory gone)) h = record { why = over.no_memory; same = gone_same p now h o gone }
-  refused_over p _ now (i.not_read tree q reads is (a.buffer_full gone held)) h = record { why = over.waits; same = gone_same p now h o gone }
+  refused_over p _ now (i.not_read tree q reads is (a.buffer_full gone held)) h = record { why = over.waits tree (typed.Select q) reads is tt; same = gone_same p now h o gone }
   refused_over p _ now (i.not_written tree w reads is (a.no_memory gone)) h = record { why = over.no_memory; same = gone_same p now h o gone }
-  refused_over p _ now (i.not_written tree w reads is (a.several seats partition more gone)) h = record { why = over.several; same = gone_same p now h o gone }
-  refused_over p _ now (i.not_written tree w reads is (a.buffer_full gone held)) h = record { why = over.waits; same = gone_same p now h o gone }
-  refused_over p e now (i.not_written tree w reads is (a.refused {since = since} s needed gone looked why)) h =
-      refused_later p now h tree w s e since reads is needed gone looked why
+  refused_over p _ now (i.not_written tree w reads is (a.several seats found more gone)) h = record { why = over.several tree (typed.Write w) reads is tt; same = gone_same p now h o gone }
+  refused_over p _ now (i.not_written tree w reads is (a.buffer_full gone held)) h = record { why = over.waits tree (typed.Write w) reads is tt; same = gone_same p now h o gone }
+  refused_over p e now (i.not_written tree w reads is (a.refused {since = since} s needed gone looked served serves why)) h =
+      refused_later p now h tree w s e since reads is gone looked why
 
   pub refusal_over : (p : PassView Entry) (e : Refusal) (now : PassView Entry) → IsRefusal o l p text e now → NoOthers p now → Refuses p e now
   refusal_over p _ _ (i.used_up many) h = record { why = over.full; same = still_self p.seen }

@@ -1,7 +1,8 @@
 -- What a statement of an open transaction leads to, from what the engine's parts tell.
-use Rattle.std.proofs.Common.{true, ◌≡◌, ◌⊎◌, ℕ, ◌<◌, ◌≤◌, List, [], ◌∷◌, ◌++◌, length, filter, Option, Some, None, refl, sym, ap, subst, ◌∙◌, inl, inr}
+use Rattle.std.proofs.Common.{true, false, Bool, ◌==◌, ◌≡◌, ◌⊎◌, ℕ, ◌<◌, List, [], ◌∷◌, ◌++◌, length, filter, Option, Some, None, refl, sym, ap, subst, ◌∙◌, inl, inr}
 use Rattle.std.specs.Prelude.{Contains}
 use Rattle.std.specs.List.{AllByRecursion, All}
+use Rattle.std.proofs.lemmas.Bool.{false≢true, eqb-true, eq-eqb}
 use Rattle.std.proofs.lemmas.List.{append-nil, append_assoc}
 use Rattle.std.proofs.lemmas.Grind.{flat_map-append}
 use mathlib.Core.List.{IsPrefix}
@@ -38,11 +39,11 @@ use Rattle.shard_calls.specs.declared.reply.ShardRead.{ShardRead}
 use Rattle.shard.specs.Seats.{seat_of}
 use Rattle.shard_calls.specs.Answers.{HasGone, NeedsAlone}
 use Rattle.shard_calls.specs.Transactions as t
-use Rattle.shard_calls.specs.Transactions.{Step, Transaction, Standing, GiveOver, AreOver, GivesIn, IsRefusedIn, ReadsAlone, if_any, used, with_step, seats_for, statement_keyspace}
+use Rattle.shard_calls.specs.Transactions.{Step, Kept, Transaction, Standing, IsJudgedBy, NeedsBy, GiveOver, AreOver, GivesIn, IsRefusedIn, ReadsAlone, if_any, used, with_step, seats_for, statement_keyspace}
 use Rattle.shard_calls.specs.Pendings as stands
 use Rattle.shard_calls.specs.Pendings.{BoundView, OpenView, IsBound, IsTouchOf, HasTouched, IsAnywhere, Stands, bound_of}
 use Rattle.shard_calls.specs.inner.Within as w
-use Rattle.shard_calls.specs.inner.Within.{left_by, ends, IsSeatOf, NeedsNoSeat, NeedsSeveral, NeedsOther, HasReadAt, IsNotReadAt, HasWrittenAt, IsNotWrittenAt, HasCommittedAt, IsNotCommittedAt}
+use Rattle.shard_calls.specs.inner.Within.{left_by, ends, IsSeatOf, HasReadAt, IsNotReadAt, HasWrittenAt, IsNotWrittenAt, HasCommittedAt, IsNotCommittedAt}
 use Rattle.route_engine.proofs.Anywhere.{stands_met}
 use Rattle.shard_calls.proofs.Gathers.{stays}
 use Rattle.route_engine.proofs.Going as g
@@ -53,9 +54,6 @@ use Rattle.route_engine.proofs.Refusing.{not_read_in, not_written_in, not_commit
 -- a transaction is bound to none, or to this shard
 abbrev pub Fits : OpenView → BoundView → Type 0
 Fits v b = (v.bound ≡ None) ⊎ (v.bound ≡ Some b)
-
-abbrev pub view_of : ℕ → Seat → BoundView
-view_of k seat = record { keyspace = k; seat = seat }
 
 some_same : {X : Type 0} (x y : X) → Some x ≡ Some y → x ≡ y
 some_same {X} x y e = ap (λ (m : Option X). or x m) e
@@ -83,6 +81,22 @@ used_more steps step s h =
     (subst (In s) (sym (flat_map-append (λ (x : Step). if_any x.on) steps (step ∷ [])))
     (In-left s (used steps) (if_any step.on ++ []) (In-from_Contains s (used steps) h)))
 
+-- one that is bound to none has used none
+pub none_used_by : (o : Opening) (p : PassView Entry) (v : OpenView) (tr : Transaction) → Stands o p (Some v) (Some tr) → v.bound ≡ None → used tr.steps ≡ []
+none_used_by o p v tr (stands.unbound l all kept) none = none_used o tr.steps all
+none_used_by o p v tr (stands.bound is) none = let e = is.bound in absurd (cc (e, none))
+
+-- the partition that is kept with the shard
+abbrev kept_at : Shard → List Seat → Option Kept
+kept_at s seats = Some (record { keyspace = s.place.keyspace; seats = seats })
+
+nat_eq : (m n : ℕ) → (m ≡ n) ⊎ (m ≡ n → ⊥)
+nat_eq m n = by (m == n) refl
+  where
+    by : (b : Bool) → (m == n) ≡ b → (m ≡ n) ⊎ (m ≡ n → ⊥)
+    by true e = inl (eqb-true m n e)
+    by false e = inr (λ same. false≢true (sym e ∙ eq-eqb m n same))
+
 -- ---- one statement
 
 module _ (o : Opening) (opens : IsOpening o) (formed : is_vschema o.schema ≡ true) (limits : Limits) (p : PassView Entry)
@@ -92,19 +106,19 @@ module _ (o : Opening) (opens : IsOpening o) (formed : is_vschema o.schema ≡ t
       → NumbersBelow commit_of session p.statements run
   low_at run same = subst (λ (l : List Entry). All (λ x. number_of (commit_of x) < p.statements) l) (sym same) above
 
-  ready_at : (v : OpenView) (tr : Transaction) → Stands o p (Some v) (Some tr) → (s : Shard) (now : PassView Entry) → Fits v (bound_of s)
-      → IsOnItsSlot o now.seen s → HasLooked o s.slot p now → ReadyOn o s p now v.pending tr
-  ready_at v tr (stands.unbound l all) s now fits on looked = ready_first o p now tr all s on looked
-  ready_at v tr (stands.bound is) s now (inl none) on looked = let e = is.bound in absurd (cc (e, none))
-  ready_at v tr (stands.bound is) s now (inr same) on looked = ready_bound o opens p now v tr is s same on looked
+  ready_at : (v : OpenView) (tr : Transaction) → Stands o p (Some v) (Some tr) → (s : Shard) (seats : List Seat) (now : PassView Entry)
+      → Fits v (bound_of s seats) → IsOnItsSlot o now.seen s → HasLooked o s.slot p now → ReadyOn o s p now v.pending tr
+  ready_at v tr (stands.unbound l all none) s seats now fits on looked = ready_first o p now tr all s on looked
+  ready_at v tr (stands.bound is) s seats now (inl none) on looked = let e = is.bound in absurd (cc (e, none))
+  ready_at v tr (stands.bound is) s seats now (inr same) on looked = ready_bound o opens p now v tr is s seats same on looked
 
   -- what the shard's calls ask
-  pub tied : (v : OpenView) (tr : Transaction) → Stands o p (Some v) (Some tr) → (b : BoundView) → Fits v b → (s : Shard) → bound_of s ≡ b
+  pub tied : (v : OpenView) (tr : Transaction) → Stands o p (Some v) (Some tr) → (b : BoundView) → Fits v b → (s : Shard) → bound_of s b.seats ≡ b
       → IsPendingOf o s v.pending p
-  tied v tr (stands.unbound l all) b fits s same = (p.seen, prefix_self p.seen, pending_nothing o s p.seen legal)
+  tied v tr (stands.unbound l all none) b fits s same = (p.seen, prefix_self p.seen, pending_nothing o s p.seen legal)
   tied v tr (stands.bound is) b (inl none) s same = let e = is.bound in absurd (cc (e, none))
   tied v tr (stands.bound is) b (inr at) s same =
-      let e : bound_of is.shard ≡ bound_of s = some_same (bound_of is.shard) b (sym is.bound ∙ at) ∙ sym same in (
+      let e : bound_of is.shard is.seats ≡ bound_of s b.seats = some_same (bound_of is.shard is.seats) b (sym is.bound ∙ at) ∙ sym same in (
         tr.at,
         is.seen,
         pending_same o is.shard s tr.at v.pending (ap (λ (x : BoundView). x.seat.0) e)
@@ -115,11 +129,11 @@ module _ (o : Opening) (opens : IsOpening o) (formed : is_vschema o.schema ≡ t
   pub goes_anywhere : (v : OpenView) (tr : Transaction) → Stands o p (Some v) (Some tr) → (typed : Typed) (answer : Answer)
       → IsAnywhere o (record { typed = typed; answer = answer; on = None; seen = p.seen })
       → (u : Option Transaction) × GivesIn o limits p tr typed (record { answer = answer; reads = [] }) (record { pass = p; tx = u }) × Stands o p (Some v) u
-  goes_anywhere v tr (stands.unbound l all) typed answer any =
+  goes_anywhere v tr (stands.unbound l all none) typed answer any =
       let last : Step = record { typed = typed; answer = answer; on = None; seen = p.seen } in (
-        Some (record { at = tr.at; steps = tr.steps ++ last ∷ [] }),
+        Some (record { at = tr.at; steps = tr.steps ++ last ∷ []; kept = tr.kept }),
         t.nowhere any.none (one o tr.at, over_from o tr.at l [] (tr.steps ++ last ∷ []) t.none (all-append (IsAnywhere o) tr.steps (last ∷ []) all (any, tt))),
-        stands.unbound l (all-append (IsAnywhere o) tr.steps (last ∷ []) all (any, tt)),
+        stands.unbound l (all-append (IsAnywhere o) tr.steps (last ∷ []) all (any, tt)) none,
       )
   goes_anywhere v tr (stands.bound is) typed answer any =
       let last : Step = record { typed = typed; answer = answer; on = None; seen = p.seen } in
@@ -127,13 +141,17 @@ module _ (o : Opening) (opens : IsOpening o) (formed : is_vschema o.schema ≡ t
       let next = g.at_anywhere o is.shard tr.at v.pending tr.steps last at any in
       let over = g.at_over o is.shard opens formed tr.at v.pending (tr.steps ++ last ∷ []) next is.stands is.serves session p.statements
       (low_at tr.at (sym (is.own session mine))) in (
-        Some (record { at = tr.at; steps = tr.steps ++ last ∷ [] }),
+        Some (record { at = tr.at; steps = tr.steps ++ last ∷ []; kept = tr.kept }),
         t.nowhere any.none (all_applied v.pending.changes (one o tr.at), over),
         stands.bound (record {
           shard = is.shard;
           stands = is.stands;
           serves = is.serves;
+          seats = is.seats;
           bound = is.bound;
+          partition = is.partition;
+          seated = is.seated;
+          kept = is.kept;
           uses = used_more tr.steps last is.shard is.uses;
           pending = next.pending;
           told = next.told;
@@ -159,25 +177,59 @@ module _ (o : Opening) (opens : IsOpening o) (formed : is_vschema o.schema ≡ t
       )
 
   reads_alone : (q : Query) (b : BoundView) → IsSeatOf (table_at o.schema q.table) (route_of (table_at o.schema q.table) q.join q.filter) b → (s : Shard)
-      → bound_of s ≡ b → ReadsAlone o q s
+      → bound_of s b.seats ≡ b → ReadsAlone o q s
   reads_alone q b seat s same = record {
-    seats = seat.seats;
+    seats = b.seats;
     partition = seat.partition;
     keyspace = ap (λ (x : BoundView). x.keyspace) same ∙ seat.keyspace;
     only = seat.only ∙ ap (λ (x : BoundView). x.seat ∷ []) (sym same);
   }
 
   writes_alone : (wr : Write) (b : BoundView) → IsSeatOf (table_at o.schema (written_table wr)) (write_route o.schema wr) b → (s : Shard)
-      → bound_of s ≡ b → NeedsAlone o wr s
+      → bound_of s b.seats ≡ b → NeedsAlone o wr s
   writes_alone wr b seat s same = record {
-    seats = seat.seats;
+    seats = b.seats;
     partition = seat.partition;
     keyspace = ap (λ (x : BoundView). x.keyspace) same ∙ seat.keyspace;
     only = seat.only ∙ ap (λ (x : BoundView). x.seat ∷ []) (sym same);
   }
 
+  -- the partition by which a statement is judged
+  judged : (v : OpenView) (tr : Transaction) → Stands o p (Some v) (Some tr) → (b : BoundView) → Fits v b → IsPartition b.seats → (typed : Typed)
+      → IsJudgedBy o tr typed b.seats
+  judged v tr (stands.unbound l all none) b fits partition typed =
+      record { partition = partition; kept = λ k is here. absurd (cc (none, is)) }
+  judged v tr (stands.bound is) b (inl none) partition typed = let e = is.bound in absurd (cc (e, none))
+  judged v tr (stands.bound is) b (inr at) partition typed =
+      let same : bound_of is.shard is.seats ≡ b = some_same (bound_of is.shard is.seats) b (sym is.bound ∙ at) in
+      record {
+        partition = partition;
+        kept = λ k kept here.
+            let kept_is : record { keyspace = is.shard.place.keyspace; seats = is.seats } ≡ k =
+            some_same (record { keyspace = is.shard.place.keyspace; seats = is.seats }) k (sym is.kept ∙ kept) in
+            sym (ap (λ (x : BoundView). x.seats) same) ∙ ap (λ (x : Kept). x.seats) kept_is;
+      }
+
+  reads_by : (v : OpenView) (tr : Transaction) → Stands o p (Some v) (Some tr) → (b : BoundView) → Fits v b → (q : Query)
+      → IsSeatOf (table_at o.schema q.table) (route_of (table_at o.schema q.table) q.join q.filter) b → (s : Shard) → bound_of s b.seats ≡ b
+      → NeedsBy o tr (typed.Select q) b.seats s
+  reads_by v tr st b fits q seat s same = record {
+    judged = judged v tr st b fits seat.partition (typed.Select q);
+    keyspace = ap (λ (k : ℕ). Some k) (sym seat.keyspace ∙ ap (λ (x : BoundView). x.keyspace) (sym same));
+    only = seat.only ∙ ap (λ (x : BoundView). x.seat ∷ []) (sym same);
+  }
+
+  writes_by : (v : OpenView) (tr : Transaction) → Stands o p (Some v) (Some tr) → (b : BoundView) → Fits v b → (wr : Write)
+      → IsSeatOf (table_at o.schema (written_table wr)) (write_route o.schema wr) b → (s : Shard) → bound_of s b.seats ≡ b
+      → NeedsBy o tr (typed.Write wr) b.seats s
+  writes_by v tr st b fits wr seat s same = record {
+    judged = judged v tr st b fits seat.partition (typed.Write wr);
+    keyspace = ap (λ (k : ℕ). Some k) (sym seat.keyspace ∙ ap (λ (x : BoundView). x.keyspace) (sym same));
+    only = seat.only ∙ ap (λ (x : BoundView). x.seat ∷ []) (sym same);
+  }
+
   module _ (v : OpenView) (tr : Transaction) (st : Stands o p (Some v) (Some tr)) (b : BoundView) (fits : Fits v b) where
-    fits_at : (s : Shard) → bound_of s ≡ b → Fits v (bound_of s)
+    fits_at : (s : Shard) → bound_of s b.seats ≡ b → Fits v (bound_of s b.seats)
     fits_at s same = subst (Fits v) (sym same) fits
 
     -- a query on its shard
@@ -189,24 +241,26 @@ module _ (o : Opening) (opens : IsOpening o) (formed : is_vschema o.schema ≡ t
         × Stands o now (Some (record { bound = Some b; pending = pending })) u
     goes_read q there joins seat rows reads now pending has =
         let s = has.shard in
-        let ready = ready_at v tr st s now (fits_at s has.is) has.stands has.looked in
+        let ready = ready_at v tr st s b.seats now (fits_at s has.is) has.stands has.looked in
         let done = i.reads_in o opens formed limits s p now v.pending tr ready session p.statements (low_at now.seen (has.looked.own session mine))
-        q (record { table = q.table; join = q.join; items = q.items; qualified = q.qualified; rows = rows }) has.entries pending (reads_alone q b seat s has.is) there joins refl refl refl refl has.read in (
-          Some (record { at = now.seen; steps = with_step tr.steps (typed.Select q) (Rows (record { table = q.table; join = q.join; items = q.items; qualified = q.qualified; rows = rows })) (Some s) now.seen }),
+        q (record { table = q.table; join = q.join; items = q.items; qualified = q.qualified; rows = rows }) has.entries pending b.seats (reads_by v tr st b fits q seat s has.is)
+        (reads_alone q b seat s has.is) there joins refl refl refl refl has.read in (
+          Some (record { at = now.seen; steps = with_step tr.steps (typed.Select q) (Rows (record { table = q.table; join = q.join; items = q.items; qualified = q.qualified; rows = rows })) (Some s) now.seen; kept = kept_at s b.seats }),
           subst (λ (l : List ShardRead). GivesIn o limits p tr (typed.Select q)
               (record { answer = Rows (record { table = q.table; join = q.join; items = q.items; qualified = q.qualified; rows = rows }); reads = l })
-              (record { pass = now; tx = Some (record { at = now.seen; steps = with_step tr.steps (typed.Select q) (Rows (record { table = q.table; join = q.join; items = q.items; qualified = q.qualified; rows = rows })) (Some s) now.seen }) }))
+              (record { pass = now; tx = Some (record { at = now.seen; steps = with_step tr.steps (typed.Select q) (Rows (record { table = q.table; join = q.join; items = q.items; qualified = q.qualified; rows = rows })) (Some s) now.seen; kept = kept_at s b.seats }) }))
               (sym has.reads_are) done.0,
           subst (λ (x : BoundView). Stands o now (Some (record { bound = Some x; pending = pending }))
-              (Some (record { at = now.seen; steps = with_step tr.steps (typed.Select q) (Rows (record { table = q.table; join = q.join; items = q.items; qualified = q.qualified; rows = rows })) (Some s) now.seen })))
+              (Some (record { at = now.seen; steps = with_step tr.steps (typed.Select q) (Rows (record { table = q.table; join = q.join; items = q.items; qualified = q.qualified; rows = rows })) (Some s) now.seen; kept = kept_at s b.seats })))
               has.is done.1,
         )
 
     pub not_read : (q : Query) → IsSeatOf (table_at o.schema q.table) (route_of (table_at o.schema q.table) q.join q.filter) b → (e : Refusal)
         (now : PassView Entry) → IsNotReadAt o b p v.pending e now → IsRefusedIn o limits p tr (typed.Select q) e (record { pass = now; tx = left_by e tr })
     not_read q seat _ _ w.no_memory = t.no_memory ([], stays o p legal)
-    not_read q seat e now (w.refused s same on looked why) =
-        not_read_in o limits s p now v.pending tr (ready_at v tr st s now (fits_at s same) on looked) (typed.Select q) (reads_alone q b seat s same) e why
+    not_read q seat e now (w.refused s same on served looked why) =
+        not_read_in o limits s p now v.pending tr (ready_at v tr st s b.seats now (fits_at s same) on looked) served (typed.Select q)
+        (b.seats, reads_by v tr st b fits q seat s same) e why
 
     -- a write
     pub goes_written : (wr : Write) → IsTypedWrite o.schema wr → IsSeatOf (table_at o.schema (written_table wr)) (write_route o.schema wr) b
@@ -215,57 +269,67 @@ module _ (o : Opening) (opens : IsOpening o) (formed : is_vschema o.schema ≡ t
         × Stands o now (Some (record { bound = Some b; pending = pending })) u
     goes_written wr is seat count now pending has =
         let s = has.shard in
-        let ready = ready_at v tr st s now (fits_at s has.is) has.stands has.looked in
+        let ready = ready_at v tr st s b.seats now (fits_at s has.is) has.stands has.looked in
         let done = i.writes_here o opens formed limits s p now v.pending tr ready session p.statements (low_at now.seen (has.looked.own session mine))
-        wr count pending (writes_alone wr b seat s has.is) is has.wrote in (
-          Some (record { at = now.seen; steps = with_step tr.steps (typed.Write wr) (Count count) (Some s) now.seen }),
+        wr count pending b.seats (writes_by v tr st b fits wr seat s has.is) (writes_alone wr b seat s has.is) is has.wrote in (
+          Some (record { at = now.seen; steps = with_step tr.steps (typed.Write wr) (Count count) (Some s) now.seen; kept = kept_at s b.seats }),
           done.0,
           subst (λ (x : BoundView). Stands o now (Some (record { bound = Some x; pending = pending }))
-              (Some (record { at = now.seen; steps = with_step tr.steps (typed.Write wr) (Count count) (Some s) now.seen }))) has.is done.1,
+              (Some (record { at = now.seen; steps = with_step tr.steps (typed.Write wr) (Count count) (Some s) now.seen; kept = kept_at s b.seats }))) has.is done.1,
         )
 
     pub not_written : (wr : Write) → IsTypedWrite o.schema wr → IsSeatOf (table_at o.schema (written_table wr)) (write_route o.schema wr) b → (e : Refusal)
         (now : PassView Entry) → IsNotWrittenAt o b p v.pending wr e now → IsRefusedIn o limits p tr (typed.Write wr) e (record { pass = now; tx = left_by e tr })
     not_written wr is seat e now fault =
-        not_written_in o limits fault.shard p now v.pending tr (ready_at v tr st fault.shard now (fits_at fault.shard fault.is) fault.stands fault.looked) opens formed
-        session p.statements (low_at now.seen (fault.looked.own session mine)) wr is (writes_alone wr b seat fault.shard fault.is) e fault.why
+        not_written_in o limits fault.shard p now v.pending tr
+        (ready_at v tr st fault.shard b.seats now (fits_at fault.shard fault.is) fault.stands fault.looked) fault.served opens formed
+        session p.statements (low_at now.seen (fault.looked.own session mine)) wr is (b.seats, writes_by v tr st b fits wr seat fault.shard fault.is)
+        (writes_alone wr b seat fault.shard fault.is) e fault.why
 
   -- a statement that needs another shard than the transaction's
   pub other_shard : (v : OpenView) (tr : Transaction) → Stands o p (Some v) (Some tr) → (b : BoundView) → v.bound ≡ Some b → (typed : Typed)
-      (k : ℕ) → statement_keyspace o typed ≡ Some k → (seats : List Seat) → IsPartition seats
-      → (2 ≤ length (seats_for o typed seats)) ⊎ ((seat : Seat) × (seats_for o typed seats ≡ seat ∷ []) × (b ≡ record { keyspace = k; seat = seat } → ⊥))
+      (k : ℕ) → statement_keyspace o typed ≡ Some k → (seats : List Seat) → IsPartition seats → (b.keyspace ≡ k → seats ≡ b.seats)
+      → (seats_for o typed seats ≡ [] → ⊥) → (b.keyspace ≡ k → seats_for o typed seats ≡ b.seat ∷ [] → ⊥)
       → IsRefusedIn o limits p tr typed SeveralShards (record { pass = p; tx = Some tr })
-  other_shard v tr st b at typed k of seats partition (inl more) = t.several seats partition more
-  other_shard v tr (stands.unbound l all) b at typed k of seats partition (inr one) = absurd (cc at)
-  other_shard v tr (stands.bound is) b at typed k of seats partition (inr (seat, only, differs)) =
-      t.another seats seat is.shard partition only is.uses
-      (λ key e.
-      let same : b ≡ bound_of is.shard = some_same b (bound_of is.shard) (sym at ∙ is.bound) in
-      let keys : k ≡ is.shard.place.keyspace = some_same k is.shard.place.keyspace (sym of ∙ key) in
-      differs (same ∙ ap (λ (x : ℕ). view_of x (seat_of is.shard)) (sym keys) ∙ ap (view_of k) (sym e)))
+  other_shard v tr (stands.unbound l all none) b at typed k of seats partition kept some other = absurd (cc at)
+  other_shard v tr (stands.bound is) b at typed k of seats partition kept some other = by (nat_eq is.shard.place.keyspace k)
+    where
+      same : b ≡ bound_of is.shard is.seats
+      same = some_same b (bound_of is.shard is.seats) (sym at ∙ is.bound)
+
+      home : b.keyspace ≡ is.shard.place.keyspace
+      home = ap (λ (x : BoundView). x.keyspace) same
+
+      by : (is.shard.place.keyspace ≡ k) ⊎ (is.shard.place.keyspace ≡ k → ⊥) → IsRefusedIn o limits p tr typed SeveralShards (record { pass = p; tx = Some tr })
+      by (inl here) =
+          let there : seats ≡ is.seats = kept (home ∙ here) ∙ ap (λ (x : BoundView). x.seats) same in
+          t.another (record { keyspace = is.shard.place.keyspace; seats = is.seats }) is.shard is.uses is.kept refl is.partition is.seated
+          (of ∙ ap (λ (n : ℕ). Some n) (sym here)) (λ none. some (ap (seats_for o typed) there ∙ none))
+          (λ only. other (home ∙ here) (ap (seats_for o typed) there ∙ only ∙ ap (λ (x : BoundView). x.seat ∷ []) (sym same)))
+      by (inr away) = t.elsewhere k seats is.shard is.uses of (λ e. away (sym e)) partition some
 
   -- a commit
   pub commits_unbound : (v : OpenView) (tr : Transaction) → Stands o p (Some v) (Some tr) → v.bound ≡ None
       → (u : Option Transaction) × GivesIn o limits p tr typed.Commit (record { answer = Count 0; reads = [] }) (record { pass = p; tx = u }) × Stands o p None u
-  commits_unbound v tr (stands.unbound l all) none = (None, t.commits_nothing (none_used o tr.steps all), stands.closed)
+  commits_unbound v tr (stands.unbound l all kept) none = (None, t.commits_nothing (none_used o tr.steps all), stands.closed)
   commits_unbound v tr (stands.bound is) none = let e = is.bound in absurd (cc (e, none))
 
   pub commits_bound : (v : OpenView) (tr : Transaction) → Stands o p (Some v) (Some tr) → (b : BoundView) → v.bound ≡ Some b → (now : PassView Entry)
       → HasCommittedAt o limits b p v.pending now
       → (u : Option Transaction) × GivesIn o limits p tr typed.Commit (record { answer = Count 0; reads = [] }) (record { pass = now; tx = u }) × Stands o now None u
-  commits_bound v tr (stands.unbound l all) b at now done = absurd (cc at)
+  commits_bound v tr (stands.unbound l all none) b at now done = absurd (cc at)
   commits_bound v tr (stands.bound is) b at now (w.read s same on looked clear none) =
-      let e : bound_of is.shard ≡ bound_of s = some_same (bound_of is.shard) b (sym is.bound ∙ at) ∙ sym same in
+      let e : bound_of is.shard is.seats ≡ bound_of s b.seats = some_same (bound_of is.shard is.seats) b (sym is.bound ∙ at) ∙ sym same in
       let slot : is.shard.slot ≡ s.slot = ap (λ (x : BoundView). x.seat.0) e in
       let here = same_shard o opens p v tr is s slot now.seen looked.later on in
-      let ready = ready_bound o opens p now v tr is s (at ∙ ap (λ (x : BoundView). Some x) (sym same)) on looked in (
+      let ready = ready_bound o opens p now v tr is s b.seats (at ∙ ap (λ (x : BoundView). Some x) (sym same)) on looked in (
         None,
         i.commits_reads o opens formed limits s p now v.pending tr ready session p.statements (low_at now.seen (looked.own session mine))
             (i.bound_in_use o opens p v tr is s slot here) none clear,
         stands.closed,
       )
   commits_bound v tr (stands.bound is) b at now (w.wrote s same on some done) =
-      let e : bound_of is.shard ≡ bound_of s = some_same (bound_of is.shard) b (sym is.bound ∙ at) ∙ sym same in
+      let e : bound_of is.shard is.seats ≡ bound_of s b.seats = some_same (bound_of is.shard is.seats) b (sym is.bound ∙ at) ∙ sym same in
       let slot : is.shard.slot ≡ s.slot = ap (λ (x : BoundView). x.seat.0) e in
       let later : IsPrefix p.seen now.seen =
       prefix_trans p.seen done.looked.seen now.seen done.look.later (prefix_trans done.looked.seen done.before now.seen done.later (_, sym done.seen)) in
@@ -278,15 +342,15 @@ module _ (o : Opening) (opens : IsOpening o) (formed : is_vschema o.schema ≡ t
 
   pub not_committed : (v : OpenView) (tr : Transaction) → Stands o p (Some v) (Some tr) → (b : BoundView) → v.bound ≡ Some b → (e : Refusal) (now : PassView Entry)
       → IsNotCommittedAt o limits b p v.pending e now → IsRefusedIn o limits p tr typed.Commit e (record { pass = now; tx = left_by e tr })
-  not_committed v tr (stands.unbound l all) b at e now fault = absurd (cc at)
+  not_committed v tr (stands.unbound l all none) b at e now fault = absurd (cc at)
   not_committed v tr (stands.bound is) b at e now fault =
       let s = fault.shard in
-      let same : bound_of is.shard ≡ bound_of s = some_same (bound_of is.shard) b (sym is.bound ∙ at) ∙ sym fault.is in
+      let same : bound_of is.shard is.seats ≡ bound_of s b.seats = some_same (bound_of is.shard is.seats) b (sym is.bound ∙ at) ∙ sym fault.is in
       let slot : is.shard.slot ≡ s.slot = ap (λ (x : BoundView). x.seat.0) same in
       let here = same_shard o opens p v tr is s slot now.seen fault.looked.later fault.stands in
       not_committed_in o limits s p now v.pending tr
-      (ready_bound o opens p now v tr is s (at ∙ ap (λ (x : BoundView). Some x) (sym fault.is)) fault.stands fault.looked) opens formed
-      session p.statements (low_at now.seen (fault.looked.own session mine)) (i.bound_in_use o opens p v tr is s slot here) e fault.why
+      (ready_bound o opens p now v tr is s b.seats (at ∙ ap (λ (x : BoundView). Some x) (sym fault.is)) fault.stands fault.looked) fault.served opens formed
+      session p.statements (low_at now.seen (fault.looked.own session mine)) (i.bound_in_use o opens p v tr is s slot here) e fault.wrote fault.why
 
 -- ---- what a refusal leaves
 
@@ -309,12 +373,13 @@ refused_looks : (o : Opening) (limits : Limits) (p : PassView Entry) (tr : Trans
     → IsRefusedIn o limits p tr typed e now → HasOnlyLooked p now.pass
 refused_looks o limits p tr _ _ _ (t.no_memory {now = now} gone) = by_gone o p now gone
 refused_looks o limits p tr _ _ _ t.open_twice = by_none p
-refused_looks o limits p tr _ _ _ (t.several seats partition more) = by_none p
-refused_looks o limits p tr _ _ _ (t.another seats seat u partition only uses differs) = by_none p
-refused_looks o limits p tr _ _ _ (t.duplicate {now = now} s after alone looked over twice) = by_look o s.slot p now looked
-refused_looks o limits p tr _ _ _ (t.moved {now = now} s for looked fault) = by_look o s.slot p now looked
-refused_looks o limits p tr _ _ _ (t.conflict {now = now} s for looked is) = by_look o s.slot p now looked
-refused_looks o limits p tr _ _ _ (t.full {now = now} s changes uses looked over fault) = by_look o s.slot p now looked
+refused_looks o limits p tr _ _ _ (t.several {now = now} k seats none of found more gone) = by_gone o p now gone
+refused_looks o limits p tr _ _ _ (t.another k u uses kept home partition seated of some other) = by_none p
+refused_looks o limits p tr _ _ _ (t.elsewhere k seats u uses of away partition some) = by_none p
+refused_looks o limits p tr _ _ _ (t.moved {now = now} s its looked fault) = by_look o s.slot p now looked
+refused_looks o limits p tr _ _ _ (t.conflict {now = now} s its looked serves is) = by_look o s.slot p now looked
+refused_looks o limits p tr _ _ _ (t.duplicate {now = now} s after its at over twice) = by_look o s.slot p now at.looked
+refused_looks o limits p tr _ _ _ (t.full {now = now} s changes its at wrote made over fault) = by_look o s.slot p now at.looked
 
 pub refused_session : (o : Opening) (limits : Limits) (p : PassView Entry) (tr : Transaction) (typed : Typed) (e : Refusal) (now : Standing)
     → IsRefusedIn o limits p tr typed e now → now.pass.session ≡ p.session

@@ -4,7 +4,6 @@ use Rattle.std.specs.List.{All, AllByRecursion, list_all}
 use Rattle.std.proofs.lemmas.Bool.{and_from, eq-eqb}
 use Rattle.std.proofs.lemmas.List.Sums.{length-filter}
 use Rattle.vt_value.specs.declared.refusal.Refusal.{Refusal}
-use Rattle.vt_value.specs.declared.refusal.Refusal.TheVariants.{SeveralShards}
 use Rattle.vt_value.specs.Values.{Row}
 use Rattle.keyrange.specs.declared.KeyRange.{KeyRange}
 use Rattle.keyrange.specs.Ranges.{has_id}
@@ -31,17 +30,14 @@ use Rattle.shard_law.specs.Legal.{IsOnItsSlot}
 use Rattle.shard_law.proofs.Lists.{In, In-from_filter, In-filter, In-from_map, Contains-from_In}
 use Rattle.serving.specs.Partitions.{Seat, IsPartition, ranges}
 use Rattle.shard_contents.specs.declared.limits.Limits.{Limits}
-use Rattle.shard_contents.specs.declared.outcomes.Committed.{Committed}
 use Rattle.shard_contents.specs.Shards.{MayFollow, HasLooked, commit_of}
-use Rattle.shard.specs.Seats.{place_at}
-use Rattle.shard_contents.specs.Commits as c
-use Rattle.shard_contents.specs.Commits.{IsPlaced, HasAnswered, IsCommitRefusal}
+use Rattle.shard_contents.specs.Commits.{IsPlaced}
 use Rattle.shard_calls.specs.Answers as a
 use Rattle.shard_calls.specs.Answers.{needed, needed_by, NeedsAlone, HasGone, HasWritten, IsHeldUp, MayWriteRefuse, is_writable}
-use Rattle.shard_calls.specs.inner.Scatter.{IsTried, written, again, tried}
+use Rattle.shard_calls.specs.inner.Scatter.{IsTried, written, again}
 use Rattle.shard_law.proofs.Fitting.{fits-from_typed}
 use Rattle.route_engine.proofs.Everywhere.{everywhere}
-use Rattle.shard_calls.proofs.Gathers.{stays}
+use Rattle.shard_calls.proofs.Finding.{all_since}
 use Rattle.route_engine.proofs.Placing.{some_in, row_taken, only_one}
 use Rattle.route_engine.proofs.Selecting.{gone_on}
 
@@ -83,89 +79,20 @@ placed o (Delete n condition) typed seats is seat alone = refl
 pub gone_by : (o : Opening) (slot : ℕ) (p now : PassView Entry) → HasLooked o slot p now → HasGone o p now
 gone_by o slot p now is = ((slot, length now.seen) ∷ [], record { legal = is.legal; later = is.later; own = is.own; pass = is.pass })
 
-not_writable : (m : Mode) → is_serving m ≡ false → is_writable m ≡ false
+pub not_writable : (m : Mode) → is_serving m ≡ false → is_writable m ≡ false
 not_writable Following is = refl
 not_writable Serving is = is
 not_writable Frozen is = refl
 not_writable Retired is = refl
 not_writable Dropped is = refl
 
-abbrev seat_at : ℕ → Place → Seat
-seat_at n q = (n, q.range, q.keyspace)
-
-module _ (o : Opening) (limits : Limits) (w : Write) (typed : IsTypedWrite o.schema w) (t : Table) (t_is : t ≡ table_at o.schema (written_table w)) (r : Route)
-    (r_is : r ≡ write_route o.schema w) (seats : List Seat) (is : IsPartition seats) (p : PassView Entry) (legal : IsLegal (MayFollow o) p.seen) where
-  needed_is : needed t r seats ≡ needed_by o w seats
-  needed_is = ap (λ (x : Table). needed x r seats) t_is ∙ ap (λ (x : Route). needed (table_at o.schema (written_table w)) x seats) r_is
-
-  pub nowhere : needed t r seats ≡ [] → IsTried o limits p w (Ok 0) p
-  nowhere none = written (a.nowhere seats is (sym needed_is ∙ none) ([], stays o p legal))
-
-  pub several : 2 ≤ length (needed t r seats) → MayWriteRefuse o limits p w SeveralShards p
-  several more = a.several seats is (subst (λ (l : List Seat). 2 ≤ length l) needed_is more) ([], stays o p legal)
-
-  module _ (seat : Seat) (one : needed t r seats ≡ seat ∷ []) (home : seat.2 ≡ t.keyspace) where
-    abbrev range : KeyRange
-    range = seat.1
-
-    abbrev place : Place
-    place = record { keyspace = t.keyspace; range = range }
-
-    at_home : place_at seat ≡ place
-    at_home = ap (λ (k : ℕ). record { keyspace = k; range = seat.1 }) home
-
-    pub placed_there : IsPlaced o.schema (place_at seat) w
-    placed_there =
-        subst (λ (q : Place). IsPlaced o.schema q w) (sym at_home)
-        (subst (λ (x : Table). IsPlaced o.schema (record { keyspace = x.keyspace; range = range }) w) (sym t_is)
-        (placed o w typed seats is seat (sym needed_is ∙ one)))
-
-    module _ (s : Shard) (on_slot : s.slot ≡ seat.0) (at_place : s.place ≡ place_at seat) (now : PassView Entry) where
-      in_place : s.place ≡ place
-      in_place = at_place ∙ at_home
-
-      alone : NeedsAlone o w s
-      alone = record {
-        seats = seats;
-        partition = is;
-        keyspace = ap (λ (x : Place). x.keyspace) in_place ∙ ap (λ (x : Table). x.keyspace) t_is;
-        only =
-            sym needed_is ∙ one ∙ ap (λ (i : ℕ). seat_at i (place_at seat) ∷ []) (sym on_slot)
-            ∙ ap (λ (x : Place). seat_at s.slot x ∷ []) (sym at_place);
-      }
-
-      held_up : HasLooked o s.slot p now → IsOnItsSlot o now.seen s → is_writable (mode o now.seen s.slot) ≡ false
-          → IsHeldUp o (table_at o.schema (written_table w)) (write_route o.schema w) is_writable p.seen now.seen
-      held_up look stands off = record {
-        seats = seats;
-        partition = is;
-        seat = seat;
-        needed = Contains-from_In seat (needed_by o w seats) (subst (In seat) (sym one ∙ needed_is) (inl refl));
-        run = now.seen;
-        since = look.later;
-        until = prefix_self now.seen;
-        shard = s;
-        stands = stands;
-        on_slot = on_slot;
-        in_place = in_place ∙ ap (λ (x : Table). record { keyspace = x.keyspace; range = range }) t_is;
-        held_up = off;
-      }
-
-      pub answered : IsOnItsSlot o now.seen s → (r : Committed) → HasAnswered o limits s p w r now → IsTried o limits p w (tried r) now
-      answered stands _ (c.committed h) = written (a.wrote s alone ([], stays o p legal) h)
-      answered stands _ (c.frozen look m) = again (gone_by o s.slot p now look) (held_up look stands (ap is_writable m))
-      answered stands _ (c.not_serving look m) = again (gone_by o s.slot p now look) (held_up look stands (not_writable (mode o now.seen s.slot) m))
-
-      pub refused : (e : Refusal) → HasLooked o seat.0 p now → IsCommitRefusal o limits s now.seen w e → MayWriteRefuse o limits p w e now
-      refused e look why = a.refused s alone ([], stays o p legal) (subst (λ i. HasLooked o i p now) (sym on_slot) look) why
-
 -- ---- after tries before
 
 module _ (o : Opening) (limits : Limits) (w : Write) (p since now : PassView Entry) (gone : HasGone o p since) where
   pub written_after : (count : ℕ) → HasWritten o limits since w (record { answer = Rattle.shard_calls.specs.declared.reply.Answer.TheVariants.Count count; reads = [] }) now
       → HasWritten o limits p w (record { answer = Rattle.shard_calls.specs.declared.reply.Answer.TheVariants.Count count; reads = [] }) now
-  written_after _ (a.nowhere seats is none more) = a.nowhere seats is none (gone_on o p since now gone more)
-  written_after _ (a.wrote s alone more h) = a.wrote s alone (gone_on o p since _ gone more) h
+  written_after _ (a.nowhere seats is none more means) = a.nowhere seats is none (gone_on o p since now gone more) means
+  written_after _ (a.wrote s alone more h means) = a.wrote s alone (gone_on o p since _ gone more) h means
 
   pub held_after : (t : Table) (r : Route) → IsHeldUp o t r is_writable since.seen now.seen → IsHeldUp o t r is_writable p.seen now.seen
   held_after t r is = record {
@@ -177,7 +104,7 @@ module _ (o : Opening) (limits : Limits) (w : Write) (p since now : PassView Ent
     since = prefix_trans p.seen since.seen is.run gone.1.later is.since;
     until = is.until;
     shard = is.shard;
-    stands = is.stands;
+    served = is.served;
     on_slot = is.on_slot;
     in_place = is.in_place;
     held_up = is.held_up;
@@ -185,9 +112,11 @@ module _ (o : Opening) (limits : Limits) (w : Write) (p since now : PassView Ent
 
   pub refused_after : (e : Refusal) → MayWriteRefuse o limits since w e now → MayWriteRefuse o limits p w e now
   refused_after _ (a.no_memory more) = a.no_memory (gone_on o p since now gone more)
-  refused_after _ (a.several seats is h more) = a.several seats is h (gone_on o p since now gone more)
+  refused_after _ (a.several seats found h more) =
+      a.several seats (record { partition = found.partition; home = found.home; found = all_since o p.seen since.seen now.seen gone.1.later seats found.found }) h
+      (gone_on o p since now gone more)
   refused_after _ (a.buffer_full more held) = a.buffer_full (gone_on o p since now gone more) (held_after _ _ held)
-  refused_after _ (a.refused s alone more look why) = a.refused s alone (gone_on o p since _ gone more) look why
+  refused_after _ (a.refused s alone more look served serves why) = a.refused s alone (gone_on o p since _ gone more) look served serves why
 
 -- numbers are still above those of the session's commits
 pub still_above : (o : Opening) (p now : PassView Entry) → HasGone o p now

@@ -1,5 +1,5 @@
 //! The statements of an open transaction.
-ghost use Rattle.std.specs.Prelude.{◌≡◌, ◌⊎◌, ◌<◌, ℕ, Some, None, IsSome, IfOk, IfErr, IfSome, IfNone, OnErr, Ok, true, false, length};
+ghost use Rattle.std.specs.Prelude.{◌≡◌, ◌⊎◌, ◌<◌, ◌≤◌, ℕ, Some, None, IsSome, IfOk, IfErr, IfSome, IfNone, OnErr, Ok, true, false, length};
 ghost use Rattle.sql_tree.specs.declared.Statement.{Statement};
 ghost use Rattle.vschema.specs.Sources.{SourcesThere, JoinsInPlace};
 ghost use Rattle.vschema.specs.TypedStatement.{typed_statement};
@@ -7,10 +7,11 @@ ghost use Rattle.planner.specs.Routes.{table_at, route_of};
 ghost use Rattle.journal.specs.Runs.{IsLegal, NumbersBelow};
 ghost use Rattle.vschema.specs.WellFormed.{is_vschema};
 ghost use Rattle.shard_run.specs.Openings.{IsOpening};
-ghost use Rattle.serving.specs.Partitions.{AreOf};
+ghost use Rattle.serving.specs.Partitions.{IsPartition, AreOf};
 ghost use Rattle.shard_contents.specs.Shards.{MayFollow, commit_of};
+ghost use Rattle.shard_calls.specs.Answers.{needed};
 ghost use Rattle.shard_calls.specs.Pendings.{IsOf};
-ghost use Rattle.shard_calls.specs.inner.Within.{kept_by, NeedsNoSeat, IsSeatOf, NeedsOther, NeedsSeveral, GoesOnIn, IsRefusedStep};
+ghost use Rattle.shard_calls.specs.inner.Within.{kept_by, NeedsNoSeat, IsSeatOf, NeedsOther, GoesOnIn, IsRefusedStep};
 
 use crate::engine::Engine;
 use journal::{Naming, Pass};
@@ -18,8 +19,8 @@ use planner::{Route, route_of, write_route};
 use serving::Partition;
 use shard::{Pending, Shard, ShardLaw, World, written_table};
 use shard_calls::{
-    Answer, Bound, Gate, Reply, Selected, ShardRead, counted, only_needed, read_at, read_first,
-    read_nothing, shown_by,
+    Answer, Bound, Gate, Reply, Selected, ShardRead, counted, look_at_each, only_needed, read_at,
+    read_first, read_nothing, shown_by,
 };
 use std::alloc::Global;
 use std::sync::Wait;
@@ -34,7 +35,8 @@ impl<W: World + Send + Sync, J: Naming + Send + Sync, G: Gate> Engine<W, J, G> {
         table: &Table,
     ) -> &'e Partition<Shard<W, J>>
         requires { table.now.keyspace < length self.now.keyspaces }
-        ensures { AreOf table.now.keyspace result.now }
+        ensures home { AreOf table.now.keyspace result.now }
+        ensures kept { here.now.keyspace ≡ table.now.keyspace → result.now ≡ here.now.seats }
     {
         if here.keyspace() == table.keyspace {
             here.partition()
@@ -68,20 +70,20 @@ impl<W: World + Send + Sync, J: Naming + Send + Sync, G: Gate> Engine<W, J, G> {
         }
     }
 
-    // What a transaction is bound to by its first statement that needs a shard: by the present partition, if this one needs one. Refuses
-    // where it needs several, and for want of memory.
+    // What a transaction is bound to by its first statement that needs a shard: by this partition, if this one needs one. Refuses where it
+    // needs several, and for want of memory.
     pub(crate) fn first_bound(
-        &self,
         alloc: Global,
+        partition: &Partition<Shard<W, J>>,
         table: &Table,
         route: &Route,
     ) -> Result<Option<Bound<W, J>>, Refusal>
-        requires keyspace { table.now.keyspace < length self.now.keyspaces }
+        requires home { AreOf table.now.keyspace partition.now }
         ensures some { IfOk result (λ r. IfSome r (IsSeatOf table.now route.now)) }
         ensures none { IfOk result (λ r. IfNone r (NeedsNoSeat table.now route.now)) }
-        ensures err { IfErr result (λ e. (e ≡ Refusal.OutOfMemory) ⊎ ((e ≡ Refusal.SeveralShards) × NeedsSeveral table.now route.now)) }
+        ensures partition { IsPartition partition.now }
+        ensures err { IfErr result (λ e. (e ≡ Refusal.OutOfMemory) ⊎ ((e ≡ Refusal.SeveralShards) × (2 ≤ length (needed table.now route.now partition.now)))) }
     {
-        let partition = self.current(table.keyspace);
         match only_needed(partition.parts(), table, route)? {
             Some(part) => Ok(Some(Bound::to_part(alloc, table.keyspace, partition, part)?)),
             None => Ok(None),
@@ -126,10 +128,17 @@ impl<W: World + Send + Sync, J: Naming + Send + Sync, G: Gate> Engine<W, J, G> {
                     read_nothing(alloc, query)
                 }
             }
-            None => match self.first_bound(alloc, table, route)? {
-                Some(new) => read_first(rt, alloc, pass, bound, new, pending, query),
-                None => read_nothing(alloc, query),
-            },
+            None => {
+                let partition = self.current(table.keyspace);
+                match Self::first_bound(alloc, partition, table, route) {
+                    Ok(Some(new)) => read_first(rt, alloc, pass, bound, new, pending, query),
+                    Ok(None) => read_nothing(alloc, query),
+                    Err(refusal) => {
+                        look_at_each(rt, pass, partition.parts());
+                        Err(refusal)
+                    }
+                }
+            }
         }
     }
 

@@ -12,7 +12,7 @@ use crate::engine::Engine;
 use journal::{Naming, Pass};
 use planner::{Route, write_route};
 use shard::{Committed, ShardLaw, World, written_table};
-use shard_calls::{Answer, Gate, Reply, counted, only_needed, shard_of};
+use shard_calls::{Answer, Gate, Reply, counted, look_at_each, only_needed, shard_of};
 use std::alloc::Global;
 use std::sync::Wait;
 use vschema::{Table, Write};
@@ -31,7 +31,7 @@ fn tried(committed: Committed) -> Result<u64, Write>
 
 impl<W: World + Send + Sync, J: Naming + Send + Sync, G: Gate> Engine<W, J, G> {
     // Commits the write on the one shard that it needs by the present partition: the count, or the write again where that shard takes no
-    // commits.
+    // commits. Where it needs several, each shard of the partition is looked at.
     fn commit(
         &self,
         rt: &impl Wait,
@@ -66,6 +66,7 @@ impl<W: World + Send + Sync, J: Naming + Send + Sync, G: Gate> Engine<W, J, G> {
             }
             Err(refusal) => {
                 drop(write);
+                look_at_each(rt, pass, partition.parts());
                 Err(refusal)
             }
         }

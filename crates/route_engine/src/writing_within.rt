@@ -14,7 +14,9 @@ use crate::engine::Engine;
 use journal::{Naming, Pass};
 use planner::{Route, write_route};
 use shard::{Pending, ShardLaw, World, written_table};
-use shard_calls::{Answer, Bound, Gate, Reply, commit_at, counted, write_at, write_first};
+use shard_calls::{
+    Answer, Bound, Gate, Reply, commit_at, counted, look_at_each, write_at, write_first,
+};
 use std::alloc::Global;
 use std::sync::Wait;
 use vschema::{Table, Typed, Write};
@@ -62,20 +64,24 @@ impl<W: World + Send + Sync, J: Naming + Send + Sync, G: Gate> Engine<W, J, G> {
                     Err(refusal)
                 }
             },
-            None => match self.first_bound(alloc, table, route) {
-                Ok(Some(new)) => {
-                    let schema = &self.schema;
-                    write_first(rt, alloc, pass, bound, new, pending, schema, write)
+            None => {
+                let partition = self.current(table.keyspace);
+                match Self::first_bound(alloc, partition, table, route) {
+                    Ok(Some(new)) => {
+                        let schema = &self.schema;
+                        write_first(rt, alloc, pass, bound, new, pending, schema, write)
+                    }
+                    Ok(None) => {
+                        drop(write);
+                        Ok(0)
+                    }
+                    Err(refusal) => {
+                        drop(write);
+                        look_at_each(rt, pass, partition.parts());
+                        Err(refusal)
+                    }
                 }
-                Ok(None) => {
-                    drop(write);
-                    Ok(0)
-                }
-                Err(refusal) => {
-                    drop(write);
-                    Err(refusal)
-                }
-            },
+            }
         }
     }
 

@@ -31,7 +31,7 @@ use Rattle.route_engine.specs.inner.Answers.{IsRefused}
 use Rattle.shard_calls.specs.Alone as over
 use Rattle.shard_calls.specs.Alone.{NoOthers, NoCommits, GivesOver, IsRefusedOver}
 use Rattle.shard_calls.specs.Transactions as x
-use Rattle.shard_calls.specs.Transactions.{Step, Transaction, Standing, GiveOver, AreOver, used, if_any, writes_in, write_on, with_step, IsCommitted, GivesIn, GivesAt, IsReplyTo, IsRefusedIn, IsRefusedBy, IsRefusedNow, IsRefusedAt}
+use Rattle.shard_calls.specs.Transactions.{Step, Kept, Transaction, Standing, GiveOver, AreOver, used, if_any, writes_in, write_on, with_step, IsCommitted, GivesIn, GivesAt, IsReplyTo, IsRefusedIn, IsRefusedBy, IsRefusedNow, IsRefusedAt}
 use Rattle.shard_calls.specs.Pendings as stands
 use Rattle.shard_calls.specs.Pendings.{OpenView, Stands, IsAnywhere, AreTold}
 use Rattle.route_engine.proofs.NoOthers.{one_still, still_self, unchanged, gone_same, looked_unchanged}
@@ -69,7 +69,7 @@ anywhere_told o s run touched _ _ _ (stands.wrote {steps} {writes} {changes} w m
 -- of what is kept of a transaction
 anywhere_kept : (o : Opening) (p : PassView Entry) (v : Option OpenView) (t : Transaction) → Stands o p v (Some t) → (step : Step) → In step t.steps
     → step.on ≡ None → IsAnywhere o step
-anywhere_kept o p _ _ (stands.unbound {t} legal all) step h none = In-all (IsAnywhere o) step t.steps all h
+anywhere_kept o p _ _ (stands.unbound {t} legal all free) step h none = In-all (IsAnywhere o) step t.steps all h
 anywhere_kept o p _ _ (stands.bound {v} {t} is) step h none =
     anywhere_told o is.shard t.at v.pending.touched t.steps v.pending.writes v.pending.changes is.told step h none
 
@@ -124,11 +124,11 @@ module _ (o : Opening) (opens : IsOpening o) (formed : is_vschema o.schema ≡ t
         all_both (IsTypedStep o) (LeavesAll o.schema (one o run)) tx.steps
         (λ step h is. leaves o opens formed run legal step (anywhere_kept o q v tx kept step h) is) typed_all
 
-    steps_on : (now : PassView Entry) (t : Typed) (answer : Answer) (on : Option Shard) (at seen : Run) → NoCommits p.seen now.seen
+    steps_on : (now : PassView Entry) (t : Typed) (answer : Answer) (on : Option Shard) (at seen : Run) (part : Option Kept) → NoCommits p.seen now.seen
         → ((told : Told) → told ≡ record { typed = t; answer = answer }
         → GivesAmong o (one o p.seen) (Some (map told_of tx.steps)) told.typed told.answer (one o p.seen) (Some (map told_of tx.steps ++ told ∷ [])))
-        → Among p (Some tx) t answer (record { pass = now; tx = Some (record { at = at; steps = with_step tx.steps t answer on seen }) })
-    steps_on now t answer on at seen still gives =
+        → Among p (Some tx) t answer (record { pass = now; tx = Some (record { at = at; steps = with_step tx.steps t answer on seen; kept = part }) })
+    steps_on now t answer on at seen part still gives =
         let step : Step = record { typed = t; answer = answer; on = on; seen = seen } in
         subst (λ (db : Database). GivesAmong o (one o p.seen) (Some (map told_of tx.steps)) t answer db (Some (map told_of (tx.steps ++ step ∷ [])))) (sym (one_still o p.seen now.seen still))
         (subst (λ (told : List Told). GivesAmong o (one o p.seen) (Some (map told_of tx.steps)) t answer (one o p.seen) (Some told)) (sym (map-push tx.steps step))
@@ -150,17 +150,17 @@ module _ (o : Opening) (opens : IsOpening o) (formed : is_vschema o.schema ≡ t
     gives_in _ _ _ q' w legal others after (x.nowhere {typed} {answer} none over) =
         let step : Step = record { typed = typed; answer = answer; on = None; seen = p.seen } in
         let any : IsAnywhere o step =
-        anywhere_kept o q' w (record { at = tx.at; steps = with_step tx.steps typed answer None p.seen }) after step (In-last step tx.steps) refl in
+        anywhere_kept o q' w (record { at = tx.at; steps = with_step tx.steps typed answer None p.seen; kept = tx.kept }) after step (In-last step tx.steps) refl in
         let all : IsEverywhere o (told_of step) = any.same in
-        steps_on p typed answer None tx.at p.seen (still_self p.seen)
+        steps_on p typed answer None tx.at p.seen tx.kept (still_self p.seen)
         (λ told is. m.everywhere told (subst (IsEverywhere o) (sym is) all))
-    gives_in _ _ _ q' w legal others after (x.on_shard {typed} {answer} {now} s needs all looked serves clear over) =
+    gives_in _ _ _ q' w legal others after (x.on_shard {typed} {answer} {now} s seats needs all looked serves clear over) =
         let still = looked_unchanged p now others o s.slot looked in
         let step : Step = record { typed = typed; answer = answer; on = Some s; seen = now.seen } in
         let done : InTurn o.schema (one o p.seen) (map told_of tx.steps ++ told_of step ∷ []) over.0 =
         subst (λ (told : List Told). InTurn o.schema (one o p.seen) told over.0) (map-push tx.steps step)
         (done_here now (tx.steps ++ step ∷ []) over.0 still over.1) in
-        steps_on now typed answer (Some s) now.seen now.seen still
+        steps_on now typed answer (Some s) now.seen now.seen (Some (record { keyspace = s.place.keyspace; seats = seats })) still
         (λ told is. m.within told (subst (λ (u : Told). InTurn o.schema (one o p.seen) (map told_of tx.steps ++ u ∷ []) over.0) (sym is) done))
     gives_in _ _ _ q' w legal others after (x.commits_nothing none) =
         let all : AllByRecursion (IsAnywhere o) tx.steps =
@@ -200,7 +200,7 @@ module _ (o : Opening) (opens : IsOpening o) (formed : is_vschema o.schema ≡ t
   gives_at p _ t reply _ tree q q' v w reads is legal others kept after typed_all (x.alone {now} gives) =
       let said = reply_over o opens formed l text p now reply legal others (record { statement = tree; typed = t; reads = reads; resolved = is; gives = gives }) in
       record { statement = said.statement; typed = said.typed; reads = said.reads; resolved = said.resolved; gives = m.by_itself said.gives }
-  gives_at p _ _ _ _ tree q q' v w reads is legal others kept after typed_all x.begins = answered p None typed.Begin done (record { pass = counted p; tx = Some (record { at = p.seen; steps = [] }) }) tree reads is m.begins
+  gives_at p _ _ _ _ tree q q' v w reads is legal others kept after typed_all x.begins = answered p None typed.Begin done (record { pass = counted p; tx = Some (record { at = p.seen; steps = []; kept = None }) }) tree reads is m.begins
   gives_at p _ _ _ _ tree q q' v w reads is legal others kept after typed_all x.commits = answered p None typed.Commit done (record { pass = counted p; tx = None }) tree reads is m.none_to_commit
   gives_at p _ _ _ _ tree q q' v w reads is legal others kept after typed_all x.rolls_back = answered p None typed.Rollback done (record { pass = counted p; tx = None }) tree reads is m.none_to_roll_back
   gives_at p _ t reply now tree q q' v w reads is legal others kept after typed_all (x.within {tx} gives) =
@@ -227,16 +227,20 @@ module _ (o : Opening) (opens : IsOpening o) (formed : is_vschema o.schema ≡ t
       → Left (record { pass = p; tx = Some tx }) e now
   refused_in p tx _ _ _ others (x.no_memory {now} gone) = record { why = λ none. absurd (has_some tx none); still = gone_same p now others o gone; tx = inl refl }
   refused_in p tx _ _ _ others x.open_twice = record { why = λ none. absurd (has_some tx none); still = still_self p.seen; tx = inl refl }
-  refused_in p tx _ _ _ others (x.several seats partition two) = record { why = λ none. absurd (has_some tx none); still = still_self p.seen; tx = inl refl }
-  refused_in p tx _ _ _ others (x.another seats seat u partition only uses other) = record { why = λ none. absurd (has_some tx none); still = still_self p.seen; tx = inl refl }
-  refused_in p tx _ _ _ others (x.duplicate {now} s after needs looked give twice) =
-      record { why = λ none. absurd (has_some tx none); still = looked_unchanged p now others o s.slot looked; tx = inl refl }
-  refused_in p tx _ _ _ others (x.moved {now} s of looked mode) =
+  refused_in p tx _ _ _ others (x.several {now = now} k seats none of found two gone) =
+      record { why = λ no. absurd (has_some tx no); still = gone_same p now others o gone; tx = inl refl }
+  refused_in p tx _ _ _ others (x.another k u uses part home partition seated of some other) =
+      record { why = λ none. absurd (has_some tx none); still = still_self p.seen; tx = inl refl }
+  refused_in p tx _ _ _ others (x.elsewhere k seats u uses of away partition some) =
+      record { why = λ none. absurd (has_some tx none); still = still_self p.seen; tx = inl refl }
+  refused_in p tx _ _ _ others (x.moved {now = now} s its looked mode) =
       record { why = λ none. absurd (has_some tx none); still = looked_unchanged p now others o s.slot looked; tx = inr (map told_of tx.steps, refl, refl) }
-  refused_in p tx _ _ _ others (x.conflict {now} s of looked conflict) =
+  refused_in p tx _ _ _ others (x.conflict {now = now} s its looked serves conflict) =
       record { why = λ none. absurd (has_some tx none); still = looked_unchanged p now others o s.slot looked; tx = inr (map told_of tx.steps, refl, refl) }
-  refused_in p tx _ _ _ others (x.full {now} s changes uses looked give room) =
-      record { why = λ none. absurd (has_some tx none); still = looked_unchanged p now others o s.slot looked; tx = inr (map told_of tx.steps, refl, refl) }
+  refused_in p tx _ _ _ others (x.duplicate {now = now} s after its at give twice) =
+      record { why = λ none. absurd (has_some tx none); still = looked_unchanged p now others o s.slot at.looked; tx = inl refl }
+  refused_in p tx _ _ _ others (x.full {now} s changes its at wrote made give room) =
+      record { why = λ none. absurd (has_some tx none); still = looked_unchanged p now others o s.slot at.looked; tx = inr (map told_of tx.steps, refl, refl) }
 
   by_itself : (p now : PassView Entry) (e : Refusal) → NoOthers p now → IsRefused o l (counted p) text e now
       → Left (record { pass = p; tx = None }) e (record { pass = now; tx = None })

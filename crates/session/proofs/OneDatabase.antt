@@ -36,9 +36,9 @@ use Rattle.route_engine.specs.inner.Answers as a
 use Rattle.shard_calls.specs.Answers.{counted}
 use Rattle.route_engine.specs.inner.Answers.{IsReply, IsRefused}
 use Rattle.shard_calls.specs.Alone as over
-use Rattle.shard_calls.specs.Alone.{NoOthers, NoCommits, GivesOver, IsRefusedOver}
+use Rattle.shard_calls.specs.Alone.{NoOthers, NoCommits, GivesOver, UsesTables, IsRefusedOver}
 use Rattle.shard_calls.specs.Transactions as x
-use Rattle.shard_calls.specs.Transactions.{Step, Transaction, Standing, GiveOver, AreOver, NeedsNone, used, if_any, writes_in, write_on, with_step, IsCommitted, GivesIn, GivesAt, IsReplyTo, IsConflict, IsRefusedIn, IsRefusedBy, IsRefusedNow, IsRefusedAt}
+use Rattle.shard_calls.specs.Transactions.{Step, Kept, statement_keyspace, Transaction, Standing, GiveOver, AreOver, NeedsNone, used, if_any, writes_in, write_on, with_step, IsCommitted, GivesIn, GivesAt, IsReplyTo, IsConflict, IsRefusedIn, IsRefusedBy, IsRefusedNow, IsRefusedAt}
 use Rattle.route_engine.proofs.NoOthers.{one_still, still_self, still_trans, unchanged, gone_same, looked_unchanged, all_front, all_back}
 use Rattle.route_engine.proofs.Over.{reply_over, refusal_over}
 use Rattle.route_engine.proofs.Sessions.{is_typed}
@@ -110,8 +110,8 @@ module _ (o : Opening) (run : Run) (t : Transaction) (told : List Told) (h : IsO
   told_more = ap (λ (l : List Told). l ++ told_of step ∷ []) h.same ∙ sym (map-push t.steps step)
 
   pub opened_more : (at : Run) → NoCommits at run → NoCommits step.seen run → AreOver o run more → LeavesAll o.schema (one o run) step
-      → IsOpenOver o run (record { at = at; steps = more }) (told ++ told_of step ∷ [])
-  opened_more at is seen over leaves = record {
+      → (kept : Option Kept) → IsOpenOver o run (record { at = at; steps = more; kept = kept }) (told ++ told_of step ∷ [])
+  opened_more at is seen over leaves kept = record {
     at = is;
     same = told_more;
     seen = all-append (λ (s : Step). NoCommits s.seen run) t.steps (step ∷ []) h.seen (seen, tt);
@@ -194,6 +194,15 @@ module _ (o : Opening) (run now : Run) (still : NoCommits run now) where
   over_still (Some t) None h = absurd h
   over_still (Some t) (Some told) h = opened_still t told h
 
+-- what has a keyspace is a query or a write
+uses_tables : (o : Opening) (t : Typed) (k : ℕ) → statement_keyspace o t ≡ Some k → UsesTables t
+uses_tables o (typed.Select q) k is = tt
+uses_tables o (typed.Write w) k is = tt
+uses_tables o typed.SetNames k is = absurd (cc is)
+uses_tables o typed.Begin k is = absurd (cc is)
+uses_tables o typed.Commit k is = absurd (cc is)
+uses_tables o typed.Rollback k is = absurd (cc is)
+
 -- ---- a statement of a session that is alone
 
 -- what it leads to over the one database
@@ -217,8 +226,8 @@ module _ (o : Opening) (opens : IsOpening o) (formed : is_vschema o.schema ≡ t
     goes_on : (still : NoCommits p.seen now.seen) (typed : Typed) (answer : Answer) (on : Option Shard) (at seen : Run) → NoCommits at now.seen → NoCommits seen now.seen
         → AreOver o now.seen (with_step t.steps typed answer on seen)
         → LeavesAll o.schema (one o now.seen) (record { typed = typed; answer = answer; seen = seen; on = on })
-        → Next typed answer (Some (record { at = at; steps = with_step t.steps typed answer on seen }))
-    goes_on still typed answer on at seen is then over leaves =
+        → (kept : Option Kept) → Next typed answer (Some (record { at = at; steps = with_step t.steps typed answer on seen; kept = kept }))
+    goes_on still typed answer on at seen is then over leaves kept =
         let step : Step = record { typed = typed; answer = answer; seen = seen; on = on } in
         let same : one o now.seen ≡ one o p.seen = one_still o p.seen now.seen still in
         let here = opened_still o p.seen now.seen still t told h in record {
@@ -227,7 +236,7 @@ module _ (o : Opening) (opens : IsOpening o) (formed : is_vschema o.schema ≡ t
               alone.within (told_of step) (subst (λ (db : Database). InTurn o.schema db (told ++ told_of step ∷ []) over.0) same
               (given_more o now.seen t told here step over.0 over.1));
           rows = sym same;
-          tx = opened_more o now.seen t told here step at is then over leaves;
+          tx = opened_more o now.seen t told here step at is then over leaves kept;
         }
 
     -- it has committed nothing
@@ -263,10 +272,10 @@ module _ (o : Opening) (opens : IsOpening o) (formed : is_vschema o.schema ≡ t
   gives_in_over p t told _ _ _ tree is legal others h (x.nowhere {typed} {answer} none over) =
       goes_on p p t told legal others h (still_self p.seen) typed answer None t.at p.seen h.at (still_self p.seen)
       (subst (λ (db : Database). (after : Database) × GiveOver o.schema db (with_step t.steps typed answer None p.seen) after) (same_rows o t.at p.seen h.at) over)
-      (nowhere_leaves o opens formed p.seen legal tree typed answer p.seen is none)
-  gives_in_over p t told _ _ _ tree is legal others h (x.on_shard {typed} {answer} {now} s needs all looked serves clear over) =
+      (nowhere_leaves o opens formed p.seen legal tree typed answer p.seen is none) t.kept
+  gives_in_over p t told _ _ _ tree is legal others h (x.on_shard {typed} {answer} {now} s seats needs all looked serves clear over) =
       goes_on p now t told legal others h (looked_unchanged p now others o s.slot looked) typed answer (Some s) now.seen now.seen (still_self now.seen) (still_self now.seen) over
-      (reads_leave o.schema (one o now.seen) typed answer now.seen s)
+      (reads_leave o.schema (one o now.seen) typed answer now.seen s) (Some (record { keyspace = s.place.keyspace; seats = seats }))
   gives_in_over p t told _ _ _ tree is legal others h (x.commits_nothing none) = commits_nothing p p t told legal others h (still_self p.seen) (writes_none t.steps none)
   gives_in_over p t told _ _ _ tree is legal others h (x.commits_reads {now} s uses none looked serves clear over) =
       commits_nothing p now t told legal others h (looked_unchanged p now others o s.slot looked) none
@@ -372,20 +381,25 @@ module _ (o : Opening) (opens : IsOpening o) (formed : is_vschema o.schema ≡ t
       left p now (Some t) (Some told) OutOfMemory h.over.0 (gone_same p now others o gone) h (all_given o p.seen t told h h.over.0 h.over.1) over.no_memory
   refused_in_over p t told _ _ _ tree reads is others h x.open_twice =
       record { state = record { db = one o p.seen; open_one = Some told }; holds = alone.begun_twice tree refl reads is; rows = refl; tx = h }
-  refused_in_over p t told _ _ _ tree reads is others h (x.several seats partition two) =
-      left p p (Some t) (Some told) _ h.over.0 (still_self p.seen) h (all_given o p.seen t told h h.over.0 h.over.1) over.several
-  refused_in_over p t told _ _ _ tree reads is others h (x.another seats seat u partition only used other) =
-      left p p (Some t) (Some told) _ h.over.0 (still_self p.seen) h (all_given o p.seen t told h h.over.0 h.over.1) over.several
-  refused_in_over p t told _ _ _ tree reads is others h (x.duplicate {w} {now} s after needs looked give twice) =
-      let still = looked_unchanged p now others o s.slot looked in
+  refused_in_over p t told _ _ _ tree reads is others h (x.several {typed} {now} k seats none of found two gone) =
+      left p now (Some t) (Some told) _ h.over.0 (gone_same p now others o gone) h (all_given o p.seen t told h h.over.0 h.over.1)
+      (over.several tree typed reads is (uses_tables o typed k of))
+  refused_in_over p t told _ _ _ tree reads is others h (x.another {typed} k u uses kept home partition seated of some other) =
+      left p p (Some t) (Some told) _ h.over.0 (still_self p.seen) h (all_given o p.seen t told h h.over.0 h.over.1)
+      (over.several tree typed reads is (uses_tables o typed k.keyspace of))
+  refused_in_over p t told _ _ _ tree reads is others h (x.elsewhere {typed} k seats u uses of away partition some) =
+      left p p (Some t) (Some told) _ h.over.0 (still_self p.seen) h (all_given o p.seen t told h h.over.0 h.over.1)
+      (over.several tree typed reads is (uses_tables o typed k of))
+  refused_in_over p t told _ _ _ tree reads is others h (x.moved {now = now} s its looked mode) =
+      ended p now told _ (looked_unchanged p now others o s.slot looked) tt
+  refused_in_over p t told _ _ _ tree reads is others h (x.conflict {now = now} s its looked serves conflict) =
+      absurd (no_conflict p now t told s h (looked_unchanged p now others o s.slot looked) conflict)
+  refused_in_over p t told _ _ _ tree reads is others h (x.duplicate {w} {now} s after its at give twice) =
+      let still = looked_unchanged p now others o s.slot at.looked in
       left p now (Some t) (Some told) _ after still h
       (all_given o p.seen t told h after (subst (λ (db : Database). GiveOver o.schema db t.steps after) (one_still o p.seen now.seen still) give)) (over.duplicate tree w reads is twice)
-  refused_in_over p t told _ _ _ tree reads is others h (x.moved {now} s of looked mode) =
-      ended p now told _ (looked_unchanged p now others o s.slot looked) tt
-  refused_in_over p t told _ _ _ tree reads is others h (x.conflict {now} s of looked conflict) =
-      absurd (no_conflict p now t told s h (looked_unchanged p now others o s.slot looked) conflict)
-  refused_in_over p t told _ _ _ tree reads is others h (x.full {now} s changes used looked give room) =
-      ended p now told _ (looked_unchanged p now others o s.slot looked) tt
+  refused_in_over p t told _ _ _ tree reads is others h (x.full {now} s changes its at wrote made give room) =
+      ended p now told _ (looked_unchanged p now others o s.slot at.looked) tt
 
   -- without a transaction
   refused_by_itself : (p now : PassView Entry) (e : Refusal) (told : Option (List Told)) → NoOthers p now → IsOverAt o p.seen None told → IsRefused o l (counted p) text e now

@@ -56,7 +56,7 @@ module _ (o : Opening) (l : Limits) where
 
   gives_in_on : (p : PassView Entry) (tx : Transaction) (t : Typed) (reply : Reply) (now : Standing) → GivesIn o l p tx t reply now → Follows o p now.pass
   gives_in_on p tx _ _ _ (x.nowhere none over) = stays p
-  gives_in_on p tx _ _ _ (x.on_shard {now} s alone all looked serves clear over) = looked_on s.slot p now looked
+  gives_in_on p tx _ _ _ (x.on_shard {now = now} s seats needs all looked serves clear over) = looked_on s.slot p now looked
   gives_in_on p tx _ _ _ (x.commits_nothing none) = stays p
   gives_in_on p tx _ _ _ (x.commits_reads {now} s used none looked serves clear over) = looked_on s.slot p now looked
   gives_in_on p tx _ _ _ (x.commits_writes {now} s used some c) = committed_on s p tx.steps now c
@@ -88,12 +88,13 @@ module _ (o : Opening) (l : Limits) where
     refused_in_on : (p : PassView Entry) (tx : Transaction) (t : Typed) (e : Refusal) (now : Standing) → IsRefusedIn o l p tx t e now → Follows o p now.pass
     refused_in_on p tx _ _ _ (x.no_memory {now} gone) = gone_on p now gone
     refused_in_on p tx _ _ _ x.open_twice = stays p
-    refused_in_on p tx _ _ _ (x.several seats partition more) = stays p
-    refused_in_on p tx _ _ _ (x.another seats seat u partition only used other) = stays p
-    refused_in_on p tx _ _ _ (x.duplicate {now} s after alone looked over twice) = looked_on s.slot p now looked
-    refused_in_on p tx _ _ _ (x.moved {now} s of looked mode) = looked_on s.slot p now looked
-    refused_in_on p tx _ _ _ (x.conflict {now} s of looked is) = looked_on s.slot p now looked
-    refused_in_on p tx _ _ _ (x.full {now} s changes used looked over room) = looked_on s.slot p now looked
+    refused_in_on p tx _ _ _ (x.several {now = now} k seats none of found more gone) = gone_on p now gone
+    refused_in_on p tx _ _ _ (x.another k u uses kept home partition seated of some other) = stays p
+    refused_in_on p tx _ _ _ (x.elsewhere k seats u uses of away partition some) = stays p
+    refused_in_on p tx _ _ _ (x.moved {now = now} s its looked mode) = looked_on s.slot p now looked
+    refused_in_on p tx _ _ _ (x.conflict {now = now} s its looked serves is) = looked_on s.slot p now looked
+    refused_in_on p tx _ _ _ (x.duplicate {now = now} s after its at over twice) = looked_on s.slot p now at.looked
+    refused_in_on p tx _ _ _ (x.full {now} s changes its at wrote made over room) = looked_on s.slot p now at.looked
 
     refused_by_on : (p : PassView Entry) (tx : Option Transaction) (t : Typed) (e : Refusal) (now : Standing) (tree : Statement) → Reads text tree
         → typed_statement o.schema tree ≡ Ok t → IsRefusedBy o l (counted p) tx t e now → Follows o p now.pass

@@ -28,7 +28,7 @@ module _ (o : Opening) (l : Limits) where
   gives_in : (p : PassView Entry) (tx : Transaction) (t : Typed) (reply : Reply) (now : Standing) (tree : Statement) → typed_statement o.schema tree ≡ Ok t
       → AllByRecursion (IsTypedStep o) tx.steps → GivesIn o l p tx t reply now → AreTyped o now.tx
   gives_in p tx _ _ _ tree is all (x.nowhere {typed} {answer} none over) = one_more tx tree typed answer None p.seen is all
-  gives_in p tx _ _ _ tree is all (x.on_shard {typed} {answer} {now} s needs same looked serves clear over) = one_more tx tree typed answer (Some s) now.seen is all
+  gives_in p tx _ _ _ tree is all (x.on_shard {typed} {answer} {now} s seats needs same looked serves clear over) = one_more tx tree typed answer (Some s) now.seen is all
   gives_in p tx _ _ _ tree is all (x.commits_nothing none) = tt
   gives_in p tx _ _ _ tree is all (x.commits_reads s uses none looked serves clear over) = tt
   gives_in p tx _ _ _ tree is all (x.commits_writes s uses some c) = tt
@@ -46,12 +46,13 @@ module _ (o : Opening) (l : Limits) where
       → AreTyped o now.tx
   refused_in p tx _ _ _ all (x.no_memory gone) = all
   refused_in p tx _ _ _ all x.open_twice = all
-  refused_in p tx _ _ _ all (x.several seats partition two) = all
-  refused_in p tx _ _ _ all (x.another seats seat u partition only uses other) = all
-  refused_in p tx _ _ _ all (x.duplicate s after needs looked give twice) = all
-  refused_in p tx _ _ _ all (x.moved s of looked mode) = tt
-  refused_in p tx _ _ _ all (x.conflict s of looked conflict) = tt
-  refused_in p tx _ _ _ all (x.full s changes uses looked give room) = tt
+  refused_in p tx _ _ _ all (x.several k seats none of found two gone) = all
+  refused_in p tx _ _ _ all (x.another k u uses kept home partition seated of some other) = all
+  refused_in p tx _ _ _ all (x.elsewhere k seats u uses of away partition some) = all
+  refused_in p tx _ _ _ all (x.moved s its looked mode) = tt
+  refused_in p tx _ _ _ all (x.conflict s its looked serves conflict) = tt
+  refused_in p tx _ _ _ all (x.duplicate s after its at give twice) = all
+  refused_in p tx _ _ _ all (x.full s changes its at wrote made give room) = tt
 
   refused_by : (p : PassView Entry) (tx : Option Transaction) (t : Typed) (e : Refusal) (now : Standing) → AreTyped o tx → IsRefusedBy o l p tx t e now → AreTyped o now.tx
   refused_by p _ _ e _ all (x.not_read why) = tt

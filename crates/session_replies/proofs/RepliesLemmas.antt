@@ -170,7 +170,7 @@ unshown o l s text _ now (q.refused why) rows = absurd rows
 -- the status tells whether a transaction is open
 status_is : (o : Opening) (p : PassView Entry) (kept : Option OpenView) (t : Option Transaction) → Stands o p kept t → status_with kept ≡ status_with t
 status_is o p _ _ stands.closed = refl
-status_is o p _ _ (stands.unbound legal all) = refl
+status_is o p _ _ (stands.unbound legal all none) = refl
 status_is o p _ _ (stands.bound is) = refl
 
 pub kept_status : (o : Opening) (p : PassView Entry) (kept : Option OpenView) (s : PassAndTransaction) → IsKept o p kept s → status_with kept ≡ status_with s.tx

@@ -187,6 +187,20 @@ impl<W: World, J: Naming> ShardState<W, J> {
             && shard.place.range == place.range
     }
 
+    /// Whether it is the shard of this slot and place, and no target that follows its sources.
+    pub fn is_found_at(&self, slot: usize, place: &Place) -> bool
+        ensures at { result ≡ true → (self.now.shard.slot ≡ slot) × (self.now.shard.place ≡ place.now) }
+        ensures past { result ≡ true → mode W.opening self.now.seen self.now.shard.slot ≡ Mode.Following → ⊥ }
+    {
+        if !self.stands_at(slot, place) {
+            return false;
+        }
+        match self.mode() {
+            Mode::Following => false,
+            _ => true,
+        }
+    }
+
     /// Whether it is this shard.
     pub fn is(&self, shard: &Shard) -> bool
         ensures { IsTrue result ↔ (self.now.shard ≡ shard.now) }
@@ -371,6 +385,7 @@ impl<W: World, J: Naming> ShardState<W, J> {
         ensures answered { IfOk result (λ c. HasAnswered W.opening W.limits self.old.shard pass.old write c pass.new) }
         ensures looked { OnErr result (HasLooked W.opening self.old.shard.slot pass.old pass.new) }
         ensures refused { IfErr result (IsCommitRefusal W.opening W.limits self.old.shard pass.new.seen write) }
+        ensures serving { OnErr result (mode W.opening pass.new.seen self.old.shard.slot ≡ Mode.Serving) }
         ensures seen { self.new.seen ≡ pass.new.seen }
         ensures later { IsPrefix self.old.seen self.new.seen }
         ensures shard { self.new.shard ≡ self.old.shard }

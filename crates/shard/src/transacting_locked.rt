@@ -4,7 +4,7 @@ ghost use Rattle.vschema.specs.Sources.{SourcesThere};
 ghost use Rattle.sql_eval.specs.Writes.{written_table};
 ghost use Rattle.journal.specs.Runs.{NumbersBelow};
 ghost use Rattle.shard_run.specs.declared.Shard as which;
-ghost use Rattle.shard_run.specs.Runs.{entries_on};
+ghost use Rattle.shard_run.specs.Runs.{entries_on, mode};
 ghost use Rattle.shard_law.specs.Legal.{IsOnItsSlot};
 ghost use Rattle.shard_contents.specs.Shards.{commit_of, HasLooked};
 ghost use Rattle.shard.specs.Seats.{place_at};
@@ -14,6 +14,7 @@ use crate::locked::Shard;
 use crate::world::{ShardLaw, World};
 use journal::{Naming, Pass};
 use shard_contents::{Pending, Reading};
+use shard_run::Mode;
 use std::alloc::Global;
 use std::sync::Wait;
 use vschema::{Query, VSchema, Write};
@@ -30,10 +31,11 @@ impl<W: World, J: Naming> Shard<W, J> {
         ensures check { (s : which.Shard) × IsOnItsSlot W.opening pass.new.seen s × (s.slot ≡ self.now.0) × (s.place ≡ place_at self.now) × HasLooked W.opening self.now.0 pass.old pass.new
             × MatchResult result (λ n. (n ≡ length (entries_on self.now.0 pass.new.seen)) × IsClear W.opening s pass.new.seen tx.now)
             (IsStopped W.opening s pass.new.seen tx.now) }
+        ensures past { mode W.opening pass.new.seen self.now.0 ≡ Mode.Following → ⊥ }
     {
         for _ in rt.forever() {
             let mut state = self.state.lock(rt);
-            if state.stands_at(self.slot, &self.place) {
+            if state.is_found_at(self.slot, &self.place) {
                 return state.check(pass, tx);
             }
         }
@@ -56,10 +58,11 @@ impl<W: World, J: Naming> Shard<W, J> {
         ensures read { (s : which.Shard) × IsOnItsSlot W.opening pass.new.seen s × (s.slot ≡ self.now.0) × (s.place ≡ place_at self.now) × HasLooked W.opening self.now.0 pass.old pass.new
             × MatchResult result (λ r. HasReadIn W.opening s tx.old pass.new.seen query.now r.rows r.entries tx.new)
             (λ e. IsReadRefusal W.opening s pass.new.seen tx.old e × (tx.new ≡ tx.old)) }
+        ensures past { mode W.opening pass.new.seen self.now.0 ≡ Mode.Following → ⊥ }
     {
         for _ in rt.forever() {
             let mut state = self.state.lock(rt);
-            if state.stands_at(self.slot, &self.place) {
+            if state.is_found_at(self.slot, &self.place) {
                 return state.read_in(alloc, pass, tx, query);
             }
         }
@@ -81,10 +84,11 @@ impl<W: World, J: Naming> Shard<W, J> {
         ensures written { (s : which.Shard) × IsOnItsSlot W.opening pass.new.seen s × (s.slot ≡ self.now.0) × (s.place ≡ place_at self.now) × HasLooked W.opening self.now.0 pass.old pass.new
             × MatchResult result (λ count. HasWrittenIn W.opening s tx.old pass.new.seen write count tx.new)
             (λ e. IsWriteRefusal W.opening s pass.new.seen tx.old write e × (tx.new ≡ tx.old)) }
+        ensures past { mode W.opening pass.new.seen self.now.0 ≡ Mode.Following → ⊥ }
     {
         for _ in rt.forever() {
             let mut state = self.state.lock(rt);
-            if state.stands_at(self.slot, &self.place) {
+            if state.is_found_at(self.slot, &self.place) {
                 return state.write_in(alloc, pass, tx, schema, write);
             }
         }
@@ -105,10 +109,11 @@ impl<W: World, J: Naming> Shard<W, J> {
         ensures commit { (s : which.Shard) × IsOnItsSlot W.opening pass.new.seen s × (s.slot ≡ self.now.0) × (s.place ≡ place_at self.now)
             × MatchResult result (λ _. HasCommittedAll W.opening W.limits s pass.old tx.old pass.new)
             (λ e. HasLooked W.opening self.now.0 pass.old pass.new × IsCommitAllRefusal W.opening W.limits s pass.new.seen tx.old e × (tx.new ≡ tx.old)) }
+        ensures past { mode W.opening pass.new.seen self.now.0 ≡ Mode.Following → ⊥ }
     {
         for _ in rt.forever() {
             let mut state = self.state.lock(rt);
-            if state.stands_at(self.slot, &self.place) {
+            if state.is_found_at(self.slot, &self.place) {
                 return state.commit_in(alloc, pass, tx);
             }
         }

@@ -3,3 +3,4 @@ pub mod Workers
 pub mod Taken
 pub mod Sent
 pub mod Calling
+pub mod Finding

@@ -1,8 +1,8 @@
 -- What a statement gives over one database, which knows no shards, passes or entries.
-use Rattle.std.specs.Prelude.{◌≡◌, ℕ, true, false, List, ◌++◌, length, Some, None, Ok, Err}
+use Rattle.std.specs.Prelude.{◌≡◌, ℕ, List, ◌++◌, length, Some, None, Ok, Err}
 use Rattle.std.specs.List.{AllByRecursion}
 use Rattle.vt_value.specs.declared.refusal.Refusal.{Refusal}
-use Rattle.vt_value.specs.declared.refusal.Refusal.TheVariants.{OutOfMemory, SyntaxError, NotSupported, SeveralShards, DuplicateKey, BufferFull, ShardFull}
+use Rattle.vt_value.specs.declared.refusal.Refusal.TheVariants.{OutOfMemory, SyntaxError, SeveralShards, DuplicateKey, BufferFull, ShardFull}
 use Rattle.sql_tree.specs.declared.Statement.{Statement}
 use Rattle.sql_parser.specs.Grammar.{Reads}
 use Rattle.vschema.specs.declared.schema.VSchema.{VSchema}
@@ -23,7 +23,6 @@ use Rattle.shard_contents.specs.Shards.{commit_of}
 use Rattle.shard_calls.specs.declared.reply.Selected.{Selected}
 use Rattle.shard_calls.specs.declared.reply.Answer.{Answer}
 use Rattle.shard_calls.specs.declared.reply.Answer.TheVariants.{Rows, Count}
-use Rattle.shard_calls.specs.Answers.{is_run}
 
 -- a commit of the session, or an entry that is no commit: shards copy, follow and change places
 abbrev pub IsNoOthers : ℕ → Entry → Type 0
@@ -52,16 +51,22 @@ pub data GivesOver (schema : VSchema) (db : Database) : Typed → Answer → Dat
       → GivesOver schema db (typed.Write w) (Count (length changes)) (all_applied changes db)
   sets_names : GivesOver schema db typed.SetNames (Count 0) db
 
--- Why a text is refused over a database: it has no tree; its tree is refused under the VSchema; what it means isn't run yet; a primary key
--- of it is there already. Memory, limits, the shards that a write needs and those that change places are nothing of the database's.
+-- a query or a write
+abbrev pub UsesTables : Typed → Type 0
+UsesTables (typed.Select q) = Unit {0}
+UsesTables (typed.Write w) = Unit {0}
+UsesTables _ = ⊥
+
+-- Why a text is refused over a database: it has no tree; its tree is refused under the VSchema; a primary key of it is there already.
+-- Memory, limits, the shards that a query or a write needs and those that change places are nothing of the database's.
 pub data IsRefusedOver (schema : VSchema) (db : Database) (text : List ℕ) : Refusal → Type 0 where
   no_tree : ((statement : Statement) → Reads text statement → ⊥) → IsRefusedOver schema db text SyntaxError
   not_typed : {r : Refusal} (statement : Statement) → Reads text statement → typed_statement schema statement ≡ Err r → IsRefusedOver schema db text r
-  not_run : (statement : Statement) (t : Typed) → Reads text statement → typed_statement schema statement ≡ Ok t → is_run t ≡ false
-      → IsRefusedOver schema db text NotSupported
   duplicate : (statement : Statement) (w : Write) → Reads text statement → typed_statement schema statement ≡ Ok (typed.Write w)
       → changes_of schema w db ≡ Err DuplicateKey → IsRefusedOver schema db text DuplicateKey
   no_memory : IsRefusedOver schema db text OutOfMemory
-  several : IsRefusedOver schema db text SeveralShards
+  several : (statement : Statement) (t : Typed) → Reads text statement → typed_statement schema statement ≡ Ok t → UsesTables t
+      → IsRefusedOver schema db text SeveralShards
+  waits : (statement : Statement) (t : Typed) → Reads text statement → typed_statement schema statement ≡ Ok t → UsesTables t
+      → IsRefusedOver schema db text BufferFull
   full : IsRefusedOver schema db text ShardFull
-  waits : IsRefusedOver schema db text BufferFull

@@ -1,36 +1,37 @@
 -- What executing a text answers, or the refusal for its cause.
-use Rattle.std.specs.Prelude.{◌≡◌, ℕ, ◌+◌, ◌≤◌, Bool, true, false, List, [], ◌∷◌, ◌++◌, length, filter, Contains, Some}
-use Rattle.std.specs.List.{AllZip}
+use Rattle.std.specs.Prelude.{◌≡◌, ℕ, ◌+◌, ◌≤◌, Bool, true, false, List, [], ◌∷◌, ◌++◌, length, filter, Contains, Some, Ok, Err}
+use Rattle.std.specs.List.{AllByRecursion, AllZip}
 use mathlib.Core.List.{IsPrefix}
 use Rattle.vt_value.specs.declared.refusal.Refusal.{Refusal}
-use Rattle.vt_value.specs.declared.refusal.Refusal.TheVariants.{OutOfMemory, SeveralShards, BufferFull}
+use Rattle.vt_value.specs.declared.refusal.Refusal.TheVariants.{OutOfMemory, SeveralShards, DuplicateKey, BufferFull, ShardFull}
 use Rattle.vschema.specs.declared.schema.Table.{Table}
 use Rattle.vschema.specs.declared.schema.Query.{Query}
 use Rattle.vschema.specs.declared.schema.Typed.{Typed}
 use Rattle.vschema.specs.declared.schema.Typed.TheVariants as typed
 use Rattle.vschema.specs.declared.changes.Write.{Write}
+use Rattle.vschema.specs.declared.changes.RowChange.{RowChange}
 use Rattle.sql_eval.specs.Queries.{Allowed}
-use Rattle.sql_eval.specs.Writes.{written_table}
+use Rattle.sql_eval.specs.Writes.{written_table, changes_of}
 use Rattle.planner.specs.declared.routes.Route.{Route}
 use Rattle.planner.specs.Routes.{table_at, route_of, write_route, takes}
 use Rattle.journal.specs.Runs.{IsLegal, by_session}
 use Rattle.journal.specs.Views.{PassView}
 use Rattle.shard_run.specs.declared.Mode.{Mode}
-use Rattle.shard_run.specs.declared.Mode.TheVariants.{Serving}
+use Rattle.shard_run.specs.declared.Mode.TheVariants.{Following, Serving}
 use Rattle.shard_run.specs.declared.Shard.{Shard}
 use Rattle.shard_run.specs.declared.Entry.{Entry}
-use Rattle.shard_run.specs.Runs.{Opening, mode, is_serving, entries_on}
+use Rattle.shard_run.specs.Runs.{Run, Opening, IsShardOf, one, held, mode, is_serving, entries_on}
 use Rattle.shard_contents.specs.declared.limits.Limits.{Limits}
-use Rattle.shard_law.specs.Legal.{IsOnItsSlot}
 use Rattle.shard_law.specs.Law.{Serves}
-use Rattle.serving.specs.Partitions.{Seat, IsPartition}
+use Rattle.serving.specs.Partitions.{Seat, IsPartition, AreOf}
 use Rattle.shard_contents.specs.Shards.{MayFollow, HasLooked, commit_of}
-use Rattle.shard_contents.specs.Commits.{HasCommitted, IsCommitRefusal}
+use Rattle.shard_contents.specs.Commits.{HasCommitted, HasRoom}
 use Rattle.shard_calls.specs.declared.reply.Selected.{Selected}
 use Rattle.shard_calls.specs.declared.reply.Answer.TheVariants.{Rows, Count}
 use Rattle.shard_calls.specs.declared.reply.ShardRead.{ShardRead}
 use Rattle.shard_calls.specs.declared.reply.Reply.{Reply}
 use Rattle.shard.specs.Seats.{seat_of}
+use Rattle.shard_calls.specs.Alone.{GivesOver}
 use Rattle.shard_calls.specs.Mix.{Part, Mix, mixed_rows}
 
 -- the pass once its session's next statement is numbered
@@ -80,8 +81,28 @@ pub data HasRead (o : Opening) (p : PassView Entry) (query : Query) : Reply → 
   read : {selected : Selected} {reads : List ShardRead} {now : PassView Entry} → IsSelected o p (table_at o.schema query.table) query selected reads now
       → HasRead o p query (record { answer = Rows selected; reads = reads }) now
 
+-- a shard of the run that serves, or has served: one that is no target which follows
+pub record HasServed (o : Opening) (run : Run) (s : Shard) : Type 0 where
+  pub of_run : IsShardOf o run s
+  pub past : mode o run s.slot ≡ Following → ⊥
+
+-- At a moment between, the seat was that of such a shard.
+pub record WasFound (o : Opening) (before now : Run) (seat : Seat) : Type 0 where
+  pub run : Run
+  pub since : IsPrefix before run
+  pub until : IsPrefix run now
+  pub shard : Shard
+  pub served : HasServed o run shard
+  pub seated : seat_of shard ≡ seat
+
+-- A partition of the keyspace, each of whose shards was found at a moment between.
+pub record IsFoundPartition (o : Opening) (before now : Run) (keyspace : ℕ) (seats : List Seat) : Type 0 where
+  pub partition : IsPartition seats
+  pub home : AreOf keyspace seats
+  pub found : AllByRecursion (WasFound o before now) seats
+
 -- A shard that a statement on the table with this route needs by a partition didn't answer at some moment between: its mode was none of
--- these.
+-- these. It is a shard of the run, which had served.
 pub record IsHeldUp (o : Opening) (t : Table) (r : Route) (answers : Mode → Bool) (before now : List Entry) : Type 0 where
   pub seats : List Seat
   pub partition : IsPartition seats
@@ -91,7 +112,7 @@ pub record IsHeldUp (o : Opening) (t : Table) (r : Route) (answers : Mode → Bo
   pub since : IsPrefix before run
   pub until : IsPrefix run now
   pub shard : Shard
-  pub stands : IsOnItsSlot o run shard
+  pub served : HasServed o run shard
   pub on_slot : shard.slot ≡ seat.0
   pub in_place : shard.place ≡ record { keyspace = t.keyspace; range = seat.1 }
   pub held_up : answers (mode o run shard.slot) ≡ false
@@ -114,12 +135,15 @@ pub record NeedsAlone (o : Opening) (w : Write) (s : Shard) : Type 0 where
   pub keyspace : s.place.keyspace ≡ (table_at o.schema (written_table w)).keyspace
   pub only : needed_by o w seats ≡ seat_of s ∷ []
 
--- A write that needs no shard counts 0 and does nothing. Another needs one shard, on which the session has committed it, after looks at
--- most, and the reply counts its changes.
+-- A write that needs no shard counts 0 and does nothing, which is what it means over the one database. Another needs one shard, on which the
+-- session has committed it, after looks at most. The reply counts what it means over the one database right before its entry, which leads to
+-- the one right behind it.
 pub data HasWritten (o : Opening) (limits : Limits) (p : PassView Entry) (w : Write) : Reply → PassView Entry → Type 0 where
   nowhere : {now : PassView Entry} (seats : List Seat) → IsPartition seats → needed_by o w seats ≡ [] → HasGone o p now
+      → GivesOver o.schema (one o now.seen) (typed.Write w) (Count 0) (one o now.seen)
       → HasWritten o limits p w (record { answer = Count 0; reads = [] }) now
-  wrote : {count : ℕ} {since now : PassView Entry} (s : Shard) → NeedsAlone o w s → HasGone o p since → HasCommitted o limits s since w count now
+  wrote : {count : ℕ} {since now : PassView Entry} (s : Shard) → NeedsAlone o w s → HasGone o p since → (entry : HasCommitted o limits s since w count now)
+      → GivesOver o.schema (one o entry.before) (typed.Write w) (Count count) (one o now.seen)
       → HasWritten o limits p w (record { answer = Count count; reads = [] }) now
 
 -- what a typed statement gives: a query has its rows, a write is committed; SET NAMES counts 0, and no shard is used
@@ -128,26 +152,28 @@ pub data Gives (o : Opening) (limits : Limits) (p : PassView Entry) : Typed → 
   writes : {w : Write} {reply : Reply} {now : PassView Entry} → HasWritten o limits p w reply now → Gives o limits p (typed.Write w) reply now
   sets_names : Gives o limits p typed.SetNames (record { answer = Count 0; reads = [] }) p
 
--- the statements that are run so far: queries, writes and SET NAMES
-abbrev pub is_run : Typed → Bool
-is_run (typed.Select q) = true
-is_run (typed.Write w) = true
-is_run typed.SetNames = true
-is_run _ = false
-
 -- a shard that takes commits
 abbrev pub is_writable : Mode → Bool
 is_writable Serving = true
 is_writable _ = false
 
--- Why a write is refused: a growth was refused; by some partition it needs more than one shard; the buffer was full when its shard took
--- no commits; or its one shard refuses it at one look, for want of memory, for its primary keys, or for a limit.
+-- Why a shard that takes commits refuses a write at a run: want of memory; the write has a primary key that is there already in the one
+-- database; its changes would pass a limit of the shard.
+pub data IsShardRefusal (o : Opening) (limits : Limits) (s : Shard) (run : Run) (w : Write) : Refusal → Type 0 where
+  no_memory : IsShardRefusal o limits s run w OutOfMemory
+  duplicate : changes_of o.schema w (one o run) ≡ Err DuplicateKey → IsShardRefusal o limits s run w DuplicateKey
+  full : (changes : List RowChange) → changes_of o.schema w (held o run s) ≡ Ok changes → (HasRoom o limits s run changes → ⊥)
+      → IsShardRefusal o limits s run w ShardFull
+
+-- Why a write is refused: a growth was refused; by a partition of its keyspace, whose shards were found, it needs more than one; the buffer was
+-- full when its shard took no commits; or its one shard, which serves at a look and isn't frozen, refuses it.
 pub data MayWriteRefuse (o : Opening) (limits : Limits) (p : PassView Entry) (w : Write) : Refusal → PassView Entry → Type 0 where
   no_memory : {now : PassView Entry} → HasGone o p now → MayWriteRefuse o limits p w OutOfMemory now
-  several : {now : PassView Entry} (seats : List Seat) → IsPartition seats → 2 ≤ length (needed_by o w seats) → HasGone o p now
-      → MayWriteRefuse o limits p w SeveralShards now
+  several : {now : PassView Entry} (seats : List Seat)
+      → IsFoundPartition o p.seen now.seen (table_at o.schema (written_table w)).keyspace seats → 2 ≤ length (needed_by o w seats)
+      → HasGone o p now → MayWriteRefuse o limits p w SeveralShards now
   buffer_full : {now : PassView Entry} → HasGone o p now
       → IsHeldUp o (table_at o.schema (written_table w)) (write_route o.schema w) is_writable p.seen now.seen
       → MayWriteRefuse o limits p w BufferFull now
   refused : {r : Refusal} {since now : PassView Entry} (s : Shard) → NeedsAlone o w s → HasGone o p since → HasLooked o s.slot since now
-      → IsCommitRefusal o limits s now.seen w r → MayWriteRefuse o limits p w r now
+      → HasServed o now.seen s → mode o now.seen s.slot ≡ Serving → IsShardRefusal o limits s now.seen w r → MayWriteRefuse o limits p w r now

@@ -18,7 +18,7 @@ use Rattle.shard_run.specs.declared.Shard.{Shard}
 use Rattle.shard_run.specs.declared.Entry.{Entry}
 use Rattle.shard_run.specs.Runs.{Run, Opening, one, held, mode, stored_on}
 use Rattle.shard_law.specs.Legal.{IsOnItsSlot, IsChangeOf}
-use Rattle.serving.specs.Partitions.{Seat}
+use Rattle.serving.specs.Partitions.{Seat, IsPartition}
 use Rattle.shard_contents.specs.declared.touch.Touch.{Touch}
 use Rattle.shard_contents.specs.Shards.{MayFollow, commit_of}
 use Rattle.shard_contents.specs.Transactions.{PendingView, nothing_done, is_touched, IsPending}
@@ -29,18 +29,19 @@ use Rattle.shard_calls.specs.Answers.{NeedsAlone}
 use Rattle.shard_calls.specs.Alone.{GivesOver}
 use Rattle.shard_calls.specs.Transactions.{Step, Transaction, ReadsAlone, NeedsNone, tables_of, used}
 
--- the keyspace and the seat of the shard that an open transaction is bound to
+-- the keyspace and the seat of the shard that an open transaction is bound to, and the partition by which it was needed
 pub record BoundView : Type 0 where
   pub keyspace : ℕ
   pub seat : Seat
+  pub seats : List Seat
 
 -- the shard that an open transaction is bound to, if it is, and what it has done there
 pub record OpenView : Type 0 where
   pub bound : Option BoundView
   pub pending : PendingView
 
-abbrev pub bound_of : Shard → BoundView
-bound_of s = record { keyspace = s.place.keyspace; seat = seat_of s }
+abbrev pub bound_of : Shard → List Seat → BoundView
+bound_of s seats = record { keyspace = s.place.keyspace; seat = seat_of s; seats = seats }
 
 -- a statement that needs no shard gives the same over the one database of every run, and leaves it
 pub record IsAnywhere (o : Opening) (step : Step) : Type 0 where
@@ -88,12 +89,17 @@ pub record WasTouched (s : Shard) (touched : List Touch) (n : ℕ) (seen : Run) 
 abbrev pub HasTouched : Shard → List Touch → Step → Type 0
 HasTouched s touched step = (n : ℕ) → step.on ≡ Some s → Contains (tables_of step.typed) n → WasTouched s touched n step.seen
 
--- bound to a shard, where it has gone on up to the run of the transaction, which the pass has seen, and has made no commit since
+-- bound to a shard of the partition that it keeps, where it has gone on up to the run of the transaction, which the pass has seen, and has made
+-- no commit since
 pub record IsBound (o : Opening) (p : PassView Entry) (v : OpenView) (t : Transaction) : Type 0 where
   pub shard : Shard
   pub stands : IsOnItsSlot o t.at shard
   pub serves : mode o t.at shard.slot ≡ Serving
-  pub bound : v.bound ≡ Some (bound_of shard)
+  pub seats : List Seat
+  pub bound : v.bound ≡ Some (bound_of shard seats)
+  pub partition : IsPartition seats
+  pub seated : Contains seats (seat_of shard)
+  pub kept : t.kept ≡ Some (record { keyspace = shard.place.keyspace; seats = seats })
   pub uses : Contains (used t.steps) shard
   pub pending : IsPending o shard t.at v.pending
   pub told : AreTold o shard t.at v.pending.touched t.steps v.pending.writes v.pending.changes
@@ -105,7 +111,7 @@ pub record IsBound (o : Opening) (p : PassView Entry) (v : OpenView) (t : Transa
 -- What the program keeps stands for the session's transaction: none is open; an open one has used no shard; or it is bound to one.
 pub data Stands (o : Opening) (p : PassView Entry) : Option OpenView → Option Transaction → Type 0 where
   closed : Stands o p None None
-  unbound : {t : Transaction} → IsLegal (MayFollow o) t.at → AllByRecursion (IsAnywhere o) t.steps
+  unbound : {t : Transaction} → IsLegal (MayFollow o) t.at → AllByRecursion (IsAnywhere o) t.steps → t.kept ≡ None
       → Stands o p (Some (record { bound = None; pending = nothing_done })) (Some t)
   bound : {v : OpenView} {t : Transaction} → IsBound o p v t → Stands o p (Some v) (Some t)
 

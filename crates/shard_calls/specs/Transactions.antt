@@ -25,7 +25,8 @@ use Rattle.shard_run.specs.declared.Commit as C
 use Rattle.shard_run.specs.declared.Mode.TheVariants.{Serving}
 use Rattle.shard_run.specs.declared.Event.TheVariants.{Commit}
 use Rattle.shard_run.specs.declared.Entry.{Entry}
-use Rattle.shard_run.specs.Runs.{Run, Opening, one, mode, entries_on}
+use Rattle.shard_run.specs.Runs.{Run, Opening, one, held, mode, entries_on}
+use Rattle.shard_law.specs.Legal.{AreChangesOf}
 use Rattle.serving.specs.Partitions.{Seat, IsPartition}
 use Rattle.shard_contents.specs.declared.limits.Limits.{Limits}
 use Rattle.shard_contents.specs.Shards.{MayFollow, HasLooked, commit_of}
@@ -36,7 +37,7 @@ use Rattle.shard_calls.specs.declared.reply.Answer.TheVariants.{Count}
 use Rattle.shard_calls.specs.declared.reply.ShardRead.{ShardRead}
 use Rattle.shard_calls.specs.declared.reply.Reply.{Reply}
 use Rattle.shard.specs.Seats.{seat_of}
-use Rattle.shard_calls.specs.Answers.{counted, needed, needed_by, NeedsAlone, HasGone, Gives, MayReadRefuse, MayWriteRefuse}
+use Rattle.shard_calls.specs.Answers.{counted, needed, needed_by, NeedsAlone, HasGone, HasServed, IsFoundPartition, Gives, MayReadRefuse, MayWriteRefuse}
 use Rattle.shard_calls.specs.Alone.{GivesOver}
 
 -- ---- what a transaction is
@@ -48,11 +49,17 @@ pub record Step : Type 0 where
   pub on : Option Shard
   pub seen : Run
 
+-- a partition of a keyspace
+pub record Kept : Type 0 where
+  pub keyspace : ℕ
+  pub seats : List Seat
+
 -- An open transaction: its answered statements in order, and the run at the last of them that used a shard; before any, the one that its
--- session had seen when it began.
+-- session had seen when it began. Once one of them has used a shard it keeps the partition by which the first of these needed it.
 pub record Transaction : Type 0 where
   pub at : Run
   pub steps : List Step
+  pub kept : Option Kept
 
 -- what a session's pass has seen, and its open transaction
 pub record Standing : Type 0 where
@@ -103,11 +110,16 @@ NeedsNone o (typed.Write w) = (seats : List Seat) × IsPartition seats × (neede
 NeedsNone o typed.SetNames = Unit {0}
 NeedsNone o _ = ⊥
 
--- a query or a write that needs this shard alone by some partition
-abbrev pub NeedsOnly : Opening → Typed → Shard → Type 0
-NeedsOnly o (typed.Select q) s = ReadsAlone o q s
-NeedsOnly o (typed.Write w) s = NeedsAlone o w s
-NeedsOnly o _ s = ⊥
+-- The partition by which a statement of the transaction is judged: on the keyspace of its shard the one that it keeps.
+pub record IsJudgedBy (o : Opening) (t : Transaction) (typed : Typed) (seats : List Seat) : Type 0 where
+  pub partition : IsPartition seats
+  pub kept : (k : Kept) → t.kept ≡ Some k → statement_keyspace o typed ≡ Some k.keyspace → seats ≡ k.seats
+
+-- by this partition a query or a write of the transaction needs this shard alone
+pub record NeedsBy (o : Opening) (t : Transaction) (typed : Typed) (seats : List Seat) (s : Shard) : Type 0 where
+  pub judged : IsJudgedBy o t typed seats
+  pub keyspace : statement_keyspace o typed ≡ Some s.place.keyspace
+  pub only : seats_for o typed seats ≡ seat_of s ∷ []
 
 abbrev pub if_any : Option Shard → List Shard
 if_any None = []
@@ -179,17 +191,25 @@ pub record IsCommitted (o : Opening) (limits : Limits) (s : Shard) (p : PassView
 
 -- What a statement gives in an open transaction. One that needs no shard gives what it means with those before it. One that needs a shard needs
 -- the transaction's, which serves at a look, up to which no other session has changed a table of an earlier statement, and then all statements
--- so far give what they mean over the one database as it is at this look. So it is where a commit has read alone, which adds nothing; one that
+-- so far give what they mean over the one database as it is at this look. The partition by which the first of them needed it is kept, and tells
+-- which shards the later ones need. So it is where a commit has read alone, which adds nothing; one that
 -- has written adds one entry. A rollback adds nothing.
 pub data GivesIn (o : Opening) (limits : Limits) (p : PassView Entry) (t : Transaction) : Typed → Reply → Standing → Type 0 where
   nowhere : {typed : Typed} {answer : Answer} → NeedsNone o typed → AreOver o t.at (with_step t.steps typed answer None p.seen)
       → GivesIn o limits p t typed (record { answer = answer; reads = [] })
-      (record { pass = p; tx = Some (record { at = t.at; steps = with_step t.steps typed answer None p.seen }) })
-  on_shard : {typed : Typed} {answer : Answer} {now : PassView Entry} (s : Shard) → NeedsOnly o typed s
+      (record { pass = p; tx = Some (record { at = t.at; steps = with_step t.steps typed answer None p.seen; kept = t.kept }) })
+  on_shard : {typed : Typed} {answer : Answer} {now : PassView Entry} (s : Shard) (seats : List Seat) → NeedsBy o t typed seats s
       → AllByRecursion (λ u. u ≡ s) (used t.steps) → HasLooked o s.slot p now → mode o now.seen s.slot ≡ Serving
       → (IsConflict o s p.session now.seen t.steps → ⊥) → AreOver o now.seen (with_step t.steps typed answer (Some s) now.seen)
       → GivesIn o limits p t typed (record { answer = answer; reads = reads_of typed s now.seen })
-      (record { pass = now; tx = Some (record { at = now.seen; steps = with_step t.steps typed answer (Some s) now.seen }) })
+      (record {
+        pass = now;
+        tx = Some (record {
+          at = now.seen;
+          steps = with_step t.steps typed answer (Some s) now.seen;
+          kept = Some (record { keyspace = s.place.keyspace; seats = seats });
+        });
+      })
   commits_nothing : used t.steps ≡ [] → GivesIn o limits p t typed.Commit (record { answer = Count 0; reads = [] }) (record { pass = p; tx = None })
   commits_reads : {now : PassView Entry} (s : Shard) → Contains (used t.steps) s → writes_in t.steps ≡ [] → HasLooked o s.slot p now
       → mode o now.seen s.slot ≡ Serving → (IsConflict o s p.session now.seen t.steps → ⊥) → AreOver o now.seen t.steps
@@ -203,7 +223,7 @@ pub data GivesAt (o : Opening) (limits : Limits) (p : PassView Entry) : Option T
   alone : {t : Typed} {reply : Reply} {now : PassView Entry} → Gives o limits p t reply now
       → GivesAt o limits p None t reply (record { pass = now; tx = None })
   begins : GivesAt o limits p None typed.Begin (record { answer = Count 0; reads = [] })
-      (record { pass = p; tx = Some (record { at = p.seen; steps = [] }) })
+      (record { pass = p; tx = Some (record { at = p.seen; steps = []; kept = None }) })
   commits : GivesAt o limits p None typed.Commit (record { answer = Count 0; reads = [] }) (record { pass = p; tx = None })
   rolls_back : GivesAt o limits p None typed.Rollback (record { answer = Count 0; reads = [] }) (record { pass = p; tx = None })
   within : {tx : Transaction} {t : Typed} {reply : Reply} {now : Standing} → GivesIn o limits p tx t reply now → GivesAt o limits p (Some tx) t reply now
@@ -229,26 +249,47 @@ IsReplyTo o limits p text reply now = IsAnswerNow o limits (numbered p) text rep
 -- the shard that a query or a write of the transaction needs alone, or of a commit the one that it has used
 abbrev pub IsFor : Opening → Transaction → Typed → Shard → Type 0
 IsFor o t typed.Commit s = Contains (used t.steps) s
-IsFor o t other s = NeedsOnly o other s
+IsFor o t other s = (seats : List Seat) × NeedsBy o t other seats s
 
--- Why a statement of an open transaction is refused, and how that leaves the session. The transaction goes on, but where its shard is frozen or
--- doesn't serve, its tables were changed, or its commit has no room.
+-- The transaction's own shard, at a run: one of the run, which has served. The statement is for it, and each that used a shard has used this one.
+pub record IsItsShard (o : Opening) (t : Transaction) (typed : Typed) (run : Run) (s : Shard) : Type 0 where
+  pub for : IsFor o t typed s
+  pub alone : AllByRecursion (λ u. u ≡ s) (used t.steps)
+  pub served : HasServed o run s
+
+-- a look at it, at which it serves, and up to which no other session has changed a table of the transaction
+pub record IsUndisturbed (o : Opening) (p : PassView Entry) (t : Transaction) (s : Shard) (now : PassView Entry) : Type 0 where
+  pub looked : HasLooked o s.slot p now
+  pub serves : mode o now.seen s.slot ≡ Serving
+  pub clear : IsConflict o s p.session now.seen t.steps → ⊥
+
+-- Why a statement of an open transaction is refused, and how that leaves the session, in the order of the causes. Before the transaction has used
+-- a shard a statement may need several by a partition whose shards were found; then it may need another than its own, or several, by the partition
+-- that it keeps; or some shard of another keyspace. All else is of its own shard at a look: that it is frozen or doesn't serve, that its tables were
+-- changed, a primary key, and at a commit that has written a limit, which the changes of its writes there would pass. The transaction goes on, but
+-- where its shard is frozen or doesn't serve, its tables were changed, or its commit has no room.
 pub data IsRefusedIn (o : Opening) (limits : Limits) (p : PassView Entry) (t : Transaction) : Typed → Refusal → Standing → Type 0 where
   no_memory : {typed : Typed} {now : PassView Entry} → HasGone o p now → IsRefusedIn o limits p t typed OutOfMemory (record { pass = now; tx = Some t })
   open_twice : IsRefusedIn o limits p t typed.Begin NotSupported (record { pass = p; tx = Some t })
-  several : {typed : Typed} (seats : List Seat) → IsPartition seats → 2 ≤ length (seats_for o typed seats)
+  several : {typed : Typed} {now : PassView Entry} (keyspace : ℕ) (seats : List Seat) → used t.steps ≡ [] → statement_keyspace o typed ≡ Some keyspace
+      → IsFoundPartition o p.seen now.seen keyspace seats → 2 ≤ length (seats_for o typed seats) → HasGone o p now
+      → IsRefusedIn o limits p t typed SeveralShards (record { pass = now; tx = Some t })
+  another : {typed : Typed} (k : Kept) (u : Shard) → Contains (used t.steps) u → t.kept ≡ Some k → k.keyspace ≡ u.place.keyspace → IsPartition k.seats
+      → Contains k.seats (seat_of u) → statement_keyspace o typed ≡ Some k.keyspace → (seats_for o typed k.seats ≡ [] → ⊥)
+      → (seats_for o typed k.seats ≡ seat_of u ∷ [] → ⊥) → IsRefusedIn o limits p t typed SeveralShards (record { pass = p; tx = Some t })
+  elsewhere : {typed : Typed} (keyspace : ℕ) (seats : List Seat) (u : Shard) → Contains (used t.steps) u → statement_keyspace o typed ≡ Some keyspace
+      → (keyspace ≡ u.place.keyspace → ⊥) → IsPartition seats → (seats_for o typed seats ≡ [] → ⊥)
       → IsRefusedIn o limits p t typed SeveralShards (record { pass = p; tx = Some t })
-  another : {typed : Typed} (seats : List Seat) (seat : Seat) (u : Shard) → IsPartition seats → seats_for o typed seats ≡ seat ∷ []
-      → Contains (used t.steps) u → (statement_keyspace o typed ≡ Some u.place.keyspace → seat ≡ seat_of u → ⊥)
-      → IsRefusedIn o limits p t typed SeveralShards (record { pass = p; tx = Some t })
-  duplicate : {w : Write} {now : PassView Entry} (s : Shard) (after : Database) → NeedsAlone o w s → HasLooked o s.slot p now
+  moved : {typed : Typed} {now : PassView Entry} (s : Shard) → IsItsShard o t typed now.seen s → HasLooked o s.slot p now → mode o now.seen s.slot ≢ Serving
+      → IsRefusedIn o limits p t typed ShardMoved (record { pass = now; tx = None })
+  conflict : {typed : Typed} {now : PassView Entry} (s : Shard) → IsItsShard o t typed now.seen s → HasLooked o s.slot p now
+      → mode o now.seen s.slot ≡ Serving → IsConflict o s p.session now.seen t.steps
+      → IsRefusedIn o limits p t typed Conflict (record { pass = now; tx = None })
+  duplicate : {w : Write} {now : PassView Entry} (s : Shard) (after : Database) → IsItsShard o t (typed.Write w) now.seen s → IsUndisturbed o p t s now
       → GiveOver o.schema (one o now.seen) t.steps after → changes_of o.schema w after ≡ Err DuplicateKey
       → IsRefusedIn o limits p t (typed.Write w) DuplicateKey (record { pass = now; tx = Some t })
-  moved : {typed : Typed} {now : PassView Entry} (s : Shard) → IsFor o t typed s → HasLooked o s.slot p now → mode o now.seen s.slot ≢ Serving
-      → IsRefusedIn o limits p t typed ShardMoved (record { pass = now; tx = None })
-  conflict : {typed : Typed} {now : PassView Entry} (s : Shard) → IsFor o t typed s → HasLooked o s.slot p now
-      → IsConflict o s p.session now.seen t.steps → IsRefusedIn o limits p t typed Conflict (record { pass = now; tx = None })
-  full : {now : PassView Entry} (s : Shard) (changes : List RowChange) → Contains (used t.steps) s → HasLooked o s.slot p now
+  full : {now : PassView Entry} (s : Shard) (changes : List RowChange) → IsItsShard o t typed.Commit now.seen s → IsUndisturbed o p t s now
+      → writes_in t.steps ≢ [] → AreChangesOf o.schema (writes_in t.steps) (held o now.seen s) changes
       → GiveOver o.schema (one o now.seen) t.steps (all_applied changes (one o now.seen)) → (HasRoom o limits s now.seen changes → ⊥)
       → IsRefusedIn o limits p t typed.Commit ShardFull (record { pass = now; tx = None })
 

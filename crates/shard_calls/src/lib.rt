@@ -9,7 +9,7 @@ mod tx;
 mod within;
 
 pub use gate::{Gate, Open};
-pub use parts::{only_needed, shard_of};
+pub use parts::{look_at_each, only_needed, shard_of};
 pub use reply::{Answer, Reply, Selected, ShardRead, counted};
 pub use scatter::{Done, Gathered, Job, gather, jobs, read_all};
 pub use tx::{Bound, OpenTx, Tx};

@@ -1,11 +1,15 @@
 //! Which parts of a partition a statement needs.
 ghost use Rattle.std.specs.Prelude.{◌≡◌, ◌≤◌, ◌∷◌, [], IfOk, IfErr, MatchOption, length};
-ghost use Rattle.shard_calls.specs.Answers.{needed};
+ghost use Rattle.std.specs.List.{AllByRecursion};
+ghost use Rattle.journal.specs.Runs.{IsLegal};
+ghost use Rattle.shard_contents.specs.Shards.{MayFollow};
+ghost use Rattle.shard_calls.specs.Answers.{needed, HasGone, WasFound};
 
-use journal::Naming;
+use journal::{Naming, Pass};
 use planner::{Route, single_id, takes_by};
 use serving::{Part, Seated};
-use shard::{Shard, World};
+use shard::{Shard, ShardLaw, World};
+use std::sync::Wait;
 use vschema::Table;
 use vt_value::Refusal;
 
@@ -39,4 +43,19 @@ pub fn only_needed<'e, S: Seated + Drop>(
         }
     }
     Ok(found)
+}
+
+/// Looks at the shard of each part, which the pass keeps. Takes no memory.
+pub fn look_at_each<W: World, J: Naming>(
+    rt: &impl Wait,
+    pass: &mut Pass<ShardLaw<W>, J>,
+    parts: &[Part<Shard<W, J>>],
+)
+    requires legal { IsLegal (MayFollow W.opening) pass.old.seen }
+    ensures found { AllByRecursion (WasFound W.opening pass.old.seen pass.new.seen) parts.now }
+    ensures gone { HasGone W.opening pass.old pass.new }
+{
+    for part in parts {
+        shard_of(part).look(rt, pass);
+    }
 }

@@ -25,7 +25,7 @@ impl<W: World, J: Naming> Model for Bound<W, J> {
 
     ghost Value = { BoundView };
 
-    ghost view = { λ b. record { keyspace = b.keyspace; seat = b.part } };
+    ghost view = { λ b. record { keyspace = b.keyspace; seat = b.part; seats = b.partition } };
 
     ghost invariant = { λ b. (b.part.2 ≡ b.keyspace) × AreOf b.keyspace b.partition };
 }
@@ -58,7 +58,7 @@ impl<W: World, J: Naming> Bound<W, J> {
     ) -> Result<Bound<W, J>, Refusal>
         requires part { part.now.2 ≡ keyspace }
         requires keyspace { AreOf keyspace partition.now }
-        ensures ok { IfOk result (λ bound. bound ≡ record { keyspace = keyspace; seat = part.now }) }
+        ensures ok { IfOk result (λ bound. bound ≡ record { keyspace = keyspace; seat = part.now; seats = partition.now }) }
         ensures err { IfErr result (λ e. e ≡ Refusal.OutOfMemory) }
     {
         let part = copy_part(part)?;
@@ -99,14 +99,15 @@ impl<W: World, J: Naming> Bound<W, J> {
 
     /// The partition by which it was needed.
     pub fn partition(&self) -> &Partition<Shard<W, J>>
-        ensures { AreOf self.now.keyspace result.now }
+        ensures seats { result.now ≡ self.now.seats }
+        ensures home { AreOf self.now.keyspace self.now.seats }
     {
         &self.partition
     }
 
     /// Whether the part's shard is the one.
     pub fn is_at(&self, part: &Part<Shard<W, J>>) -> bool
-        ensures { IsTrue result ↔ (self.now ≡ record { keyspace = part.now.2; seat = part.now }) }
+        ensures { IsTrue result ↔ ((self.now.keyspace ≡ part.now.2) × (self.now.seat ≡ part.now)) }
     {
         self.keyspace == part.keyspace()
             && self.part.slot() == part.slot()

@@ -71,7 +71,7 @@ pub fn read_at<W: World, J: Naming>(
     query: &Query,
 ) -> Result<(Items<Row>, Items<ShardRead>), Refusal>
     requires there { SourcesThere (length W.opening.schema.tables) query.now }
-    requires tied { (s : which.Shard) → bound_of s ≡ here.now → IsPendingOf W.opening s pending.old pass.old }
+    requires tied { (s : which.Shard) → bound_of s here.now.seats ≡ here.now → IsPendingOf W.opening s pending.old pass.old }
     requires session { IsSome pass.old.session }
     requires above { (n : ℕ) → pass.old.session ≡ Some n → NumbersBelow commit_of n pass.old.statements pass.old.seen }
     ensures ok { IfOk result (λ r. HasReadAt W.opening here.now pass.old pending.old query.now r.0 r.1 pass.new pending.new) }
@@ -104,7 +104,7 @@ pub fn read_first<W: World, J: Naming>(
     query: &Query,
 ) -> Result<(Items<Row>, Items<ShardRead>), Refusal>
     requires there { SourcesThere (length W.opening.schema.tables) query.now }
-    requires tied { (s : which.Shard) → bound_of s ≡ new → IsPendingOf W.opening s pending.old pass.old }
+    requires tied { (s : which.Shard) → bound_of s new.seats ≡ new → IsPendingOf W.opening s pending.old pass.old }
     requires session { IsSome pass.old.session }
     requires above { (n : ℕ) → pass.old.session ≡ Some n → NumbersBelow commit_of n pass.old.statements pass.old.seen }
     ensures ok { IfOk result (λ r. HasReadAt W.opening new pass.old pending.old query.now r.0 r.1 pass.new pending.new) }
@@ -194,7 +194,7 @@ pub fn commit_at<W: World, J: Naming>(
     here: &Bound<W, J>,
     pending: &mut Pending,
 ) -> Result<(), Refusal>
-    requires tied { (s : which.Shard) → bound_of s ≡ here.now → IsPendingOf W.opening s pending.old pass.old }
+    requires tied { (s : which.Shard) → bound_of s here.now.seats ≡ here.now → IsPendingOf W.opening s pending.old pass.old }
     requires session { IsSome pass.old.session }
     requires above { (n : ℕ) → pass.old.session ≡ Some n → NumbersBelow commit_of n pass.old.statements pass.old.seen }
     ensures ok { OnOk result (HasCommittedAt W.opening W.limits here.now pass.old pending.old pass.new) }

@@ -1,7 +1,7 @@
 -- What a text gives outside a transaction, by the engine's own steps.
-use Rattle.std.specs.Prelude.{◌≡◌, ℕ, ◌≤◌, ◌^◌, false, List, Ok, Err}
+use Rattle.std.specs.Prelude.{◌≡◌, ℕ, ◌≤◌, ◌^◌, List, Ok, Err}
 use Rattle.vt_value.specs.declared.refusal.Refusal.{Refusal}
-use Rattle.vt_value.specs.declared.refusal.Refusal.TheVariants.{OutOfMemory, SyntaxError, NotSupported, ShardFull}
+use Rattle.vt_value.specs.declared.refusal.Refusal.TheVariants.{OutOfMemory, SyntaxError, ShardFull}
 use Rattle.sql_tree.specs.declared.Statement.{Statement}
 use Rattle.sql_parser.specs.Grammar.{Reads}
 use Rattle.vschema.specs.declared.schema.Query.{Query}
@@ -14,7 +14,7 @@ use Rattle.shard_run.specs.declared.Entry.{Entry}
 use Rattle.shard_run.specs.Runs.{Opening}
 use Rattle.shard_contents.specs.declared.limits.Limits.{Limits}
 use Rattle.shard_calls.specs.declared.reply.Reply.{Reply}
-use Rattle.shard_calls.specs.Answers.{counted, HasGone, MayReadRefuse, Gives, is_run, MayWriteRefuse}
+use Rattle.shard_calls.specs.Answers.{counted, HasGone, MayReadRefuse, Gives, MayWriteRefuse}
 
 -- The text is a statement under the VSchema, and the reply is what it gives, from the pass with the statement's number.
 pub record IsReply (o : Opening) (limits : Limits) (p : PassView Entry) (text : List ℕ) (reply : Reply) (now : PassView Entry) : Type 0 where
@@ -24,15 +24,13 @@ pub record IsReply (o : Opening) (limits : Limits) (p : PassView Entry) (text : 
   pub resolved : typed_statement o.schema statement ≡ Ok typed
   pub gives : Gives o limits p typed reply now
 
--- Why a numbered text is refused: a growth was refused; the text has no tree; its tree is refused under the VSchema; what it means isn't run
--- yet; or the query or the write is refused.
+-- Why a numbered text is refused: a growth was refused; the text has no tree; its tree is refused under the VSchema; or the query or the write
+-- is refused.
 pub data IsRefused (o : Opening) (limits : Limits) (p : PassView Entry) (text : List ℕ) : Refusal → PassView Entry → Type 0 where
   no_memory : {now : PassView Entry} → HasGone o p now → IsRefused o limits p text OutOfMemory now
   no_tree : ((statement : Statement) → Reads text statement → ⊥) → IsRefused o limits p text SyntaxError p
   not_typed : {r : Refusal} (statement : Statement) → Reads text statement → typed_statement o.schema statement ≡ Err r
       → IsRefused o limits p text r p
-  not_run : (statement : Statement) (t : Typed) → Reads text statement → typed_statement o.schema statement ≡ Ok t → is_run t ≡ false
-      → IsRefused o limits p text NotSupported p
   not_read : {r : Refusal} {now : PassView Entry} (statement : Statement) (query : Query) → Reads text statement
       → typed_statement o.schema statement ≡ Ok (typed.Select query) → MayReadRefuse o p query r now → IsRefused o limits p text r now
   not_written : {r : Refusal} {now : PassView Entry} (statement : Statement) (w : Write) → Reads text statement

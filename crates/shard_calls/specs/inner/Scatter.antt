@@ -28,7 +28,7 @@ use Rattle.shard_contents.specs.declared.limits.Limits.{Limits}
 use Rattle.shard_contents.specs.declared.outcomes.Committed.{Committed}
 use Rattle.shard_contents.specs.declared.outcomes.Committed.TheVariants as c
 use Rattle.shard_calls.specs.declared.reply.Answer.TheVariants.{Count}
-use Rattle.shard_calls.specs.Answers.{needed, HasGoneOn, HasGone, HasWritten, IsHeldUp, is_writable}
+use Rattle.shard_calls.specs.Answers.{needed, HasGoneOn, HasGone, HasServed, HasWritten, IsHeldUp, is_writable}
 
 -- a shard's slot and place, the query that it is asked, and the pass by which it is read
 pub record Asked : Type 0 where
@@ -65,6 +65,7 @@ pub record IsReadingOf (o : Opening) (a : Asked) (g : Given) : Type 0 where
   pub slot : g.slot ≡ a.slot
   pub shard : Shard
   pub stands : IsOnItsSlot o g.pass.seen shard
+  pub served : HasServed o g.pass.seen shard
   pub on_slot : shard.slot ≡ a.slot
   pub in_place : shard.place ≡ a.place
   pub looked : HasLooked o a.slot a.pass g.pass

@@ -20,7 +20,7 @@ use Rattle.shard_contents.specs.Shards.{HasLooked}
 use Rattle.shard_contents.specs.Transactions.{PendingView, IsClear, HasReadIn, HasWrittenIn, HasCommittedAll, IsReadRefusal, IsWriteRefusal, IsCommitAllRefusal}
 use Rattle.shard_calls.specs.declared.reply.Reply.{Reply}
 use Rattle.shard_calls.specs.declared.reply.ShardRead.{ShardRead}
-use Rattle.shard_calls.specs.Answers.{needed}
+use Rattle.shard_calls.specs.Answers.{needed, HasServed}
 use Rattle.shard_calls.specs.Transactions.{Transaction, GivesIn, IsRefusedIn}
 use Rattle.shard_calls.specs.Pendings.{BoundView, OpenView, Stands, bound_of}
 
@@ -39,29 +39,27 @@ left_by e t = if ends e then None else Some t
 abbrev pub NeedsNoSeat : Table → Route → Type 0
 NeedsNoSeat t r = (seats : List Seat) × IsPartition seats × (needed t r seats ≡ [])
 
--- or this one alone, of the table's keyspace
+-- or this one alone, of the table's keyspace, by the partition that is kept
 pub record IsSeatOf (t : Table) (r : Route) (b : BoundView) : Type 0 where
   pub keyspace : b.keyspace ≡ t.keyspace
-  pub seats : List Seat
-  pub partition : IsPartition seats
-  pub only : needed t r seats ≡ b.seat ∷ []
+  pub partition : IsPartition b.seats
+  pub only : needed t r b.seats ≡ b.seat ∷ []
 
--- or several
-abbrev pub NeedsSeveral : Table → Route → Type 0
-NeedsSeveral t r = (seats : List Seat) × IsPartition seats × (2 ≤ length (needed t r seats))
-
--- or one that isn't this one
+-- or one that isn't this one, or several: by the partition that is kept, if the table is of its keyspace
 pub record NeedsOther (t : Table) (r : Route) (b : BoundView) : Type 0 where
   pub seats : List Seat
   pub partition : IsPartition seats
-  pub other : (2 ≤ length (needed t r seats)) ⊎ ((seat : Seat) × (needed t r seats ≡ seat ∷ []) × (b ≡ record { keyspace = t.keyspace; seat = seat } → ⊥))
+  pub kept : b.keyspace ≡ t.keyspace → seats ≡ b.seats
+  pub some : needed t r seats ≡ [] → ⊥
+  pub other : b.keyspace ≡ t.keyspace → needed t r seats ≡ b.seat ∷ [] → ⊥
 
 -- A query of a transaction was read on its shard at a look.
 pub record HasReadAt (o : Opening) (b : BoundView) (p : PassView Entry) (v : PendingView) (q : Query) (rows : List Row) (reads : List ShardRead)
     (now : PassView Entry) (w : PendingView) : Type 0 where
   pub shard : Shard
-  pub is : bound_of shard ≡ b
+  pub is : bound_of shard b.seats ≡ b
   pub stands : IsOnItsSlot o now.seen shard
+  pub served : HasServed o now.seen shard
   pub looked : HasLooked o shard.slot p now
   pub entries : ℕ
   pub reads_are : reads ≡ record { slot = shard.slot; entries = entries } ∷ []
@@ -70,40 +68,45 @@ pub record HasReadAt (o : Opening) (b : BoundView) (p : PassView Entry) (v : Pen
 -- Why it isn't: a growth was refused before any look; or the shard refuses it at a look.
 pub data IsNotReadAt (o : Opening) (b : BoundView) (p : PassView Entry) (v : PendingView) : Refusal → PassView Entry → Type 0 where
   no_memory : IsNotReadAt o b p v OutOfMemory p
-  refused : {e : Refusal} {now : PassView Entry} (s : Shard) → bound_of s ≡ b → IsOnItsSlot o now.seen s → HasLooked o s.slot p now
+  refused : {e : Refusal} {now : PassView Entry} (s : Shard) → bound_of s b.seats ≡ b → IsOnItsSlot o now.seen s → HasServed o now.seen s
+      → HasLooked o s.slot p now
       → IsReadRefusal o s now.seen v e → IsNotReadAt o b p v e now
 
 -- A write of a transaction was made on its shard at a look.
 pub record HasWrittenAt (o : Opening) (b : BoundView) (p : PassView Entry) (v : PendingView) (write : Write) (count : ℕ) (now : PassView Entry)
     (w : PendingView) : Type 0 where
   pub shard : Shard
-  pub is : bound_of shard ≡ b
+  pub is : bound_of shard b.seats ≡ b
   pub stands : IsOnItsSlot o now.seen shard
+  pub served : HasServed o now.seen shard
   pub looked : HasLooked o shard.slot p now
   pub wrote : HasWrittenIn o shard v now.seen write count w
 
 -- or the shard refuses it there
 pub record IsNotWrittenAt (o : Opening) (b : BoundView) (p : PassView Entry) (v : PendingView) (write : Write) (e : Refusal) (now : PassView Entry) : Type 0 where
   pub shard : Shard
-  pub is : bound_of shard ≡ b
+  pub is : bound_of shard b.seats ≡ b
   pub stands : IsOnItsSlot o now.seen shard
+  pub served : HasServed o now.seen shard
   pub looked : HasLooked o shard.slot p now
   pub why : IsWriteRefusal o shard now.seen v write e
 
 -- A transaction was committed on its shard: one that has only read by a look, by which it is clear, and another by its entry.
 pub data HasCommittedAt (o : Opening) (limits : Limits) (b : BoundView) (p : PassView Entry) (v : PendingView) (now : PassView Entry) : Type 0 where
-  read : (s : Shard) → bound_of s ≡ b → IsOnItsSlot o now.seen s → HasLooked o s.slot p now → IsClear o s now.seen v → v.writes ≡ []
+  read : (s : Shard) → bound_of s b.seats ≡ b → IsOnItsSlot o now.seen s → HasLooked o s.slot p now → IsClear o s now.seen v → v.writes ≡ []
       → HasCommittedAt o limits b p v now
-  wrote : (s : Shard) → bound_of s ≡ b → IsOnItsSlot o now.seen s → v.writes ≢ [] → HasCommittedAll o limits s p v now
+  wrote : (s : Shard) → bound_of s b.seats ≡ b → IsOnItsSlot o now.seen s → v.writes ≢ [] → HasCommittedAll o limits s p v now
       → HasCommittedAt o limits b p v now
 
--- or the shard refuses it at a look
+-- or the shard refuses it at a look; for a limit only one that has written
 pub record IsNotCommittedAt (o : Opening) (limits : Limits) (b : BoundView) (p : PassView Entry) (v : PendingView) (e : Refusal) (now : PassView Entry) : Type 0 where
   pub shard : Shard
-  pub is : bound_of shard ≡ b
+  pub is : bound_of shard b.seats ≡ b
   pub stands : IsOnItsSlot o now.seen shard
+  pub served : HasServed o now.seen shard
   pub looked : HasLooked o shard.slot p now
   pub why : IsCommitAllRefusal o limits shard now.seen v e
+  pub wrote : e ≡ ShardFull → v.writes ≢ []
 
 -- a statement that closes an open transaction once it is answered
 abbrev pub closes : Typed → Bool

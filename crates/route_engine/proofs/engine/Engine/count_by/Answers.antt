@@ -1,4 +1,6 @@
-use Rattle.std.proofs.Common.{Some, inl, inr, refl, sym}
+use Rattle.std.proofs.Common.{Some, inl, inr, refl, sym, subst}
+use Rattle.std.specs.List.{AllByRecursion}
+use Rattle.shard_calls.specs.Answers.{WasFound}
 use Rattle.route_engine.proofs.Doing as d
 use Rattle.route_engine.proofs.engine.Engine.count_by.Goals as goal
 
@@ -30,13 +32,13 @@ pub returns-in-Ok-Some-clause-ok : goal.returns-in-Ok-Some-clause-ok
 returns-in-Ok-Some-clause-ok g c =
     d.all_written g.W.World.opening c.requires.opens c.requires.formed g.W.World.limits c.args.pass.now c.requires.legal c.requires.session c.requires.above
     (record { bound = c.args.bound.now; pending = c.args.pending.now })
-    c.args.write c.requires.typed c.args.table.now c.requires.table c.args.route.now c.requires.route c.in-Ok-Some.new (inl c.in-None.is) (rw c.in-Ok-Some.field-0-is at c.in-Ok-Some.ensures.some) c.write_first.new.pass c.write_first.new.bound c.write_first.new.pending c.write_first.result c.write_first.ensures.now_bound c.write_first.ensures.ok
+    c.args.write c.requires.typed c.args.table.now c.requires.table c.args.route.now c.requires.route c.in-Ok-Some.new (inl c.in-None.is) (rw c.in-Ok-Some.field-0-is at c.in-Ok-Some.ensures.some) c.write_first.new.pass c.write_first.new.bound c.write_first.new.pending c.write_first.result (rw c.in-Ok-Some.field-0-is at c.write_first.ensures.now_bound) (rw c.in-Ok-Some.field-0-is at c.write_first.ensures.ok)
 
 pub returns-in-Ok-Some-clause-err : goal.returns-in-Ok-Some-clause-err
 returns-in-Ok-Some-clause-err g c =
     d.all_not_written g.W.World.opening c.requires.opens c.requires.formed g.W.World.limits c.args.pass.now c.requires.legal c.requires.session c.requires.above
     (record { bound = c.args.bound.now; pending = c.args.pending.now })
-    c.args.write c.requires.typed c.args.table.now c.requires.table c.args.route.now c.requires.route c.in-Ok-Some.new (inl c.in-None.is) (rw c.in-Ok-Some.field-0-is at c.in-Ok-Some.ensures.some) c.write_first.new.pass c.write_first.result c.write_first.ensures.err
+    c.args.write c.requires.typed c.args.table.now c.requires.table c.args.route.now c.requires.route c.in-Ok-Some.new (inl c.in-None.is) (rw c.in-Ok-Some.field-0-is at c.in-Ok-Some.ensures.some) c.write_first.new.pass c.write_first.result (rw c.in-Ok-Some.field-0-is at c.write_first.ensures.err)
 
 pub returns-in-Ok-None-clause-ok : goal.returns-in-Ok-None-clause-ok
 returns-in-Ok-None-clause-ok g c =
@@ -48,4 +50,7 @@ pub returns-in-Err-first_bound-clause-err : goal.returns-in-Err-first_bound-clau
 returns-in-Err-first_bound-clause-err g c =
     d.write_not_bound g.W.World.opening c.requires.opens c.requires.formed g.W.World.limits c.args.pass.now c.requires.legal c.requires.session c.requires.above
     (record { bound = c.args.bound.now; pending = c.args.pending.now })
-    c.args.write c.requires.typed c.args.table.now c.requires.table c.args.route.now c.requires.route c.in-Err-first_bound.refusal c.in-Err-first_bound.ensures.err
+    c.args.write c.requires.typed c.args.table.now c.requires.table c.args.route.now c.requires.route c.in-None.is c.look_at_each.new.pass c.current-partition.result.now
+    c.in-Err-first_bound.ensures.partition c.current-partition.ensures
+    (subst (AllByRecursion (WasFound g.W.World.opening c.args.pass.now.seen c.look_at_each.new.pass.seen)) c.parts.ensures.seats c.look_at_each.ensures.found)
+    c.look_at_each.ensures.gone c.in-Err-first_bound.refusal c.in-Err-first_bound.ensures.err

@@ -1,5 +1,7 @@
-use Rattle.std.proofs.Common.{Some, inl, inr, refl, sym}
+use Rattle.std.proofs.Common.{Some, inl, inr, refl, sym, subst}
+use Rattle.std.specs.List.{AllByRecursion}
 use Rattle.std.proofs.lemmas.Result.{err_from_is_err_and}
+use Rattle.shard_calls.specs.Answers.{WasFound}
 use Rattle.route_engine.proofs.Doing as d
 use Rattle.route_engine.proofs.engine.Engine.rows_by.Goals as goal
 
@@ -16,17 +18,19 @@ read_at-requires-clause-tied g c =
     λ u same. d.tied_to g.W.World.opening c.requires.opens c.requires.formed g.W.World.limits c.args.pass.now c.requires.legal c.requires.session c.requires.above
     (record { bound = c.args.bound.now; pending = c.args.pending.now }) c.requires.tx c.in-Some.here (inr c.in-Some.is) u same
 
-pub returns-in_err-new-in-None-clause-err : goal.returns-in_err-new-in-None-clause-err
-returns-in_err-new-in-None-clause-err g c =
-    let p = err_from_is_err_and c.from_residual-in_err-new-in-None.result c.from_residual-in_err-new-in-None.ensures.1 in
-    rw (p.1, p.2) (d.read_not_bound g.W.World.opening c.requires.opens c.requires.formed g.W.World.limits c.args.pass.now c.requires.legal c.requires.session c.requires.above
+pub returns-in-Err-clause-err : goal.returns-in-Err-clause-err
+returns-in-Err-clause-err g c =
+    d.read_not_bound g.W.World.opening c.requires.opens c.requires.formed g.W.World.limits c.args.pass.now c.requires.legal c.requires.session c.requires.above
     (record { bound = c.args.bound.now; pending = c.args.pending.now })
-    c.args.query.now c.requires.there c.requires.joins c.args.table.now c.requires.table c.args.route.now c.requires.route c.in_err-new-in-None.field-0.0 c.in_err-new-in-None.ensures.err)
+    c.args.query.now c.requires.there c.requires.joins c.args.table.now c.requires.table c.args.route.now c.requires.route c.in-None.is c.look_at_each.new.pass c.current-partition.result.now c.in-Err.ensures.partition c.current-partition.ensures
+    (subst (AllByRecursion (WasFound g.W.World.opening c.args.pass.now.seen c.look_at_each.new.pass.seen)) c.parts.ensures.seats c.look_at_each.ensures.found)
+    c.look_at_each.ensures.gone c.in-Err.refusal c.in-Err.ensures.err
 
 pub read_first-requires-clause-tied : goal.read_first-requires-clause-tied
 read_first-requires-clause-tied g c =
-    λ u same. d.tied_to g.W.World.opening c.requires.opens c.requires.formed g.W.World.limits c.args.pass.now c.requires.legal c.requires.session c.requires.above
-    (record { bound = c.args.bound.now; pending = c.args.pending.now }) c.requires.tx c.in-Some-2.new (inl c.in-None.is) u same
+    rw c.in-Ok-Some.field-0-is
+    (λ u same. d.tied_to g.W.World.opening c.requires.opens c.requires.formed g.W.World.limits c.args.pass.now c.requires.legal c.requires.session c.requires.above
+    (record { bound = c.args.bound.now; pending = c.args.pending.now }) c.requires.tx c.in-Ok-Some.new (inl c.in-None.is) u same)
 
 pub returns-then-branch-clause-ok : goal.returns-then-branch-clause-ok
 returns-then-branch-clause-ok g c =
@@ -52,26 +56,26 @@ returns-else-branch-clause-err g c =
     (record { bound = c.args.bound.now; pending = c.args.pending.now })
     c.args.query.now c.requires.there c.requires.joins c.args.table.now c.requires.table c.args.route.now c.requires.route c.read_nothing.result c.read_nothing.ensures.err
 
-pub returns-in-Some-2-clause-ok : goal.returns-in-Some-2-clause-ok
-returns-in-Some-2-clause-ok g c =
+pub returns-in-Ok-Some-clause-ok : goal.returns-in-Ok-Some-clause-ok
+returns-in-Ok-Some-clause-ok g c =
     d.all_read g.W.World.opening c.requires.opens c.requires.formed g.W.World.limits c.args.pass.now c.requires.legal c.requires.session c.requires.above
     (record { bound = c.args.bound.now; pending = c.args.pending.now })
-    c.args.query.now c.requires.there c.requires.joins c.args.table.now c.requires.table c.args.route.now c.requires.route c.in-Some-2.new (inl c.in-None.is) (rw c.in-Some-2.is at c.in_ok-new-in-None.ensures.some) c.read_first.new.pass c.read_first.new.bound c.read_first.new.pending c.read_first.result c.read_first.ensures.now_bound c.read_first.ensures.ok
+    c.args.query.now c.requires.there c.requires.joins c.args.table.now c.requires.table c.args.route.now c.requires.route c.in-Ok-Some.new (inl c.in-None.is) (rw c.in-Ok-Some.field-0-is at c.in-Ok-Some.ensures.some) c.read_first.new.pass c.read_first.new.bound c.read_first.new.pending c.read_first.result (rw c.in-Ok-Some.field-0-is at c.read_first.ensures.now_bound) (rw c.in-Ok-Some.field-0-is at c.read_first.ensures.ok)
 
-pub returns-in-Some-2-clause-err : goal.returns-in-Some-2-clause-err
-returns-in-Some-2-clause-err g c =
+pub returns-in-Ok-Some-clause-err : goal.returns-in-Ok-Some-clause-err
+returns-in-Ok-Some-clause-err g c =
     d.all_not_read g.W.World.opening c.requires.opens c.requires.formed g.W.World.limits c.args.pass.now c.requires.legal c.requires.session c.requires.above
     (record { bound = c.args.bound.now; pending = c.args.pending.now })
-    c.args.query.now c.requires.there c.requires.joins c.args.table.now c.requires.table c.args.route.now c.requires.route c.in-Some-2.new (inl c.in-None.is) (rw c.in-Some-2.is at c.in_ok-new-in-None.ensures.some) c.read_first.new.pass c.read_first.result c.read_first.ensures.err
+    c.args.query.now c.requires.there c.requires.joins c.args.table.now c.requires.table c.args.route.now c.requires.route c.in-Ok-Some.new (inl c.in-None.is) (rw c.in-Ok-Some.field-0-is at c.in-Ok-Some.ensures.some) c.read_first.new.pass c.read_first.result (rw c.in-Ok-Some.field-0-is at c.read_first.ensures.err)
 
-pub returns-in-None-2-clause-ok : goal.returns-in-None-2-clause-ok
-returns-in-None-2-clause-ok g c =
+pub returns-in-Ok-None-clause-ok : goal.returns-in-Ok-None-clause-ok
+returns-in-Ok-None-clause-ok g c =
     d.all_nowhere g.W.World.opening c.requires.opens c.requires.formed g.W.World.limits c.args.pass.now c.requires.legal c.requires.session c.requires.above
     (record { bound = c.args.bound.now; pending = c.args.pending.now })
-    c.args.query.now c.requires.there c.requires.joins c.args.table.now c.requires.table c.args.route.now c.requires.route c.args.bound.now refl (rw c.in-None-2.is at c.in_ok-new-in-None.ensures.none) c.read_nothing-in-None-2.result c.read_nothing-in-None-2.ensures.rows c.read_nothing-in-None-2.ensures.reads
+    c.args.query.now c.requires.there c.requires.joins c.args.table.now c.requires.table c.args.route.now c.requires.route c.args.bound.now refl (rw c.in-Ok-None.field-0-is at c.in-Ok-None.ensures.none) c.read_nothing-in-Ok-None.result c.read_nothing-in-Ok-None.ensures.rows c.read_nothing-in-Ok-None.ensures.reads
 
-pub returns-in-None-2-clause-err : goal.returns-in-None-2-clause-err
-returns-in-None-2-clause-err g c =
+pub returns-in-Ok-None-clause-err : goal.returns-in-Ok-None-clause-err
+returns-in-Ok-None-clause-err g c =
     d.nowhere_refused g.W.World.opening c.requires.opens c.requires.formed g.W.World.limits c.args.pass.now c.requires.legal c.requires.session c.requires.above
     (record { bound = c.args.bound.now; pending = c.args.pending.now })
-    c.args.query.now c.requires.there c.requires.joins c.args.table.now c.requires.table c.args.route.now c.requires.route c.read_nothing-in-None-2.result c.read_nothing-in-None-2.ensures.err
+    c.args.query.now c.requires.there c.requires.joins c.args.table.now c.requires.table c.args.route.now c.requires.route c.read_nothing-in-Ok-None.result c.read_nothing-in-Ok-None.ensures.err
