@@ -219,9 +219,12 @@ module _ (o : Opening) (l : Limits) (hello : Hello) where
     talk_alone x limit begin s _ bytes _ _ e legal (t.refused {out} {at} {t = now} payloads fault refused r) others =
         let then = conversation_alone x begin s now payloads out (At at) e r legal others in
         (then.0, then.1, t.refused payloads fault refused then.2)
-    talk_alone x limit begin s _ bytes _ _ e legal (t.closed {out} {at} {t = now} payloads splits r) others =
+    talk_alone x limit begin s _ bytes _ _ e legal (t.closed {out} {at} {t = now} payloads on splits r) others =
         let then = conversation_alone x begin s now payloads out (At at) e r legal others in
-        (then.0, then.1, t.closed payloads splits then.2)
+        (then.0, then.1, t.closed payloads on splits then.2)
+    talk_alone x limit begin s _ bytes _ _ e legal (t.cut_off {out} {at} {t = now} payloads off splits r) others =
+        let then = conversation_alone x begin s now payloads out (At at) e r legal others in
+        (then.0, then.1, t.cut_off payloads off splits then.2)
     talk_alone x limit begin s _ bytes _ _ e legal (t.truncated {out} {at} {t = now} payloads b rest splits r) others =
         let then = conversation_alone x begin s now payloads out (At at) e r legal others in
         (then.0, then.1, t.truncated payloads b rest splits then.2)

@@ -66,7 +66,7 @@ too_large =
 unknown : Talk 1048576 plain Never (At (Commands 0)) tt (0 ∷ 0 ∷ 0 ∷ 0 ∷ [])
     (0x18 ∷ 0 ∷ 0 ∷ 1 ∷ 0xFF ∷ 0x17 ∷ 0x04 ∷ 0x23 ∷ 0x30 ∷ 0x38 ∷ 0x53 ∷ 0x30 ∷ 0x31 ∷ codes "unknown command") Closed tt
 unknown =
-    t.closed (payload 0 [] ∷ [])
+    t.closed (payload 0 [] ∷ []) refl
     (record { whole = refl; each = (((lit< tt, refl), lit≤ tt), tt); partial = nothing_left }) (t.begun t.goes_on (t.goes (t.unknown refl refl) t.none))
 
 -- the status tells that a transaction is open then

@@ -20,6 +20,7 @@ use mysql_packet::Framer;
 use route_engine::{Engine, Gate, Tx};
 use session_replies::{
     Access, End, Hello, Phase, REPLY_ROOM, SessionFault, Sink, Standing, answer_fed, end_of,
+    is_in_commands,
 };
 use shard::{ShardLaw, World};
 use std::alloc::Global;
@@ -113,11 +114,12 @@ impl<W: World, J: Naming> Model for Core<W, J> {
     ghost invariant = { λ c. REPLY_ROOM ≤ length c.reply.items + c.reply.spare };
 }
 
-fn end_between(is_between_payloads: bool) -> End
-    ensures between { is_between_payloads ≡ true → result ≡ End.Closed }
+fn end_between(is_between_payloads: bool, is_let_in: bool) -> End
+    ensures between { is_between_payloads ≡ true → is_let_in ≡ true → result ≡ End.Closed }
     ensures within { is_between_payloads ≡ false → result ≡ End.Truncated }
+    ensures before { is_let_in ≡ false → result ≡ End.Truncated }
 {
-    if is_between_payloads {
+    if is_between_payloads && is_let_in {
         End::Closed
     } else {
         End::Truncated
@@ -212,7 +214,8 @@ impl<W: World, J: Naming> Core<W, J> {
         self.standing
     }
 
-    /// How the session ends where its input ends here, unless it has ended before: between two payloads, or within one.
+    /// How the session ends where its input ends here, unless it has ended before: closed between two payloads, once the client was let in;
+    /// else truncated.
     pub fn end_of_input(&self) -> End
         ensures ended { IfSome (end_of self.now.standing) (λ end. result ≡ end) }
         // The conversation is then whole, where the client has been greeted.
@@ -222,7 +225,10 @@ impl<W: World, J: Naming> Core<W, J> {
     {
         match end_of(self.standing) {
             Some(end) => end,
-            None => end_between(self.framer.is_between_payloads()),
+            None => {
+                let is_let_in = is_in_commands(self.standing);
+                end_between(self.framer.is_between_payloads(), is_let_in)
+            }
         }
     }
 }

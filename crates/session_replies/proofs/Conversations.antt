@@ -27,7 +27,7 @@ use Rattle.mysql_handshake.specs.Native.{is_right}
 use Rattle.vschema.specs.declared.schema.Keyspace.{Keyspace}
 use Rattle.session_replies.specs.declared.hello.Hello.{Hello}
 use Rattle.session_replies.specs.declared.standing.Login.{Login}
-use Rattle.session_replies.specs.Standings.{end_of, HasGreeted}
+use Rattle.session_replies.specs.Standings.{end_of, HasGreeted, takes_commands, is_in_commands}
 use Rattle.session_replies.specs.Logins.{Admits, LogsIn, login_of}
 use Rattle.session_replies.specs.Logins as l
 use Rattle.session_replies.specs.Packets.{refusal_bytes, reply_number}
@@ -351,16 +351,19 @@ module _ {S : Type 0} (terms : Terms S) (May : S → List ℕ → Outcome → S 
     };
   }
 
--- the end of the input, between two payloads or within one
+-- the end of the input: between two payloads, in the command phase or before it, or within one
 pub whole_end : {S : Type 0} (terms : Terms S) (May : S → List ℕ → Outcome → S → Type 0) (begin at : Standing) (s now : S) (limit : ℕ) (bytes out : List ℕ) (payloads : List Payload) (rest : List ℕ) (end : End)
-    → HasGreeted at → end_of at ≡ None → Splits limit bytes payloads rest → Conversation terms May begin s payloads out at now → (rest ≡ [] → end ≡ Closed) → ((rest ≡ [] → ⊥) → end ≡ Truncated)
+    → HasGreeted at → end_of at ≡ None → Splits limit bytes payloads rest → Conversation terms May begin s payloads out at now
+    → (rest ≡ [] → is_in_commands at ≡ true → end ≡ Closed) → (rest ≡ [] → is_in_commands at ≡ false → end ≡ Truncated) → ((rest ≡ [] → ⊥) → end ≡ Truncated)
     → Talk limit terms May begin s bytes out end now
-whole_end {S} terms May begin New s now limit bytes out payloads rest end has goes splits replies closed truncated = absurd has
-whole_end {S} terms May begin (Ended e) s now limit bytes out payloads rest end has goes splits replies closed truncated = absurd cc
-whole_end {S} terms May begin (At at) s now limit bytes out payloads [] end has goes splits replies closed truncated =
-    let P : End → Type 0 = λ e. Talk limit terms May begin s bytes out e now in
-    subst P (sym (closed refl)) (t.closed payloads splits replies)
-whole_end {S} terms May begin (At at) s now limit bytes out payloads (b ∷ rest) end has goes splits replies closed truncated =
+whole_end {S} terms May begin New s now limit bytes out payloads rest end has goes splits replies closed cut truncated = absurd has
+whole_end {S} terms May begin (Ended e) s now limit bytes out payloads rest end has goes splits replies closed cut truncated = absurd cc
+whole_end {S} terms May begin (At at) s now limit bytes out payloads [] end has goes splits replies closed cut truncated = by (takes_commands at) refl
+  where
+    by : (b : Bool) → takes_commands at ≡ b → Talk limit terms May begin s bytes out end now
+    by true e = subst (λ (x : End). Talk limit terms May begin s bytes out x now) (sym (closed refl e)) (t.closed payloads e splits replies)
+    by false e = subst (λ (x : End). Talk limit terms May begin s bytes out x now) (sym (cut refl e)) (t.cut_off payloads e splits replies)
+whole_end {S} terms May begin (At at) s now limit bytes out payloads (b ∷ rest) end has goes splits replies closed cut truncated =
     let P : End → Type 0 = λ e. Talk limit terms May begin s bytes out e now in
     subst P (sym (truncated (λ e. cc))) (t.truncated payloads b rest splits replies)
 
@@ -375,10 +378,15 @@ fed_by old new piece fed ok refused limit = record {
   limit = limit;
 }
 
-pub is_end : (between : Bool) (rest : List ℕ) (end : End) → IsTrue between ↔ (rest ≡ []) → (between ≡ true → end ≡ Closed) → (between ≡ false → end ≡ Truncated)
-    → (rest ≡ [] → end ≡ Closed) × ((rest ≡ [] → ⊥) → end ≡ Truncated)
-is_end true rest end both closed truncated = (λ is. closed refl, λ not. absurd (not (both.0 refl)))
-is_end false rest end both closed truncated = (λ is. absurd (let wrong : IsTrue false = both.1 is in cc), λ not. truncated refl)
+pub is_end : (between let_in : Bool) (rest : List ℕ) (end : End) → IsTrue between ↔ (rest ≡ []) → (between ≡ true → let_in ≡ true → end ≡ Closed)
+    → (between ≡ false → end ≡ Truncated) → (let_in ≡ false → end ≡ Truncated)
+    → (rest ≡ [] → let_in ≡ true → end ≡ Closed) × (rest ≡ [] → let_in ≡ false → end ≡ Truncated) × ((rest ≡ [] → ⊥) → end ≡ Truncated)
+is_end true let_in rest end both closed truncated cut = (λ is on. closed refl on, λ is off. cut off, λ not. absurd (not (both.0 refl)))
+is_end false let_in rest end both closed truncated cut = (
+  λ is on. absurd (let wrong : IsTrue false = both.1 is in cc),
+  λ is off. cut off,
+  λ not. truncated refl,
+)
 
 -- replies end by a command
 admits_ends : (status number : ℕ) (login : Login) (right : Bool) (out : List ℕ) (b : Standing) → Admits status number login right out b → IfSome (end_of b) IsByCommand

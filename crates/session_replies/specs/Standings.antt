@@ -1,5 +1,5 @@
 -- How a session stands.
-use Rattle.std.specs.Prelude.{ℕ, Option, Some, None}
+use Rattle.std.specs.Prelude.{ℕ, Bool, true, false, Option, Some, None}
 use Rattle.session_replies.specs.declared.end.End.{End}
 use Rattle.session_replies.specs.declared.standing.Phase.{Phase}
 use Rattle.session_replies.specs.declared.standing.Phase.TheVariants.{Response, Switch, Commands}
@@ -11,6 +11,18 @@ abbrev pub first_number : Phase → ℕ
 first_number Response = 1
 first_number (Switch login) = 3
 first_number (Commands capabilities) = 0
+
+-- the client was let in, and sends commands
+abbrev pub takes_commands : Phase → Bool
+takes_commands Response = false
+takes_commands (Switch login) = false
+takes_commands (Commands capabilities) = true
+
+-- and how the session stands so
+abbrev pub is_in_commands : Standing → Bool
+is_in_commands New = false
+is_in_commands (At phase) = takes_commands phase
+is_in_commands (Ended end) = false
 
 abbrev pub end_of : Standing → Option End
 end_of New = None

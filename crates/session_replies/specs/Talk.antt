@@ -18,7 +18,7 @@ use Rattle.session_replies.specs.declared.standing.Phase.{Phase}
 use Rattle.session_replies.specs.declared.standing.Phase.TheVariants.{Response, Commands}
 use Rattle.session_replies.specs.declared.standing.Standing.{Standing}
 use Rattle.session_replies.specs.declared.standing.Standing.TheVariants.{New, At, Ended}
-use Rattle.session_replies.specs.Standings.{first_number}
+use Rattle.session_replies.specs.Standings.{first_number, takes_commands}
 use Rattle.session_replies.specs.Packets.{refusal_bytes, reply_number}
 use Rattle.session_replies.specs.Logins.{LogsIn, has_keyspace}
 
@@ -78,7 +78,8 @@ pub data Conversation {S : Type 0} (terms : Terms S) (May : S → List ℕ → O
       → Replies terms May at s ps out standing t → Conversation terms May begin s ps (front ++ out) standing t
 
 -- The whole conversation over the bytes that were read, from some standing on, and its end. A header that is refused has its ERR packet behind
--- the replies, and ends it. Where nothing ends it before, the end of the input does: between two payloads, or within one.
+-- the replies, and ends it. Where nothing ends it before, the end of the input does: in the command phase between two payloads; else the input is
+-- truncated, within a payload or in the connection phase.
 pub data Talk (limit : ℕ) {S : Type 0} (terms : Terms S) (May : S → List ℕ → Outcome → S → Type 0) (begin : Standing) (s : S) : List ℕ → List ℕ → End → S → Type 0 where
   ended : {bytes out : List ℕ} {end : End} {t : S} (payloads : List Payload) (rest : List ℕ)
       → Splits limit bytes payloads rest → Conversation terms May begin s payloads out (Ended end) t → Talk limit terms May begin s bytes out end t
@@ -87,8 +88,10 @@ pub data Talk (limit : ℕ) {S : Type 0} (terms : Terms S) (May : S → List ℕ
   refused : {bytes out : List ℕ} {at : Phase} {t : S} (payloads : List Payload) (fault : Fault)
       → IsRefusedAfter limit bytes payloads fault → Conversation terms May begin s payloads out (At at) t
       → Talk limit terms May begin s bytes (out ++ refusal_bytes fault.number fault.refusal) Broken t
-  closed : {bytes out : List ℕ} {at : Phase} {t : S} (payloads : List Payload)
+  closed : {bytes out : List ℕ} {at : Phase} {t : S} (payloads : List Payload) → takes_commands at ≡ true
       → Splits limit bytes payloads [] → Conversation terms May begin s payloads out (At at) t → Talk limit terms May begin s bytes out Closed t
+  cut_off : {bytes out : List ℕ} {at : Phase} {t : S} (payloads : List Payload) → takes_commands at ≡ false
+      → Splits limit bytes payloads [] → Conversation terms May begin s payloads out (At at) t → Talk limit terms May begin s bytes out Truncated t
   truncated : {bytes out : List ℕ} {at : Phase} {t : S} (payloads : List Payload) (b : ℕ) (rest : List ℕ)
       → Splits limit bytes payloads (b ∷ rest) → Conversation terms May begin s payloads out (At at) t → Talk limit terms May begin s bytes out Truncated t
 

@@ -3,9 +3,9 @@
 pub enum End {
     /// By COM_QUIT.
     Quit,
-    /// The input ended between two payloads.
+    /// The input ended in the command phase, between two payloads.
     Closed,
-    /// The input ended within a payload.
+    /// The input ended within a payload, or before the client was let in.
     Truncated,
     /// By a packet that is too large or out of order, or by a fault.
     Broken,

@@ -17,4 +17,4 @@ pub use end::{End, SessionFault};
 pub use hello::{Access, Hello};
 pub use login::{has_keyspace, put_answer, put_response};
 pub use reply::{REPLY_ROOM, put_pong, put_refusal, put_reply};
-pub use standing::{Login, Phase, Standing, end_of, first_number, is_new};
+pub use standing::{Login, Phase, Standing, end_of, first_number, is_in_commands, is_new};

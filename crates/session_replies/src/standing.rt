@@ -1,6 +1,6 @@
 //! How a session stands.
 ghost use Rattle.std.specs.Prelude.{◌≡◌, ◌↔◌, false};
-ghost use Rattle.session_replies.specs.Standings.{first_number, end_of, HasGreeted};
+ghost use Rattle.session_replies.specs.Standings.{first_number, is_in_commands, end_of, HasGreeted};
 
 use crate::end::End;
 
@@ -63,4 +63,11 @@ pub fn is_new(standing: Standing) -> bool
         Standing::At(_) => false,
         Standing::Ended(_) => false,
     }
+}
+
+/// Whether the client was let in, and the session awaits its commands.
+pub fn is_in_commands(standing: Standing) -> bool
+    ensures { result ≡ is_in_commands standing }
+{
+    matches!(standing, Standing::At(Phase::Commands(_)))
 }
