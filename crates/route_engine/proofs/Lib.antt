@@ -30,3 +30,4 @@ pub mod Keeping
 pub mod Homes
 pub mod Shared
 pub mod OverExample
+pub mod Narrowings

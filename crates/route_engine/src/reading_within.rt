@@ -15,17 +15,19 @@ ghost use Rattle.shard_calls.specs.inner.Within.{kept_by, NeedsNoSeat, IsSeatOf,
 
 use crate::engine::Engine;
 use journal::{Naming, Pass};
+use operators::ShownRows;
 use planner::{Route, route_of, write_route};
 use serving::Partition;
 use shard::{Pending, Shard, ShardLaw, World, written_table};
 use shard_calls::{
     Answer, Bound, Gate, Reply, Selected, ShardRead, counted, look_at_each, only_needed, read_at,
-    read_first, read_nothing, shown_by,
+    read_first, read_nothing,
 };
+use sql_eval::Narrowed;
 use std::alloc::Global;
 use std::sync::Wait;
 use vschema::{Query, Table, Typed, VSchema};
-use vt_value::{Items, Refusal, Row};
+use vt_value::{Items, Refusal};
 
 impl<W: World + Send + Sync, J: Naming + Send + Sync, G: Gate> Engine<W, J, G> {
     // The partition that tells which shards a statement on the table needs: on one of the bound shard's keyspace that by which it was bound.
@@ -98,10 +100,10 @@ impl<W: World + Send + Sync, J: Naming + Send + Sync, G: Gate> Engine<W, J, G> {
         pass: &mut Pass<ShardLaw<W>, J>,
         bound: &mut Option<Bound<W, J>>,
         pending: &mut Pending,
-        query: &Query,
+        query: &Narrowed,
         table: &Table,
         route: &Route,
-    ) -> Result<(Items<Row>, Items<ShardRead>), Refusal>
+    ) -> Result<(ShownRows, Items<ShardRead>), Refusal>
         requires there { SourcesThere (length W.opening.schema.tables) query.now }
         requires joins { JoinsInPlace W.opening.schema query.now }
         requires keyspace { table.now.keyspace < length self.now.keyspaces }
@@ -150,8 +152,8 @@ impl<W: World + Send + Sync, J: Naming + Send + Sync, G: Gate> Engine<W, J, G> {
         pass: &mut Pass<ShardLaw<W>, J>,
         bound: &mut Option<Bound<W, J>>,
         pending: &mut Pending,
-        query: &Query,
-    ) -> Result<(Items<Row>, Items<ShardRead>), Refusal>
+        query: &Narrowed,
+    ) -> Result<(ShownRows, Items<ShardRead>), Refusal>
         requires there { SourcesThere (length W.opening.schema.tables) query.now }
         requires joins { JoinsInPlace W.opening.schema query.now }
         requires session { IsSome pass.old.session }
@@ -167,8 +169,9 @@ impl<W: World + Send + Sync, J: Naming + Send + Sync, G: Gate> Engine<W, J, G> {
         ensures bound { OnErr result (bound.new ≡ bound.old) }
         ensures pending { OnErr result (pending.new ≡ pending.old) }
     {
-        let table = &self.schema.tables.as_slice()[query.table];
-        let route = route_of(alloc, table, query.join, &query.filter)?;
+        let narrow = query.query();
+        let table = &self.schema.tables.as_slice()[narrow.table];
+        let route = route_of(alloc, table, narrow.join, &narrow.filter)?;
         let given = self.rows_by(rt, alloc, pass, bound, pending, query, table, &route);
         drop(route);
         given
@@ -198,10 +201,11 @@ impl<W: World + Send + Sync, J: Naming + Send + Sync, G: Gate> Engine<W, J, G> {
         ensures bound { OnErr result (bound.new ≡ bound.old) }
         ensures pending { OnErr result (pending.new ≡ pending.old) }
     {
-        let given = self.rows_in(rt, alloc, pass, bound, pending, &query);
         let table = query.table;
         let join = query.join;
-        let (items, qualified) = shown_by(query);
+        let narrowed = Narrowed::of(alloc, query)?;
+        let given = self.rows_in(rt, alloc, pass, bound, pending, &narrowed);
+        let (items, qualified) = narrowed.shown();
         match given {
             Ok((rows, reads)) => Ok(Reply {
                 answer: Answer::Rows(Selected {

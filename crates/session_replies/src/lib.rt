@@ -9,6 +9,7 @@ mod hello;
 mod login;
 mod reply;
 mod standing;
+mod told;
 
 pub use answers::answer_fed;
 pub use columns::columns_of;

@@ -18,13 +18,13 @@ use crate::end::End;
 use crate::hello::Hello;
 use crate::login::{has_keyspace, put_answer, put_response};
 use crate::standing::{Phase, Standing, first_number};
+use crate::told::{ShownSet, Telling, Told};
 use bytes::BytesMut;
 use journal::{Naming, Pass};
 use mysql_handshake::{DEPRECATE_EOF, is_set};
 use mysql_message::{Command, put_err, put_ok, read_command};
 use mysql_packet::Payload;
-use operators::Rows;
-use resultset::{Chunks, Outcome, ResultSet, SetEnd, encode_rows};
+use resultset::{Chunks, SetEnd, encode_rows};
 use route_engine::{Answer, Engine, Gate, Selected, Tx};
 use shard::{ShardLaw, World};
 use std::alloc::Global;
@@ -72,7 +72,7 @@ pub fn put_pong(number: u8, status: u16, reply: &mut BytesMut)
     let _ = put_ok(number, 0, status, reply).unwrap();
 }
 
-fn result_set(alloc: Global, schema: &VSchema, selected: Selected) -> Result<ResultSet, Refusal>
+fn result_set(alloc: Global, schema: &VSchema, selected: Selected) -> Result<ShownSet, Refusal>
     ensures columns { IfOk result (λ set. AreColumns schema.now selected.table selected.join selected.items selected.qualified set.columns) }
     ensures rows { IfOk result (λ set. set.rows ≡ selected.rows) }
     ensures err { IfErr result (λ e. e ≡ Refusal.OutOfMemory) }
@@ -85,21 +85,27 @@ fn result_set(alloc: Global, schema: &VSchema, selected: Selected) -> Result<Res
         selected.items.as_slice(),
         selected.qualified.as_slice(),
     )?;
-    Ok(ResultSet {
+    Ok(ShownSet {
         columns,
         rows: selected.rows,
     })
 }
 
 /// An answer as its client is told it, or, where there is no memory for rows, the refusal that says so.
-fn shown(alloc: Global, schema: &VSchema, answer: Answer) -> Outcome
+fn shown(alloc: Global, schema: &VSchema, answer: Answer) -> Told
     ensures { Shows schema.now answer result ⊎ (HasRows answer × (result ≡ Outcome.Refused Refusal.OutOfMemory)) }
 {
     match answer {
-        Answer::Count(count) => Outcome::Count(count),
+        Answer::Count(count) => Told {
+            telling: Telling::Count(count),
+        },
         Answer::Rows(selected) => match result_set(alloc, schema, selected) {
-            Ok(set) => Outcome::Rows(set),
-            Err(refusal) => Outcome::Refused(refusal),
+            Ok(set) => Told {
+                telling: Telling::Rows(set),
+            },
+            Err(refusal) => Told {
+                telling: Telling::Refused(refusal),
+            },
         },
     }
 }
@@ -112,7 +118,7 @@ fn outcome_of<W: World + Send + Sync, J: Naming + Send + Sync, G: Gate>(
     pass: &mut Pass<ShardLaw<W>, J>,
     tx: &mut Tx<W, J>,
     text: &[u8],
-) -> Outcome
+) -> Told
     requires session { IsSome pass.old.session }
     requires tx { IsOf W.opening tx.old pass.old }
     ensures means { LeadsKept W.opening pass.old tx.old pass.new tx.new (λ s now. Means W.opening W.limits s text.now result now) }
@@ -121,7 +127,9 @@ fn outcome_of<W: World + Send + Sync, J: Naming + Send + Sync, G: Gate>(
 {
     match engine.execute(rt, alloc, pass, tx, text) {
         Ok(reply) => shown(alloc, engine.schema(), reply.answer),
-        Err(refusal) => Outcome::Refused(refusal),
+        Err(refusal) => Told {
+            telling: Telling::Refused(refusal),
+        },
     }
 }
 
@@ -144,10 +152,10 @@ fn set_end_of(capabilities: u32) -> SetEnd
     }
 }
 
-/// The packets of a result set, whose rows are dropped as they are encoded. Refuses only for want of memory.
+/// The packets of a result set, whose rows are shown as they are encoded, and dropped then. Refuses only for want of memory.
 fn chunks_of(
     alloc: Global,
-    set: ResultSet,
+    set: ShownSet,
     end: SetEnd,
     number: u8,
     status: u16,
@@ -155,8 +163,8 @@ fn chunks_of(
     ensures ok { IfOk result (λ chunks. concat chunks ≡ encoded end (Outcome.Rows set) number status) }
     ensures err { IfErr result (λ e. e ≡ Refusal.OutOfMemory) }
 {
-    let ResultSet { columns, rows } = set;
-    let rows = Rows::new(alloc, rows)?;
+    let ShownSet { columns, rows } = set;
+    let rows = rows.pulled(alloc)?;
     let mut chunks = Chunks::new(alloc);
     let _next = encode_rows(
         alloc,
@@ -173,7 +181,7 @@ fn chunks_of(
 /// The reply of a result set, or, where there is no memory for it, the refusal that says so.
 fn put_rows(
     alloc: Global,
-    set: ResultSet,
+    set: ShownSet,
     end: SetEnd,
     number: u8,
     status: u16,
@@ -198,7 +206,7 @@ fn put_rows(
 /// has room.
 fn put_outcome(
     alloc: Global,
-    outcome: Outcome,
+    outcome: Told,
     end: SetEnd,
     number: u8,
     status: u16,
@@ -210,13 +218,13 @@ fn put_outcome(
         ⊎ (IsRows outcome × (reply_bytes result reply.new.items ≡ encoded end (Outcome.Refused Refusal.OutOfMemory) number status)) }
     ensures room { REPLY_ROOM ≤ length reply.new.items + reply.new.spare }
 {
-    match outcome {
-        Outcome::Rows(set) => put_rows(alloc, set, end, number, status, reply),
-        Outcome::Count(count) => {
+    match outcome.telling {
+        Telling::Rows(set) => put_rows(alloc, set, end, number, status, reply),
+        Telling::Count(count) => {
             put_count(number, count, status, reply);
             None
         }
-        Outcome::Refused(refusal) => {
+        Telling::Refused(refusal) => {
             put_refusal(number, refusal, reply);
             None
         }

@@ -4,3 +4,4 @@ pub mod Taken
 pub mod Sent
 pub mod Calling
 pub mod Finding
+pub mod Narrowings

@@ -7,7 +7,6 @@ use Rattle.vt_value.specs.declared.refusal.Refusal.TheVariants.{OutOfMemory, Syn
 use Rattle.sql_tree.specs.declared.Statement.{Statement}
 use Rattle.sql_parser.specs.Grammar.{Reads}
 use Rattle.vschema.specs.declared.schema.Query.{Query}
-use Rattle.vschema.specs.declared.schema.Table.{Table}
 use Rattle.vschema.specs.declared.schema.VSchema.{VSchema}
 use Rattle.vschema.specs.declared.schema.Typed.{Typed}
 use Rattle.vschema.specs.declared.schema.Typed.TheVariants as typed

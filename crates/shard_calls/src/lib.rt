@@ -14,6 +14,5 @@ pub use reply::{Answer, Reply, Selected, ShardRead, counted};
 pub use scatter::{Done, Gathered, Job, gather, jobs, read_all};
 pub use tx::{Bound, OpenTx, Tx};
 pub use within::{
-    closes, commit_at, ends, read_at, read_first, read_nothing, shown_by, stays_open, write_at,
-    write_first,
+    closes, commit_at, ends, read_at, read_first, read_nothing, stays_open, write_at, write_first,
 };

@@ -1,10 +1,11 @@
 //! What a statement answered.
 ghost use Rattle.std.specs.Prelude.{◌≡◌, []};
 
+use operators::ShownRows;
 use sql_tree::Item;
 use std::alloc::Global;
 use vschema::Join;
-use vt_value::{Items, Row};
+use vt_value::Items;
 
 /// What a query gave: the table or the two that it is over and what it shows, by the places of columns, and its rows.
 #[derive(Drop)]
@@ -14,7 +15,7 @@ pub struct Selected {
     pub items: Items<Item<usize>>,
     /// Whether each item was written with its table's name, as `Query::qualified`.
     pub qualified: Items<bool>,
-    pub rows: Items<Row>,
+    pub rows: ShownRows,
 }
 
 /// What a statement answered: rows, or the count of an OK.

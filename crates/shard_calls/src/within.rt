@@ -1,7 +1,8 @@
 //! What a statement of an open transaction does on its one shard.
-ghost use Rattle.std.specs.Prelude.{◌≡◌, ◌<◌, [], ℕ, Some, IsSome, IfOk, IfErr, OnErr, OnOk, Ok, length};
+ghost use Rattle.std.specs.Prelude.{◌≡◌, ◌<◌, [], ◌∷◌, ℕ, Some, IsSome, IfOk, IfErr, OnErr, OnOk, Ok, length};
 ghost use Rattle.vschema.specs.Sources.{SourcesThere};
 ghost use Rattle.sql_eval.specs.Queries.{IsAnswer};
+ghost use Rattle.sql_eval.specs.Narrowing.{ShowsAt};
 ghost use Rattle.sql_eval.specs.Writes.{written_table};
 ghost use Rattle.journal.specs.Runs.{NumbersBelow};
 ghost use Rattle.shard_run.specs.declared.Shard as which;
@@ -13,26 +14,13 @@ ghost use Rattle.shard_calls.specs.inner.Within.{ends, closes, stays_open, HasRe
 use crate::reply::{Reply, ShardRead};
 use crate::tx::Bound;
 use journal::{Naming, Pass};
+use operators::ShownRows;
 use shard::{Pending, Reading, ShardLaw, World};
-use sql_eval::select_local;
-use sql_tree::Item;
+use sql_eval::{Narrowed, select_local};
 use std::alloc::Global;
 use std::sync::Wait;
-use vschema::{Query, Typed, VSchema, Write};
-use vt_value::{Items, Refusal, Row};
-
-/// What the query shows, and whether each item was written with its table's name.
-pub fn shown_by(query: Query) -> (Items<Item<usize>>, Items<bool>)
-    ensures items { result.0 ≡ query.items }
-    ensures qualified { result.1 ≡ query.qualified }
-{
-    let Query {
-        items,
-        qualified,
-        ..
-    } = query;
-    (items, qualified)
-}
+use vschema::{Typed, VSchema, Write};
+use vt_value::{Items, Refusal};
 
 /// Whether a refusal ends an open transaction.
 pub fn ends(refusal: Refusal) -> bool
@@ -61,6 +49,21 @@ pub fn stays_open(closes: bool, given: &Result<Reply, Refusal>) -> bool
     }
 }
 
+// Where the items of a query stand in the rows that are read for it, and room for what the reply tells of a shard.
+fn prepared(
+    alloc: Global,
+    slot: usize,
+    query: &Narrowed,
+) -> Result<(Option<Items<usize>>, Items<ShardRead>), Refusal>
+    ensures shows { IfOk result (λ r. ShowsAt query.now r.0) }
+    ensures reads { IfOk result (λ r. r.1 ≡ record { slot = slot; entries = 0 } ∷ []) }
+    ensures err { IfErr result (λ e. e ≡ Refusal.OutOfMemory) }
+{
+    let reads = Items::from_slice(alloc, &[ShardRead { slot, entries: 0 }])?;
+    let places = query.places(alloc)?;
+    Ok((places, reads))
+}
+
 // What a query gives on a transaction's shard, and what the reply tells of that.
 pub fn read_at<W: World, J: Naming>(
     rt: &impl Wait,
@@ -68,8 +71,8 @@ pub fn read_at<W: World, J: Naming>(
     pass: &mut Pass<ShardLaw<W>, J>,
     here: &Bound<W, J>,
     pending: &mut Pending,
-    query: &Query,
-) -> Result<(Items<Row>, Items<ShardRead>), Refusal>
+    query: &Narrowed,
+) -> Result<(ShownRows, Items<ShardRead>), Refusal>
     requires there { SourcesThere (length W.opening.schema.tables) query.now }
     requires tied { (s : which.Shard) → bound_of s here.now.seats ≡ here.now → IsPendingOf W.opening s pending.old pass.old }
     requires session { IsSome pass.old.session }
@@ -79,14 +82,18 @@ pub fn read_at<W: World, J: Naming>(
     ensures unchanged { OnErr result (pending.new ≡ pending.old) }
 {
     let slot = here.slot();
-    let mut reads = Items::from_slice(alloc, &[ShardRead { slot, entries: 0 }])?;
-    match here.shard().read_in(rt, alloc, pass, pending, query) {
+    let (places, mut reads) = prepared(alloc, slot, query)?;
+    match here
+        .shard()
+        .read_in(rt, alloc, pass, pending, query.query())
+    {
         Ok(reading) => {
             let Reading { rows, entries } = reading;
             reads.set(0, ShardRead { slot, entries });
-            Ok((rows, reads))
+            Ok((ShownRows::new(rows, places), reads))
         }
         Err(refusal) => {
+            drop(places);
             drop(reads);
             Err(refusal)
         }
@@ -101,8 +108,8 @@ pub fn read_first<W: World, J: Naming>(
     bound: &mut Option<Bound<W, J>>,
     new: Bound<W, J>,
     pending: &mut Pending,
-    query: &Query,
-) -> Result<(Items<Row>, Items<ShardRead>), Refusal>
+    query: &Narrowed,
+) -> Result<(ShownRows, Items<ShardRead>), Refusal>
     requires there { SourcesThere (length W.opening.schema.tables) query.now }
     requires tied { (s : which.Shard) → bound_of s new.seats ≡ new → IsPendingOf W.opening s pending.old pass.old }
     requires session { IsSome pass.old.session }
@@ -126,13 +133,17 @@ pub fn read_first<W: World, J: Naming>(
 }
 
 // What a query gives over no rows, by no shard.
-pub fn read_nothing(alloc: Global, query: &Query) -> Result<(Items<Row>, Items<ShardRead>), Refusal>
+pub fn read_nothing(
+    alloc: Global,
+    query: &Narrowed,
+) -> Result<(ShownRows, Items<ShardRead>), Refusal>
     ensures rows { IfOk result (λ r. IsAnswer query.now [] r.0) }
     ensures reads { IfOk result (λ r. r.1 ≡ []) }
     ensures err { IfErr result (λ e. e ≡ Refusal.OutOfMemory) }
 {
-    let rows = select_local(alloc, query, &[])?;
-    Ok((rows, Items::new(alloc)))
+    let rows = select_local(alloc, query.query(), &[])?;
+    let places = query.places(alloc)?;
+    Ok((ShownRows::new(rows, places), Items::new(alloc)))
 }
 
 // How many rows a write changes on a transaction's shard, which keeps it.

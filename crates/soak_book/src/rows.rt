@@ -110,8 +110,11 @@ impl Rows {
         let (Verb::Find | Verb::Scatter, Answer::Rows(selected)) = (statement.verb, answer) else {
             return Ok(());
         };
+        let Some(found) = selected.rows.whole() else {
+            return Err(Fault::Statement("values were given twice", *statement, None, None));
+        };
         let mut left = self.among(statement.ids);
-        left.take_each(statement, selected.rows.as_slice())?;
+        left.take_each(statement, found)?;
         match left.count() {
             0 => Ok(()),
             count => Err(Fault::Statement("rows weren't given", *statement, Some(count), None)),

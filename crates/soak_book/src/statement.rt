@@ -130,7 +130,9 @@ impl Statement {
     /// How many rows it counted, gave or changed.
     pub fn told(&self, answer: &Answer) -> Option<u64> {
         match (self.verb, answer) {
-            (Verb::Count, Answer::Rows(selected)) => only_number(selected.rows.as_slice()),
+            (Verb::Count, Answer::Rows(selected)) => {
+                selected.rows.whole().and_then(|rows| only_number(rows))
+            }
             (Verb::Find | Verb::Scatter, Answer::Rows(selected)) => Some(
                 selected.rows.len() as u64,
             ),

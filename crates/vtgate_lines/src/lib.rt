@@ -12,5 +12,5 @@ pub use admin_lines::{AdminLine, read_admin_line};
 pub use lines::{Line, next_line, read_line};
 pub use plans::plan_line;
 pub use ranges::{MOST_RANGES, read_ranges};
-pub use rows::put_rows;
+pub use rows::{put_rows, put_shown_rows};
 pub use short_lines::{SHORT_LINE, count_line, refusal_line};

@@ -6,6 +6,8 @@ ghost use Rattle.sql_tree.specs.Printing.{following};
 ghost use Rattle.vtgate_lines.specs.Printed.{is_printable, byte_text, printed_value, printed_row, line, rows_text};
 
 use itoa::Buffer;
+use operators::{Operator, ShownRows};
+use std::alloc::Global;
 use vt_value::{Refusal, Row, Value};
 
 /// Puts a text as it is.
@@ -124,8 +126,34 @@ fn put_row_count(out: &mut Vec<u8>, count: u64) -> Result<(), Refusal>
     put(out, b"\n")
 }
 
+fn put_pulled_lines<O: Operator>(
+    alloc: Global,
+    out: &mut Vec<u8>,
+    rows: &mut O,
+) -> Result<(), Refusal>
+    ensures ok { OnOk result (out.new.items ≡ out.old.items ++ flat_map (λ row. line (printed_row row)) (O.to_come rows.old)) }
+    ensures err { IfErr result (λ e. e ≡ Refusal.OutOfMemory) }
+{
+    while let Some(row) = rows.next(alloc)? {
+        put_row(out, row.as_slice())?;
+        put(out, b"\n")?;
+    }
+    Ok(())
+}
+
+/// Puts a result as `put_rows`, whose rows are shown one by one. Refuses only for want of memory.
+pub fn put_shown_rows(alloc: Global, out: &mut Vec<u8>, rows: ShownRows) -> Result<(), Refusal>
+    ensures ok { OnOk result (out.new.items ≡ out.old.items ++ rows_text rows) }
+    ensures err { IfErr result (λ e. e ≡ Refusal.OutOfMemory) }
+{
+    let count = rows.len() as u64;
+    let mut pulled = rows.pulled(alloc)?;
+    put_pulled_lines(alloc, out, &mut pulled)?;
+    put_row_count(out, count)
+}
+
 // Promise: Results, counts and refusals have their one printed form
-// With: count_line, refusal_line
+// With: put_shown_rows, count_line, refusal_line
 // Refuses: values_parted_by_commas, null_in_lower_case, delete_byte_as_it_is
 /// Puts a result: a line for each row, its values with bars between them, and a line that tells how many rows there are,
 /// as `rows 2`. A number is in decimal, NULL is `NULL`, and a text stands in single quotes, with each byte outside 20..7E,

@@ -16,6 +16,7 @@ ghost use Rattle.vtgate_script.specs.inner.UnderWay.{KeptSession, IsBehind, IsSh
 
 use administration::{Administrator, administer};
 use journal::{Naming, Opener, Pass};
+use operators::ShownRows;
 use route_engine::{Answer, Engine, Open, Reply, Tx};
 use session::{DeviceFailed, Sink};
 use shard::{ShardLaw, World};
@@ -23,28 +24,28 @@ use std::alloc::Global;
 use std::marker::Model;
 use std::sync::Wait;
 use std::thread::Threads;
-use vt_value::{Items, Refusal, Row};
+use vt_value::{Items, Refusal};
 use vtgate_input::Fault;
-use vtgate_lines::{Line, count_line, next_line, put_rows, read_line, refusal_line};
+use vtgate_lines::{Line, count_line, next_line, put_shown_rows, read_line, refusal_line};
 
 // Writes rows, or that there is no memory for them.
-fn write_rows<O: Sink>(alloc: Global, rows: &[Row], output: &mut O) -> Result<(), DeviceFailed>
+fn write_rows<O: Sink>(alloc: Global, rows: ShownRows, output: &mut O) -> Result<(), DeviceFailed>
     ensures { OnOk result ((text : List ℕ) × Appends (O.taken output.old) (O.taken output.new) text
-        × ((text ≡ rows_text rows.now) ⊎ (text ≡ refusal_text Refusal.OutOfMemory))) }
+        × ((text ≡ rows_text rows) ⊎ (text ≡ refusal_text Refusal.OutOfMemory))) }
 {
     let mut text = Vec::new(alloc);
-    match put_rows(&mut text, rows) {
+    match put_shown_rows(alloc, &mut text, rows) {
         Ok(()) => output.write(&text),
         Err(refusal) => output.write(refusal_line(refusal).as_slice()),
     }
 }
 
-fn write_answer<O: Sink>(alloc: Global, answer: &Answer, output: &mut O) -> Result<(), DeviceFailed>
-    ensures { OnOk result ((text : List ℕ) × Appends (O.taken output.old) (O.taken output.new) text × IsShown answer.now text) }
+fn write_answer<O: Sink>(alloc: Global, answer: Answer, output: &mut O) -> Result<(), DeviceFailed>
+    ensures { OnOk result ((text : List ℕ) × Appends (O.taken output.old) (O.taken output.new) text × IsShown answer text) }
 {
     match answer {
-        Answer::Rows(selected) => write_rows(alloc, selected.rows.as_slice(), output),
-        Answer::Count(count) => output.write(count_line(*count).as_slice()),
+        Answer::Rows(selected) => write_rows(alloc, selected.rows, output),
+        Answer::Count(count) => output.write(count_line(count).as_slice()),
     }
 }
 
@@ -56,7 +57,7 @@ fn write_outcome<O: Sink>(
     ensures { OnOk result ((text : List ℕ) × Appends (O.taken output.old) (O.taken output.new) text × IsOutcomeShown outcome text) }
 {
     match outcome {
-        Ok(reply) => write_answer(alloc, &reply.answer, output),
+        Ok(reply) => write_answer(alloc, reply.answer, output),
         Err(refusal) => output.write(refusal_line(refusal).as_slice()),
     }
 }

@@ -2,7 +2,7 @@
 use Rattle.std.specs.Prelude.{Option}
 use Rattle.journal.specs.Views.{PassView}
 use Rattle.shard_run.specs.declared.Entry.{Entry}
-use Rattle.shard_run.specs.Runs.{Opening, one}
+use Rattle.shard_run.specs.Runs.{Opening}
 use Rattle.shard_calls.specs.Transactions.{Transaction}
 use Rattle.shard_calls.specs.Pendings.{OpenView, Stands}
 

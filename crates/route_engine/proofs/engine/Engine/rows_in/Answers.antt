@@ -1,6 +1,7 @@
 use Rattle.std.proofs.Common.{◌≡◌, ◌<◌, List, get_or, length, sym, ap, subst, ◌∙◌, arith}
 use Rattle.std.proofs.lemmas.Result.{err_from_is_err_and}
 use Rattle.route_engine.proofs.Doing as d
+use Rattle.vschema.specs.declared.schema.Query.{Query}
 use Rattle.vschema.specs.declared.schema.Table.{Table}
 use Rattle.vschema.specs.declared.schema.VSchema.{VSchema}
 use Rattle.vschema.specs.declared.schema.Typed.TheVariants as typed
@@ -18,8 +19,9 @@ pub rows_by-given-requires-clause-keyspace : goal.rows_by-given-requires-clause-
 rows_by-given-requires-clause-keyspace g c κs within =
     let o = g.W.World.opening in
     let there = subst (λ (v : VSchema). c.args.query.now.table < length v.tables) (sym c.self.invariant.schema_is) c.requires.there.0 in
-    let t = is_table o c.self.inside.schema c.self.invariant.schema_is (c.args.query.now.table) there c.index-as_slice-query.result
-    (c.index-as_slice-query.is ∙ ap (λ (l : List Table). get_or l c.args.query.now.table c.index-as_slice-query.result) c.as_slice.ensures) in
+    let t = is_table o c.self.inside.schema c.self.invariant.schema_is (c.args.query.now.table) there c.index-as_slice-narrow.result
+    (c.index-as_slice-narrow.is ∙ ap (λ (l : List Table). get_or l c.query-narrow.result.now.table c.index-as_slice-narrow.result) c.as_slice.ensures
+    ∙ ap (λ (v : Query). get_or c.self.inside.schema.tables v.table c.index-as_slice-narrow.result) c.query-narrow.ensures) in
     let below = keyspace_below o.schema c.self.invariant.formed (c.args.query.now.table) in
     let schema : c.args.self.now ≡ o.schema = sym c.self.view_is ∙ c.self.invariant.schema_is in
     let n = ap (λ (x : Table). x.keyspace) t in

@@ -1,0 +1,41 @@
+//! What a query shows, and its rows as they are shown.
+ghost use Rattle.std.specs.Prelude.{◌≡◌};
+ghost use Rattle.operators.specs.Slices.{shown_at};
+ghost use Rattle.sql_eval.specs.Narrowing.{whole_items, whole_places};
+
+use operators::ShownRows;
+use planner::Plan;
+use sql_eval::Whole;
+use sql_tree::Item;
+use vt_value::{Items, Row};
+
+// The items of the whole query, and its rows as they are shown.
+pub(crate) fn shown_whole(
+    whole: Option<Whole>,
+    items: Items<Item<usize>>,
+    rows: Items<Row>,
+) -> (Items<Item<usize>>, ShownRows)
+    ensures items { result.0 ≡ whole_items whole items }
+    ensures rows { result.1 ≡ shown_at (whole_places whole) rows }
+{
+    match whole {
+        None => (items, ShownRows::new(rows, None)),
+        Some(whole) => {
+            drop(items);
+            (whole.items, ShownRows::new(rows, Some(whole.places)))
+        }
+    }
+}
+
+// What the answer shows, and whether each item was written with its table's name.
+pub(crate) fn shown_by(plan: Plan) -> (Items<Item<usize>>, Items<bool>)
+    ensures items { result.0 ≡ plan.items }
+    ensures qualified { result.1 ≡ plan.qualified }
+{
+    let Plan {
+        items,
+        qualified,
+        ..
+    } = plan;
+    (items, qualified)
+}
