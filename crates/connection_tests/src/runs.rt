@@ -7,6 +7,7 @@ use std::net::{Net, TcpListener, TcpStream};
 use std::sync::Wait;
 use std::thread::Threads;
 use std::time::Clock;
+use vschema::Hashing;
 use vtgate_script::{run_plan, run_script};
 use vtgate_serve::run_serve;
 
@@ -49,6 +50,7 @@ fn status_of<
     O: Sink,
     E: Sink,
 >(rt: &R, alloc: Global, words: &[String], input: &mut I, output: &mut O, errors: &mut E) -> u8 {
+    let hashing = Hashing::known();
     match words {
         [word, shards, sql] if is_word(word, b"plan") => run_plan(
             alloc,
@@ -59,9 +61,9 @@ fn status_of<
             errors,
         ),
         [word, shards] if is_word(word, b"script") => {
-            run_script(rt, alloc, shards.as_str(), input, output, errors)
+            run_script(rt, alloc, &hashing, shards.as_str(), input, output, errors)
         }
-        _ => run_serve(rt, alloc, words, input, output, errors),
+        _ => run_serve(rt, alloc, &hashing, words, input, output, errors),
     }
 }
 

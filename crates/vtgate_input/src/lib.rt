@@ -11,3 +11,4 @@ pub use fault::{
 };
 pub use input::read_all;
 pub use setup::{has_too_many, ranges_of, schema_of};
+pub use vschema::Hashing;

@@ -10,7 +10,7 @@ use crate::fault::Fault;
 use keyrange::KeyRange;
 use std::alloc::Global;
 use std::str;
-use vschema::{SchemaFault, VSchema};
+use vschema::{Hashing, SchemaFault, VSchema};
 use vtgate_lines::{MOST_RANGES, read_ranges};
 
 /// The ranges that the word of the shards tells.
@@ -24,8 +24,8 @@ pub fn ranges_of(alloc: Global, shards: &str) -> Result<Vec<KeyRange>, Fault>
     }
 }
 
-/// The VSchema that a text declares. One that isn't UTF-8 is no JSON.
-pub fn schema_of(alloc: Global, bytes: &[u8]) -> Result<VSchema, Fault>
+/// The VSchema that a text declares, whose statements hash groups by the key. A text that isn't UTF-8 is no JSON.
+pub fn schema_of(alloc: Global, hashing: &Hashing, bytes: &[u8]) -> Result<VSchema, Fault>
     ensures declared { IfOk result (λ schema. schema_read bytes.now ≡ Ok (contents schema)) }
     ensures formed { IfOk result (λ schema. IsTrue (is_vschema schema)) }
 {
@@ -33,7 +33,7 @@ pub fn schema_of(alloc: Global, bytes: &[u8]) -> Result<VSchema, Fault>
         return Err(Fault::Schema(SchemaFault::NotJson));
     };
     match VSchema::read(alloc, text) {
-        Ok(schema) => Ok(schema),
+        Ok(schema) => Ok(schema.keyed(hashing)),
         Err(SchemaFault::OutOfMemory) => Err(Fault::OutOfMemory),
         Err(fault) => Err(Fault::Schema(fault)),
     }

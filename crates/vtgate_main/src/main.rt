@@ -9,7 +9,7 @@ use std::alloc::Global;
 use std::process::ExitCode;
 use std::rt::Env;
 use std::{env, io};
-use vtgate_input::{FAILED, FAILURE};
+use vtgate_input::{FAILED, FAILURE, Hashing};
 
 fn words<R: Env + AllocGlobal>(rt: &R, alloc: Global) -> io::Result<Vec<String>> {
     let mut words = Vec::new(alloc);
@@ -25,11 +25,16 @@ fn main(rt: HostRuntime) -> ExitCode {
         let _ = errors.write(FAILED);
         return ExitCode::from(FAILURE);
     };
+    let Ok(hashing) = Hashing::random(&rt) else {
+        let _ = errors.write(FAILED);
+        return ExitCode::from(FAILURE);
+    };
     let mut input = Reader::new(rt.stdin());
     let mut output = Writer::new(rt.stdout());
     let status = run(
         &rt,
         rt.alloc(),
+        &hashing,
         &words,
         &mut input,
         &mut output,

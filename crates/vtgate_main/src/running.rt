@@ -15,7 +15,7 @@ use std::net::{Net, TcpListener, TcpStream};
 use std::sync::Wait;
 use std::thread::Threads;
 use std::time::Clock;
-use vtgate_input::{SUCCESS, WRONG_WORDS};
+use vtgate_input::{Hashing, SUCCESS, WRONG_WORDS};
 use vtgate_script::{run_plan, run_script};
 use vtgate_serve::run_serve;
 
@@ -69,13 +69,21 @@ fn script_words(words: &[String]) -> Option<&str>
 /// which declares the VSchema: 0, or 1 where a device fails or there is no memory. `serve`, with the words that `read_words` reads, serves
 /// connections under the VSchema that the whole input declares: 0 after the last one, or 1 where a port can't be bound, no thread can be
 /// started, a device fails or there is no memory. Any other words are wrong: the usage is told, and the status is 2. A VSchema's fault is
-/// told too, and the status is 2.
+/// told too, and the status is 2. Groups are hashed by the key.
 pub fn run<
     R: Threads + Wait + Sync + Clock + Net<Listener = TcpListener, Stream = TcpStream>,
     I: Source,
     O: Sink,
     E: Sink,
->(rt: &R, alloc: Global, words: &[String], input: &mut I, output: &mut O, errors: &mut E) -> u8
+>(
+    rt: &R,
+    alloc: Global,
+    hashing: &Hashing,
+    words: &[String],
+    input: &mut I,
+    output: &mut O,
+    errors: &mut E,
+) -> u8
     ensures plan { (shards sql : List ℕ) → map string_bytes words.now ≡ codes "plan" ∷ shards ∷ sql ∷ [] → result ≡ SUCCESS
         → HasPlanned shards sql (I.unread input.old) (I.unread input.new) (O.taken output.old) (O.taken output.new) }
     // The word of the shards is tested before the input is read.
@@ -97,7 +105,7 @@ pub fn run<
         return run_plan(alloc, shards, sql, input, output, errors);
     }
     if let Some(shards) = script_words(words) {
-        return run_script(rt, alloc, shards, input, output, errors);
+        return run_script(rt, alloc, hashing, shards, input, output, errors);
     }
-    run_serve(rt, alloc, words, input, output, errors)
+    run_serve(rt, alloc, hashing, words, input, output, errors)
 }

@@ -7,7 +7,7 @@ ghost use Rattle.vtgate_script.specs.Planned.{IsPlanned, HasPlanned};
 
 use session::{Sink, Source};
 use std::alloc::Global;
-use vschema::VSchema;
+use vschema::{Hashing, VSchema};
 use vtgate_input::{Fault, SUCCESS, has_too_many, ranges_of, read_all, refuse, schema_of};
 use vtgate_lines::plan_line;
 
@@ -15,7 +15,8 @@ fn read_schema<I: Source>(alloc: Global, input: &mut I) -> Result<VSchema, Fault
     ensures { IfOk result (λ schema. HasDeclared (I.unread input.old) (I.unread input.new) schema) }
 {
     let bytes = read_all(alloc, input)?;
-    schema_of(alloc, &bytes)
+    // A plan makes no groups.
+    schema_of(alloc, &Hashing::known(), &bytes)
 }
 
 fn planned<I: Source>(

@@ -23,7 +23,7 @@ use std::alloc::Global;
 use std::marker::Brand;
 use std::sync::Wait;
 use std::thread::Threads;
-use vschema::{SchemaFault, VSchema};
+use vschema::{Hashing, SchemaFault, VSchema};
 use vtgate_input::{Fault, SUCCESS, has_too_many, ranges_of, read_all, refuse, schema_of};
 use vtgate_lines::next_line;
 
@@ -113,6 +113,7 @@ fn run_in_world<W: World + Send + Sync, R: Threads + Wait + Sync, O: Sink>(
 // The VSchema of the first line, over the ranges, and the other lines.
 fn begin<'l>(
     alloc: Global,
+    hashing: &Hashing,
     ranges: &[KeyRange],
     text: &'l [u8],
 ) -> Result<(VSchema, &'l [u8]), Fault>
@@ -124,7 +125,7 @@ fn begin<'l>(
     let Some((first, lines)) = next_line(text) else {
         return Err(Fault::Schema(SchemaFault::NotJson));
     };
-    let schema = schema_of(alloc, first)?;
+    let schema = schema_of(alloc, hashing, first)?;
     if has_too_many(&schema, ranges) {
         return Err(Fault::WrongWords);
     }
@@ -150,6 +151,7 @@ fn run_over<R: Threads + Wait + Sync, O: Sink>(
 fn scripted<R: Threads + Wait + Sync, I: Source, O: Sink>(
     rt: &R,
     alloc: Global,
+    hashing: &Hashing,
     shards: &str,
     input: &mut I,
     output: &mut O,
@@ -159,17 +161,19 @@ fn scripted<R: Threads + Wait + Sync, I: Source, O: Sink>(
 {
     let ranges = ranges_of(alloc, shards)?;
     let text = read_all(alloc, input)?;
-    let (schema, lines) = begin(alloc, &ranges, &text)?;
+    let (schema, lines) = begin(alloc, hashing, &ranges, &text)?;
     run_over(rt, alloc, schema, &ranges, lines, output)
 }
 
 /// Runs the lines of an input, of which the first declares the VSchema, over the ranges that the word of the shards tells, and gives the
 /// status 0. What is printed for a line is written before the next is run. The status is 1 where a device fails or there is no memory for
 /// the input, for what it runs over or for a session; and 2 where the word tells no ranges, or more than 63 beside an unsharded keyspace,
-/// and where the first line declares no VSchema. The word is tested before the input is read.
+/// and where the first line declares no VSchema. The word is tested before the input is read. Groups
+/// are hashed by the key.
 pub fn run_script<R: Threads + Wait + Sync, I: Source, O: Sink, E: Sink>(
     rt: &R,
     alloc: Global,
+    hashing: &Hashing,
     shards: &str,
     input: &mut I,
     output: &mut O,
@@ -179,7 +183,7 @@ pub fn run_script<R: Threads + Wait + Sync, I: Source, O: Sink, E: Sink>(
     // A wrong word is refused before anything is read.
     ensures untouched { ((ranges : List KeyRange) → NamesPartition shards.now ranges → ⊥) → input.new ≡ input.old }
 {
-    match scripted(rt, alloc, shards, input, output) {
+    match scripted(rt, alloc, hashing, shards, input, output) {
         Ok(()) => SUCCESS,
         Err(fault) => refuse(fault, output, errors),
     }

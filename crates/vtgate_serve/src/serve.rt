@@ -29,7 +29,7 @@ use std::net::{Net, TcpListener, TcpStream};
 use std::sync::Wait;
 use std::thread::Threads;
 use std::time::Clock;
-use vschema::VSchema;
+use vschema::{Hashing, VSchema};
 use vt_value::Items;
 use vtgate_input::{
     Fault, SUCCESS, USAGE, WRONG_WORDS, has_too_many, ranges_of, read_all, refuse, schema_of,
@@ -306,6 +306,7 @@ fn serve_over<
 // The VSchema that the whole input declares, over the ranges.
 fn read_schema<I: Source>(
     alloc: Global,
+    hashing: &Hashing,
     ranges: &[KeyRange],
     input: &mut I,
 ) -> Result<VSchema, Fault>
@@ -315,7 +316,7 @@ fn read_schema<I: Source>(
     ensures fit { IfOk result (λ schema. FitRanges schema ranges.now) }
 {
     let bytes = read_all(alloc, input)?;
-    let schema = schema_of(alloc, &bytes)?;
+    let schema = schema_of(alloc, hashing, &bytes)?;
     if has_too_many(&schema, ranges) {
         return Err(Fault::WrongWords);
     }
@@ -326,12 +327,19 @@ fn served<
     R: Threads + Wait + Sync + Clock + Net<Listener = TcpListener, Stream = TcpStream>,
     I: Source,
     O: Sink,
->(rt: &R, alloc: Global, asked: &Asked<'_>, input: &mut I, output: &mut O) -> Result<(), Fault>
+>(
+    rt: &R,
+    alloc: Global,
+    hashing: &Hashing,
+    asked: &Asked<'_>,
+    input: &mut I,
+    output: &mut O,
+) -> Result<(), Fault>
     ensures ok { OnOk result (HasServed asked.now.shards (I.unread input.old) (I.unread input.new) (O.taken output.old) (O.taken output.new)) }
     ensures untouched { ((ranges : List KeyRange) → NamesPartition asked.now.shards ranges → ⊥) → (input.new ≡ input.old) × (output.new ≡ output.old) }
 {
     let ranges = ranges_of(alloc, asked.shards)?;
-    let schema = read_schema(alloc, &ranges, input)?;
+    let schema = read_schema(alloc, hashing, &ranges, input)?;
     serve_over(rt, alloc, asked, schema, &ranges, output)
 }
 
@@ -341,12 +349,20 @@ fn run_asked<
     I: Source,
     O: Sink,
     E: Sink,
->(rt: &R, alloc: Global, asked: &Asked<'_>, input: &mut I, output: &mut O, errors: &mut E) -> u8
+>(
+    rt: &R,
+    alloc: Global,
+    hashing: &Hashing,
+    asked: &Asked<'_>,
+    input: &mut I,
+    output: &mut O,
+    errors: &mut E,
+) -> u8
     ensures served { result ≡ SUCCESS → HasServed asked.now.shards (I.unread input.old) (I.unread input.new) (O.taken output.old) (O.taken output.new) }
     // A wrong word is refused before anything is read.
     ensures untouched { ((ranges : List KeyRange) → NamesPartition asked.now.shards ranges → ⊥) → input.new ≡ input.old }
 {
-    match served(rt, alloc, asked, input, output) {
+    match served(rt, alloc, hashing, asked, input, output) {
         Ok(()) => SUCCESS,
         Err(Fault::OutOfMemory) => refuse(Fault::Failed, output, errors),
         Err(fault) => refuse(fault, output, errors),
@@ -357,12 +373,21 @@ fn run_asked<
 /// last one. The status is 1 where a port can't be bound, which is told, where no thread could be started, where a device fails and where
 /// there is no memory for what it runs over; and 2 where the word of the shards tells no ranges, or more than 63 beside an unsharded
 /// keyspace, and where the input declares no VSchema. Words that aren't those of `serve` are wrong: the usage is told, and the status is 2.
+/// Groups are hashed by the key.
 pub fn run_serve<
     R: Threads + Wait + Sync + Clock + Net<Listener = TcpListener, Stream = TcpStream>,
     I: Source,
     O: Sink,
     E: Sink,
->(rt: &R, alloc: Global, words: &[String], input: &mut I, output: &mut O, errors: &mut E) -> u8
+>(
+    rt: &R,
+    alloc: Global,
+    hashing: &Hashing,
+    words: &[String],
+    input: &mut I,
+    output: &mut O,
+    errors: &mut E,
+) -> u8
     ensures serve { (asking : Asking) → Asks (map string_bytes words.now) asking → result ≡ SUCCESS
         → HasServed asking.shards (I.unread input.old) (I.unread input.new) (O.taken output.old) (O.taken output.new) }
     // A wrong word is refused before anything is read.
@@ -375,5 +400,5 @@ pub fn run_serve<
         let _ = errors.write(USAGE);
         return WRONG_WORDS;
     };
-    run_asked(rt, alloc, &asked, input, output, errors)
+    run_asked(rt, alloc, hashing, &asked, input, output, errors)
 }
