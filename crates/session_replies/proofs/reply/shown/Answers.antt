@@ -11,6 +11,6 @@ pub returns-after-result_set : goal.returns-after-result_set
 returns-after-result_set c =
     rw c.result.view_is
     (elim c.match-result_set.branch [
-      in-Ok w ↦ rw (w.result-is, c.in-Rows.is) (inl (shows _ _ w.in-Ok.set w.in-Ok.ensures.columns w.in-Ok.ensures.rows))
+      | in-Ok w ↦ rw (w.result-is, c.in-Rows.is) (inl (shows _ _ w.in-Ok.set w.in-Ok.ensures.columns w.in-Ok.ensures.rows))
       | in-Err w ↦ rw (w.result-is, c.in-Rows.is, w.in-Err.ensures.err) (inr (tt, refl))
     ])
