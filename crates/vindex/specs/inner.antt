@@ -1,1 +1,2 @@
 pub mod Reversal
+pub mod Swaps

@@ -4,6 +4,7 @@ ghost use Rattle.vindex.specs.Keys.{key_number, reversed_number_of};
 ghost use Rattle.vindex.specs.KeyspaceIds.{numeric, reversed};
 ghost use Rattle.vindex.specs.Ksids.{ksid_bytes};
 ghost use Rattle.vindex.specs.inner.Reversal.{numeric_back, reversed_back};
+ghost use Rattle.vindex.specs.inner.Swaps.{reversed_in_bytes};
 
 use crate::ksid::Ksid;
 use md5::{Digest, Md5};
@@ -26,6 +27,7 @@ pub trait Vindex {
 
     // Promise: A vindex maps a key to its keyspace id, without memory
     // With: Numeric::{map, id_of}, ReverseBits::{map, id_of}, Binary::map, BinaryMd5::map, Ksid::as_slice
+    // Refuses: neighbours_of_the_high_half_alone, pairs_keep_their_places
     /// The keyspace id of a key. It takes no memory.
     fn map<'k>(key: &'k Self::Key) -> Ksid<'k>
         ensures id { ksid_bytes result ≡ keyspace_id key.now }
@@ -59,6 +61,23 @@ pub struct Binary;
 /// The vindex `binary_md5`: the 16 bytes of a text's MD5 digest.
 pub struct BinaryMd5;
 
+// A number of 64 bits, of which every second one, two of four and four of eight are set.
+const ONES: u64 = 0x5555_5555_5555_5555;
+
+const TWOS: u64 = 0x3333_3333_3333_3333;
+
+const FOURS: u64 = 0x0f0f_0f0f_0f0f_0f0f;
+
+// The number with the bits of each byte in reverse: neighbours change places, then pairs, then halves of bytes. The kit's `reverse_bits` takes
+// the bits one by one.
+fn reversed_in_bytes(n: u64) -> u64
+    ensures { result ≡ reversed_in_bytes n }
+{
+    let pairs = (n >> 1 & ONES) + (n & ONES) * 2;
+    let halves = (pairs >> 2 & TWOS) + (pairs & TWOS) * 4;
+    (halves >> 4 & FOURS) + (halves & FOURS) * 16
+}
+
 impl Numeric {
     /// The keyspace id of a number, which borrows nothing.
     pub fn id_of(key: u64) -> Ksid<'static>
@@ -73,7 +92,7 @@ impl ReverseBits {
     pub fn id_of(key: u64) -> Ksid<'static>
         ensures { ksid_bytes result ≡ reversed key }
     {
-        Ksid::Eight(key.reverse_bits().to_be_bytes())
+        Ksid::Eight(reversed_in_bytes(key).to_le_bytes())
     }
 }
 

@@ -15,14 +15,14 @@ shifted : (a b p x : ℕ) → (a * 2 + b) * p + x ≡ a * (p * 2) + ((0 * 2 + b)
 shifted a b p x = grind arith
 
 -- what was reversed before stands above
-onto : (k n a : ℕ) → reverse_bits_onto k n a ≡ a * 2 ^ k + r k n
+pub onto : (k n a : ℕ) → reverse_bits_onto k n a ≡ a * 2 ^ k + r k n
 unfolding reverse_bits_onto
 onto zero n a = omega arith
 onto (suc k) n a =
     rw (onto k (n / 2) (a * 2 + n % 2), onto k (n / 2) (0 * 2 + n % 2), pow-suc 2 k) (shifted a (n % 2) (2 ^ k) (r k (n / 2)))
 
 -- the lowest bit becomes the highest
-low : (k n : ℕ) → r (suc k) n ≡ n % 2 * 2 ^ k + r k (n / 2)
+pub low : (k n : ℕ) → r (suc k) n ≡ n % 2 * 2 ^ k + r k (n / 2)
 unfolding reverse_bits_onto
 low k n = onto k (n / 2) (0 * 2 + n % 2) ∙ omega arith
 
@@ -31,7 +31,7 @@ below zero p x h g = omega arith
 below (suc zero) p x h g = omega arith
 below (suc (suc b)) p x h g = absurd (omega arith)
 
-bound : (k n : ℕ) → r k n < 2 ^ k
+pub bound : (k n : ℕ) → r k n < 2 ^ k
 unfolding reverse_bits_onto
 bound zero n = omega arith
 bound (suc k) n = rw (low k n, pow-suc 2 k) (below (n % 2) (2 ^ k) (r k (n / 2)) (omega arith) (bound k (n / 2)))
@@ -42,7 +42,7 @@ halved h p m = let e : h * (p * 2) ≡ h * p * 2 = grind arith in omega arith
 parity : (h p m : ℕ) → (h * (p * 2) + m) % 2 ≡ m % 2
 parity h p m = let e : h * (p * 2) ≡ h * p * 2 = grind arith in omega arith
 
-half_below : (k n : ℕ) → n < 2 ^ suc k → n / 2 < 2 ^ k
+pub half_below : (k n : ℕ) → n < 2 ^ suc k → n / 2 < 2 ^ k
 half_below k n h = let e : 2 ^ suc k ≡ 2 ^ k * 2 = pow-suc 2 k in omega arith
 
 doubled : (b p x h : ℕ) → b * (p * 2) + (2 * x + h) ≡ 2 * (b * p + x) + h
