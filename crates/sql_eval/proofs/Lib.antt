@@ -14,6 +14,10 @@ pub mod PlaceLemmas
 pub mod Firsts
 pub mod Counted
 pub mod LentRows
+pub mod Lent
+pub mod Members
+pub mod Twins
+pub mod FrontRows
 pub mod Pairs
 pub mod PairValues
 pub mod NarrowLemmas

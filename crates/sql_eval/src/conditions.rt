@@ -45,7 +45,7 @@ pub fn seen_at<'v>(values: Seen<'v>, place: usize, null: &'v Value) -> &'v Value
     }
 }
 
-fn is_null_value(v: &Value) -> bool
+pub fn is_null_value(v: &Value) -> bool
     ensures { result ≡ is_null v.now }
 {
     matches!(v, Value::Null)
@@ -81,7 +81,7 @@ fn is_among(x: &Value, members: &[Value]) -> Truth
     }
 }
 
-fn operand<'a>(o: &'a Operand<usize>, values: Seen<'a>, null: &'a Value) -> &'a Value
+pub fn operand<'a>(o: &'a Operand<usize>, values: Seen<'a>, null: &'a Value) -> &'a Value
     requires { null.now ≡ Value.Null }
     ensures { result.now ≡ operand_value (seen values.entry) o.now }
 {
@@ -92,7 +92,7 @@ fn operand<'a>(o: &'a Operand<usize>, values: Seen<'a>, null: &'a Value) -> &'a 
 }
 
 #[cycle(truth)]
-fn truth_of(condition: &Condition<usize>, values: Seen) -> Truth
+pub fn truth_of(condition: &Condition<usize>, values: Seen) -> Truth
     ensures { result ≡ truth_at (seen values.entry) condition.now }
 {
     let null = Value::Null;
@@ -140,7 +140,7 @@ fn some(members: &[Condition<usize>], values: Seen) -> Truth
 
 // Promise: The truth of a condition at a row is SQL's; WHERE keeps the rows where it is true
 // With: keeps
-// Refuses: in_forgets_null_members, not_leaves_the_truth, keeps_unknown_rows
+// Refuses: in_forgets_null_members, not_leaves_the_truth, keeps_unknown_rows, null_is_among_members, rows_that_fail_a_test_are_kept
 /// The truth of a condition at a row, by SQL's three-valued logic. A row has NULL behind its last value. Takes no memory.
 pub fn truth(condition: &Condition<usize>, row: &Row) -> Truth
     ensures { result ≡ truth_at row.now condition.now }

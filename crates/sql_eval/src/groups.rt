@@ -7,11 +7,12 @@ ghost use Rattle.sql_eval.specs.Conditions.{is_kept};
 ghost use Rattle.sql_eval.specs.Grouping.{shown_place, aggregates_of, item_places, placed_key, grouping_of, group_columns, group_order, grouped};
 ghost use Rattle.sql_eval.specs.inner.Parts.{one_of, row_part, part_row};
 
+use crate::filters::Filter;
 use crate::rows::value_at;
-use crate::source::{RowSource, next_kept};
+use crate::source::{RowSource, next_passing};
 use aggregate::GroupMerge;
 use operators::{Operator, collect, project_row};
-use sql_tree::{Condition, Item, Key};
+use sql_tree::{Item, Key};
 use std::alloc::Global;
 use vschema::{FirstPlaces, Hashing, Query};
 use vt_value::{Items, Refusal, Row, Value, copy};
@@ -145,7 +146,7 @@ fn part_row(
 /// Of each row of a source whose condition is true the values of its group, and the parts of the aggregates that it is.
 #[derive(Drop)]
 pub struct Parts<'a, S> {
-    condition: &'a Option<Condition<usize>>,
+    condition: Filter<'a>,
     columns: &'a [usize],
     aggregates: Items<Item<usize>>,
     rows: S,
@@ -161,7 +162,7 @@ impl<'a, S: RowSource<'a>> Parts<'a, S> {
     {
         let aggregates = aggregates_of(alloc, query.items.as_slice())?;
         Ok(Parts {
-            condition: &query.filter,
+            condition: Filter::of(alloc, &query.filter)?,
             columns: query.group_by.as_slice(),
             aggregates,
             rows,
@@ -175,7 +176,7 @@ impl<'a, S: RowSource<'a>> Operator for Parts<'a, S> {
     ghost use Rattle.sql_eval.specs.Conditions.{is_kept};
     ghost use Rattle.sql_eval.specs.inner.Parts.{part_row};
 
-    ghost to_come = { λ parts. map (part_row parts.columns.now parts.aggregates) (filter (is_kept parts.condition.now) (S.to_come parts.rows)) };
+    ghost to_come = { λ parts. map (part_row parts.columns.now parts.aggregates) (filter (is_kept parts.condition) (S.to_come parts.rows)) };
 
     ghost has_failed = { λ parts. parts.failed };
 
@@ -183,7 +184,7 @@ impl<'a, S: RowSource<'a>> Operator for Parts<'a, S> {
         if self.failed {
             return Err(Refusal::OutOfMemory);
         }
-        let Some(row) = next_kept(self.condition, &mut self.rows) else {
+        let Some(row) = next_passing(&self.condition, &mut self.rows) else {
             return Ok(None);
         };
         let part = part_row(alloc, self.columns, self.aggregates.as_slice(), row);

@@ -2,6 +2,9 @@
 #![tactic(auto)]
 
 mod conditions;
+mod duplicates;
+mod filters;
+mod fronts;
 mod groups;
 mod joins;
 mod narrowed;

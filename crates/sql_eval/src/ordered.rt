@@ -2,10 +2,13 @@
 ghost use Rattle.std.specs.Prelude.{◌≡◌, IfOk, IfErr, OnOk, IsPermutation, IsSorted, map, filter};
 ghost use Rattle.operators.specs.Orders.{row_cmp};
 ghost use Rattle.sql_eval.specs.Conditions.{is_kept};
+ghost use Rattle.sql_eval.specs.inner.Fronts.{IsFront};
 
-use crate::source::{RowSource, next_kept};
+use crate::filters::Filter;
+use crate::fronts::first_ordered;
+use crate::source::{RowSource, next_passing};
 use operators::compare_rows;
-use sql_tree::{Condition, Key};
+use sql_tree::Key;
 use std::alloc::Global;
 use std::marker::Model;
 use vt_value::{Refusal, Row};
@@ -42,7 +45,7 @@ impl<'a> RowSource<'a> for LentRows<'a> {
 
 fn all<'a, S: RowSource<'a>>(
     alloc: Global,
-    condition: &Option<Condition<usize>>,
+    condition: &Filter,
     rows: S,
 ) -> Result<Vec<&'a Row>, Refusal>
     ensures ok { IfOk result (λ list. map (λ row. row.now) list.items ≡ filter (is_kept condition.now) (S.to_come rows)) }
@@ -50,7 +53,7 @@ fn all<'a, S: RowSource<'a>>(
 {
     let mut rows = rows;
     let mut list = Vec::new(alloc);
-    while let Some(row) = next_kept(condition, &mut rows) {
+    while let Some(row) = next_passing(condition, &mut rows) {
         list.push(row)?;
     }
     Ok(list)
@@ -68,7 +71,7 @@ fn sort(rows: &mut Vec<&Row>, keys: &[Key<usize>]) -> Result<(), Refusal>
 /// The rows whose condition is true, in an order that the keys allow. None is copied. Refuses only for want of memory.
 pub fn ordered<'a, S: RowSource<'a>>(
     alloc: Global,
-    condition: &Option<Condition<usize>>,
+    condition: &Filter,
     rows: S,
     keys: &[Key<usize>],
 ) -> Result<LentRows<'a>, Refusal>
@@ -84,4 +87,19 @@ pub fn ordered<'a, S: RowSource<'a>>(
         }),
         Err(e) => Err(e),
     }
+}
+
+/// The first of these rows in an order that the keys allow, at most so many. None is copied. Refuses only for want of memory.
+pub fn ordered_front<'a, S: RowSource<'a>>(
+    alloc: Global,
+    condition: &Filter,
+    rows: S,
+    keys: &[Key<usize>],
+    most: usize,
+) -> Result<LentRows<'a>, Refusal>
+    ensures ok { IfOk result (IsFront (row_cmp keys.now) most (filter (is_kept condition.now) (S.to_come rows))) }
+    ensures err { IfErr result (λ e. e ≡ Refusal.OutOfMemory) }
+{
+    let rows = first_ordered(alloc, condition, rows, keys, most)?;
+    Ok(LentRows { rows, next: 0 })
 }

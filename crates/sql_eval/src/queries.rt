@@ -1,4 +1,4 @@
-ghost use Rattle.std.specs.Prelude.{◌≡◌, ◌≤◌, ◌^◌, ◌∷◌, [], IsTrue, length, pos, IfOk, IfErr, map, filter, true};
+ghost use Rattle.std.specs.Prelude.{◌≡◌, ◌≤◌, ◌^◌, ◌∷◌, [], IsTrue, length, pos, IfOk, IfErr, IfSome, map, filter, true};
 ghost use Rattle.std.specs.List.{list_all};
 ghost use Rattle.vschema.specs.Checks.{is_aggregated};
 ghost use Rattle.operators.specs.Slices.{columns_of};
@@ -6,10 +6,12 @@ ghost use Rattle.sql_eval.specs.Conditions.{is_kept};
 ghost use Rattle.sql_eval.specs.Groups.{CanBeSummed};
 ghost use Rattle.sql_eval.specs.Grouping.{shown_place, group_columns, group_order, IsSortedSlice};
 ghost use Rattle.sql_eval.specs.inner.Parts.{grouped_rows, is_count_rows, counted_row};
+ghost use Rattle.sql_eval.specs.inner.Fronts.{IsWithin};
 ghost use Rattle.sql_eval.specs.Queries.{IsAnswer};
 
+use crate::filters::Filter;
 use crate::groups::{Grouping, Parts, group_columns, group_order, shown_place};
-use crate::ordered::ordered;
+use crate::ordered::{ordered, ordered_front};
 use crate::source::{RowSource, SliceRows, kept_count, shown};
 use operators::{Limit, Project, Rows, collect, project_row, sort_rows};
 use sql_tree::{Condition, Item, Key};
@@ -63,6 +65,55 @@ pub fn show(
     collect(alloc, &mut shown)
 }
 
+/// So many rows at most are held in order while rows come: each may move all of them.
+const FRONT: u64 = 1_000;
+
+/// How many of the first rows a limit needs, where these are few.
+fn front_of(limit: Option<sql_tree::Limit>) -> Option<usize>
+    ensures { IfSome result (λ most. IsWithin most limit) }
+{
+    match limit {
+        Some(limit) if limit.offset <= FRONT && limit.count <= FRONT => {
+            Some((limit.offset + limit.count) as usize)
+        }
+        _ => None,
+    }
+}
+
+// What is shown of the rows, of which no more are held in order than a limit needs.
+fn show_front<'a, S: RowSource<'a>>(
+    alloc: Global,
+    query: &Query,
+    condition: &Filter,
+    rows: S,
+    most: usize,
+    places: &[usize],
+) -> Result<Items<Row>, Refusal>
+    requires { IsWithin most query.now.limit }
+    ensures ok { IfOk result (IsSortedSlice query.now.order_by query.now.limit places.now (filter (is_kept condition.now) (S.to_come rows))) }
+    ensures err { IfErr result (λ e. e ≡ Refusal.OutOfMemory) }
+{
+    let rows = ordered_front(alloc, condition, rows, query.order_by.as_slice(), most)?;
+    let all = Filter::plain(&None);
+    shown(alloc, &all, rows, query.limit, places)
+}
+
+// What is shown of the rows.
+fn show_ordered<'a, S: RowSource<'a>>(
+    alloc: Global,
+    query: &Query,
+    condition: &Filter,
+    rows: S,
+    places: &[usize],
+) -> Result<Items<Row>, Refusal>
+    ensures ok { IfOk result (IsSortedSlice query.now.order_by query.now.limit places.now (filter (is_kept condition.now) (S.to_come rows))) }
+    ensures err { IfErr result (λ e. e ≡ Refusal.OutOfMemory) }
+{
+    let rows = ordered(alloc, condition, rows, query.order_by.as_slice())?;
+    let all = Filter::plain(&None);
+    shown(alloc, &all, rows, query.limit, places)
+}
+
 // What a query without aggregates gives. Only what goes out is copied.
 fn select_rows<'a, S: RowSource<'a>>(
     alloc: Global,
@@ -73,12 +124,15 @@ fn select_rows<'a, S: RowSource<'a>>(
     ensures err { IfErr result (λ e. e ≡ Refusal.OutOfMemory) }
 {
     let places = shown_places(alloc, query.items.as_slice())?;
-    let keys = query.order_by.as_slice();
-    if keys.is_empty() {
-        return shown(alloc, &query.filter, rows, query.limit, places.as_slice());
+    let places = places.as_slice();
+    let filter = Filter::of(alloc, &query.filter)?;
+    if query.order_by.as_slice().is_empty() {
+        return shown(alloc, &filter, rows, query.limit, places);
     }
-    let rows = ordered(alloc, &query.filter, rows, keys)?;
-    shown(alloc, &None, rows, query.limit, places.as_slice())
+    match front_of(query.limit) {
+        Some(most) => show_front(alloc, query, &filter, rows, most, places),
+        None => show_ordered(alloc, query, &filter, rows, places),
+    }
 }
 
 fn is_count_rows(aggregate: &Item<usize>) -> bool
@@ -118,7 +172,8 @@ fn counted<'a, S: RowSource<'a>>(
     ensures ok { IfOk result (λ list. list ≡ counted_row aggregates.now (length (filter (is_kept condition.now) (S.to_come rows))) ∷ []) }
     ensures err { IfErr result (λ e. e ≡ Refusal.OutOfMemory) }
 {
-    let count = kept_count(condition, rows);
+    let filter = Filter::of(alloc, condition)?;
+    let count = kept_count(&filter, rows);
     let mut row = Items::new(alloc);
     for _ in aggregates {
         row.push(count_value(count))?;
@@ -166,7 +221,7 @@ fn select_groups<'a, S: RowSource<'a>>(
 // an order that its ORDER BY allows, and of these the slice of its LIMIT
 // With: select_local, show, next_kept, all_kept
 // Refuses: one_row_more_is_shown, offset_is_halved, parts_of_all_rows, count_of_column_counts_null, groups_are_counted_together,
-// lent_rows_descend, rows_are_counted_by_halves
+// lent_rows_descend, rows_are_counted_by_halves, kept_rows_are_not_copied, front_loses_its_last_row, front_forgets_the_offset
 /// What a query gives over the rows of its table that a source lends: those whose condition is true, each by the columns that the
 /// query shows, or, of an aggregated query, their groups; in an order that its ORDER BY allows, and of these what its LIMIT leaves. No
 /// row is copied that doesn't go out. Refuses only for want of memory.

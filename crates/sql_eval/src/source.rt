@@ -4,6 +4,7 @@ ghost use Rattle.operators.specs.Slices.{columns_of, sliced};
 ghost use Rattle.sql_eval.specs.Conditions.{is_kept};
 
 use crate::conditions::keeps;
+use crate::filters::Filter;
 use operators::project_row;
 use sql_tree::{Condition, Limit};
 use std::alloc::Global;
@@ -77,17 +78,47 @@ pub fn next_kept<'a, S: RowSource<'a>>(
     None
 }
 
+/// The next row that a filter keeps, or `None` where none is left. Takes no memory.
+pub fn next_passing<'a, S: RowSource<'a>>(condition: &Filter, rows: &mut S) -> Option<&'a Row>
+    ensures { MatchOption result
+        ((filter (is_kept condition.now) (S.to_come rows.old) ≡ []) × (S.to_come rows.new ≡ []))
+        (λ row. filter (is_kept condition.now) (S.to_come rows.old) ≡ row.now ∷ filter (is_kept condition.now) (S.to_come rows.new)) }
+{
+    while let Some(row) = rows.next_row() {
+        if condition.keeps(row) {
+            return Some(row);
+        }
+    }
+    None
+}
+
 /// How many rows there are whose condition is true. Takes no memory.
-pub fn kept_count<'a, S: RowSource<'a>>(condition: &Option<Condition<usize>>, rows: S) -> u64
+pub fn kept_count<'a, S: RowSource<'a>>(condition: &Filter, rows: S) -> u64
     requires { length (filter (is_kept condition.now) (S.to_come rows)) ≤ 2 ^ 60 }
     ensures { result ≡ length (filter (is_kept condition.now) (S.to_come rows)) }
 {
     let mut rows = rows;
     let mut count = 0;
-    while let Some(_row) = next_kept(condition, &mut rows) {
+    while let Some(_row) = next_passing(condition, &mut rows) {
         count += 1;
     }
     count
+}
+
+fn all_passing<'a, S: RowSource<'a>>(
+    alloc: Global,
+    condition: &Filter,
+    rows: S,
+) -> Result<Items<Row>, Refusal>
+    ensures ok { IfOk result (λ list. list ≡ filter (is_kept condition.now) (S.to_come rows)) }
+    ensures err { IfErr result (λ e. e ≡ Refusal.OutOfMemory) }
+{
+    let mut rows = rows;
+    let mut list = Items::new(alloc);
+    while let Some(row) = next_passing(condition, &mut rows) {
+        list.push(copy_row(alloc, row)?)?;
+    }
+    Ok(list)
 }
 
 /// Copies of the rows whose condition is true. Refuses only for want of memory.
@@ -99,20 +130,16 @@ pub fn all_kept<'a, S: RowSource<'a>>(
     ensures ok { IfOk result (λ list. list ≡ filter (is_kept condition.now) (S.to_come rows)) }
     ensures err { IfErr result (λ e. e ≡ Refusal.OutOfMemory) }
 {
-    let mut rows = rows;
-    let mut list = Items::new(alloc);
-    while let Some(row) = next_kept(condition, &mut rows) {
-        list.push(copy_row(alloc, row)?)?;
-    }
-    Ok(list)
+    let filter = Filter::of(alloc, condition)?;
+    all_passing(alloc, &filter, rows)
 }
 
 // Passes over so many of the rows whose condition is true, or over all where there are fewer.
-fn pass_over<'a, S: RowSource<'a>>(condition: &Option<Condition<usize>>, rows: &mut S, count: u64)
+fn pass_over<'a, S: RowSource<'a>>(condition: &Filter, rows: &mut S, count: u64)
     ensures { filter (is_kept condition.now) (S.to_come rows.new) ≡ drop count (filter (is_kept condition.now) (S.to_come rows.old)) }
 {
     for _ in 0..count {
-        let Some(_row) = next_kept(condition, rows) else {
+        let Some(_row) = next_passing(condition, rows) else {
             return;
         };
     }
@@ -121,7 +148,7 @@ fn pass_over<'a, S: RowSource<'a>>(condition: &Option<Condition<usize>>, rows: &
 // Of the first rows whose condition is true, at most so many, the columns in these places. No row behind the last of them is asked for.
 fn first_shown<'a, S: RowSource<'a>>(
     alloc: Global,
-    condition: &Option<Condition<usize>>,
+    condition: &Filter,
     rows: &mut S,
     places: &[usize],
     count: u64,
@@ -132,7 +159,7 @@ fn first_shown<'a, S: RowSource<'a>>(
 {
     let mut list = Items::new(alloc);
     for _ in 0..count {
-        let Some(row) = next_kept(condition, rows) else {
+        let Some(row) = next_passing(condition, rows) else {
             break;
         };
         list.push(project_row(alloc, places, row)?)?;
@@ -143,7 +170,7 @@ fn first_shown<'a, S: RowSource<'a>>(
 // Of each row whose condition is true the columns in these places.
 fn all_shown<'a, S: RowSource<'a>>(
     alloc: Global,
-    condition: &Option<Condition<usize>>,
+    condition: &Filter,
     rows: &mut S,
     places: &[usize],
 ) -> Result<Items<Row>, Refusal>
@@ -151,7 +178,7 @@ fn all_shown<'a, S: RowSource<'a>>(
     ensures err { IfErr result (λ e. e ≡ Refusal.OutOfMemory) }
 {
     let mut list = Items::new(alloc);
-    while let Some(row) = next_kept(condition, rows) {
+    while let Some(row) = next_passing(condition, rows) {
         list.push(project_row(alloc, places, row)?)?;
     }
     Ok(list)
@@ -161,7 +188,7 @@ fn all_shown<'a, S: RowSource<'a>>(
 /// behind the last of them is asked for. Refuses only for want of memory.
 pub fn shown<'a, S: RowSource<'a>>(
     alloc: Global,
-    condition: &Option<Condition<usize>>,
+    condition: &Filter,
     rows: S,
     limit: Option<Limit>,
     places: &[usize],

@@ -1,31 +1,21 @@
 ghost use Rattle.std.specs.Prelude.{◌≡◌, ◌⊎◌, IfOk, IfErr, Ok, Err, map, filter, flat_map, option_to_list};
 ghost use Rattle.vschema.specs.declared.changes.RowChange.TheVariants.{Added, Removed};
 ghost use Rattle.sql_eval.specs.Conditions.{is_kept};
-ghost use Rattle.sql_eval.specs.Writes.{has_duplicate, assigned, row_updates, changes_over};
+ghost use Rattle.sql_eval.specs.Writes.{assigned, row_updates, changes_over};
 
-use crate::conditions::keeps;
-use crate::rows::{has_key, same_row};
+use crate::duplicates::has_duplicate;
+use crate::filters::Filter;
+use crate::rows::same_row;
 use sql_tree::{Assignment, Condition};
 use std::alloc::Global;
 use vschema::{RowChange, Table, Write};
 use vt_value::{Items, Refusal, Row, copy, copy_row};
 
-fn has_duplicate(table: &Table, rows: &[Row], new: &[Row]) -> bool
-    ensures { result ≡ has_duplicate table.now rows.now new.now }
-{
-    for (i, row) in new.iter().enumerate() {
-        if has_key(table, rows, row) || has_key(table, &new[..i], row) {
-            return true;
-        }
-    }
-    false
-}
-
 fn added(alloc: Global, place: usize, new: &[Row]) -> Result<Items<RowChange>, Refusal>
     ensures ok { IfOk result (λ changes. changes ≡ map (Added place) new.now) }
     ensures err { IfErr result (λ e. e ≡ Refusal.OutOfMemory) }
 {
-    let mut changes = Items::new(alloc);
+    let mut changes = Items::from_vec(Vec::with_capacity(alloc, new.len())?);
     for row in new {
         changes.push(RowChange::Added(place, copy_row(alloc, row)?))?;
     }
@@ -41,9 +31,10 @@ fn removed(
     ensures ok { IfOk result (λ changes. changes ≡ map (Removed place) (filter (is_kept condition.now) rows.now)) }
     ensures err { IfErr result (λ e. e ≡ Refusal.OutOfMemory) }
 {
+    let filter = Filter::of(alloc, condition)?;
     let mut changes = Items::new(alloc);
     for row in rows {
-        if keeps(condition, row) {
+        if filter.keeps(row) {
             changes.push(RowChange::Removed(place, copy_row(alloc, row)?))?;
         }
     }
@@ -67,13 +58,13 @@ fn row_update(
     alloc: Global,
     place: usize,
     assignments: &[Assignment<usize>],
-    condition: &Option<Condition<usize>>,
+    filter: &Filter,
     row: &Row,
 ) -> Result<Option<RowChange>, Refusal>
-    ensures ok { IfOk result (λ change. option_to_list change ≡ row_updates place assignments.now condition.now row.now) }
+    ensures ok { IfOk result (λ change. option_to_list change ≡ row_updates place assignments.now filter.now row.now) }
     ensures err { IfErr result (λ e. e ≡ Refusal.OutOfMemory) }
 {
-    if !keeps(condition, row) {
+    if !filter.keeps(row) {
         return Ok(None);
     }
     let new = assigned(alloc, assignments, row)?;
@@ -93,9 +84,10 @@ fn updated(
     ensures ok { IfOk result (λ changes. changes ≡ flat_map (row_updates place assignments.now condition.now) rows.now) }
     ensures err { IfErr result (λ e. e ≡ Refusal.OutOfMemory) }
 {
+    let filter = Filter::of(alloc, condition)?;
     let mut changes = Items::new(alloc);
     for row in rows {
-        if let Some(change) = row_update(alloc, place, assignments, condition, row)? {
+        if let Some(change) = row_update(alloc, place, assignments, &filter, row)? {
             changes.push(change)?;
         }
     }
@@ -105,7 +97,8 @@ fn updated(
 // Promise: What a write does to the rows of its table, or F12 exactly where an INSERT has a primary key twice; rows are the same where they
 // compare as equal
 // With: same_row
-// Refuses: duplicate_among_the_new_alone, change_is_dropped, delete_takes_the_other_rows, update_leaves_a_value
+// Refuses: duplicate_among_the_new_alone, change_is_dropped, delete_takes_the_other_rows, update_leaves_a_value,
+// neighbours_of_one_key_are_passed_over, keys_that_are_there_are_passed_over
 /// What a write does to the rows of its table: rows added, removed or really changed. Refuses `DuplicateKey` where an INSERT
 /// has the primary key of a row that is there, or one twice, and else only for want of memory.
 pub fn change_local(
@@ -119,7 +112,8 @@ pub fn change_local(
 {
     match write {
         Write::Insert(place, new) => {
-            if has_duplicate(table, rows, new.as_slice()) {
+            let has = has_duplicate(alloc, table, rows, new.as_slice())?;
+            if has {
                 return Err(Refusal::DuplicateKey);
             }
             added(alloc, *place, new.as_slice())

@@ -8,8 +8,8 @@ use Rattle.sql_eval.proofs.source.first_shown.Goals as goal
 pub loop-preserved : goal.loop-preserved
 loop-preserved g c =
     let all = filter (is_kept c.args.condition.now) (g.S.RowSource.to_come c.args.rows.now) in
-    let left = filter (is_kept c.args.condition.now) (g.S.RowSource.to_come c.next_kept.new.rows) in
-    let first = rw c.in-Some.is at c.next_kept.ensures in
+    let left = filter (is_kept c.args.condition.now) (g.S.RowSource.to_come c.next_passing.new.rows) in
+    let first = rw c.in-Some.is at c.next_passing.ensures in
     let at = sym c.loop.invariant.1 ∙ first in (
       c.in_ok-push.ensures.ok ∙ (λ i. c.loop.invariant.0 i ++ c.in_ok-project_row.ensures.ok i ∷ [])
           ∙ sym (shown_more (columns_of c.args.places.now) all left c.in-Some.row.now c.loop.counter at),

@@ -3,12 +3,12 @@ use Rattle.std.proofs.lemmas.Result.{IfOk-weaker}
 use Rattle.sql_eval.proofs.ChangeLemmas.{inserts, deletes}
 use Rattle.sql_eval.proofs.writes.change_local.Goals as goal
 
-pub returns-else-has_duplicate-clause-ok : goal.returns-else-has_duplicate-clause-ok
-returns-else-has_duplicate-clause-ok c =
-    let none = rw c.as_slice.ensures at c.has_duplicate.ensures in
+pub returns-else-has-clause-ok : goal.returns-else-has-clause-ok
+returns-else-has-clause-ok c =
+    let none = rw c.as_slice.ensures at c.in_ok-has-in-Insert.ensures.ok in
     let added = rw c.as_slice-in-Insert.ensures at c.added.ensures.ok in
     IfOk-weaker c.added.result _ _
-    (λ changes is. inserts c.args.table.now c.args.write.now c.in-Insert.place c.in-Insert.new c.args.rows.now changes c.in-Insert.is (sym none ∙ c.if-has_duplicate.false) is) added
+    (λ changes is. inserts c.args.table.now c.args.write.now c.in-Insert.place c.in-Insert.new c.args.rows.now changes c.in-Insert.is (sym none ∙ c.if-has.false) is) added
 
 pub returns-in-Delete-clause-ok : goal.returns-in-Delete-clause-ok
 returns-in-Delete-clause-ok c =

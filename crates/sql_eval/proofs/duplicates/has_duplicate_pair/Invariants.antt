@@ -1,6 +1,6 @@
 use Rattle.std.proofs.Common.{◌≡◌, ◌++◌, take, drop}
 use Rattle.sql_eval.specs.Writes.{has_duplicate}
-use Rattle.sql_eval.proofs.writes.has_duplicate.Given as goal
+use Rattle.sql_eval.proofs.duplicates.has_duplicate_pair.Given as goal
 
 -- what is left to test: the other new rows, against the rows and the new rows before them
 abbrev pub invariant-loop-i : goal.invariant-loop-i

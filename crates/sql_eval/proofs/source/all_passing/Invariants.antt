@@ -1,6 +1,6 @@
 use Rattle.std.proofs.Common.{◌≡◌, ◌++◌, length, filter}
 use Rattle.sql_eval.specs.Conditions.{is_kept}
-use Rattle.sql_eval.proofs.source.all_kept.Given as goal
+use Rattle.sql_eval.proofs.source.all_passing.Given as goal
 
 -- the rows so far, with those still to come, are all
 abbrev pub invariant-loop-row : goal.invariant-loop-row

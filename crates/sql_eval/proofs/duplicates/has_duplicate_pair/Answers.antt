@@ -1,6 +1,6 @@
 use Rattle.std.proofs.Common.{◌∙◌, sym, arith}
 use Rattle.sql_eval.proofs.RowLemmas.{has_duplicate-step}
-use Rattle.sql_eval.proofs.writes.has_duplicate.Goals as goal
+use Rattle.sql_eval.proofs.duplicates.has_duplicate_pair.Goals as goal
 
 pub loop-i-preserved : goal.loop-i-preserved
 loop-i-preserved c =

@@ -1,0 +1,11 @@
+use Rattle.std.proofs.Common.{◌≡◌, drop, map}
+use Rattle.std.specs.Cmp.Lexicographic.{slice_cmp}
+use Rattle.vt_value.specs.Values.{value_at, value_cmp}
+use Rattle.sql_eval.specs.inner.Keys.{key_cmp}
+use Rattle.sql_eval.proofs.duplicates.key_order.Given as goal
+
+-- the columns so far don't decide
+abbrev pub invariant-loop-place : goal.invariant-loop-place
+invariant-loop-place l =
+    slice_cmp value_cmp (map (value_at l.a) (drop l.place-index l.table.primary_key)) (map (value_at l.b) (drop l.place-index l.table.primary_key))
+    ≡ key_cmp l.table l.a l.b
