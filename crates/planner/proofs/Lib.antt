@@ -15,3 +15,4 @@ pub mod ShardPairs
 pub mod RowRights
 pub mod GroupRights
 pub mod PieceSums
+pub mod IdsKept

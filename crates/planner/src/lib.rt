@@ -13,7 +13,7 @@ mod routes;
 mod taking;
 
 pub use keys::{KeyColumn, Keys};
-pub use members::{Member, Members};
+pub use members::{KnownId, Member, Members};
 pub use planning::{plan, query_route};
 pub use plans::{Finish, Plan};
 pub use routes::{Route, route_of, write_route};

@@ -1,31 +1,37 @@
-//! The values of an IN, each with the digest by which `binary_md5` makes its id, which is computed once.
-ghost use Rattle.std.specs.Prelude.{◌≡◌, ◌++◌, ◌∷◌, [], ◌↔◌, map, IfSome, IsTrue, OnOk, true};
-ghost use Rattle.vindex.specs.declared.AnyVindex.TheVariants as any;
-ghost use Rattle.vindex.specs.KeyspaceIds.{keyspace_id, is_key};
-ghost use Rattle.planner.specs.Digests.{IsDigest};
+//! The values of an IN, each with its keyspace id, which is made once for all ranges.
+ghost use Rattle.std.specs.Prelude.{◌≡◌, ◌++◌, ◌∷◌, [], ◌↔◌, map, IsTrue, OnOk};
+ghost use Rattle.planner.specs.KnownIds.{IsIdOf};
 
 use std::alloc::{AllocError, Global};
 use std::marker::Model;
-use vindex::{AnyVindex, BinaryMd5, Ksid, Vindex};
+use vindex::{AnyVindex, Ksid};
 use vt_value::Value;
 
-/// A value of the vindex column, with its digest where it is a text and the vindex is `binary_md5`.
+/// The keyspace id of a value, where it was made before.
+#[derive(Clone, Copy)]
+pub enum KnownId {
+    Eight([u8; 8]),
+    Sixteen([u8; 16]),
+    /// The value's own bytes, or that of no key.
+    Unknown,
+}
+
+/// A value of the vindex column, with its keyspace id by a vindex.
 #[derive(Drop)]
 pub struct Member {
     pub(crate) value: Value,
-    pub(crate) digest: Option<[u8; 16]>,
-    ghost right: { IsDigest digest value },
+    pub(crate) vindex: AnyVindex,
+    pub(crate) id: KnownId,
+    ghost right: { IsIdOf vindex value id },
 }
 
-fn digest_of(vindex: AnyVindex, value: &Value) -> Option<[u8; 16]>
-    ensures { IfSome result (λ digest. (is_key any.BinaryMd5 value.now ≡ true) × (keyspace_id any.BinaryMd5 value.now ≡ digest)) }
+fn known_id(vindex: AnyVindex, value: &Value) -> KnownId
+    ensures { IsIdOf vindex value.now result }
 {
-    match (vindex, value) {
-        (AnyVindex::BinaryMd5, Value::Bytes(text)) => match BinaryMd5::map(text) {
-            Ksid::Sixteen(digest) => Some(digest),
-            _ => None,
-        },
-        _ => None,
+    match vindex.map(value) {
+        Some(Ksid::Eight(bytes)) => KnownId::Eight(bytes),
+        Some(Ksid::Sixteen(bytes)) => KnownId::Sixteen(bytes),
+        _ => KnownId::Unknown,
     }
 }
 
@@ -62,8 +68,8 @@ impl Members {
     pub fn push(&mut self, vindex: AnyVindex, value: Value) -> Result<(), AllocError>
         ensures { OnOk result (self.new ≡ self.old ++ value ∷ []) }
     {
-        let digest = digest_of(vindex, &value);
-        self.list.push(Member { value, digest })?;
+        let id = known_id(vindex, &value);
+        self.list.push(Member { value, vindex, id })?;
         Ok(())
     }
 
@@ -73,7 +79,7 @@ impl Members {
         self.list.is_empty()
     }
 
-    /// The values with their digests.
+    /// The values with their ids.
     pub(crate) fn as_slice(&self) -> &[Member]
         ensures { map (λ m. m.value) result.now ≡ self.now }
     {

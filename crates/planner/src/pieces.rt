@@ -61,11 +61,12 @@ struct Home<'h> {
     known: &'h [Member],
 }
 
-// Whether both are the same text.
-fn is_same_text(a: &Value, b: &Value) -> bool
+// Whether both are the same number or text.
+fn is_same_value(a: &Value, b: &Value) -> bool
     ensures { IsTrue result → a.now ≡ b.now }
 {
     match (a, b) {
+        (Value::Int(a), Value::Int(b)) => *a == *b,
         (Value::Bytes(a), Value::Bytes(b)) => a.as_slice() == b.as_slice(),
         _ => false,
     }
@@ -76,7 +77,7 @@ fn known_at<'k>(known: &'k [Member], at: usize, value: &Value) -> Option<&'k Mem
     ensures { IfSome result (λ member. member.now.value ≡ value.now) }
 {
     match known.get(at) {
-        Some(member) if is_same_text(&member.value, value) => Some(member),
+        Some(member) if is_same_value(&member.value, value) => Some(member),
         _ => None,
     }
 }

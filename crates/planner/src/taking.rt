@@ -7,11 +7,11 @@ ghost use Rattle.vt_value.specs.declared.value.Value.{Value};
 ghost use Rattle.planner.specs.declared.routes.Route.{Route};
 ghost use Rattle.planner.specs.Routes.{id_of, is_sharded, takes, taken_places};
 
-use crate::members::Member;
+use crate::members::{KnownId, Member};
 use crate::routes::Route;
 use keyrange::KeyRange;
 use std::alloc::Global;
-use vindex::{AnyVindex, Ksid};
+use vindex::Ksid;
 use vschema::Table;
 use vt_value::{Refusal, Value};
 
@@ -28,13 +28,14 @@ pub fn has_value(table: &Table, range: &KeyRange, value: &Value) -> bool
     }
 }
 
-/// The same of a value whose digest may be known.
+/// The same of a value whose id may be known.
 pub fn has_member(table: &Table, range: &KeyRange, member: &Member) -> bool
     ensures { result ≡ has_id range.now (id_of table.now member.now.value) }
 {
-    match (table.vindex, &member.digest) {
-        (Some(vindex), Some(digest)) if vindex.vindex == AnyVindex::BinaryMd5 => {
-            range.contains(digest)
+    match (table.vindex, &member.id) {
+        (Some(vindex), KnownId::Eight(id)) if vindex.vindex == member.vindex => range.contains(id),
+        (Some(vindex), KnownId::Sixteen(id)) if vindex.vindex == member.vindex => {
+            range.contains(id)
         }
         _ => has_value(table, range, &member.value),
     }
