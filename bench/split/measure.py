@@ -1,16 +1,18 @@
 """Measures splits of a served shard: copying, the longest wait of a writer, the rate of statements beside a copy, how soon targets are level
-beside writers at full speed, and steps a second by entries. Called by bench/split.sh."""
+beside writers at full speed, and how long steps take by entries and by tables. Called by bench/split.sh."""
 
 import argparse
 import contextlib
 import datetime
 import io
+import json
 import os
 import pathlib
 import socket
 import statistics
 import subprocess
 import sys
+import tempfile
 import threading
 import time
 
@@ -35,6 +37,8 @@ WRITERS, WRITING = "4", 5
 BATCH, MOST_BATCHES = 2000, 500
 # for how many seconds they write before each figure of the steps a second
 STRETCHES = (0.01, 0.1, 1, 10)
+# how many tables there are in turn, and how many batches of steps are then sent to targets that are level
+TABLES, LEVEL_BATCHES = (2, 16, 64, 256), 10
 KINDS = ("point", "insert", "update", "scatter", "mix", "transaction")
 HEAD = """## Splits
 
@@ -45,17 +49,29 @@ second before. Rounds: {rounds}, each with a new router; figures are the middle 
 """
 
 
+def schema_of(tables):
+    """The bench's VSchema as a file, with further tables until there are so many. They are empty."""
+    schema = json.loads((TOP / "bench" / "serve" / "schema.json").read_text())
+    mine = schema["keyspaces"]["shop"]["tables"]
+    for number in range(tables - len(mine)):
+        mine[f"t{number:03}"] = mine["few"]
+    file = tempfile.TemporaryFile()
+    file.write(json.dumps(schema).encode())
+    file.seek(0)
+    return file
+
+
 class Router:
     """A router with so many rows in its table, until the `with` ends, and one connection to its admin port."""
 
-    def __init__(self, words, rows):
-        self.words, self.rows = words, rows
+    def __init__(self, words, rows, tables=2):
+        self.words, self.rows, self.tables = words, rows, tables
 
     def __enter__(self):
         self.port, admin = free_ports(2)
         call = ["serve", "-80,80-", f"127.0.0.1:{self.port}", f"127.0.0.1:{admin}", "16", "100", "0", "bench", "-", "a nonce of the bench"]
-        schema = (TOP / "bench" / "serve" / "schema.json").open()
-        self.process = subprocess.Popen([self.words.program, *call], stdin=schema, stdout=subprocess.PIPE)
+        with schema_of(self.tables) as schema:
+            self.process = subprocess.Popen([self.words.program, *call], stdin=schema, stdout=subprocess.PIPE)
         if self.process.stdout.readline() != b"listening\n":
             sys.exit("the router doesn't listen")
         self.load("fill")
@@ -229,6 +245,28 @@ def by_entries(words):
             before += steps
 
 
+def timed(router):
+    """Seconds a step until the targets are level."""
+    begin = time.perf_counter()
+    taken = router.follow()
+    return (time.perf_counter() - begin) / taken
+
+
+def by_tables(words):
+    """Microseconds a step that copies empty tables, one that follows an entry, and one that finds the targets level, by the number of tables."""
+    for tables in TABLES:
+        with Router(words, 1000, tables) as router:
+            router.does("create -80 -40,40-80")
+            copying = timed(router)
+            write(router, "update", STRETCHES[2])
+            following = timed(router)
+            begin = time.perf_counter()
+            for _ in range(LEVEL_BATCHES):
+                router.answers(*["step"] * BATCH)
+            level = (time.perf_counter() - begin) / (LEVEL_BATCHES * BATCH)
+            yield tables, *(1e6 * it for it in (copying, following, level))
+
+
 def left(words, kind, rows=100000):
     """Entries that are left to follow where the source is frozen by `advance` right behind steps that came level, beside clients at full speed."""
     with Router(words, rows) as router:
@@ -292,6 +330,9 @@ def section(words):
     lines += ["", "Steps a second in which two targets follow a source, by the steps that they had taken before:", ""]
     lines += ["| steps before | steps | a second |", "|---|---|---|"]
     lines += [f"| {before} | {steps} | {each:.0f} |" for before, steps, each in by_entries(words)]
+    lines += ["", "Microseconds a step, by the number of tables, of which one has 1,000 rows and the others none:", ""]
+    lines += ["| tables | copying | following an entry | level |", "|---|---|---|---|"]
+    lines += ["| " + " | ".join([str(tables), *(f"{it:.1f}" for it in each)]) + " |" for tables, *each in by_tables(words)]
     return "\n".join(lines) + "\n"
 
 

@@ -108,7 +108,7 @@ impl<W: World, J: Naming> ShardState<W, J> {
     ghost use Rattle.journal.specs.Runs.{NumbersBelow};
     ghost use Rattle.shard_run.specs.Runs.{first_rows, held};
     ghost use Rattle.shard_run.specs.Openings.{IsOpening};
-    ghost use Rattle.shard_run.specs.Copies.{position, has_copied_all};
+    ghost use Rattle.shard_run.specs.Copies.{position};
     ghost use Rattle.shard_contents.specs.Progress.{behind};
     ghost use Rattle.shard_law.specs.Legal.{IsOnItsSlot, MayRetire, MayServe};
     ghost use Rattle.journal.specs.Views.{PassView};
@@ -120,7 +120,7 @@ impl<W: World, J: Naming> ShardState<W, J> {
     // Promise: A shard's rows (as bags), mode, stored entries, targets and how far it has come with each source are those that the run
     // which its seat has seen leaves on it, within its limits where it serves: the invariant of the type. It is an opening shard or a
     // target
-    // With: ShardState::{shard, slot, stands_at, is, stored, mode, last_step, has_copied, look, invariant}
+    // With: ShardState::{shard, slot, stands_at, is, stored, mode, last_step, next_table, look, invariant}
     /// A shard with its first rows, of each table of the VSchema: an opening one, or a target on a slot of its own. Nothing has happened
     /// on its slot.
     pub fn new(
@@ -233,19 +233,6 @@ impl<W: World, J: Naming> ShardState<W, J> {
             end -= 1;
         }
         None
-    }
-
-    /// Whether it has copied the whole table from a source.
-    pub fn has_copied(&self, source: usize, table: usize) -> bool
-        requires lives { mode W.opening self.now.seen self.now.shard.slot ≡ Mode.Retired → ⊥ }
-        ensures { result ≡ has_copied_all self.now.seen self.now.shard.slot source table }
-    {
-        for step in self.contents.steps.as_slice() {
-            if step.is_last_copy_of(source, table) {
-                return true;
-            }
-        }
-        false
     }
 
     /// What the shard does. The rows of a dropped one are gone, and it is retired.

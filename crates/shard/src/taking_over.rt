@@ -1,5 +1,5 @@
 //! How a target takes over what its sources have: how far it has come with each, what a source has for it then, and the Copy.
-ghost use Rattle.std.specs.Prelude.{◌≡◌, ◌⊎◌, ◌<◌, ◌≤◌, ◌^◌, ◌&&◌, ◌||◌, ◌==◌, true, not, None, IsTrue, IfOk, IfErr, OnOk, OnErr, MatchOption, filter, length, option_copied};
+ghost use Rattle.std.specs.Prelude.{◌≡◌, ◌⊎◌, ◌<◌, ◌≤◌, ◌^◌, ◌&&◌, ◌||◌, ◌==◌, true, not, None, IsTrue, IfOk, IfSome, IfErr, OnOk, OnErr, MatchOption, filter, length, option_copied};
 ghost use Rattle.std.specs.List.{AllByRecursion};
 ghost use Rattle.vt_value.specs.Values as values;
 ghost use Rattle.vschema.specs.WellFormed.{is_vschema};
@@ -15,13 +15,14 @@ ghost use Rattle.shard_run.specs.Copies.{position, table_at, has_copied_all, is_
 ghost use Rattle.shard_contents.specs.Progress.{behind};
 ghost use Rattle.shard_contents.specs.Shards.{MayFollow, HasLooked, HasAppended};
 ghost use Rattle.shard_contents.specs.Copying.{HasCopiedAll, IsNextTable, IsProgress, IsEntryFor, IsCopyFor, IsNextCopy, PassesLimit, is_reached};
-ghost use Rattle.shard_contents.specs.inner.Rowed.{row_of, first_named};
+ghost use Rattle.shard_contents.specs.inner.Rowed.{first_named};
+ghost use Rattle.shard.specs.inner.Reached.{IsLastCopy, is_whole};
 
 use crate::state::ShardState;
 use crate::world::{ShardLaw, World};
 use journal::{Naming, Pass};
 use shard_contents::{
-    NextTable, SourceProgress, changed_row, changed_table, copied, copy_change, first_named,
+    NextTable, SourceProgress, Step, changed_row, changed_table, copied, copy_change, first_named,
     is_reached, restricted_changes, stored_changes,
 };
 use shard_run::{Copied, Entry, Follow, Mode};
@@ -29,19 +30,84 @@ use std::alloc::Global;
 use vschema::{Place, RowChange, VSchema};
 use vt_value::{Items, Refusal, Row};
 
+// Whether a table is wholly copied, where the last Copy was of another one or of it.
+fn is_whole(schema: &VSchema, keyspace: usize, reached: usize, last: bool, n: usize) -> bool
+    requires n { n < length schema.now.tables }
+    requires reached { reached < length schema.now.tables }
+    ensures { result ≡ is_whole schema.now keyspace reached last n }
+{
+    if n == reached {
+        return last;
+    }
+    let tables = schema.tables.as_slice();
+    tables[n].keyspace == keyspace
+        && tables[n]
+            .name
+            .as_slice()
+            .cmp(tables[reached].name.as_slice())
+            .is_lt()
+}
+
 impl<W: World, J: Naming> ShardState<W, J> {
+    // The last Copy from a source, which tells which tables are copied, since they are in the order of their names.
+    fn last_copy(&self, source: usize) -> Option<&Step>
+        requires lives { mode W.opening self.now.seen self.now.shard.slot ≡ Mode.Retired → ⊥ }
+        ensures { IsLastCopy W.opening self.now.seen self.now.shard source (option_copied result) }
+    {
+        // for what their types say: the run is legal, and the shard stands on its slot
+        let _slot = self.seat.slot();
+        let _shard = self.shard();
+        let steps = self.contents.steps.as_slice();
+        let mut end = steps.len();
+        while end > 0 {
+            let step = &steps[end - 1];
+            if step.is_copy_from(source) {
+                return Some(step);
+            }
+            end -= 1;
+        }
+        None
+    }
+
+    // Whether it has copied the whole table from a source.
+    fn has_copied(&self, schema: &VSchema, source: usize, n: usize) -> bool
+        requires schema { schema.now ≡ W.opening.schema }
+        requires lives { mode W.opening self.now.seen self.now.shard.slot ≡ Mode.Retired → ⊥ }
+        requires there { n < length schema.now.tables }
+        ensures { result ≡ has_copied_all self.now.seen self.now.shard.slot source n }
+    {
+        match self.last_copy(source) {
+            Some(Step::Copied { table, last, .. }) => {
+                is_whole(schema, self.shard().place.keyspace, *table, *last, n)
+            }
+            _ => false,
+        }
+    }
+
+    // The table of the last Copy from a source, where it has more rows.
+    fn begun_table(&self, source: usize) -> Option<usize>
+        requires lives { mode W.opening self.now.seen self.now.shard.slot ≡ Mode.Retired → ⊥ }
+        ensures { IfSome result (IsNextTable W.opening self.now.seen self.now.shard source) }
+    {
+        match self.last_copy(source) {
+            Some(Step::Copied { table, last, .. }) => { if *last { None } else { Some(*table) } }
+            _ => None,
+        }
+    }
+
     // Whether a table is of its keyspace and not wholly copied from the source.
     fn is_unfinished(&self, schema: &VSchema, source: usize, n: usize) -> bool
+        requires schema { schema.now ≡ W.opening.schema }
         requires lives { mode W.opening self.now.seen self.now.shard.slot ≡ Mode.Retired → ⊥ }
         requires there { n < length schema.now.tables }
         ensures { result ≡ (((table_at schema.now n).keyspace == self.now.shard.place.keyspace) && not (has_copied_all self.now.seen self.now.shard.slot source n)) }
     {
         schema.tables.as_slice()[n].keyspace == self.shard().place.keyspace
-            && !self.has_copied(source, n)
+            && !self.has_copied(schema, source, n)
     }
 
-    /// The first table of its keyspace, by name, that it hasn't wholly copied from a source, by its slot. Takes no memory.
-    pub fn next_table(&self, schema: &VSchema, source: usize) -> Option<usize>
+    // The first table of its keyspace that isn't wholly copied, where none is begun.
+    fn first_unfinished(&self, schema: &VSchema, source: usize) -> Option<usize>
         requires schema { schema.now ≡ W.opening.schema }
         requires lives { mode W.opening self.now.seen self.now.shard.slot ≡ Mode.Retired → ⊥ }
         ensures { MatchOption result (HasCopiedAll W.opening self.now.seen self.now.shard source) (IsNextTable W.opening self.now.seen self.now.shard source) }
@@ -55,6 +121,19 @@ impl<W: World, J: Naming> ShardState<W, J> {
         found
     }
 
+    /// The first table of its keyspace, by name, that it hasn't wholly copied from a source, by its slot. Takes no memory. It walks the tables
+    /// only where the last Copy ended one.
+    pub fn next_table(&self, schema: &VSchema, source: usize) -> Option<usize>
+        requires schema { schema.now ≡ W.opening.schema }
+        requires lives { mode W.opening self.now.seen self.now.shard.slot ≡ Mode.Retired → ⊥ }
+        ensures { MatchOption result (HasCopiedAll W.opening self.now.seen self.now.shard source) (IsNextTable W.opening self.now.seen self.now.shard source) }
+    {
+        match self.begun_table(source) {
+            Some(table) => Some(table),
+            None => self.first_unfinished(schema, source),
+        }
+    }
+
     // The last row of the table that it copied from the source, which tells what is copied of it.
     fn last_copied(&self, source: usize, table: usize) -> Option<&Row>
         requires lives { mode W.opening self.now.seen self.now.shard.slot ≡ Mode.Retired → ⊥ }
@@ -62,15 +141,12 @@ impl<W: World, J: Naming> ShardState<W, J> {
         ensures { (row : values.Row) → is_copied W.opening.schema self.now.seen self.now.shard.slot source table row
             ≡ (has_copied_all self.now.seen self.now.shard.slot source table || is_reached (table_at W.opening.schema table) (option_copied result) row) }
     {
-        let steps = self.contents.steps.as_slice();
-        let mut end = steps.len();
-        while end > 0 {
-            if let Some(row) = steps[end - 1].row_of(source, table) {
-                return Some(row);
-            }
-            end -= 1;
+        // for what its type says: the world opens
+        let _ = &self.seat;
+        match self.last_copy(source) {
+            Some(step) => step.row_of(source, table),
+            None => None,
         }
-        None
     }
 
     /// Behind how many of a source's stored entries it stands, by the source's slot; none before its first Copy from there. Takes no memory.
@@ -113,9 +189,10 @@ impl<W: World, J: Naming> ShardState<W, J> {
     // Refuses: shard_contents::follows_without_range_filter, shard_contents::copies_one_row_too_few,
     // shard_contents::copies_rows_out_of_order, shard_contents::copies_beyond_the_place, shard_contents::walk_ends_at_a_row_with_a_place,
     // shard_contents::walk_ends_out_of_order, shard_contents::last_copy_is_forgotten, shard_contents::last_copy_is_dropped,
-    // shard_contents::rows_of_another_table_are_dropped, shard_contents::superseded_steps_alone_are_kept, shard_contents::summary_is_a_step_behind,
+    // shard_contents::copies_from_another_source_are_dropped, shard_contents::superseded_steps_alone_are_kept, shard_contents::summary_is_a_step_behind,
     // shard_contents::position_of_an_entry_before,
-    // tables_of_another_source_are_copied, shard_contents::copies_a_row_again, shard_contents::copy_adds_no_rows,
+    // tables_of_another_source_are_copied, finished_table_is_copied_again, tables_behind_the_last_copy_are_whole, last_copy_is_of_another_source,
+    // shard_contents::copies_a_row_again, shard_contents::copy_adds_no_rows,
     // shard_contents::tables_in_any_order, shard_contents::sorted_rows_are_not_brought_forward,
     // shard_contents::sorted_rows_are_brought_forward_twice, shard_contents::removed_row_stays_among_the_sorted,
     // shard_contents::sorted_rows_are_of_another_table, shard_contents::sorts_the_rows_of_another_table,
@@ -147,7 +224,7 @@ impl<W: World, J: Naming> ShardState<W, J> {
         ensures { result ≡ is_copied W.opening.schema self.now.seen self.now.shard.slot source n row.now }
     {
         let last = self.last_copied(source, n);
-        self.has_copied(source, n) || is_reached(&schema.tables.as_slice()[n], last, row)
+        self.has_copied(schema, source, n) || is_reached(&schema.tables.as_slice()[n], last, row)
     }
 
     // Whether a change is of a row that is copied from the source.

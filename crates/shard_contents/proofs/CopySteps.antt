@@ -60,7 +60,7 @@ use Rattle.shard_contents.proofs.Legality.{stands-next, lives, of_run}
 use Rattle.shard_contents.proofs.Looks.{following_lives}
 use Rattle.shard_contents.proofs.Modes.{here, stands_there, mode_there}
 use Rattle.shard_contents.proofs.Positions.{position-same, copied_all-same, any_both}
-use Rattle.shard_contents.proofs.Kept.{kept-push, walked, Settles, walk_told, no_row}
+use Rattle.shard_contents.proofs.Kept.{kept-push}
 use Rattle.shard_contents.proofs.Progress.{steps-push}
 use Rattle.shard_contents.proofs.States.{held-same, stored-same, holds_of, entries-on, alone_here, lives_if}
 use Rattle.shard_contents.proofs.Tables.{stored_there, there_from}
@@ -133,34 +133,6 @@ row_last-run source n old (e ∷ run) = by e.event (λ new. row_last-run source 
 
 pub row_is : (run : Run) (slot source n : ℕ) → last_row (rows_copied run slot source n) ≡ row_last source n None (steps_on slot run)
 row_is run slot source n = sym (later-none (last_row (rows_copied run slot source n))) ∙ row_last-run source n None (entries_on slot run)
-
-abbrev row_walk : (source n : ℕ) → Option Row → Step → Option Row
-row_walk source n old x = later (row_of source n x) old
-
-row_walked : (source n : ℕ) (old : Option Row) (steps : List Step) → walked (row_walk source n) old steps ≡ row_last source n old steps
-row_walked source n old [] = refl
-row_walked source n old (x ∷ steps) = row_walked source n (later (row_of source n x) old) steps
-
-row_settles : (source n : ℕ) (x : Step) → Settles (row_walk source n) x
-row_settles source n x = by (row_of source n x) refl
-  where
-    by : (r : Option Row) → row_of source n x ≡ r → Settles (row_walk source n) x
-    by None i = inr (λ y is old. ap (λ r. later r old) (no_row source n x y i is))
-    by (Some row) i = inl (λ p q. ap (λ r. later r p) i ∙ sym (ap (λ r. later r q) i))
-
--- the steps that are kept tell the same row
-row_kept : (source n : ℕ) (steps : List Step) → row_last source n None (kept_from [] steps) ≡ row_last source n None steps
-row_kept source n steps =
-    sym (row_walked source n None (kept_from [] steps)) ∙ walk_told (row_walk source n) (row_settles source n) None steps ∙ row_walked source n None steps
-
--- what a state tells of it
-pub row_told : (o : Opening) (most : Limits) (seen : Run) (c : Contents) (v : ShardView) → Keeps o most seen c → record { seen = seen; shard = c.shard } ≡ v
-    → (mode o v.seen v.shard.slot ≡ Rattle.shard_run.specs.declared.Mode.TheVariants.Retired → ⊥) → (source n : ℕ)
-    → last_row (rows_copied v.seen v.shard.slot source n) ≡ row_last source n None c.steps.items
-row_told o most seen c v keeps view lives source n =
-    let has = holds_of o most seen c keeps (λ retired. lives (ap (λ (x : ShardView). mode o x.seen x.shard.slot) (sym view) ∙ retired)) in
-    ap (λ (x : ShardView). last_row (rows_copied x.seen x.shard.slot source n)) (sym view) ∙ row_is seen c.shard.slot source n
-    ∙ sym (row_kept source n (steps_on c.shard.slot seen)) ∙ ap (row_last source n None) (sym has.steps)
 
 -- ---- what is copied
 

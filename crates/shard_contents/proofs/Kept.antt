@@ -1,14 +1,10 @@
 -- The steps that are kept tell what all of them told.
-use Rattle.std.proofs.Common.{◌≡◌, ℕ, Bool, true, false, cond, not, ◌&&◌, ◌||◌, ◌==◌, List, [], ◌∷◌, ◌++◌, ◌⊎◌, inl, inr, Some, None, filter, refl, sym, ap, ◌∙◌}
-use Rattle.std.specs.Prelude.{if◌then◌else◌}
-use Rattle.std.specs.List.{list_any}
+use Rattle.std.proofs.Common.{◌≡◌, ℕ, Bool, true, false, cond, not, ◌==◌, List, [], ◌∷◌, ◌++◌, ◌⊎◌, inl, inr, filter, refl, sym, ap, ◌∙◌}
 use Rattle.std.proofs.lemmas.Bool.{eqb-true}
-use Rattle.vt_value.specs.Values.{Row}
 use Rattle.shard_contents.specs.declared.forward.Step.{Step}
 use Rattle.shard_contents.specs.declared.forward.Step.TheVariants.{Followed, Copied}
-use Rattle.shard_contents.specs.inner.Progress.{source_of, is_last_copy_of}
-use Rattle.shard_contents.specs.inner.Rowed.{row_of}
-use Rattle.shard_contents.specs.Kept.{has_row, supersedes, keep, kept_from}
+use Rattle.shard_contents.specs.inner.Progress.{source_of}
+use Rattle.shard_contents.specs.Kept.{is_copy_from, supersedes, keep, kept_from}
 
 pub kept-push : (kept steps : List Step) (x : Step) → kept_from kept (steps ++ x ∷ []) ≡ keep x (kept_from kept steps)
 kept-push kept [] x = refl
@@ -68,64 +64,16 @@ walk_told g all p steps = kept_walk g all p [] steps
 
 -- ---- what is superseded
 
-and_both : (a b : Bool) → (a && b) ≡ true → (a ≡ true) × (b ≡ true)
-and_both true b is = (refl, is)
-and_both false b is = absurd (cc is)
-
-row_at : (source table : ℕ) (x : Step) → has_row source table x ≡ true → (source_of x ≡ source) × (row : Row) × (row_of source table x ≡ Some row)
-row_at source table (Followed from place) is = absurd (cc is)
-row_at source table (Copied from of place last None) is = absurd (cc is)
-row_at source table (Copied from of place last (Some row)) is =
-    (eqb-true from source (and_both (from == source) (of == table) is).0, row, ap (λ b. if b then Some row else None) is)
-
 pub same_source : (x y : Step) → supersedes x y ≡ true → source_of x ≡ source_of y
 same_source x (Followed source place) is = eqb-true (source_of x) source is
-same_source x (Copied source table place last row) is = (row_at source table x (and_both (has_row source table x) (not last) is).0).0
+same_source (Followed from at) (Copied source table place last row) is = absurd (cc is)
+same_source (Copied from of at end some) (Copied source table place last row) is = eqb-true from source is
 
-pub not_last : (source n : ℕ) (x y : Step) → supersedes x y ≡ true → is_last_copy_of source n y ≡ false
-not_last source n x (Followed from place) is = refl
-not_last source n x (Copied from of place last row) is = by last ((and_both (has_row from of x) (not last) is).1)
+-- where a step is no Copy from a source, none of those that it supersedes is
+pub no_copy : (source : ℕ) (x y : Step) → is_copy_from source x ≡ false → supersedes x y ≡ true → is_copy_from source y ≡ false
+no_copy source x (Followed from place) other is = refl
+no_copy source x (Copied from table place last row) other is = by (from == source) refl
   where
-    at : (b : Bool) → (b && false) ≡ false
-    at true = refl
-    at false = refl
-
-    by : (l : Bool) → not l ≡ true → (((from == source) && (of == n)) && l) ≡ false
-    by true is = absurd (cc is)
-    by false _ = at ((from == source) && (of == n))
-
--- of a table of which the later step has no row, the earlier one has none
-pub no_row : (source n : ℕ) (x y : Step) → row_of source n x ≡ None → supersedes x y ≡ true → row_of source n y ≡ None
-no_row source n x (Followed from place) none is = refl
-no_row source n x (Copied from of place last row) none is = by ((from == source) && (of == n)) refl
-  where
-    by : (b : Bool) → ((from == source) && (of == n)) ≡ b → (if (from == source) && (of == n) then row else None) ≡ None
-    by false i = ap (λ b. if b then row else None) i
-    by true i =
-        let same = and_both (from == source) (of == n) i in
-        let told = row_at from of x (and_both (has_row from of x) (not last) is).0 in
-        let here : row_of source n x ≡ Some told.1 =
-        ap (λ m. row_of m n x) (sym (eqb-true from source same.0)) ∙ ap (λ m. row_of from m x) (sym (eqb-true of n same.1)) ∙ told.2 in
-        absurd (cc (sym none ∙ here))
-
--- ---- tables that are wholly copied
-
-abbrev any_walk : (source n : ℕ) → Bool → Step → Bool
-any_walk source n b x = b || is_last_copy_of source n x
-
-any_walked : (source n : ℕ) (b : Bool) (steps : List Step) → walked (any_walk source n) b steps ≡ (b || list_any (is_last_copy_of source n) steps)
-any_walked source n true [] = refl
-any_walked source n false [] = refl
-any_walked source n true (x ∷ steps) = any_walked source n true steps
-any_walked source n false (x ∷ steps) = any_walked source n (is_last_copy_of source n x) steps
-
-any_settles : (source n : ℕ) (x : Step) → Settles (any_walk source n) x
-any_settles source n x = inr (λ y is b. ap (λ l. b || l) (not_last source n x y is) ∙ at b)
-  where
-    at : (b : Bool) → (b || false) ≡ b
-    at true = refl
-    at false = refl
-
-pub any_told : (source n : ℕ) (steps : List Step) → list_any (is_last_copy_of source n) (kept_from [] steps) ≡ list_any (is_last_copy_of source n) steps
-any_told source n steps =
-    sym (any_walked source n false (kept_from [] steps)) ∙ walk_told (any_walk source n) (any_settles source n) false steps ∙ any_walked source n false steps
+    by : (b : Bool) → (from == source) ≡ b → (from == source) ≡ false
+    by false e = e
+    by true e = absurd (cc (ap (λ n. is_copy_from n x) (sym (eqb-true from source e)) ∙ is, other))

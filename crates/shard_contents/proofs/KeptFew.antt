@@ -1,10 +1,10 @@
--- Few steps are kept: of each source one that followed, and of each of its tables one Copy with rows that isn't the last of its table.
-use Rattle.std.proofs.Common.{◌≡◌, ℕ, ◌+◌, ◌≤◌, Bool, true, false, cond, not, ◌&&◌, ◌==◌, List, [], ◌∷◌, ◌++◌, length, Option, Some, None, filter, refl, sym, ap, ◌∙◌, arith, length-append}
+-- Few steps are kept: of each source one that followed and one Copy.
+use Rattle.std.proofs.Common.{◌≡◌, ℕ, ◌+◌, ◌≤◌, Bool, true, false, cond, not, ◌==◌, List, [], ◌∷◌, ◌++◌, length, filter, refl, sym, ap, ◌∙◌, arith, length-append}
 use Rattle.std.proofs.lemmas.Bool.{eqb-true, eq-eqb}
 use Rattle.std.proofs.lemmas.List.Elements.{filter-append}
 use Rattle.shard_contents.specs.declared.forward.Step.{Step}
 use Rattle.shard_contents.specs.declared.forward.Step.TheVariants.{Followed, Copied}
-use Rattle.shard_contents.specs.Kept.{supersedes, keep, kept_from}
+use Rattle.shard_contents.specs.Kept.{is_copy_from, supersedes, keep, kept_from}
 
 none_left : (p t : Step → Bool) → ((y : Step) → p y ≡ true → t y ≡ false) → (steps : List Step) → filter p (filter t steps) ≡ []
 none_left p t out [] = refl
@@ -65,40 +65,23 @@ module _ (p : Step → Bool) (over : (x y : Step) → p x ≡ true → p y ≡ t
   kept_once kept [] few = few
   kept_once kept (x ∷ steps) few = kept_once (keep x kept) steps (one x kept few)
 
-and_both : (a b : Bool) → (a && b) ≡ true → (a ≡ true) × (b ≡ true)
-and_both true b is = (refl, is)
-and_both false b is = absurd (cc is)
-
 abbrev pub has_followed : ℕ → Step → Bool
 has_followed source (Followed from place) = from == source
 has_followed source (Copied from of place last row) = false
-
--- a Copy with rows that isn't the last of its table
-abbrev pub is_part : ℕ → ℕ → Step → Bool
-is_part source n (Followed from place) = false
-is_part source n (Copied from of place last None) = false
-is_part source n (Copied from of place last (Some row)) = ((from == source) && (of == n)) && not last
 
 follow_over : (source : ℕ) (x y : Step) → has_followed source x ≡ true → has_followed source y ≡ true → supersedes x y ≡ true
 follow_over source (Followed a p) (Followed b q) i j = eq-eqb a b (eqb-true a source i ∙ sym (eqb-true b source j))
 follow_over source (Followed a p) (Copied b t q l r) i j = absurd (cc j)
 follow_over source (Copied a t p l r) y i j = absurd (cc i)
 
-part_over : (source n : ℕ) (x y : Step) → is_part source n x ≡ true → is_part source n y ≡ true → supersedes x y ≡ true
-part_over source n (Followed a p) y i j = absurd (cc i)
-part_over source n (Copied a t p l None) y i j = absurd (cc i)
-part_over source n (Copied a t p l (Some r)) (Followed b q) i j = absurd (cc j)
-part_over source n (Copied a t p l (Some r)) (Copied b u q m None) i j = absurd (cc j)
-part_over source n (Copied a t p l (Some r)) (Copied b u q m (Some w)) i j =
-    let here = and_both (a == source) (t == n) (and_both ((a == source) && (t == n)) (not l) i).0 in
-    let two = and_both ((b == source) && (u == n)) (not m) j in
-    let there = and_both (b == source) (u == n) two.0 in
-    ap (λ c. (c && (t == u)) && not m) (eq-eqb a b (eqb-true a source here.0 ∙ sym (eqb-true b source there.0)))
-    ∙ ap (λ c. c && not m) (eq-eqb t u (eqb-true t n here.1 ∙ sym (eqb-true u n there.1))) ∙ two.1
+copy_over : (source : ℕ) (x y : Step) → is_copy_from source x ≡ true → is_copy_from source y ≡ true → supersedes x y ≡ true
+copy_over source (Followed a p) y i j = absurd (cc i)
+copy_over source (Copied a t p l r) (Followed b q) i j = absurd (cc j)
+copy_over source (Copied a t p l r) (Copied b u q m w) i j = eq-eqb a b (eqb-true a source i ∙ sym (eqb-true b source j))
 
--- however many steps there were, one that followed the source is kept at most, and one Copy of each of its tables that has rows and isn't its last
+-- however many steps there were, one that followed the source is kept at most, and one Copy from it
 pub followed_once : (source : ℕ) (steps : List Step) → length (filter (has_followed source) (kept_from [] steps)) ≤ 1
 followed_once source steps = kept_once (has_followed source) (follow_over source) [] steps (omega arith)
 
-pub part_once : (source n : ℕ) (steps : List Step) → length (filter (is_part source n) (kept_from [] steps)) ≤ 1
-part_once source n steps = kept_once (is_part source n) (part_over source n) [] steps (omega arith)
+pub copied_once : (source : ℕ) (steps : List Step) → length (filter (is_copy_from source) (kept_from [] steps)) ≤ 1
+copied_once source steps = kept_once (is_copy_from source) (copy_over source) [] steps (omega arith)

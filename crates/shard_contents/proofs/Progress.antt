@@ -1,5 +1,5 @@
 -- The steps that a state keeps tell how far it has come with each source.
-use Rattle.std.proofs.Common.{◌≡◌, ℕ, zero, suc, ◌+◌, ◌<◌, ◌≤◌, length, get_or, take, arith, Bool, true, false, ◌&&◌, ◌||◌, ◌==◌, List, [], ◌∷◌, ◌++◌, Option, Some, None, refl, sym, ap, ◌∙◌, flat_map, inl, inr}
+use Rattle.std.proofs.Common.{◌≡◌, ℕ, zero, suc, ◌+◌, ◌≤◌, length, take, arith, Bool, true, false, ◌&&◌, ◌||◌, ◌==◌, List, [], ◌∷◌, ◌++◌, Option, Some, None, refl, sym, ap, ◌∙◌, flat_map, inl, inr}
 use Rattle.std.specs.Prelude.{if◌then◌else◌}
 use Rattle.std.specs.List.{list_any}
 use Rattle.shard_run.specs.declared.Event.{Event}
@@ -10,14 +10,15 @@ use Rattle.shard_run.specs.Runs.{Run, Opening, mode, is_on, entries_on}
 use Rattle.shard_run.specs.Copies.{position, position_from, has_copied_all, is_copy_that, is_last}
 use Rattle.shard_law.proofs.Lists.{flat_map-push}
 use Rattle.shard_contents.specs.declared.forward.Step.{Step}
+use Rattle.shard_contents.specs.declared.forward.Step.TheVariants.{Followed, Copied}
 use Rattle.shard_contents.specs.declared.limits.Limits.{Limits}
 use Rattle.shard_contents.specs.declared.contents.Contents.{Contents}
 use Rattle.shard_contents.specs.Shards.{ShardView, Holds, Keeps}
 use Rattle.shard_contents.specs.inner.Shards.{is_plain}
 use Rattle.shard_contents.specs.Progress.{steps_of, steps_on, behind}
-use Rattle.shard_contents.specs.inner.Progress.{source_of, is_last_copy_of}
-use Rattle.shard_contents.specs.Kept.{kept_from}
-use Rattle.shard_contents.proofs.Kept.{walked, Settles, walk_told, same_source, any_told}
+use Rattle.shard_contents.specs.inner.Progress.{source_of}
+use Rattle.shard_contents.specs.Kept.{is_copy_from, kept_from}
+use Rattle.shard_contents.proofs.Kept.{walked, Settles, walk_told, same_source, no_copy}
 use Rattle.shard_contents.proofs.Positions.{any_both}
 use Rattle.shard_contents.proofs.States.{entries-on, holds_of}
 
@@ -62,6 +63,11 @@ pub position_is : (run : Run) (slot source : ℕ) → position run slot source �
 position_is run slot source = behind_last-run source None (entries_on slot run)
 
 -- ---- tables that are wholly copied
+
+-- the step has all that was left of the table from the source
+abbrev pub is_last_copy_of : ℕ → ℕ → Step → Bool
+is_last_copy_of source table (Followed from place) = false
+is_last_copy_of source table (Copied from of place last row) = ((from == source) && (of == table)) && last
 
 copied_run : (source table : ℕ) (run : Run)
     → list_any (λ (e : Entry). is_copy_that is_last source table e.event) run
@@ -110,6 +116,37 @@ behind_kept : (source : ℕ) (steps : List Step) → behind_last source None (ke
 behind_kept source steps =
     sym (behind_walked source None (kept_from [] steps)) ∙ walk_told (behind_walk source) (behind_settles source) None steps ∙ behind_walked source None steps
 
+-- ---- the last Copy
+
+-- the last of these steps that is a Copy from the source
+abbrev pub last_copy : ℕ → Option Step → List Step → Option Step
+last_copy source old [] = old
+last_copy source old (x ∷ steps) = last_copy source (if is_copy_from source x then Some x else old) steps
+
+pub last_copy-push : (source : ℕ) (old : Option Step) (steps : List Step) (x : Step)
+    → last_copy source old (steps ++ x ∷ []) ≡ (if is_copy_from source x then Some x else last_copy source old steps)
+last_copy-push source old [] x = refl
+last_copy-push source old (y ∷ steps) x = last_copy-push source (if is_copy_from source y then Some y else old) steps x
+
+abbrev copy_walk : ℕ → Option Step → Step → Option Step
+copy_walk source old x = if is_copy_from source x then Some x else old
+
+copy_walked : (source : ℕ) (old : Option Step) (steps : List Step) → walked (copy_walk source) old steps ≡ last_copy source old steps
+copy_walked source old [] = refl
+copy_walked source old (x ∷ steps) = copy_walked source (if is_copy_from source x then Some x else old) steps
+
+copy_settles : (source : ℕ) (x : Step) → Settles (copy_walk source) x
+copy_settles source x = by (is_copy_from source x) refl
+  where
+    by : (b : Bool) → is_copy_from source x ≡ b → Settles (copy_walk source) x
+    by true i = inl (λ p q. ap (λ b. if b then Some x else p) i ∙ sym (ap (λ b. if b then Some x else q) i))
+    by false i = inr (λ y is old. ap (λ b. if b then Some y else old) (no_copy source x y i is))
+
+-- the steps that are kept have the same
+copy_kept : (source : ℕ) (steps : List Step) → last_copy source None (kept_from [] steps) ≡ last_copy source None steps
+copy_kept source steps =
+    sym (copy_walked source None (kept_from [] steps)) ∙ walk_told (copy_walk source) (copy_settles source) None steps ∙ copy_walked source None steps
+
 -- ---- what a state tells
 
 module _ (o : Opening) (most : Limits) (seen : Run) (c : Contents) (v : ShardView) (keeps : Keeps o most seen c) (view : record { seen = seen; shard = c.shard } ≡ v)
@@ -122,19 +159,10 @@ module _ (o : Opening) (most : Limits) (seen : Run) (c : Contents) (v : ShardVie
       ap (λ (x : ShardView). position x.seen x.shard.slot source) (sym view) ∙ position_is seen c.shard.slot source
       ∙ sym (behind_kept source (steps_on c.shard.slot seen)) ∙ ap (behind_last source None) (sym has.steps)
 
-  pub copied_told : (source table : ℕ) → has_copied_all v.seen v.shard.slot source table ≡ list_any (is_last_copy_of source table) c.steps.items
-  copied_told source table =
-      ap (λ (x : ShardView). has_copied_all x.seen x.shard.slot source table) (sym view) ∙ copied_is seen c.shard.slot source table
-      ∙ sym (any_told source table (steps_on c.shard.slot seen)) ∙ ap (list_any (is_last_copy_of source table)) (sym has.steps)
-
-pub any_at : {X : Type 0} (p : X → Bool) (xs : List X) (i : ℕ) (x : X) → i < length xs → x ≡ get_or xs i x → p x ≡ true → list_any p xs ≡ true
-any_at p [] i x there is passes = absurd (omega (arith, there))
-any_at p (y ∷ xs) zero x there is passes = let h : p y ≡ true = ap p (sym is) ∙ passes in ap (λ b. b || list_any p xs) h
-any_at p (y ∷ xs) (suc i) x there is passes = by (p y) (any_at p xs i x (omega (arith, there)) is passes)
-  where
-    by : (b : Bool) → list_any p xs ≡ true → (b || list_any p xs) ≡ true
-    by true rest = refl
-    by false rest = rest
+  pub copy_told : (source : ℕ) → last_copy source None (steps_on v.shard.slot v.seen) ≡ last_copy source None c.steps.items
+  copy_told source =
+      ap (λ (x : ShardView). last_copy source None (steps_on x.shard.slot x.seen)) (sym view) ∙ sym (copy_kept source (steps_on c.shard.slot seen))
+      ∙ ap (last_copy source None) (sym has.steps)
 
 pub take_whole : {X : Type 0} (n : ℕ) (xs : List X) → length xs ≤ n → take n xs ≡ xs
 take_whole zero [] l = refl

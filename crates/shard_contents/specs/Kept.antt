@@ -1,5 +1,6 @@
--- The steps that a state keeps: those that no later one supersedes, so that their number doesn't grow with the run.
-use Rattle.std.specs.Prelude.{ℕ, Bool, false, not, ◌&&◌, ◌==◌, List, [], ◌∷◌, ◌++◌, Some, None}
+-- The steps that a state keeps: of each source the last Copy, and the last entry that it followed after that, so that their number grows neither
+-- with the run nor with the tables.
+use Rattle.std.specs.Prelude.{ℕ, Bool, false, not, ◌==◌, List, [], ◌∷◌, ◌++◌}
 use Rattle.std.specs.List.{filter}
 use Rattle.shard_run.specs.Runs.{Run}
 use Rattle.shard_contents.specs.declared.forward.Step.{Step}
@@ -7,17 +8,16 @@ use Rattle.shard_contents.specs.declared.forward.Step.TheVariants.{Followed, Cop
 use Rattle.shard_contents.specs.Progress.{steps_on}
 use Rattle.shard_contents.specs.inner.Progress.{source_of}
 
--- the step copied rows of the table from the source
-abbrev pub has_row : ℕ → ℕ → Step → Bool
-has_row source table (Followed from place) = false
-has_row source table (Copied from of place last None) = false
-has_row source table (Copied from of place last (Some row)) = (from == source) && (of == table)
+-- the step copied rows from the source
+abbrev pub is_copy_from : ℕ → Step → Bool
+is_copy_from source (Followed from place) = false
+is_copy_from source (Copied from table place last row) = from == source
 
--- A later step tells all that an earlier one told. One that followed tells a position alone, so any step with its source does. A Copy tells
--- its last row too, so one of its table does that has rows. A Copy that was the last of its table is always kept.
+-- A later step tells all that an earlier one told. One that followed tells a position alone, so any step with its source does. A target copies
+-- its tables in the order of their names, so the last Copy from a source tells what all earlier ones told.
 abbrev pub supersedes : Step → Step → Bool
 supersedes x (Followed source place) = source_of x == source
-supersedes x (Copied source table place last row) = has_row source table x && not last
+supersedes x (Copied source table place last row) = is_copy_from source x
 
 -- one more step, after which those that it supersedes are gone
 abbrev pub keep : Step → List Step → List Step

@@ -1,6 +1,6 @@
-ghost use Rattle.std.specs.Prelude.{◌≡◌, ◌<◌, ◌&&◌, ◌==◌, vec_len, vec_capacity};
-ghost use Rattle.shard_contents.specs.inner.Progress.{source_of, is_last_copy_of};
-ghost use Rattle.shard_contents.specs.Kept.{has_row, supersedes, keep};
+ghost use Rattle.std.specs.Prelude.{◌≡◌, ◌<◌, vec_len, vec_capacity};
+ghost use Rattle.shard_contents.specs.inner.Progress.{source_of};
+ghost use Rattle.shard_contents.specs.Kept.{is_copy_from, supersedes, keep};
 
 use vt_value::Row;
 
@@ -33,33 +33,13 @@ impl Step {
         }
     }
 
-    // Whether it copied all that was left of the table from the source.
-    pub fn is_last_copy_of(&self, source: usize, table: usize) -> bool
-        ensures { result ≡ is_last_copy_of source table self.now }
+    /// Whether it copied rows from the source.
+    pub fn is_copy_from(&self, source: usize) -> bool
+        ensures { result ≡ is_copy_from source self.now }
     {
         match self {
             Step::Followed { .. } => false,
-            Step::Copied {
-                source: from,
-                table: of,
-                last,
-                ..
-            } => *from == source && *of == table && *last,
-        }
-    }
-
-    // Whether it copied rows of the table from the source.
-    fn has_row(&self, source: usize, table: usize) -> bool
-        ensures { result ≡ has_row source table self.now }
-    {
-        match self {
-            Step::Copied {
-                source: from,
-                table: of,
-                row: Some(_),
-                ..
-            } => *from == source && *of == table,
-            _ => false,
+            Step::Copied { source: from, .. } => *from == source,
         }
     }
 
@@ -69,17 +49,13 @@ impl Step {
     {
         match earlier {
             Step::Followed { source, .. } => self.source() == *source,
-            Step::Copied {
-                source,
-                table,
-                last,
-                ..
-            } => self.has_row(*source, *table) && !*last,
+            Step::Copied { source, .. } => self.is_copy_from(*source),
         }
     }
 }
 
-// Keeps one more step, and drops those that it supersedes, so that a walk over them costs the same however many there were. Takes no memory.
+// Keeps one more step, and drops those that it supersedes, so that a walk over them costs the same however many steps and tables there were. Takes
+// no memory.
 pub fn keep(steps: &mut Vec<Step>, step: Step)
     requires { vec_len steps.old < vec_capacity steps.old }
     ensures { steps.new.items ≡ keep step steps.old.items }

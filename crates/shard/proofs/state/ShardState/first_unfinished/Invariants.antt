@@ -1,5 +1,5 @@
 use Rattle.shard.proofs.NextTables.{SoFar}
-use Rattle.shard.proofs.state.ShardState.next_table.Given as goal
+use Rattle.shard.proofs.state.ShardState.first_unfinished.Given as goal
 
 -- the first of the tables so far
 abbrev pub invariant-loop-n : goal.invariant-loop-n

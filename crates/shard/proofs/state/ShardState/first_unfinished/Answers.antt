@@ -4,8 +4,8 @@ use Rattle.vschema.specs.declared.schema.VSchema.{VSchema}
 use Rattle.shard_run.specs.Copies.{table_at, has_copied_all}
 use Rattle.shard_contents.specs.inner.Rowed.{first_named}
 use Rattle.shard.proofs.NextTables as next
-use Rattle.shard.proofs.state.ShardState.next_table.Goals as goal
-use Rattle.shard.proofs.state.ShardState.next_table.Goals.{then-is_unfinished, else-is_unfinished}
+use Rattle.shard.proofs.state.ShardState.first_unfinished.Goals as goal
+use Rattle.shard.proofs.state.ShardState.first_unfinished.Goals.{then-is_unfinished, else-is_unfinished}
 
 pub first_named-requires-clause-found : goal.first_named-requires-clause-found
 first_named-requires-clause-found g c =
