@@ -3,20 +3,18 @@
 //! alone, target before source, and a target never is a source of its own sources, so no two steps wait for each other. A lock can't tell
 //! which shard it holds, so that is tested before the first look; if it is another, which no run of one controller meets, the lock is taken
 //! again.
-ghost use Rattle.std.specs.Prelude.{◌≡◌, ◌⊎◌, ◌<◌, ◌≤◌, ◌^◌, ℕ, List, [], ◌∷◌, true, false, Some, IsTrue, IfOk, IfErr, IfSome, OnOk, OnErr, MatchOption, Contains, length, map};
+ghost use Rattle.std.specs.Prelude.{◌≡◌, ◌⊎◌, ◌<◌, ◌≤◌, ◌^◌, true, Some, IsTrue, IfOk, IfErr, IfSome, OnOk, OnErr, MatchOption, Contains, map};
 ghost use Rattle.std.specs.List.{AllByRecursion};
-ghost use mathlib.Core.List.{IsPrefix};
 ghost use Rattle.vschema.specs.WellFormed.{is_vschema};
 ghost use Rattle.journal.specs.Runs.{IsLegal};
 ghost use Rattle.shard_run.specs.declared.Entry.{Entry};
-ghost use Rattle.shard_run.specs.declared.Event.{Event};
 ghost use Rattle.shard_run.specs.declared.Follow as follow;
-ghost use Rattle.shard_run.specs.Runs.{mode, is_serving, stored_on, held};
+ghost use Rattle.shard_run.specs.Runs.{mode, is_serving, held};
 ghost use Rattle.shard_run.specs.Openings.{IsOpening, row_count};
 ghost use Rattle.shard_law.specs.Law.{SourcesApart};
 ghost use Rattle.shard_contents.specs.Shards.{MayFollow};
 ghost use Rattle.shard_contents.specs.Copying.{IsEntryFor, IsNextCopy};
-ghost use Rattle.follow.specs.Steps.{IsOnward, HasStepped, HasMoved, HasMovedWith, IsFull};
+ghost use Rattle.follow.specs.Steps.{IsOnward, HasMoved, HasMovedWith, IsFull};
 ghost use Rattle.follow.specs.Turns.{IsOneStep, IsOneStepWith, IsNoStep, IsNoStepWith};
 ghost use Rattle.follow.specs.inner.Given.{IsGiven, IsOneLook, NoneLeft, IsNextEntry, IsTakeable, HasTaken};
 
