@@ -1,8 +1,6 @@
 -- What looks at the shards of a partition's parts show.
-use Rattle.std.proofs.Common.{◌≡◌, ◌⊎◌, ℕ, Bool, true, false, cond, List, [], ◌∷◌, ◌++◌, filter, map, take, length, get_or, ◌+◌, ◌<◌, refl, sym, ap, ◌∙◌, subst, inl, inr}
-use Rattle.std.specs.Prelude.{Contains}
+use Rattle.std.proofs.Common.{◌≡◌, ℕ, Bool, true, false, List, [], ◌∷◌, ◌++◌, map, take, length, get_or, ◌+◌, ◌<◌, refl, sym, ap, ◌∙◌, subst}
 use Rattle.std.specs.List.{AllByRecursion}
-use Rattle.std.proofs.lemmas.Bool.{eqb-true}
 use Rattle.std.proofs.lemmas.List.{take_more}
 use mathlib.Core.List.{IsPrefix}
 use Rattle.keyrange.specs.declared.KeyRange.{KeyRange}
@@ -13,38 +11,11 @@ use Rattle.journal.proofs.Fronts.{prefix_self, prefix_trans}
 use Rattle.shard_run.specs.declared.Shard.{Shard}
 use Rattle.shard_run.specs.declared.Entry.{Entry}
 use Rattle.shard_run.specs.declared.Mode.{Mode}
-use Rattle.shard_run.specs.declared.Mode.TheVariants.{Following, Serving, Retired, Dropped}
-use Rattle.shard_run.specs.Runs.{Opening, Run, IsShardOf, is_opening, is_on, entries_on, mode, mode_from}
-use Rattle.shard_law.specs.Legal.{IsOnItsSlot}
-use Rattle.shard_law.proofs.Lists.{In, Contains-from_In, In-all, In-from_filter, In-map, all-weaker, AllByRecursion-push}
+use Rattle.shard_run.specs.Runs.{Opening, mode}
+use Rattle.shard_law.proofs.Lists.{all-weaker, AllByRecursion-push}
 use Rattle.shard.specs.Seats.{seat_of}
 use Rattle.reshard_beginning.specs.Begun.{WasSeen, IsServing, IsNotFollowing}
 use Rattle.reshard_beginning.specs.inner.Created.{IsSighted, IsSeenAt, HasSeen}
-
--- ---- a shard that doesn't follow is one of the run
-
--- on a slot that isn't an opening one the shard has an entry
-entered : (o : Opening) (run : Run) (s : Shard) → IsOnItsSlot o run s → IsNotFollowing (mode o run s.slot) → is_opening o s.slot ≡ false → (own : Run) → entries_on s.slot run ≡ own
-    → Contains (map (λ e. e.shard) run) s
-entered o run s stands lives closed [] none =
-    absurd (lives (ap (λ b. mode_from (cond b Serving Following) (entries_on s.slot run)) closed ∙ ap (mode_from Following) none))
-entered o run s stands lives closed (x ∷ own) is =
-    let w = In-from_filter (is_on s.slot) x run (subst (In x) (sym is) (inl refl)) in
-    let same : x.shard ≡ s = In-all (λ (y : Entry). y.shard.slot ≡ s.slot → y.shard ≡ s) x run stands.same w.0 (eqb-true x.shard.slot s.slot w.1) in
-    Contains-from_In s (map (λ (y : Entry). y.shard) run)
-    (subst (λ (y : Shard). In y (map (λ (y : Entry). y.shard) run)) same (In-map (λ (y : Entry). y.shard) x run w.0))
-
-pub of_run : (o : Opening) (run : Run) (s : Shard) → IsOnItsSlot o run s → IsNotFollowing (mode o run s.slot) → IsShardOf o run s
-of_run o run s stands lives = by (is_opening o s.slot) refl
-  where
-    by : (b : Bool) → is_opening o s.slot ≡ b → IsShardOf o run s
-    by true e = inl (stands.opening e)
-    by false e = inr (entered o run s stands lives e (entries_on s.slot run) refl)
-
--- where the state shows that it doesn't follow, neither does it in the run
-pub not_following : (m r : Mode) → (r ≡ m) ⊎ ((r ≡ Dropped) × (m ≡ Retired)) → (r ≡ Following → ⊥) → IsNotFollowing m
-not_following m r (inl e) not is = not (e ∙ is)
-not_following m r (inr h) not is = absurd (cc (h.1, is))
 
 pub opposite : (b : Bool) → Rattle.std.proofs.Common.not b ≡ true → b ≡ false
 opposite true e = sym e

@@ -4,7 +4,8 @@ use Rattle.shard_run.specs.declared.Entry.{Entry}
 use Rattle.shard_run.specs.Runs.{Run, mode}
 use Rattle.shard_law.specs.Legal.{IsOnItsSlot}
 use Rattle.reshard_beginning.specs.Begun.{IsNotFollowing}
-use Rattle.reshard_beginning.proofs.Looks.{of_run, opposite}
+use Rattle.shard.proofs.Found.{of_run}
+use Rattle.reshard_beginning.proofs.Looks.{opposite}
 use Rattle.reshard_beginning.proofs.looking.stands.Goals as goal
 
 pub returns-clause-sighted : goal.returns-clause-sighted
