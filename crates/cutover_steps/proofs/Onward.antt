@@ -15,6 +15,7 @@ use Rattle.shard_law.proofs.Runs.{stored_on-push}
 use Rattle.shard_contents.specs.Shards.{slot_of, commit_of, MayFollow, HasLooked, HasAppended, ShardView}
 use Rattle.shard_contents.proofs.States.{stored_in, stored-same, contains_later}
 use Rattle.follow.specs.Steps.{IsOnward, HasStepped}
+use Rattle.shard.specs.Modes.{HasChangedMode}
 use Rattle.follow.proofs.Onward as follows
 use Rattle.cutover_steps.specs.Steps.{HasEntry}
 
@@ -44,6 +45,14 @@ stepped o p q now v which ev on is same = follows.stepped o p q now v which ev o
 pub stepped_after : (o : Opening) (p q now : PassView Entry) (which : Shard) (ev : Event) → IsOnward o p q → HasStepped o which ev q now → HasStepped o which ev p now
 stepped_after o p q now which ev on is = follows.stepped_after o p q now which ev on is
 
+-- a mode that has changed
+pub changed : (o : Opening) (p q now : PassView Entry) (v : ShardView) (which : Shard) (ev : Event) → IsOnward o p q → HasChangedMode o v ev q now
+    → v.shard ≡ which → HasStepped o which ev p now
+changed o p q now v which ev on is same =
+    let once = has_looked o p q is.twice.first v.shard.slot on is.twice.once in
+    let again = has_looked o p is.twice.first is.looked v.shard.slot once is.twice.again in
+    stepped o p is.looked now (record { seen = is.looked.seen; shard = v.shard }) which ev again is.appended same
+
 -- an entry that isn't stored leaves what is stored
 pub stored_stays : (o : Opening) (v : ShardView) (ev : Event) (p now : PassView Entry) → HasAppended o v ev p now → is_stored ev ≡ false
     → stored_on v.shard.slot now.seen ≡ stored_on v.shard.slot v.seen
@@ -66,6 +75,14 @@ stored_same slot old new e entry plain =
     stored_in slot new ∙ ap (filter (λ (x : Entry). is_stored x.event)) entry ∙ filter-append (λ (x : Entry). is_stored x.event) (entries_on slot old) (e ∷ [])
     ∙ ap (λ (l : Run). filter (λ (x : Entry). is_stored x.event) (entries_on slot old) ++ l) none ∙ append-nil (filter (λ (x : Entry). is_stored x.event) (entries_on slot old))
     ∙ sym (stored_in slot old)
+
+-- by a change of mode nothing is stored
+pub stored_unchanged : (o : Opening) (v : ShardView) (ev : Event) (p now : PassView Entry) → HasChangedMode o v ev p now → is_stored ev ≡ false
+    → stored_on v.shard.slot now.seen ≡ stored_on v.shard.slot v.seen
+stored_unchanged o v ev p now is plain =
+    let slot = v.shard.slot in
+    stored_stays o (record { seen = is.looked.seen; shard = v.shard }) ev is.looked now is.appended plain
+    ∙ stored_in slot is.looked.seen ∙ ap (filter (λ (x : Entry). is_stored x.event)) is.alone ∙ sym (stored_in slot v.seen)
 
 pub legal_front : (o : Opening) (early run : Run) → IsPrefix early run → Legal o run → Legal o early
 legal_front o early run (rest, is) legal = beginnings o early rest (subst (Legal o) (sym is) legal)

@@ -16,6 +16,7 @@ use Rattle.cutover_steps.specs.Takings.{Taking}
 use Rattle.shard_law.proofs.Runs.{mode-on}
 use Rattle.shard_law.proofs.Lists.{all-weaker}
 use Rattle.shard_contents.specs.Shards.{ShardView, HasAppended}
+use Rattle.shard.specs.Modes.{HasChangedMode}
 use Rattle.follow.specs.Steps.{IsOnward}
 use Rattle.follow.specs.Turns.{HasLookedAt}
 use Rattle.follow.proofs.Turns.{unlooked, looked_at, looked_then, appended_since}
@@ -97,6 +98,16 @@ looked_on slot p q now first more = record {
   alone = both_alone slot first.looks more.looks first.alone more.alone;
   looked = looked_then first.looks more.looks p q now first.looked more.looked;
 }
+
+-- a change of mode looks there alone
+pub change_alone : (o : Opening) (slot : ℕ) (v : ShardView) (ev : Event) (p now : PassView Entry) → v.shard.slot ≡ slot → HasChangedMode o v ev p now
+    → HasLookedOnlyAt slot p now
+change_alone o slot v ev p now same is =
+    let q = is.twice.first in
+    let r = is.looked in
+    looked_on slot p q now (look_alone slot v.shard.slot p q q.seen (length q.seen) same is.twice.once.pass)
+    (looked_on slot q r now (look_alone slot v.shard.slot q r r.seen (length r.seen) same is.twice.again.pass)
+    (append_alone slot r now now.seen is.appended.pass))
 
 -- ---- rows within the limit
 

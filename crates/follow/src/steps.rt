@@ -314,12 +314,14 @@ fn try_step<W: World, J: Naming>(
 // Copy behind all that the source had stored at a look of the step, or a Follow; or none, and then the target was level with what the
 // source had stored at a look. Its pass looks once at the target and once at the source, once more at the target right before the entry, and
 // nowhere else. Each Copy and each Follow makes a look at the target right before it, and takes what a look at the source showed, so there is no
-// second one. Without an entry nothing was appended after the last look. After a Copy the target has no more rows than it may, and after a
-// Follow too, if no two sources of it overlap
+// second one. A freeze, a thaw, a retirement and a target that serves make two looks at their shard in a row, so the pass has none of them.
+// Without an entry nothing was appended after the last look. After a Copy the target has no more rows than it may, and after a Follow too, if
+// no two sources of it overlap
 // With: bring_forward_with
 // Clauses: moved, once, copied_within, followed_within, onward
 // Refuses: step_answers_level_at_once, copied_without_an_entry, followed_without_an_entry, copies_beyond_an_entry_that_is_left,
-// steps_until_level, step_looks_at_the_source_alone_and_moves_again, next_source_is_tried_after_a_step, step_thaws_its_source
+// steps_until_level, step_looks_at_the_source_alone_and_moves_again, next_source_is_tried_after_a_step, step_thaws_its_source,
+// step_thaws_its_source_first, step_freezes_its_source_first
 // Promise: It is refused for want of memory, or where a Copy or a Follow that may come next passes a limit of the target (F24): it has 2^40
 // entries, it stores as many as it may, which counts for a Follow alone, or with the step it would have more rows than it may. The looks of
 // its pass are then the first of those of a step with an entry, and nothing was appended after the last

@@ -138,9 +138,11 @@ impl<W: World, J: Naming> Workflow<W, J> {
 
     // Promise: A step of a workflow brings the first target forward, in the order of their ranges, that isn't level with its sources, by
     // exactly one entry; or all are level, and there is none. Its pass looks once at each target and source that it finds level, and then as one
-    // step with one source does. It is refused only where no targets follow (N4), a Copy or a Follow of a target that may come next passes a
-    // limit of it (F24), or for memory; then the looks of its pass are those of a step that is refused, and nothing was appended after the last
-    // Refuses: step_moves_no_target, step_moves_twice, refused_step_has_moved, reshard_beginning::second_target_is_tried_after_a_step
+    // step with one source does, so it changes no shard's mode, which makes two looks in a row. It is refused only where no targets follow
+    // (N4), a Copy or a Follow of a target that may come next passes a limit of it (F24), or for memory; then the looks of its pass are those of
+    // a step that is refused, and nothing was appended after the last
+    // Refuses: step_moves_no_target, step_moves_twice, refused_step_has_moved, step_thaws_its_sources,
+    // reshard_beginning::second_target_is_tried_after_a_step
     /// Brings the first target forward, in their order, that isn't level with its sources: it takes over the entry that is next, else it
     /// copies the next rows; where all are level, nothing. Refuses where no targets follow; what would pass a limit of a target; and for
     /// want of memory. Then nothing was appended.

@@ -4,7 +4,7 @@ use Rattle.shard_run.specs.declared.Shard.{Shard}
 use Rattle.shard_run.specs.declared.Entry.{Entry}
 use Rattle.shard_run.specs.declared.Event.TheVariants.{Freeze}
 use Rattle.shard_run.specs.Runs.{Run, stored_on, entries_on}
-use Rattle.cutover_steps.proofs.Onward.{still, looked, looked_first, has_looked, stepped, stored_same}
+use Rattle.cutover_steps.proofs.Onward.{still, looked, looked_first, changed, stored_same}
 use Rattle.cutover_steps.proofs.steps.try_freeze.Goals as goal
 
 pub returns-then-not-is-clause-onward : goal.returns-then-not-is-clause-onward
@@ -39,9 +39,8 @@ returns-clause-ok g c =
     let q = c.look-entries.new.pass in
     let st = c.look-entries.new.self in
     let same = c.is.ensures.0 c.if-not-is.false in
-    let w = c.freeze.ensures.frozen in
     let on = looked o p p q _ _ _ (still o p c.requires.legal) c.look-entries.ensures.seen c.look-entries.ensures.pass in (
-      stepped o p w.0 c.freeze.new.pass (record { seen = w.0.seen; shard = st.shard }) c.args.which.now Freeze (has_looked o p q w.0 st.shard.slot on w.1) w.2 same,
+      changed o p q c.freeze.new.pass st c.args.which.now Freeze on c.freeze.ensures.changed same,
       c.stored-stored.ensures ∙ ap length (sym (stored_same st.shard.slot st.seen c.freeze.new.self.seen _ c.freeze.ensures.entry refl))
           ∙ ap (λ (r : Run). length (stored_on st.shard.slot r)) c.freeze.ensures.seen
           ∙ ap (λ (s : Shard). length (stored_on s.slot c.freeze.new.pass.seen)) same,

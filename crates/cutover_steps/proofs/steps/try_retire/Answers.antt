@@ -4,7 +4,7 @@ use Rattle.shard_run.specs.declared.Mode.TheVariants.{Frozen, Retired}
 use Rattle.shard_run.specs.declared.Event.TheVariants.{Retire}
 use Rattle.shard_run.specs.Runs.{stored_on}
 use Rattle.cutover_steps.specs.Steps.{FitTargets}
-use Rattle.cutover_steps.proofs.Onward.{looked_first, stored_stays}
+use Rattle.cutover_steps.proofs.Onward.{looked_first, changed, stored_unchanged}
 use Rattle.cutover_steps.proofs.steps.try_retire.Goals as goal
 
 pub stored-now-requires : goal.stored-now-requires
@@ -22,9 +22,17 @@ retire-requires g c =
 pub returns-then-now-stored-clause-stored : goal.returns-then-now-stored-clause-stored
 returns-then-now-stored-clause-stored g c =
     sym c.if-now-stored.true ∙ c.stored-now.ensures
-    ∙ ap length (sym (stored_stays g.W.World.opening c.look.new.self (Retire c.args.targets) c.look.new.pass c.retire.new.pass c.retire.ensures.appended refl))
+    ∙ ap length (sym (stored_unchanged g.W.World.opening c.look.new.self (Retire c.args.targets) c.look.new.pass c.retire.new.pass c.retire.ensures.changed refl))
     ∙ ap (λ (s : Shard). length (stored_on s.slot c.retire.new.pass.seen)) (c.is.ensures.0 c.if-is.true)
 
 pub returns-clause-onward : goal.returns-clause-onward
 returns-clause-onward g c =
     looked_first g.W.World.opening c.args.pass.now c.look.new.pass _ _ _ c.requires.legal c.look.ensures.seen c.look.ensures.pass
+
+pub returns-then-now-stored-clause-retired : goal.returns-then-now-stored-clause-retired
+returns-then-now-stored-clause-retired g c =
+    let o = g.W.World.opening in
+    let p = c.args.pass.now in
+    let q = c.look.new.pass in
+    let on = looked_first o p q _ _ _ c.requires.legal c.look.ensures.seen c.look.ensures.pass in
+    changed o p q c.retire.new.pass c.look.new.self c.args.which.now (Retire c.args.targets) on c.retire.ensures.changed (c.is.ensures.0 c.if-is.true)

@@ -7,7 +7,7 @@ use Rattle.shard_run.specs.declared.Event.TheVariants.{Serve}
 use Rattle.shard_run.specs.Runs.{held, entries_on}
 use Rattle.shard_run.specs.Openings.{row_count}
 use Rattle.shard_contents.proofs.Legality.{legal_is}
-use Rattle.cutover_steps.proofs.Onward.{looked_first, stepped}
+use Rattle.cutover_steps.proofs.Onward.{looked_first, changed}
 use Rattle.cutover_steps.proofs.Retiring.{may_serve_looked}
 use Rattle.cutover_steps.proofs.steps.try_serve.Goals as goal
 
@@ -40,7 +40,7 @@ returns-then-fits-clause-served g c e =
     let p = c.args.pass.now in
     let q = c.look.new.pass in
     let on = looked_first o p q _ _ _ c.requires.legal c.look.ensures.seen c.look.ensures.pass in
-    stepped o p q c.serve.new.pass c.look.new.self c.args.target.now Serve on c.serve.ensures.appended (c.is.ensures.0 c.if-is.true)
+    changed o p q c.serve.new.pass c.look.new.self c.args.target.now Serve on c.serve.ensures.changed (c.is.ensures.0 c.if-is.true)
 
 pub returns-then-fits-clause-onward : goal.returns-then-fits-clause-onward
 returns-then-fits-clause-onward g c =
@@ -48,7 +48,7 @@ returns-then-fits-clause-onward g c =
     let p = c.args.pass.now in
     let q = c.look.new.pass in
     let on = looked_first o p q _ _ _ c.requires.legal c.look.ensures.seen c.look.ensures.pass in
-    (stepped o p q c.serve.new.pass c.look.new.self c.args.target.now Serve on c.serve.ensures.appended (c.is.ensures.0 c.if-is.true)).onward
+    (changed o p q c.serve.new.pass c.look.new.self c.args.target.now Serve on c.serve.ensures.changed (c.is.ensures.0 c.if-is.true)).onward
 
 pub returns-else-is-clause-onward : goal.returns-else-is-clause-onward
 returns-else-is-clause-onward g c =

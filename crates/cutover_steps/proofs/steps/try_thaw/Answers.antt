@@ -1,5 +1,5 @@
 use Rattle.shard_run.specs.declared.Event.TheVariants.{Thaw}
-use Rattle.cutover_steps.proofs.Onward.{looked_first, stepped}
+use Rattle.cutover_steps.proofs.Onward.{looked_first, changed}
 use Rattle.cutover_steps.proofs.steps.try_thaw.Goals as goal
 
 pub returns-then-not-is-clause-onward : goal.returns-then-not-is-clause-onward
@@ -19,7 +19,7 @@ returns-clause-thawed g c e =
     let p = c.args.pass.now in
     let q = c.look.new.pass in
     let on = looked_first o p q _ _ _ c.requires.legal c.look.ensures.seen c.look.ensures.pass in
-    stepped o p q c.thaw.new.pass c.look.new.self c.args.which.now Thaw on c.thaw.ensures.appended (c.is.ensures.0 c.if-not-is.false)
+    changed o p q c.thaw.new.pass c.look.new.self c.args.which.now Thaw on c.thaw.ensures.changed (c.is.ensures.0 c.if-not-is.false)
 
 pub returns-clause-onward : goal.returns-clause-onward
 returns-clause-onward g c =
@@ -27,4 +27,4 @@ returns-clause-onward g c =
     let p = c.args.pass.now in
     let q = c.look.new.pass in
     let on = looked_first o p q _ _ _ c.requires.legal c.look.ensures.seen c.look.ensures.pass in
-    (stepped o p q c.thaw.new.pass c.look.new.self c.args.which.now Thaw on c.thaw.ensures.appended (c.is.ensures.0 c.if-not-is.false)).onward
+    (changed o p q c.thaw.new.pass c.look.new.self c.args.which.now Thaw on c.thaw.ensures.changed (c.is.ensures.0 c.if-not-is.false)).onward
