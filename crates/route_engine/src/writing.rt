@@ -1,5 +1,6 @@
 //! Writes outside a transaction, each as one entry on the one shard that it needs.
 ghost use Rattle.std.specs.Prelude.{◌≡◌, [], ℕ, ◌<◌, Some, IsSome, IfOk, IfErr, length};
+ghost use Rattle.serving.specs.Partitions.{AreOf};
 ghost use Rattle.vschema.specs.TypedWrites.{IsTypedWrite};
 ghost use Rattle.sql_eval.specs.Writes.{written_table};
 ghost use Rattle.planner.specs.Routes.{table_at, write_route};
@@ -11,7 +12,8 @@ ghost use Rattle.shard_calls.specs.inner.Scatter.{tried, IsTried};
 use crate::engine::Engine;
 use journal::{Naming, Pass};
 use planner::{Route, write_route};
-use shard::{Committed, ShardLaw, World, written_table};
+use serving::Partition;
+use shard::{Committed, Shard, ShardLaw, World, written_table};
 use shard_calls::{Answer, Gate, Reply, counted, look_at_each, only_needed, shard_of};
 use std::alloc::Global;
 use std::sync::Wait;
@@ -30,18 +32,19 @@ fn tried(committed: Committed) -> Result<u64, Write>
 }
 
 impl<W: World + Send + Sync, J: Naming + Send + Sync, G: Gate> Engine<W, J, G> {
-    // Commits the write on the one shard that it needs by the present partition: the count, or the write again where that shard takes no
-    // commits. Where it needs several, each shard of the partition is looked at.
+    // Commits the write on the one shard that it needs by the partition: the count, or the write again where that shard takes no commits.
+    // Where it needs several, each shard of the partition is looked at.
     fn commit(
         &self,
         rt: &impl Wait,
         alloc: Global,
         pass: &mut Pass<ShardLaw<W>, J>,
+        partition: &Partition<Shard<W, J>>,
         table: &Table,
         route: &Route,
         write: Write,
     ) -> Result<Result<u64, Write>, Refusal>
-        requires keyspace { table.now.keyspace < length self.now.keyspaces }
+        requires partition { AreOf table.now.keyspace partition.now }
         requires table { table.now ≡ table_at W.opening.schema (written_table write) }
         requires route { route.now ≡ write_route W.opening.schema write }
         requires typed { IsTypedWrite W.opening.schema write }
@@ -51,7 +54,6 @@ impl<W: World + Send + Sync, J: Naming + Send + Sync, G: Gate> Engine<W, J, G> {
         ensures ok { IfOk result (λ c. IsTried W.opening W.limits pass.old write c pass.new) }
         ensures err { IfErr result (λ r. MayWriteRefuse W.opening W.limits pass.old write r pass.new) }
     {
-        let partition = self.current(table.keyspace);
         match only_needed(partition.parts(), table, route) {
             Ok(Some(part)) => {
                 let shard = shard_of(part);
@@ -94,13 +96,13 @@ impl<W: World + Send + Sync, J: Naming + Send + Sync, G: Gate> Engine<W, J, G> {
     {
         let mut write = write;
         for _ in rt.forever() {
-            let turn = self.buffer.turn(rt);
-            match self.commit(rt, alloc, pass, table, route, write) {
+            let attempt = self.attempt(rt, table.keyspace);
+            match self.commit(rt, alloc, pass, attempt.partition(), table, route, write) {
                 Ok(Ok(count)) => return Ok(count),
                 Ok(Err(again)) => write = again,
                 Err(refusal) => return Err(refusal),
             }
-            if let Err(refusal) = self.buffer.wait(rt, turn) {
+            if let Err(refusal) = attempt.wait(rt) {
                 drop(write);
                 return Err(refusal);
             }

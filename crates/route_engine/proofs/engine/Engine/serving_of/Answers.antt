@@ -1,10 +1,9 @@
-use Rattle.std.proofs.Common.{◌≡◌, ℕ, length, sym, ap, subst, ◌∙◌, arith}
+use Rattle.std.proofs.Common.{◌≡◌, ℕ, length, sym, ap, ◌∙◌, arith}
 use Rattle.std.specs.List.{range_with_len}
 use Rattle.std.proofs.lemmas.List.FromFn.{length-range_with_len}
 use Rattle.vschema.specs.declared.schema.VSchema.{VSchema}
-use Rattle.serving.specs.Partitions.{AreOf}
 use Rattle.route_engine.proofs.Homes.{at_its_place}
-use Rattle.route_engine.proofs.engine.Engine.current.Goals as goal
+use Rattle.route_engine.proofs.engine.Engine.serving_of.Goals as goal
 
 pub index-requires : goal.index-requires
 index-requires g c =
@@ -19,5 +18,4 @@ pub returns : goal.returns
 returns g c =
     let n = length c.args.self.now.keyspaces in
     let each = c.self.invariant.each ∙ ap (λ (v : VSchema). range_with_len 0 (length v.keyspaces)) (sym c.self.invariant.schema_is ∙ c.self.view_is) in
-    let here : c.index.result.now ≡ c.args.keyspace = at_its_place c.self.inside.keyspaces.items n c.args.keyspace each c.requires c.index.result.now c.index.ensures in
-    subst (λ (k : ℕ). AreOf k c.current.result.now) here c.current.ensures
+    at_its_place c.self.inside.keyspaces.items n c.args.keyspace each c.requires c.index.result.now c.index.ensures
