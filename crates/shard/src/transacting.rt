@@ -43,7 +43,7 @@ impl<W: World, J: Naming> ShardState<W, J> {
     // shard_contents::query_touches_another_table, shard_contents::refused_commit_loses_its_writes,
     // shard_contents::second_touch_is_forgotten, shard_contents::transaction_commits_no_changes,
     // shard_contents::transaction_counts_removed_as_added, shard_contents::transaction_keeps_no_write,
-    // shard_contents::write_sees_no_own_writes
+    // shard_contents::write_sees_no_own_writes, shard_contents::insert_sees_no_own_writes
     /// One look, which the pass keeps. Answers how many entries the shard has then. It refuses where the shard is frozen or doesn't serve;
     /// else where an entry of the shard has changed a table that the transaction touched before it. Takes no memory.
     pub fn check(&mut self, pass: &mut Pass<ShardLaw<W>, J>, tx: &Pending) -> Result<u64, Refusal>

@@ -19,5 +19,6 @@ pub mod LowBits
 pub mod FirstRows
 pub mod CopySteps
 pub mod OneTable
+pub mod Wanted
 pub mod SourceRows
 pub mod Earlier

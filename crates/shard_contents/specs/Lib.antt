@@ -1,4 +1,3 @@
-pub mod Stores
 pub mod Progress
 pub mod Kept
 pub mod Shards

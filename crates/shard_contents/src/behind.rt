@@ -1,21 +1,59 @@
-//! What a transaction sees: the rows that the shard holds, with the transaction's own changes.
-ghost use Rattle.std.specs.Prelude.{◌≡◌, ◌⊎◌, ◌==◌, ◌<◌, ◌≤◌, ◌^◌, ◌++◌, ◌∷◌, [], true, Ok, Err, OnOk, IfOk, IfErr, length};
+//! What a transaction sees: the rows that the shard holds, with the transaction's own changes. Of these only the changes of rows that a
+//! statement looks at are done, over the rows as they are stored, so no table is copied.
+ghost use Rattle.std.specs.Prelude.{◌≡◌, ◌⊎◌, ◌==◌, ◌<◌, ◌≤◌, ◌^◌, ◌++◌, ◌∷◌, [], List, true, filter, Ok, Err, OnOk, IfOk, IfErr, length};
 ghost use Rattle.std.specs.List.{list_any};
+ghost use Rattle.vt_value.specs.declared.value.Value.{Value as V};
 ghost use Rattle.vschema.specs.Checks.{is_aggregated};
-ghost use Rattle.vschema.specs.Database.{rows_of, all_applied, changed_table};
-ghost use Rattle.vschema.specs.Sources.{source_rows, source_tables, SourcesThere};
+ghost use Rattle.vschema.specs.Schema.{key_of};
+ghost use Rattle.vschema.specs.Database.{rows_of, all_applied, changed_table, same_row, without};
+ghost use Rattle.vschema.specs.Sources.{pairs_of, source_rows, source_tables, SourcesThere};
+ghost use Rattle.sql_eval.specs.Conditions.{is_kept};
 ghost use Rattle.sql_eval.specs.Groups.{CanBeSummed};
 ghost use Rattle.sql_eval.specs.Queries.{IsAnswer};
-ghost use Rattle.sql_eval.specs.Writes.{written_table, changes_of};
-ghost use Rattle.shard_contents.specs.inner.Stores.{row_after};
+ghost use Rattle.sql_eval.specs.Writes.{written_table, changes_of, changes_over};
+ghost use Rattle.shard_contents.specs.inner.Stores.{row_after, is_wanted};
 
 use crate::contents::{Contents, written_table};
-use crate::store::{TableRows, changed_table};
-use shard_store::{AllRows, RowSource, StoredTables, select_joined};
-use sql_eval::{SliceRows, change_local, select_local};
+use crate::store::changed_table;
+use shard_store::{Overlay, StoredTables, same_key, select_joined};
+use sql_eval::{change_local, keeps};
+use sql_tree::Condition;
 use std::alloc::Global;
-use vschema::{Query, RowChange, VSchema, Write};
-use vt_value::{Items, Refusal, Row, copy_row};
+use vschema::{Join, Query, RowChange, Table, VSchema, Write};
+use vt_value::{Items, Refusal, Row};
+
+// More rows than memory can hold. The sums of a query are known to fit up to here.
+const MOST_ROWS: usize = 1 << 60;
+
+/// Which rows a statement looks at.
+#[derive(Clone, Copy)]
+pub enum Wanted<'a> {
+    /// All.
+    All,
+    /// Those whose condition is true.
+    Kept(&'a Option<Condition<usize>>),
+    /// Those that have the primary key of one of these.
+    Keyed(&'a Table, &'a [Row]),
+}
+
+// Whether a row has the primary key of one of these.
+fn has_key_of(table: &Table, row: &Row, new: &[Row]) -> bool
+    ensures { result ≡ list_any (λ n. same_row (key_of table.now n) (key_of table.now row.now)) new.now }
+{
+    new.iter().any(|n| same_key(table, n, row))
+}
+
+impl<'a> Wanted<'a> {
+    fn wants(self, row: &Row) -> bool
+        ensures { result ≡ is_wanted self.entry row.now }
+    {
+        match self {
+            Wanted::All => true,
+            Wanted::Kept(condition) => keeps(condition, row),
+            Wanted::Keyed(table, new) => has_key_of(table, row, new),
+        }
+    }
+}
 
 /// Whether one of the changes is of the table at a place.
 pub fn changes_any(place: usize, changes: &[RowChange]) -> bool
@@ -37,71 +75,119 @@ fn changes_source(query: &Query, changes: &[RowChange]) -> bool
     }
 }
 
-// Copies of the rows.
-fn copy_rows(alloc: Global, rows: AllRows<'_>) -> Result<Vec<Row>, Refusal>
-    ensures ok { IfOk result (λ v. v.items ≡ rows.entry) }
+// Adds a row, if it is wanted.
+fn add_wanted<'a>(rows: &mut Overlay<'a>, wanted: Wanted<'_>, row: &'a Row) -> Result<(), Refusal>
+    ensures ok { OnOk result (filter (is_wanted wanted.entry) rows.new.rows ≡ filter (is_wanted wanted.entry) (rows.old.rows ++ row.now ∷ [])) }
     ensures err { IfErr result (λ e. e ≡ Refusal.OutOfMemory) }
 {
-    let mut rows = rows;
-    let mut copied = Vec::new(alloc);
-    while let Some(row) = rows.next_row() {
-        copied.push(copy_row(alloc, row)?)?;
+    if wanted.wants(row) {
+        return rows.add(row);
     }
-    Ok(copied)
+    Ok(())
 }
 
-impl TableRows {
-    // Adds a copy of a row.
-    fn add_copy(&mut self, alloc: Global, row: &Row) -> Result<(), Refusal>
-        ensures ok { OnOk result (self.new.rows ≡ self.old.rows ++ row.now ∷ []) }
-        ensures err { IfErr result (λ e. e ≡ Refusal.OutOfMemory) }
-    {
-        let row = copy_row(alloc, row)?;
-        self.rows.push(row)?;
-        Ok(())
-    }
-
-    // Does a change of one of these rows, with a copy of the row that it puts in.
-    fn change(&mut self, alloc: Global, change: &RowChange) -> Result<(), Refusal>
-        ensures ok { OnOk result (self.new.rows ≡ row_after change.now self.old.rows) }
-        ensures err { IfErr result (λ e. e ≡ Refusal.OutOfMemory) }
-    {
-        match change {
-            RowChange::Added(_, row) => self.add_copy(alloc, row),
-            RowChange::Replaced(_, old, new) => {
-                self.remove(old);
-                self.add_copy(alloc, new)
-            }
-            RowChange::Removed(_, row) => {
-                self.remove(row);
-                Ok(())
-            }
-        }
-    }
-}
-
-// A copy of what the changes leave of the rows of the table at a place.
-fn rows_behind(
+// Removes the first row that is this one, if it is wanted.
+fn remove_wanted<'a>(
     alloc: Global,
-    store: &StoredTables,
-    place: usize,
-    changes: &[RowChange],
-) -> Result<TableRows, Refusal>
-    requires { place < length store.now.rows }
-    ensures ok { IfOk result (λ behind. behind.rows ≡ rows_of (all_applied changes.now store.now.rows) place) }
+    rows: &mut Overlay<'a>,
+    wanted: Wanted<'_>,
+    row: &'a Row,
+) -> Result<(), Refusal>
+    ensures ok { OnOk result (filter (is_wanted wanted.entry) rows.new.rows ≡ filter (is_wanted wanted.entry) (without row.now rows.old.rows)) }
     ensures err { IfErr result (λ e. e ≡ Refusal.OutOfMemory) }
 {
-    let mut behind = TableRows::new(copy_rows(alloc, store.all(place))?);
+    if wanted.wants(row) {
+        return rows.remove(alloc, row);
+    }
+    Ok(())
+}
+
+// Does what a change does to the wanted rows.
+fn change_wanted<'a>(
+    alloc: Global,
+    rows: &mut Overlay<'a>,
+    wanted: Wanted<'_>,
+    change: &'a RowChange,
+) -> Result<(), Refusal>
+    ensures ok { OnOk result (filter (is_wanted wanted.entry) rows.new.rows ≡ filter (is_wanted wanted.entry) (row_after change.now rows.old.rows)) }
+    ensures err { IfErr result (λ e. e ≡ Refusal.OutOfMemory) }
+{
+    match change {
+        RowChange::Added(_, row) => add_wanted(rows, wanted, row),
+        RowChange::Replaced(_, old, new) => {
+            remove_wanted(alloc, rows, wanted, old)?;
+            add_wanted(rows, wanted, new)
+        }
+        RowChange::Removed(_, row) => remove_wanted(alloc, rows, wanted, row),
+    }
+}
+
+// Rows of the table at a place, of which the wanted ones are those that the changes leave.
+fn rows_behind<'a>(
+    alloc: Global,
+    store: &'a StoredTables,
+    place: usize,
+    changes: &'a [RowChange],
+    wanted: Wanted<'_>,
+) -> Result<Overlay<'a>, Refusal>
+    requires { place < length store.now.rows }
+    ensures ok { IfOk result (λ behind. filter (is_wanted wanted.entry) behind.rows ≡ filter (is_wanted wanted.entry) (rows_of (all_applied changes.now store.now.rows) place)) }
+    ensures err { IfErr result (λ e. e ≡ Refusal.OutOfMemory) }
+{
+    let mut behind = store.overlay(alloc, place)?;
     for change in changes {
         if changed_table(change) == place {
-            behind.change(alloc, change)?;
+            change_wanted(alloc, &mut behind, wanted, change)?;
         }
     }
     Ok(behind)
 }
 
 impl Contents {
-    /// What the query gives over the rows with these changes done. No row is copied where none of them is of a table that it is over.
+    // What a query over one table gives over its rows with these changes done.
+    fn select_one_behind(
+        &self,
+        alloc: Global,
+        query: &Query,
+        changes: &[RowChange],
+    ) -> Result<Items<Row>, Refusal>
+        requires there { query.now.table < length self.now.store.rows }
+        requires few { length (rows_of self.now.store.rows query.now.table) ≤ 2 ^ 60 }
+        requires summed { is_aggregated query.now ≡ true → length (rows_of (all_applied changes.now self.now.store.rows) query.now.table) ≤ 2 ^ 60
+            → CanBeSummed (rows_of (all_applied changes.now self.now.store.rows) query.now.table) }
+        ensures ok { IfOk result (IsAnswer query.now (rows_of (all_applied changes.now self.now.store.rows) query.now.table)) }
+        ensures err { IfErr result (λ e. e ≡ Refusal.OutOfMemory) }
+    {
+        if self.store.row_count_of(query.table) + changes.len() > MOST_ROWS {
+            return Err(Refusal::OutOfMemory);
+        }
+        let wanted = Wanted::Kept(&query.filter);
+        let behind = rows_behind(alloc, &self.store, query.table, changes, wanted)?;
+        behind.select(alloc, query)
+    }
+
+    // What a query over two tables gives over their rows with these changes done.
+    fn select_pairs_behind(
+        &self,
+        alloc: Global,
+        query: &Query,
+        join: Join,
+        changes: &[RowChange],
+    ) -> Result<Items<Row>, Refusal>
+        requires first { query.now.table < length self.now.store.rows }
+        requires second { join.table < length self.now.store.rows }
+        requires summed { is_aggregated query.now ≡ true
+            → length (pairs_of join (rows_of (all_applied changes.now self.now.store.rows) query.now.table) (rows_of (all_applied changes.now self.now.store.rows) join.table)) ≤ 2 ^ 60
+            → CanBeSummed (pairs_of join (rows_of (all_applied changes.now self.now.store.rows) query.now.table) (rows_of (all_applied changes.now self.now.store.rows) join.table)) }
+        ensures ok { IfOk result (IsAnswer query.now (pairs_of join (rows_of (all_applied changes.now self.now.store.rows) query.now.table) (rows_of (all_applied changes.now self.now.store.rows) join.table))) }
+        ensures err { IfErr result (λ e. e ≡ Refusal.OutOfMemory) }
+    {
+        let firsts = rows_behind(alloc, &self.store, query.table, changes, Wanted::All)?;
+        let seconds = rows_behind(alloc, &self.store, join.table, changes, Wanted::All)?;
+        select_joined(alloc, query, join, firsts.all(), seconds.all())
+    }
+
+    /// What the query gives over the rows with these changes done. None of them is done where none is of a table that it is over.
     pub fn select_behind(
         &self,
         alloc: Global,
@@ -118,22 +204,87 @@ impl Contents {
         if !changes_source(query, changes) {
             return self.store.select(alloc, query);
         }
-        let firsts = rows_behind(alloc, &self.store, query.table, changes)?;
-        let Some(join) = query.join else {
-            return select_local(alloc, query, firsts.rows());
-        };
-        let seconds = rows_behind(alloc, &self.store, join.table, changes)?;
-        select_joined(
-            alloc,
-            query,
-            join,
-            SliceRows::new(firsts.rows()),
-            SliceRows::new(seconds.rows()),
-        )
+        match query.join {
+            Some(join) => self.select_pairs_behind(alloc, query, join, changes),
+            None => self.select_one_behind(alloc, query, changes),
+        }
     }
 
-    /// The changes of the write over the rows with these changes done, unless it has a primary key that is there already. No row is copied
-    /// where none of them is of the write's table.
+    // What a write without new rows does.
+    fn changed_behind(
+        &self,
+        alloc: Global,
+        table: &Table,
+        write: &Write,
+        place: usize,
+        condition: &Option<Condition<usize>>,
+        changes: &[RowChange],
+    ) -> Result<Items<RowChange>, Refusal>
+        requires there { place < length self.now.store.rows }
+        requires kept { (rows : List (List V)) → changes_over table.now write.now (filter (is_kept condition.now) rows) ≡ changes_over table.now write.now rows }
+        ensures ok { IfOk result (λ more. changes_over table.now write.now (rows_of (all_applied changes.now self.now.store.rows) place) ≡ Ok more) }
+        ensures err { IfErr result (λ e. (e ≡ Refusal.OutOfMemory)
+            ⊎ (changes_over table.now write.now (rows_of (all_applied changes.now self.now.store.rows) place) ≡ Err e)) }
+    {
+        let wanted = Wanted::Kept(condition);
+        let behind = rows_behind(alloc, &self.store, place, changes, wanted)?;
+        let kept = behind.kept(alloc, condition)?;
+        change_local(alloc, table, write, kept.as_slice())
+    }
+
+    // What a write with new rows does.
+    fn inserted_behind(
+        &self,
+        alloc: Global,
+        table: &Table,
+        write: &Write,
+        place: usize,
+        new: &[Row],
+        changes: &[RowChange],
+    ) -> Result<Items<RowChange>, Refusal>
+        requires there { place < length self.now.store.rows }
+        requires insert { write.now ≡ Write.Insert place new.now }
+        ensures ok { IfOk result (λ more. changes_over table.now write.now (rows_of (all_applied changes.now self.now.store.rows) place) ≡ Ok more) }
+        ensures err { IfErr result (λ e. (e ≡ Refusal.OutOfMemory)
+            ⊎ (changes_over table.now write.now (rows_of (all_applied changes.now self.now.store.rows) place) ≡ Err e)) }
+    {
+        let wanted = Wanted::Keyed(table, new);
+        let behind = rows_behind(alloc, &self.store, place, changes, wanted)?;
+        match behind.has_any_key(alloc, table, new) {
+            Ok(true) => Err(Refusal::DuplicateKey),
+            Ok(false) => change_local(alloc, table, write, &[]),
+            Err(e) => Err(e),
+        }
+    }
+
+    // What a write does to the rows of its table with these changes done.
+    fn changes_over(
+        &self,
+        alloc: Global,
+        table: &Table,
+        write: &Write,
+        changes: &[RowChange],
+    ) -> Result<Items<RowChange>, Refusal>
+        requires there { written_table write.now < length self.now.store.rows }
+        ensures ok { IfOk result (λ more. changes_over table.now write.now (rows_of (all_applied changes.now self.now.store.rows) (written_table write.now)) ≡ Ok more) }
+        ensures err { IfErr result (λ e. (e ≡ Refusal.OutOfMemory)
+            ⊎ (changes_over table.now write.now (rows_of (all_applied changes.now self.now.store.rows) (written_table write.now)) ≡ Err e)) }
+    {
+        match write {
+            Write::Insert(place, new) => {
+                self.inserted_behind(alloc, table, write, *place, new.as_slice(), changes)
+            }
+            Write::Update(place, _, condition) => {
+                self.changed_behind(alloc, table, write, *place, condition, changes)
+            }
+            Write::Delete(place, condition) => {
+                self.changed_behind(alloc, table, write, *place, condition, changes)
+            }
+        }
+    }
+
+    /// The changes of the write over the rows with these changes done, unless it has a primary key that is there already. None of them is
+    /// done where none is of the write's table.
     pub fn changes_behind(
         &self,
         alloc: Global,
@@ -152,7 +303,6 @@ impl Contents {
         if !changes_any(place, changes) {
             return self.store.changes(alloc, table, write);
         }
-        let behind = rows_behind(alloc, &self.store, place, changes)?;
-        change_local(alloc, table, write, behind.rows())
+        self.changes_over(alloc, table, write, changes)
     }
 }

@@ -28,5 +28,5 @@ pub use limits::{Limits, MOST_ENTRIES, MOST_ROWS, MOST_STORED};
 pub use outcomes::{Committed, Read, Reading};
 pub use pending::Pending;
 pub use sorted::{SortedTable, SortedTables};
-pub use store::{TableRows, changed_table};
+pub use store::changed_table;
 pub use touch::Touch;

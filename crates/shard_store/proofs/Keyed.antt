@@ -90,7 +90,7 @@ begun_any (n ∷ places) vs slots some h =
     sym (filter_slots (n ∷ places) (λ row. is_among vs (value_at row n)) (λ k. list_any (λ v. begins v k.values) vs)
     (λ k row at. ap (λ (ks : Row). list_any (λ v. begins v ks) vs) (sym at)) slots h)
 
-some_first : (x : Row) (xs : List Row) (o : Option Row) → x ∷ xs ≡ option_to_list o → (o ≡ Some x) × (xs ≡ [])
+pub some_first : (x : Row) (xs : List Row) (o : Option Row) → x ∷ xs ≡ option_to_list o → (o ≡ Some x) × (xs ≡ [])
 some_first x xs None e = nil_is (sym e)
 some_first x xs (Some r) e = (ap Some (sym (head_is e)), tail_is e)
 

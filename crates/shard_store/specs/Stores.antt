@@ -15,7 +15,12 @@ pub record RowsView : Type 0 where
   pub places : List ℕ
   pub room : ℕ
 
--- the same of all tables
+-- a table with changes that it does not have: the rows then, and the places of its key columns
+pub record ChangedView : Type 0 where
+  pub rows : List Row
+  pub places : List ℕ
+
+-- the rows of all tables, the places of their key columns, and their room
 pub record StoreView : Type 0 where
   pub rows : Database
   pub places : List (List ℕ)

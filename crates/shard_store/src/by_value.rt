@@ -74,7 +74,8 @@ impl<'a, 'b> RowSource<'a> for RowsFound<'a, 'b> {
     }
 }
 
-fn all_of<'a, S: RowSource<'a>>(alloc: Global, rows: S) -> Result<Vec<&'a Row>, Refusal>
+/// The rows that a source lends. Refuses for want of memory.
+pub(crate) fn all_of<'a, S: RowSource<'a>>(alloc: Global, rows: S) -> Result<Vec<&'a Row>, Refusal>
     ensures ok { IfOk result (λ list. rows_lent list.items ≡ S.to_come rows) }
     ensures err { IfErr result (λ e. e ≡ Refusal.OutOfMemory) }
 {

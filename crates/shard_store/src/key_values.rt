@@ -34,8 +34,8 @@ impl Model for KeyValues {
     ghost view = { λ k. listed k.listing };
 }
 
-// A proper beginning comes before the longer list.
-fn compare_values(a: &[Value], b: &[Value]) -> Ordering
+/// Compares values in their order, one after the other. A proper beginning comes before the longer list.
+pub(crate) fn compare_values(a: &[Value], b: &[Value]) -> Ordering
     ensures { result ≡ slice_cmp value_cmp a.now b.now }
 {
     match (a.split_first(), b.split_first()) {

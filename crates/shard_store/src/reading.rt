@@ -77,8 +77,8 @@ impl StoredTable {
         }
     }
 
-    // Rows in slots among which are all whose condition is true.
-    fn chosen<'a>(
+    /// Rows in slots among which are all whose condition is true. Refuses for want of memory.
+    pub(crate) fn chosen<'a>(
         &'a self,
         alloc: Global,
         condition: &'a Option<Condition<usize>>,
