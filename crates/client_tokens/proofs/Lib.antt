@@ -1,0 +1,5 @@
+pub mod Fronts
+pub mod Lexes
+pub mod Loop
+pub mod Remarks
+pub mod Texts

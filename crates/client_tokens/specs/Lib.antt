@@ -1,0 +1,4 @@
+pub mod Keywords
+pub mod Pieces
+pub mod Tokens
+pub mod inner
