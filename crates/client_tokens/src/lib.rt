@@ -11,5 +11,5 @@ mod token;
 
 pub use keyword::same_in_any_case;
 pub use lexing::{lex, one_lexing};
-pub use saying::said;
+pub use saying::{bytes_of, said};
 pub use token::{Keyword, Sign, Token, TokenKind};

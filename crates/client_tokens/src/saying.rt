@@ -7,12 +7,12 @@ use crate::token::{Token, TokenKind};
 use std::alloc::{AllocError, Global};
 use vt_value::Items;
 
-/// The bytes of a token, as far as the text has them.
-fn bytes_of<'s>(text: &'s [u8], token: &Token) -> &'s [u8]
-    ensures { result.now ≡ slice_range text.now token.now.start token.now.end }
+/// The bytes of a text from one place up to another, as far as it has them.
+pub fn bytes_of(text: &[u8], start: usize, end: usize) -> &[u8]
+    ensures { result.now ≡ slice_range text.now start end }
 {
-    let end = token.end.min(text.len());
-    let start = token.start.min(end);
+    let end = end.min(text.len());
+    let start = start.min(end);
     &text[start..end]
 }
 
@@ -106,7 +106,7 @@ fn text_said(alloc: Global, bytes: &[u8]) -> Result<Items<u8>, AllocError>
 pub fn said(alloc: Global, text: &[u8], token: &Token) -> Result<Items<u8>, AllocError>
     ensures { IfOk result (λ said. said ≡ said_by token.now.kind (slice_range text.now token.now.start token.now.end)) }
 {
-    let bytes = bytes_of(text, token);
+    let bytes = bytes_of(text, token.start, token.end);
     match token.kind {
         TokenKind::Word(_) | TokenKind::Number => Items::from_slice(alloc, bytes),
         TokenKind::Name => Items::from_slice(alloc, inner(bytes)),
