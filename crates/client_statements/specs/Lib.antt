@@ -1,0 +1,6 @@
+pub mod Asks
+pub mod Grammar
+pub mod Likes
+pub mod Settings
+pub mod Variables
+pub mod inner

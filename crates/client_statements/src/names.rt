@@ -1,0 +1,123 @@
+//! Names, texts, signs and switches at the front of tokens.
+ghost use Rattle.std.specs.Prelude.{◌≡◌, ℕ, List};
+ghost use Rattle.sql_lexer.specs.inner.Results.{AgreesWith};
+ghost use Rattle.client_tokens.specs.Pieces.{lexemes_of};
+ghost use Rattle.client_statements.specs.Grammar.{identifier_at, string_at, any_at, switch_at, like_at, equals_at, comma_at, open_at, close_at};
+
+use crate::kinds::{CLOSE, COMMA, EQUAL, LIKE, OFF, ON, OPEN};
+use client_tokens::{Token, TokenKind, said};
+use sql_tree::Name;
+use std::alloc::Global;
+use vt_value::Refusal;
+
+/// A word or a name between backquotes.
+#[tactic(auto, unfolding(crate::specs::Grammar::identifier_at))]
+pub fn identifier<'s>(
+    alloc: Global,
+    text: &[u8],
+    tokens: &'s [Token],
+) -> Result<(Name, &'s [Token]), Refusal>
+    ensures { AgreesWith (λ x. (x.0, lexemes_of text.now x.1.now)) result (identifier_at (lexemes_of text.now tokens.now)) }
+{
+    match tokens {
+        [first, rest @ ..] => match first.kind {
+            TokenKind::Word(_) | TokenKind::Name => Ok((said(alloc, text, first)?, rest)),
+            _ => Err(Refusal::SyntaxError),
+        },
+        [] => Err(Refusal::SyntaxError),
+    }
+}
+
+/// A text in quotes.
+#[tactic(auto, unfolding(crate::specs::Grammar::string_at))]
+pub fn string<'s>(
+    alloc: Global,
+    text: &[u8],
+    tokens: &'s [Token],
+) -> Result<(Name, &'s [Token]), Refusal>
+    ensures { AgreesWith (λ x. (x.0, lexemes_of text.now x.1.now)) result (string_at (lexemes_of text.now tokens.now)) }
+{
+    match tokens {
+        [first, rest @ ..] => match first.kind {
+            TokenKind::Text => Ok((said(alloc, text, first)?, rest)),
+            _ => Err(Refusal::SyntaxError),
+        },
+        [] => Err(Refusal::SyntaxError),
+    }
+}
+
+/// What stands after a word, a name, a number or a text.
+#[tactic(auto, unfolding(crate::specs::Grammar::any_at))]
+pub fn any(tokens: &[Token]) -> Result<&[Token], Refusal>
+    ensures { (text : List ℕ) → AgreesWith (λ x. lexemes_of text x.now) result (any_at (lexemes_of text tokens.now)) }
+{
+    match tokens {
+        [first, rest @ ..] => match first.kind {
+            TokenKind::Word(_) | TokenKind::Name | TokenKind::Number | TokenKind::Text => Ok(rest),
+            TokenKind::Variable | TokenKind::Sign(_) => Err(Refusal::SyntaxError),
+        },
+        [] => Err(Refusal::SyntaxError),
+    }
+}
+
+/// What stands after a sign `=`.
+#[tactic(auto, unfolding(crate::specs::Grammar::equals_at))]
+pub fn equals(tokens: &[Token]) -> Result<&[Token], Refusal>
+    ensures { (text : List ℕ) → AgreesWith (λ x. lexemes_of text x.now) result (equals_at (lexemes_of text tokens.now)) }
+{
+    match tokens {
+        [Token { kind: EQUAL, .. }, rest @ ..] => Ok(rest),
+        _ => Err(Refusal::SyntaxError),
+    }
+}
+
+/// What stands after a comma.
+#[tactic(auto, unfolding(crate::specs::Grammar::comma_at))]
+pub fn comma(tokens: &[Token]) -> Result<&[Token], Refusal>
+    ensures { (text : List ℕ) → AgreesWith (λ x. lexemes_of text x.now) result (comma_at (lexemes_of text tokens.now)) }
+{
+    match tokens {
+        [Token { kind: COMMA, .. }, rest @ ..] => Ok(rest),
+        _ => Err(Refusal::SyntaxError),
+    }
+}
+
+/// What stands after an opening parenthesis.
+#[tactic(auto, unfolding(crate::specs::Grammar::open_at))]
+pub fn open(tokens: &[Token]) -> Result<&[Token], Refusal>
+    ensures { (text : List ℕ) → AgreesWith (λ x. lexemes_of text x.now) result (open_at (lexemes_of text tokens.now)) }
+{
+    match tokens {
+        [Token { kind: OPEN, .. }, rest @ ..] => Ok(rest),
+        _ => Err(Refusal::SyntaxError),
+    }
+}
+
+/// What stands after a closing parenthesis.
+#[tactic(auto, unfolding(crate::specs::Grammar::close_at))]
+pub fn close(tokens: &[Token]) -> Result<&[Token], Refusal>
+    ensures { (text : List ℕ) → AgreesWith (λ x. lexemes_of text x.now) result (close_at (lexemes_of text tokens.now)) }
+{
+    match tokens {
+        [Token { kind: CLOSE, .. }, rest @ ..] => Ok(rest),
+        _ => Err(Refusal::SyntaxError),
+    }
+}
+
+/// LIKE and a pattern, if it stands there.
+#[tactic(auto, unfolding(crate::specs::Grammar::like_at))]
+pub fn like<'s>(
+    alloc: Global,
+    text: &[u8],
+    tokens: &'s [Token],
+) -> Result<(Option<Name>, &'s [Token]), Refusal>
+    ensures { AgreesWith (λ x. (x.0, lexemes_of text.now x.1.now)) result (like_at (lexemes_of text.now tokens.now)) }
+{
+    match tokens {
+        [Token { kind: LIKE, .. }, rest @ ..] => {
+            let (pattern, rest) = string(alloc, text, rest)?;
+            Ok((Some(pattern), rest))
+        }
+        _ => Ok((None, tokens)),
+    }
+}
