@@ -1,10 +1,10 @@
 -- The payloads of the command phase of the MySQL client/server protocol: commands, OK, EOF and ERR packets.
-use Rattle.std.specs.Prelude.{ℕ, List, [], ◌∷◌, ◌++◌, Option, Some, None, ◌==◌, if◌then◌else◌}
+use Rattle.std.specs.Prelude.{ℕ, Bool, true, false, List, [], ◌∷◌, ◌++◌, Option, Some, None, ◌==◌, codes, if◌then◌else◌}
 use Rattle.vt_value.specs.declared.refusal.Refusal.{Refusal}
 use Rattle.vt_value.specs.Refusals.{code_of, state_of, message_of}
 use Rattle.mysql_packet.specs.Numbers.{little_endian, length_encoded}
 use Rattle.mysql_message.specs.declared.command.Command.{Command}
-use Rattle.mysql_message.specs.declared.command.Command.TheVariants.{Quit, InitDb, Query, Ping}
+use Rattle.mysql_message.specs.declared.command.Command.TheVariants.{Quit, InitDb, Query, Ping, Statistics, MultiStatements, Reset}
 
 -- SERVER_STATUS_AUTOCOMMIT
 abbrev pub autocommit : ℕ
@@ -23,6 +23,10 @@ eof_payload status = 0xFE ∷ little_endian 2 0 ++ little_endian 2 status
 abbrev pub set_end_payload : ℕ → List ℕ
 set_end_payload status = 0xFE ∷ length_encoded 0 ++ length_encoded 0 ++ little_endian 2 status ++ little_endian 2 0
 
+-- the line that answers COM_STATISTICS, with nothing before it: the version of the server
+abbrev pub statistics_payload : List ℕ
+statistics_payload = codes "8.0.0-router"
+
 -- ERR: the code, `#` and the SQL state, the message
 abbrev pub err_payload : Refusal → List ℕ
 err_payload r = 0xFF ∷ little_endian 2 (code_of r) ++ 0x23 ∷ state_of r ++ message_of r
@@ -33,20 +37,35 @@ pub data Request : Type 0 where
   init_db : List ℕ → Request
   query : List ℕ → Request
   ping : Request
+  statistics : Request
+  multi_statements : Bool → Request
+  reset : Request
 
 abbrev pub request_of : Command → Request
 request_of Quit = quit
 request_of (InitDb name) = init_db name.now
 request_of (Query text) = query text.now
 request_of Ping = ping
+request_of Statistics = statistics
+request_of (MultiStatements on) = multi_statements on
+request_of Reset = reset
 
--- The command that a payload is, if it is one: COM_QUIT, COM_INIT_DB with a keyspace's name, COM_QUERY, COM_PING. What follows the byte of COM_QUIT or COM_PING
--- isn't looked at.
+-- What COM_SET_OPTION asks for: MYSQL_OPTION_MULTI_STATEMENTS_ON is 0, and OFF is 1.
+abbrev pub option_of : List ℕ → Option Request
+option_of (on ∷ high ∷ []) =
+    if high == 0 then (if on == 0 then Some (multi_statements true) else if on == 1 then Some (multi_statements false) else None) else None
+option_of _ = None
+
+-- The command that a payload is, if it is one: COM_QUIT, COM_INIT_DB with a keyspace's name, COM_QUERY, COM_STATISTICS, COM_PING, COM_SET_OPTION with an option,
+-- COM_RESET_CONNECTION. What follows the byte of the others isn't looked at.
 abbrev pub command_of : List ℕ → Option Request
 command_of [] = None
 command_of (b ∷ bytes) =
     if b == 0x01 then Some quit
     else if b == 0x02 then Some (init_db bytes)
     else if b == 0x03 then Some (query bytes)
+    else if b == 0x09 then Some statistics
     else if b == 0x0E then Some ping
+    else if b == 0x1B then option_of bytes
+    else if b == 0x1F then Some reset
     else None

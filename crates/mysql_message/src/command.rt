@@ -1,6 +1,6 @@
 ghost use Rattle.std.specs.Prelude.{◌≡◌, IfErr, option_map};
 ghost use Rattle.std.specs.Result.{result_ok};
-ghost use Rattle.mysql_message.specs.Messages.{request_of, command_of};
+ghost use Rattle.mysql_message.specs.Messages.{request_of, option_of, command_of};
 
 use vt_value::Refusal;
 
@@ -15,6 +15,12 @@ pub enum Command<'a> {
     Query(&'a [u8]),
     /// The client asks whether the server is there.
     Ping,
+    /// The client asks for a line about the server.
+    Statistics,
+    /// The client wants texts of several statements to be taken, or no longer.
+    MultiStatements(bool),
+    /// The client begins anew, without logging in again.
+    Reset,
 }
 
 const COM_QUIT: u8 = 0x01;
@@ -23,11 +29,36 @@ const COM_INIT_DB: u8 = 0x02;
 
 const COM_QUERY: u8 = 0x03;
 
+const COM_STATISTICS: u8 = 0x09;
+
 const COM_PING: u8 = 0x0E;
 
+const COM_SET_OPTION: u8 = 0x1B;
+
+const COM_RESET_CONNECTION: u8 = 0x1F;
+
+/// MYSQL_OPTION_MULTI_STATEMENTS_ON and OFF, as COM_SET_OPTION has them.
+const MULTI_STATEMENTS_ON: u8 = 0;
+
+const MULTI_STATEMENTS_OFF: u8 = 1;
+
+// What COM_SET_OPTION asks for by the bytes after it: a number of two bytes.
+fn read_option(option: &[u8]) -> Result<Command<'_>, Refusal>
+    ensures command { option_map request_of (result_ok result) ≡ option_of option.now }
+    ensures err { IfErr result (λ e. e ≡ Refusal.UnknownCommand) }
+{
+    match option {
+        [MULTI_STATEMENTS_ON, 0] => Ok(Command::MultiStatements(true)),
+        [MULTI_STATEMENTS_OFF, 0] => Ok(Command::MultiStatements(false)),
+        _ => Err(Refusal::UnknownCommand),
+    }
+}
+
 // Promise: A payload is the command that it is, or an unknown one
+// Refuses: ping_as_quit, init_db_as_query, reset_as_ping, option_off_is_on
 /// The command that a payload asks for. Its first byte tells which; the bytes after that of COM_INIT_DB are the name of
-/// the keyspace, those after that of COM_QUERY the text of the query, and those after the others aren't looked at. An empty payload and any other first byte are refused.
+/// the keyspace, those after that of COM_QUERY the text of the query, the two after that of COM_SET_OPTION the option, and those after the others
+/// aren't looked at. An empty payload, any other first byte and any other option are refused.
 pub fn read_command(payload: &[u8]) -> Result<Command<'_>, Refusal>
     ensures command { option_map request_of (result_ok result) ≡ command_of payload.now }
     ensures err { IfErr result (λ e. e ≡ Refusal.UnknownCommand) }
@@ -36,7 +67,10 @@ pub fn read_command(payload: &[u8]) -> Result<Command<'_>, Refusal>
         [COM_QUIT, ..] => Ok(Command::Quit),
         [COM_INIT_DB, name @ ..] => Ok(Command::InitDb(name)),
         [COM_QUERY, text @ ..] => Ok(Command::Query(text)),
+        [COM_STATISTICS, ..] => Ok(Command::Statistics),
         [COM_PING, ..] => Ok(Command::Ping),
+        [COM_SET_OPTION, option @ ..] => read_option(option),
+        [COM_RESET_CONNECTION, ..] => Ok(Command::Reset),
         _ => Err(Refusal::UnknownCommand),
     }
 }

@@ -1,6 +1,6 @@
 ghost use Rattle.std.specs.Prelude.{◌≡◌, ◌+◌, ◌≤◌, ◌++◌, length, IfErr, IfOk, IsOk, OnErr, OnOk};
 ghost use Rattle.mysql_packet.specs.Frames.{frame, number_after};
-ghost use Rattle.mysql_message.specs.Messages.{ok_payload, eof_payload, set_end_payload, err_payload};
+ghost use Rattle.mysql_message.specs.Messages.{ok_payload, eof_payload, set_end_payload, statistics_payload, err_payload};
 
 use crate::numbers::{length_encoded, little_endian};
 use arrayvec::ArrayVec;
@@ -17,6 +17,9 @@ const EOF: u8 = 0xFE;
 /// The first byte of an ERR packet.
 const ERR: u8 = 0xFF;
 
+/// What answers COM_STATISTICS.
+const STATISTICS: &[u8] = b"8.0.0-router";
+
 /// What stands before the SQL state.
 const STATE_MARKER: u8 = b'#';
 
@@ -24,8 +27,8 @@ const STATE_MARKER: u8 = b'#';
 const MAX_PAYLOAD: usize = 60;
 
 // Promise: OK, EOF and ERR packets, and the OK packet that ends a result set, have their one layout; with 64 bytes of room they can't fail
-// With: put_eof, put_err, put_set_end
-// Refuses: ok_without_status, code_bytes_swapped
+// With: put_eof, put_err, put_set_end, put_statistics
+// Refuses: ok_without_status, code_bytes_swapped, statistics_are_cut_short
 /// Appends an OK packet: so many affected rows, 0 as the last insert id, the status, no warnings. It gives the
 /// sequence number after it. It refuses only for want of memory, and then leaves the buffer as it was.
 pub fn put_ok(number: u8, affected: u64, status: u16, out: &mut BytesMut) -> Result<u8, Refusal>
@@ -89,6 +92,21 @@ pub fn put_err(number: u8, refusal: Refusal, out: &mut BytesMut) -> Result<u8, R
 {
     let payload = err_payload(refusal);
     put_short(number, payload.as_slice(), out)
+}
+
+/// Appends the line about the server that answers COM_STATISTICS: its version. It gives the sequence number after it. It refuses only for want
+/// of memory, and then leaves the buffer as it was.
+pub fn put_statistics(number: u8, out: &mut BytesMut) -> Result<u8, Refusal>
+    ensures ok { OnOk result (out.new.items ≡ out.old.items ++ frame number statistics_payload) }
+    ensures next { IfOk result (λ n. n ≡ number_after number statistics_payload) }
+    ensures err { OnErr result (out.new.items ≡ out.old.items) }
+    ensures memory { IfErr result (λ e. e ≡ Refusal.OutOfMemory) }
+    // With that much room it can't fail.
+    ensures room { 64 ≤ out.old.spare → IsOk result }
+    // No room is ever lost.
+    ensures capacity { length out.old.items + out.old.spare ≤ length out.new.items + out.new.spare }
+{
+    put_short(number, STATISTICS, out)
 }
 
 fn ok_payload(affected: u64, status: u16) -> ArrayVec<u8, MAX_PAYLOAD>
