@@ -1,12 +1,13 @@
 -- Where no other session comes between, a conversation is one over one database.
-use Rattle.std.proofs.Common.{◌≡◌, true, ℕ, List, Option, Some, None, refl, sym, ap, subst, ◌∙◌}
+use Rattle.std.specs.Prelude.{is_some}
+use Rattle.std.proofs.Common.{◌≡◌, Bool, true, ℕ, List, Option, Some, None, refl, sym, ap, subst, ◌∙◌}
 use mathlib.Core.List.{IsPrefix}
 use Rattle.mysql_packet.specs.declared.framer.Fed.{Fed}
 use Rattle.mysql_packet.specs.declared.framer.Payload.{Payload}
 use Rattle.mysql_packet.specs.Frames.{frame}
 use Rattle.mysql_message.specs.Messages.{ok_payload}
 use Rattle.resultset.specs.declared.Outcome.{Outcome}
-use Rattle.resultset.specs.Encoding.{encoded}
+use Rattle.resultset.specs.Encoding.{encoded, behind_rows}
 use Rattle.vschema.specs.WellFormed.{is_vschema}
 use Rattle.vschema.specs.Database.{Database}
 use Rattle.journal.specs.Runs.{IsLegal}
@@ -31,11 +32,11 @@ use Rattle.session_replies.specs.declared.standing.Standing.{Standing}
 use Rattle.session_replies.specs.declared.standing.Standing.TheVariants.{At, Ended}
 use Rattle.session_replies.specs.Packets.{reply_number}
 use Rattle.session_replies.specs.Logins.{LogsIn}
-use Rattle.session_replies.specs.Outcomes.{PassAndTransaction, IsKept, Means, status_with, terms_of}
+use Rattle.session_replies.specs.Outcomes.{PassAndTransaction, IsKept, Means, none_open, terms_of}
 use Rattle.session_replies.specs.Outcomes as means
-use Rattle.session.specs.Alone.{Alone, OneState, Told, MeansOver, MeansAlone, IsOverAt, alone_terms}
+use Rattle.session.specs.Alone.{Alone, OneState, Told, MeansOver, MeansAlone, IsOverAt, alone_terms, without_transaction}
 use Rattle.session.specs.Alone as over
-use Rattle.session_replies.specs.Talk.{AnswersPayload, Replies, Conversation, Talk, set_end_of}
+use Rattle.session_replies.specs.Talk.{AnswersPayload, Replies, Conversation, Talk, set_end_of, status_flags}
 use Rattle.session_replies.specs.Talk as t
 use Rattle.session.proofs.Servings.{SoFar}
 use Rattle.session.proofs.Steps.{Follows, stays, answer_on, refusal_at_on}
@@ -71,9 +72,13 @@ module _ (o : Opening) (l : Limits) (hello : Hello) where
   answers_on _ s _ _ _ _ (t.quits first command) = stays o l s.pass
   answers_on _ s _ _ _ _ (t.unknown first command) = stays o l s.pass
   answers_on _ s _ _ _ _ (t.pinged first command) = stays o l s.pass
-  answers_on _ s _ _ _ _ (t.selected name first command is) = stays o l s.pass
+  answers_on _ s _ _ _ _ (t.selected name place first command is) = stays o l s.pass
   answers_on _ s _ _ _ _ (t.unknown_keyspace name first command is) = stays o l s.pass
   answers_on _ s _ _ _ _ (t.queried {now} text outcome first command may) = means_on s text outcome now may
+  answers_on _ s _ _ _ _ (t.told_statistics first command) = stays o l s.pass
+  answers_on _ s _ _ _ _ (t.takes_one_statement first command) = stays o l s.pass
+  answers_on _ s _ _ _ _ (t.takes_no_more first command) = stays o l s.pass
+  answers_on _ s _ _ _ _ (t.reset_all first command) = stays o l s.pass
 
   replies_later : (at : Phase) (s now : PassAndTransaction) (ps : List Payload) (out : List ℕ) (b : Standing) → Replies (terms_of o hello) May at s ps out b now
       → IsPrefix s.pass.seen now.pass.seen
@@ -84,14 +89,14 @@ module _ (o : Opening) (l : Limits) (hello : Hello) where
 
   -- ---- over the one database
 
-  status_at : (run : Run) (tx : Option Transaction) (told : Option (List Told)) → IsOverAt o run tx told → status_with tx ≡ status_with told
+  status_at : (run : Run) (tx : Option Transaction) (told : Option (List Told)) → IsOverAt o run tx told → is_some tx ≡ is_some told
   status_at run None None h = refl
   status_at run None (Some told) h = absurd h
   status_at run (Some tx) None h = absurd h
   status_at run (Some tx) (Some told) h = refl
 
-  same_status : (x : Alone o) (s : PassAndTransaction) → x.kept ≡ s → status_with s.tx ≡ status_with x.state.open_one
-  same_status x s e = ap (λ (y : PassAndTransaction). status_with y.tx) (sym e) ∙ status_at x.kept.pass.seen x.kept.tx x.state.open_one x.tx
+  same_status : (x : Alone o) (s : PassAndTransaction) → x.kept ≡ s → is_some s.tx ≡ is_some x.state.open_one
+  same_status x s e = ap (λ (y : PassAndTransaction). is_some y.tx) (sym e) ∙ status_at x.kept.pass.seen x.kept.tx x.state.open_one x.tx
 
   -- it stands for that state
   abbrev Over_it : PassAndTransaction → (Alone o → Type 0) → Type 0
@@ -146,14 +151,10 @@ module _ (o : Opening) (l : Limits) (hello : Hello) where
     abbrev Answers_over : Phase → Alone o → Payload → List ℕ → Standing → Alone o → Type 0
     Answers_over = AnswersPayload (alone_terms o hello) (MeansAlone o l)
 
-    pong : (x : Alone o) (s : PassAndTransaction) → x.kept ≡ s → (bits : ℕ) (p : Payload)
-        → Answers_over (Commands bits) x p (frame (reply_number p) (ok_payload 0 (status_with x.state.open_one))) (At (Commands bits)) x
-        → Over_it s (λ y. Answers_over (Commands bits) x p (frame (reply_number p) (ok_payload 0 (status_with s.tx))) (At (Commands bits)) y)
-    pong x s e bits p a = (
-      x,
-      e,
-      subst (λ (n : ℕ). Answers_over (Commands bits) x p (frame (reply_number p) (ok_payload 0 n)) (At (Commands bits)) x) (sym (same_status x s e)) a,
-    )
+    -- a reply whose bytes tell whether a transaction is open
+    with_status : (x y : Alone o) (s : PassAndTransaction) → y.kept ≡ s → (at : Phase) (p : Payload) (bytes : Bool → List ℕ) (b : Standing)
+        → Answers_over at x p (bytes (is_some y.state.open_one)) b y → Over_it s (λ y. Answers_over at x p (bytes (is_some s.tx)) b y)
+    with_status x y s e at p bytes b a = (y, e, subst (λ (is_open : Bool). Answers_over at x p (bytes is_open) b y) (sym (same_status y s e)) a)
 
     answers_alone : (x : Alone o) (at : Phase) (s now : PassAndTransaction) (p : Payload) (out : List ℕ) (b : Standing) → x.kept ≡ s
         → AnswersPayload (terms_of o hello) May at s p out b now → IsLegal (MayFollow o) s.pass.seen → NoOthers s.pass now.pass
@@ -162,21 +163,28 @@ module _ (o : Opening) (l : Limits) (hello : Hello) where
     answers_alone x at s _ p _ _ e (t.logs_in {out} {standing} is) legal others = (
       x,
       e,
-      t.logs_in (subst (λ (n : ℕ). LogsIn hello o.schema.keyspaces n at p out standing) (same_status x s e) is),
+      t.logs_in (subst (λ (is_open : Bool). LogsIn hello o.schema.keyspaces (status_flags true is_open) at p out standing) (same_status x s e) is),
     )
     answers_alone x _ s _ _ _ _ e (t.quits first command) legal others = (x, e, t.quits first command)
     answers_alone x _ s _ _ _ _ e (t.unknown first command) legal others = (x, e, t.unknown first command)
-    answers_alone x _ s _ p _ _ e (t.pinged {bits} first command) legal others = pong x s e bits p (t.pinged first command)
-    answers_alone x _ s _ p _ _ e (t.selected {bits} name first command is) legal others = pong x s e bits p (t.selected name first command is)
+    answers_alone x _ s _ p _ _ e (t.pinged {set} first command) legal others =
+        with_status x x s e (Commands set) p (λ is_open. frame (reply_number p) (ok_payload 0 (status_flags set.autocommit is_open))) (At (Commands set)) (t.pinged first command)
+    answers_alone x _ s _ p _ _ e (t.selected {set} name place first command is) legal others =
+        with_status x x s e (Commands set) p (λ is_open. frame (reply_number p) (ok_payload 0 (status_flags set.autocommit is_open)))
+        (At (Commands (record set { keyspace = Some place }))) (t.selected name place first command is)
     answers_alone x _ s _ _ _ _ e (t.unknown_keyspace name first command is) legal others = (x, e, t.unknown_keyspace name first command is)
-    answers_alone x _ s _ p _ _ e (t.queried {bits} {now} text outcome first command may) legal others =
+    answers_alone x _ s _ p _ _ e (t.queried {set} {now} text outcome first command may) legal others =
         let then = means_alone x s e text outcome now may legal others in
-        let y = then.0 in (
-          y,
-          then.1,
-          subst (λ (n : ℕ). Answers_over (Commands bits) x p (encoded (set_end_of bits) outcome (reply_number p) n) (At (Commands bits)) y) (sym (same_status y now then.1))
-              (t.queried text outcome first command then.2),
-        )
+        with_status x then.0 now then.1 (Commands set) p
+        (λ is_open. encoded (set_end_of set.capabilities) outcome (reply_number p) (status_flags set.autocommit is_open)) (At (Commands set))
+        (t.queried text outcome first command then.2)
+    answers_alone x _ s _ _ _ _ e (t.told_statistics first command) legal others = (x, e, t.told_statistics first command)
+    answers_alone x _ s _ p _ _ e (t.takes_one_statement {set} first command) legal others =
+        with_status x x s e (Commands set) p (λ is_open. frame (reply_number p) (behind_rows (set_end_of set.capabilities) (status_flags set.autocommit is_open)))
+        (At (Commands set)) (t.takes_one_statement first command)
+    answers_alone x _ s _ _ _ _ e (t.takes_no_more first command) legal others = (x, e, t.takes_no_more first command)
+    answers_alone x _ s _ _ _ _ e (t.reset_all first command) legal others =
+        (without_transaction x, ap (λ (y : PassAndTransaction). none_open y.pass) e, t.reset_all first command)
 
     abbrev Replies_over : Phase → Alone o → List Payload → List ℕ → Standing → Alone o → Type 0
     Replies_over = Replies (alone_terms o hello) (MeansAlone o l)

@@ -1,5 +1,5 @@
 -- What the text of a statement may tell its client where no other session comes between: what one database tells.
-use Rattle.std.specs.Prelude.{◌≡◌, ℕ, List, [], ◌∷◌, ◌++◌, map, Option, Some, None, Ok, refl}
+use Rattle.std.specs.Prelude.{◌≡◌, ℕ, List, [], ◌∷◌, ◌++◌, map, Option, Some, None, Ok, refl, is_some}
 use Rattle.std.specs.List.{AllByRecursion}
 use Rattle.vt_value.specs.declared.refusal.Refusal.{Refusal}
 use Rattle.vt_value.specs.declared.refusal.Refusal.TheVariants.{OutOfMemory, NotSupported, ShardMoved, ShardFull}
@@ -22,7 +22,7 @@ use Rattle.shard_calls.specs.Alone.{NoCommits, GivesOver, IsRefusedOver}
 use Rattle.shard_calls.specs.Transactions.{Step, Transaction, GiveOver, write_on}
 use Rattle.session_replies.specs.declared.hello.Hello.{Hello}
 use Rattle.session_replies.specs.Talk.{Terms}
-use Rattle.session_replies.specs.Outcomes.{PassAndTransaction, none_open, Shows, HasRows, Means, status_with}
+use Rattle.session_replies.specs.Outcomes.{PassAndTransaction, none_open, Shows, HasRows, Means}
 
 -- ---- one database
 
@@ -120,9 +120,13 @@ pub record MeansAlone (o : Opening) (limits : Limits) (s : Alone o) (text : List
   pub means : Means o limits s.kept text outcome now.kept
   pub over : MeansOver o.schema s.state text outcome now.state
 
+-- its transaction is dropped
+abbrev pub without_transaction : {o : Opening} → Alone o → Alone o
+without_transaction s = record { kept = none_open s.kept.pass; state = record { db = s.state.db; open_one = None }; rows = s.rows; tx = tt }
+
 -- the terms of a conversation over it
 abbrev pub alone_terms : (o : Opening) → Hello → Terms (Alone o)
-alone_terms o hello = record { hello = hello; keyspaces = o.schema.keyspaces; status = λ s. status_with s.state.open_one }
+alone_terms o hello = record { hello = hello; keyspaces = o.schema.keyspaces; is_open = λ s. is_some s.state.open_one; dropped = without_transaction }
 
 -- before its first statement
 abbrev pub alone_first : (o : Opening) → PassView Entry → Alone o

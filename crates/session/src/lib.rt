@@ -7,6 +7,6 @@ mod session_core;
 pub use command_phase::serve;
 pub use session_core::{COMMAND_LIMIT, Core};
 pub use session_replies::{
-    Access, DeviceFailed, End, Hello, Login, Phase, Reader, SessionFault, Sink, Source, Standing,
-    Writer,
+    Access, DeviceFailed, End, Hello, Login, Phase, Reader, SessionFault, Settings, Sink, Source,
+    Standing, Writer,
 };

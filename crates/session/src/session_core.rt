@@ -19,8 +19,8 @@ use journal::{Naming, Pass};
 use mysql_packet::Framer;
 use route_engine::{Engine, Gate, Tx};
 use session_replies::{
-    Access, End, Hello, Phase, REPLY_ROOM, SessionFault, Sink, Standing, answer_fed, end_of,
-    is_in_commands,
+    Access, End, Hello, Phase, REPLY_ROOM, SessionFault, Settings, Sink, Standing, answer_fed,
+    end_of, is_in_commands,
 };
 use shard::{ShardLaw, World};
 use std::alloc::Global;
@@ -131,7 +131,7 @@ impl<W: World, J: Naming> Core<W, J> {
     ghost use Rattle.shard_run.specs.Runs.{Opening};
     ghost use Rattle.shard_contents.specs.declared.limits.Limits.{Limits};
     ghost use Rattle.session_replies.specs.Outcomes.{Means, PassAndTransaction, terms_of};
-    ghost use Rattle.session_replies.specs.Standings.{HasGreeted, end_of};
+    ghost use Rattle.session_replies.specs.Standings.{HasGreeted, end_of, settings_at_first};
     ghost use Rattle.session_replies.specs.Talk.{Talk};
     ghost use Rattle.session_replies.specs.Sessions.{HasTalked};
 
@@ -176,8 +176,8 @@ impl<W: World, J: Naming> Core<W, J> {
     pub fn commands(alloc: Global, id: u32, capabilities: u32) -> Result<Core<W, J>, Refusal>
         // Nothing has been read or written.
         ensures begins { IfOk result (λ core. (o : Opening) (l : Limits) (s : PassAndTransaction)
-            → HasTalked (terms_of o core.hello) (Means o l) (Standing.At (Phase.Commands capabilities)) core s [] [] s) }
-        ensures standing { IfOk result (λ core. core.standing ≡ Standing.At (Phase.Commands capabilities)) }
+            → HasTalked (terms_of o core.hello) (Means o l) (Standing.At (Phase.Commands (settings_at_first capabilities None))) core s [] [] s) }
+        ensures standing { IfOk result (λ core. core.standing ≡ Standing.At (Phase.Commands (settings_at_first capabilities None))) }
         ensures limit { IfOk result (λ core. core.framing.limit ≡ COMMAND_LIMIT) }
         ensures none_open { IfOk result (λ core. core.tx ≡ None) }
         ensures id { IfOk result (λ core. core.hello.id ≡ id) }
@@ -187,7 +187,7 @@ impl<W: World, J: Naming> Core<W, J> {
         Ok(Core {
             framer: Framer::new(alloc, COMMAND_LIMIT),
             reply,
-            standing: Standing::At(Phase::Commands(capabilities)),
+            standing: Standing::At(Phase::Commands(Settings::at_first(capabilities, None))),
             hello: Hello {
                 access: Access {
                     user: Items::new(alloc),
@@ -249,8 +249,8 @@ impl<W: World + Send + Sync, J: Naming + Send + Sync> Core<W, J> {
     // Promise: However a client's bytes are cut, exactly the conversation over them is written, from the greeting on: a client is let in by
     // its user and its answer to the salt, and then by its database, or told why not; each statement has an outcome that its text may have,
     // in the session's open transaction if one is, each from what the session had seen to what it then has seen; a reply's status tells
-    // whether a transaction is open then; a client may name each keyspace; result sets end as the client's capabilities ask; the reply to a
-    // write always has room
+    // whether a transaction is open then; a client may name each keyspace, and one that begins anew has no transaction, and keeps its
+    // keyspace; result sets end as the client's capabilities ask; the reply to a write always has room
     // With: Core::{new, commands, standing, end_of_input}
     // Clauses: begins, hello, standing, limit, none_open, err, talk, tx, begun, ended, by_command, fault, cause, again, next, session,
     // whole, id
@@ -261,7 +261,9 @@ impl<W: World + Send + Sync, J: Naming + Send + Sync> Core<W, J> {
     // session_replies::unknown_keyspace_is_used, feed_forgets_the_end, id_is_another, session_replies::reply_number_by_the_first_packet,
     // session_replies::ping_tells_a_row, session_replies::query_is_refused_for_syntax, session_replies::query_gives_no_rows,
     // session_replies::count_is_told_halved, session_replies::fault_has_the_refused_number, session_replies::fault_is_not_told,
-    // session_replies::key_columns_may_be_null, session_replies::second_tables_columns_come_first
+    // session_replies::key_columns_may_be_null, session_replies::second_tables_columns_come_first,
+    // session_replies::keyspace_in_use_is_the_first, session_replies::reset_forgets_the_keyspace, session_replies::reset_keeps_the_settings,
+    // session_replies::reset_keeps_the_transaction, session_replies::several_statements_are_taken_on
     // Headline.
     // Promise: After a fault: without memory for a piece, it counts as not fed, and pass and sink are as before it; where the sink failed,
     // a front of the payloads is answered, each once, and the sink took a front of the replies; where the source failed, each payload that

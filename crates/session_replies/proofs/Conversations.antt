@@ -31,7 +31,7 @@ use Rattle.session_replies.specs.Standings.{end_of, HasGreeted, takes_commands, 
 use Rattle.session_replies.specs.Logins.{Admits, LogsIn, login_of}
 use Rattle.session_replies.specs.Logins as l
 use Rattle.session_replies.specs.Packets.{refusal_bytes, reply_number}
-use Rattle.session_replies.specs.Talk.{Terms, Greets, AnswersPayload, Replies, Conversation, Talk, IsByCommand, IsByInput}
+use Rattle.session_replies.specs.Talk.{Terms, Greets, AnswersPayload, Replies, Conversation, Talk, IsByCommand, IsByInput, status_flags}
 use Rattle.session_replies.specs.Talk as t
 use Rattle.session_replies.specs.Sessions.{SessionState, HasTalked, HasTalkedOn, AnswersFed}
 use Rattle.session_replies.specs.inner.Sessions.{FedBy}
@@ -406,13 +406,17 @@ logs_in_ends hello keyspaces status _ p _ _ (l.answers {out} {standing} {login} 
 answers_end : {S : Type 0} (terms : Terms S) (May : S → List ℕ → Outcome → S → Type 0) (at : Phase) (s now : S) (p : Payload) (out : List ℕ) (b : Standing)
     → AnswersPayload terms May at s p out b now → IfSome (end_of b) IsByCommand
 answers_end terms May _ _ _ _ _ _ (t.out_of_order first) = tt
-answers_end terms May at s _ p _ _ (t.logs_in {out} {standing} l) = logs_in_ends terms.hello terms.keyspaces (terms.status s) at p out standing l
+answers_end terms May at s _ p _ _ (t.logs_in {out} {standing} l) = logs_in_ends terms.hello terms.keyspaces (status_flags true (terms.is_open s)) at p out standing l
 answers_end terms May _ _ _ _ _ _ (t.quits first command) = tt
 answers_end terms May _ _ _ _ _ _ (t.unknown first command) = tt
 answers_end terms May _ _ _ _ _ _ (t.pinged first command) = tt
-answers_end terms May _ _ _ _ _ _ (t.selected name first command is) = tt
+answers_end terms May _ _ _ _ _ _ (t.selected name place first command is) = tt
 answers_end terms May _ _ _ _ _ _ (t.unknown_keyspace name first command is) = tt
 answers_end terms May _ _ _ _ _ _ (t.queried text outcome first command may) = tt
+answers_end terms May _ _ _ _ _ _ (t.told_statistics first command) = tt
+answers_end terms May _ _ _ _ _ _ (t.takes_one_statement first command) = tt
+answers_end terms May _ _ _ _ _ _ (t.takes_no_more first command) = tt
+answers_end terms May _ _ _ _ _ _ (t.reset_all first command) = tt
 
 replies_end : {S : Type 0} (terms : Terms S) (May : S → List ℕ → Outcome → S → Type 0) (at : Phase) (s now : S) (ps : List Payload) (out : List ℕ) (b : Standing)
     → Replies terms May at s ps out b now → IfSome (end_of b) IsByCommand

@@ -1,6 +1,6 @@
 -- What is written in the connection phase.
-use Rattle.std.proofs.Common.{◌≡◌, ◌&&◌, ℕ, Bool, true, false, List, [], ◌∷◌, Some, refl, sym, subst, eq-eqb}
-use Rattle.std.specs.Prelude.{Result, Err, IsOkAnd}
+use Rattle.std.proofs.Common.{◌≡◌, ◌&&◌, ℕ, Bool, true, false, List, [], ◌∷◌, Some, None, refl, sym, subst, eq-eqb}
+use Rattle.std.specs.Prelude.{Result, Err, IsOkAnd, is_some}
 use Rattle.vt_value.specs.declared.refusal.Refusal.TheVariants.{AccessDenied, UnknownKeyspace, BadHandshake}
 use Rattle.vschema.specs.declared.schema.Keyspace.{Keyspace}
 use Rattle.mysql_packet.specs.declared.framer.Payload.{Payload}
@@ -16,19 +16,28 @@ use Rattle.session_replies.specs.declared.standing.Phase.{Phase}
 use Rattle.session_replies.specs.declared.standing.Phase.TheVariants.{Response, Switch, Commands}
 use Rattle.session_replies.specs.declared.standing.Standing.{Standing}
 use Rattle.session_replies.specs.declared.standing.Standing.TheVariants.{At, Ended}
-use Rattle.session_replies.specs.Logins.{Admits, LogsIn, has_keyspace, is_known, is_other_plugin, login_of}
+use Rattle.session_replies.specs.Logins.{Admits, LogsIn, is_known, is_other_plugin, keyspace_asked, keyspace_named, login_of}
 use Rattle.session_replies.specs.Logins as l
 use Rattle.session_replies.specs.Packets.{reply_number}
-use Rattle.session_replies.specs.Talk.{Terms, AnswersPayload}
+use Rattle.session_replies.specs.Standings.{settings_at_first}
+use Rattle.session_replies.specs.Talk.{Terms, AnswersPayload, status_flags}
 use Rattle.session_replies.specs.Talk as t
 
 pub known_empty : (keyspaces : List Keyspace) (name : List ℕ) → name ≡ [] → is_known keyspaces (Some name) ≡ true
 known_empty keyspaces [] is = refl
 known_empty keyspaces (b ∷ name) is = absurd cc
 
-pub known_named : (keyspaces : List Keyspace) (name : List ℕ) → (name ≡ [] → ⊥) → is_known keyspaces (Some name) ≡ has_keyspace keyspaces name
+pub known_named : (keyspaces : List Keyspace) (name : List ℕ) → (name ≡ [] → ⊥) → is_known keyspaces (Some name) ≡ is_some (keyspace_named keyspaces name)
 known_named keyspaces [] not = absurd (not refl)
 known_named keyspaces (b ∷ name) not = refl
+
+pub asked_empty : (keyspaces : List Keyspace) (name : List ℕ) → name ≡ [] → keyspace_asked keyspaces (Some name) ≡ None
+asked_empty keyspaces [] is = refl
+asked_empty keyspaces (b ∷ name) is = absurd cc
+
+pub asked_named : (keyspaces : List Keyspace) (name : List ℕ) → (name ≡ [] → ⊥) → keyspace_asked keyspaces (Some name) ≡ keyspace_named keyspaces name
+asked_named keyspaces [] not = absurd (not refl)
+asked_named keyspaces (b ∷ name) not = refl
 
 module _ (status number : ℕ) (login : Login) (right : Bool) (out : List ℕ) where
   pub is_denied : (login.is_user && right) ≡ false → out ≡ frame number (err_payload AccessDenied) → Admits status number login right out (Ended Denied)
@@ -39,8 +48,8 @@ module _ (status number : ℕ) (login : Login) (right : Bool) (out : List ℕ) w
   is_unknown is none e = subst (λ (bs : List ℕ). Admits status number login right bs (Ended Denied)) (sym e) (l.unknown is none)
 
   pub is_admitted : (login.is_user && right) ≡ true → login.is_database ≡ true → out ≡ frame number (ok_payload 0 status)
-      → Admits status number login right out (At (Commands login.capabilities))
-  is_admitted is known e = subst (λ (bs : List ℕ). Admits status number login right bs (At (Commands login.capabilities))) (sym e) (l.admitted is known)
+      → Admits status number login right out (At (Commands (settings_at_first login.capabilities login.keyspace)))
+  is_admitted is known e = subst (λ (bs : List ℕ). Admits status number login right bs (At (Commands (settings_at_first login.capabilities login.keyspace)))) (sym e) (l.admitted is known)
 
 module _ (hello : Hello) (keyspaces : List Keyspace) (status : ℕ) (p : Payload) (out : List ℕ) where
   pub not_read : {A E : Type 0} (f : A → Answered) (r : Result A E) (e : E) → r ≡ Err e → p.first ≡ 1
@@ -72,7 +81,7 @@ module _ (hello : Hello) (keyspaces : List Keyspace) (status : ℕ) (p : Payload
 
 -- what is written for a payload of the connection phase
 pub one_login : {S : Type 0} (terms : Terms S) (May : S → List ℕ → Outcome → S → Type 0) (at then : Phase) (keyspaces : List Keyspace) (s : S) (p : Payload) (out : List ℕ) (standing : Standing)
-    → at ≡ then → keyspaces ≡ terms.keyspaces → LogsIn terms.hello keyspaces (terms.status s) then p out standing → AnswersPayload terms May at s p out standing s
+    → at ≡ then → keyspaces ≡ terms.keyspaces → LogsIn terms.hello keyspaces (status_flags true (terms.is_open s)) then p out standing → AnswersPayload terms May at s p out standing s
 one_login {S} terms May at then keyspaces s p out standing is served logs =
     subst (λ (x : Phase). AnswersPayload terms May x s p out standing s) (sym is)
-    (t.logs_in (subst (λ (ks : List Keyspace). LogsIn terms.hello ks (terms.status s) then p out standing) served logs))
+    (t.logs_in (subst (λ (ks : List Keyspace). LogsIn terms.hello ks (status_flags true (terms.is_open s)) then p out standing) served logs))

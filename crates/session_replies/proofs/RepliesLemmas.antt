@@ -1,17 +1,18 @@
 -- Replies to one payload, and to the payloads behind it.
 use Rattle.std.proofs.Common.{◌≡◌, ℕ, Bool, refl, true, false, ◌==◌, List, [], ◌∷◌, ◌++◌, Option, Some, None, sym, ap, subst, ◌∙◌, append_assoc, eq-eqb, ◌⊎◌, inl, inr}
 use Rattle.std.proofs.lemmas.List.{append-nil}
-use Rattle.vt_value.specs.declared.refusal.Refusal.TheVariants.{OutOfMemory, PacketsOutOfOrder, UnknownCommand, UnknownKeyspace}
+use Rattle.std.specs.Prelude.{is_some}
+use Rattle.vt_value.specs.declared.refusal.Refusal.TheVariants.{OutOfMemory, PacketsOutOfOrder, UnknownCommand, UnknownKeyspace, NotSupported}
 use Rattle.mysql_packet.specs.declared.framer.Payload.{Payload}
 use Rattle.mysql_packet.specs.Frames.{frame}
-use Rattle.mysql_message.specs.Messages.{quit, init_db, query, ping, command_of, ok_payload, err_payload}
+use Rattle.mysql_message.specs.Messages.{quit, init_db, query, ping, statistics, multi_statements, reset, command_of, ok_payload, err_payload, statistics_payload}
 use Rattle.resultset.specs.declared.Outcome.{Outcome}
 use Rattle.resultset.specs.declared.Outcome.TheVariants.{Refused, Rows}
 use Rattle.resultset.specs.declared.ResultSet.{ResultSet}
 use Rattle.vt_value.specs.Values.{Row}
 use Rattle.shard_calls.specs.declared.reply.Reply.{Reply}
 use Rattle.session_replies.specs.Columns.{AreColumns}
-use Rattle.resultset.specs.Encoding.{encoded}
+use Rattle.resultset.specs.Encoding.{encoded, behind_rows}
 use Rattle.shard_run.specs.Runs.{Opening}
 use Rattle.shard_calls.specs.declared.reply.Selected.{Selected}
 use Rattle.shard_contents.specs.declared.limits.Limits.{Limits}
@@ -27,10 +28,11 @@ use Rattle.session_replies.specs.declared.end.End.{End}
 use Rattle.session_replies.specs.declared.end.End.TheVariants.{Quit, Broken}
 use Rattle.session_replies.specs.declared.standing.Phase.{Phase}
 use Rattle.session_replies.specs.declared.standing.Phase.TheVariants.{Commands}
+use Rattle.session_replies.specs.declared.standing.Settings.{Settings}
 use Rattle.session_replies.specs.declared.standing.Standing.{Standing}
 use Rattle.session_replies.specs.declared.standing.Standing.TheVariants.{New, At, Ended}
-use Rattle.session_replies.specs.Standings.{first_number}
-use Rattle.session_replies.specs.Outcomes.{PassAndTransaction, IsKept, Means, Shows, HasRows, status_with, terms_of}
+use Rattle.session_replies.specs.Standings.{first_number, settings_at_first}
+use Rattle.session_replies.specs.Outcomes.{PassAndTransaction, IsKept, Means, Shows, HasRows, none_open, terms_of}
 use Rattle.session_replies.specs.inner.Outcomes.{LeadsKept, IsRows}
 use Rattle.session_replies.specs.Outcomes as q
 use Rattle.session_replies.specs.Packets.{refusal_bytes, reply_number}
@@ -38,11 +40,11 @@ use Rattle.std.specs.Io.KnownBytes.{Appends}
 use Rattle.mysql_handshake.specs.Native.{is_right}
 use Rattle.vschema.specs.declared.schema.Keyspace.{Keyspace}
 use Rattle.session_replies.specs.declared.standing.Login.{Login}
-use Rattle.session_replies.specs.Logins.{Admits, LogsIn, has_keyspace, login_of}
+use Rattle.session_replies.specs.Logins.{Admits, LogsIn, keyspace_named, login_of}
 use Rattle.session_replies.specs.Logins as l
 use Rattle.session_replies.specs.declared.hello.Hello.{Hello}
 use Rattle.session_replies.proofs.LoginLemmas.{one_login}
-use Rattle.session_replies.specs.Talk.{Terms, AnswersPayload, Replies, Conversation, set_end_of}
+use Rattle.session_replies.specs.Talk.{Terms, AnswersPayload, Replies, Conversation, set_end_of, status_flags, status_in}
 use Rattle.session_replies.specs.Talk as t
 
 admits_goes : (status number : ℕ) (login : Login) (right : Bool) (out : List ℕ) (b : Standing) → Admits status number login right out b → b ≡ New → ⊥
@@ -60,34 +62,68 @@ logs_in_goes hello keyspaces status _ p _ _ (l.answers {out} {standing} {login} 
     admits_goes status (reply_number p) login (is_right hello.access.stage2 hello.salt p.bytes) out standing a is
 
 module _ {S : Type 0} (terms : Terms S) (May : S → List ℕ → Outcome → S → Type 0) where
-  module _ (bits : ℕ) where
+  module _ (set : Settings) where
+    -- a payload whose reply is these bytes, after which the session stands so
+    abbrev Goes : S → Payload → List ℕ → Standing → S → Type 0
+    Goes s p out standing now = AnswersPayload terms May (Commands set) s p out standing now
+
+    as_bytes : (s now : S) (p : Payload) (out bytes : List ℕ) (standing : Standing) → out ≡ bytes → Goes s p bytes standing now → Goes s p out standing now
+    as_bytes s now p out bytes standing e a = subst (λ (bs : List ℕ). Goes s p bs standing now) (sym e) a
+
     pub one_ping : (s : S) (p : Payload) (out : List ℕ) → p.first ≡ 0 → command_of p.bytes ≡ Some ping
-        → out ≡ frame (reply_number p) (ok_payload 0 (terms.status s)) → AnswersPayload terms May (Commands bits) s p out (At (Commands bits)) s
-    one_ping s p out first is e = subst (λ (bs : List ℕ). AnswersPayload terms May (Commands bits) s p bs (At (Commands bits)) s) (sym e) (t.pinged (eq-eqb p.first 0 first) is)
+        → out ≡ frame (reply_number p) (ok_payload 0 (status_in terms set s)) → Goes s p out (At (Commands set)) s
+    one_ping s p out first is e = as_bytes s s p out _ _ e (t.pinged (eq-eqb p.first 0 first) is)
 
     pub one_unknown : (s : S) (p : Payload) (out : List ℕ) → p.first ≡ 0 → command_of p.bytes ≡ None
-        → out ≡ frame (reply_number p) (err_payload UnknownCommand) → AnswersPayload terms May (Commands bits) s p out (At (Commands bits)) s
-    one_unknown s p out first is e = subst (λ (bs : List ℕ). AnswersPayload terms May (Commands bits) s p bs (At (Commands bits)) s) (sym e) (t.unknown (eq-eqb p.first 0 first) is)
+        → out ≡ frame (reply_number p) (err_payload UnknownCommand) → Goes s p out (At (Commands set)) s
+    one_unknown s p out first is e = as_bytes s s p out _ _ e (t.unknown (eq-eqb p.first 0 first) is)
 
-    pub one_selected : (s : S) (p : Payload) (out name : List ℕ) → p.first ≡ 0 → command_of p.bytes ≡ Some (init_db name)
-        → (has_keyspace terms.keyspaces name ≡ true → out ≡ frame (reply_number p) (ok_payload 0 (terms.status s)))
-        → (has_keyspace terms.keyspaces name ≡ false → out ≡ frame (reply_number p) (err_payload UnknownKeyspace))
-        → AnswersPayload terms May (Commands bits) s p out (At (Commands bits)) s
-    one_selected s p out name first is known unknown = by_name (has_keyspace terms.keyspaces name) refl
+    pub one_line : (s : S) (p : Payload) (out : List ℕ) → p.first ≡ 0 → command_of p.bytes ≡ Some statistics
+        → out ≡ frame (reply_number p) statistics_payload → Goes s p out (At (Commands set)) s
+    one_line s p out first is e = as_bytes s s p out _ _ e (t.told_statistics (eq-eqb p.first 0 first) is)
+
+    one_statement : (s : S) (p : Payload) (out : List ℕ) → p.first ≡ 0 → command_of p.bytes ≡ Some (multi_statements false)
+        → out ≡ frame (reply_number p) (behind_rows (set_end_of set.capabilities) (status_in terms set s)) → Goes s p out (At (Commands set)) s
+    one_statement s p out first is e = as_bytes s s p out _ _ e (t.takes_one_statement (eq-eqb p.first 0 first) is)
+
+    no_more_statements : (s : S) (p : Payload) (out : List ℕ) → p.first ≡ 0 → command_of p.bytes ≡ Some (multi_statements true)
+        → out ≡ frame (reply_number p) (err_payload NotSupported) → Goes s p out (At (Commands set)) s
+    no_more_statements s p out first is e = as_bytes s s p out _ _ e (t.takes_no_more (eq-eqb p.first 0 first) is)
+
+    pub one_option : (s : S) (p : Payload) (out : List ℕ) (several : Bool) → p.first ≡ 0 → command_of p.bytes ≡ Some (multi_statements several)
+        → (several ≡ true → out ≡ frame (reply_number p) (err_payload NotSupported))
+        → (several ≡ false → out ≡ frame (reply_number p) (behind_rows (set_end_of set.capabilities) (status_in terms set s)))
+        → Goes s p out (At (Commands set)) s
+    one_option s p out true first is on off = no_more_statements s p out first is (on refl)
+    one_option s p out false first is on off = one_statement s p out first is (off refl)
+
+    pub one_reset : (s : S) (p : Payload) (out : List ℕ) → p.first ≡ 0 → command_of p.bytes ≡ Some reset
+        → out ≡ frame (reply_number p) (ok_payload 0 (status_flags true false))
+        → Goes s p out (At (Commands (settings_at_first set.capabilities set.keyspace))) (terms.dropped s)
+    one_reset s p out first is e = as_bytes s (terms.dropped s) p out _ _ e (t.reset_all (eq-eqb p.first 0 first) is)
+
+    pub one_selected : (s : S) (p : Payload) (out name : List ℕ) (standing : Standing) → p.first ≡ 0 → command_of p.bytes ≡ Some (init_db name)
+        → ((place : ℕ) → keyspace_named terms.keyspaces name ≡ Some place → (out ≡ frame (reply_number p) (ok_payload 0 (status_in terms set s)))
+        × (standing ≡ At (Commands (record set { keyspace = Some place }))))
+        → (keyspace_named terms.keyspaces name ≡ None → (out ≡ frame (reply_number p) (err_payload UnknownKeyspace)) × (standing ≡ At (Commands set)))
+        → Goes s p out standing s
+    one_selected s p out name standing first is known unknown = by_name (keyspace_named terms.keyspaces name) refl
       where
-        by_name : (b : Bool) → has_keyspace terms.keyspaces name ≡ b → AnswersPayload terms May (Commands bits) s p out (At (Commands bits)) s
-        by_name true e = subst (λ (bs : List ℕ). AnswersPayload terms May (Commands bits) s p bs (At (Commands bits)) s) (sym (known e)) (t.selected name (eq-eqb p.first 0 first) is e)
-        by_name false e =
-            subst (λ (bs : List ℕ). AnswersPayload terms May (Commands bits) s p bs (At (Commands bits)) s) (sym (unknown e)) (t.unknown_keyspace name (eq-eqb p.first 0 first) is e)
+        by_name : (found : Option ℕ) → keyspace_named terms.keyspaces name ≡ found → Goes s p out standing s
+        by_name (Some place) e =
+            let said = known place e in
+            subst (λ (b : Standing). Goes s p out b s) (sym said.1) (as_bytes s s p out _ _ said.0 (t.selected name place (eq-eqb p.first 0 first) is e))
+        by_name None e =
+            let said = unknown e in
+            subst (λ (b : Standing). Goes s p out b s) (sym said.1) (as_bytes s s p out _ _ said.0 (t.unknown_keyspace name (eq-eqb p.first 0 first) is e))
 
     pub one_query : (s now : S) (p : Payload) (out text : List ℕ) (outcome : Outcome) → p.first ≡ 0 → command_of p.bytes ≡ Some (query text)
-        → May s text outcome now → out ≡ encoded (set_end_of bits) outcome (reply_number p) (terms.status now) → AnswersPayload terms May (Commands bits) s p out (At (Commands bits)) now
-    one_query s now p out text outcome first is may e =
-        subst (λ (bs : List ℕ). AnswersPayload terms May (Commands bits) s p bs (At (Commands bits)) now) (sym e) (t.queried text outcome (eq-eqb p.first 0 first) is may)
+        → May s text outcome now → out ≡ encoded (set_end_of set.capabilities) outcome (reply_number p) (status_in terms set now) → Goes s p out (At (Commands set)) now
+    one_query s now p out text outcome first is may e = as_bytes s now p out _ _ e (t.queried text outcome (eq-eqb p.first 0 first) is may)
 
     pub one_quit : (s : S) (p : Payload) (out : List ℕ) → p.first ≡ 0 → command_of p.bytes ≡ Some quit → out ≡ []
-        → AnswersPayload terms May (Commands bits) s p out (Ended Quit) s
-    one_quit s p out first is e = subst (λ (bs : List ℕ). AnswersPayload terms May (Commands bits) s p bs (Ended Quit) s) (sym e) (t.quits (eq-eqb p.first 0 first) is)
+        → Goes s p out (Ended Quit) s
+    one_quit s p out first is e = as_bytes s s p out _ _ e (t.quits (eq-eqb p.first 0 first) is)
 
   pub one_out_of_order : (at : Phase) (s : S) (p : Payload) (out : List ℕ) → p.first == first_number at ≡ false → out ≡ refusal_bytes p.first PacketsOutOfOrder
       → AnswersPayload terms May at s p out (Ended Broken) s
@@ -96,13 +132,17 @@ module _ {S : Type 0} (terms : Terms S) (May : S → List ℕ → Outcome → S 
   -- what is written leads to no new session
   answers_go : (at : Phase) (s now : S) (p : Payload) (out : List ℕ) (b : Standing) → AnswersPayload terms May at s p out b now → b ≡ New → ⊥
   answers_go _ _ _ _ _ _ (t.out_of_order first) is = cc
-  answers_go at s _ p _ _ (t.logs_in {out} {standing} logs) is = logs_in_goes terms.hello terms.keyspaces (terms.status s) at p out standing logs is
+  answers_go at s _ p _ _ (t.logs_in {out} {standing} logs) is = logs_in_goes terms.hello terms.keyspaces (status_flags true (terms.is_open s)) at p out standing logs is
   answers_go _ _ _ _ _ _ (t.quits first command) is = cc
   answers_go _ _ _ _ _ _ (t.unknown first command) is = cc
   answers_go _ _ _ _ _ _ (t.pinged first command) is = cc
-  answers_go _ _ _ _ _ _ (t.selected name first command known) is = cc
+  answers_go _ _ _ _ _ _ (t.selected name place first command known) is = cc
   answers_go _ _ _ _ _ _ (t.unknown_keyspace name first command known) is = cc
   answers_go _ _ _ _ _ _ (t.queried text outcome first command may) is = cc
+  answers_go _ _ _ _ _ _ (t.told_statistics first command) is = cc
+  answers_go _ _ _ _ _ _ (t.takes_one_statement first command) is = cc
+  answers_go _ _ _ _ _ _ (t.takes_no_more first command) is = cc
+  answers_go _ _ _ _ _ _ (t.reset_all first command) is = cc
 
   pub never_new : (at : Phase) (s now : S) (p : Payload) (b : Standing) (a c : Option (List ℕ)) → b ≡ New
       → (out : List ℕ) × Appends a c out × AnswersPayload terms May at s p out b now → ⊥
@@ -167,13 +207,13 @@ unshown o l s text _ now (q.refused why) rows = absurd rows
 
 -- ---- what is kept
 
--- the status tells whether a transaction is open
-status_is : (o : Opening) (p : PassView Entry) (kept : Option OpenView) (t : Option Transaction) → Stands o p kept t → status_with kept ≡ status_with t
+-- what is kept tells whether a transaction is open
+status_is : (o : Opening) (p : PassView Entry) (kept : Option OpenView) (t : Option Transaction) → Stands o p kept t → is_some kept ≡ is_some t
 status_is o p _ _ stands.closed = refl
 status_is o p _ _ (stands.unbound legal all none) = refl
 status_is o p _ _ (stands.bound is) = refl
 
-pub kept_status : (o : Opening) (p : PassView Entry) (kept : Option OpenView) (s : PassAndTransaction) → IsKept o p kept s → status_with kept ≡ status_with s.tx
+pub kept_status : (o : Opening) (p : PassView Entry) (kept : Option OpenView) (s : PassAndTransaction) → IsKept o p kept s → is_some kept ≡ is_some s.tx
 kept_status o p kept s is = status_is o p kept s.tx is.1
 
 -- what a statement gives, from whatever was kept
@@ -189,29 +229,48 @@ gives o p q kept then R said = λ s is.
       subst (λ (x : PassAndTransaction). R x (record { pass = q; tx = next.0 })) whole next.1,
     )
 
+-- without a transaction
+pub none_stands : (o : Opening) (p : PassView Entry) (then : Option OpenView) → then ≡ None → (t : Option Transaction) × Stands o p then t
+none_stands o p then none = (None, subst (λ (x : Option OpenView). Stands o p x None) (sym none) stands.closed)
+
+-- COM_RESET_CONNECTION, whatever was kept
+pub reset_kept : (o : Opening) (l : Limits) (hello : Hello) (set anew : Settings) (p : PassView Entry) (kept then : Option OpenView) (payload : Payload) (out : List ℕ)
+    (status : ℕ) → payload.first ≡ 0 → command_of payload.bytes ≡ Some reset → then ≡ None → status ≡ status_flags true false
+    → anew ≡ settings_at_first set.capabilities set.keyspace → out ≡ frame (reply_number payload) (ok_payload 0 status)
+    → LeadsKept o p kept p then (λ s now. AnswersPayload (terms_of o hello) (Means o l) (Commands set) s payload out (At (Commands anew)) now)
+reset_kept o l hello set anew p kept then payload out status first is none flags begins written = λ s held.
+    let e : out ≡ frame (reply_number payload) (ok_payload 0 (status_flags true false)) =
+    written ∙ ap (λ (n : ℕ). frame (reply_number payload) (ok_payload 0 n)) flags in (
+      none_open s.pass,
+      (held.0, subst (λ (x : Option OpenView). Stands o p x None) (sym none) stands.closed),
+      subst (λ (x : Settings). AnswersPayload (terms_of o hello) (Means o l) (Commands set) s payload out (At (Commands x)) (none_open s.pass)) (sym begins)
+          (one_reset (terms_of o hello) (Means o l) set s payload out first is e),
+    )
+
 -- a query's outcome, told under the status that is kept then
-pub one_query_or_refusal : (o : Opening) (l : Limits) (hello : Hello) (bits : ℕ) (p q : PassView Entry) (kept then : Option OpenView) (payload : Payload)
+pub one_query_or_refusal : (o : Opening) (l : Limits) (hello : Hello) (set : Settings) (p q : PassView Entry) (kept then : Option OpenView) (payload : Payload)
     (out text : List ℕ) (outcome : Outcome) → payload.first ≡ 0 → command_of payload.bytes ≡ Some (query text)
     → LeadsKept o p kept q then (λ s now. Means o l s text outcome now)
-    → (out ≡ encoded (set_end_of bits) outcome (reply_number payload) (status_with then))
-    ⊎ (IsRows outcome × (out ≡ encoded (set_end_of bits) (Refused OutOfMemory) (reply_number payload) (status_with then)))
-    → LeadsKept o p kept q then (λ s now. AnswersPayload (terms_of o hello) (Means o l) (Commands bits) s payload out (At (Commands bits)) now)
-one_query_or_refusal o l hello bits p q kept then payload out text outcome first is may told = λ s held.
+    → (out ≡ encoded (set_end_of set.capabilities) outcome (reply_number payload) (status_flags set.autocommit (is_some then)))
+    ⊎ (IsRows outcome × (out ≡ encoded (set_end_of set.capabilities) (Refused OutOfMemory) (reply_number payload) (status_flags set.autocommit (is_some then))))
+    → LeadsKept o p kept q then (λ s now. AnswersPayload (terms_of o hello) (Means o l) (Commands set) s payload out (At (Commands set)) now)
+one_query_or_refusal o l hello set p q kept then payload out text outcome first is may told = λ s held.
     let next = may s held in
     let now = next.0 in
-    let same : status_with then ≡ status_with now.tx = kept_status o q then now next.1 in
+    let same : is_some then ≡ is_some now.tx = kept_status o q then now next.1 in
     (now, next.1, by s now same next.2 told)
   where
-    by : (s now : PassAndTransaction) → status_with then ≡ status_with now.tx → Means o l s text outcome now
-        → (out ≡ encoded (set_end_of bits) outcome (reply_number payload) (status_with then))
-        ⊎ (IsRows outcome × (out ≡ encoded (set_end_of bits) (Refused OutOfMemory) (reply_number payload) (status_with then)))
-        → AnswersPayload (terms_of o hello) (Means o l) (Commands bits) s payload out (At (Commands bits)) now
+    Encoded : Outcome → Bool → List ℕ
+    Encoded x is_open = encoded (set_end_of set.capabilities) x (reply_number payload) (status_flags set.autocommit is_open)
+
+    by : (s now : PassAndTransaction) → is_some then ≡ is_some now.tx → Means o l s text outcome now
+        → (out ≡ Encoded outcome (is_some then)) ⊎ (IsRows outcome × (out ≡ Encoded (Refused OutOfMemory) (is_some then)))
+        → AnswersPayload (terms_of o hello) (Means o l) (Commands set) s payload out (At (Commands set)) now
     by s now same means (inl e) =
-        one_query (terms_of o hello) (Means o l) bits s now payload out text outcome first is means
-        (e ∙ ap (λ (n : ℕ). encoded (set_end_of bits) outcome (reply_number payload) n) same)
+        one_query (terms_of o hello) (Means o l) set s now payload out text outcome first is means (e ∙ ap (λ (b : Bool). Encoded outcome b) same)
     by s now same means (inr (rows, e)) =
-        one_query (terms_of o hello) (Means o l) bits s now payload out text (Refused OutOfMemory) first is (unshown o l s text outcome now means rows)
-        (e ∙ ap (λ (n : ℕ). encoded (set_end_of bits) (Refused OutOfMemory) (reply_number payload) n) same)
+        one_query (terms_of o hello) (Means o l) set s now payload out text (Refused OutOfMemory) first is (unshown o l s text outcome now means rows)
+        (e ∙ ap (λ (b : Bool). Encoded (Refused OutOfMemory) b) same)
 
 -- a result set with the columns and rows of an answer
 pub shows : (schema : VSchema) (selected : Selected) (set : ResultSet) → AreColumns schema selected.table selected.join selected.items selected.qualified set.columns
@@ -230,11 +289,11 @@ replied o l s now text reply outcome schema served (inr (rows, full)) is =
 
 -- a payload of the connection phase
 pub login_kept : (o : Opening) (l : Limits) (hello : Hello) (keyspaces : List Keyspace) (p : PassView Entry) (kept : Option OpenView) (at then : Phase) (payload : Payload)
-    (status : ℕ) (out : List ℕ) (standing : Standing) → at ≡ then → keyspaces ≡ o.schema.keyspaces → status ≡ status_with kept
+    (status : ℕ) (out : List ℕ) (standing : Standing) → at ≡ then → keyspaces ≡ o.schema.keyspaces → status ≡ status_flags true (is_some kept)
     → LogsIn hello keyspaces status then payload out standing
     → LeadsKept o p kept p kept (λ s now. AnswersPayload (terms_of o hello) (Means o l) at s payload out standing now)
 login_kept o l hello keyspaces p kept at then payload status out standing is known told logs = λ s held.
-    let status_now : status ≡ status_with s.tx = told ∙ kept_status o p kept s held in (
+    let status_now : status ≡ status_flags true (is_some s.tx) = told ∙ ap (λ (b : Bool). status_flags true b) (kept_status o p kept s held) in (
       s,
       held,
       one_login (terms_of o hello) (Means o l) at then keyspaces s payload out standing is known

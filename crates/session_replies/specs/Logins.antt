@@ -1,6 +1,5 @@
 -- The connection phase: whom a server lets in, and what it writes for what the client tells of itself.
-use Rattle.std.specs.Prelude.{◌≡◌, ◌==◌, ◌&&◌, not, ℕ, Bool, true, false, List, [], ◌∷◌, Option, Some, None, bytes_eq, bit_and}
-use Rattle.std.specs.List.{list_any}
+use Rattle.std.specs.Prelude.{◌≡◌, ◌==◌, ◌&&◌, not, ℕ, Bool, true, false, List, [], ◌∷◌, Option, Some, None, bytes_eq, bit_and, is_some, position}
 use Rattle.vt_value.specs.declared.refusal.Refusal.TheVariants.{AccessDenied, UnknownKeyspace, BadHandshake}
 use Rattle.vschema.specs.declared.schema.Keyspace.{Keyspace}
 use Rattle.mysql_packet.specs.declared.framer.Payload.{Payload}
@@ -16,27 +15,36 @@ use Rattle.session_replies.specs.declared.standing.Phase.TheVariants.{Response, 
 use Rattle.session_replies.specs.declared.standing.Standing.{Standing}
 use Rattle.session_replies.specs.declared.standing.Standing.TheVariants.{At, Ended}
 use Rattle.session_replies.specs.Packets.{reply_number}
+use Rattle.session_replies.specs.Standings.{settings_at_first}
 
-abbrev pub has_keyspace : List Keyspace → List ℕ → Bool
-has_keyspace keyspaces name = list_any (λ k. bytes_eq k.name name) keyspaces
+-- the place of the keyspace of this name
+abbrev pub keyspace_named : List Keyspace → List ℕ → Option ℕ
+keyspace_named keyspaces name = position (λ k. bytes_eq k.name name) keyspaces
 
--- whether the database that a client names is a keyspace; none and an empty name ask for none
+-- the keyspace that is the database which a client names; none and an empty name ask for none
+abbrev pub keyspace_asked : List Keyspace → Option (List ℕ) → Option ℕ
+keyspace_asked keyspaces None = None
+keyspace_asked keyspaces (Some []) = None
+keyspace_asked keyspaces (Some (b ∷ name)) = keyspace_named keyspaces (b ∷ name)
+
+-- whether the database that a client names is a keyspace, if it asks for one
 abbrev pub is_known : List Keyspace → Option (List ℕ) → Bool
 is_known keyspaces None = true
 is_known keyspaces (Some []) = true
-is_known keyspaces (Some (b ∷ name)) = has_keyspace keyspaces (b ∷ name)
+is_known keyspaces (Some (b ∷ name)) = is_some (keyspace_named keyspaces (b ∷ name))
 
 -- whether a client answered by another plugin than `mysql_native_password`
 abbrev pub is_other_plugin : Option (List ℕ) → Bool
 is_other_plugin None = false
 is_other_plugin (Some name) = not (bytes_eq name plugin_name)
 
--- what is kept of a client's response: the capabilities that both sides set, and whether its user and its database are right
+-- what is kept of a client's response: the capabilities that both sides set, whether its user and its database are right, and which keyspace that is
 abbrev pub login_of : Hello → List Keyspace → Answered → Login
 login_of hello keyspaces r = record {
   capabilities = bit_and r.capabilities announced;
   is_user = bytes_eq r.user hello.access.user;
   is_database = is_known keyspaces r.database;
+  keyspace = keyspace_asked keyspaces r.database;
 }
 
 -- What is written for a client whose answer to the salt is right or not. User and answer are looked at before the database.
@@ -45,7 +53,7 @@ pub data Admits (status number : ℕ) (login : Login) (right : Bool) : List ℕ 
   unknown : (login.is_user && right) ≡ true → login.is_database ≡ false
       → Admits status number login right (frame number (err_payload UnknownKeyspace)) (Ended Denied)
   admitted : (login.is_user && right) ≡ true → login.is_database ≡ true
-      → Admits status number login right (frame number (ok_payload 0 status)) (At (Commands login.capabilities))
+      → Admits status number login right (frame number (ok_payload 0 status)) (At (Commands (settings_at_first login.capabilities login.keyspace)))
 
 -- What is written for a payload of the connection phase: the client's response to the greeting, which is numbered 1, and, where that came
 -- by another plugin, its answer to the request to switch, numbered 3.

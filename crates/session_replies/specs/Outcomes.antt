@@ -1,5 +1,5 @@
 -- What the text of a statement may give its client.
-use Rattle.std.specs.Prelude.{◌≡◌, ℕ, ◌+◌, List, Option, Some, None}
+use Rattle.std.specs.Prelude.{◌≡◌, ℕ, List, Option, Some, None, is_some}
 use Rattle.vt_value.specs.declared.refusal.Refusal.{Refusal}
 use Rattle.vt_value.specs.declared.refusal.Refusal.TheVariants.{OutOfMemory}
 use Rattle.resultset.specs.declared.Column.{Column}
@@ -17,7 +17,6 @@ use Rattle.shard_calls.specs.Transactions as transactions
 use Rattle.shard_calls.specs.Transactions.{IsReplyTo, IsRefusedAt}
 use Rattle.shard_calls.specs.Pendings.{OpenView, Stands}
 use Rattle.shard_contents.specs.declared.limits.Limits.{Limits}
-use Rattle.mysql_message.specs.Messages.{autocommit}
 use Rattle.session_replies.specs.Columns.{AreColumns}
 use Rattle.session_replies.specs.declared.hello.Hello.{Hello}
 use Rattle.session_replies.specs.Talk.{Terms}
@@ -53,15 +52,6 @@ pub data Means (o : Opening) (limits : Limits) (s : PassAndTransaction) (text : 
       → Means o limits s text (Refused OutOfMemory) now
   refused : {r : Refusal} {now : PassAndTransaction} → IsRefusedAt o limits s text r now → Means o limits s text (Refused r) now
 
--- SERVER_STATUS_IN_TRANS
-abbrev pub in_transaction : ℕ
-in_transaction = 1
-
--- the status flags of a reply, where no transaction is open then, and where one is
-abbrev pub status_with : {X : Type 0} → Option X → ℕ
-status_with None = autocommit
-status_with (Some x) = autocommit + in_transaction
-
 -- The terms of the router's conversations.
 abbrev pub terms_of : Opening → Hello → Terms PassAndTransaction
-terms_of o hello = record { hello = hello; keyspaces = o.schema.keyspaces; status = λ s. status_with s.tx }
+terms_of o hello = record { hello = hello; keyspaces = o.schema.keyspaces; is_open = λ s. is_some s.tx; dropped = λ s. none_open s.pass }

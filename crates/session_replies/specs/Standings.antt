@@ -3,20 +3,25 @@ use Rattle.std.specs.Prelude.{ℕ, Bool, true, false, Option, Some, None}
 use Rattle.session_replies.specs.declared.end.End.{End}
 use Rattle.session_replies.specs.declared.standing.Phase.{Phase}
 use Rattle.session_replies.specs.declared.standing.Phase.TheVariants.{Response, Switch, Commands}
+use Rattle.session_replies.specs.declared.standing.Settings.{Settings}
 use Rattle.session_replies.specs.declared.standing.Standing.{Standing}
 use Rattle.session_replies.specs.declared.standing.Standing.TheVariants.{New, At, Ended}
+
+-- what holds for the commands of a client that was just let in, or begins anew
+abbrev pub settings_at_first : ℕ → Option ℕ → Settings
+settings_at_first capabilities keyspace = record { capabilities = capabilities; autocommit = true; keyspace = keyspace }
 
 -- the sequence number with which the next payload begins
 abbrev pub first_number : Phase → ℕ
 first_number Response = 1
 first_number (Switch login) = 3
-first_number (Commands capabilities) = 0
+first_number (Commands settings) = 0
 
 -- the client was let in, and sends commands
 abbrev pub takes_commands : Phase → Bool
 takes_commands Response = false
 takes_commands (Switch login) = false
-takes_commands (Commands capabilities) = true
+takes_commands (Commands settings) = true
 
 -- and how the session stands so
 abbrev pub is_in_commands : Standing → Bool

@@ -16,6 +16,8 @@ pub use columns::columns_of;
 pub use devices::{DeviceFailed, Reader, Sink, Source, Writer};
 pub use end::{End, SessionFault};
 pub use hello::{Access, Hello};
-pub use login::{has_keyspace, put_answer, put_response};
+pub use login::{keyspace_named, put_answer, put_response};
 pub use reply::{REPLY_ROOM, put_pong, put_refusal, put_reply};
-pub use standing::{Login, Phase, Standing, end_of, first_number, is_in_commands, is_new};
+pub use standing::{
+    Login, Phase, Settings, Standing, end_of, first_number, is_in_commands, is_new,
+};

@@ -3,12 +3,12 @@ ghost use Rattle.std.specs.Prelude.{◌≡◌, ◌+◌, ◌≤◌, List, [], len
 ghost use Rattle.mysql_packet.specs.Frames.{frame};
 ghost use Rattle.mysql_handshake.specs.Handshakes.{answered_of, auth_switch_payload};
 ghost use Rattle.vschema.specs.declared.schema.Keyspace.{Keyspace};
-ghost use Rattle.session_replies.specs.Logins.{Admits, LogsIn, has_keyspace, is_known, is_other_plugin, login_of};
+ghost use Rattle.session_replies.specs.Logins.{Admits, LogsIn, is_known, is_other_plugin, keyspace_asked, keyspace_named, login_of};
 
 use crate::end::End;
 use crate::hello::Hello;
 use crate::reply::{REPLY_ROOM, put_pong, put_refusal};
-use crate::standing::{Login, Phase, Standing};
+use crate::standing::{Login, Phase, Settings, Standing};
 use bytes::BytesMut;
 use mysql_handshake::{Response, put_auth_switch, read_response, verify_native};
 use mysql_packet::Payload;
@@ -26,15 +26,26 @@ fn is_named(keyspace: &Keyspace, name: &[u8]) -> bool
     keyspace.name.as_slice() == name
 }
 
-/// Whether a keyspace has the name.
-pub fn has_keyspace(schema: &VSchema, name: &[u8]) -> bool
-    ensures { result ≡ has_keyspace schema.now.keyspaces name.now }
+/// The place of the keyspace of this name.
+pub fn keyspace_named(schema: &VSchema, name: &[u8]) -> Option<usize>
+    ensures { result ≡ keyspace_named schema.now.keyspaces name.now }
 {
     schema
         .keyspaces
         .as_slice()
         .iter()
-        .any(|keyspace| is_named(keyspace, name))
+        .position(|keyspace| is_named(keyspace, name))
+}
+
+#[tactic(auto, using(crate::proofs::LoginLemmas::asked_empty, crate::proofs::LoginLemmas::asked_named))]
+fn keyspace_asked(schema: &VSchema, database: Option<&[u8]>) -> Option<usize>
+    ensures { result ≡ keyspace_asked schema.now.keyspaces (option_map (λ t. t.now) database.entry) }
+{
+    let name = database?;
+    if name.is_empty() {
+        return None;
+    }
+    keyspace_named(schema, name)
 }
 
 #[tactic(auto, using(crate::proofs::LoginLemmas::known_empty, crate::proofs::LoginLemmas::known_named))]
@@ -47,7 +58,7 @@ fn is_known(schema: &VSchema, database: Option<&[u8]>) -> bool
     if name.is_empty() {
         return true;
     }
-    has_keyspace(schema, name)
+    keyspace_named(schema, name).is_some()
 }
 
 fn is_other_plugin(plugin: Option<&[u8]>) -> bool
@@ -66,6 +77,7 @@ fn login_of(hello: &Hello, schema: &VSchema, response: &Response) -> Login
         capabilities: response.capabilities & ANNOUNCED,
         is_user: response.user == hello.access.user.as_slice(),
         is_database: is_known(schema, response.database),
+        keyspace: keyspace_asked(schema, response.database),
     }
 }
 
@@ -87,7 +99,7 @@ fn admit(login: Login, is_right: bool, number: u8, status: u16, reply: &mut Byte
         return Standing::Ended(End::Denied);
     }
     put_pong(number, status, reply);
-    Standing::At(Phase::Commands(login.capabilities))
+    Standing::At(Phase::Commands(Settings::at_first(login.capabilities, login.keyspace)))
 }
 
 /// Asks the client to answer the salt by `mysql_native_password`.

@@ -1,28 +1,28 @@
-ghost use Rattle.std.specs.Prelude.{◌≡◌, ◌+◌, ◌≤◌, ◌⊎◌, true, false, [], length, IsSome, IfOk, IfErr, Option};
+ghost use Rattle.std.specs.Prelude.{◌≡◌, ℕ, ◌+◌, ◌≤◌, ◌⊎◌, true, false, [], length, Some, None, is_some, IsSome, IfOk, IfErr, Option};
 ghost use Rattle.std.specs.List.{concat};
 ghost use Rattle.shard_calls.specs.Pendings.{IsOf};
 ghost use Rattle.mysql_packet.specs.Frames.{frame};
-ghost use Rattle.mysql_message.specs.Messages.{ok_payload, err_payload};
+ghost use Rattle.mysql_message.specs.Messages.{ok_payload, err_payload, statistics_payload};
 ghost use Rattle.resultset.specs.declared.Outcome.{Outcome};
-ghost use Rattle.resultset.specs.Encoding.{encoded};
+ghost use Rattle.resultset.specs.Encoding.{encoded, behind_rows};
 ghost use Rattle.session_replies.specs.Columns.{AreColumns};
-ghost use Rattle.session_replies.specs.Outcomes.{Means, Shows, HasRows, status_with, terms_of};
+ghost use Rattle.session_replies.specs.Outcomes.{Means, Shows, HasRows, terms_of};
 ghost use Rattle.session_replies.specs.inner.Outcomes.{LeadsKept, IsRows};
 ghost use Rattle.session_replies.specs.declared.hello.Hello.{Hello};
-ghost use Rattle.session_replies.specs.Logins.{has_keyspace};
-ghost use Rattle.session_replies.specs.Talk.{AnswersPayload, set_end_of};
+ghost use Rattle.session_replies.specs.Logins.{keyspace_named};
+ghost use Rattle.session_replies.specs.Talk.{AnswersPayload, set_end_of, status_flags};
 ghost use Rattle.session_replies.specs.inner.Replies.{reply_bytes};
 
 use crate::columns::columns_of;
 use crate::end::End;
 use crate::hello::Hello;
-use crate::login::{has_keyspace, put_answer, put_response};
-use crate::standing::{Phase, Standing, first_number};
+use crate::login::{keyspace_named, put_answer, put_response};
+use crate::standing::{Phase, Settings, Standing, first_number};
 use crate::told::{ShownSet, Telling, Told};
 use bytes::BytesMut;
 use journal::{Naming, Pass};
 use mysql_handshake::{DEPRECATE_EOF, is_set};
-use mysql_message::{Command, put_err, put_ok, read_command};
+use mysql_message::{Command, put_eof, put_err, put_ok, put_set_end, put_statistics, read_command};
 use mysql_packet::Payload;
 use resultset::{Chunks, SetEnd, encode_rows};
 use route_engine::{Answer, Engine, Gate, Selected, Tx};
@@ -51,15 +51,19 @@ pub fn put_refusal(number: u8, refusal: Refusal, reply: &mut BytesMut)
     let _ = put_err(number, refusal, reply).unwrap();
 }
 
-/// The status flags of a reply: whether a transaction is open then.
-fn status_of<W: World, J: Naming>(tx: &Tx<W, J>) -> u16
-    ensures { result ≡ status_with tx.now }
+/// The status flags of a reply: whether a statement outside a transaction commits by itself, and whether a transaction is open.
+fn status_flags(commits: bool, is_open: bool) -> u16
+    ensures { result ≡ status_flags commits is_open }
 {
-    if tx.is_open() {
-        AUTOCOMMIT | IN_TRANSACTION
-    } else {
-        AUTOCOMMIT
-    }
+    let autocommit = if commits { AUTOCOMMIT } else { 0 };
+    let in_transaction = if is_open { IN_TRANSACTION } else { 0 };
+    autocommit + in_transaction
+}
+
+fn status_of<W: World, J: Naming>(commits: bool, tx: &Tx<W, J>) -> u16
+    ensures { result ≡ status_flags commits (is_some tx.now) }
+{
+    status_flags(commits, tx.is_open())
 }
 
 /// An OK that counts no rows.
@@ -231,18 +235,78 @@ fn put_outcome(
     }
 }
 
-/// The reply to the name of a keyspace: an OK, or that there is none of that name.
-fn put_selected(schema: &VSchema, name: &[u8], number: u8, status: u16, reply: &mut BytesMut)
+/// The reply to the name of a keyspace, and how the session then stands: an OK, and it is in use; or that there is none of that name.
+fn put_selected(
+    schema: &VSchema,
+    settings: Settings,
+    name: &[u8],
+    number: u8,
+    status: u16,
+    reply: &mut BytesMut,
+) -> Standing
     requires empty { reply.old.items ≡ [] }
     requires room { REPLY_ROOM ≤ reply.old.spare }
-    ensures known { has_keyspace schema.now.keyspaces name.now ≡ true → reply.new.items ≡ frame number (ok_payload 0 status) }
-    ensures unknown { has_keyspace schema.now.keyspaces name.now ≡ false → reply.new.items ≡ frame number (err_payload Refusal.UnknownKeyspace) }
+    ensures known { (place : ℕ) → keyspace_named schema.now.keyspaces name.now ≡ Some place → (reply.new.items ≡ frame number (ok_payload 0 status))
+        × (result ≡ Standing.At (Phase.Commands (record settings { keyspace = Some place }))) }
+    ensures unknown { keyspace_named schema.now.keyspaces name.now ≡ None → (reply.new.items ≡ frame number (err_payload Refusal.UnknownKeyspace))
+        × (result ≡ Standing.At (Phase.Commands settings)) }
     ensures room { REPLY_ROOM ≤ length reply.new.items + reply.new.spare }
 {
-    if has_keyspace(schema, name) {
-        put_pong(number, status, reply);
+    match keyspace_named(schema, name) {
+        Some(place) => {
+            put_pong(number, status, reply);
+            Standing::At(Phase::Commands(Settings {
+                capabilities: settings.capabilities,
+                autocommit: settings.autocommit,
+                keyspace: Some(place),
+            }))
+        }
+        None => {
+            put_refusal(number, Refusal::UnknownKeyspace, reply);
+            Standing::At(Phase::Commands(settings))
+        }
+    }
+}
+
+/// The line that answers COM_STATISTICS.
+fn put_line(number: u8, reply: &mut BytesMut)
+    requires empty { reply.old.items ≡ [] }
+    requires room { REPLY_ROOM ≤ reply.old.spare }
+    ensures bytes { reply.new.items ≡ frame number statistics_payload }
+    ensures room { REPLY_ROOM ≤ length reply.new.items + reply.new.spare }
+{
+    let _ = put_statistics(number, reply).unwrap();
+}
+
+/// The packet that ends a result set, alone.
+fn put_end(end: SetEnd, number: u8, status: u16, reply: &mut BytesMut)
+    requires empty { reply.old.items ≡ [] }
+    requires room { REPLY_ROOM ≤ reply.old.spare }
+    ensures bytes { reply.new.items ≡ frame number (behind_rows end status) }
+    ensures room { REPLY_ROOM ≤ length reply.new.items + reply.new.spare }
+{
+    match end {
+        SetEnd::EofPackets => {
+            let _ = put_eof(number, status, reply).unwrap();
+        }
+        SetEnd::OkPacket => {
+            let _ = put_set_end(number, status, reply).unwrap();
+        }
+    }
+}
+
+/// The reply to COM_SET_OPTION: texts of several statements are never taken.
+fn put_option(several: bool, end: SetEnd, number: u8, status: u16, reply: &mut BytesMut)
+    requires empty { reply.old.items ≡ [] }
+    requires room { REPLY_ROOM ≤ reply.old.spare }
+    ensures several { several ≡ true → reply.new.items ≡ frame number (err_payload Refusal.NotSupported) }
+    ensures one { several ≡ false → reply.new.items ≡ frame number (behind_rows end status) }
+    ensures room { REPLY_ROOM ≤ length reply.new.items + reply.new.spare }
+{
+    if several {
+        put_refusal(number, Refusal::NotSupported, reply);
     } else {
-        put_refusal(number, Refusal::UnknownKeyspace, reply);
+        put_end(end, number, status, reply);
     }
 }
 
@@ -253,7 +317,7 @@ fn put_command<W: World + Send + Sync, J: Naming + Send + Sync, G: Gate>(
     engine: &Engine<W, J, G>,
     pass: &mut Pass<ShardLaw<W>, J>,
     tx: &mut Tx<W, J>,
-    capabilities: u32,
+    settings: Settings,
     payload: &Payload,
     reply: &mut BytesMut,
 ) -> (Standing, Option<Chunks>)
@@ -263,13 +327,13 @@ fn put_command<W: World + Send + Sync, J: Naming + Send + Sync, G: Gate>(
     requires tx { IsOf W.opening tx.old pass.old }
     requires number { payload.now.first ≡ 0 }
     ensures answers { (hello : Hello) → LeadsKept W.opening pass.old tx.old pass.new tx.new
-        (λ s now. AnswersPayload (terms_of W.opening hello) (Means W.opening W.limits) (Phase.Commands capabilities) s payload.now (reply_bytes result.1 reply.new.items) result.0 now) }
+        (λ s now. AnswersPayload (terms_of W.opening hello) (Means W.opening W.limits) (Phase.Commands settings) s payload.now (reply_bytes result.1 reply.new.items) result.0 now) }
     ensures tx { IsOf W.opening tx.new pass.new }
     ensures room { REPLY_ROOM ≤ length reply.new.items + reply.new.spare }
     ensures session { pass.new.session ≡ pass.old.session }
 {
     let number = payload.last.wrapping_add(1);
-    let next = Standing::At(Phase::Commands(capabilities));
+    let next = Standing::At(Phase::Commands(settings));
     match read_command(payload.bytes.as_slice()) {
         Err(refusal) => {
             put_refusal(number, refusal, reply);
@@ -277,18 +341,36 @@ fn put_command<W: World + Send + Sync, J: Naming + Send + Sync, G: Gate>(
         }
         Ok(Command::Quit) => (Standing::Ended(End::Quit), None),
         Ok(Command::Ping) => {
-            put_pong(number, status_of(tx), reply);
+            put_pong(number, status_of(settings.autocommit, tx), reply);
             (next, None)
         }
         Ok(Command::InitDb(name)) => {
-            put_selected(engine.schema(), name, number, status_of(tx), reply);
-            (next, None)
+            let status = status_of(settings.autocommit, tx);
+            let chosen = put_selected(engine.schema(), settings, name, number, status, reply);
+            (chosen, None)
         }
         Ok(Command::Query(text)) => {
             let outcome = outcome_of(rt, alloc, engine, pass, tx, text);
-            let end = set_end_of(capabilities);
-            let rows = put_outcome(alloc, outcome, end, number, status_of(tx), reply);
+            let end = set_end_of(settings.capabilities);
+            let status = status_of(settings.autocommit, tx);
+            let rows = put_outcome(alloc, outcome, end, number, status, reply);
             (next, rows)
+        }
+        Ok(Command::Statistics) => {
+            put_line(number, reply);
+            (next, None)
+        }
+        Ok(Command::MultiStatements(several)) => {
+            let end = set_end_of(settings.capabilities);
+            let status = status_of(settings.autocommit, tx);
+            put_option(several, end, number, status, reply);
+            (next, None)
+        }
+        Ok(Command::Reset) => {
+            *tx = Tx::new();
+            put_pong(number, status_flags(true, false), reply);
+            let first = Settings::at_first(settings.capabilities, settings.keyspace);
+            (Standing::At(Phase::Commands(first)), None)
         }
     }
 }
@@ -325,15 +407,15 @@ pub fn put_reply<W: World + Send + Sync, J: Naming + Send + Sync, G: Gate>(
     }
     match phase {
         Phase::Response => (
-            put_response(hello, engine.schema(), payload, status_of(tx), reply),
+            put_response(hello, engine.schema(), payload, status_of(true, tx), reply),
             None,
         ),
         Phase::Switch(login) => (
-            put_answer(hello, login, payload, status_of(tx), reply),
+            put_answer(hello, login, payload, status_of(true, tx), reply),
             None,
         ),
-        Phase::Commands(capabilities) => {
-            put_command(rt, alloc, engine, pass, tx, capabilities, payload, reply)
+        Phase::Commands(settings) => {
+            put_command(rt, alloc, engine, pass, tx, settings, payload, reply)
         }
     }
 }

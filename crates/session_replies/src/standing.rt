@@ -1,16 +1,39 @@
 //! How a session stands.
 ghost use Rattle.std.specs.Prelude.{◌≡◌, ◌↔◌, false};
-ghost use Rattle.session_replies.specs.Standings.{first_number, is_in_commands, end_of, HasGreeted};
+ghost use Rattle.session_replies.specs.Standings.{first_number, is_in_commands, end_of, settings_at_first, HasGreeted};
 
 use crate::end::End;
 
-/// What is kept of a client's response to the greeting until its answer comes: the capabilities that both sides set, and
-/// whether its user and its database are right.
+/// What is kept of a client's response to the greeting until its answer comes: the capabilities that both sides set, whether its user and
+/// its database are right, and the keyspace that this is, by its place in the VSchema.
 #[derive(Clone, Copy, Debug, PartialEq, Eq)]
 pub struct Login {
     pub capabilities: u32,
     pub is_user: bool,
     pub is_database: bool,
+    pub keyspace: Option<usize>,
+}
+
+/// What holds for a client's commands: the capabilities that both sides set, whether a statement outside a transaction commits by itself, and
+/// the keyspace in use, by its place in the VSchema.
+#[derive(Clone, Copy, Debug, PartialEq, Eq)]
+pub struct Settings {
+    pub capabilities: u32,
+    pub autocommit: bool,
+    pub keyspace: Option<usize>,
+}
+
+impl Settings {
+    /// Those of a client that was just let in, or begins anew.
+    pub fn at_first(capabilities: u32, keyspace: Option<usize>) -> Settings
+        ensures { result ≡ settings_at_first capabilities keyspace }
+    {
+        Settings {
+            capabilities,
+            autocommit: true,
+            keyspace,
+        }
+    }
 }
 
 /// What a session awaits from its client.
@@ -20,8 +43,8 @@ pub enum Phase {
     Response,
     /// The answer to the request to switch to `mysql_native_password`.
     Switch(Login),
-    /// Commands, with the capabilities that both sides set.
-    Commands(u32),
+    /// Commands, with what holds for them.
+    Commands(Settings),
 }
 
 /// How a session stands: nothing is written yet, it goes on, or it has ended.

@@ -1,9 +1,11 @@
-use Rattle.std.proofs.Common.{ℕ, ap, sym, ◌∙◌}
+use Rattle.std.proofs.Common.{ℕ, Bool, ap, sym, ◌∙◌}
 use Rattle.vt_value.specs.declared.refusal.Refusal.{Refusal}
 use Rattle.mysql_packet.specs.Frames.{frame}
 use Rattle.mysql_message.specs.Messages.{command_of, ok_payload, err_payload}
+use Rattle.resultset.specs.Encoding.{behind_rows}
 use Rattle.session_replies.specs.Packets.{reply_number}
-use Rattle.session_replies.proofs.RepliesLemmas.{kept_status, one_quit, one_unknown, one_ping, one_selected, one_query_or_refusal}
+use Rattle.session_replies.specs.Talk.{set_end_of, status_flags}
+use Rattle.session_replies.proofs.RepliesLemmas.{kept_status, none_stands, one_quit, one_unknown, one_ping, one_line, one_option, one_selected, reset_kept, one_query_or_refusal}
 use Rattle.session_replies.proofs.reply.put_command.Goals as goal
 
 pub returns-in-Ok-Quit-clause-answers : goal.returns-in-Ok-Quit-clause-answers
@@ -26,25 +28,56 @@ returns-in-Ok-Ping-clause-answers g c =
       s,
       held,
       one_ping _ _ _ s c.args.payload.now _ c.requires.number (sym (e ∙ ap command_of c.as_slice.ensures))
-          (c.put_pong.ensures.bytes ∙ ap (λ (n : ℕ). frame (reply_number c.args.payload.now) (ok_payload 0 n)) (c.status_of.ensures ∙ kept_status _ _ _ s held)),
+          (c.put_pong.ensures.bytes ∙ ap (λ (n : ℕ). frame (reply_number c.args.payload.now) (ok_payload 0 n))
+          (c.status_of.ensures ∙ ap (λ (b : Bool). status_flags c.args.settings.autocommit b) (kept_status _ _ _ s held))),
     )
+
+pub returns-in-Ok-Statistics-clause-answers : goal.returns-in-Ok-Statistics-clause-answers
+returns-in-Ok-Statistics-clause-answers g c =
+    let e = rw c.in-Ok-Statistics.field-0-is at c.in-Ok-Statistics.ensures.command in
+    λ hello s held. (s, held, one_line _ _ _ s c.args.payload.now _ c.requires.number (sym (e ∙ ap command_of c.as_slice.ensures)) c.put_line.ensures.bytes)
 
 pub returns-in-Ok-Query-clause-answers : goal.returns-in-Ok-Query-clause-answers
 returns-in-Ok-Query-clause-answers g c =
     let e = rw c.in-Ok-Query.field-0-is at c.in-Ok-Query.ensures.command in
-    let bytes = rw (c.set_end_of-end.ensures, c.status_of-in-Ok-Query.ensures) at c.put_outcome-rows.ensures.bytes in
+    let bytes = rw (c.set_end_of-end.ensures, c.status_of-status-in-Ok-Query.ensures) at c.put_outcome-rows.ensures.bytes in
     λ hello. one_query_or_refusal _ _ hello _ _ _ _ _ c.args.payload.now _ _ _ c.requires.number (sym (e ∙ ap command_of c.as_slice.ensures))
     c.outcome_of-outcome.ensures.means bytes
 
 pub returns-in-Ok-InitDb-clause-answers : goal.returns-in-Ok-InitDb-clause-answers
 returns-in-Ok-InitDb-clause-answers g c =
     let e = rw c.in-Ok-InitDb.field-0-is at c.in-Ok-InitDb.ensures.command in
-    let known = rw (c.schema.ensures.schema, c.schema.ensures.opening) at c.put_selected.ensures.known in
-    let unknown = rw (c.schema.ensures.schema, c.schema.ensures.opening) at c.put_selected.ensures.unknown in
+    let known = rw (c.schema.ensures.schema, c.schema.ensures.opening) at c.put_selected-chosen.ensures.known in
+    let unknown = rw (c.schema.ensures.schema, c.schema.ensures.opening) at c.put_selected-chosen.ensures.unknown in
     λ hello s held. (
       s,
       held,
-      one_selected _ _ _ s c.args.payload.now _ _ c.requires.number (sym (e ∙ ap command_of c.as_slice.ensures))
-          (λ is. known is ∙ ap (λ (n : ℕ). frame (reply_number c.args.payload.now) (ok_payload 0 n)) (c.status_of-in-Ok-InitDb.ensures ∙ kept_status _ _ _ s held))
+      one_selected _ _ _ s c.args.payload.now _ _ _ c.requires.number (sym (e ∙ ap command_of c.as_slice.ensures))
+          (λ place is. let said = known place is in (
+            said.0 ∙ ap (λ (n : ℕ). frame (reply_number c.args.payload.now) (ok_payload 0 n))
+                (c.status_of-status.ensures ∙ ap (λ (b : Bool). status_flags c.args.settings.autocommit b) (kept_status _ _ _ s held)),
+            said.1,
+          ))
           unknown,
     )
+
+pub returns-in-Ok-MultiStatements-clause-answers : goal.returns-in-Ok-MultiStatements-clause-answers
+returns-in-Ok-MultiStatements-clause-answers g c =
+    let e = rw c.in-Ok-MultiStatements.field-0-is at c.in-Ok-MultiStatements.ensures.command in
+    let one = rw c.set_end_of-end-in-Ok-MultiStatements.ensures at c.put_option.ensures.one in
+    λ hello s held. (
+      s,
+      held,
+      one_option _ _ _ s c.args.payload.now _ _ c.requires.number (sym (e ∙ ap command_of c.as_slice.ensures)) c.put_option.ensures.several
+          (λ is. one is ∙ ap (λ (n : ℕ). frame (reply_number c.args.payload.now) (behind_rows (set_end_of c.args.settings.capabilities) n))
+          (c.status_of-status-in-Ok-MultiStatements.ensures ∙ ap (λ (b : Bool). status_flags c.args.settings.autocommit b) (kept_status _ _ _ s held))),
+    )
+
+pub returns-in-Ok-Reset-clause-answers : goal.returns-in-Ok-Reset-clause-answers
+returns-in-Ok-Reset-clause-answers g c =
+    let e = rw c.in-Ok-Reset.field-0-is at c.in-Ok-Reset.ensures.command in
+    λ hello. reset_kept _ _ hello _ _ _ _ _ c.args.payload.now _ _ c.requires.number (sym (e ∙ ap command_of c.as_slice.ensures)) c.new.ensures
+    c.status_flags.ensures c.at_first-first.ensures c.put_pong-in-Ok-Reset.ensures.bytes
+
+pub returns-in-Ok-Reset-clause-tx : goal.returns-in-Ok-Reset-clause-tx
+returns-in-Ok-Reset-clause-tx g c = none_stands _ _ _ c.new.ensures
