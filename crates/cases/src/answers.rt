@@ -1,7 +1,7 @@
 //! The answer of a case.
 use crate::{
-    aggregates, handshakes, ids, lines, packets, pulled, ranges, results, schemas, statements,
-    values,
+    aggregates, clients, handshakes, ids, lines, packets, pulled, ranges, results, schemas,
+    statements, values,
 };
 use case_fields::{Told, Unanswered};
 use keyrange::one_range;
@@ -21,6 +21,10 @@ pub fn answer(alloc: Global, area: &str, case: &str, told: &mut Told) -> Result<
         "schema" => schemas::schema(alloc, case, told),
         "plan" => schemas::plan(alloc, case, told),
         "opening" => schemas::opening(alloc, case, told),
+        "asks" => clients::asked(alloc, case, told),
+        "says" => clients::said_by(alloc, case, told),
+        "like" => clients::likes(alloc, case, told),
+        "tells" => clients::tells(alloc, case, told),
         "lines" => lines::split(alloc, case, told),
         "line" => lines::said(alloc, case, told),
         "rows" => lines::rows(alloc, case, told),
@@ -78,6 +82,7 @@ fn answer_bytes(alloc: Global, area: &str, case: &str, told: &mut Told) -> Resul
 fn laws(told: &mut Told) -> Result<(), Unanswered> {
     one_range();
     one_lexing();
+    client_tokens::one_lexing();
     longest();
     one_tree();
     print_reads();

@@ -8,6 +8,10 @@
 //! | `schema` | a VSchema | its keyspaces and tables, or the number of its fault |
 //! | `plan` | ranges, a VSchema, a text of SQL | the line of its plan, or of its refusal |
 //! | `opening` | ranges, a VSchema | slot, place of the keyspace and range of each shard without rows, and how many tables it has |
+//! | `asks` | a text of a client | what it asks of a server |
+//! | `says` | a text of a client | what each of its tokens says, in brackets |
+//! | `like` | a pattern, a name | whether the pattern fits the name |
+//! | `tells` | a VSchema, the keyspace in use, a text of a client | what the session answers |
 //! | `keyrange` | a name | begin and end |
 //! | `covers` | names with commas between them | whether each id lies in just one range, and whether some two overlap |
 //! | `contains` | a range's name, an id | whether the id lies in the range |
@@ -53,6 +57,7 @@
 
 mod aggregates;
 mod answers;
+mod clients;
 mod handshakes;
 mod ids;
 mod lines;

@@ -103,6 +103,10 @@ fn put_command(told: &mut Told, command: Command) {
             told.put("query ");
             told.put_text(text);
         }
+        Command::Statistics => told.put("statistics"),
+        Command::MultiStatements(true) => told.put("multi statements on"),
+        Command::MultiStatements(false) => told.put("multi statements off"),
+        Command::Reset => told.put("reset"),
     }
 }
 

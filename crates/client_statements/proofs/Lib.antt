@@ -1,3 +1,5 @@
+pub mod Answered
+pub mod InTurn
 pub mod Lists
 pub mod Modes
 pub mod Rows

@@ -1,8 +1,12 @@
 //! What a client asks of a server besides SQL over tables: settings, variables, and which keyspaces and tables there are.
 #![tactic(auto)]
 
+mod answers;
+mod columns;
+mod keyspaces;
 mod kinds;
 mod likes;
+mod listings;
 mod names;
 mod reading;
 mod rule;
@@ -11,7 +15,10 @@ mod settings;
 mod shows;
 mod statement;
 mod variable;
+mod variables;
 
+pub use answers::{ClientAnswer, Facts, answer};
+pub use keyspaces::{keyspace_name, keyspace_place};
 pub use likes::is_like;
 pub use reading::read;
 pub use statement::{Asked, ClientStatement, Item, TableName};

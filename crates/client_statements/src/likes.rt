@@ -108,7 +108,7 @@ fn first(row: &[bool]) -> bool
     }
 }
 
-// Promise: LIKE fits a name as its pattern says, in time of their lengths' product
+// Promise: LIKE fits a name as its pattern says
 /// Whether a pattern of LIKE fits a name: `%` any bytes, `_` one, a byte after a backslash itself, and letters in any case.
 pub fn is_like(alloc: Global, pattern: &[u8], name: &[u8]) -> Result<bool, AllocError>
     ensures { IfOk result (λ b. b ≡ is_like pattern.now name.now) }

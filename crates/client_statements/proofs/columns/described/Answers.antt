@@ -1,0 +1,16 @@
+use Rattle.std.proofs.Common.{sym, ◌∙◌}
+use Rattle.client_statements.specs.Answers as x
+use Rattle.client_statements.proofs.Answered.{under, with_rows}
+use Rattle.client_statements.proofs.columns.described.Goals as goal
+
+pub returns-then-not-is_keyspace : goal.returns-then-not-is_keyspace
+returns-then-not-is_keyspace c = λ facts. x.elsewhere (sym c.is_keyspace.ensures ∙ c.if-not-is_keyspace.true)
+
+pub returns-in_default : goal.returns-in_default
+returns-in_default c = λ facts. x.without_table (sym c.is_keyspace.ensures ∙ c.if-not-is_keyspace.false) (sym c.in_default.ensures)
+
+pub returns : goal.returns
+returns c = λ facts.
+    under c.args.schema.now facts _ _ _ _ c.in_ok-columns.ensures
+    (with_rows c.args.schema.now facts _ _ _ _ c.in_ok-rows.ensures
+    (x.columns (sym c.is_keyspace.ensures ∙ c.if-not-is_keyspace.false) (sym c.in-Some.ensures)))

@@ -1,0 +1,10 @@
+use Rattle.std.proofs.Common.{sym}
+use Rattle.client_statements.specs.Answers as x
+use Rattle.client_statements.proofs.Answered.{is_answer, under}
+use Rattle.client_statements.proofs.keyspaces.tables.Goals as goal
+
+pub returns-in_default : goal.returns-in_default
+returns-in_default c = is_answer c.args.schema.now c.args.facts.now _ _ _ c.without_keyspace.ensures (x.without_tables (sym c.in_default.ensures))
+
+pub returns : goal.returns
+returns c = under c.args.schema.now c.args.facts.now _ _ _ _ c.in_ok-columns.ensures (x.tables (sym c.in-Some.ensures) c.in_ok-rows.ensures)

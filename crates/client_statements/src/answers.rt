@@ -1,0 +1,205 @@
+//! What answers a client statement, by the VSchema and what its session knows.
+ghost use Rattle.std.specs.Prelude.{◌≡◌, ◌∷◌, [], map, Some, option_map, is_some, IfOk, IfSome};
+ghost use Rattle.std.specs.List.{list_all};
+ghost use Rattle.vschema.specs.declared.schema.VSchema.{VSchema};
+ghost use Rattle.client_statements.specs.declared.answers.Facts.{Facts};
+ghost use Rattle.client_statements.specs.Answers.{name_in_use, is_told, told_value, has_client_answer, IsClientAnswer};
+
+use crate::columns::described;
+use crate::keyspaces::{databases, keyspace_name, tables};
+use crate::listings::{cell, heads, push_text, texts};
+use crate::statement::{Asked, ClientStatement, Item};
+use crate::variable::{Variable, variable_value};
+use crate::variables::shown;
+use itoa::Buffer;
+use sql_tree::Name;
+use std::alloc::{AllocError, Global};
+use vschema::VSchema;
+use vt_value::{Items, Row, Value};
+
+/// What a session knows of itself.
+#[derive(Debug, Drop)]
+pub struct Facts {
+    /// The keyspace in use, by its place in the VSchema.
+    pub keyspace: Option<usize>,
+    /// The number of the connection.
+    pub connection: u32,
+    /// The user, as USER() tells it: `name@host`.
+    pub user: Name,
+    /// Whether a statement outside a transaction commits by itself.
+    pub autocommit: bool,
+}
+
+/// What a client statement is answered.
+#[derive(Debug, Drop)]
+pub enum ClientAnswer {
+    /// Rows of texts, and the names of their columns.
+    Rows {
+        columns: Items<Name>,
+        rows: Items<Row>,
+    },
+    /// No keyspace is named, and none is in use.
+    NoKeyspace,
+    /// No keyspace has the name.
+    UnknownKeyspace,
+    /// The keyspace has no table of the name.
+    UnknownTable,
+    /// The server has no variable of the name.
+    UnknownVariable,
+}
+
+fn is_told(asked: &Asked) -> bool
+    ensures { result ≡ is_told asked.now }
+{
+    !matches!(asked, Asked::Unknown(_))
+}
+
+fn name_in_use(schema: &VSchema, place: Option<usize>) -> Option<&[u8]>
+    ensures { option_map (λ t. t.now) result ≡ name_in_use schema.now place }
+{
+    match place {
+        Some(place) => keyspace_name(schema, place),
+        None => None,
+    }
+}
+
+/// The value that is asked for: NULL, where the server doesn't have it.
+fn told_value(
+    alloc: Global,
+    schema: &VSchema,
+    facts: &Facts,
+    asked: &Asked,
+) -> Result<Value, AllocError>
+    ensures { IfOk result (λ v. v ≡ told_value schema.now facts.now asked.now) }
+{
+    match asked {
+        Asked::Variable(variable) => {
+            let value = variable_value(*variable, facts.autocommit);
+            cell(alloc, Some(value.as_bytes()))
+        }
+        Asked::Unknown(_) => Ok(Value::Null),
+        Asked::Version => {
+            let value = variable_value(Variable::Version, facts.autocommit);
+            cell(alloc, Some(value.as_bytes()))
+        }
+        Asked::Database => cell(alloc, name_in_use(schema, facts.keyspace)),
+        Asked::ConnectionId => {
+            let mut buffer = Buffer::new();
+            cell(alloc, Some(buffer.format(facts.connection).as_bytes()))
+        }
+        Asked::User => cell(alloc, Some(facts.user.as_slice())),
+    }
+}
+
+/// The row of the values that are asked for.
+fn told_values(
+    alloc: Global,
+    schema: &VSchema,
+    facts: &Facts,
+    items: &[Item],
+) -> Result<Row, AllocError>
+    ensures { IfOk result (λ row. row ≡ map (λ i. told_value schema.now facts.now i.asked) items.now) }
+{
+    let mut row = Items::new(alloc);
+    for item in items {
+        row.push(told_value(alloc, schema, facts, &item.asked)?)?;
+    }
+    Ok(row)
+}
+
+/// The names of the columns of the values that are asked for.
+fn item_names(alloc: Global, items: &[Item]) -> Result<Items<Name>, AllocError>
+    ensures { IfOk result (λ names. names ≡ map (λ i. i.name) items.now) }
+{
+    let mut names = Items::new(alloc);
+    for item in items {
+        push_text(alloc, &mut names, item.name.as_slice())?;
+    }
+    Ok(names)
+}
+
+fn told_rows(
+    alloc: Global,
+    schema: &VSchema,
+    facts: &Facts,
+    items: &[Item],
+) -> Result<Items<Row>, AllocError>
+    ensures { IfOk result (λ rows. rows ≡ map (λ i. told_value schema.now facts.now i.asked) items.now ∷ []) }
+{
+    let row = told_values(alloc, schema, facts, items)?;
+    let mut rows = Items::new(alloc);
+    rows.push(row)?;
+    Ok(rows)
+}
+
+/// Whether the server has all that is asked for.
+fn are_told(items: &[Item]) -> bool
+    ensures { result ≡ list_all (λ i. is_told i.asked) items.now }
+{
+    items.iter().all(|item| is_told(&item.asked))
+}
+
+/// SELECT of values by name.
+fn selected(
+    alloc: Global,
+    schema: &VSchema,
+    facts: &Facts,
+    items: &[Item],
+) -> Result<ClientAnswer, AllocError>
+    ensures { IfOk result (IsClientAnswer schema.now facts.now (ClientStatement.Select items.now)) }
+{
+    if !are_told(items) {
+        return Ok(ClientAnswer::UnknownVariable);
+    }
+    let columns = item_names(alloc, items)?;
+    let rows = told_rows(alloc, schema, facts, items)?;
+    Ok(ClientAnswer::Rows { columns, rows })
+}
+
+/// SHOW WARNINGS: a session keeps none.
+fn no_warnings(alloc: Global) -> Result<ClientAnswer, AllocError>
+    ensures { IfOk result (λ a. (schema : VSchema) (facts : Facts) → IsClientAnswer schema facts ClientStatement.ShowWarnings a) }
+{
+    let columns = heads(alloc, &["Level", "Code", "Message"])?;
+    Ok(ClientAnswer::Rows {
+        columns,
+        rows: Items::new(alloc),
+    })
+}
+
+// Promise: A client statement that has rows is answered by them, names in the order of their bytes, or by why there are none; only memory
+// refuses it
+// With: keyspace_place, keyspace_name
+// Refuses: autocommit_is_told_on, database_is_the_first, full_columns_all_fit, keyspace_in_use_wins, later_columns_are_of_the_key,
+// names_come_backwards, no_keyspace_is_an_unknown_one, null_is_told_turned_round, table_of_another_keyspace_is_told,
+// tables_of_later_keyspaces_too, unknown_keyspace_is_an_unknown_table, unknown_variable_is_null, warnings_have_no_answer
+/// What a client statement is answered, where it has rows: no settings, transactions or keyspaces to use. Takes memory for the rows.
+pub fn answer(
+    alloc: Global,
+    schema: &VSchema,
+    facts: &Facts,
+    statement: &ClientStatement,
+) -> Result<Option<ClientAnswer>, AllocError>
+    ensures answered { IfOk result (λ o. IfSome o (IsClientAnswer schema.now facts.now statement.now)) }
+    ensures rows { IfOk result (λ o. is_some o ≡ has_client_answer statement.now) }
+{
+    let found = match statement {
+        ClientStatement::Select(items) => selected(alloc, schema, facts, items.as_slice())?,
+        ClientStatement::ShowDatabases { like } => databases(alloc, schema, like)?,
+        ClientStatement::ShowTables {
+            full,
+            keyspace,
+            like,
+        } => tables(alloc, schema, facts, *full, keyspace, like)?,
+        ClientStatement::ShowColumns { full, table, like } => {
+            described(alloc, schema, *full, table, like)?
+        }
+        ClientStatement::ShowVariables { like } => shown(alloc, facts, like)?,
+        ClientStatement::ShowWarnings => no_warnings(alloc)?,
+        ClientStatement::Set { .. }
+        | ClientStatement::Begin
+        | ClientStatement::NotSupported
+        | ClientStatement::Use(_) => return Ok(None),
+    };
+    Ok(Some(found))
+}
