@@ -19,7 +19,7 @@ same w now is = ap (λ (x : WorkflowView). x.keyspace) is
 
 module _ (o : Opening) (most : Limits) (w now : WorkflowView) (p q : PassView Entry) where
   of_step : (step : CutoverStep) → HasSwitched o w now p q step → now.keyspace ≡ w.keyspace
-  of_step step (cutover.froze s at done is) = ap (λ (x : WorkflowView). x.keyspace) is
+  of_step step (cutover.froze s at done count is) = ap (λ (x : WorkflowView). x.keyspace) is
   of_step step (cutover.copied all moved is) = ap (λ (x : WorkflowView). x.keyspace) is
   of_step step (cutover.followed all moved is) = ap (λ (x : WorkflowView). x.keyspace) is
   of_step step (cutover.retired s at done is) = ap (λ (x : WorkflowView). x.keyspace) is
@@ -34,12 +34,12 @@ module _ (o : Opening) (most : Limits) (w now : WorkflowView) (p q : PassView En
   of_create : (from into : List KeyRange) (reply : AdminReply) → HasCreated o from into w now p q reply → now.keyspace ≡ w.keyspace
   of_create from into reply (told.done was begun is taken) = ap (λ (x : WorkflowView). x.keyspace) is
   of_create from into reply (told.refused was why is) = same w now is
-  of_create from into reply (told.wrong_state not is) = same w now is
+  of_create from into reply (told.wrong_state not is still) = same w now is
 
   of_move : (reply : AdminReply) → AnswersStep o most w now p q reply → now.keyspace ≡ w.keyspace
-  of_move reply (told.done was moved is) = same w now is
-  of_move reply (told.refused was why is) = same w now is
-  of_move reply (told.wrong_state not is) = same w now is
+  of_move reply (told.done was moved once is) = same w now is
+  of_move reply (told.refused was why none is) = same w now is
+  of_move reply (told.wrong_state not is still) = same w now is
 
   of_switch : (reply : AdminReply) → HasCutOver o most w now p q reply → now.keyspace ≡ w.keyspace
   of_switch reply (told.done was h) = ap (λ (x : WorkflowView). x.keyspace) h.at
@@ -47,7 +47,7 @@ module _ (o : Opening) (most : Limits) (w now : WorkflowView) (p q : PassView En
   of_switch reply (told.wrong_state not is still) = same w now is
 
   of_advance : (reply : AdminReply) → HasAdvanced o most w now p q reply → now.keyspace ≡ w.keyspace
-  of_advance reply (told.done {step = step} was h) = of_step step h
+  of_advance reply (told.done {step = step} was h once ready) = of_step step h
   of_advance reply (told.refused was h) = ap (λ (x : WorkflowView). x.keyspace) h.given_up.at
   of_advance reply (told.wrong_state not is still) = same w now is
 
@@ -56,7 +56,7 @@ module _ (o : Opening) (most : Limits) (w now : WorkflowView) (p q : PassView En
   of_resume reply (told.wrong_state not is still) = same w now is
 
   of_cancel : (reply : AdminReply) → HasCancelled o w now p q reply → now.keyspace ≡ w.keyspace
-  of_cancel reply (told.done may is serve) = ap (λ (x : WorkflowView). x.keyspace) is
+  of_cancel reply (told.done may is serve thawed) = ap (λ (x : WorkflowView). x.keyspace) is
   of_cancel reply (told.wrong_state not is still) = same w now is
 
   of_complete : (reply : AdminReply) → HasCompleted o w now p q reply → now.keyspace ≡ w.keyspace

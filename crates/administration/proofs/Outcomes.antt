@@ -9,7 +9,7 @@ use Rattle.reshard.specs.declared.workflow.Stage.TheVariants as stages
 use Rattle.reshard_beginning.specs.declared.fault.ReshardFault.{ReshardFault}
 use Rattle.reshard_beginning.specs.declared.fault.ReshardFault.TheVariants as faults
 use Rattle.reshard.specs.Workflows.{WorkflowView}
-use Rattle.reshard_beginning.specs.Begun.{IsCreateRefusal, IsMoveRefusal}
+use Rattle.reshard_beginning.specs.Begun.{IsCreateRefusal, IsMoveRefusal, IsNoStepFirst}
 use Rattle.reshard.specs.Cutover.{MaySwitch, MayCancel, HasStopped, HasStoppedLater}
 use Rattle.administration.specs.declared.reply.AdminReply.TheVariants.{Refused}
 use Rattle.administration.specs.Told.{HasCreated, AnswersStep, HasCutOver, HasAdvanced, HasResumed, HasCancelled, HasCompleted}
@@ -17,9 +17,12 @@ use Rattle.administration.specs.Told as told
 
 module _ (o : Opening) (most : Limits) (w now : WorkflowView) (p q : PassView Entry) (e : ReshardFault) where
   pub move_refused : ((e ≡ faults.WrongState) × (w.stage ≡ stages.Following → ⊥)) ⊎ ((w.stage ≡ stages.Following) × IsMoveRefusal o most w.targets q e)
-      → now ≡ w → AnswersStep o most w now p q (Refused e)
-  move_refused (inl h) same = subst (λ x. AnswersStep o most w now p q (Refused x)) (sym h.0) (told.wrong_state h.1 same)
-  move_refused (inr h) same = told.refused h.0 h.1 same
+      → ((w.stage ≡ stages.Following → ⊥) × (q ≡ p)) ⊎ ((w.stage ≡ stages.Following) × IsNoStepFirst w.targets p q) → now ≡ w
+      → AnswersStep o most w now p q (Refused e)
+  move_refused (inl h) (inl k) same = subst (λ x. AnswersStep o most w now p q (Refused x)) (sym h.0) (told.wrong_state h.1 same k.1)
+  move_refused (inl h) (inr k) same = absurd (h.1 k.0)
+  move_refused (inr h) (inl k) same = absurd (k.0 h.0)
+  move_refused (inr h) (inr k) same = told.refused h.0 h.1 k.1 same
 
   pub switch_refused : ((e ≡ faults.WrongState) × (w.stage ≡ stages.Following → ⊥) × (now ≡ w) × (q ≡ p))
       ⊎ ((w.stage ≡ stages.Following) × HasStoppedLater o most w now p q e) → HasCutOver o most w now p q (Refused e)
@@ -33,9 +36,9 @@ module _ (o : Opening) (most : Limits) (w now : WorkflowView) (p q : PassView En
 
 module _ (o : Opening) (w now : WorkflowView) (p q : PassView Entry) (e : ReshardFault) where
   pub create_refused : (from into : List KeyRange)
-      → ((e ≡ faults.WrongState) × (w.stage ≡ stages.None → ⊥)) ⊎ ((w.stage ≡ stages.None) × IsCreateRefusal o p q w.keyspace (length w.free) from into e)
+      → ((e ≡ faults.WrongState) × (w.stage ≡ stages.None → ⊥) × (q ≡ p)) ⊎ ((w.stage ≡ stages.None) × IsCreateRefusal o p q w.keyspace (length w.free) from into e)
       → now ≡ w → HasCreated o from into w now p q (Refused e)
-  create_refused from into (inl h) same = subst (λ x. HasCreated o from into w now p q (Refused x)) (sym h.0) (told.wrong_state h.1 same)
+  create_refused from into (inl h) same = subst (λ x. HasCreated o from into w now p q (Refused x)) (sym h.0) (told.wrong_state h.1 same h.2)
   create_refused from into (inr h) same = told.refused h.0 h.1 same
 
   pub resume_refused : e ≡ faults.WrongState → (w.stage ≡ stages.Switching → ⊥) → now ≡ w → q ≡ p → HasResumed o w now p q (Refused e)

@@ -18,6 +18,7 @@ idle keyspace free = record {
   frozen = 0;
   retired = 0;
   served = 0;
+  stored = [];
   prepared = false;
   published = false;
 }

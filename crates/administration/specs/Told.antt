@@ -11,14 +11,16 @@ use Rattle.shard_contents.specs.declared.limits.Limits.{Limits}
 use Rattle.follow.specs.declared.steps.Step as moves
 use Rattle.reshard.specs.declared.workflow.Stage.TheVariants as stages
 use Rattle.reshard.specs.declared.cutover.CutoverStep.{CutoverStep}
+use Rattle.reshard.specs.declared.cutover.CutoverStep.TheVariants.{Retire}
 use Rattle.reshard.specs.declared.finishing.Resumed.{Resumed}
 use Rattle.reshard_beginning.specs.declared.fault.ReshardFault.{ReshardFault}
 use Rattle.reshard_beginning.specs.declared.fault.ReshardFault.TheVariants as faults
 use Rattle.reshard.specs.Workflows.{WorkflowView}
 use Rattle.reshard.specs.Served.{AreServed}
-use Rattle.reshard_beginning.specs.Begun.{HasBegun, IsCreateRefusal, HasMovedFirst, IsMoveRefusal}
-use Rattle.reshard.specs.Cutover.{MaySwitch, MayCancel, HasSwitched, HasStopped, HasStoppedLater, HasFinished, IsResumed}
-use Rattle.cutover_steps.specs.Looks.{IsServingAgain, IsOutOfUse}
+use Rattle.reshard_beginning.specs.Begun.{HasBegun, IsCreateRefusal, HasMovedFirst, IsMoveRefusal, IsOneStepFirst, IsNoStepFirst}
+use Rattle.reshard.specs.Cutover.{MaySwitch, MayCancel, HasSwitched, DoesNoMore, MayRetireFirst, HasStopped, HasStoppedLater, HasFinished, IsResumed}
+use Rattle.follow.specs.Turns.{EachInTurn}
+use Rattle.cutover_steps.specs.Looks.{HasThawed, IsServingAgain, IsOutOfUse}
 use Rattle.vtgate_lines.specs.Partitions.{range_cmp}
 use Rattle.vtgate_lines.specs.AdminLines.{IsCreate, AsksFor}
 use Rattle.vtgate_lines.specs.declared.admin_lines.AdminLine.TheVariants as lines
@@ -50,22 +52,35 @@ pub data TellsStatus (w : WorkflowView) : AdminReply → Type 0 where
 
 -- no workflow any more, with the slots that are left
 abbrev pub HasEnded : WorkflowView → WorkflowView → Type 0
-HasEnded w now = now ≡ record w { stage = stages.None; sources = []; targets = []; frozen = 0; retired = 0; served = 0; prepared = false; published = false }
+HasEnded w now = now ≡ record w { stage = stages.None; sources = []; targets = []; frozen = 0; retired = 0; served = 0; stored = []; prepared = false; published = false }
 
 -- `create` began a workflow, whose targets have the last of the free slots, one for each; or it was refused, and all is as it was.
 pub data HasCreated (o : Opening) (from into : List KeyRange) (w now : WorkflowView) (p q : PassView Entry) : AdminReply → Type 0 where
   done : w.stage ≡ stages.None → HasBegun o p q now.sources now.targets w.keyspace from into
-      → now ≡ record w { stage = stages.Following; free = now.free; sources = now.sources; targets = now.targets; frozen = 0; retired = 0; served = 0; prepared = false; published = false }
+      → now ≡ record w {
+        stage = stages.Following;
+        free = now.free;
+        sources = now.sources;
+        targets = now.targets;
+        frozen = 0;
+        retired = 0;
+        served = 0;
+        stored = now.stored;
+        prepared = false;
+        published = false;
+      }
       → w.free ≡ now.free ++ reverse (map (λ t. t.0.slot) now.targets) → HasCreated o from into w now p q Done
   refused : {e : ReshardFault} → w.stage ≡ stages.None → IsCreateRefusal o p q w.keyspace (length w.free) from into e
       → now ≡ w → HasCreated o from into w now p q (Refused e)
-  wrong_state : (w.stage ≡ stages.None → ⊥) → now ≡ w → HasCreated o from into w now p q (Refused faults.WrongState)
+  wrong_state : (w.stage ≡ stages.None → ⊥) → now ≡ w → q ≡ p → HasCreated o from into w now p q (Refused faults.WrongState)
 
--- `step` moved the first target that isn't level.
+-- `step` moved the first target that isn't level, by one step and no more; or it was refused, and appended nothing after its last look.
 pub data AnswersStep (o : Opening) (most : Limits) (w now : WorkflowView) (p q : PassView Entry) : AdminReply → Type 0 where
-  done : {step : moves.Step} → w.stage ≡ stages.Following → HasMovedFirst o w.targets p q step → now ≡ w → AnswersStep o most w now p q (Moved step)
-  refused : {e : ReshardFault} → w.stage ≡ stages.Following → IsMoveRefusal o most w.targets q e → now ≡ w → AnswersStep o most w now p q (Refused e)
-  wrong_state : (w.stage ≡ stages.Following → ⊥) → now ≡ w → AnswersStep o most w now p q (Refused faults.WrongState)
+  done : {step : moves.Step} → w.stage ≡ stages.Following → HasMovedFirst o w.targets p q step → IsOneStepFirst w.targets p q step → now ≡ w
+      → AnswersStep o most w now p q (Moved step)
+  refused : {e : ReshardFault} → w.stage ≡ stages.Following → IsMoveRefusal o most w.targets q e → IsNoStepFirst w.targets p q → now ≡ w
+      → AnswersStep o most w now p q (Refused e)
+  wrong_state : (w.stage ≡ stages.Following → ⊥) → now ≡ w → q ≡ p → AnswersStep o most w now p q (Refused faults.WrongState)
 
 -- `switch` took all steps of the cutover, or gave it up.
 pub data HasCutOver (o : Opening) (most : Limits) (w now : WorkflowView) (p q : PassView Entry) : AdminReply → Type 0 where
@@ -73,9 +88,10 @@ pub data HasCutOver (o : Opening) (most : Limits) (w now : WorkflowView) (p q : 
   refused : {e : ReshardFault} → w.stage ≡ stages.Following → HasStoppedLater o most w now p q e → HasCutOver o most w now p q (Refused e)
   wrong_state : (w.stage ≡ stages.Following → ⊥) → now ≡ w → q ≡ p → HasCutOver o most w now p q (Refused faults.WrongState)
 
--- `advance` took one step of the cutover, or gave it up.
+-- `advance` took one step of the cutover, and no more, or gave it up.
 pub data HasAdvanced (o : Opening) (most : Limits) (w now : WorkflowView) (p q : PassView Entry) : AdminReply → Type 0 where
-  done : {step : CutoverStep} → MaySwitch w → HasSwitched o w now p q step → HasAdvanced o most w now p q (Took step)
+  done : {step : CutoverStep} → MaySwitch w → HasSwitched o w now p q step → DoesNoMore w p q step
+      → (step ≡ Retire → w.retired ≡ 0 → MayRetireFirst o most w p q) → HasAdvanced o most w now p q (Took step)
   refused : {e : ReshardFault} → MaySwitch w → HasStopped o most w now p q e → HasAdvanced o most w now p q (Refused e)
   wrong_state : (MaySwitch w → ⊥) → now ≡ w → q ≡ p → HasAdvanced o most w now p q (Refused faults.WrongState)
 
@@ -84,9 +100,10 @@ pub data HasResumed (o : Opening) (w now : WorkflowView) (p q : PassView Entry) 
   done : (resumed : Resumed) → w.stage ≡ stages.Switching → IsResumed o w now p q resumed → HasResumed o w now p q Done
   wrong_state : (w.stage ≡ stages.Switching → ⊥) → now ≡ w → q ≡ p → HasResumed o w now p q (Refused faults.WrongState)
 
--- `cancel` gave the workflow up, whose sources serve then.
+-- `cancel` gave the workflow up, whose sources serve then: they were thawed one after the other, and none was looked at after its turn.
 pub data HasCancelled (o : Opening) (w now : WorkflowView) (p q : PassView Entry) : AdminReply → Type 0 where
-  done : MayCancel w → HasEnded w now → AllByRecursion (λ s. IsServingAgain o s p q) w.sources → HasCancelled o w now p q Done
+  done : MayCancel w → HasEnded w now → AllByRecursion (λ s. IsServingAgain o s p q) w.sources → EachInTurn (HasThawed o) w.sources p q
+      → HasCancelled o w now p q Done
   wrong_state : (MayCancel w → ⊥) → now ≡ w → q ≡ p → HasCancelled o w now p q (Refused faults.WrongState)
 
 -- `complete` ended the workflow, whose sources are out of use.

@@ -1,5 +1,5 @@
 -- Sources serve again, one after the other.
-use Rattle.std.proofs.Common.{◌≡◌, ℕ, ◌+◌, ◌<◌, ◌≤◌, List, [], ◌∷◌, ◌++◌, length, map, take, get_or, refl, sym, ap, ◌∙◌, true}
+use Rattle.std.proofs.Common.{◌≡◌, ℕ, ◌+◌, ◌<◌, ◌≤◌, List, [], ◌∷◌, ◌++◌, length, map, take, get_or, refl, sym, ap, ◌∙◌, subst, true}
 use Rattle.std.specs.List.{AllByRecursion}
 use Rattle.std.proofs.lemmas.Bool.{eq-eqb}
 use Rattle.journal.specs.Views.{PassView}
@@ -108,6 +108,17 @@ change_alone o slot v ev p now same is =
     looked_on slot p q now (look_alone slot v.shard.slot p q q.seen (length q.seen) same is.twice.once.pass)
     (looked_on slot q r now (look_alone slot v.shard.slot q r r.seen (length r.seen) same is.twice.again.pass)
     (append_alone slot r now now.seen is.appended.pass))
+
+-- the two looks before a change of mode
+pub change_looks : (o : Opening) (slot : ℕ) (v : ShardView) (ev : Event) (p now : PassView Entry) → v.shard.slot ≡ slot → HasChangedMode o v ev p now
+    → HasLookedAt (slot ∷ slot ∷ []) p now
+change_looks o slot v ev p now same is =
+    let q = is.twice.first in
+    let r = is.looked in
+    let s = v.shard.slot in
+    subst (λ (n : ℕ). HasLookedAt (n ∷ n ∷ []) p now) same
+    (looked_then (s ∷ []) (s ∷ []) p q now (looked_at p q s q.seen (length q.seen) is.twice.once.pass)
+    (looked_then (s ∷ []) [] q r now (looked_at q r s r.seen (length r.seen) is.twice.again.pass) (appended_since r now now.seen is.appended.pass)))
 
 -- ---- rows within the limit
 

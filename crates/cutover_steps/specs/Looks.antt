@@ -1,5 +1,5 @@
 -- What looks at the shards of a cutover show, at a run that the controller's pass came by.
-use Rattle.std.specs.Prelude.{◌≡◌, ℕ, ◌<◌, ◌≤◌, List}
+use Rattle.std.specs.Prelude.{◌≡◌, ℕ, ◌<◌, ◌≤◌, List, [], ◌∷◌}
 use Rattle.std.specs.List.{AllByRecursion}
 use Rattle.journal.specs.Views.{PassView}
 use Rattle.shard_run.specs.declared.Shard.{Shard}
@@ -25,6 +25,11 @@ pub record HasLookedOnlyAt (slot : ℕ) (p now : PassView Entry) : Type 0 where
   pub looks : List ℕ
   pub alone : AllByRecursion (λ n. n ≡ slot) looks
   pub looked : HasLookedAt looks p now
+
+-- The pass looked at the shard on the slot three times, and at no other: once, and then the two looks that come right before a change of its mode
+-- (HasChangedMode). So there is one such change, and no other shard's mode changes.
+abbrev pub HasLookedForOneChange : ℕ → PassView Entry → PassView Entry → Type 0
+HasLookedForOneChange slot p now = HasLookedAt (slot ∷ slot ∷ slot ∷ []) p now
 
 -- The pass looked at this shard alone, and what it has seen then ends with the shard serving and not frozen: its last Freeze was followed by
 -- its Thaw, or there was none.

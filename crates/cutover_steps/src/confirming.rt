@@ -5,8 +5,9 @@ ghost use Rattle.journal.specs.Runs.{IsLegal};
 ghost use Rattle.shard_run.specs.Openings.{IsOpening};
 ghost use Rattle.shard_contents.specs.Shards.{MayFollow};
 ghost use Rattle.follow.specs.Steps.{IsOnward};
+ghost use Rattle.follow.specs.Turns.{EachInTurn};
 ghost use Rattle.cutover_steps.specs.Steps.{has_source, IsRetired, AreRetired};
-ghost use Rattle.cutover_steps.specs.Looks.{IsGone, HasBegunToServe, HaveServed, IsCutOver};
+ghost use Rattle.cutover_steps.specs.Looks.{HasLookedOnlyAt, IsGone, HasBegunToServe, HaveServed, IsCutOver};
 
 use crate::steps::{Source, is_source_of, serves};
 use crate::target::Target;
@@ -25,10 +26,14 @@ fn try_retired_for<W: World, J: Naming>(
 ) -> bool
     requires legal { IsLegal (MayFollow W.opening) pass.old.seen }
     ensures retired { result ≡ true → (targets : List Shard) × IsRetired pass.new.seen (source.now.member.which, source.now.stored) targets × Contains targets target.now }
+    ensures alone { HasLookedOnlyAt source.now.member.which.slot pass.old pass.new }
     ensures onward { IsOnward W.opening pass.old pass.new }
 {
+    if !state.is(&source.member.which) {
+        return false;
+    }
     let _ = state.look(pass);
-    state.is(&source.member.which) && state.is_retired_for(target, source.stored)
+    state.is_retired_for(target, source.stored)
 }
 
 // Looks until the source is retired for the target.
@@ -40,6 +45,7 @@ fn confirm<W: World, J: Naming>(
 )
     requires legal { IsLegal (MayFollow W.opening) pass.old.seen }
     ensures retired { (targets : List Shard) × IsRetired pass.new.seen (source.now.member.which, source.now.stored) targets × Contains targets target.now }
+    ensures alone { HasLookedOnlyAt source.now.member.which.slot pass.old pass.new }
     ensures onward { IsOnward W.opening pass.old pass.new }
 {
     for _ in rt.forever() {
@@ -60,6 +66,7 @@ fn confirm_own<W: World, J: Naming>(
     requires legal { IsLegal (MayFollow W.opening) pass.old.seen }
     ensures retired { IsTrue (has_source source.now.member.which.slot target.now)
         → (targets : List Shard) × IsRetired pass.new.seen (source.now.member.which, source.now.stored) targets × Contains targets target.now }
+    ensures alone { HasLookedOnlyAt source.now.member.which.slot pass.old pass.new }
     ensures onward { IsOnward W.opening pass.old pass.new }
 {
     if is_source_of(target, source.member.which.slot) {
@@ -77,6 +84,7 @@ pub fn confirm_retired<W: World, J: Naming>(
     requires opens { IsOpening W.opening }
     requires legal { IsLegal (MayFollow W.opening) pass.old.seen }
     ensures retired { AreRetired pass.new.seen target.now (map (λ s. (s.member.which, s.stored)) sources.now) }
+    ensures looked { EachInTurn (λ s. HasLookedOnlyAt s.slot) (map (λ s. s.member.which) sources.now) pass.old pass.new }
     ensures onward { IsOnward W.opening pass.old pass.new }
 {
     for source in sources {

@@ -6,8 +6,9 @@ ghost use Rattle.shard_run.specs.Runs.{held};
 ghost use Rattle.shard_run.specs.Openings.{row_count};
 ghost use Rattle.shard_contents.specs.Shards.{MayFollow};
 ghost use Rattle.follow.specs.Steps.{IsOnward};
+ghost use Rattle.follow.specs.Turns.{EachInTurn};
 ghost use Rattle.cutover_steps.specs.Takings.{Taking};
-ghost use Rattle.cutover_steps.specs.Looks.{IsOverfull, IsWithinRows};
+ghost use Rattle.cutover_steps.specs.Looks.{HasLookedOnlyAt, IsOverfull, IsWithinRows};
 
 use crate::steps::follows;
 use crate::target::Target;
@@ -26,10 +27,14 @@ fn try_fits<W: World, J: Naming>(
     requires legal { IsLegal (MayFollow W.opening) pass.old.seen }
     ensures many { result ≡ Some false → W.limits.rows < row_count (held W.opening pass.new.seen which.now) }
     ensures few { result ≡ Some true → row_count (held W.opening pass.new.seen which.now) ≤ W.limits.rows }
+    ensures alone { HasLookedOnlyAt which.now.slot pass.old pass.new }
     ensures onward { IsOnward W.opening pass.old pass.new }
 {
+    if !state.is(which) {
+        return None;
+    }
     let _ = state.look(pass);
-    if state.is(which) && follows(state) {
+    if follows(state) {
         Some(state.fits())
     } else {
         None
@@ -45,6 +50,7 @@ fn fits<W: World, J: Naming>(
     requires legal { IsLegal (MayFollow W.opening) pass.old.seen }
     ensures many { result ≡ false → W.limits.rows < row_count (held W.opening pass.new.seen member.now.which) }
     ensures few { result ≡ true → row_count (held W.opening pass.new.seen member.now.which) ≤ W.limits.rows }
+    ensures alone { HasLookedOnlyAt member.now.which.slot pass.old pass.new }
     ensures onward { IsOnward W.opening pass.old pass.new }
 {
     for _ in rt.forever() {
@@ -67,6 +73,7 @@ pub fn all_fit<W: World, J: Naming>(
     requires legal { IsLegal (MayFollow W.opening) pass.old.seen }
     ensures many { result ≡ false → (t : Taking) × Contains (map (λ t. (t.member.which, map (λ s. s.which) t.sources.items)) targets.now) t × IsOverfull W.opening W.limits t.0 pass.old pass.new }
     ensures few { result ≡ true → AllByRecursion (λ t. IsWithinRows W.opening W.limits t.0 pass.old pass.new) (map {B = Taking} (λ t. (t.member.which, map (λ s. s.which) t.sources.items)) targets.now) }
+    ensures looked { result ≡ true → EachInTurn (λ t. HasLookedOnlyAt t.0.slot) (map {B = Taking} (λ t. (t.member.which, map (λ s. s.which) t.sources.items)) targets.now) pass.old pass.new }
     ensures onward { IsOnward W.opening pass.old pass.new }
 {
     for target in targets {

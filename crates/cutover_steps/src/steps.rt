@@ -1,12 +1,14 @@
 //! The steps that change a shard's mode. A lock can't tell which shard it holds and in which mode the controller left it, so both are
 //! tested under it; where they differ, which no run of one controller meets, the lock is taken again.
-ghost use Rattle.std.specs.Prelude.{◌≡◌, ◌≤◌, ◌^◌, true, false, IsTrue, IfOk, IfErr, IfSome, OnOk, OnErr, length, map};
+ghost use Rattle.std.specs.Prelude.{◌≡◌, ◌≤◌, ◌^◌, ◌∷◌, [], true, false, IsTrue, IfOk, IfErr, IfSome, MatchOption, OnOk, OnErr, length, map};
 ghost use Rattle.journal.specs.Runs.{IsLegal};
 ghost use Rattle.shard_run.specs.declared.Event.{Event};
 ghost use Rattle.shard_run.specs.Runs.{mode, stored_on, entries_on};
 ghost use Rattle.shard_run.specs.Openings.{IsOpening};
 ghost use Rattle.shard_contents.specs.Shards.{MayFollow};
 ghost use Rattle.follow.specs.Steps.{IsOnward, HasStepped};
+ghost use Rattle.follow.specs.Turns.{HasLookedAt};
+ghost use Rattle.cutover_steps.specs.Looks.{HasLookedForOneChange, HasLookedOnlyAt};
 ghost use Rattle.cutover_steps.specs.Steps.{has_source, AreRetired, IsTargetOf, FitTargets};
 ghost use Rattle.cutover_steps.specs.inner.Steps.{IsUpTo, AreFollowed};
 
@@ -25,6 +27,17 @@ pub struct Source<W: World, J: Naming> {
     pub stored: u64,
 }
 
+/// Whether the shard serves and isn't frozen.
+pub fn serves<W: World, J: Naming>(state: &ShardState<W, J>) -> bool
+    ensures yes { result ≡ true → mode W.opening state.now.seen state.now.shard.slot ≡ Mode.Serving }
+    ensures no { result ≡ false → mode W.opening state.now.seen state.now.shard.slot ≡ Mode.Serving → ⊥ }
+{
+    match state.mode() {
+        Mode::Serving => true,
+        _ => false,
+    }
+}
+
 // Freezes the shard, where it is this one and serves.
 fn try_freeze<W: World, J: Naming>(
     state: &mut ShardState<W, J>,
@@ -34,16 +47,18 @@ fn try_freeze<W: World, J: Naming>(
     requires legal { IsLegal (MayFollow W.opening) pass.old.seen }
     ensures ok { IfOk result (λ r. IfSome r (λ stored. HasStepped W.opening which.now Event.Freeze pass.old pass.new
         × (stored ≡ length (stored_on which.now.slot pass.new.seen)))) }
+    ensures looked { IfOk result (λ r. MatchOption r (pass.new ≡ pass.old) (λ _. HasLookedForOneChange which.now.slot pass.old pass.new)) }
     ensures full { IfErr result (λ e. (e ≡ Refusal.ShardFull) × (2 ^ 40 ≤ length (entries_on which.now.slot pass.new.seen))) }
+    ensures refused { OnErr result (HasLookedAt (which.now.slot ∷ []) pass.old pass.new) }
     ensures onward { IsOnward W.opening pass.old pass.new }
 {
-    let entries = state.look(pass);
     if !state.is(which) {
         return Ok(None);
     }
-    if state.mode() != Mode::Serving {
+    if !serves(state) {
         return Ok(None);
     }
+    let entries = state.look(pass);
     if entries >= MOST_ENTRIES {
         return Err(Refusal::ShardFull);
     }
@@ -55,7 +70,8 @@ fn try_freeze<W: World, J: Naming>(
 // Promise: A step of a cutover is exactly one entry of its shard, made behind a look under its lock: a freeze (refused only at 2^40
 // entries), a thaw, a retirement for targets that together hold the shard's place, when it has stored just so many entries, and a target
 // that serves once its sources, of which there may be several, are retired for it and it has copied all tables and followed all that they
-// stored
+// stored. A freeze looks at its shard three times, and nowhere else, so its pass freezes no other, and that one once. A retirement, and a target that
+// serves, look at their shard alone, so they change no other's mode
 // With: thaw, retire, serve
 // Refuses: source_serves_beside_target, target_serves_before_level, freeze_appends_nothing, retires_with_an_entry_left,
 // serves_with_a_table_left, serves_with_one_source_followed
@@ -70,7 +86,9 @@ pub fn freeze<W: World, J: Naming>(
     requires legal { IsLegal (MayFollow W.opening) pass.old.seen }
     ensures ok { OnOk result (HasStepped W.opening which.now Event.Freeze pass.old pass.new) }
     ensures stored { IfOk result (λ stored. stored ≡ length (stored_on which.now.slot pass.new.seen)) }
+    ensures once { OnOk result (HasLookedForOneChange which.now.slot pass.old pass.new) }
     ensures full { IfErr result (λ e. (e ≡ Refusal.ShardFull) × (2 ^ 40 ≤ length (entries_on which.now.slot pass.new.seen))) }
+    ensures refused { OnErr result (HasLookedAt (which.now.slot ∷ []) pass.old pass.new) }
     ensures onward { OnErr result (IsOnward W.opening pass.old pass.new) }
 {
     for _ in rt.forever() {
@@ -139,11 +157,15 @@ fn try_retire<W: World, J: Naming>(
     requires fit { FitTargets which.now targets }
     ensures retired { OnOk result (HasStepped W.opening which.now (Event.Retire targets) pass.old pass.new) }
     ensures stored { OnOk result (stored ≡ length (stored_on which.now.slot pass.new.seen)) }
+    ensures alone { HasLookedOnlyAt which.now.slot pass.old pass.new }
     ensures onward { OnErr result (IsOnward W.opening pass.old pass.new) }
     ensures back { IfErr result (λ t. t ≡ targets) }
 {
+    if !state.is(which) {
+        return Err(targets);
+    }
     let _ = state.look(pass);
-    if state.is(which) && is_frozen(state) {
+    if is_frozen(state) {
         let now = state.stored();
         if now == stored {
             state.retire(pass, targets);
@@ -166,6 +188,7 @@ pub fn retire<W: World, J: Naming>(
     requires fit { FitTargets which.now targets }
     ensures retired { HasStepped W.opening which.now (Event.Retire targets) pass.old pass.new }
     ensures stored { stored ≡ length (stored_on which.now.slot pass.new.seen) }
+    ensures alone { HasLookedOnlyAt which.now.slot pass.old pass.new }
 {
     let mut targets = targets;
     for _ in rt.forever() {
@@ -181,17 +204,6 @@ pub(crate) fn follows<W: World, J: Naming>(state: &ShardState<W, J>) -> bool
     ensures { result ≡ true → mode W.opening state.now.seen state.now.shard.slot ≡ Mode.Following }
 {
     state.mode() == Mode::Following
-}
-
-/// Whether the shard serves and isn't frozen.
-pub fn serves<W: World, J: Naming>(state: &ShardState<W, J>) -> bool
-    ensures yes { result ≡ true → mode W.opening state.now.seen state.now.shard.slot ≡ Mode.Serving }
-    ensures no { result ≡ false → mode W.opening state.now.seen state.now.shard.slot ≡ Mode.Serving → ⊥ }
-{
-    match state.mode() {
-        Mode::Serving => true,
-        _ => false,
-    }
 }
 
 // Whether the target has copied each table of its keyspace from the source, and stands behind all that it has stored.
@@ -272,10 +284,14 @@ fn try_serve<W: World, J: Naming>(
     requires of_sources { IsTargetOf (map (λ s. s.member.which) sources.now) target.now }
     requires retired { AreRetired pass.old.seen target.now (map (λ s. (s.member.which, s.stored)) sources.now) }
     ensures served { result ≡ true → HasStepped W.opening target.now Event.Serve pass.old pass.new }
+    ensures alone { HasLookedOnlyAt target.now.slot pass.old pass.new }
     ensures onward { IsOnward W.opening pass.old pass.new }
 {
+    if !state.is(target) {
+        return false;
+    }
     let _ = state.look(pass);
-    if state.is(target) && follows(state) && is_level(state, schema, sources) && state.fits() {
+    if follows(state) && is_level(state, schema, sources) && state.fits() {
         state.serve(pass);
         true
     } else {
@@ -297,7 +313,8 @@ pub fn serve<W: World, J: Naming>(
     requires legal { IsLegal (MayFollow W.opening) pass.old.seen }
     requires of_sources { IsTargetOf (map (λ s. s.member.which) sources.now) target.now.which }
     requires retired { AreRetired pass.old.seen target.now.which (map (λ s. (s.member.which, s.stored)) sources.now) }
-    ensures { HasStepped W.opening target.now.which Event.Serve pass.old pass.new }
+    ensures served { HasStepped W.opening target.now.which Event.Serve pass.old pass.new }
+    ensures alone { HasLookedOnlyAt target.now.which.slot pass.old pass.new }
 {
     for _ in rt.forever() {
         if try_serve(

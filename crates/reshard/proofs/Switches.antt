@@ -1,6 +1,6 @@
 -- The steps of a cutover, and why one stops.
-use Rattle.std.proofs.Common.{◌≡◌, ◌+◌, ◌≤◌, Bool, true, List, length, Option, Some, None, sym, ap, ◌∙◌, subst}
-use Rattle.std.specs.Prelude.{Contains, slice_get, MatchOption}
+use Rattle.std.proofs.Common.{◌≡◌, ◌⊎◌, ◌+◌, ◌≤◌, Bool, true, List, length, Option, Some, None, refl, sym, ap, ◌∙◌, subst}
+use Rattle.std.specs.Prelude.{Contains, slice_get, slice_set, MatchOption}
 use Rattle.std.specs.List.{AllByRecursion}
 use Rattle.journal.specs.Views.{PassView}
 use Rattle.vt_value.specs.declared.refusal.Refusal.{Refusal}
@@ -8,7 +8,7 @@ use Rattle.vt_value.specs.declared.refusal.Refusal.TheVariants.{OutOfMemory, Sha
 use Rattle.shard_run.specs.declared.Shard.{Shard}
 use Rattle.shard_run.specs.declared.Entry.{Entry}
 use Rattle.shard_run.specs.declared.Event.TheVariants as events
-use Rattle.shard_run.specs.Runs.{Opening}
+use Rattle.shard_run.specs.Runs.{Opening, stored_on}
 use Rattle.shard_law.proofs.Lists.{all-weaker}
 use Rattle.shard_contents.specs.declared.limits.Limits.{Limits}
 use Rattle.follow.specs.Steps.{IsOnward, HasStepped, HasMovedWith}
@@ -24,9 +24,9 @@ use Rattle.reshard_beginning.specs.Begun as begun
 use Rattle.cutover_steps.specs.Steps.{named_for}
 use Rattle.reshard.specs.Workflows.{WorkflowView}
 use Rattle.cutover_steps.specs.Takings.{Taking, shards_of}
-use Rattle.reshard.specs.Cutover.{HasSwitched, HasStopped, HasNoRoom, IsSwitchRefusal, MayRetireFirst}
+use Rattle.reshard.specs.Cutover.{HasSwitched, HasStopped, HasNoRoom, HasFoundReady, EndsAlone, DoesNoMore, IsSwitchRefusal, MayRetireFirst}
 use Rattle.follow.specs.Turns.{EachInTurn}
-use Rattle.cutover_steps.specs.Looks.{HasThawed, IsServingAgain, IsWithinRows}
+use Rattle.cutover_steps.specs.Looks.{HasLookedForOneChange, HasThawed, IsServingAgain, IsWithinRows}
 use Rattle.reshard.specs.Cutover as cut
 use Rattle.cutover_steps.proofs.Onward.{stepped_after}
 use Rattle.reshard_beginning.proofs.Moving.{with_after, with_later}
@@ -47,7 +47,7 @@ module _ (o : Opening) (targets : List Taking) (p q now : PassView Entry) (on : 
 
 module _ (o : Opening) (w now : WorkflowView) (p q r : PassView Entry) (on : IsOnward o p q) where
   since : (step : CutoverStep) → HasSwitched o (record w { prepared = true }) now q r step → HasSwitched o w now p r step
-  since _ (cut.froze s at is e) = cut.froze s at (stepped_after o p q r s events.Freeze on is) e
+  since _ (cut.froze s at is n e) = cut.froze s at (stepped_after o p q r s events.Freeze on is) n e
   since _ (cut.copied f m e) = cut.copied f (first_after o w.targets p q r on Copied m) e
   since _ (cut.followed f m e) = cut.followed f (first_after o w.targets p q r on Followed m) e
   since _ (cut.retired s at is e) = cut.retired s at (stepped_after o p q r s (events.Retire (named_for s (shards_of w.targets))) on is) e
@@ -61,11 +61,13 @@ module _ (o : Opening) (w now : WorkflowView) (p q r : PassView Entry) (on : IsO
   switched_since mid made step h = since step (subst (λ (v : WorkflowView). HasSwitched o v now q r step) made h)
 
 module _ (o : Opening) (w w1 now : WorkflowView) (p q : PassView Entry) (made : w1 ≡ record w { prepared = true }) where
-  pub froze_after : ((s : Shard) × (slice_get w1.sources w1.frozen ≡ Some s) × HasStepped o s events.Freeze p q)
-      → now ≡ record w1 { stage = Switching; frozen = w1.frozen + 1 } → HasSwitched o w now p q steps.Freeze
+  pub froze_after : ((s : Shard) × (slice_get w1.sources w1.frozen ≡ Some s) × HasStepped o s events.Freeze p q × HasLookedForOneChange s.slot p q
+      × (now.stored ≡ slice_set w1.stored w1.frozen (length (stored_on s.slot q.seen)))) → now ≡ record w1 { stage = Switching; frozen = w1.frozen + 1; stored = now.stored }
+      → HasSwitched o w now p q steps.Freeze
   froze_after h is =
       cut.froze h.0 (sym (ap (λ (v : WorkflowView). slice_get v.sources v.frozen) made) ∙ h.1) h.2
-      (is ∙ ap (λ (v : WorkflowView). record v { stage = Switching; frozen = v.frozen + 1 }) made)
+      (h.4 ∙ ap (λ (v : WorkflowView). slice_set v.stored v.frozen (length (stored_on h.0.slot q.seen))) made)
+      (is ∙ ap (λ (v : WorkflowView). record v { stage = Switching; frozen = v.frozen + 1; stored = now.stored }) made)
 
   moved_after : (step : Step) → length w1.sources ≤ w1.frozen → HasMovedFirst o w1.targets p q step
       → (length w.sources ≤ w.frozen) × HasMovedFirst o w.targets p q step
@@ -79,6 +81,30 @@ module _ (o : Opening) (w w1 now : WorkflowView) (p q : PassView Entry) (made : 
 
   pub followed_after : length w1.sources ≤ w1.frozen → HasMovedFirst o w1.targets p q Followed → now ≡ w1 → HasSwitched o w now p q steps.Follow
   followed_after l m is = let h = moved_after Followed l m in cut.followed h.0 h.1 (is ∙ made)
+
+-- a step from the first retirement on, after what was found before it
+pub no_more : (w : WorkflowView) (p m q : PassView Entry) (step : CutoverStep) → (m ≡ p) ⊎ ((w.retired ≡ 0) × HasFoundReady w p m) → EndsAlone w m q step
+    → DoesNoMore w p q step
+no_more w p m q steps.Freeze before alone = absurd alone
+no_more w p m q steps.Copy before alone = absurd alone
+no_more w p m q steps.Follow before alone = absurd alone
+no_more w p m q steps.Retire before alone = (m, before, alone)
+no_more w p m q steps.Serve before alone = (m, before, alone)
+no_more w p m q steps.Publish before alone = (m, before, alone)
+no_more w p m q steps.Release before alone = (m, before, alone)
+
+-- the memory of a cutover says nothing of where it looks
+same_alone : (w : WorkflowView) (m q : PassView Entry) (step : CutoverStep) → EndsAlone (record w { prepared = true }) m q step → EndsAlone w m q step
+same_alone w m q steps.Freeze h = h
+same_alone w m q steps.Copy h = h
+same_alone w m q steps.Follow h = h
+same_alone w m q steps.Retire h = h
+same_alone w m q steps.Serve h = h
+same_alone w m q steps.Publish h = h
+same_alone w m q steps.Release h = h
+
+pub alone_of : (w w1 : WorkflowView) (m q : PassView Entry) (step : CutoverStep) → w1 ≡ record w { prepared = true } → EndsAlone w1 m q step → EndsAlone w m q step
+alone_of w w1 m q step made h = same_alone w m q step (subst (λ (v : WorkflowView). EndsAlone v m q step) made h)
 
 module _ (o : Opening) (most : Limits) (sources : List Shard) (targets : List Taking) (p now : PassView Entry) (e : Refusal) where
   pub memory_refused : e ≡ OutOfMemory → IsSwitchRefusal o most sources targets p now (Refused e)

@@ -25,14 +25,14 @@ further_still w = refl
 
 pub further_trans : (a b c : WorkflowView) → IsFurther a b → IsFurther b c → IsFurther a c
 further_trans a b c ab bc =
-    bc ∙ ap (λ (w : WorkflowView). record w { stage = c.stage; frozen = c.frozen; retired = c.retired; served = c.served; prepared = c.prepared; published = c.published }) ab
+    bc ∙ ap (λ (w : WorkflowView). record w { stage = c.stage; frozen = c.frozen; retired = c.retired; served = c.served; stored = c.stored; prepared = c.prepared; published = c.published }) ab
 
 module _ (o : Opening) (w now : WorkflowView) (p q : PassView Entry) where
   from : (v : WorkflowView) → now ≡ v → IsFurther w v → IsFurther w now
   from v is h = subst (λ (x : WorkflowView). IsFurther w x) (sym is) h
 
   pub further_switched : (step : CutoverStep) → HasSwitched o w now p q step → IsFurther w now
-  further_switched _ (cut.froze s at is e) = from (record w { stage = Switching; frozen = w.frozen + 1; prepared = true }) e refl
+  further_switched _ (cut.froze s at is n e) = from (record w { stage = Switching; frozen = w.frozen + 1; stored = now.stored; prepared = true }) e refl
   further_switched _ (cut.copied f m e) = from (record w { prepared = true }) e refl
   further_switched _ (cut.followed f m e) = from (record w { prepared = true }) e refl
   further_switched _ (cut.retired s at is e) = from (record w { retired = w.retired + 1; prepared = true }) e refl
@@ -41,7 +41,7 @@ module _ (o : Opening) (w now : WorkflowView) (p q : PassView Entry) where
   further_switched _ (cut.released u a b e) = from (record w { stage = Switched; prepared = true }) e refl
 
   pub switched_at_end : (step : CutoverStep) → HasSwitched o w now p q step → step ≡ Release → now.stage ≡ Switched
-  switched_at_end _ (cut.froze s at is e) r = absurd (cc r)
+  switched_at_end _ (cut.froze s at is n e) r = absurd (cc r)
   switched_at_end _ (cut.copied f m e) r = absurd (cc r)
   switched_at_end _ (cut.followed f m e) r = absurd (cc r)
   switched_at_end _ (cut.retired s at is e) r = absurd (cc r)
@@ -50,7 +50,7 @@ module _ (o : Opening) (w now : WorkflowView) (p q : PassView Entry) where
   switched_at_end _ (cut.released u a b e) r = ap (λ (v : WorkflowView). v.stage) e
 
   pub published_at_end : (step : CutoverStep) → HasSwitched o w now p q step → step ≡ Release → now.published ≡ true
-  published_at_end _ (cut.froze s at is e) r = absurd (cc r)
+  published_at_end _ (cut.froze s at is n e) r = absurd (cc r)
   published_at_end _ (cut.copied f m e) r = absurd (cc r)
   published_at_end _ (cut.followed f m e) r = absurd (cc r)
   published_at_end _ (cut.retired s at is e) r = absurd (cc r)
@@ -62,7 +62,7 @@ module _ (o : Opening) (w now : WorkflowView) (p q : PassView Entry) where
   stage_of v is = ap (λ (x : WorkflowView). x.stage) is
 
   pub begun_still : (step : CutoverStep) → HasSwitched o w now p q step → (w.stage ≡ None → ⊥) → now.stage ≡ None → ⊥
-  begun_still _ (cut.froze s at is e) h n = let x : Switching ≡ None = sym (ap (λ (v : WorkflowView). v.stage) e) ∙ n in absurd (cc x)
+  begun_still _ (cut.froze s at is c e) h n = let x : Switching ≡ None = sym (ap (λ (v : WorkflowView). v.stage) e) ∙ n in absurd (cc x)
   begun_still _ (cut.copied f m e) h n = h (sym (stage_of (record w { prepared = true }) e) ∙ n)
   begun_still _ (cut.followed f m e) h n = h (sym (stage_of (record w { prepared = true }) e) ∙ n)
   begun_still _ (cut.retired s at is e) h n = h (sym (stage_of (record w { retired = w.retired + 1; prepared = true }) e) ∙ n)
@@ -76,7 +76,7 @@ module _ (o : Opening) (w now : WorkflowView) (p q : PassView Entry) where
 
   -- a cutover that isn't at its end may go on
   pub may_still : (step : CutoverStep) → HasSwitched o w now p q step → (step ≡ Release → ⊥) → MaySwitch w → MaySwitch now
-  may_still _ (cut.froze s at is e) r m = inr (ap (λ (v : WorkflowView). v.stage) e)
+  may_still _ (cut.froze s at is n e) r m = inr (ap (λ (v : WorkflowView). v.stage) e)
   may_still _ (cut.copied f h e) r m = kept (record w { prepared = true }) e refl m
   may_still _ (cut.followed f h e) r m = kept (record w { prepared = true }) e refl m
   may_still _ (cut.retired s at is e) r m = kept (record w { retired = w.retired + 1; prepared = true }) e refl m
@@ -92,8 +92,8 @@ finished w now q far end out sources targets s t through = record {
       (subst (λ (l : List Shard). IsCutOver q.seen l targets) (s ∙ ap (λ (v : WorkflowView). v.sources) far) through);
   at =
       far
-      ∙ ap (λ (x : Stage). record w { stage = x; frozen = now.frozen; retired = now.retired; served = now.served; prepared = now.prepared; published = now.published }) end
-      ∙ ap (λ (b : Bool). record w { stage = Switched; frozen = now.frozen; retired = now.retired; served = now.served; prepared = now.prepared; published = b }) out;
+      ∙ ap (λ (x : Stage). record w { stage = x; frozen = now.frozen; retired = now.retired; served = now.served; stored = now.stored; prepared = now.prepared; published = now.published }) end
+      ∙ ap (λ (b : Bool). record w { stage = Switched; frozen = now.frozen; retired = now.retired; served = now.served; stored = now.stored; prepared = now.prepared; published = b }) out;
 }
 
 -- a refusal in a step of a cutover that had gone on

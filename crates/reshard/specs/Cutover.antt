@@ -1,12 +1,12 @@
 -- What the steps of a cutover do to a workflow and to what the controller's pass has seen.
-use Rattle.std.specs.Prelude.{◌≡◌, ◌⊎◌, ◌≤◌, ◌+◌, ◌^◌, true, false, List, length, Contains, Some, slice_get}
+use Rattle.std.specs.Prelude.{◌≡◌, ◌⊎◌, ◌≤◌, ◌+◌, ◌^◌, true, false, List, length, Contains, Some, slice_get, slice_set}
 use Rattle.std.specs.List.{AllByRecursion}
 use Rattle.vt_value.specs.declared.refusal.Refusal.TheVariants.{OutOfMemory, ShardFull}
 use Rattle.journal.specs.Views.{PassView}
 use Rattle.shard_run.specs.declared.Shard.{Shard}
 use Rattle.shard_run.specs.declared.Entry.{Entry}
 use Rattle.shard_run.specs.declared.Event.TheVariants as events
-use Rattle.shard_run.specs.Runs.{Opening, Run, entries_on}
+use Rattle.shard_run.specs.Runs.{Opening, Run, entries_on, stored_on}
 use Rattle.shard_contents.specs.declared.limits.Limits.{Limits}
 use Rattle.follow.specs.Steps.{IsOnward, IsRunBetween, HasStepped, IsFull}
 use Rattle.follow.specs.Turns.{EachInTurn}
@@ -19,10 +19,10 @@ use Rattle.reshard.specs.declared.finishing.Resumed.{Resumed}
 use Rattle.reshard.specs.declared.finishing.Resumed.TheVariants.{Thawed, Finished}
 use Rattle.reshard.specs.declared.cutover.CutoverStep.TheVariants.{Freeze, Copy, Follow, Retire, Serve, Publish, Release}
 use Rattle.cutover_steps.specs.Steps.{named_for}
-use Rattle.cutover_steps.specs.Looks.{HasThawed, IsServingAgain, IsCutOver, IsOverfull, IsWithinRows}
+use Rattle.cutover_steps.specs.Looks.{HasLookedOnlyAt, HasLookedForOneChange, HasThawed, IsServingAgain, IsCutOver, IsOverfull, IsWithinRows}
 use Rattle.reshard.specs.Workflows.{WorkflowView}
 use Rattle.cutover_steps.specs.Takings.{Taking, shards_of}
-use Rattle.reshard_beginning.specs.Begun.{HasMovedFirst}
+use Rattle.reshard_beginning.specs.Begun.{HasMovedFirst, IsOneStepFirst}
 
 -- a cutover goes on while targets follow, or it has begun
 abbrev pub MaySwitch : WorkflowView → Type 0
@@ -51,12 +51,13 @@ pub data IsSwitchRefusal (o : Opening) (most : Limits) (sources : List Shard) (t
   stuck : (t : Taking) → Contains targets t → IsStuck o most t.0 p now → IsSwitchRefusal o most sources targets p now (Refused ShardFull)
   overfull : (t : Taking) → Contains targets t → IsOverfull o most t.0 p now → IsSwitchRefusal o most sources targets p now (Refused ShardFull)
 
--- What a step of the cutover does: the next source is frozen; once all are, the first target that isn't level moves, else the next source
+-- What a step of the cutover does: the next source is frozen, and it is noted how many entries it has stored; once all are, the first target that isn't level moves, else the next source
 -- is retired for those of the targets that take from it; once all are, the next target serves; once all do, the next partition is published
 -- that wasn't, and once it was, the workflow's statements are released.
 pub data HasSwitched (o : Opening) (w : WorkflowView) (now : WorkflowView) (p q : PassView Entry) : CutoverStep → Type 0 where
   froze : (s : Shard) → slice_get w.sources w.frozen ≡ Some s → HasStepped o s events.Freeze p q
-      → now ≡ record w { stage = stages.Switching; frozen = w.frozen + 1; prepared = true } → HasSwitched o w now p q Freeze
+      → now.stored ≡ slice_set w.stored w.frozen (length (stored_on s.slot q.seen))
+      → now ≡ record w { stage = stages.Switching; frozen = w.frozen + 1; stored = now.stored; prepared = true } → HasSwitched o w now p q Freeze
   copied : length w.sources ≤ w.frozen → HasMovedFirst o w.targets p q moves.Copied → now ≡ record w { prepared = true } → HasSwitched o w now p q Copy
   followed : length w.sources ≤ w.frozen → HasMovedFirst o w.targets p q moves.Followed → now ≡ record w { prepared = true } → HasSwitched o w now p q Follow
   retired : (s : Shard) → slice_get w.sources w.retired ≡ Some s → HasStepped o s (events.Retire (named_for s (shards_of w.targets))) p q
@@ -67,6 +68,32 @@ pub data HasSwitched (o : Opening) (w : WorkflowView) (now : WorkflowView) (p q 
       → HasSwitched o w now p q Publish
   released : w.published ≡ true → length w.sources ≤ w.retired → length w.targets ≤ w.served → now ≡ record w { stage = stages.Switched; prepared = true }
       → HasSwitched o w now p q Release
+
+-- before the first retirement the pass looks at targets and their sources, as a step does that finds all level, and once more at each target
+abbrev pub HasFoundReady : WorkflowView → PassView Entry → PassView Entry → Type 0
+HasFoundReady w p m =
+    (l : PassView Entry) × IsOneStepFirst w.targets p l moves.Level × EachInTurn (λ (t : Taking). HasLookedOnlyAt t.0.slot) w.targets l m
+
+-- The steps from the first retirement on: the pass looks at the source that retires alone; or at the sources, one after the other, and then at the
+-- target alone that serves; or nowhere.
+abbrev pub EndsAlone : WorkflowView → PassView Entry → PassView Entry → CutoverStep → Type 0
+EndsAlone w m q Freeze = ⊥
+EndsAlone w m q Copy = ⊥
+EndsAlone w m q Follow = ⊥
+EndsAlone w m q Retire = (s : Shard) × (slice_get w.sources w.retired ≡ Some s) × HasLookedOnlyAt s.slot m q
+EndsAlone w m q Serve =
+    (t : Taking) × (slice_get w.targets w.served ≡ Some t) × (n : PassView Entry) × EachInTurn (λ s. HasLookedOnlyAt s.slot) w.sources m n
+    × HasLookedOnlyAt t.0.slot n q
+EndsAlone w m q Publish = q ≡ m
+EndsAlone w m q Release = q ≡ m
+
+-- A step of a cutover does no more than it tells. One that freezes the next source looks there alone, and changes its mode once; one that moves a target
+-- is one step of the first that isn't level. So is what comes before the first retirement, which finds all level.
+abbrev pub DoesNoMore : WorkflowView → PassView Entry → PassView Entry → CutoverStep → Type 0
+DoesNoMore w p q Freeze = (s : Shard) × (slice_get w.sources w.frozen ≡ Some s) × HasLookedForOneChange s.slot p q
+DoesNoMore w p q Copy = IsOneStepFirst w.targets p q moves.Copied
+DoesNoMore w p q Follow = IsOneStepFirst w.targets p q moves.Followed
+DoesNoMore w p q step = (m : PassView Entry) × ((m ≡ p) ⊎ ((w.retired ≡ 0) × HasFoundReady w p m)) × EndsAlone w m q step
 
 -- The first source may retire: all are frozen, each target was found level with its sources, and then, at a run that the pass came by, with no
 -- more rows than a shard that serves may have.
@@ -87,7 +114,7 @@ pub record HasGivenUp (o : Opening) (w now : WorkflowView) (p q : PassView Entry
 -- switched.
 pub record HasFinished (w now : WorkflowView) (q : PassView Entry) : Type 0 where
   pub through : IsCutOver q.seen w.sources w.targets
-  pub at : now ≡ record w { stage = stages.Switched; frozen = now.frozen; retired = now.retired; served = now.served; prepared = now.prepared; published = true }
+  pub at : now ≡ record w { stage = stages.Switched; frozen = now.frozen; retired = now.retired; served = now.served; stored = now.stored; prepared = now.prepared; published = true }
 
 -- A step of a cutover stopped for this cause, which the pass came by, and then the cutover was given up.
 pub record HasStopped (o : Opening) (most : Limits) (w now : WorkflowView) (p q : PassView Entry) (e : ReshardFault) : Type 0 where
@@ -99,7 +126,8 @@ pub record HasStopped (o : Opening) (most : Limits) (w now : WorkflowView) (p q 
 -- the same workflow, whose cutover may have gone on
 abbrev pub IsFurther : WorkflowView → WorkflowView → Type 0
 IsFurther w now =
-    now ≡ record w { stage = now.stage; frozen = now.frozen; retired = now.retired; served = now.served; prepared = now.prepared; published = now.published }
+    now
+    ≡ record w { stage = now.stage; frozen = now.frozen; retired = now.retired; served = now.served; stored = now.stored; prepared = now.prepared; published = now.published }
 
 -- A cutover went on, and then a step of it stopped.
 pub record HasStoppedLater (o : Opening) (most : Limits) (w now : WorkflowView) (p q : PassView Entry) (e : ReshardFault) : Type 0 where

@@ -32,6 +32,7 @@ pub record IsReopened (o : Opening) (p now : PassView Entry) (from into : List S
     frozen = next.frozen;
     retired = next.retired;
     served = next.served;
+    stored = next.stored;
     prepared = true;
     published = next.published;
   }

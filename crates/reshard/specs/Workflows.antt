@@ -16,8 +16,8 @@ use Rattle.reshard_beginning.specs.Grounds.{IsGround, IsFree}
 use Rattle.reshard_beginning.specs.Splits.{IsSplit, target_seats}
 
 -- How far it is, in which keyspace, the slots that no shard ever stood on, and the shards that it replaces, and by which; how many of the
--- first of these are frozen or retired, and how many of those serve; whether the memory of the cutover is made, and whether the next partition was
--- published.
+-- first of these are frozen or retired, and how many of those serve; how many entries each source is noted to have stored, since it was frozen; whether
+-- the memory of the cutover is made, and whether the next partition was published.
 pub record WorkflowView : Type 0 where
   pub stage : Stage
   pub keyspace : ℕ
@@ -27,6 +27,7 @@ pub record WorkflowView : Type 0 where
   pub frozen : ℕ
   pub retired : ℕ
   pub served : ℕ
+  pub stored : List ℕ
   pub prepared : Bool
   pub published : Bool
 

@@ -55,6 +55,7 @@ impl<W: World, J: Naming> Workflow<W, J> {
           frozen = 0;
           retired = 0;
           served = 0;
+          stored = [];
           prepared = false;
           published = false;
         } }
@@ -102,9 +103,9 @@ impl<W: World, J: Naming> Workflow<W, J> {
         requires home { serving.now ≡ self.old.keyspace }
         requires named { AllByRecursion IsNamed targets.now }
         ensures begun { OnOk result (HasBegun W.opening pass.old pass.new self.new.sources self.new.targets self.old.keyspace sources.now targets.now) }
-        ensures at { OnOk result (self.new ≡ record self.old { stage = Stage.Following; free = self.new.free; sources = self.new.sources; targets = self.new.targets; frozen = 0; retired = 0; served = 0; prepared = false; published = false }) }
+        ensures at { OnOk result (self.new ≡ record self.old { stage = Stage.Following; free = self.new.free; sources = self.new.sources; targets = self.new.targets; frozen = 0; retired = 0; served = 0; stored = self.new.stored; prepared = false; published = false }) }
         ensures was { OnOk result (self.old.stage ≡ Stage.None) }
-        ensures refused { IfErr result (λ e. ((e ≡ ReshardFault.WrongState) × (self.old.stage ≡ Stage.None → ⊥))
+        ensures refused { IfErr result (λ e. ((e ≡ ReshardFault.WrongState) × (self.old.stage ≡ Stage.None → ⊥) × (pass.new ≡ pass.old))
             ⊎ ((self.old.stage ≡ Stage.None) × IsCreateRefusal W.opening pass.old pass.new self.old.keyspace (length self.old.free) sources.now targets.now e)) }
         ensures taken { OnOk result (self.old.free ≡ self.new.free ++ reverse (map (λ t. t.0.slot) self.new.targets)) }
         ensures same { OnErr result (self.new ≡ self.old) }
@@ -161,7 +162,7 @@ impl<W: World, J: Naming> Workflow<W, J> {
         ensures once { IfOk result (IsOneStepFirst self.old.targets pass.old pass.new) }
         ensures refused { IfErr result (λ e. ((e ≡ ReshardFault.WrongState) × (self.old.stage ≡ Stage.Following → ⊥))
             ⊎ ((self.old.stage ≡ Stage.Following) × IsMoveRefusal W.opening W.limits self.old.targets pass.new e)) }
-        ensures nothing { OnErr result (((self.old.stage ≡ Stage.Following → ⊥) × (pass.new ≡ pass.old)) ⊎ IsNoStepFirst self.old.targets pass.old pass.new) }
+        ensures nothing { OnErr result (((self.old.stage ≡ Stage.Following → ⊥) × (pass.new ≡ pass.old)) ⊎ ((self.old.stage ≡ Stage.Following) × IsNoStepFirst self.old.targets pass.old pass.new)) }
         ensures same { self.new ≡ self.old }
         ensures onward { IsOnward W.opening pass.old pass.new }
     {

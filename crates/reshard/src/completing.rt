@@ -26,7 +26,7 @@ impl<W: World, J: Naming> Workflow<W, J> {
 
     // Promise: A workflow is completed exactly where its targets serve (else N4): each of its sources is retired, so that no statement
     // reads it, and there is none. That the sources' rows are given up no clause tells
-    // Refuses: completed_before_its_end
+    // Refuses: completed_before_its_end, completed_sources_are_not_looked_at
     /// Ends the workflow, whose targets serve: its sources' rows are dropped, and their slots are used up. Refuses where the targets don't
     /// serve. Takes no memory.
     pub fn complete(
@@ -36,7 +36,7 @@ impl<W: World, J: Naming> Workflow<W, J> {
     ) -> Result<(), ReshardFault>
         requires legal { IsLegal (MayFollow W.opening) pass.old.seen }
         ensures was { OnOk result (self.old.stage ≡ Stage.Switched) }
-        ensures none { OnOk result (self.new ≡ record self.old { stage = Stage.None; sources = []; targets = []; frozen = 0; retired = 0; served = 0; prepared = false; published = false }) }
+        ensures none { OnOk result (self.new ≡ record self.old { stage = Stage.None; sources = []; targets = []; frozen = 0; retired = 0; served = 0; stored = []; prepared = false; published = false }) }
         ensures out { OnOk result (AllByRecursion (λ s. IsOutOfUse W.opening s pass.old pass.new) self.old.sources) }
         ensures refused { IfErr result (λ e. (e ≡ ReshardFault.WrongState) × (self.old.stage ≡ Stage.Switched → ⊥) × (self.new ≡ self.old) × (pass.new ≡ pass.old)) }
         ensures onward { IsOnward W.opening pass.old pass.new }

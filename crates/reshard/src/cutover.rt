@@ -2,16 +2,19 @@
 //! published.
 ghost use Rattle.shard_run.specs.declared.Shard as which;
 ghost use Rattle.shard_run.specs.declared.Event.{Event};
-ghost use Rattle.std.specs.Prelude.{◌≡◌, ◌+◌, ◌<◌, true, false, Some, IfErr, OnOk, OnErr, Contains, length, slice_get};
+ghost use Rattle.std.specs.Prelude.{◌≡◌, ◌+◌, ◌<◌, true, false, Some, IfErr, OnOk, OnErr, Contains, length, slice_get, slice_set};
 ghost use Rattle.std.specs.List.{AllByRecursion};
 ghost use Rattle.journal.specs.Runs.{IsLegal};
+ghost use Rattle.journal.specs.Views.{PassView};
+ghost use Rattle.shard_run.specs.declared.Entry.{Entry};
+ghost use Rattle.shard_run.specs.Runs.{stored_on};
 ghost use Rattle.shard_contents.specs.Shards.{MayFollow};
 ghost use Rattle.follow.specs.Steps.{IsOnward, HasStepped};
 ghost use Rattle.cutover_steps.specs.Steps.{named_for};
 ghost use Rattle.cutover_steps.specs.Takings.{Taking, shards_of};
 ghost use Rattle.reshard.specs.Cutover.{HasNoRoom};
 ghost use Rattle.follow.specs.Turns.{EachInTurn};
-ghost use Rattle.cutover_steps.specs.Looks.{HasThawed, IsServingAgain};
+ghost use Rattle.cutover_steps.specs.Looks.{HasLookedOnlyAt, HasLookedForOneChange, HasThawed, IsServingAgain};
 
 use crate::workflow::{Stage, Workflow};
 use buffer::Buffer;
@@ -77,8 +80,10 @@ impl<W: World, J: Naming> Workflow<W, J> {
         requires begun { self.old.stage ≡ Stage.None → ⊥ }
         requires legal { IsLegal (MayFollow W.opening) pass.old.seen }
         requires some { self.old.frozen < length self.old.sources }
-        ensures froze { OnOk result ((s : which.Shard) × (slice_get self.old.sources self.old.frozen ≡ Some s) × HasStepped W.opening s Event.Freeze pass.old pass.new) }
-        ensures now { OnOk result (self.new ≡ record self.old { stage = Stage.Switching; frozen = self.old.frozen + 1 }) }
+        ensures froze { OnOk result ((s : which.Shard) × (slice_get self.old.sources self.old.frozen ≡ Some s) × HasStepped W.opening s Event.Freeze pass.old pass.new
+            × HasLookedForOneChange s.slot pass.old pass.new
+            × (self.new.stored ≡ slice_set self.old.stored self.old.frozen (length (stored_on s.slot pass.new.seen)))) }
+        ensures now { OnOk result (self.new ≡ record self.old { stage = Stage.Switching; frozen = self.old.frozen + 1; stored = self.new.stored }) }
         ensures same { OnErr result (self.new ≡ self.old) }
         ensures err { IfErr result (λ e. (e ≡ Refusal.ShardFull) × ((s : which.Shard) × Contains self.old.sources s × HasNoRoom s pass.old pass.new)) }
         ensures onward { IsOnward W.opening pass.old pass.new }
@@ -98,7 +103,8 @@ impl<W: World, J: Naming> Workflow<W, J> {
         requires some { self.old.retired < length self.old.sources }
         requires prepared { self.old.prepared ≡ true }
         ensures retired { (s : which.Shard) × (slice_get self.old.sources self.old.retired ≡ Some s)
-            × HasStepped W.opening s (Event.Retire (named_for s (shards_of self.old.targets))) pass.old pass.new }
+            × HasStepped W.opening s (Event.Retire (named_for s (shards_of self.old.targets))) pass.old pass.new
+            × HasLookedOnlyAt s.slot pass.old pass.new }
         ensures now { self.new ≡ record self.old { retired = self.old.retired + 1 } }
     {
         let targets = self.named.next().unwrap();
@@ -124,7 +130,8 @@ impl<W: World, J: Naming> Workflow<W, J> {
         requires schema { schema.now ≡ W.opening.schema }
         requires legal { IsLegal (MayFollow W.opening) pass.old.seen }
         requires some { self.old.served < length self.old.targets }
-        ensures served { (t : Taking) × (slice_get self.old.targets self.old.served ≡ Some t) × HasStepped W.opening t.0 Event.Serve pass.old pass.new }
+        ensures served { (t : Taking) × (slice_get self.old.targets self.old.served ≡ Some t) × HasStepped W.opening t.0 Event.Serve pass.old pass.new
+            × (n : PassView Entry) × EachInTurn (λ s. HasLookedOnlyAt s.slot) self.old.sources pass.old n × HasLookedOnlyAt t.0.slot n pass.new }
         ensures now { self.new ≡ record self.old { served = self.old.served + 1 } }
     {
         let target = &self.targets[self.served];

@@ -37,7 +37,7 @@ impl<W: World, J: Naming> Workflow<W, J> {
 
     // Has no workflow from now on.
     pub(crate) fn forget(&mut self)
-        ensures { self.new ≡ record self.old { stage = Stage.None; sources = []; targets = []; frozen = 0; retired = 0; served = 0; prepared = false; published = false } }
+        ensures { self.new ≡ record self.old { stage = Stage.None; sources = []; targets = []; frozen = 0; retired = 0; served = 0; stored = []; prepared = false; published = false } }
     {
         self.sources.clear();
         self.targets.clear();
@@ -66,7 +66,7 @@ impl<W: World, J: Naming> Workflow<W, J> {
     ) -> Result<(), ReshardFault>
         requires legal { IsLegal (MayFollow W.opening) pass.old.seen }
         ensures was { OnOk result (MayCancel self.old) }
-        ensures none { OnOk result (self.new ≡ record self.old { stage = Stage.None; sources = []; targets = []; frozen = 0; retired = 0; served = 0; prepared = false; published = false }) }
+        ensures none { OnOk result (self.new ≡ record self.old { stage = Stage.None; sources = []; targets = []; frozen = 0; retired = 0; served = 0; stored = []; prepared = false; published = false }) }
         ensures serve { OnOk result (AllByRecursion (λ s. IsServingAgain W.opening s pass.old pass.new) self.old.sources) }
         ensures thawed { OnOk result (EachInTurn (HasThawed W.opening) self.old.sources pass.old pass.new) }
         ensures refused { IfErr result (λ e. (e ≡ ReshardFault.WrongState) × (MayCancel self.old → ⊥) × (self.new ≡ self.old) × (pass.new ≡ pass.old)) }

@@ -87,6 +87,7 @@ impl<W: World, J: Naming> Workflow<W, J> {
     // Promise: A whole cutover, begun while targets follow, ends with each source retired and each target serving in what the pass has
     // seen, and the next partition published; else it stopped as a step does, with nothing retired, and was given up. That the targets
     // come level before the first source freezes is for tests
+    // Refuses: whole_cutover_ends_before_its_release, whole_cutover_goes_on_with_one_that_began
     /// Takes all steps of the cutover that are left: the targets serve then, in the place of the sources. Before the first source freezes it
     /// brings the targets forward, as `step` does, until all are level, or twice as many entries were followed as their sources had stored.
     /// Refuses where no targets follow, or a cutover has begun. For want of memory, and where a shard would have more rows or entries than it may, the cutover is given up, of which

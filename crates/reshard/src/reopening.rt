@@ -73,7 +73,7 @@ impl<W: World, J: Naming> Workflow<W, J> {
         requires home { serving.now ≡ self.old.keyspace }
         ensures was { OnOk result (self.old.stage ≡ Stage.None) }
         ensures reopened { OnOk result (IsReopened W.opening pass.old pass.new sources.now targets.now self.old self.new) }
-        ensures refused { IfErr result (λ e. ((e ≡ ReshardFault.WrongState) × (self.old.stage ≡ Stage.None → ⊥))
+        ensures refused { IfErr result (λ e. ((e ≡ ReshardFault.WrongState) × (self.old.stage ≡ Stage.None → ⊥) × (pass.new ≡ pass.old))
             ⊎ ((self.old.stage ≡ Stage.None) × IsReopenRefusal W.opening pass.old pass.new self.old.keyspace sources.now targets.now e)) }
         ensures same { OnErr result (self.new ≡ self.old) }
         ensures onward { IsOnward W.opening pass.old pass.new }

@@ -4,7 +4,7 @@ ghost use Rattle.vschema.specs.WellFormed.{is_vschema};
 ghost use Rattle.journal.specs.Runs.{IsLegal};
 ghost use Rattle.shard_contents.specs.Shards.{MayFollow};
 ghost use Rattle.follow.specs.Steps.{IsOnward};
-ghost use Rattle.reshard.specs.Cutover.{HasSwitched, HasStopped, IsSwitchRefusal, MayRetireFirst, MaySwitch};
+ghost use Rattle.reshard.specs.Cutover.{HasSwitched, HasFoundReady, EndsAlone, DoesNoMore, HasStopped, IsSwitchRefusal, MayRetireFirst, MaySwitch};
 
 use crate::cutover::CutoverStep;
 use crate::workflow::{Stage, Workflow};
@@ -36,6 +36,7 @@ impl<W: World, J: Naming> Workflow<W, J> {
         requires begun { self.old.stage ≡ Stage.None → ⊥ }
         requires prepared { self.old.prepared ≡ true }
         ensures switched { HasSwitched W.opening self.old self.new pass.old pass.new result }
+        ensures alone { EndsAlone self.old pass.old pass.new result }
         ensures steady { self.new ≡ record self.old { stage = self.new.stage; retired = self.new.retired; served = self.new.served; published = self.new.published } }
         ensures onward { IsOnward W.opening pass.old pass.new }
     {
@@ -69,8 +70,9 @@ impl<W: World, J: Naming> Workflow<W, J> {
         requires formed { IsTrue (is_vschema W.opening.schema) }
         requires legal { IsLegal (MayFollow W.opening) pass.old.seen }
         ensures step { IfOk result (λ r. MatchOption r (self.new ≡ record self.old { prepared = true }) (HasSwitched W.opening self.old self.new pass.old pass.new)) }
+        ensures once { IfOk result (λ r. MatchOption r (HasFoundReady self.old pass.old pass.new) (DoesNoMore self.old pass.old pass.new)) }
         ensures ready { IfOk result (λ r. MatchOption r (MayRetireFirst W.opening W.limits self.old pass.old pass.new) (λ step. step ≡ CutoverStep.Retire → ⊥)) }
-        ensures steady { OnOk result (self.new ≡ record self.old { stage = self.new.stage; frozen = self.new.frozen; prepared = true }) }
+        ensures steady { OnOk result (self.new ≡ record self.old { stage = self.new.stage; frozen = self.new.frozen; stored = self.new.stored; prepared = true }) }
         ensures refused { IfErr result (λ e. IsSwitchRefusal W.opening W.limits self.old.sources self.old.targets pass.old pass.new (ReshardFault.Refused e)) }
         ensures same { OnErr result (self.new ≡ record self.old { prepared = self.new.prepared }) }
         ensures onward { IsOnward W.opening pass.old pass.new }
@@ -108,6 +110,7 @@ impl<W: World, J: Naming> Workflow<W, J> {
         requires legal { IsLegal (MayFollow W.opening) pass.old.seen }
         requires home { serving.now ≡ self.old.keyspace }
         ensures switched { IfOk result (HasSwitched W.opening self.old self.new pass.old pass.new) }
+        ensures once { IfOk result (DoesNoMore self.old pass.old pass.new) }
         ensures ready { IfOk result (λ step. step ≡ CutoverStep.Retire → self.old.retired ≡ 0 → MayRetireFirst W.opening W.limits self.old pass.old pass.new) }
         ensures refused { IfErr result (λ e. IsSwitchRefusal W.opening W.limits self.old.sources self.old.targets pass.old pass.new (ReshardFault.Refused e)) }
         ensures none { OnErr result (self.old.retired ≡ 0) }
@@ -138,12 +141,15 @@ impl<W: World, J: Naming> Workflow<W, J> {
     // the next partition is published, once, and only then the statements that waited go on. That others see the partition then, and that
     // the statements do go on, is for tests. It is taken exactly while targets follow or the cutover has begun (else N4, and nothing changed). For want of memory, and where a source or a target would pass a limit (F24), which it tells
     // only where the pass came by it, the cutover is given up, of which no source is retired: each source serves again and isn't looked
-    // at after that, and the targets follow. The first source retires only where the workflow has frozen all, and the step found each target
-    // level, and then with no more rows than a shard that serves may have
+    // at after that, and the targets follow. A step does no more than it tells: one that moves a target is one step of it, as `step` takes it; one
+    // that freezes or retires a source, or has a target serve, ends with looks at that shard alone, and before them it looked only at targets and
+    // their sources, as a step does that finds all level, or at sources that are retired; and the others look nowhere. The first source
+    // retires only where the workflow has frozen all, and the step found each target level, and then with no more rows than a shard that serves
+    // may have
     // Refuses: given_up_cutover_thaws_none, cutover_steps::failed_cutover_leaves_frozen, switch_step_takes_two,
     // cutover_without_looking_for_room, given_up_source_freezes_again, retires_behind_a_copy, retires_behind_a_follow,
     // first_source_retires_before_the_second_froze, cutover_steps::fits_whatever_it_holds, released_before_it_is_published,
-    // partition_is_dropped_unpublished
+    // partition_is_dropped_unpublished, cutover_copies_twice, freeze_is_noted_by_half
     /// Takes the next step of the cutover, and tells which: the next source is frozen; once all are, the first target moves that isn't level,
     /// else the next source is retired; then the targets serve, the next partition is published, and the statements that waited go on.
     /// Refuses where no targets follow and no cutover has begun. For want of memory, and where a shard would have more rows or entries than
@@ -164,6 +170,7 @@ impl<W: World, J: Naming> Workflow<W, J> {
         requires home { serving.now ≡ self.old.keyspace }
         ensures was { OnOk result (MaySwitch self.old) }
         ensures switched { IfOk result (HasSwitched W.opening self.old self.new pass.old pass.new) }
+        ensures once { IfOk result (DoesNoMore self.old pass.old pass.new) }
         ensures ready { IfOk result (λ step. step ≡ CutoverStep.Retire → self.old.retired ≡ 0 → MayRetireFirst W.opening W.limits self.old pass.old pass.new) }
         ensures refused { IfErr result (λ e. ((e ≡ ReshardFault.WrongState) × (MaySwitch self.old → ⊥) × (self.new ≡ self.old) × (pass.new ≡ pass.old))
             ⊎ (MaySwitch self.old × HasStopped W.opening W.limits self.old self.new pass.old pass.new e)) }

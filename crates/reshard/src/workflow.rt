@@ -62,6 +62,7 @@ impl<W: World, J: Naming> Model for Workflow<W, J> {
       frozen = w.frozen;
       retired = w.retired;
       served = w.served;
+      stored = map (λ s. s.stored) w.sources.items;
       prepared = w.prepared;
       published = w.published;
     } };

@@ -1,4 +1,6 @@
-use Rattle.cutover_steps.proofs.Onward.{onward_trans}
+use Rattle.std.proofs.Common.{refl}
+use Rattle.cutover_steps.proofs.Onward.{still, onward_trans}
+use Rattle.cutover_steps.proofs.Thaws.{not_looked, looked_on}
 use Rattle.cutover_steps.proofs.confirming.confirm.Goals as goal
 
 pub loop-preserved : goal.loop-preserved
@@ -7,7 +9,21 @@ loop-preserved g c = record {
   finite = tt;
   onward =
       onward_trans g.W.World.opening c.args.pass.now c.loop.pass c.try_retired_for.new.pass c.loop.invariant.onward c.try_retired_for.ensures.onward;
+  alone =
+      looked_on c.args.source.now.member.which.slot c.args.pass.now c.loop.pass c.try_retired_for.new.pass c.loop.invariant.alone c.try_retired_for.ensures.alone;
 }
+
+pub loop-init : goal.loop-init
+loop-init g c = record {
+  next = tt;
+  finite = tt;
+  onward = still g.W.World.opening c.args.pass.now c.requires.legal;
+  alone = not_looked c.args.source.now.member.which.slot c.args.pass.now c.args.pass.now refl;
+}
+
+pub returns-then-try_retired_for-clause-alone : goal.returns-then-try_retired_for-clause-alone
+returns-then-try_retired_for-clause-alone g c =
+    looked_on c.args.source.now.member.which.slot c.args.pass.now c.loop.pass c.try_retired_for.new.pass c.loop.invariant.alone c.try_retired_for.ensures.alone
 
 pub returns-then-try_retired_for-clause-retired : goal.returns-then-try_retired_for-clause-retired
 returns-then-try_retired_for-clause-retired g c = c.try_retired_for.ensures.retired c.if-try_retired_for.true

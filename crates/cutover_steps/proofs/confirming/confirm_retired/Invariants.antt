@@ -1,5 +1,7 @@
 use Rattle.std.proofs.Common.{map, take}
 use Rattle.follow.specs.Steps.{IsOnward}
+use Rattle.follow.specs.Turns.{EachInTurn}
+use Rattle.cutover_steps.specs.Looks.{HasLookedOnlyAt}
 use Rattle.cutover_steps.specs.Steps.{AreRetired}
 use Rattle.cutover_steps.proofs.confirming.confirm_retired.Given as goal
 
@@ -8,4 +10,5 @@ abbrev pub invariant-loop-source : goal.invariant-loop-source
 invariant-loop-source g l = record {
   onward : IsOnward g.W.World.opening l.fn.pass l.pass;
   retired : AreRetired l.pass.seen l.target (map (λ s. (s.member.which, s.stored)) (take l.source-index l.sources));
+  looked : EachInTurn (λ s. HasLookedOnlyAt s.slot) (map (λ s. s.member.which) (take l.source-index l.sources)) l.fn.pass l.pass;
 }

@@ -3,7 +3,9 @@ use Rattle.journal.proofs.Fronts.{prefix_self}
 use Rattle.cutover_steps.proofs.Onward.{still, onward_trans}
 use Rattle.cutover_steps.proofs.Thaws.{within_next}
 use Rattle.cutover_steps.specs.Takings.{Taking}
-use Rattle.cutover_steps.specs.Looks.{IsWithinRows}
+use Rattle.follow.specs.Turns as turns
+use Rattle.follow.proofs.Turns.{one_more_turn, all_took_turns}
+use Rattle.cutover_steps.specs.Looks.{HasLookedOnlyAt, IsWithinRows}
 use Rattle.shard_contents.proofs.Progress.{take_whole}
 use Rattle.std.specs.List.{AllByRecursion}
 use Rattle.cutover_steps.proofs.Retiring.{map_at}
@@ -33,7 +35,7 @@ returns-then-not-fits-clause-onward g c =
     onward_trans g.W.World.opening c.args.pass.now c.loop-target.pass c.fits.new.pass c.loop-target.invariant.onward c.fits.ensures.onward
 
 pub loop-target-init : goal.loop-target-init
-loop-target-init g c = record { onward = still g.W.World.opening c.args.pass.now c.requires.legal; few = tt }
+loop-target-init g c = record { onward = still g.W.World.opening c.args.pass.now c.requires.legal; few = tt; looked = turns.none }
 
 pub loop-target-preserved : goal.loop-target-preserved
 loop-target-preserved g c =
@@ -45,6 +47,10 @@ loop-target-preserved g c =
           within_next (λ t. (t.member.which, map (λ s. s.which) t.sources.items)) o g.W.World.limits p c.loop-target.pass c.fits.new.pass
           c.args.targets.now c.loop-target.target-index c.target-item.result c.loop-target-test.true c.target-item.is c.loop-target.invariant.onward
           c.fits.ensures.onward (c.fits.ensures.few c.if-not-fits.false) c.loop-target.invariant.few;
+      looked =
+          one_more_turn {X = Taking} (λ t. (t.member.which, map (λ s. s.which) t.sources.items)) c.args.targets.now c.loop-target.target-index c.target-item.result
+          c.loop-target-test.true c.target-item.is (λ t. HasLookedOnlyAt t.0.slot) p c.loop-target.pass c.fits.new.pass c.loop-target.invariant.looked
+          c.fits.ensures.alone;
     }
 
 pub returns-clause-onward : goal.returns-clause-onward
@@ -55,3 +61,8 @@ returns-clause-few g c e =
     subst (λ l. AllByRecursion (λ t. IsWithinRows g.W.World.opening g.W.World.limits t.0 c.args.pass.now c.loop-target.pass)
     (map {B = Taking} (λ t. (t.member.which, map (λ s. s.which) t.sources.items)) l))
     (take_whole c.loop-target.target-index c.args.targets.now c.loop-target-test.false) c.loop-target.invariant.few
+
+pub returns-clause-looked : goal.returns-clause-looked
+returns-clause-looked g c e =
+    all_took_turns {X = Taking} (λ t. (t.member.which, map (λ s. s.which) t.sources.items)) c.args.targets.now c.loop-target.target-index c.loop-target-test.false
+    (λ t. HasLookedOnlyAt t.0.slot) c.args.pass.now c.loop-target.pass c.loop-target.invariant.looked

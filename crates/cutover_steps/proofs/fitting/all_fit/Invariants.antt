@@ -2,7 +2,8 @@ use Rattle.std.proofs.Common.{map, take}
 use Rattle.std.specs.List.{AllByRecursion}
 use Rattle.follow.specs.Steps.{IsOnward}
 use Rattle.cutover_steps.specs.Takings.{Taking}
-use Rattle.cutover_steps.specs.Looks.{IsWithinRows}
+use Rattle.follow.specs.Turns.{EachInTurn}
+use Rattle.cutover_steps.specs.Looks.{HasLookedOnlyAt, IsWithinRows}
 use Rattle.cutover_steps.proofs.fitting.all_fit.Given as goal
 
 -- the targets so far fit
@@ -13,4 +14,7 @@ invariant-loop-target g l =
       few :
           AllByRecursion (λ t. IsWithinRows g.W.World.opening g.W.World.limits t.0 l.fn.pass l.pass)
           (map {B = Taking} (λ t. (t.member.which, map (λ s. s.which) t.sources.items)) (take l.target-index l.targets));
+      looked :
+          EachInTurn (λ t. HasLookedOnlyAt t.0.slot) (map {B = Taking} (λ t. (t.member.which, map (λ s. s.which) t.sources.items)) (take l.target-index l.targets))
+          l.fn.pass l.pass;
     }

@@ -1,11 +1,11 @@
-use Rattle.follow.specs.Steps.{IsOnward}
+use Rattle.std.proofs.Common.{◌≡◌}
 use Rattle.cutover_steps.proofs.steps.freeze.Given as goal
 
--- so far there were looks alone
+-- so far there was no look
 abbrev pub invariant-loop : goal.invariant-loop
 invariant-loop g l =
     record {
       next : (goal.iterator-loop g).can_next l.iterator';
       finite : (goal.iterator-loop g).is_finite l.iterator';
-      onward : IsOnward g.W.World.opening l.fn.pass l.pass;
+      same : l.pass ≡ l.fn.pass;
     }

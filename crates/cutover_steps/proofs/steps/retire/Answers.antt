@@ -1,9 +1,10 @@
-use Rattle.std.proofs.Common.{List, subst, sym, ◌∙◌}
+use Rattle.std.proofs.Common.{List, refl, subst, sym, ◌∙◌}
 use Rattle.shard_run.specs.declared.Shard.{Shard}
 use Rattle.shard_run.specs.declared.Event.TheVariants.{Retire}
 use Rattle.follow.specs.Steps.{HasStepped}
 use Rattle.cutover_steps.specs.Steps.{FitTargets}
-use Rattle.cutover_steps.proofs.Onward.{onward_trans, stepped_after}
+use Rattle.cutover_steps.proofs.Onward.{still, onward_trans, stepped_after}
+use Rattle.cutover_steps.proofs.Thaws.{not_looked, looked_on}
 use Rattle.cutover_steps.proofs.steps.retire.Goals as goal
 
 pub try_retire-requires-clause-legal : goal.try_retire-requires-clause-legal
@@ -20,10 +21,24 @@ returns-in-Ok-clause-retired g c =
 pub returns-in-Ok-clause-stored : goal.returns-in-Ok-clause-stored
 returns-in-Ok-clause-stored g c = c.in-Ok.ensures.stored
 
+pub returns-in-Ok-clause-alone : goal.returns-in-Ok-clause-alone
+returns-in-Ok-clause-alone g c =
+    looked_on c.args.which.now.slot c.args.pass.now c.loop.pass c.try_retire.new.pass c.loop.invariant.alone c.try_retire.ensures.alone
+
+pub loop-init : goal.loop-init
+loop-init g c = record {
+  next = tt;
+  finite = tt;
+  onward = still g.W.World.opening c.args.pass.now c.requires.legal;
+  same = refl;
+  alone = not_looked c.args.which.now.slot c.args.pass.now c.args.pass.now refl;
+}
+
 pub loop-preserved : goal.loop-preserved
 loop-preserved g c = record {
   next = tt;
   finite = tt;
   onward = onward_trans g.W.World.opening c.args.pass.now c.loop.pass c.try_retire.new.pass c.loop.invariant.onward c.in-Err.ensures.onward;
   same = c.in-Err.ensures.back ∙ c.loop.invariant.same;
+  alone = looked_on c.args.which.now.slot c.args.pass.now c.loop.pass c.try_retire.new.pass c.loop.invariant.alone c.try_retire.ensures.alone;
 }

@@ -1,8 +1,9 @@
 use Rattle.std.proofs.Common.{◌≡◌}
 use Rattle.follow.specs.Steps.{IsOnward}
+use Rattle.cutover_steps.specs.Looks.{HasLookedOnlyAt}
 use Rattle.cutover_steps.proofs.steps.retire.Given as goal
 
--- so far there were looks alone
+-- so far there were looks alone, at this shard
 abbrev pub invariant-loop : goal.invariant-loop
 invariant-loop g l =
     record {
@@ -10,4 +11,5 @@ invariant-loop g l =
       finite : (goal.iterator-loop g).is_finite l.iterator';
       onward : IsOnward g.W.World.opening l.fn.pass l.pass;
       same : l.targets ≡ l.fn.targets;
+      alone : HasLookedOnlyAt l.which.slot l.fn.pass l.pass;
     }

@@ -1,6 +1,7 @@
-use Rattle.std.proofs.Common.{map}
+use Rattle.std.proofs.Common.{map, refl}
 use Rattle.shard_contents.proofs.Legality.{legal_is}
-use Rattle.cutover_steps.proofs.Onward.{onward_trans, stepped_after}
+use Rattle.cutover_steps.proofs.Onward.{still, onward_trans, stepped_after}
+use Rattle.cutover_steps.proofs.Thaws.{not_looked, looked_on}
 use Rattle.cutover_steps.proofs.Retiring.{are_retired_later}
 use Rattle.cutover_steps.proofs.steps.serve.Goals as goal
 
@@ -10,12 +11,25 @@ try_serve-requires-clause-retired g c =
     are_retired_later o c.requires.opens c.args.pass.now.seen c.loop.pass.seen c.loop.invariant.onward.later
     (legal_is o c.loop.pass.seen c.loop.invariant.onward.legal) c.args.target.now.which (map (λ s. (s.member.which, s.stored)) c.args.sources.now) c.requires.retired
 
-pub returns-then-try_serve : goal.returns-then-try_serve
-returns-then-try_serve g c = stepped_after _ _ _ _ _ _ c.loop.invariant.onward (c.try_serve.ensures.served c.if-try_serve.true)
+pub returns-then-try_serve-clause-served : goal.returns-then-try_serve-clause-served
+returns-then-try_serve-clause-served g c = stepped_after _ _ _ _ _ _ c.loop.invariant.onward (c.try_serve.ensures.served c.if-try_serve.true)
+
+pub returns-then-try_serve-clause-alone : goal.returns-then-try_serve-clause-alone
+returns-then-try_serve-clause-alone g c =
+    looked_on c.args.target.now.which.slot c.args.pass.now c.loop.pass c.try_serve.new.pass c.loop.invariant.alone c.try_serve.ensures.alone
+
+pub loop-init : goal.loop-init
+loop-init g c = record {
+  next = tt;
+  finite = tt;
+  onward = still g.W.World.opening c.args.pass.now c.requires.legal;
+  alone = not_looked c.args.target.now.which.slot c.args.pass.now c.args.pass.now refl;
+}
 
 pub loop-preserved : goal.loop-preserved
 loop-preserved g c = record {
   next = tt;
   finite = tt;
   onward = onward_trans g.W.World.opening c.args.pass.now c.loop.pass c.try_serve.new.pass c.loop.invariant.onward c.try_serve.ensures.onward;
+  alone = looked_on c.args.target.now.which.slot c.args.pass.now c.loop.pass c.try_serve.new.pass c.loop.invariant.alone c.try_serve.ensures.alone;
 }

@@ -1,4 +1,7 @@
-use Rattle.std.proofs.Common.{map, sym, ap, subst}
+use Rattle.std.proofs.Common.{List, map, sym, ap, subst, ◌∙◌}
+use Rattle.shard_run.specs.declared.Shard.{Shard}
+use Rattle.follow.specs.Turns.{EachInTurn}
+use Rattle.cutover_steps.specs.Looks.{HasLookedOnlyAt}
 use Rattle.shard_run.specs.declared.Event.TheVariants.{Serve}
 use Rattle.cutover_steps.specs.Steps.{IsTargetOf}
 use Rattle.reshard.specs.Workflows.{WorkflowView}
@@ -28,5 +31,9 @@ returns-clause-served g c =
           c.self.inside.served t (sym (ap (λ (w : WorkflowView). w.targets) c.self.view_is)) (sym (ap (λ (w : WorkflowView). w.served) c.self.view_is))
           c.requires.some c.index-target.ensures,
       stepped_after g.W.World.opening c.args.pass.now c.confirm_retired.new.pass c.serve.new.pass t.member.which Serve c.confirm_retired.ensures.onward
-          c.serve.ensures,
+          c.serve.ensures.served,
+      c.confirm_retired.new.pass,
+      subst (λ (l : List Shard). EachInTurn (λ s. HasLookedOnlyAt s.slot) l c.args.pass.now c.confirm_retired.new.pass)
+          (ap (map (λ s. s.member.which)) c.as_slice.ensures.value ∙ ap (λ (w : WorkflowView). w.sources) c.self.view_is) c.confirm_retired.ensures.looked,
+      c.serve.ensures.alone,
     )

@@ -13,7 +13,8 @@ returns-in_err-step-clause-refused g c =
 
 pub returns-in_err-step-clause-nothing : goal.returns-in_err-step-clause-nothing
 returns-in_err-step-clause-nothing g c =
+    let s : c.args.self.now.stage ≡ Following = search rules in
     let none : IsNoStepFirst c.args.self.now.targets c.args.pass.now c.move_first.new.pass = search rules in
     let either : ((c.args.self.now.stage ≡ Following → ⊥) × (c.move_first.new.pass ≡ c.args.pass.now))
-    ⊎ IsNoStepFirst c.args.self.now.targets c.args.pass.now c.move_first.new.pass = inr none in
+    ⊎ ((c.args.self.now.stage ≡ Following) × IsNoStepFirst c.args.self.now.targets c.args.pass.now c.move_first.new.pass) = inr (s, none) in
     search (rules, either)

@@ -62,3 +62,9 @@ returns-clause-switched g c =
     (omega (arith, a2, b2, d2, e2, v2, n2))
     (ap (λ (v : WorkflowView). record v { stage = Switched }) c.self.view_is
     ∙ ap (λ (b : Bool). record w { stage = Switched; prepared = b }) c.requires.prepared)
+
+pub returns-then-self-len-clause-alone : goal.returns-then-self-len-clause-alone
+returns-then-self-len-clause-alone g c = let h = c.retire_next.ensures.retired in (h.0, h.1, h.3)
+
+pub returns-then-self-len-2-clause-alone : goal.returns-then-self-len-2-clause-alone
+returns-then-self-len-2-clause-alone g c = let h = c.serve_next.ensures.served in (h.0, h.1, h.3, h.4, h.5)

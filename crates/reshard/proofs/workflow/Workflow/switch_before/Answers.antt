@@ -1,20 +1,21 @@
 use Rattle.std.proofs.Common.{◌≡◌, true, List, length, map, refl, sym, ap, ◌∙◌, subst, arith}
 use Rattle.std.proofs.lemmas.List.{length-map}
-use Rattle.std.specs.Prelude.{IfOk, IfErr, MatchOption}
+use Rattle.std.specs.Prelude.{IfOk, IfErr, MatchOption, slice_get}
 use Rattle.journal.proofs.Fronts.{prefix_self}
 use Rattle.vt_value.specs.declared.refusal.Refusal.{Refusal}
 use Rattle.vt_value.specs.declared.refusal.Refusal.TheVariants.{ShardFull}
 use Rattle.follow.specs.declared.steps.Step.{Step}
 use Rattle.reshard_beginning.specs.declared.fault.ReshardFault.TheVariants.{Refused}
-use Rattle.reshard_beginning.specs.Begun.{HasMovedFirst, IsMoveRefusal}
+use Rattle.reshard_beginning.specs.Begun.{HasMovedFirst, IsMoveRefusal, IsOneStepFirst}
 use Rattle.reshard.specs.Workflows.{WorkflowView}
 use Rattle.cutover_steps.specs.Takings.{Taking}
 use Rattle.reshard.specs.declared.cutover.CutoverStep.{CutoverStep}
 use Rattle.reshard.specs.declared.cutover.CutoverStep.TheVariants.{Retire}
 use Rattle.follow.specs.declared.steps.Step.TheVariants.{Level}
 use Rattle.std.specs.List.{AllByRecursion}
-use Rattle.cutover_steps.specs.Looks.{IsWithinRows}
-use Rattle.reshard.specs.Cutover.{IsSwitchRefusal, overfull, MayRetireFirst}
+use Rattle.follow.specs.Turns.{EachInTurn}
+use Rattle.cutover_steps.specs.Looks.{HasLookedOnlyAt, IsWithinRows}
+use Rattle.reshard.specs.Cutover.{IsSwitchRefusal, overfull, HasFoundReady, DoesNoMore, MayRetireFirst}
 use Rattle.reshard.proofs.Nexts.{from_move, refusal_within}
 use Rattle.reshard_beginning.proofs.Unfit.{residual_same}
 use Rattle.reshard.proofs.Switches.{froze_after, copied_after, followed_after, memory_refused, room_refused, refused_as, may_retire}
@@ -39,6 +40,11 @@ pub returns-then-self-len-clause-step : goal.returns-then-self-len-clause-step
 returns-then-self-len-clause-step g c =
     froze_after g.W.World.opening c.args.self.now c.prepare.new.self c.freeze_next.new.self c.args.pass.now c.freeze_next.new.pass c.in_ok-prepare.ensures.now
     c.in_ok-freeze_next.ensures.froze c.in_ok-freeze_next.ensures.now
+
+pub returns-then-self-len-clause-once : goal.returns-then-self-len-clause-once
+returns-then-self-len-clause-once g c =
+    let h = c.in_ok-freeze_next.ensures.froze in
+    (h.0, sym (ap (λ (v : WorkflowView). slice_get v.sources v.frozen) c.in_ok-prepare.ensures.now) ∙ h.1, h.3)
 
 pub returns-in_err-move_first-clause-refused : goal.returns-in_err-move_first-clause-refused
 returns-in_err-move_first-clause-refused g c =
@@ -89,6 +95,53 @@ returns-in-Followed-clause-step g c =
     (subst (λ (l : List Taking). HasMovedFirst o l c.args.pass.now now Rattle.follow.specs.declared.steps.Step.TheVariants.Followed) ts
     (subst (λ (s : Step). HasMovedFirst o (map {B = Taking} (λ t. (t.member.which, map (λ s. s.which) t.sources.items)) c.as_slice.result.now) c.args.pass.now now s)
     c.in-Followed.is c.in_ok-move_first.ensures.moved)) refl
+
+pub returns-in-Copied-clause-once : goal.returns-in-Copied-clause-once
+returns-in-Copied-clause-once g c =
+    let p = c.args.pass.now in
+    let now = c.move_first.new.pass in
+    let ts =
+    ap (map {B = Taking} (λ t. (t.member.which, map (λ s. s.which) t.sources.items))) c.as_slice.ensures.value ∙ ap (λ (w : WorkflowView). w.targets) c.self.view_is
+    ∙ ap (λ (w : WorkflowView). w.targets) c.in_ok-prepare.ensures.now in
+    subst (λ (l : List Taking). IsOneStepFirst l p now Rattle.follow.specs.declared.steps.Step.TheVariants.Copied) ts
+    (subst (λ (s : Step). IsOneStepFirst (map {B = Taking} (λ t. (t.member.which, map (λ s. s.which) t.sources.items)) c.as_slice.result.now) p now s)
+    c.in-Copied.is c.in_ok-move_first.ensures.once)
+
+pub returns-in-Followed-clause-once : goal.returns-in-Followed-clause-once
+returns-in-Followed-clause-once g c =
+    let p = c.args.pass.now in
+    let now = c.move_first.new.pass in
+    let ts =
+    ap (map {B = Taking} (λ t. (t.member.which, map (λ s. s.which) t.sources.items))) c.as_slice.ensures.value ∙ ap (λ (w : WorkflowView). w.targets) c.self.view_is
+    ∙ ap (λ (w : WorkflowView). w.targets) c.in_ok-prepare.ensures.now in
+    subst (λ (l : List Taking). IsOneStepFirst l p now Rattle.follow.specs.declared.steps.Step.TheVariants.Followed) ts
+    (subst (λ (s : Step). IsOneStepFirst (map {B = Taking} (λ t. (t.member.which, map (λ s. s.which) t.sources.items)) c.as_slice.result.now) p now s)
+    c.in-Followed.is c.in_ok-move_first.ensures.once)
+
+pub returns-clause-once : goal.returns-clause-once
+returns-clause-once g c =
+    let w = c.args.self.now in
+    let p = c.args.pass.now in
+    let q = c.move_first.new.pass in
+    let now = c.all_fit.new.pass in
+    let back = ap (λ (w : WorkflowView). w.targets) c.in_ok-prepare.ensures.now in
+    let ts =
+    ap (map {B = Taking} (λ t. (t.member.which, map (λ s. s.which) t.sources.items))) c.as_slice.ensures.value ∙ ap (λ (w : WorkflowView). w.targets) c.self.view_is ∙ back in
+    let ts2 =
+    ap (map {B = Taking} (λ t. (t.member.which, map (λ s. s.which) t.sources.items))) c.as_slice-2.ensures.value ∙ ap (λ (w : WorkflowView). w.targets) c.self.view_is
+    ∙ back in
+    let level = subst (λ (l : List Taking). IsOneStepFirst l p q Level) ts
+    (subst (λ (s : Step). IsOneStepFirst (map {B = Taking} (λ t. (t.member.which, map (λ s. s.which) t.sources.items)) c.as_slice.result.now) p q s)
+    c.in-Level.is c.in_ok-move_first.ensures.once) in
+    elim c.if-all_fit.branch [
+      | then-all_fit w' ↦
+          subst (λ r. IfOk r (λ r. MatchOption r (HasFoundReady w p now) (DoesNoMore w p now))) (sym w'.result-is) (
+            q,
+            level,
+            subst (λ (l : List Taking). EachInTurn (λ (t : Taking). HasLookedOnlyAt t.0.slot) l q now) ts2 (c.all_fit.ensures.looked w'.if-all_fit.true),
+          )
+      | else-all_fit w' ↦ subst (λ r. IfOk r (λ r. MatchOption r (HasFoundReady w p now) (DoesNoMore w p now))) (sym w'.result-is) tt
+    ]
 
 pub returns-clause-refused : goal.returns-clause-refused
 returns-clause-refused g c =
