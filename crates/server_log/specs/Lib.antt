@@ -1,0 +1,4 @@
+pub mod Levels
+pub mod Lines
+pub mod Writing
+pub mod Unforged

@@ -1,0 +1,72 @@
+//! A line of the log.
+ghost use Rattle.std.specs.Prelude.{◌≡◌, ◌++◌, ◌∷◌, [], true, IfOk, IfSome};
+ghost use Rattle.std.specs.List.{list_all};
+ghost use Rattle.server_log.specs.Lines.{IsOneLine, TellsAt, is_visible, recorded_entry};
+
+use crate::draft::Draft;
+use jiff::Timestamp;
+use log::Record;
+use log::kv::Source;
+use log::span::Spans;
+use std::alloc::{AllocError, Global};
+use std::fmt::Display;
+use std::marker::Model;
+
+/// The bytes of one line, with the break that ends it. Contracts see the bytes.
+#[derive(Drop)]
+pub struct Line {
+    bytes: Vec<u8>,
+}
+
+impl Model for Line {
+    ghost use Rattle.std.specs.Prelude.{ℕ, List};
+    ghost use Rattle.server_log.specs.Lines.{IsOneLine};
+
+    ghost Value = { List ℕ };
+
+    ghost view = { λ l. l.bytes.items };
+
+    ghost invariant = { λ l. IsOneLine l.bytes.items };
+}
+
+impl Line {
+    /// The line of bytes that are visible.
+    pub(crate) fn of(bytes: Vec<u8>) -> Result<Line, AllocError>
+        requires { list_all is_visible bytes.items ≡ true }
+        ensures { IfOk result (λ line. line ≡ bytes.items ++ 0x0A ∷ []) }
+    {
+        let mut bytes = bytes;
+        bytes.push(b'\n')?;
+        Ok(Line { bytes })
+    }
+
+    // Promise: Each line of the log has one break, which stands at its end, and otherwise bytes from 20 to 7E alone, whatever a client names itself
+    // With: line_of
+    // Clauses: one
+    // Refuses: break_is_shown_as_it_is, line_does_not_end
+    pub fn as_bytes(&self) -> &[u8]
+        ensures bytes { result.now ≡ self.now }
+        ensures one { IsOneLine result.now }
+    {
+        &self.bytes
+    }
+}
+
+// Promise: A record's line tells the instant, the level, the event and each field in order, each as one word, so that no value ends a word or a line
+// Refuses: quote_ends_a_value, blank_stands_bare, equals_sign_stands_bare, empty_word_stands_bare, key_and_value_change_places,
+// event_stands_before_the_level, spans_are_left_out, level_is_forgotten, warning_has_another_word, time_has_no_places
+/// The line of a record at an instant: its time in UTC, its level and its event, and as fields those of the spans around it and then its own. A
+/// text that isn't one word of visible bytes stands between quotes. Refuses for want of memory, and where a value can't be shown.
+pub fn line_of<D: Display, K: Source, S: Spans>(
+    alloc: Global,
+    instant: Timestamp,
+    told: &Record<'_, D, K, S>,
+) -> Result<Line, AllocError>
+    ensures text { IfOk result (λ line. IfSome (recorded_entry D.output K.pairs S.scopes told.now) (λ entry. TellsAt instant entry line)) }
+    ensures one { IfOk result (λ line. IsOneLine line) }
+{
+    let mut draft = Draft::begun(alloc, instant, told.level(), told.args())?;
+    draft.add_spans(told.spans())?;
+    draft.add_pairs(told.key_values())?;
+    draft.ended()
+}
