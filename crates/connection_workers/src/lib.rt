@@ -1,7 +1,7 @@
 //! Threads that serve connections: one lets them in, and each of several others serves one at a time.
 #![tactic(auto)]
 
-mod bell;
-mod hall;
+mod pool;
+mod signal;
 
-pub use hall::{Entrance, NotRun, run};
+pub use pool::{Entrance, NotRun, run};

@@ -1,7 +1,9 @@
 -- What the words of `vtgate serve` ask for.
-use Rattle.std.specs.Prelude.{◌≡◌, ◌≤◌, ◌<◌, ◌^◌, ℕ, List, [], ◌∷◌, length, codes, Option, Some, None, IfSome}
+use Rattle.std.specs.Prelude.{◌≡◌, ◌≤◌, ◌<◌, ◌^◌, ℕ, List, [], ◌∷◌, length, map, codes, Option, Some, None, IfSome}
 use Rattle.std.specs.Fmt.{decimal}
 use Rattle.hex.specs.Hex.{IsBytes, encode_lower}
+use Rattle.serve_lines.specs.declared.word.Word.{Word}
+use Rattle.serve_lines.specs.Words.{word_text}
 
 -- The words of the shards and of the two ports, how many workers there are, how many statements may wait in the buffer, after how many
 -- connections it ends, whom it lets in, and what its salts are made of.
@@ -21,11 +23,11 @@ abbrev pub stage2_text : Option (List ℕ) → List ℕ
 stage2_text None = codes "-"
 stage2_text (Some bytes) = encode_lower bytes
 
--- These are words that ask for this. Numbers are decimal digits without leading zeros.
-pub record Asks (text : List (List ℕ)) (a : Asking) : Type 0 where
+-- These are words that ask for this. Each is UTF-8. Numbers are decimal digits without leading zeros.
+pub record Asks (line : List Word) (a : Asking) : Type 0 where
   pub workers : (1 ≤ a.workers) × (a.workers ≤ 32)
   pub buffer : (1 ≤ a.buffer) × (a.buffer ≤ 1000)
   pub connections : a.connections < 2 ^ 32
   pub stage2 : IfSome a.stage2 (λ bytes. IsBytes bytes × (length bytes ≡ 20))
-  pub words : text ≡ codes "serve" ∷ a.shards ∷ a.address ∷ a.admin ∷ decimal a.workers ∷ decimal a.buffer ∷ decimal a.connections
-      ∷ a.user ∷ stage2_text a.stage2 ∷ a.nonce ∷ []
+  pub words : map word_text line ≡ Some (codes "serve") ∷ Some a.shards ∷ Some a.address ∷ Some a.admin ∷ Some (decimal a.workers) ∷ Some (decimal a.buffer)
+      ∷ Some (decimal a.connections) ∷ Some a.user ∷ Some (stage2_text a.stage2) ∷ Some a.nonce ∷ []

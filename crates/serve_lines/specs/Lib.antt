@@ -1,2 +1,3 @@
 pub mod Salts
+pub mod Words
 pub mod Asking

@@ -1,10 +1,10 @@
 //! The words of `vtgate serve`.
 ghost use Rattle.std.specs.Prelude.{◌≡◌, ◌<◌, ◌≤◌, ◌^◌, ℕ, List, [], ◌∷◌, length, map, codes, Some, None, IfSome, IfNone, bytes_eq};
 ghost use Rattle.std.specs.Fmt.{decimal};
-ghost use Rattle.std.specs.String.{string_bytes};
 ghost use Rattle.hex.specs.Hex.{IsBytes, encode_lower};
 ghost use Rattle.serve_lines.specs.Asking.{Asking, Asks, stage2_text};
 
+use crate::word::Word;
 use hex::{decode_to_slice, encode_to_slice};
 use itoa::Buffer;
 use std::marker::Model;
@@ -94,21 +94,21 @@ fn read_stage2(text: &[u8]) -> Option<Option<[u8; 20]>>
     Some(Some(read_digest(text)?))
 }
 
-fn is_word(word: &String, bytes: &[u8]) -> bool
-    ensures { result ≡ bytes_eq (string_bytes word.now) bytes.now }
+fn is_serve(text: &str) -> bool
+    ensures { result ≡ bytes_eq text.now (codes "serve") }
 {
-    word.as_bytes() == bytes
+    text.as_bytes() == b"serve".as_slice()
 }
 
 // Promise: Words ask `serve` for something exactly where they write it; what `serve` reads and prints; wrong words touch neither
 // With: vtgate_main::run, vtgate_serve::run_serve
 // Clauses: found, none, serve, unserved, wrong
-// Refuses: leading_zeros_are_read, upper_case_digits_are_read, vtgate_serve::wrong_words_succeed, vtgate_main::another_word_is_taken,
+// Refuses: leading_zeros_are_read, upper_case_digits_are_read, bytes_are_a_text, words_of_another_call, vtgate_serve::wrong_words_succeed, vtgate_main::another_word_is_taken,
 // vtgate_serve::serve_says_nothing
 /// What the words ask for, where they are the words of `serve`.
-pub fn read_words(words: &[String]) -> Option<Asked<'_>>
-    ensures found { IfSome result (λ a. Asks (map string_bytes words.now) a) }
-    ensures none { IfNone result ((a : Asking) → Asks (map string_bytes words.now) a → ⊥) }
+pub fn read_words(words: &[Word]) -> Option<Asked<'_>>
+    ensures found { IfSome result (λ a. Asks words.now a) }
+    ensures none { IfNone result ((a : Asking) → Asks words.now a → ⊥) }
 {
     let [
         word,
@@ -125,30 +125,30 @@ pub fn read_words(words: &[String]) -> Option<Asked<'_>>
     else {
         return None;
     };
-    if !is_word(word, b"serve") {
+    if !is_serve(word.text()?) {
         return None;
     }
-    let Some(workers) = read_between(workers.as_str(), 32) else {
+    let Some(workers) = read_between(workers.text()?, 32) else {
         return None;
     };
-    let Some(buffer) = read_between(buffer.as_str(), 1000) else {
+    let Some(buffer) = read_between(buffer.text()?, 1000) else {
         return None;
     };
-    let Some(connections) = read_number(connections.as_str()) else {
+    let Some(connections) = read_number(connections.text()?) else {
         return None;
     };
-    let Some(stage2) = read_stage2(stage2.as_bytes()) else {
+    let Some(stage2) = read_stage2(stage2.text()?.as_bytes()) else {
         return None;
     };
     Some(Asked {
-        shards: shards.as_str(),
-        address: address.as_str(),
-        admin: admin.as_str(),
+        shards: shards.text()?,
+        address: address.text()?,
+        admin: admin.text()?,
         workers,
         buffer,
         connections,
-        user: user.as_bytes(),
+        user: user.text()?.as_bytes(),
         stage2,
-        nonce: nonce.as_bytes(),
+        nonce: nonce.text()?.as_bytes(),
     })
 }

@@ -3,6 +3,8 @@
 
 mod asked;
 mod salt;
+mod word;
 
 pub use asked::{Asked, read_words};
 pub use salt::salt_of;
+pub use word::Word;

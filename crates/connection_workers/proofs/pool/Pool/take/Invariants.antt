@@ -1,9 +1,9 @@
-use Rattle.std.proofs.Common.{◌≡◌, true}
+use Rattle.std.proofs.Common.{◌≡◌}
 use Rattle.crossbeam_queue.specs.Passes.{view, IsPassOf}
-use Rattle.connection_workers.proofs.hall.let_in.Given as goal
+use Rattle.connection_workers.proofs.pool.Pool.take.Given as goal
 
--- the pass may put
+-- nothing was taken
 abbrev pub invariant-loop : goal.invariant-loop
 invariant-loop g l =
-    ((view l.pass).puts ≡ true) × IsPassOf l.hall.queue l.pass
+    (view l.pass ≡ view l.fn.pass) × IsPassOf l.self.queue l.pass
     × (goal.iterator-loop g).can_next l.iterator' × (goal.iterator-loop g).is_finite l.iterator'
