@@ -20,7 +20,7 @@ pub fn answer<R: Threads + Wait + Sync + Clock + Net<Listener = TcpListener, Str
         "served" => talks::service(rt, alloc, case, told),
         "run" => runs::whole(rt, alloc, case, told),
         "failing_run" => runs::failing(rt, alloc, case, told),
-        "loopback" => sockets(rt, alloc, told),
+        "loopback" => sockets(rt, alloc, case, told),
         _ => Err(Unanswered::BadLine),
     }
 }
@@ -28,9 +28,14 @@ pub fn answer<R: Threads + Wait + Sync + Clock + Net<Listener = TcpListener, Str
 fn sockets<R: Threads + Wait + Sync + Clock + Net<Listener = TcpListener, Stream = TcpStream>>(
     rt: &R,
     alloc: Global,
+    case: &str,
     told: &mut Told,
 ) -> Result<(), Unanswered> {
-    let is_served = loopback::serves_beside_a_held_scatter(rt, alloc)?;
+    let is_served = match case {
+        "" => loopback::serves_beside_a_held_scatter(rt, alloc)?,
+        "password" => loopback::asks_for_the_password(rt, alloc)?,
+        _ => return Err(Unanswered::BadLine),
+    };
     told.put(if is_served { "served" } else { "not served" });
     Ok(())
 }

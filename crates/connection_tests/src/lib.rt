@@ -6,9 +6,9 @@
 //! | `served` | a device, a text | how a session ends that is served by the device where its client sends the text, what is written, how often its sink failed, and what is told to another session that deletes the row of id 1 then |
 //! | `run` | an input, the words of the command line | the status of the program's run, its output, and what is told of an error, in brackets |
 //! | `failing_run` | a device, an input, the words | the status, what is told, and how many writes are left: the `source` fails behind the input, or the `sink` behind two writes |
-//! | `loopback` | none | `served`, where two workers serve two connections over sockets, of which the one's scatter is held, and the admin port |
+//! | `loopback` | none, or `password` | `served`, where two workers serve two connections over sockets, of which the one's scatter is held, and the admin port; or three of which only the first logs in with the right password, each greeted by the salt of its number |
 //!
-//! In a text or an input, each byte outside 20..7E and the backslash is `\x` and two digits.
+//! In a text, an input or a word, each byte outside 20..7E and the backslash is `\x` and two digits.
 //!
 //! A session of `talk` begins with `commands`, or with the handshake: then the field is stage 2, or `-`, of the user `u`, a blank and a salt.
 //! Each is held twice, the second time by pieces of one byte; another answer to these is told behind the first. One of `served` has the user
@@ -21,6 +21,7 @@ mod answers;
 mod devices;
 mod failing;
 mod loopback;
+mod passwords;
 mod runs;
 mod sessions;
 mod talks;

@@ -7,6 +7,7 @@ ghost use Rattle.vschema.specs.WellFormed.{is_vschema};
 ghost use Rattle.shard_contents.specs.Shards.{most_limits};
 ghost use Rattle.empty_opening.specs.Empty.{opening_of, FitRanges};
 
+use crate::passwords::{ASKED_WITH_PASSWORD, try_passwords};
 use case_fields::Unanswered;
 use empty_opening::ranges_fit;
 use journal::{Naming, Opened};
@@ -106,7 +107,7 @@ const TWO_ROWS: &[u8] =
     b"\x02\x00\x00\x04\x011\x02\x00\x00\x05\x012\x05\x00\x00\x06\xfe\x00\x00\x02\x00";
 
 // Reads these bytes. `None` where others came.
-fn expect(mut stream: &TcpStream, bytes: &[u8]) -> Option<()> {
+pub(crate) fn expect(mut stream: &TcpStream, bytes: &[u8]) -> Option<()> {
     for byte in bytes {
         let mut read = [0u8; 1];
         stream.read_exact(&mut read).ok()?;
@@ -125,14 +126,23 @@ fn query(mut stream: &TcpStream, text: &[u8]) -> Option<()> {
     Some(())
 }
 
-// Reads the greeting of the connection with the number, and logs in.
-fn log_in(mut stream: &TcpStream, number: u8) -> Option<[u8; 62]> {
+// Reads the greeting of the connection with the number, and gives what follows the number.
+pub(crate) fn greeted(mut stream: &TcpStream, number: u8) -> Option<[u8; 62]> {
     expect(stream, b"\x50\x00\x00\x00\x0a8.0.0-router\x00")?;
     expect(stream, &[number, 0, 0, 0])?;
     let mut rest = [0u8; 62];
     stream.read_exact(&mut rest).ok()?;
+    Some(rest)
+}
+
+/// The OK that lets a client in.
+pub(crate) const LET_IN: &[u8] = b"\x07\x00\x00\x02\x00\x00\x00\x02\x00\x00\x00";
+
+// Reads the greeting of the connection with the number, and logs in.
+fn log_in(mut stream: &TcpStream, number: u8) -> Option<[u8; 62]> {
+    let rest = greeted(stream, number)?;
     stream.write_all(RESPONSE).ok()?;
-    expect(stream, b"\x07\x00\x00\x02\x00\x00\x00\x02\x00\x00\x00")?;
+    expect(stream, LET_IN)?;
     Some(rest)
 }
 
@@ -189,9 +199,18 @@ fn talk(one: &TcpStream, other: &TcpStream, third: &TcpStream, signals: &Signals
 
 /// Where the ports are.
 #[derive(Clone, Copy)]
-struct Addresses {
-    clients: SocketAddr,
+pub(crate) struct Addresses {
+    pub(crate) clients: SocketAddr,
     admin: SocketAddr,
+}
+
+/// What the clients do.
+#[derive(Clone, Copy)]
+enum Scene {
+    /// One scatters while its read is held, and another goes on.
+    HeldScatter,
+    /// They log in with right and wrong passwords.
+    Passwords,
 }
 
 fn addresses_of(ports: &Ports) -> io::Result<Addresses> {
@@ -201,7 +220,7 @@ fn addresses_of(ports: &Ports) -> io::Result<Addresses> {
 }
 
 // Two clients and one of the admin port. They connect first, so that the server sees as many as it awaits.
-fn be_clients<R: Net<Listener = TcpListener, Stream = TcpStream>>(
+fn scatter<R: Net<Listener = TcpListener, Stream = TcpStream>>(
     rt: &R,
     addresses: Addresses,
     signals: &Signals,
@@ -210,6 +229,18 @@ fn be_clients<R: Net<Listener = TcpListener, Stream = TcpStream>>(
     let other = TcpStream::connect(rt, addresses.clients).ok()?;
     let third = TcpStream::connect(rt, addresses.admin).ok()?;
     talk(&one, &other, &third, signals)
+}
+
+fn be_clients<R: Net<Listener = TcpListener, Stream = TcpStream>>(
+    rt: &R,
+    addresses: Addresses,
+    signals: &Signals,
+    scene: Scene,
+) -> Option<()> {
+    match scene {
+        Scene::HeldScatter => scatter(rt, addresses, signals),
+        Scene::Passwords => try_passwords(rt, addresses),
+    }
 }
 
 fn bind_ports<R: Net<Listener = TcpListener, Stream = TcpStream>>(rt: &R) -> io::Result<Ports> {
@@ -272,6 +303,7 @@ fn serve_two<
     opened: Opened<ShardLaw<W>>,
     setting: &Setting<'_>,
     addresses: Addresses,
+    scene: Scene,
 ) -> bool
     requires name { opened ≡ J.table }
     requires opening { W.opening ≡ opening_of schema ranges.now }
@@ -287,7 +319,7 @@ fn serve_two<
     let told = &signals;
     let (talked, is_served) = join(
         rt,
-        move || be_clients(rt, addresses, told).is_some(),
+        move || be_clients(rt, addresses, told, scene).is_some(),
         move || -> bool
             requires { IsSync R.row × (opened ≡ J.table) × (W.opening ≡ opening_of schema ranges.now) × (W.limits ≡ most_limits) × IsTrue (is_vschema schema) × FitRanges schema ranges.now }
         {
@@ -308,6 +340,7 @@ fn serve_in_world<
     ranges: &[KeyRange],
     setting: &Setting<'_>,
     addresses: Addresses,
+    scene: Scene,
 ) -> Result<bool, Refusal>
     requires opening { W.opening ≡ opening_of schema ranges.now }
     requires limits { W.limits ≡ most_limits }
@@ -315,7 +348,7 @@ fn serve_in_world<
     requires ranges { FitRanges schema ranges.now }
 {
     let opened = Opened::<ShardLaw<W>>::new(alloc)?;
-    Ok(serve_two::<W, Brand, R>(rt, alloc, schema, ranges, opened, setting, addresses))
+    Ok(serve_two::<W, Brand, R>(rt, alloc, schema, ranges, opened, setting, addresses, scene))
 }
 
 fn halves() -> Option<[KeyRange; 2]>
@@ -332,6 +365,7 @@ fn serve_shop<R: Threads + Wait + Sync + Clock + Net<Listener = TcpListener, Str
     alloc: Global,
     ranges: &[KeyRange],
     setting: &Setting<'_>,
+    scene: Scene,
 ) -> Result<bool, Unanswered>
     requires { AllByRecursion IsNamed ranges.now }
 {
@@ -344,7 +378,7 @@ fn serve_shop<R: Threads + Wait + Sync + Clock + Net<Listener = TcpListener, Str
     if !ranges_fit(alloc, &schema, ranges)? {
         return Ok(false);
     }
-    Ok(serve_in_world::<Brand, R>(rt, alloc, schema, ranges, setting, addresses)?)
+    Ok(serve_in_world::<Brand, R>(rt, alloc, schema, ranges, setting, addresses, scene)?)
 }
 
 fn new_setting<'s, R: Net<Listener = TcpListener, Stream = TcpStream>>(
@@ -358,15 +392,33 @@ fn new_setting<'s, R: Net<Listener = TcpListener, Stream = TcpStream>>(
     }
 }
 
+// Whether a scene goes as it is to go, where the server is asked for this.
+fn is_played<R: Threads + Wait + Sync + Clock + Net<Listener = TcpListener, Stream = TcpStream>>(
+    rt: &R,
+    alloc: Global,
+    asked: &Asked<'_>,
+    scene: Scene,
+) -> Result<bool, Unanswered> {
+    let Some(ranges) = halves() else {
+        return Ok(false);
+    };
+    let Some(setting) = new_setting(rt, alloc, asked) else {
+        return Ok(false);
+    };
+    serve_shop(rt, alloc, &ranges, &setting, scene)
+}
+
 /// Whether a scatter of one connection that is held holds no other connection, while two workers serve both and the admin port.
 pub(crate) fn serves_beside_a_held_scatter<
     R: Threads + Wait + Sync + Clock + Net<Listener = TcpListener, Stream = TcpStream>,
 >(rt: &R, alloc: Global) -> Result<bool, Unanswered> {
-    let Some(ranges) = halves() else {
-        return Ok(false);
-    };
-    let Some(setting) = new_setting(rt, alloc, &ASKED) else {
-        return Ok(false);
-    };
-    serve_shop(rt, alloc, &ranges, &setting)
+    is_played(rt, alloc, &ASKED, Scene::HeldScatter)
+}
+
+/// Whether a server lets in a client with the right password and none with another, greets each by the salt of its number, and ends after the
+/// third.
+pub(crate) fn asks_for_the_password<
+    R: Threads + Wait + Sync + Clock + Net<Listener = TcpListener, Stream = TcpStream>,
+>(rt: &R, alloc: Global) -> Result<bool, Unanswered> {
+    is_played(rt, alloc, &ASKED_WITH_PASSWORD, Scene::Passwords)
 }

@@ -1,6 +1,7 @@
 //! Runs of the program by its words.
 use crate::failing::{FailingSink, FailingSource};
 use case_fields::{Told, Unanswered, fields, text_of};
+use serve_lines::Word;
 use session::{Reader, Sink, Source, Writer};
 use std::alloc::Global;
 use std::net::{Net, TcpListener, TcpStream};
@@ -11,15 +12,15 @@ use vschema::Hashing;
 use vtgate_script::{run_plan, run_script};
 use vtgate_serve::run_serve;
 
-fn push_words(alloc: Global, words: &mut Vec<String>, field: &str) -> Result<(), Unanswered> {
+fn push_words(alloc: Global, words: &mut Vec<Word>, field: &str) -> Result<(), Unanswered> {
     for word in field.split('\t') {
-        words.push(String::from_str(alloc, word)?)?;
+        words.push(Word::new(text_of(alloc, word)?))?;
     }
     Ok(())
 }
 
 // The words of a run, with tabs between them; none where there is no field.
-fn words_of(alloc: Global, field: Option<&str>) -> Result<Vec<String>, Unanswered> {
+fn words_of(alloc: Global, field: Option<&str>) -> Result<Vec<Word>, Unanswered> {
     let mut words = Vec::new(alloc);
     let done = match field {
         Some(field) => push_words(alloc, &mut words, field),
@@ -39,8 +40,23 @@ fn parts(case: &str) -> (&str, Option<&str>) {
     }
 }
 
-fn is_word(word: &String, bytes: &[u8]) -> bool {
-    word.as_bytes() == bytes
+// The word of the shards and the statement, where these are words of `plan`.
+fn plan_words(words: &[Word]) -> Option<(&str, &[u8])> {
+    match words {
+        [word, shards, sql] if word.as_bytes() == b"plan".as_slice() => Some((
+            shards.text()?,
+            sql.as_bytes(),
+        )),
+        _ => None,
+    }
+}
+
+// The word of the shards, where these are words of `script`.
+fn script_words(words: &[Word]) -> Option<&str> {
+    match words {
+        [word, shards] if word.as_bytes() == b"script".as_slice() => shards.text(),
+        _ => None,
+    }
 }
 
 // The status of the run that the program chooses by these words.
@@ -49,22 +65,15 @@ fn status_of<
     I: Source,
     O: Sink,
     E: Sink,
->(rt: &R, alloc: Global, words: &[String], input: &mut I, output: &mut O, errors: &mut E) -> u8 {
+>(rt: &R, alloc: Global, words: &[Word], input: &mut I, output: &mut O, errors: &mut E) -> u8 {
     let hashing = Hashing::known();
-    match words {
-        [word, shards, sql] if is_word(word, b"plan") => run_plan(
-            alloc,
-            shards.as_str(),
-            sql.as_bytes(),
-            input,
-            output,
-            errors,
-        ),
-        [word, shards] if is_word(word, b"script") => {
-            run_script(rt, alloc, &hashing, shards.as_str(), input, output, errors)
-        }
-        _ => run_serve(rt, alloc, &hashing, words, input, output, errors),
+    if let Some((shards, sql)) = plan_words(words) {
+        return run_plan(alloc, shards, sql, input, output, errors);
     }
+    if let Some(shards) = script_words(words) {
+        return run_script(rt, alloc, &hashing, shards, input, output, errors);
+    }
+    run_serve(rt, alloc, &hashing, words, input, output, errors)
 }
 
 fn put_bracketed(told: &mut Told, text: &[u8]) {
@@ -77,7 +86,7 @@ fn put_bracketed(told: &mut Told, text: &[u8]) {
 fn put_run<R: Threads + Wait + Sync + Clock + Net<Listener = TcpListener, Stream = TcpStream>>(
     rt: &R,
     alloc: Global,
-    words: &[String],
+    words: &[Word],
     input: &[u8],
     told: &mut Told,
 ) {
@@ -105,7 +114,7 @@ pub(crate) fn whole<
 fn put_failing<
     R: Threads + Wait + Sync + Clock + Net<Listener = TcpListener, Stream = TcpStream>,
     I: Source,
->(rt: &R, alloc: Global, words: &[String], input: &mut I, writes_left: u32, told: &mut Told) {
+>(rt: &R, alloc: Global, words: &[Word], input: &mut I, writes_left: u32, told: &mut Told) {
     let mut output = FailingSink {
         writes_left,
         failures: 0,
@@ -122,7 +131,7 @@ fn put_failed<R: Threads + Wait + Sync + Clock + Net<Listener = TcpListener, Str
     rt: &R,
     alloc: Global,
     device: &str,
-    words: &[String],
+    words: &[Word],
     input: &[u8],
     told: &mut Told,
 ) -> Result<(), Unanswered> {

@@ -1,5 +1,6 @@
 //! Why a run has failed, and its status.
-ghost use Rattle.std.specs.Prelude.{◌≢◌};
+ghost use Rattle.std.specs.Prelude.{◌≡◌, ◌≢◌, ◌≤◌};
+ghost use Rattle.vtgate_input.specs.Statuses.{status_of};
 
 use itoa::Buffer;
 use session_replies::Sink;
@@ -54,9 +55,27 @@ fn put_schema_fault<E: Sink>(errors: &mut E, fault: SchemaFault) {
     }
 }
 
-/// Tells why a run has failed, and gives its status.
+/// Tells why a run has failed, as `refuse` does, and gives its status; want of memory is told as any other failure.
+pub fn refuse_plainly<O: Sink, E: Sink>(fault: Fault, output: &mut O, errors: &mut E) -> u8
+    ensures failed { result ≢ SUCCESS }
+    ensures status { result ≡ status_of fault }
+    ensures most { result ≤ 2 }
+{
+    match fault {
+        Fault::OutOfMemory => refuse(Fault::Failed, output, errors),
+        _ => refuse(fault, output, errors),
+    }
+}
+
+// Promise: A run that has failed has the status 2 where its words or its VSchema are wrong, and otherwise 1
+// With: ranges_of, schema_of, has_too_many
+// Clauses: status, fault, many
+// Refuses: wrong_words_have_status_one, every_fault_is_a_wrong_word, schema_without_memory_is_wrong, two_ranges_are_too_many
+/// Tells why a run has failed, and gives its status: 2 where the words or the VSchema are wrong, otherwise 1.
 pub fn refuse<O: Sink, E: Sink>(fault: Fault, output: &mut O, errors: &mut E) -> u8
-    ensures { result ≢ SUCCESS }
+    ensures failed { result ≢ SUCCESS }
+    ensures status { result ≡ status_of fault }
+    ensures most { result ≤ 2 }
 {
     match fault {
         Fault::WrongWords => {

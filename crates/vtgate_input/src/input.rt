@@ -1,8 +1,9 @@
 //! Reading a whole input.
-ghost use Rattle.std.specs.Prelude.{◌≡◌, ℕ, ◌<◌, List, ◌++◌, false, length, vec_len, IfOk};
+ghost use Rattle.std.specs.Prelude.{◌≡◌, ℕ, ◌<◌, List, ◌++◌, false, length, vec_len, IfOk, IfErr};
 ghost use Rattle.std.specs.Io.KnownBytes.{Consumes, IsAtEnd};
+ghost use Rattle.vtgate_input.specs.Statuses.{status_of};
 
-use crate::fault::Fault;
+use crate::fault::{FAILURE, Fault};
 use session_replies::Source;
 use std::alloc::Global;
 
@@ -10,7 +11,8 @@ use std::alloc::Global;
 const PIECE: usize = 1 << 16;
 
 fn zeroed(alloc: Global) -> Result<Vec<u8>, Fault>
-    ensures { IfOk result (λ bytes. vec_len bytes ≡ PIECE) }
+    ensures len { IfOk result (λ bytes. vec_len bytes ≡ PIECE) }
+    ensures fault { IfErr result (λ f. status_of f ≡ FAILURE) }
 {
     match vec![in alloc; 0u8; PIECE] {
         Ok(bytes) => Ok(bytes),
@@ -29,6 +31,7 @@ fn read_piece<I: Source>(
     ensures read { IfOk result (λ more. (piece : List ℕ) × Consumes (I.unread input.old) (I.unread input.new) piece
         × (bytes.new.items ≡ bytes.old.items ++ piece)) }
     ensures end { IfOk result (λ more. more ≡ false → IsAtEnd (I.unread input.new)) }
+    ensures fault { IfErr result (λ f. status_of f ≡ FAILURE) }
 {
     let Ok(n) = input.read(buffer) else {
         return Err(Fault::Failed);
@@ -43,6 +46,7 @@ fn read_piece<I: Source>(
 pub fn read_all<I: Source>(alloc: Global, input: &mut I) -> Result<Vec<u8>, Fault>
     ensures read { IfOk result (λ bytes. Consumes (I.unread input.old) (I.unread input.new) bytes.items) }
     ensures end { IfOk result (λ bytes. IsAtEnd (I.unread input.new)) }
+    ensures fault { IfErr result (λ f. status_of f ≡ FAILURE) }
 {
     let mut buffer = zeroed(alloc)?;
     let mut bytes = Vec::new(alloc);

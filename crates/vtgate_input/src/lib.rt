@@ -8,7 +8,8 @@ mod setup;
 
 pub use fault::{
     CANNOT_BIND, FAILED, FAILURE, Fault, OUT_OF_MEMORY, SUCCESS, USAGE, WRONG_WORDS, refuse,
+    refuse_plainly,
 };
 pub use input::read_all;
-pub use setup::{has_too_many, ranges_of, schema_of};
+pub use setup::{has_too_many, ranges_of, read_schema, schema_of};
 pub use vschema::Hashing;

@@ -1,13 +1,17 @@
 //! What a run stands on: the ranges that its words tell, and the VSchema that its input declares.
-ghost use Rattle.std.specs.Prelude.{◌≡◌, ◌≤◌, false, not, length, Ok, IsTrue, IfOk};
+ghost use Rattle.std.specs.Prelude.{◌≡◌, ◌≤◌, ◌⊎◌, ℕ, List, true, false, not, length, Ok, IsTrue, IfOk, IfErr};
 ghost use Rattle.std.specs.List.{list_any};
 ghost use Rattle.vschema.specs.Meant.{contents, schema_read};
 ghost use Rattle.vschema.specs.WellFormed.{is_vschema};
-ghost use Rattle.empty_opening.specs.Empty.{empty_shards};
+ghost use Rattle.empty_opening.specs.Empty.{empty_shards, FitRanges};
 ghost use Rattle.vtgate_lines.specs.Partitions.{NamesPartition};
+ghost use Rattle.vtgate_input.specs.Inputs.{HasDeclared};
+ghost use Rattle.vtgate_input.specs.Statuses.{AreTooMany, IsNoSchema, IsWrong, TellsNone, status_of};
 
-use crate::fault::Fault;
+use crate::fault::{Fault, WRONG_WORDS};
+use crate::input::read_all;
 use keyrange::KeyRange;
+use session_replies::Source;
 use std::alloc::Global;
 use std::str;
 use vschema::{Hashing, SchemaFault, VSchema};
@@ -15,7 +19,9 @@ use vtgate_lines::{MOST_RANGES, read_ranges};
 
 /// The ranges that the word of the shards tells.
 pub fn ranges_of(alloc: Global, shards: &str) -> Result<Vec<KeyRange>, Fault>
-    ensures { IfOk result (λ ranges. NamesPartition shards.now ranges.items) }
+    ensures told { IfOk result (λ ranges. NamesPartition shards.now ranges.items) }
+    ensures fault { IfErr result (λ f. status_of f ≡ WRONG_WORDS → TellsNone shards.now) }
+    ensures wrong { IfErr result (λ f. (f ≡ Fault.WrongWords) ⊎ (f ≡ Fault.OutOfMemory)) }
 {
     match read_ranges(alloc, shards) {
         Ok(Some(ranges)) => Ok(ranges),
@@ -28,6 +34,7 @@ pub fn ranges_of(alloc: Global, shards: &str) -> Result<Vec<KeyRange>, Fault>
 pub fn schema_of(alloc: Global, hashing: &Hashing, bytes: &[u8]) -> Result<VSchema, Fault>
     ensures declared { IfOk result (λ schema. schema_read bytes.now ≡ Ok (contents schema)) }
     ensures formed { IfOk result (λ schema. IsTrue (is_vschema schema)) }
+    ensures fault { IfErr result (λ f. status_of f ≡ WRONG_WORDS → IsNoSchema bytes.now) }
 {
     let Ok(text) = str::from_utf8(bytes) else {
         return Err(Fault::Schema(SchemaFault::NotJson));
@@ -48,10 +55,39 @@ fn has_unsharded(schema: &VSchema) -> bool
 
 /// Whether there are more than 63 ranges beside an unsharded keyspace, whose shard is one of the shards.
 pub fn has_too_many(schema: &VSchema, ranges: &[KeyRange]) -> bool
-    ensures { result ≡ false → length ranges.now ≤ MOST_RANGES → length (empty_shards schema.now ranges.now) ≤ MOST_RANGES }
+    ensures few { result ≡ false → length ranges.now ≤ MOST_RANGES → length (empty_shards schema.now ranges.now) ≤ MOST_RANGES }
+    ensures many { result ≡ true → AreTooMany schema.now ranges.now }
 {
     if ranges.len() < MOST_RANGES {
         return false;
     }
     has_unsharded(schema)
+}
+
+// Promise: A VSchema is read from the whole input, and fits the ranges; the cause of a wrong call is the word of the shards or the input
+// Refuses: plan_under_half_the_input
+/// The VSchema that the whole input declares, whose statements hash groups by the key, and which fits the ranges.
+pub fn read_schema<I: Source>(
+    alloc: Global,
+    hashing: &Hashing,
+    ranges: &[KeyRange],
+    input: &mut I,
+) -> Result<VSchema, Fault>
+    requires { (word : List ℕ) × NamesPartition word ranges.now }
+    ensures read { IfOk result (λ schema. HasDeclared (I.unread input.old) (I.unread input.new) schema) }
+    ensures formed { IfOk result (λ schema. IsTrue (is_vschema schema)) }
+    ensures fit { IfOk result (λ schema. FitRanges schema ranges.now) }
+    ensures fault { IfErr result (λ f. status_of f ≡ WRONG_WORDS → (word : List ℕ) → NamesPartition word ranges.now → IsWrong word (I.unread input.old) (I.unread input.new)) }
+{
+    let bytes = read_all(alloc, input)?;
+    match schema_of(alloc, hashing, &bytes) {
+        Ok(schema) => {
+            if has_too_many(&schema, ranges) {
+                Err(Fault::WrongWords)
+            } else {
+                Ok(schema)
+            }
+        }
+        Err(fault) => Err(fault),
+    }
 }

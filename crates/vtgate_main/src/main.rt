@@ -4,17 +4,43 @@
 mod running;
 
 use running::run;
+use serve_lines::Word;
 use session::{Reader, Sink, Writer};
-use std::alloc::Global;
+use std::alloc::{AllocError, Global};
+use std::env::FillError;
 use std::process::ExitCode;
 use std::rt::Env;
-use std::{env, io};
 use vtgate_input::{FAILED, FAILURE, Hashing};
 
-fn words<R: Env + AllocGlobal>(rt: &R, alloc: Global) -> io::Result<Vec<String>> {
+/// How many bytes a word is first given room for, and how often that is doubled.
+const FIRST_ROOM: usize = 4096;
+
+const DOUBLINGS: u32 = 32;
+
+// The word at a place of the command line, where there is one.
+fn word<R: Env>(rt: &R, alloc: Global, place: usize) -> Result<Option<Word>, AllocError> {
+    let mut room = FIRST_ROOM;
+    for _ in 0..DOUBLINGS {
+        let mut bytes = vec![in alloc; 0u8; room]?;
+        match rt.arg(place, &mut bytes) {
+            Ok(len) => {
+                bytes.truncate(len);
+                return Ok(Some(Word::new(bytes)));
+            }
+            Err(FillError::NotPresent) => return Ok(None),
+            Err(FillError::TooLong) => room = room.saturating_mul(2),
+        }
+    }
+    Err(AllocError)
+}
+
+fn words<R: Env>(rt: &R, alloc: Global) -> Result<Vec<Word>, AllocError> {
     let mut words = Vec::new(alloc);
-    for word in env::args(rt)?.skip(1) {
-        words.push(word)?;
+    for place in 1..usize::MAX {
+        match word(rt, alloc, place)? {
+            Some(word) => words.push(word)?,
+            None => break,
+        }
     }
     Ok(words)
 }

@@ -1,14 +1,15 @@
 //! The words of the command line, and what they run.
-ghost use Rattle.std.specs.Prelude.{◌≡◌, ◌≢◌, ℕ, List, [], ◌∷◌, codes, false, IfSome, IfNone, bytes_eq, map};
-ghost use Rattle.std.specs.String.{string_bytes};
-ghost use Rattle.keyrange.specs.declared.KeyRange.{KeyRange};
+ghost use Rattle.std.specs.Prelude.{◌≡◌, ◌≢◌, ◌≤◌, ℕ, List, false, IfSome, IfNone, bytes_eq};
 ghost use Rattle.serve_lines.specs.Asking.{Asking, Asks};
-ghost use Rattle.vtgate_lines.specs.Partitions.{NamesPartition};
-ghost use Rattle.vtgate_main.specs.Words.{is_plan, is_script};
+ghost use Rattle.serve_lines.specs.Words.{word_bytes};
+ghost use Rattle.vtgate_input.specs.Statuses.{IsWrong, TellsNone};
+ghost use Rattle.vtgate_main.specs.Words.{AsksPlan, AsksScript, is_plan, is_script};
 ghost use Rattle.vtgate_script.specs.Planned.{HasPlanned};
 ghost use Rattle.vtgate_script.specs.Scripted.{HasScripted};
+ghost use Rattle.vtgate_script.specs.Wrong.{IsWrongScript};
 ghost use Rattle.vtgate_serve.specs.Served.{HasServed};
 
+use serve_lines::Word;
 use session::{Sink, Source};
 use std::alloc::Global;
 use std::net::{Net, TcpListener, TcpStream};
@@ -19,32 +20,38 @@ use vtgate_input::{Hashing, SUCCESS, WRONG_WORDS};
 use vtgate_script::{run_plan, run_script};
 use vtgate_serve::run_serve;
 
-fn is_word(word: &String, bytes: &[u8]) -> bool
-    ensures { result ≡ bytes_eq (string_bytes word.now) bytes.now }
+fn is_word(word: &Word, bytes: &[u8]) -> bool
+    ensures { result ≡ bytes_eq (word_bytes word.now) bytes.now }
 {
     word.as_bytes() == bytes
 }
 
 // The word of the shards and the statement.
-fn plan_words(words: &[String]) -> Option<(&str, &[u8])>
-    ensures found { IfSome result (λ x. map string_bytes words.now ≡ codes "plan" ∷ x.0.now ∷ x.1.now ∷ []) }
-    ensures none { IfNone result (is_plan (map string_bytes words.now) ≡ false) }
+fn plan_words(words: &[Word]) -> Option<(&str, &[u8])>
+    ensures found { IfSome result (λ x. AsksPlan words.now x.0.now x.1.now) }
+    ensures none { IfNone result (is_plan words.now ≡ false) }
 {
-    match words {
-        [word, shards, sql] if is_word(word, b"plan") => Some((shards.as_str(), sql.as_bytes())),
-        _ => None,
+    let [word, shards, sql] = words else {
+        return None;
+    };
+    if !is_word(word, b"plan") {
+        return None;
     }
+    Some((shards.text()?, sql.as_bytes()))
 }
 
 // The word of the shards.
-fn script_words(words: &[String]) -> Option<&str>
-    ensures found { IfSome result (λ shards. map string_bytes words.now ≡ codes "script" ∷ shards.now ∷ []) }
-    ensures none { IfNone result (is_script (map string_bytes words.now) ≡ false) }
+fn script_words(words: &[Word]) -> Option<&str>
+    ensures found { IfSome result (λ shards. AsksScript words.now shards.now) }
+    ensures none { IfNone result (is_script words.now ≡ false) }
 {
-    match words {
-        [word, shards] if is_word(word, b"script") => Some(shards.as_str()),
-        _ => None,
+    let [word, shards] = words else {
+        return None;
+    };
+    if !is_word(word, b"script") {
+        return None;
     }
+    Some(shards.text()?)
 }
 
 // Promise: `vtgate plan` reads its whole input and writes exactly that line; wrong ranges are refused before anything is read
@@ -63,13 +70,17 @@ fn script_words(words: &[String]) -> Option<&str>
 // admin line commits nothing
 // Clauses: script
 // Refuses: vtgate_script::script_forgets_a_line, vtgate_script::first_session_confirms_nothing
+// Promise: The status is 0, 1 or 2; 2 has its cause: words that run nothing, a word that tells no ranges, an input that declares no VSchema, or
+// more than 63 ranges beside an unsharded keyspace
+// Clauses: wrong, plan_cause, script_cause, serve_cause, status
+// Refuses: vtgate_script::refused_plan_is_a_wrong_call, vtgate_script::script_without_memory_is_a_wrong_call, vtgate_serve::right_words_are_wrong
 /// Runs the program with the words of its command line, and gives its exit status. `plan`, with the word of the shards and a statement,
 /// prints the line of the statement's plan under the VSchema that the whole input declares: 0, or 1 where the statement is refused, whose
 /// line is printed, where a device fails or there is no memory. `script`, with the word of the shards, runs the lines behind the first,
 /// which declares the VSchema: 0, or 1 where a device fails or there is no memory. `serve`, with the words that `read_words` reads, serves
 /// connections under the VSchema that the whole input declares: 0 after the last one, or 1 where a port can't be bound, no thread can be
-/// started, a device fails or there is no memory. Any other words are wrong: the usage is told, and the status is 2. A VSchema's fault is
-/// told too, and the status is 2. Groups are hashed by the key.
+/// started, a device fails or there is no memory. Any other words are wrong: the usage is told, and the status is 2. A word that isn't UTF-8
+/// is wrong, but for the statement of `plan`. A VSchema's fault is told too, and the status is 2. Groups are hashed by the key.
 pub fn run<
     R: Threads + Wait + Sync + Clock + Net<Listener = TcpListener, Stream = TcpStream>,
     I: Source,
@@ -79,26 +90,34 @@ pub fn run<
     rt: &R,
     alloc: Global,
     hashing: &Hashing,
-    words: &[String],
+    words: &[Word],
     input: &mut I,
     output: &mut O,
     errors: &mut E,
 ) -> u8
-    ensures plan { (shards sql : List ℕ) → map string_bytes words.now ≡ codes "plan" ∷ shards ∷ sql ∷ [] → result ≡ SUCCESS
+    ensures plan { (shards sql : List ℕ) → AsksPlan words.now shards sql → result ≡ SUCCESS
         → HasPlanned shards sql (I.unread input.old) (I.unread input.new) (O.taken output.old) (O.taken output.new) }
     // The word of the shards is tested before the input is read.
-    ensures untouched { (shards sql : List ℕ) → map string_bytes words.now ≡ codes "plan" ∷ shards ∷ sql ∷ []
-        → ((ranges : List KeyRange) → NamesPartition shards ranges → ⊥) → (result ≢ SUCCESS) × (input.new ≡ input.old) }
-    ensures script { (shards : List ℕ) → map string_bytes words.now ≡ codes "script" ∷ shards ∷ [] → result ≡ SUCCESS
+    ensures untouched { (shards sql : List ℕ) → AsksPlan words.now shards sql
+        → TellsNone shards → (result ≢ SUCCESS) × (input.new ≡ input.old) }
+    ensures script { (shards : List ℕ) → AsksScript words.now shards → result ≡ SUCCESS
         → HasScripted shards (I.unread input.old) (I.unread input.new) (O.taken output.old) (O.taken output.new) }
-    ensures unread { (shards : List ℕ) → map string_bytes words.now ≡ codes "script" ∷ shards ∷ []
-        → ((ranges : List KeyRange) → NamesPartition shards ranges → ⊥) → (result ≢ SUCCESS) × (input.new ≡ input.old) }
-    ensures serve { (asking : Asking) → Asks (map string_bytes words.now) asking → result ≡ SUCCESS
+    ensures unread { (shards : List ℕ) → AsksScript words.now shards
+        → TellsNone shards → (result ≢ SUCCESS) × (input.new ≡ input.old) }
+    ensures serve { (asking : Asking) → Asks words.now asking → result ≡ SUCCESS
         → HasServed asking.shards (I.unread input.old) (I.unread input.new) (O.taken output.old) (O.taken output.new) }
-    ensures unserved { (asking : Asking) → Asks (map string_bytes words.now) asking
-        → ((ranges : List KeyRange) → NamesPartition asking.shards ranges → ⊥) → (result ≢ SUCCESS) × (input.new ≡ input.old) }
-    ensures wrong { is_plan (map string_bytes words.now) ≡ false → is_script (map string_bytes words.now) ≡ false
-        → ((asking : Asking) → Asks (map string_bytes words.now) asking → ⊥)
+    ensures unserved { (asking : Asking) → Asks words.now asking
+        → TellsNone asking.shards → (result ≢ SUCCESS) × (input.new ≡ input.old) }
+    // The status 2 has its cause: the word of the shards, or the VSchema that the input declares.
+    ensures plan_cause { (shards sql : List ℕ) → AsksPlan words.now shards sql → result ≡ WRONG_WORDS
+        → IsWrong shards (I.unread input.old) (I.unread input.new) }
+    ensures script_cause { (shards : List ℕ) → AsksScript words.now shards → result ≡ WRONG_WORDS
+        → IsWrongScript shards (I.unread input.old) (I.unread input.new) }
+    ensures serve_cause { (asking : Asking) → Asks words.now asking → result ≡ WRONG_WORDS
+        → IsWrong asking.shards (I.unread input.old) (I.unread input.new) }
+    ensures status { result ≤ 2 }
+    ensures wrong { is_plan words.now ≡ false → is_script words.now ≡ false
+        → ((asking : Asking) → Asks words.now asking → ⊥)
         → (result ≡ WRONG_WORDS) × (input.new ≡ input.old) × (output.new ≡ output.old) }
 {
     if let Some((shards, sql)) = plan_words(words) {

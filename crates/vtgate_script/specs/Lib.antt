@@ -1,3 +1,4 @@
 pub mod inner
 pub mod Planned
 pub mod Scripted
+pub mod Wrong

@@ -1,23 +1,15 @@
 //! `vtgate plan`: the route of a statement, and its shards.
-ghost use Rattle.std.specs.Prelude.{◌≡◌, List, IfOk};
-ghost use Rattle.keyrange.specs.declared.KeyRange.{KeyRange};
-ghost use Rattle.vtgate_lines.specs.Partitions.{NamesPartition};
-ghost use Rattle.vtgate_input.specs.Inputs.{HasDeclared};
+ghost use Rattle.std.specs.Prelude.{◌≡◌, ◌≤◌, IfOk, IfErr};
+ghost use Rattle.vtgate_input.specs.Statuses.{IsWrong, TellsNone, status_of};
 ghost use Rattle.vtgate_script.specs.Planned.{IsPlanned, HasPlanned};
 
 use session::{Sink, Source};
 use std::alloc::Global;
-use vschema::{Hashing, VSchema};
-use vtgate_input::{Fault, SUCCESS, has_too_many, ranges_of, read_all, refuse, schema_of};
+use vschema::Hashing;
+use vtgate_input::{
+    Fault, SUCCESS, WRONG_WORDS, ranges_of, read_schema, refuse, refuse_plainly,
+};
 use vtgate_lines::plan_line;
-
-fn read_schema<I: Source>(alloc: Global, input: &mut I) -> Result<VSchema, Fault>
-    ensures { IfOk result (λ schema. HasDeclared (I.unread input.old) (I.unread input.new) schema) }
-{
-    let bytes = read_all(alloc, input)?;
-    // A plan makes no groups.
-    schema_of(alloc, &Hashing::known(), &bytes)
-}
 
 fn planned<I: Source>(
     alloc: Global,
@@ -26,13 +18,12 @@ fn planned<I: Source>(
     input: &mut I,
 ) -> Result<Vec<u8>, Fault>
     ensures ok { IfOk result (λ line. IsPlanned shards.now sql.now (I.unread input.old) (I.unread input.new) line.items) }
-    ensures untouched { ((ranges : List KeyRange) → NamesPartition shards.now ranges → ⊥) → input.new ≡ input.old }
+    ensures untouched { TellsNone shards.now → input.new ≡ input.old }
+    ensures fault { IfErr result (λ f. status_of f ≡ WRONG_WORDS → IsWrong shards.now (I.unread input.old) (I.unread input.new)) }
 {
     let ranges = ranges_of(alloc, shards)?;
-    let schema = read_schema(alloc, input)?;
-    if has_too_many(&schema, &ranges) {
-        return Err(Fault::WrongWords);
-    }
+    // A plan makes no groups.
+    let schema = read_schema(alloc, &Hashing::known(), &ranges, input)?;
     match plan_line(alloc, &schema, &ranges, sql) {
         Ok(line) => Ok(line),
         Err(refusal) => Err(Fault::Refused(refusal)),
@@ -53,14 +44,17 @@ pub fn run_plan<I: Source, O: Sink, E: Sink>(
 ) -> u8
     ensures planned { result ≡ SUCCESS → HasPlanned shards.now sql.now (I.unread input.old) (I.unread input.new) (O.taken output.old) (O.taken output.new) }
     // A wrong word is refused before anything is read.
-    ensures untouched { ((ranges : List KeyRange) → NamesPartition shards.now ranges → ⊥) → input.new ≡ input.old }
+    ensures untouched { TellsNone shards.now → input.new ≡ input.old }
+    // The status 2 has its cause.
+    ensures cause { result ≡ WRONG_WORDS → IsWrong shards.now (I.unread input.old) (I.unread input.new) }
+    ensures status { result ≤ 2 }
 {
-    match planned(alloc, shards, sql, input) {
-        Ok(line) => match output.write(&line) {
-            Ok(()) => SUCCESS,
-            Err(_) => refuse(Fault::Failed, output, errors),
-        },
-        Err(Fault::OutOfMemory) => refuse(Fault::Failed, output, errors),
-        Err(fault) => refuse(fault, output, errors),
+    let line = match planned(alloc, shards, sql, input) {
+        Ok(line) => line,
+        Err(fault) => return refuse_plainly(fault, output, errors),
+    };
+    if output.write(&line).is_err() {
+        return refuse(Fault::Failed, output, errors);
     }
+    SUCCESS
 }

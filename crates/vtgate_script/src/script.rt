@@ -1,6 +1,5 @@
 //! `vtgate script`: lines that are run in order, on one thread.
-ghost use Rattle.std.specs.Prelude.{◌≡◌, ℕ, List, [], None, IsTrue, IfOk, OnOk, Ok};
-ghost use Rattle.keyrange.specs.declared.KeyRange.{KeyRange};
+ghost use Rattle.std.specs.Prelude.{◌≡◌, ◌≤◌, ℕ, List, [], None, IsTrue, IfOk, IfErr, OnOk, Ok};
 ghost use Rattle.vschema.specs.Meant.{contents, schema_read};
 ghost use Rattle.vschema.specs.WellFormed.{is_vschema};
 ghost use Rattle.shard_contents.specs.Shards.{most_limits};
@@ -10,7 +9,9 @@ ghost use Rattle.administration.specs.Told.{keyspace_of};
 ghost use Rattle.administration.specs.Idle.{opening_workflow};
 ghost use Rattle.vtgate_lines.specs.Lines.{IsNextLine};
 ghost use Rattle.vtgate_lines.specs.Partitions.{NamesPartition};
+ghost use Rattle.vtgate_input.specs.Statuses.{TellsNone, status_of};
 ghost use Rattle.vtgate_script.specs.Scripted.{HasGiven, HasScripted};
+ghost use Rattle.vtgate_script.specs.Wrong.{DeclaresNone, IsWrongScript};
 
 use crate::sessions::{Sessions, run_lines};
 use administration::{Administrator, administered_router, widest_limits};
@@ -24,7 +25,9 @@ use std::marker::Brand;
 use std::sync::Wait;
 use std::thread::Threads;
 use vschema::{Hashing, SchemaFault, VSchema};
-use vtgate_input::{Fault, SUCCESS, has_too_many, ranges_of, read_all, refuse, schema_of};
+use vtgate_input::{
+    FAILURE, Fault, SUCCESS, WRONG_WORDS, has_too_many, ranges_of, read_all, refuse, schema_of,
+};
 use vtgate_lines::next_line;
 
 // The lines, run by the engine and the administrator of its sharded keyspace.
@@ -42,7 +45,8 @@ fn run_router<W: World + Send + Sync, J: Naming + Send + Sync, R: Threads + Wait
     requires limits { W.limits ≡ most_limits }
     requires opener { opener ≡ 0 }
     requires pass { pass ≡ new_pass [] None }
-    ensures { OnOk result (HasGiven W.opening administrator lines.now (O.taken output.old) (O.taken output.new)) }
+    ensures given { OnOk result (HasGiven W.opening administrator lines.now (O.taken output.old) (O.taken output.new)) }
+    ensures fault { IfErr result (λ f. status_of f ≡ FAILURE) }
 {
     let mut sessions = Sessions::new(alloc, opener, pass);
     run_lines(
@@ -71,7 +75,8 @@ fn run_opened<W: World + Send + Sync, J: Naming + Send + Sync, R: Threads + Wait
     requires limits { W.limits ≡ most_limits }
     requires schema { IsTrue (is_vschema schema) }
     requires ranges { FitRanges schema ranges.now }
-    ensures { OnOk result (HasGiven (opening_of schema ranges.now) (opening_workflow schema ranges.now) lines.now (O.taken output.old) (O.taken output.new)) }
+    ensures given { OnOk result (HasGiven (opening_of schema ranges.now) (opening_workflow schema ranges.now) lines.now (O.taken output.old) (O.taken output.new)) }
+    ensures fault { IfErr result (λ f. status_of f ≡ FAILURE) }
 {
     let limits = widest_limits();
     match administered_router::<W, J, Open>(alloc, schema, ranges, limits, opened, 0, Open) {
@@ -102,7 +107,8 @@ fn run_in_world<W: World + Send + Sync, R: Threads + Wait + Sync, O: Sink>(
     requires limits { W.limits ≡ most_limits }
     requires schema { IsTrue (is_vschema schema) }
     requires ranges { FitRanges schema ranges.now }
-    ensures { OnOk result (HasGiven (opening_of schema ranges.now) (opening_workflow schema ranges.now) lines.now (O.taken output.old) (O.taken output.new)) }
+    ensures given { OnOk result (HasGiven (opening_of schema ranges.now) (opening_workflow schema ranges.now) lines.now (O.taken output.old) (O.taken output.new)) }
+    ensures fault { IfErr result (λ f. status_of f ≡ FAILURE) }
 {
     let Ok(opened) = Opened::<ShardLaw<W>>::new(alloc) else {
         return Err(Fault::OutOfMemory);
@@ -121,15 +127,21 @@ fn begin<'l>(
     ensures first { IfOk result (λ x. (first : List ℕ) × IsNextLine text.now first x.1.now × (schema_read first ≡ Ok (contents x.0))) }
     ensures formed { IfOk result (λ x. IsTrue (is_vschema x.0)) }
     ensures fit { IfOk result (λ x. FitRanges x.0 ranges.now) }
+    ensures fault { IfErr result (λ f. status_of f ≡ WRONG_WORDS → DeclaresNone text.now ranges.now) }
 {
     let Some((first, lines)) = next_line(text) else {
         return Err(Fault::Schema(SchemaFault::NotJson));
     };
-    let schema = schema_of(alloc, hashing, first)?;
-    if has_too_many(&schema, ranges) {
-        return Err(Fault::WrongWords);
+    match schema_of(alloc, hashing, first) {
+        Ok(schema) => {
+            if has_too_many(&schema, ranges) {
+                Err(Fault::WrongWords)
+            } else {
+                Ok((schema, lines))
+            }
+        }
+        Err(fault) => Err(fault),
     }
-    Ok((schema, lines))
 }
 
 // The lines, run over the VSchema and the ranges.
@@ -143,7 +155,8 @@ fn run_over<R: Threads + Wait + Sync, O: Sink>(
 ) -> Result<(), Fault>
     requires schema { IsTrue (is_vschema schema) }
     requires ranges { FitRanges schema ranges.now }
-    ensures { OnOk result (HasGiven (opening_of schema ranges.now) (opening_workflow schema ranges.now) lines.now (O.taken output.old) (O.taken output.new)) }
+    ensures given { OnOk result (HasGiven (opening_of schema ranges.now) (opening_workflow schema ranges.now) lines.now (O.taken output.old) (O.taken output.new)) }
+    ensures fault { IfErr result (λ f. status_of f ≡ FAILURE) }
 {
     run_in_world::<Brand, R, O>(rt, alloc, schema, ranges, lines, output)
 }
@@ -157,7 +170,8 @@ fn scripted<R: Threads + Wait + Sync, I: Source, O: Sink>(
     output: &mut O,
 ) -> Result<(), Fault>
     ensures ok { OnOk result (HasScripted shards.now (I.unread input.old) (I.unread input.new) (O.taken output.old) (O.taken output.new)) }
-    ensures untouched { ((ranges : List KeyRange) → NamesPartition shards.now ranges → ⊥) → (input.new ≡ input.old) × (output.new ≡ output.old) }
+    ensures untouched { TellsNone shards.now → (input.new ≡ input.old) × (output.new ≡ output.old) }
+    ensures fault { IfErr result (λ f. status_of f ≡ WRONG_WORDS → IsWrongScript shards.now (I.unread input.old) (I.unread input.new)) }
 {
     let ranges = ranges_of(alloc, shards)?;
     let text = read_all(alloc, input)?;
@@ -181,10 +195,13 @@ pub fn run_script<R: Threads + Wait + Sync, I: Source, O: Sink, E: Sink>(
 ) -> u8
     ensures scripted { result ≡ SUCCESS → HasScripted shards.now (I.unread input.old) (I.unread input.new) (O.taken output.old) (O.taken output.new) }
     // A wrong word is refused before anything is read.
-    ensures untouched { ((ranges : List KeyRange) → NamesPartition shards.now ranges → ⊥) → input.new ≡ input.old }
+    ensures untouched { TellsNone shards.now → input.new ≡ input.old }
+    // The status 2 has its cause.
+    ensures cause { result ≡ WRONG_WORDS → IsWrongScript shards.now (I.unread input.old) (I.unread input.new) }
+    ensures status { result ≤ 2 }
 {
-    match scripted(rt, alloc, hashing, shards, input, output) {
-        Ok(()) => SUCCESS,
-        Err(fault) => refuse(fault, output, errors),
+    if let Err(fault) = scripted(rt, alloc, hashing, shards, input, output) {
+        return refuse(fault, output, errors);
     }
+    SUCCESS
 }

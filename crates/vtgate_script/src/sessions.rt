@@ -1,5 +1,5 @@
 //! The sessions of a script, and its lines.
-ghost use Rattle.std.specs.Prelude.{◌≡◌, ◌⊎◌, ◌≤◌, ◌<◌, ℕ, true, List, [], length, filter, slice_index_or, IsSome, OnOk};
+ghost use Rattle.std.specs.Prelude.{◌≡◌, ◌⊎◌, ◌≤◌, ◌<◌, ℕ, true, List, [], length, filter, slice_index_or, IsSome, IfErr, OnOk};
 ghost use Rattle.std.specs.List.{AllByRecursion};
 ghost use Rattle.std.specs.Io.KnownBytes.{Appends};
 ghost use mathlib.Core.List.{IsPrefix};
@@ -11,6 +11,7 @@ ghost use Rattle.vtgate_lines.specs.Printed.{rows_text, refusal_text};
 ghost use Rattle.shard_calls.specs.Pendings.{IsOf};
 ghost use Rattle.empty_opening.specs.Empty.{sharded_keyspace};
 ghost use Rattle.administration.specs.Told.{keyspace_of};
+ghost use Rattle.vtgate_input.specs.Statuses.{status_of};
 ghost use Rattle.vtgate_script.specs.Scripted.{HasGiven, unknown_text};
 ghost use Rattle.vtgate_script.specs.inner.UnderWay.{KeptSession, IsBehind, IsShown, IsOutcomeShown, KnowsOwn, PrintsFrom, nothing_kept};
 
@@ -25,7 +26,7 @@ use std::marker::Model;
 use std::sync::Wait;
 use std::thread::Threads;
 use vt_value::{Items, Refusal};
-use vtgate_input::Fault;
+use vtgate_input::{FAILURE, Fault};
 use vtgate_lines::{Line, count_line, next_line, put_shown_rows, read_line, refusal_line};
 
 // Writes rows, or that there is no memory for them.
@@ -300,8 +301,9 @@ impl<W: World + Send + Sync, J: Naming + Send + Sync> Sessions<W, J> {
         output: &mut O,
     ) -> Result<(), Fault>
         requires limits { W.limits ≡ most_limits }
-        ensures { OnOk result ((text : List ℕ) × Appends (O.taken output.old) (O.taken output.new) text
+        ensures runs { OnOk result ((text : List ℕ) × Appends (O.taken output.old) (O.taken output.new) text
             × ((p : Progress) → IsProgressOf W.opening self.old p → (q : Progress) × IsProgressOf W.opening self.new q × Runs W.opening p name.now sql.now text q)) }
+        ensures fault { IfErr result (λ f. status_of f ≡ FAILURE) }
     {
         let Ok(place) = self.place_or_open(alloc, name) else {
             return Err(Fault::OutOfMemory);
@@ -328,6 +330,7 @@ impl<W: World + Send + Sync, J: Naming + Send + Sync> Sessions<W, J> {
         ensures told { OnOk result ((reply : AdminReply) × (p : PassView Entry) × (q : PassView Entry) × Appends (O.taken output.old) (O.taken output.new) (reply_text reply)
             × (p.seen ≡ self.old.seen) × NoCommits self.old.seen q.seen × (self.new ≡ record self.old { seen = q.seen })
             × told.IsTold W.opening most_limits words.now p q reply administrator.old administrator.new) }
+        ensures fault { IfErr result (λ f. status_of f ≡ FAILURE) }
     {
         let reply = administer(rt, alloc, engine, administrator, &mut self.all, words);
         confirm_all(&mut self.opener, &mut self.sessions, &mut self.all);
@@ -349,6 +352,7 @@ impl<W: World + Send + Sync, J: Naming + Send + Sync> Sessions<W, J> {
         ensures keyspace { keyspace_of administrator.new ≡ keyspace_of administrator.old }
         ensures gives { OnOk result ((text : List ℕ) × Appends (O.taken output.old) (O.taken output.new) text
             × ((p : Progress) → IsProgressOf W.opening self.old p → (q : Progress) × IsProgressOf W.opening self.new q × PrintsLine W.opening p administrator.old line.now text q administrator.new)) }
+        ensures fault { IfErr result (λ f. status_of f ≡ FAILURE) }
     {
         match read_line(line) {
             Line::Statement(name, sql) => self.run_statement(rt, alloc, engine, name, sql, output),
@@ -359,7 +363,8 @@ impl<W: World + Send + Sync, J: Naming + Send + Sync> Sessions<W, J> {
 }
 
 fn write_all<O: Sink>(text: &[u8], output: &mut O) -> Result<(), Fault>
-    ensures { OnOk result (Appends (O.taken output.old) (O.taken output.new) text.now) }
+    ensures written { OnOk result (Appends (O.taken output.old) (O.taken output.new) text.now) }
+    ensures fault { IfErr result (λ f. status_of f ≡ FAILURE) }
 {
     match output.write(text) {
         Ok(()) => Ok(()),
@@ -386,7 +391,8 @@ pub fn run_lines<
     requires limits { W.limits ≡ most_limits }
     requires first { sessions.old ≡ nothing_kept }
     requires home { keyspace_of administrator.old ≡ sharded_keyspace engine.now }
-    ensures { OnOk result (HasGiven W.opening administrator.old lines.now (O.taken output.old) (O.taken output.new)) }
+    ensures given { OnOk result (HasGiven W.opening administrator.old lines.now (O.taken output.old) (O.taken output.new)) }
+    ensures fault { IfErr result (λ f. status_of f ≡ FAILURE) }
 {
     let mut rest = lines;
     while let Some((line, more)) = next_line(rest) {

@@ -1,6 +1,7 @@
 -- A conversation that goes on.
 use Rattle.std.proofs.Common.{◌≡◌, ℕ, List, [], ◌∷◌, ◌++◌, Option, Result, Ok, Err, refl, sym, subst, ap, ◌∙◌, append_assoc, append-nil}
-use Rattle.std.specs.Prelude.{OnErr}
+use Rattle.std.specs.Prelude.{◌≤◌, length, codes, IsTrue, IsFalse, OnErr}
+use Rattle.std.specs.List.{list_all}
 use Rattle.std.proofs.lemmas.List.Folds.{list_all-append}
 use Rattle.std.specs.Io.KnownBytes.{Appends}
 use Rattle.std.proofs.KnownBytes.{Appends-nil, Appends-trans}
@@ -13,11 +14,16 @@ use Rattle.administration.specs.declared.reply.AdminReply.{AdminReply}
 use Rattle.administration.specs.Told.{IsTold}
 use Rattle.administration.specs.Words.{reply_text}
 use Rattle.vtgate_serve.specs.Conversations as t
-use Rattle.vtgate_serve.specs.Conversations.{Controller, AreAnswered, AllTold, BreaksOff, HasAnsweredAll, HasEndedEarly}
+use Rattle.vtgate_serve.specs.Conversations.{Controller, AreAnswered, AllTold, BreaksOff, HasAnsweredAll, HasEndedEarly, IsDoable, is_word_byte}
 
 -- neither has an end
 pub no_end : (front more : List ℕ) → HasNoEnd front → HasNoEnd more → HasNoEnd (front ++ more)
 no_end front more one other = rw (list_all-append is_inner front more, one, other) refl
+
+doable : (front more whole : List ℕ) → HasNoEnd front → HasNoEnd more → whole ≡ front ++ more → length whole ≤ 8192 → IsTrue (list_all is_word_byte whole)
+    → IsDoable whole
+doable front more whole one other put few good =
+    record { inner = subst HasNoEnd (sym put) (no_end front more one other); few = few; printable = good }
 
 -- What came is answered but for a front of a line and a rest that wasn't looked at.
 pub record IsUnderWay (o : Opening) (most : Limits) (from : Controller) (came front rest : List ℕ) (taken then : Option (List ℕ)) (now : Controller) : Type 0 where
@@ -46,9 +52,9 @@ module _ (o : Opening) (most : Limits) where
 
   pub goes_on : (from mid now : Controller) (came front rest more behind whole : List ℕ) (taken then later : Option (List ℕ))
       → IsUnderWay o most from came front rest taken then mid → HasNoEnd more → rest ≡ line more ++ behind → whole ≡ front ++ more
-      → ((reply : AdminReply) × IsTold o most whole mid.pass now.pass reply mid.workflow now.workflow × Appends then later (reply_text reply))
+      → length whole ≤ 8192 → IsTrue (list_all is_word_byte whole) → ((reply : AdminReply) × IsTold o most whole mid.pass now.pass reply mid.workflow now.workflow × Appends then later (reply_text reply))
       → IsUnderWay o most from came [] behind taken later now
-  goes_on from mid now came front rest more behind whole taken then later so inner is put told = record {
+  goes_on from mid now came front rest more behind whole taken then later so inner is put few good told = record {
     lines = so.lines ++ line whole;
     told = so.told ++ reply_text told.0;
     split = so.split ∙ (ap (λ (r : List ℕ). so.lines ++ (front ++ r)) is
@@ -58,17 +64,17 @@ module _ (o : Opening) (most : Limits) where
         ∙ (ap (λ (r : List ℕ). so.lines ++ r) (sym (append_assoc whole (0x0A ∷ []) behind))
         ∙ sym (append_assoc so.lines (line whole) behind))))));
     unended = refl;
-    are = t.next so.are (subst HasNoEnd (sym put) (no_end front more so.unended inner)) told.1;
+    are = t.next so.are (doable front more whole so.unended inner put few good) told.1;
     written = Appends-trans taken then later so.told (reply_text told.0) so.written told.2;
   }
 
   pub goes_on_anew : (from mid now : Controller) (came front rest more behind whole left : List ℕ) (taken then later : Option (List ℕ))
       → IsUnderWay o most from came front rest taken then mid → HasNoEnd more → rest ≡ line more ++ behind → whole ≡ front ++ more
-      → ((reply : AdminReply) × IsTold o most whole mid.pass now.pass reply mid.workflow now.workflow × Appends then later (reply_text reply))
+      → length whole ≤ 8192 → IsTrue (list_all is_word_byte whole) → ((reply : AdminReply) × IsTold o most whole mid.pass now.pass reply mid.workflow now.workflow × Appends then later (reply_text reply))
       → left ≡ [] → IsUnderWay o most from came left behind taken later now
-  goes_on_anew from mid now came front rest more behind whole left taken then later so inner is put told none =
+  goes_on_anew from mid now came front rest more behind whole left taken then later so inner is put few good told none =
       subst (λ (f : List ℕ). IsUnderWay o most from came f behind taken later now) (sym none)
-      (goes_on from mid now came front rest more behind whole taken then later so inner is put told)
+      (goes_on from mid now came front rest more behind whole taken then later so inner is put few good told)
 
   pub stops : (from now : Controller) (came front rest : List ℕ) (taken then : Option (List ℕ)) → IsUnderWay o most from came front rest taken then now
       → BreaksOff o most from came taken then now
@@ -76,16 +82,28 @@ module _ (o : Opening) (most : Limits) where
 
   pub stops_untold : (from mid now : Controller) (came front rest more behind whole : List ℕ) (taken then later : Option (List ℕ))
       → IsUnderWay o most from came front rest taken then mid → HasNoEnd more → rest ≡ line more ++ behind → whole ≡ front ++ more
-      → ((reply : AdminReply) × IsTold o most whole mid.pass now.pass reply mid.workflow now.workflow × AppendsFront then later (reply_text reply))
+      → length whole ≤ 8192 → IsTrue (list_all is_word_byte whole) → ((reply : AdminReply) × IsTold o most whole mid.pass now.pass reply mid.workflow now.workflow × AppendsFront then later (reply_text reply))
       → BreaksOff o most from came taken later now
-  stops_untold from mid now came front rest more behind whole taken then later so inner is put told =
+  stops_untold from mid now came front rest more behind whole taken then later so inner is put few good told =
       t.untold so.lines so.told whole behind mid told.0 then
       (so.split ∙ (ap (λ (r : List ℕ). so.lines ++ (front ++ r)) is
       ∙ (ap (λ (r : List ℕ). so.lines ++ (front ++ r)) (append_assoc more (0x0A ∷ []) behind)
       ∙ (ap (λ (r : List ℕ). so.lines ++ r) (sym (append_assoc front more (0x0A ∷ behind)))
       ∙ (ap (λ (w : List ℕ). so.lines ++ (w ++ 0x0A ∷ behind)) (sym put)
       ∙ ap (λ (r : List ℕ). so.lines ++ r) (sym (append_assoc whole (0x0A ∷ []) behind)))))))
-      so.are (subst HasNoEnd (sym put) (no_end front more so.unended inner)) told.1 so.written told.2
+      so.are (doable front more whole so.unended inner put few good) told.1 so.written told.2
+
+  pub stops_unread : (from now : Controller) (came front rest more behind whole : List ℕ) (taken then later : Option (List ℕ))
+      → IsUnderWay o most from came front rest taken then now → HasNoEnd more → rest ≡ line more ++ behind → whole ≡ front ++ more
+      → IsFalse (list_all is_word_byte whole) → AppendsFront then later (line (codes "unknown")) → BreaksOff o most from came taken later now
+  stops_unread from now came front rest more behind whole taken then later so inner is put bad told =
+      t.unread so.lines so.told whole behind then
+      (so.split ∙ (ap (λ (r : List ℕ). so.lines ++ (front ++ r)) is
+      ∙ (ap (λ (r : List ℕ). so.lines ++ (front ++ r)) (append_assoc more (0x0A ∷ []) behind)
+      ∙ (ap (λ (r : List ℕ). so.lines ++ r) (sym (append_assoc front more (0x0A ∷ behind)))
+      ∙ (ap (λ (w : List ℕ). so.lines ++ (w ++ 0x0A ∷ behind)) (sym put)
+      ∙ ap (λ (r : List ℕ). so.lines ++ r) (sym (append_assoc whole (0x0A ∷ []) behind)))))))
+      so.are (subst HasNoEnd (sym put) (no_end front more so.unended inner)) bad so.written told
 
   pub ends : (from now : Controller) (came front rest left : List ℕ) (taken then : Option (List ℕ)) → IsUnderWay o most from came front rest taken then now
       → HasNoEnd rest → left ≡ front ++ rest → AllTold o most from came left taken then now
@@ -129,6 +147,11 @@ module _ (o : Opening) (most : Limits) where
       t.untold (so.lines ++ lines) (so.told ++ told) words rest before reply between
       (ap (λ (c : List ℕ). c ++ piece) so.split ∙ (append_assoc so.lines front piece ∙ (ap (λ (r : List ℕ). so.lines ++ r) split ∙ sym (append_assoc so.lines lines (line words ++ rest)))))
       (told_on from mid before so.lines so.told lines told so.are are) inner is
+      (Appends-trans taken then between so.told told so.written written) front_of
+  piece_broke from mid now came front piece taken then later so (t.unread lines told words rest between split are inner bad written front_of) =
+      t.unread (so.lines ++ lines) (so.told ++ told) words rest between
+      (ap (λ (c : List ℕ). c ++ piece) so.split ∙ (append_assoc so.lines front piece ∙ (ap (λ (r : List ℕ). so.lines ++ r) split ∙ sym (append_assoc so.lines lines (line words ++ rest)))))
+      (told_on from mid now so.lines so.told lines told so.are are) inner bad
       (Appends-trans taken then between so.told told so.written written) front_of
 
   -- a conversation that breaks off before anything is done

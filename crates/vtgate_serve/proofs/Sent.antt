@@ -16,6 +16,7 @@ use Rattle.shard.specs.declared.world.World as world
 use Rattle.std.proofs.net.tcp.TcpStream.TheSendSync as stream
 use Rattle.std.proofs.net.tcp.TcpListener.TheSendSync as listener
 use Rattle.vtgate_serve.specs.contracts.connection.Connection as connection
+use Rattle.vtgate_serve.proofs.progress.Progress.TheSendSync as progress
 use Rattle.vtgate_serve.specs.contracts.entrance.Acceptor as acceptor
 
 -- captures that threads may each share
@@ -31,7 +32,8 @@ module _ (W J : RattleType) (w : world.Ghosts W.Denot) (j : naming.Ghosts J.Deno
   opener_send : IsSend (opener_row.the_row (law.the_row W) J entry.the_row j (laws.ghosts W w laws.no_dict))
   opener_send = opener.the_send (law.the_row W) J entry.the_row j (laws.ghosts W w laws.no_dict) entry_send
 
+  -- an acceptor whose progress may be shared
   pub acceptor_send : (ℓ : _) → IsSend (acceptor.the_row ℓ W J j w)
   acceptor_send ℓ =
       recorded_send (acceptor.the_field ℓ W J j w).row _ _ (acceptor.the_type ℓ W J j w).to_one
-      (struct_send (shape (acceptor.the_type ℓ W J j w)) (shr_send _ _ _ listener.the_sync, (opener_send, (pass_send W J w j, search sendable))))
+      (struct_send (shape (acceptor.the_type ℓ W J j w)) (shr_send _ _ _ listener.the_sync, (opener_send, (pass_send W J w j, (shr_send _ _ _ progress.the_sync, search sendable)))))

@@ -1,2 +1,4 @@
 pub mod Served
+pub mod Accepted
+pub mod Admitted
 pub mod Conversations

@@ -1,61 +1,60 @@
 //! The admin port.
-ghost use Rattle.std.specs.Prelude.{◌≡◌, None};
+ghost use Rattle.std.specs.Prelude.{◌≡◌, ◌≤◌, None, IfOk, length};
 ghost use Rattle.std.specs.Io.{ReadsAtMost};
 ghost use Rattle.empty_opening.specs.Empty.{sharded_keyspace};
 ghost use Rattle.administration.specs.Told.{keyspace_of};
 
 use crate::conversation::talk;
-use crate::ports::UNDER_WAY;
+use crate::progress::Progress;
+use crate::waits::is_made_again;
 use administration::Administrator;
 use journal::{Naming, Pass};
 use route_engine::{Engine, Gate};
-use session::{DeviceFailed, Source, Writer};
+use session::{DeviceFailed, Sink, Source};
 use shard::{ShardLaw, World};
 use std::alloc::Global;
-use std::io::{ErrorKind, Read};
+use std::io::{Read, Write};
 use std::net::{TcpListener, TcpStream};
 use std::sync::Wait;
-use std::sync::atomic::{AtomicU64, Ordering};
 use std::thread;
 use std::time::{Clock, Duration};
 
-/// How long it sleeps between two looks for a client, and how long a read waits between two looks whether all is served, in milliseconds.
+/// How long it sleeps between two looks for a client, and how long a read or a write waits between two looks whether all is served, in
+/// milliseconds.
 const BETWEEN_LOOKS: u64 = 20;
 
-const BETWEEN_READS: u64 = 100;
+const BETWEEN_TRIES: u64 = 100;
 
 /// How many such reads in turn may give nothing: ten minutes.
 const SILENT_READS: u32 = 6000;
 
-/// How long a client may take no byte of an answer, in seconds.
-const ANSWER_PATIENCE: u64 = 60;
+/// How many such writes of an answer may move nothing: a minute.
+const STUCK_WRITES: u32 = 600;
 
 /// Reads from a client of the admin port, until all is served.
 #[derive(Drop)]
-struct AdminSource<'s> {
+struct Lines<'s> {
     stream: &'s TcpStream,
-    ended: &'s AtomicU64,
+    progress: &'s Progress,
     failures: u64,
-}
-
-// Whether a read that failed so is made again: nothing has come yet, or it was interrupted.
-fn is_made_again(kind: ErrorKind) -> bool {
-    kind == ErrorKind::WouldBlock || kind == ErrorKind::Interrupted
 }
 
 // Reads, unless all is served or the client says nothing for too long.
 fn read_until(
     mut stream: &TcpStream,
-    ended: &AtomicU64,
+    progress: &Progress,
     buffer: &mut [u8],
 ) -> Result<usize, DeviceFailed>
     ensures { ReadsAtMost result buffer.new }
 {
     for _ in 0..SILENT_READS {
+        if !progress.is_under_way() {
+            return Err(DeviceFailed);
+        }
         match stream.read(buffer) {
             Ok(n) => return Ok(n),
             Err(error) => {
-                if !is_made_again(error.kind()) || ended.load(Ordering::SeqCst) != UNDER_WAY {
+                if !is_made_again(error.kind()) {
                     return Err(DeviceFailed);
                 }
             }
@@ -64,14 +63,72 @@ fn read_until(
     Err(DeviceFailed)
 }
 
-impl Source for AdminSource<'_> {
+impl Source for Lines<'_> {
     ghost unread = { λ _. None };
 
     ghost failures = { λ s. s.failures };
 
     fn read(&mut self, buffer: &mut [u8]) -> Result<usize, DeviceFailed> {
-        match read_until(self.stream, self.ended, buffer) {
+        match read_until(self.stream, self.progress, buffer) {
             Ok(n) => Ok(n),
+            Err(_) => {
+                self.failures = self.failures.wrapping_add(1);
+                Err(DeviceFailed)
+            }
+        }
+    }
+}
+
+/// Writes to a client of the admin port, until all is served.
+#[derive(Drop)]
+struct Answers<'s> {
+    stream: &'s TcpStream,
+    progress: &'s Progress,
+    failures: u64,
+}
+
+// Writes some of the bytes, unless all is served or the client takes nothing for too long, and tells how many.
+fn write_some(
+    mut stream: &TcpStream,
+    progress: &Progress,
+    bytes: &[u8],
+) -> Result<usize, DeviceFailed>
+    ensures { IfOk result (λ n. n ≤ length bytes.now) }
+{
+    for _ in 0..STUCK_WRITES {
+        match stream.write(bytes) {
+            Ok(0) => return Err(DeviceFailed),
+            Ok(n) => return Ok(n),
+            Err(error) => {
+                if !is_made_again(error.kind()) || !progress.is_under_way() {
+                    return Err(DeviceFailed);
+                }
+            }
+        }
+    }
+    Err(DeviceFailed)
+}
+
+fn write_until(stream: &TcpStream, progress: &Progress, bytes: &[u8]) -> Result<(), DeviceFailed> {
+    let mut rest = bytes;
+    for _ in 0..u64::MAX {
+        if rest.is_empty() {
+            return Ok(());
+        }
+        let n = write_some(stream, progress, rest)?;
+        rest = &rest[n..];
+    }
+    Err(DeviceFailed)
+}
+
+impl Sink for Answers<'_> {
+    ghost taken = { λ _. None };
+
+    ghost failures = { λ s. s.failures };
+
+    fn write(&mut self, bytes: &[u8]) -> Result<(), DeviceFailed> {
+        match write_until(self.stream, self.progress, bytes) {
+            Ok(()) => Ok(()),
             Err(_) => {
                 self.failures = self.failures.wrapping_add(1);
                 Err(DeviceFailed)
@@ -88,20 +145,25 @@ fn serve_one<W: World + Send + Sync, J: Naming + Send + Sync, G: Gate>(
     administrator: &mut Administrator<W, J>,
     pass: &mut Pass<ShardLaw<W>, J>,
     stream: &TcpStream,
-    ended: &AtomicU64,
+    progress: &Progress,
 )
     requires home { keyspace_of administrator.old ≡ sharded_keyspace engine.now }
     ensures keyspace { keyspace_of administrator.new ≡ keyspace_of administrator.old }
 {
+    let patience = Duration::from_millis(BETWEEN_TRIES);
     let _ = stream.set_nodelay(true);
-    let _ = stream.set_read_timeout(Some(Duration::from_millis(BETWEEN_READS)));
-    let _ = stream.set_write_timeout(Some(Duration::from_secs(ANSWER_PATIENCE)));
-    let mut source = AdminSource {
+    let _ = stream.set_read_timeout(Some(patience));
+    let _ = stream.set_write_timeout(Some(patience));
+    let mut source = Lines {
         stream,
-        ended,
+        progress,
         failures: 0,
     };
-    let mut sink = Writer::new(stream);
+    let mut sink = Answers {
+        stream,
+        progress,
+        failures: 0,
+    };
     let _ = talk(
         rt,
         alloc,
@@ -122,17 +184,17 @@ pub fn serve_admin<W: World + Send + Sync, J: Naming + Send + Sync, G: Gate, R: 
     administrator: &mut Administrator<W, J>,
     pass: &mut Pass<ShardLaw<W>, J>,
     listener: &TcpListener,
-    ended: &AtomicU64,
+    progress: &Progress,
 )
     requires home { keyspace_of administrator.old ≡ sharded_keyspace engine.now }
 {
     let _ = listener.set_nonblocking(true);
     for _ in rt.forever() {
-        if ended.load(Ordering::SeqCst) != UNDER_WAY {
+        if !progress.is_under_way() {
             return;
         }
         match listener.accept() {
-            Ok((stream, _)) => serve_one(rt, alloc, engine, administrator, pass, &stream, ended),
+            Ok((stream, _)) => serve_one(rt, alloc, engine, administrator, pass, &stream, progress),
             Err(_) => {
                 let _ = thread::sleep(rt, Duration::from_millis(BETWEEN_LOOKS));
             }

@@ -1,26 +1,27 @@
 //! One connection.
-ghost use Rattle.std.specs.Prelude.{◌≡◌, ℕ, List, IsSome, IfOk, Err};
+ghost use Rattle.std.specs.Prelude.{◌≡◌, ◌≤◌, ◌^◌, ◌++◌, ℕ, List, IsSome, IfOk, Err};
 ghost use Rattle.std.specs.Io.KnownBytes.{Appends, Consumes, IsAtEnd};
 ghost use Rattle.shard_calls.specs.Alone.{NoOthers};
 ghost use Rattle.session.specs.Alone.{Alone, MeansAlone, alone_terms, alone_first};
+ghost use Rattle.session_replies.specs.Devices.{read_failures_after, write_failures_after};
 ghost use Rattle.session_replies.specs.Outcomes.{Means, PassAndTransaction, none_open, terms_of};
-ghost use Rattle.session_replies.specs.Talk.{Talk, IsByInput};
-ghost use Rattle.serve_lines.specs.Salts.{salt_of};
+ghost use Rattle.session_replies.specs.Faults.{HasBrokenOff, IsUnfinished};
+ghost use Rattle.session_replies.specs.Talk.{IsByInput, Talk};
+ghost use Rattle.vtgate_serve.specs.Admitted.{hello_of};
 
-use crate::client::{Replies, begin, end};
+use crate::admission::Admission;
+use crate::client::{Replies, Requests, begin, end};
+use crate::logins::{Login, Logins};
 use journal::{Naming, Pass};
 use route_engine::{Engine, Gate};
 use serve_lines::salt_of;
-use session::{
-    Access, COMMAND_LIMIT, End, Reader, SessionFault, Sink, Source, Standing, Writer, serve,
-};
+use session::{End, SessionFault, Sink, Source, Standing, Writer, serve};
 use shard::{ShardLaw, World};
 use std::alloc::Global;
 use std::net::TcpStream;
 use std::sync::Wait;
 use std::thread::Threads;
 use std::time::Clock;
-use vt_value::Items;
 
 /// A connection that was accepted: its number, its socket, and the pass of its session.
 #[derive(Drop)]
@@ -34,6 +35,7 @@ pub struct Connection<W: World, J: Naming> {
 impl<W: World, J: Naming> Connection<W, J> {
     pub fn new(number: u32, stream: TcpStream, pass: Pass<ShardLaw<W>, J>) -> Connection<W, J>
         requires { IsSome pass.session }
+        ensures { result.number ≡ number }
     {
         Connection {
             number,
@@ -43,15 +45,24 @@ impl<W: World, J: Naming> Connection<W, J> {
     }
 }
 
-/// Serves the connection with the number over these devices until it ends, and greets its client by the salt that the nonce and the
-/// number make.
-pub fn serve_numbered<W: World + Send + Sync, J: Naming + Send + Sync, G: Gate, I: Source, O: Sink>(
+// Promise: A connection is greeted by the salt of its number and of the nonce that the words tell, lets in the user and the password that
+// they tell and nobody else, and its bytes are then the conversation, over any device
+// Clauses: talk, alone, read, memory, write
+// Refuses: password_is_not_asked, user_is_not_asked, nonce_is_not_used, each_connection_has_one_salt
+/// Serves the connection with the number over these devices until it ends: greets its client by the salt that the nonce of the words and the
+/// number make, and lets in whom the words tell.
+pub fn serve_connection<
+    W: World + Send + Sync,
+    J: Naming + Send + Sync,
+    G: Gate,
+    I: Source,
+    O: Sink,
+>(
     rt: &(impl Threads + Wait + Sync),
     alloc: Global,
     engine: &Engine<W, J, G>,
+    admission: &Admission<'_>,
     pass: &mut Pass<ShardLaw<W>, J>,
-    access: &Access,
-    nonce: &[u8],
     number: u32,
     source: &mut I,
     sink: &mut O,
@@ -60,27 +71,39 @@ pub fn serve_numbered<W: World + Send + Sync, J: Naming + Send + Sync, G: Gate, 
     ensures talk { IfOk result (λ end. (read : List ℕ) × (written : List ℕ)
         × Consumes (I.unread source.old) (I.unread source.new) read × Appends (O.taken sink.old) (O.taken sink.new) written
         × ((now : PassAndTransaction) × (now.pass ≡ pass.new)
-        × Talk COMMAND_LIMIT (terms_of W.opening (record { access = access.now; salt = salt_of nonce.now number; id = number })) (Means W.opening W.limits) Standing.New (none_open pass.old) read written end now)) }
+        × Talk (2 ^ 20) (terms_of W.opening (hello_of admission.now.asked.now number)) (Means W.opening W.limits) Standing.New (none_open pass.old) read written end now)) }
     // With no other session's commit between, it is a conversation with one database.
     ensures alone { IfOk result (λ end. NoOthers pass.old pass.new → (read : List ℕ) × (written : List ℕ)
         × Consumes (I.unread source.old) (I.unread source.new) read × Appends (O.taken sink.old) (O.taken sink.new) written
         × ((now : Alone W.opening) × (now.kept.pass ≡ pass.new)
-        × Talk COMMAND_LIMIT (alone_terms W.opening (record { access = access.now; salt = salt_of nonce.now number; id = number })) (MeansAlone W.opening W.limits) Standing.New (alone_first W.opening pass.old) read written end now)) }
+        × Talk (2 ^ 20) (alone_terms W.opening (hello_of admission.now.asked.now number)) (MeansAlone W.opening W.limits) Standing.New (alone_first W.opening pass.old) read written end now)) }
     ensures at_end { IfOk result (λ end. IsByInput end → IsAtEnd (I.unread source.new)) }
+    // Where the source failed, each payload that was read whole is answered, and nothing else was written.
+    ensures read { result ≡ Err SessionFault.Read → (read : List ℕ) × (written : List ℕ)
+        × Consumes (I.unread source.old) (I.unread source.new) read × Appends (O.taken sink.old) (O.taken sink.new) written
+        × ((now : PassAndTransaction) × (now.pass ≡ pass.new)
+        × IsUnfinished (2 ^ 20) (terms_of W.opening (hello_of admission.now.asked.now number)) (Means W.opening W.limits) Standing.New (none_open pass.old) read written now) }
+    // A piece that was read and for which there is no memory counts as not read.
+    ensures memory { result ≡ Err SessionFault.Memory → (read : List ℕ) × (piece : List ℕ) × (written : List ℕ)
+        × Consumes (I.unread source.old) (I.unread source.new) (read ++ piece) × Appends (O.taken sink.old) (O.taken sink.new) written
+        × ((now : PassAndTransaction) × (now.pass ≡ pass.new)
+        × IsUnfinished (2 ^ 20) (terms_of W.opening (hello_of admission.now.asked.now number)) (Means W.opening W.limits) Standing.New (none_open pass.old) read written now) }
+    // Where the sink failed, a front of the payloads is answered, each once, and the sink took a front of the replies.
+    ensures write { result ≡ Err SessionFault.Write → (read : List ℕ) × (written : List ℕ)
+        × Consumes (I.unread source.old) (I.unread source.new) read × Appends (O.taken sink.old) (O.taken sink.new) written
+        × ((now : PassAndTransaction) × (now.pass ≡ pass.new)
+        × HasBrokenOff (2 ^ 20) (terms_of W.opening (hello_of admission.now.asked.now number)) (Means W.opening W.limits) Standing.New (none_open pass.old) read written now) }
+    ensures source_count { I.failures source.new ≡ read_failures_after result (I.failures source.old) }
+    ensures sink_count { O.failures sink.new ≡ write_failures_after result (O.failures sink.old) }
 {
-    let salt = salt_of(nonce, u64::from(number));
+    let asked = admission.asked;
+    let salt = salt_of(asked.nonce, u64::from(number));
+    let access = &admission.access;
     serve(rt, alloc, engine, pass, access, &salt, number, source, sink)
 }
 
-/// Whom a server lets in, and what its salts are made of.
-#[derive(Drop)]
-pub struct Welcome {
-    pub access: Access,
-    pub nonce: Items<u8>,
-}
-
 /// Serves the connection until it ends, and closes it.
-pub fn serve_connection<
+pub fn serve_socket<
     W: World + Send + Sync,
     J: Naming + Send + Sync,
     G: Gate,
@@ -89,7 +112,8 @@ pub fn serve_connection<
     rt: &R,
     alloc: Global,
     engine: &Engine<W, J, G>,
-    welcome: &Welcome,
+    admission: &Admission<'_>,
+    logins: &Logins,
     connection: Connection<W, J>,
 ) {
     let Connection {
@@ -99,22 +123,31 @@ pub fn serve_connection<
         ..
     } = connection;
     begin(&stream);
-    let mut source = Reader::new(&stream);
+    let login = Login::begin(rt, logins);
+    let mut source = Requests {
+        rt,
+        stream: &stream,
+        login: &login,
+        failures: 0,
+    };
     let mut sink = Replies {
         stream: &stream,
+        login: &login,
         sink: Writer::new(&stream),
-        is_let_in: false,
     };
-    let _ = serve_numbered(
+    let served = serve_connection(
         rt,
         alloc,
         engine,
+        admission,
         &mut pass,
-        &welcome.access,
-        welcome.nonce.as_slice(),
         number,
         &mut source,
         &mut sink,
     );
-    end(rt, &stream);
+    login.end();
+    // Who has said nothing for too long has no reply to wait for.
+    if !matches!(served, Err(SessionFault::Read)) {
+        end(rt, &stream);
+    }
 }

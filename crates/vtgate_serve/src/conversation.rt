@@ -1,13 +1,15 @@
 //! A client's lines, each answered.
-ghost use Rattle.std.specs.Prelude.{◌≡◌, ◌++◌, ◌<◌, ℕ, List, [], false, length, IfOk, OnOk, OnErr};
+ghost use Rattle.std.specs.Prelude.{◌≡◌, ◌++◌, ◌<◌, ◌≤◌, ℕ, List, [], codes, false, length, IfOk, OnOk, OnErr};
+ghost use Rattle.std.specs.List.{list_all};
 ghost use Rattle.std.specs.Io.KnownBytes.{Appends, Consumes, IsAtEnd};
 ghost use Rattle.empty_opening.specs.Empty.{sharded_keyspace};
 ghost use Rattle.vtgate_lines.specs.Lines.{HasNoEnd};
+ghost use Rattle.vtgate_lines.specs.Printed.{line};
 ghost use Rattle.session_replies.specs.Devices.{AppendsFront};
 ghost use Rattle.administration.specs.declared.reply.AdminReply.{AdminReply};
 ghost use Rattle.administration.specs.Told.{IsTold, keyspace_of};
 ghost use Rattle.administration.specs.Words.{reply_text};
-ghost use Rattle.vtgate_serve.specs.Conversations.{AllTold, BreaksOff, HasEndedEarly, HasAnsweredAll};
+ghost use Rattle.vtgate_serve.specs.Conversations.{AllTold, BreaksOff, HasEndedEarly, HasAnsweredAll, is_word_byte};
 
 use crate::lines::ended_line;
 use administration::{Administrator, administer};
@@ -24,21 +26,43 @@ pub const LONGEST_LINE: usize = 8192;
 /// How many bytes are asked of a source at once.
 const PIECE: usize = 4096;
 
-/// A conversation can't go on: a device failed, a line is too long, or there is no memory for it.
+/// What answers a line with a byte outside 20 to 7E.
+const UNKNOWN: &[u8] = b"unknown\n";
+
+/// A conversation can't go on: a device failed, or a line is too long, has a byte outside 20 to 7E, or there is no memory for it.
 #[derive(Clone, Copy, Debug, PartialEq, Eq)]
 pub struct BrokenOff;
 
 // Puts more of a line behind what came before.
 fn put(line: &mut Vec<u8>, more: &[u8]) -> Result<(), BrokenOff>
-    ensures { OnOk result (line.new.items ≡ line.old.items ++ more.now) }
+    ensures put { OnOk result (line.new.items ≡ line.old.items ++ more.now) }
+    ensures few { OnOk result (length line.new.items ≤ LONGEST_LINE) }
 {
-    if more.len() > LONGEST_LINE.saturating_sub(line.len()) {
+    let Some(room) = LONGEST_LINE.checked_sub(line.len()) else {
+        return Err(BrokenOff);
+    };
+    if more.len() > room {
         return Err(BrokenOff);
     }
     match line.extend_from_slice(more) {
         Ok(()) => Ok(()),
         Err(_) => Err(BrokenOff),
     }
+}
+
+// Whether a line has no byte outside 20 to 7E.
+fn is_printable(words: &[u8]) -> bool
+    ensures { result ≡ list_all is_word_byte words.now }
+{
+    words.iter().all(|byte| (0x20..=0x7e).contains(byte))
+}
+
+// Answers a line that has another byte.
+fn reject<O: Sink>(sink: &mut O) -> BrokenOff
+    ensures { AppendsFront (O.taken sink.old) (O.taken sink.new) (line (codes "unknown")) }
+{
+    let _ = sink.write(UNKNOWN);
+    BrokenOff
 }
 
 // Answers a line.
@@ -87,7 +111,11 @@ fn answer_piece<W: World + Send + Sync, J: Naming + Send + Sync, G: Gate, O: Sin
     let mut rest = piece;
     while let Some((more, behind)) = ended_line(rest) {
         put(front, more)?;
-        answer(rt, alloc, engine, administrator, pass, front, sink)?;
+        let words = front.as_slice();
+        if !is_printable(words) {
+            return Err(reject(sink));
+        }
+        answer(rt, alloc, engine, administrator, pass, words, sink)?;
         front.clear();
         rest = behind;
     }
@@ -175,12 +203,15 @@ fn answer_all<W: World + Send + Sync, J: Naming + Send + Sync, G: Gate, I: Sourc
 
 // Promise: Of the bytes that a client of the admin port sends, each line that has ended is answered, over what the lines before it left,
 // and that is written, in order; a rest that hasn't ended is no line. The conversation ends where its input does. Where it breaks off (a
-// device failed, a line is too long, or there is no memory for one) it does so behind a line that was told, or one that was answered and of
-// which a front was written, and nothing is done behind it
-// Refuses: unended_line_is_given_up, conversation_ends_unread, each_line_is_told_ok, line_is_kept_for_the_next
+// device failed, a line is too long, or there is no memory for one) it does so after a line that was told, or one that was answered and of
+// which a front was written, and nothing more is done. No line of more than 8192 bytes is done, nor one with a byte outside 20 to 7E: that is
+// answered `unknown`, and the conversation breaks off
+// Refuses: unended_line_is_given_up, conversation_ends_unread, each_line_is_told_ok, line_is_kept_for_the_next, longest_line_has_no_limit,
+// line_with_a_return_is_done, next_line_is_done_after_a_bad_one
 /// Answers the lines of a client, each over what the lines before it left, until its input ends. The administrator is that of the engine's
 /// sharded keyspace. It breaks off where a device fails, where a line has more than `LONGEST_LINE` bytes, and where there is no memory for one;
-/// nothing more is done then. What the line before that asked for is done, even where its reply couldn't be written.
+/// nothing more is done then. What the line before that asked for is done, even where its reply couldn't be written. It also breaks off
+/// at a line with a byte outside 20 to 7E, which it answers `unknown`: what a browser sends has such a byte in each line.
 pub fn talk<W: World + Send + Sync, J: Naming + Send + Sync, G: Gate, I: Source, O: Sink>(
     rt: &impl Wait,
     alloc: Global,

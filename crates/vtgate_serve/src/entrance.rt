@@ -1,7 +1,9 @@
 //! The connections that clients open.
-ghost use Rattle.std.specs.Prelude.{◌≡◌, ◌≤◌, ◌<◌, [], IfNone};
+ghost use Rattle.std.specs.Prelude.{◌≡◌, ◌≤◌, ◌<◌, ◌+◌, [], IfSome, IfNone};
+ghost use Rattle.vtgate_serve.specs.Accepted.{Accepts, AcceptsNoMore};
 
 use crate::connection::Connection;
+use crate::progress::Progress;
 use connection_workers::Entrance;
 use journal::{Naming, Opener, Pass};
 use shard::{ShardLaw, World};
@@ -19,6 +21,7 @@ pub struct Acceptor<'l, W: World, J: Naming> {
     listener: &'l TcpListener,
     opener: Opener<ShardLaw<W>, J>,
     pass: Pass<ShardLaw<W>, J>,
+    progress: &'l Progress,
     accepted: u32,
     last: u32,
     // Promise: The server has opened at most as many sessions as it has accepted connections, from none on
@@ -30,17 +33,21 @@ impl<'l, W: World, J: Naming> Acceptor<'l, W, J> {
     /// None is accepted yet, and `last` will be. No session was opened, and nobody has committed.
     pub fn new(
         listener: &'l TcpListener,
+        progress: &'l Progress,
         opener: Opener<ShardLaw<W>, J>,
         pass: Pass<ShardLaw<W>, J>,
         last: u32,
     ) -> Acceptor<'l, W, J>
         requires unopened { opener ≡ 0 }
         requires unseen { pass.seen ≡ [] }
+        ensures none { result.accepted ≡ 0 }
+        ensures last { result.last ≡ last }
     {
         Acceptor {
             listener,
             opener,
             pass,
+            progress,
             accepted: 0,
             last,
         }
@@ -49,6 +56,9 @@ impl<'l, W: World, J: Naming> Acceptor<'l, W, J> {
     // The next connection, unless it can have no session: then it is closed.
     fn connection(&mut self, stream: TcpStream) -> Option<Connection<W, J>>
         requires room { self.old.accepted < 4294967295 }
+        ensures one_more { self.new.accepted ≡ self.old.accepted + 1 }
+        ensures last { self.new.last ≡ self.old.last }
+        ensures number { IfSome result (λ c. c.number ≡ self.new.accepted) }
     {
         self.accepted = self.accepted.saturating_add(1);
         let pass = self.opener.open(&mut self.pass).ok()?;
@@ -58,7 +68,14 @@ impl<'l, W: World, J: Naming> Acceptor<'l, W, J> {
 
 impl<'l, W: World, J: Naming, R: Wait + Clock> Entrance<Connection<W, J>, R>
     for Acceptor<'l, W, J> {
-    ghost has_ended = { λ a. a.last ≤ a.accepted };
+    ghost use Rattle.vtgate_serve.specs.Accepted.{Accepts, AcceptsNoMore};
+
+    // Promise: Connections are numbered in the order in which they are accepted, each with a number of its own, up to the one that the words
+    // tell
+    // Refuses: each_connection_is_the_first, serve_lets_in_one_too_few, one_connection_is_enough
+    ghost gives = { λ a c b. Accepts a.accepted a.last c.number b.accepted b.last };
+
+    ghost ends = { λ a b. AcceptsNoMore a.accepted a.last b.accepted b.last };
 
     fn next(&mut self, rt: &R) -> Option<Connection<W, J>> {
         for _ in rt.forever() {
@@ -68,6 +85,7 @@ impl<'l, W: World, J: Naming, R: Wait + Clock> Entrance<Connection<W, J>, R>
             match self.listener.accept() {
                 Ok((stream, _)) => {
                     if let Some(connection) = self.connection(stream) {
+                        self.progress.logins.wait();
                         return Some(connection);
                     }
                 }

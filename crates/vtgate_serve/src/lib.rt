@@ -2,14 +2,21 @@
 #![tactic(auto)]
 
 mod admin_port;
+mod admission;
 mod client;
 mod connection;
 mod conversation;
 mod entrance;
+mod keepalive;
 mod lines;
+mod logins;
 mod ports;
+mod progress;
 mod serve;
+mod waits;
 
+pub use admission::{Admission, admission_of};
+pub use connection::serve_connection;
 pub use conversation::{BrokenOff, LONGEST_LINE, talk};
 pub use ports::Ports;
 pub use serve::{Setting, run_serve, serve_opened, setting_of};

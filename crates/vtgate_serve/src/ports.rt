@@ -1,16 +1,24 @@
 //! The two ports, and who serves them.
 ghost use denote.Param.Send.{IsSync};
-ghost use Rattle.std.specs.Prelude.{◌≡◌};
+ghost use Rattle.std.specs.Prelude.{◌≡◌, [], IfErr, OnOk};
+ghost use Rattle.std.specs.Io.KnownBytes.{Appends};
 ghost use Rattle.empty_opening.specs.Empty.{sharded_keyspace};
 ghost use Rattle.administration.specs.Told.{keyspace_of};
+ghost use Rattle.vtgate_input.specs.Statuses.{status_of};
+ghost use Rattle.vtgate_serve.specs.Accepted.{last_of};
+ghost use Rattle.vtgate_serve.specs.Served.{listening_text};
 
 use crate::admin_port::serve_admin;
-use crate::connection::{Connection, Welcome, serve_connection};
+use crate::admission::Admission;
+use crate::connection::{Connection, serve_socket};
 use crate::entrance::Acceptor;
+use crate::progress::Progress;
 use administration::Administrator;
 use connection_workers::run;
-use journal::{Naming, Pass};
+use journal::{Naming, Opener, Pass};
 use route_engine::{Engine, Gate};
+use serve_lines::Asked;
+use session::Sink;
 use shard::{ShardLaw, World};
 use std::alloc::Global;
 use std::net::{Net, TcpListener, TcpStream};
@@ -18,18 +26,14 @@ use std::sync::Wait;
 use std::sync::atomic::{AtomicU64, Ordering};
 use std::thread;
 use std::thread::Threads;
-use std::time::Clock;
-use vtgate_input::Fault;
+use std::time::{Clock, Duration};
+use vtgate_input::{FAILURE, Fault};
 
 /// How many connections wait for a worker.
 const QUEUED: usize = 64;
 
-/// What is told of the connections: that they are being served, that the last one was, or that none could be.
-pub const UNDER_WAY: u64 = 0;
-
-const SERVED: u64 = 1;
-
-const NOT_SERVED: u64 = 2;
+/// What is told once clients can connect.
+const LISTENING: &[u8] = b"listening\n";
 
 /// The two ports, bound.
 #[derive(Drop)]
@@ -43,7 +47,9 @@ pub fn bind<R: Net<Listener = TcpListener, Stream = TcpStream>>(
     rt: &R,
     address: &str,
     admin: &str,
-) -> Result<Ports, Fault> {
+) -> Result<Ports, Fault>
+    ensures fault { IfErr result (λ f. status_of f ≡ FAILURE) }
+{
     let Ok(clients) = TcpListener::bind(rt, address) else {
         return Err(Fault::CannotBind);
     };
@@ -53,6 +59,29 @@ pub fn bind<R: Net<Listener = TcpListener, Stream = TcpStream>>(
     Ok(Ports { clients, admin })
 }
 
+/// After how many connections it ends.
+fn last_connection(asked: &Asked<'_>) -> u32
+    ensures { result ≡ last_of asked.now.connections }
+{
+    if asked.connections == 0 {
+        u32::MAX
+    } else {
+        asked.connections
+    }
+}
+
+// Tells that it listens.
+fn tell_listening<O: Sink>(output: &mut O) -> Result<(), Fault>
+    ensures told { OnOk result (Appends (O.taken output.old) (O.taken output.new) listening_text) }
+    ensures fault { IfErr result (λ f. status_of f ≡ FAILURE) }
+{
+    match output.write(LISTENING) {
+        Ok(()) => Ok(()),
+        Err(_) => Err(Fault::Failed),
+    }
+}
+
+// Serves the connections that the acceptor accepts, and tells how that ended.
 fn serve_clients<
     W: World + Send + Sync,
     J: Naming + Send + Sync,
@@ -62,91 +91,212 @@ fn serve_clients<
     rt: &R,
     alloc: Global,
     engine: &Engine<W, J, G>,
-    welcome: &Welcome,
-    workers: u32,
+    admission: &Admission<'_>,
+    progress: &Progress,
     acceptor: Acceptor<'_, W, J>,
-) -> Result<(), Fault> {
+) {
+    let asked = admission.asked;
     let served = run(
         rt,
         alloc,
         QUEUED,
-        workers,
+        asked.workers,
         &move |connection: Connection<W, J>| {
-            serve_connection(rt, alloc, engine, welcome, connection)
+            serve_socket(rt, alloc, engine, admission, &progress.logins, connection)
         },
         acceptor,
     );
-    match served {
-        Ok(_) => Ok(()),
-        Err(_) => Err(Fault::Failed),
-    }
+    progress.end(served.is_ok());
 }
 
-// Serves the connections, and tells how that ended.
-fn serve_and_tell<
-    W: World + Send + Sync,
-    J: Naming + Send + Sync,
-    G: Gate,
-    R: Threads + Wait + Sync + Clock,
->(
+// Serves the admin port until the last connection is served, and tells whether it was.
+fn serve_operators<W: World + Send + Sync, J: Naming + Send + Sync, G: Gate, R: Wait + Clock>(
     rt: &R,
     alloc: Global,
     engine: &Engine<W, J, G>,
-    welcome: &Welcome,
-    workers: u32,
-    acceptor: Acceptor<'_, W, J>,
-    ended: &AtomicU64,
-) {
-    match serve_clients(rt, alloc, engine, welcome, workers, acceptor) {
-        Ok(()) => ended.store(SERVED, Ordering::SeqCst),
-        Err(_) => ended.store(NOT_SERVED, Ordering::SeqCst),
-    }
-}
-
-/// Serves the connections that are let in, in threads of their own, and beside them the admin port, until the last connection is served. The
-/// administrator is that of the engine's sharded keyspace.
-pub fn serve_beside_admin<
-    W: World + Send + Sync,
-    J: Naming + Send + Sync,
-    G: Gate,
-    R: Threads + Wait + Sync + Clock,
->(
-    rt: &R,
-    alloc: Global,
-    engine: &Engine<W, J, G>,
-    welcome: &Welcome,
-    workers: u32,
-    acceptor: Acceptor<'_, W, J>,
-    admin: &TcpListener,
     administrator: &mut Administrator<W, J>,
     pass: &mut Pass<ShardLaw<W>, J>,
+    listener: &TcpListener,
+    progress: &Progress,
 ) -> Result<(), Fault>
     requires home { keyspace_of administrator.old ≡ sharded_keyspace engine.now }
+    ensures fault { IfErr result (λ f. status_of f ≡ FAILURE) }
 {
-    let ended = AtomicU64::new(UNDER_WAY);
-    let ended = &ended;
+    serve_admin(rt, alloc, engine, administrator, pass, listener, progress);
+    if progress.is_served() {
+        Ok(())
+    } else {
+        Err(Fault::Failed)
+    }
+}
+
+// Serves the connections, and beside them the admin port.
+fn serve_both<
+    W: World + Send + Sync,
+    J: Naming + Send + Sync,
+    G: Gate,
+    R: Threads + Wait + Sync + Clock,
+>(
+    rt: &R,
+    alloc: Global,
+    engine: &Engine<W, J, G>,
+    admission: &Admission<'_>,
+    acceptor: Acceptor<'_, W, J>,
+    operators: &TcpListener,
+    progress: &Progress,
+    administrator: &mut Administrator<W, J>,
+    controller: &mut Pass<ShardLaw<W>, J>,
+) -> Result<(), Fault>
+    requires home { keyspace_of administrator.old ≡ sharded_keyspace engine.now }
+    ensures fault { IfErr result (λ f. status_of f ≡ FAILURE) }
+{
     thread::scope(
         thread::scope_env(),
         rt,
         move |scope| -> Result<(), Fault>
             requires { IsSync R.row × IsSync G.row × (keyspace_of administrator.now ≡ sharded_keyspace engine.now) }
+            ensures { IfErr result (λ f. status_of f ≡ FAILURE) }
         {
             if scope
                 .spawn(
                     move ||
                         requires { IsSync R.row × IsSync G.row }
-                    { serve_and_tell(rt, alloc, engine, welcome, workers, acceptor, ended) },
+                    { serve_clients(rt, alloc, engine, admission, progress, acceptor) },
                 )
                 .is_err()
             {
                 return Err(Fault::Failed);
             }
-            serve_admin(rt, alloc, engine, administrator, pass, admin, ended);
-            if ended.load(Ordering::SeqCst) == SERVED {
-                Ok(())
-            } else {
-                Err(Fault::Failed)
-            }
+            serve_operators(
+                rt,
+                alloc,
+                engine,
+                administrator,
+                controller,
+                operators,
+                progress,
+            )
         },
+    )
+}
+
+// Waits until all threads of a trial have begun, or one could not.
+fn wait_for_others<R: Wait + Clock>(rt: &R, begun: &AtomicU64) {
+    for _ in rt.forever() {
+        if begun.load(Ordering::SeqCst) != 0 {
+            return;
+        }
+        let _ = thread::sleep(rt, Duration::from_millis(1));
+    }
+}
+
+// Whether so many threads can be started beside one another: they are, and then end.
+fn can_start<R: Threads + Wait + Sync + Clock>(rt: &R, threads: u32) -> bool {
+    let begun = AtomicU64::new(0);
+    let begun = &begun;
+    thread::scope(
+        thread::scope_env(),
+        rt,
+        move |scope| -> bool
+            requires { IsSync R.row }
+        {
+            let mut all = true;
+            for _ in 0..threads {
+                all &= scope
+                    .spawn(
+                        move ||
+                            requires { IsSync R.row }
+                        { wait_for_others(rt, begun) },
+                    )
+                    .is_ok();
+            }
+            begun.store(1, Ordering::SeqCst);
+            all
+        },
+    )
+}
+
+// Serves the connections of a listener, and beside them the admin port.
+fn serve_opened_ports<
+    'p,
+    W: World + Send + Sync,
+    J: Naming + Send + Sync,
+    G: Gate,
+    R: Threads + Wait + Sync + Clock,
+>(
+    rt: &R,
+    alloc: Global,
+    engine: &Engine<W, J, G>,
+    admission: &Admission<'_>,
+    ports: &'p Ports,
+    progress: &'p Progress,
+    opener: Opener<ShardLaw<W>, J>,
+    pass: Pass<ShardLaw<W>, J>,
+    mut administrator: Administrator<W, J>,
+    mut controller: Pass<ShardLaw<W>, J>,
+) -> Result<(), Fault>
+    requires home { keyspace_of administrator ≡ sharded_keyspace engine.now }
+    requires unopened { opener ≡ 0 }
+    requires unseen { pass.seen ≡ [] }
+    ensures fault { IfErr result (λ f. status_of f ≡ FAILURE) }
+{
+    let last = last_connection(admission.asked);
+    let acceptor = Acceptor::new(&ports.clients, progress, opener, pass, last);
+    serve_both(
+        rt,
+        alloc,
+        engine,
+        admission,
+        acceptor,
+        &ports.admin,
+        progress,
+        &mut administrator,
+        &mut controller,
+    )
+}
+
+/// Serves the connections that clients open, in threads of their own, and beside them the admin port, until the last connection is served. The
+/// administrator is that of the engine's sharded keyspace. No session was opened before, and nobody has committed.
+pub fn serve_ports<
+    W: World + Send + Sync,
+    J: Naming + Send + Sync,
+    G: Gate,
+    R: Threads + Wait + Sync + Clock,
+    O: Sink,
+>(
+    rt: &R,
+    alloc: Global,
+    engine: &Engine<W, J, G>,
+    admission: &Admission<'_>,
+    ports: &Ports,
+    opener: Opener<ShardLaw<W>, J>,
+    pass: Pass<ShardLaw<W>, J>,
+    administrator: Administrator<W, J>,
+    controller: Pass<ShardLaw<W>, J>,
+    output: &mut O,
+) -> Result<(), Fault>
+    requires home { keyspace_of administrator ≡ sharded_keyspace engine.now }
+    requires unopened { opener ≡ 0 }
+    requires unseen { pass.seen ≡ [] }
+    ensures told { OnOk result (Appends (O.taken output.old) (O.taken output.new) listening_text) }
+    ensures fault { IfErr result (λ f. status_of f ≡ FAILURE) }
+{
+    let asked = admission.asked;
+    if !can_start(rt, asked.workers.saturating_add(1)) {
+        return Err(Fault::Failed);
+    }
+    tell_listening(output)?;
+    let progress = Progress::new(asked.workers);
+    serve_opened_ports(
+        rt,
+        alloc,
+        engine,
+        admission,
+        ports,
+        &progress,
+        opener,
+        pass,
+        administrator,
+        controller,
     )
 }

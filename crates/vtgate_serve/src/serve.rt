@@ -1,6 +1,5 @@
 //! What `vtgate serve` reads, and what it serves over.
-ghost use Rattle.std.specs.Prelude.{◌≡◌, ◌≢◌, ℕ, List, [], None, IsTrue, IfOk, OnOk, map};
-ghost use Rattle.std.specs.String.{string_bytes};
+ghost use Rattle.std.specs.Prelude.{◌≡◌, ◌≢◌, ◌≤◌, [], None, IsTrue, IfOk, IfErr, OnOk};
 ghost use Rattle.std.specs.Io.KnownBytes.{Appends};
 ghost use Rattle.keyrange.specs.declared.KeyRange.{KeyRange};
 ghost use Rattle.vschema.specs.WellFormed.{is_vschema};
@@ -9,19 +8,17 @@ ghost use Rattle.shard_contents.specs.Shards.{most_limits};
 ghost use Rattle.empty_opening.specs.Empty.{opening_of, sharded_keyspace, FitRanges};
 ghost use Rattle.administration.specs.Told.{keyspace_of};
 ghost use Rattle.serve_lines.specs.Asking.{Asking, Asks};
-ghost use Rattle.vtgate_lines.specs.Partitions.{NamesPartition};
-ghost use Rattle.vtgate_input.specs.Inputs.{HasDeclared};
+ghost use Rattle.vtgate_input.specs.Statuses.{IsWrong, TellsNone, status_of};
 ghost use Rattle.vtgate_serve.specs.Served.{HasServed, listening_text};
 
-use crate::connection::Welcome;
-use crate::entrance::Acceptor;
-use crate::ports::{Ports, bind, serve_beside_admin};
+use crate::admission::{Admission, admission_of};
+use crate::ports::{Ports, bind, serve_ports};
 use administration::{Administrator, administered_router, widest_limits};
 use journal::{Naming, Opened, Opener, Pass};
 use keyrange::KeyRange;
 use route_engine::{Engine, Gate, Open};
-use serve_lines::{Asked, read_words};
-use session::{Access, Sink, Source};
+use serve_lines::{Asked, Word, read_words};
+use session::{Sink, Source};
 use shard::{ShardLaw, World};
 use std::alloc::Global;
 use std::marker::Brand;
@@ -30,50 +27,14 @@ use std::sync::Wait;
 use std::thread::Threads;
 use std::time::Clock;
 use vschema::{Hashing, VSchema};
-use vt_value::Items;
 use vtgate_input::{
-    Fault, SUCCESS, USAGE, WRONG_WORDS, has_too_many, ranges_of, read_all, refuse, schema_of,
+    FAILURE, Fault, SUCCESS, USAGE, WRONG_WORDS, ranges_of, read_schema, refuse_plainly,
 };
 
-/// What is told once both ports are bound.
-const LISTENING: &[u8] = b"listening\n";
-
-/// After how many connections it ends.
-fn last_connection(asked: &Asked<'_>) -> u32 {
-    if asked.connections == 0 {
-        u32::MAX
-    } else {
-        asked.connections
-    }
-}
-
-// Promise: The server lets in the user and the password that its words tell, and greets by their nonce
-// Refuses: serve_takes_another_user, serve_wants_no_password
-fn welcome_of(alloc: Global, asked: &Asked<'_>) -> Result<Welcome, Fault>
-    ensures user { IfOk result (λ w. w.access.user ≡ asked.now.user) }
-    ensures stage2 { IfOk result (λ w. w.access.stage2 ≡ asked.now.stage2) }
-    ensures nonce { IfOk result (λ w. w.nonce ≡ asked.now.nonce) }
-{
-    let Ok(user) = Items::from_slice(alloc, asked.user) else {
-        return Err(Fault::Failed);
-    };
-    let Ok(nonce) = Items::from_slice(alloc, asked.nonce) else {
-        return Err(Fault::Failed);
-    };
-    Ok(Welcome {
-        access: Access {
-            user,
-            stage2: asked.stage2,
-        },
-        nonce,
-    })
-}
-
-/// What a server is told: what the words ask for, whom it lets in, and its ports.
+/// What a server is told: whom it lets in, as the words ask, and its ports.
 #[derive(Drop)]
 pub struct Setting<'s> {
-    pub asked: &'s Asked<'s>,
-    pub welcome: Welcome,
+    pub admission: Admission<'s>,
     pub ports: Ports,
 }
 
@@ -83,67 +44,16 @@ pub fn setting_of<'s>(
     asked: &'s Asked<'s>,
     ports: Ports,
 ) -> Result<Setting<'s>, Fault>
-    ensures asked { IfOk result (λ s. s.asked.now ≡ asked.now) }
-    ensures user { IfOk result (λ s. s.welcome.access.user ≡ asked.now.user) }
-    ensures stage2 { IfOk result (λ s. s.welcome.access.stage2 ≡ asked.now.stage2) }
-    ensures nonce { IfOk result (λ s. s.welcome.nonce ≡ asked.now.nonce) }
+    ensures asked { IfOk result (λ s. s.admission.asked.now ≡ asked.now) }
+    ensures fault { IfErr result (λ f. status_of f ≡ FAILURE) }
 {
-    match welcome_of(alloc, asked) {
-        Ok(welcome) => Ok(Setting {
-            asked,
-            welcome,
-            ports,
-        }),
+    match admission_of(alloc, asked) {
+        Ok(admission) => Ok(Setting { admission, ports }),
         Err(fault) => Err(fault),
     }
 }
 
-// Tells that it listens.
-fn tell_listening<O: Sink>(output: &mut O) -> Result<(), Fault>
-    ensures { OnOk result (Appends (O.taken output.old) (O.taken output.new) listening_text) }
-{
-    match output.write(LISTENING) {
-        Ok(()) => Ok(()),
-        Err(_) => Err(Fault::Failed),
-    }
-}
-
-// Serves by the engine. The administrator is that of its sharded keyspace. No session was opened before.
-fn serve_controlled<
-    W: World + Send + Sync,
-    J: Naming + Send + Sync,
-    G: Gate,
-    R: Threads + Wait + Sync + Clock,
->(
-    rt: &R,
-    alloc: Global,
-    engine: &Engine<W, J, G>,
-    administrator: &mut Administrator<W, J>,
-    opener: Opener<ShardLaw<W>, J>,
-    pass: Pass<ShardLaw<W>, J>,
-    controller: &mut Pass<ShardLaw<W>, J>,
-    setting: &Setting<'_>,
-) -> Result<(), Fault>
-    requires home { keyspace_of administrator.old ≡ sharded_keyspace engine.now }
-    requires unopened { opener ≡ 0 }
-    requires unseen { pass.seen ≡ [] }
-{
-    let asked = setting.asked;
-    let last = last_connection(asked);
-    serve_beside_admin(
-        rt,
-        alloc,
-        engine,
-        &setting.welcome,
-        asked.workers,
-        Acceptor::new(&setting.ports.clients, opener, pass, last),
-        &setting.ports.admin,
-        administrator,
-        controller,
-    )
-}
-
-// The same, once it has told that it listens.
+// Serves by the engine and its administrator. No session was opened before, and nobody has committed.
 fn serve_router<
     W: World + Send + Sync,
     J: Naming + Send + Sync,
@@ -154,67 +64,33 @@ fn serve_router<
     rt: &R,
     alloc: Global,
     engine: &Engine<W, J, G>,
-    administrator: &mut Administrator<W, J>,
+    administrator: Administrator<W, J>,
     opener: Opener<ShardLaw<W>, J>,
     mut pass: Pass<ShardLaw<W>, J>,
     setting: &Setting<'_>,
     output: &mut O,
 ) -> Result<(), Fault>
-    requires home { keyspace_of administrator.old ≡ sharded_keyspace engine.now }
+    requires home { keyspace_of administrator ≡ sharded_keyspace engine.now }
     requires unopened { opener ≡ 0 }
     requires unseen { pass ≡ new_pass [] None }
-    ensures { OnOk result (Appends (O.taken output.old) (O.taken output.new) listening_text) }
+    ensures told { OnOk result (Appends (O.taken output.old) (O.taken output.new) listening_text) }
+    ensures fault { IfErr result (λ f. status_of f ≡ FAILURE) }
 {
     match pass.split() {
-        Ok(mut controller) => match tell_listening(output) {
-            Ok(()) => serve_controlled(
-                rt,
-                alloc,
-                engine,
-                administrator,
-                opener,
-                pass,
-                &mut controller,
-                setting,
-            ),
-            Err(fault) => Err(fault),
-        },
+        Ok(controller) => serve_ports(
+            rt,
+            alloc,
+            engine,
+            &setting.admission,
+            &setting.ports,
+            opener,
+            pass,
+            administrator,
+            controller,
+            output,
+        ),
         Err(_) => Err(Fault::Failed),
     }
-}
-
-// The same by an engine and an administrator of its own.
-fn serve_owned<
-    W: World + Send + Sync,
-    J: Naming + Send + Sync,
-    G: Gate,
-    R: Threads + Wait + Sync + Clock,
-    O: Sink,
->(
-    rt: &R,
-    alloc: Global,
-    engine: Engine<W, J, G>,
-    mut administrator: Administrator<W, J>,
-    opener: Opener<ShardLaw<W>, J>,
-    pass: Pass<ShardLaw<W>, J>,
-    setting: &Setting<'_>,
-    output: &mut O,
-) -> Result<(), Fault>
-    requires home { keyspace_of administrator ≡ sharded_keyspace engine }
-    requires unopened { opener ≡ 0 }
-    requires unseen { pass ≡ new_pass [] None }
-    ensures { OnOk result (Appends (O.taken output.old) (O.taken output.new) listening_text) }
-{
-    serve_router(
-        rt,
-        alloc,
-        &engine,
-        &mut administrator,
-        opener,
-        pass,
-        setting,
-        output,
-    )
 }
 
 /// Serves over the VSchema and the ranges in the journal that was opened. The gate stands round each shard's read.
@@ -239,16 +115,17 @@ pub fn serve_opened<
     requires limits { W.limits ≡ most_limits }
     requires schema { IsTrue (is_vschema schema) }
     requires ranges { FitRanges schema ranges.now }
-    ensures { OnOk result (Appends (O.taken output.old) (O.taken output.new) listening_text) }
+    ensures told { OnOk result (Appends (O.taken output.old) (O.taken output.new) listening_text) }
+    ensures fault { IfErr result (λ f. status_of f ≡ FAILURE) }
 {
-    let asked = setting.asked;
+    let asked = setting.admission.asked;
     let waiting = u64::from(asked.buffer);
     let limits = widest_limits();
     match administered_router::<W, J, G>(alloc, schema, ranges, limits, opened, waiting, gate) {
-        Ok((engine, administrator, opener, pass)) => serve_owned(
+        Ok((engine, administrator, opener, pass)) => serve_router(
             rt,
             alloc,
-            engine,
+            &engine,
             administrator,
             opener,
             pass,
@@ -272,7 +149,8 @@ fn serve_in_world<W: World + Send + Sync, R: Threads + Wait + Sync + Clock, O: S
     requires limits { W.limits ≡ most_limits }
     requires schema { IsTrue (is_vschema schema) }
     requires ranges { FitRanges schema ranges.now }
-    ensures { OnOk result (Appends (O.taken output.old) (O.taken output.new) listening_text) }
+    ensures told { OnOk result (Appends (O.taken output.old) (O.taken output.new) listening_text) }
+    ensures fault { IfErr result (λ f. status_of f ≡ FAILURE) }
 {
     let Ok(opened) = Opened::<ShardLaw<W>>::new(alloc) else {
         return Err(Fault::Failed);
@@ -294,33 +172,14 @@ fn serve_over<
 ) -> Result<(), Fault>
     requires schema { IsTrue (is_vschema schema) }
     requires ranges { FitRanges schema ranges.now }
-    ensures { OnOk result (Appends (O.taken output.old) (O.taken output.new) listening_text) }
+    ensures told { OnOk result (Appends (O.taken output.old) (O.taken output.new) listening_text) }
+    ensures fault { IfErr result (λ f. status_of f ≡ FAILURE) }
 {
     let ports = bind(rt, asked.address, asked.admin)?;
     match setting_of(alloc, asked, ports) {
         Err(fault) => Err(fault),
         Ok(setting) => serve_in_world::<Brand, R, O>(rt, alloc, schema, ranges, &setting, output),
     }
-}
-
-// The VSchema that the whole input declares, over the ranges.
-fn read_schema<I: Source>(
-    alloc: Global,
-    hashing: &Hashing,
-    ranges: &[KeyRange],
-    input: &mut I,
-) -> Result<VSchema, Fault>
-    requires { (word : List ℕ) × NamesPartition word ranges.now }
-    ensures read { IfOk result (λ schema. HasDeclared (I.unread input.old) (I.unread input.new) schema) }
-    ensures formed { IfOk result (λ schema. IsTrue (is_vschema schema)) }
-    ensures fit { IfOk result (λ schema. FitRanges schema ranges.now) }
-{
-    let bytes = read_all(alloc, input)?;
-    let schema = schema_of(alloc, hashing, &bytes)?;
-    if has_too_many(&schema, ranges) {
-        return Err(Fault::WrongWords);
-    }
-    Ok(schema)
 }
 
 fn served<
@@ -336,7 +195,8 @@ fn served<
     output: &mut O,
 ) -> Result<(), Fault>
     ensures ok { OnOk result (HasServed asked.now.shards (I.unread input.old) (I.unread input.new) (O.taken output.old) (O.taken output.new)) }
-    ensures untouched { ((ranges : List KeyRange) → NamesPartition asked.now.shards ranges → ⊥) → (input.new ≡ input.old) × (output.new ≡ output.old) }
+    ensures untouched { TellsNone asked.now.shards → (input.new ≡ input.old) × (output.new ≡ output.old) }
+    ensures fault { IfErr result (λ f. status_of f ≡ WRONG_WORDS → IsWrong asked.now.shards (I.unread input.old) (I.unread input.new)) }
 {
     let ranges = ranges_of(alloc, asked.shards)?;
     let schema = read_schema(alloc, hashing, &ranges, input)?;
@@ -360,13 +220,14 @@ fn run_asked<
 ) -> u8
     ensures served { result ≡ SUCCESS → HasServed asked.now.shards (I.unread input.old) (I.unread input.new) (O.taken output.old) (O.taken output.new) }
     // A wrong word is refused before anything is read.
-    ensures untouched { ((ranges : List KeyRange) → NamesPartition asked.now.shards ranges → ⊥) → input.new ≡ input.old }
+    ensures untouched { TellsNone asked.now.shards → input.new ≡ input.old }
+    ensures status { result ≤ 2 }
+    ensures wrong { result ≡ WRONG_WORDS → IsWrong asked.now.shards (I.unread input.old) (I.unread input.new) }
 {
-    match served(rt, alloc, hashing, asked, input, output) {
-        Ok(()) => SUCCESS,
-        Err(Fault::OutOfMemory) => refuse(Fault::Failed, output, errors),
-        Err(fault) => refuse(fault, output, errors),
+    if let Err(fault) = served(rt, alloc, hashing, asked, input, output) {
+        return refuse_plainly(fault, output, errors);
     }
+    SUCCESS
 }
 
 /// Serves connections as the words of the command line ask, under the VSchema that the whole input declares, and gives the status 0 after the
@@ -383,17 +244,20 @@ pub fn run_serve<
     rt: &R,
     alloc: Global,
     hashing: &Hashing,
-    words: &[String],
+    words: &[Word],
     input: &mut I,
     output: &mut O,
     errors: &mut E,
 ) -> u8
-    ensures serve { (asking : Asking) → Asks (map string_bytes words.now) asking → result ≡ SUCCESS
+    ensures serve { (asking : Asking) → Asks words.now asking → result ≡ SUCCESS
         → HasServed asking.shards (I.unread input.old) (I.unread input.new) (O.taken output.old) (O.taken output.new) }
     // A wrong word is refused before anything is read.
-    ensures unserved { (asking : Asking) → Asks (map string_bytes words.now) asking
-        → ((ranges : List KeyRange) → NamesPartition asking.shards ranges → ⊥) → (result ≢ SUCCESS) × (input.new ≡ input.old) }
-    ensures wrong { ((asking : Asking) → Asks (map string_bytes words.now) asking → ⊥)
+    ensures unserved { (asking : Asking) → Asks words.now asking → TellsNone asking.shards → (result ≢ SUCCESS) × (input.new ≡ input.old) }
+    // The status 2 has its cause, where the words are those of `serve` too.
+    ensures cause { (asking : Asking) → Asks words.now asking → result ≡ WRONG_WORDS
+        → IsWrong asking.shards (I.unread input.old) (I.unread input.new) }
+    ensures status { result ≤ 2 }
+    ensures wrong { ((asking : Asking) → Asks words.now asking → ⊥)
         → (result ≡ WRONG_WORDS) × (input.new ≡ input.old) × (output.new ≡ output.old) }
 {
     let Some(asked) = read_words(words) else {

@@ -22,4 +22,4 @@ loop-line-preserved g c =
 pub returns : goal.returns
 returns g c =
     let none = rw c.in_default.is at c.next_line.ensures.none in
-    all_run _ _ _ _ _ _ _ _ c.loop-line.invariant.run none
+    record { given = all_run _ _ _ _ _ _ _ _ c.loop-line.invariant.run none; fault = tt }

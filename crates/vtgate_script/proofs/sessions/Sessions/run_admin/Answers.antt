@@ -37,7 +37,7 @@ returns-clause-told g c =
     let still =
     nobody_commits c.self.inside.opener seen now.seen c.self.inside.sessions.items c.self.invariant.0 c.self.invariant.2 c.confirm_all.ensures.own c.confirm_all.ensures.unopened
     c.administer-reply.ensures.onward.later in
-    on_ok c.write_all.result c.write_all.ensures (λ h. (
+    on_ok c.write_all.result c.write_all.ensures.written (λ h. (
       c.administer-reply.result,
       c.self.inside.all,
       now,

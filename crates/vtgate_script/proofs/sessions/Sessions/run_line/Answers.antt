@@ -7,7 +7,7 @@ use Rattle.vtgate_script.proofs.sessions.Sessions.run_line.Goals as goal
 pub returns-in-Statement-clause-gives : goal.returns-in-Statement-clause-gives
 returns-in-Statement-clause-gives g c =
     let says = rw c.in-Statement.is at c.read_line.ensures in
-    on_ok c.run_statement.result c.run_statement.ensures
+    on_ok c.run_statement.result c.run_statement.ensures.runs
     (λ h. (h.0, h.1, λ p held. let then = h.2 p held in (then.0, then.1, s.statement c.in-Statement.name.now c.in-Statement.sql.now says then.2)))
 
 pub returns-in-Admin-clause-gives : goal.returns-in-Admin-clause-gives
@@ -24,5 +24,5 @@ returns-in-Admin-clause-gives g c =
 pub returns-in-Unknown-clause-gives : goal.returns-in-Unknown-clause-gives
 returns-in-Unknown-clause-gives g c =
     let says = rw c.in-Unknown.is at c.read_line.ensures in
-    on_ok c.write_all.result c.write_all.ensures
+    on_ok c.write_all.result c.write_all.ensures.written
     (λ h. (unknown_text, h, λ p held. (p, held, s.unknown says.0 says.1)))

@@ -1,26 +1,24 @@
-use mir.Syntax.{w32}
 use denote.RattleType.{RattleType}
 use denote.Exit.{no}
 use denote.Param.{param}
-use denote.Plain.{UInt}
-use denote.Param.Send.{IsSync, param_send, arg_send, shr_send, sendable}
+use denote.Param.Send.{IsSync, param_send, arg_send, shr_send}
 use denote.Struct.Field.{shr_ref_field}
 use denote.Struct.Tuple.{TupleAt}
 use Rattle.std.proofs.Common.{List, [], ◌∷◌}
-use Rattle.std.proofs.Crossing.{crosses}
 use Rattle.std.specs.contracts.alloc.Global as heap
 use Rattle.std.proofs.alloc.Global.TheSendSync as sent_heap
-use Rattle.std.specs.contracts.sync.atomic.AtomicU64 as atomic
 use Rattle.route_engine.specs.contracts.engine.Engine as engine
 use Rattle.shard_calls.proofs.Sent.{captures_send}
 use Rattle.route_engine.proofs.Shared.{engine_sync}
-use Rattle.vtgate_serve.specs.contracts.connection.Welcome as welcome
+use Rattle.vtgate_serve.specs.contracts.admission.Admission as admission
 use Rattle.vtgate_serve.specs.contracts.entrance.Acceptor as acceptor
-use Rattle.vtgate_serve.proofs.connection.Welcome.TheSendSync as sent_welcome
+use Rattle.vtgate_serve.specs.contracts.progress.Progress as progress
+use Rattle.vtgate_serve.proofs.admission.Admission.TheSendSync as sent_admission
+use Rattle.vtgate_serve.proofs.progress.Progress.TheSendSync as sent_progress
 use Rattle.vtgate_serve.proofs.Sent.{acceptor_send}
-use Rattle.vtgate_serve.proofs.ports.fn.serve_beside_admin.scope.Goals as goal
+use Rattle.vtgate_serve.proofs.ports.fn.serve_both.scope.Goals as goal
 
--- what the closure captures: the handle, the allocator, the engine, the welcome, how many workers there are, the acceptor, and what tells the end
+-- what the closure captures: the handle, the allocator, the engine, the admission, the progress and the acceptor
 pub spawn-requires-send-F : goal.spawn-requires-send-F
 spawn-requires-send-F g c κs within =
     let W = param 0 g.row.W in
@@ -30,8 +28,8 @@ spawn-requires-send-F g c κs within =
     let r : IsSync (param 3 g.row.R) = c.requires.0 in
     let gate : IsSync (param 2 g.row.G) = c.requires.1 in
     let captures : List RattleType =
-    (shr_ref_field _ (param 3 g.row.R) tt).row ∷ heap.the_row ∷ (shr_ref_field _ E tt).row ∷ (shr_ref_field _ welcome.the_row tt).row ∷ UInt w32
-    ∷ acceptor.the_row _ W J g.J.Naming g.W.World ∷ (shr_ref_field _ atomic.the_row tt).row ∷ [] in
+    (shr_ref_field _ (param 3 g.row.R) tt).row ∷ heap.the_row ∷ (shr_ref_field _ E tt).row ∷ (shr_ref_field _ (admission.the_row _) tt).row
+    ∷ (shr_ref_field _ progress.the_row tt).row ∷ acceptor.the_row _ W J g.J.Naming g.W.World ∷ [] in
     param_send 1 _ (arg_send _ no (TupleAt _ captures) (captures_send _ captures (
       shr_send _ _ (param 3 g.row.R) r,
       (
@@ -39,8 +37,8 @@ spawn-requires-send-F g c κs within =
         (
           shr_send _ _ E (engine_sync W J g.W.World g.J.Naming G gate),
           (
-            shr_send _ _ welcome.the_row sent_welcome.the_sync,
-            (search sendable, (acceptor_send W J g.W.World g.J.Naming _, (shr_send _ _ atomic.the_row (search (crosses, sendable)), tt))),
+            shr_send _ _ (admission.the_row _) (sent_admission.the_sync _),
+            (shr_send _ _ progress.the_row sent_progress.the_sync, (acceptor_send W J g.W.World g.J.Naming _, tt)),
           ),
         ),
       ),

@@ -1,0 +1,38 @@
+//! Whom a server lets in, and what its salts are made of.
+ghost use Rattle.std.specs.Prelude.{◌≡◌, IfOk, IfErr};
+ghost use Rattle.vtgate_input.specs.Statuses.{status_of};
+
+use serve_lines::Asked;
+use session::Access;
+use std::alloc::Global;
+use vt_value::Items;
+use vtgate_input::{FAILURE, Fault};
+
+/// What the words ask for, and whom they let in.
+#[derive(Drop)]
+pub struct Admission<'w> {
+    pub(crate) asked: &'w Asked<'w>,
+    pub(crate) access: Access,
+    ghost user: { access.user ≡ asked.now.user },
+    ghost stage2: { access.stage2 ≡ asked.now.stage2 },
+}
+
+// Promise: The server lets in the user and the password that its words tell, and greets by their nonce
+// With: serve_connection
+// Refuses: another_user_is_let_in, no_password_is_wanted
+/// The admission that the words ask for. Refuses only for want of memory.
+pub fn admission_of<'w>(alloc: Global, asked: &'w Asked<'w>) -> Result<Admission<'w>, Fault>
+    ensures asked { IfOk result (λ a. a.asked.now ≡ asked.now) }
+    ensures fault { IfErr result (λ f. status_of f ≡ FAILURE) }
+{
+    match Items::from_slice(alloc, asked.user) {
+        Ok(user) => Ok(Admission {
+            asked,
+            access: Access {
+                user,
+                stage2: asked.stage2,
+            },
+        }),
+        Err(_) => Err(Fault::Failed),
+    }
+}
