@@ -216,11 +216,32 @@ def refuses_packets(program):
                 check(f"{wanted}, then", is_closed(client), "end")
         with packets.Client(router.address) as client:
             client.login(USER.encode(), b"")
-            for payload in (b"", b"\x16SELECT 1", b"\x04t\0", b"\x11", b"\x1f"):
+            for payload in (b"", b"\x16SELECT 1", b"\x04t\0", b"\x11", b"\x1b\2\0"):
                 client.send(payload, 0)
                 check(f"command {payload}", error_of(client.read()), "ERROR 1047 (08S01): unknown command")
             client.command(packets.PING)
             check("ping behind them", client.read(), bytes.fromhex("00000002000000"))
+
+
+def begins_anew(program):
+    """Commands that pools and drivers send: the line of COM_STATISTICS, COM_SET_OPTION, and COM_RESET_CONNECTION in a transaction."""
+    with Router(program) as router:
+        for capabilities, end in ((packets.PLAIN, "fe00000200"), (packets.PLAIN | packets.DEPRECATE_EOF, "fe000002000000")):
+            with packets.Client(router.address) as client:
+                client.login(USER.encode(), b"", capabilities=capabilities)
+                client.command(packets.STATISTICS)
+                check("COM_STATISTICS", client.read(), b"8.0.0-router")
+                client.command(packets.SET_OPTION, b"\1\0")
+                check("one statement a text", client.read(), bytes.fromhex(end))
+                client.command(packets.SET_OPTION, b"\0\0")
+                check("several", error_of(client.read()), "ERROR 1235 (42000): not supported")
+        with packets.Client(router.address) as client:
+            client.login(USER.encode(), b"")
+            check("BEGIN", client.query(b"BEGIN"), [bytes.fromhex("00000003000000")])
+            check("a write", client.query(b"INSERT INTO t VALUES (7, 1)"), [bytes.fromhex("00010003000000")])
+            client.command(packets.RESET_CONNECTION)
+            check("COM_RESET_CONNECTION", client.read(), bytes.fromhex("00000002000000"))
+            check("no row", texts_of(client.query(b"SELECT id FROM t WHERE id = 7")), [])
 
 
 def texts_of(payloads):
@@ -527,6 +548,7 @@ def main():
         greets,
         ends_result_sets,
         refuses_packets,
+        begins_anew,
         serves_two_at_once,
         serves_all_at_once,
         gives_up_gone_clients,
