@@ -15,21 +15,23 @@ use Rattle.operators.proofs.OrderLemmas.{rows_cmp-same}
 use Rattle.vt_value.specs.Values.{Row, same_row}
 use Rattle.vschema.specs.Database.{without}
 use Rattle.shard_store.specs.declared.gone.LentRow.{LentRow}
-use Rattle.shard_store.specs.Tables.{key_at, has_key}
+use Rattle.shard_store.specs.declared.key.RowKey.{RowKey}
+use Rattle.shard_store.specs.Slots.{Slot, rows_in}
+use Rattle.shard_store.specs.Tables.{key_at, has_key, IsAtItsKey}
 use Rattle.shard_store.specs.inner.Joined.{rows_lent}
-use Rattle.shard_store.specs.inner.Overlays.{lent_cmp, left_of}
-use Rattle.shard_store.proofs.Rows.{row_is, nil_is}
+use Rattle.shard_store.specs.inner.Overlays.{ColumnKeys, lent_key, lent_cmp, is_gone, left_of}
+use Rattle.shard_store.proofs.Rows.{row_is, nil_is, head_is, tail_is}
 use Rattle.shard_store.proofs.Bags.{same_self}
 use Rattle.shard_store.proofs.Keyed.{some_first}
 
--- ---- rows that are found by their values
+-- ---- rows that are found by their keys
 
-abbrev pub rows_at : List (LentRow × Unit {0}) → List Row
-rows_at entries = map (λ (l : LentRow). l.row.now) (keys_of entries)
+abbrev pub keys_in : List (LentRow × Unit {0}) → List Row
+keys_in entries = map lent_key (keys_of entries)
 
-pub among : (x : LentRow) (ks : List LentRow) → list_any (eq_by_cmp lent_cmp x) ks ≡ list_any (same_row x.row.now) (map (λ (l : LentRow). l.row.now) ks)
+pub among : (x : LentRow) (ks : List LentRow) → list_any (eq_by_cmp lent_cmp x) ks ≡ list_any (same_row (lent_key x)) (map lent_key ks)
 among x [] = refl
-among x (k ∷ ks) = ap (λ b. same_row x.row.now k.row.now || b) (among x ks)
+among x (k ∷ ks) = ap (λ b. same_row (lent_key x) (lent_key k) || b) (among x ks)
 
 turn : (a b c : Bool) → (a || (b || c)) ≡ (b || (a || c))
 turn true true c = refl
@@ -40,24 +42,24 @@ twice : (a b : Bool) → (a || b) ≡ (a || (a || b))
 twice true b = refl
 twice false b = refl
 
--- one row more is found
-pub one_more : (r : Row) (x : LentRow) (entries : List (LentRow × Unit {0}))
-    → list_any (same_row r) (rows_at (insert_entry lent_cmp entries x tt)) ≡ (same_row r x.row.now || list_any (same_row r) (rows_at entries))
-one_more r x [] = refl
-one_more r x (e ∷ es) = by (one_more r x es) (lent_cmp x e.0) refl
+-- one key more is found
+pub one_more : (key : Row) (x : LentRow) (entries : List (LentRow × Unit {0}))
+    → list_any (same_row key) (keys_in (insert_entry lent_cmp entries x tt)) ≡ (same_row key (lent_key x) || list_any (same_row key) (keys_in entries))
+one_more key x [] = refl
+one_more key x (e ∷ es) = by (one_more key x es) (lent_cmp x e.0) refl
   where
-    by : list_any (same_row r) (rows_at (insert_entry lent_cmp es x tt)) ≡ (same_row r x.row.now || list_any (same_row r) (rows_at es))
+    by : list_any (same_row key) (keys_in (insert_entry lent_cmp es x tt)) ≡ (same_row key (lent_key x) || list_any (same_row key) (keys_in es))
         → (o : Ordering) → lent_cmp x e.0 ≡ o
-        → list_any (same_row r) (rows_at (match_ordering (lent_cmp x e.0) ((x, tt) ∷ e ∷ es) ((e.0, tt) ∷ es) (e ∷ insert_entry lent_cmp es x tt)))
-        ≡ (same_row r x.row.now || list_any (same_row r) (rows_at (e ∷ es)))
+        → list_any (same_row key) (keys_in (match_ordering (lent_cmp x e.0) ((x, tt) ∷ e ∷ es) ((e.0, tt) ∷ es) (e ∷ insert_entry lent_cmp es x tt)))
+        ≡ (same_row key (lent_key x) || list_any (same_row key) (keys_in (e ∷ es)))
     by ih Less t = simp t
     by ih Equal t =
-        let same = rows_cmp-same x.row.now e.0.row.now t in
-        simp t (twice (same_row r e.0.row.now) (list_any (same_row r) (rows_at es))
-        ∙ ap (λ (row : Row). same_row r row || (same_row r e.0.row.now || list_any (same_row r) (rows_at es))) (sym same))
+        let same = rows_cmp-same (lent_key x) (lent_key e.0) t in
+        simp t (twice (same_row key (lent_key e.0)) (list_any (same_row key) (keys_in es))
+        ∙ ap (λ (k : Row). same_row key k || (same_row key (lent_key e.0) || list_any (same_row key) (keys_in es))) (sym same))
     by ih Greater t =
-        simp t (ap (λ b. same_row r e.0.row.now || b) ih
-        ∙ turn (same_row r e.0.row.now) (same_row r x.row.now) (list_any (same_row r) (rows_at es)))
+        simp t (ap (λ b. same_row key (lent_key e.0) || b) ih
+        ∙ turn (same_row key (lent_key e.0)) (same_row key (lent_key x)) (list_any (same_row key) (keys_in es)))
 
 -- ---- tests
 
@@ -124,7 +126,7 @@ filter_swap p q (x ∷ xs) = by (filter_swap p q xs) (p x) refl (q x) refl
     by ih false t false u = simp (t, u, ih)
 
 -- the rows that a condition keeps, of those that are left of rows among which are all that it keeps
-pub kept_left : (p : Row → Bool) (gone xs ys others : List Row) → filter p xs ≡ filter p ys
+pub kept_left : (p : Row → Bool) (gone : ColumnKeys) (xs ys others : List Row) → filter p xs ≡ filter p ys
     → filter p (left_of gone xs ++ others) ≡ filter p (left_of gone ys ++ others)
 kept_left p gone xs ys others e =
     filter-append p (left_of gone xs) others
@@ -132,12 +134,20 @@ kept_left p gone xs ys others e =
     ∙ sym (filter-append p (left_of gone ys) others)
   where
     here : Row → Bool
-    here r = not (list_any (same_row r) gone)
+    here r = not (is_gone gone r)
+
+-- all are left of rows where none is gone
+pub none_gone : (gone : ColumnKeys) → gone.keys ≡ [] → (xs : List Row) → left_of gone xs ≡ xs
+none_gone gone none [] = refl
+none_gone gone none (x ∷ xs) =
+    let here : is_gone gone x ≡ false = ap (list_any (same_row (key_at gone.columns x))) none in
+    let rest = none_gone gone none xs in
+    simp (here, rest)
 
 -- ---- a row that goes
 
-any_self : (r x : Row) (gone : List Row) → same_row r x ≡ true → list_any (same_row x) gone ≡ list_any (same_row r) gone
-any_self r x gone e = ap (λ (y : Row). list_any (same_row y) gone) (sym (row_is r x e))
+any_self : (r x : Row) (gone : ColumnKeys) → same_row r x ≡ true → is_gone gone x ≡ is_gone gone r
+any_self r x gone e = ap (λ (y : Row). is_gone gone y) (sym (row_is r x e))
 
 turned : (r x : Row) → same_row r x ≡ false → same_row x r ≡ false
 turned r x e = by (same_row x r) refl
@@ -146,80 +156,79 @@ turned r x e = by (same_row x r) refl
     by true t = absurd (false≢true (sym e ∙ ap (λ (y : Row). same_row r y) (row_is x r t) ∙ same_self r))
     by false t = t
 
-module _ (places : List ℕ) (values : Row) (row : Row) (key : values ≡ key_at places row) (gone more : List Row)
-    (next : (r : Row) → list_any (same_row r) more ≡ (same_row r row || list_any (same_row r) gone)) where
-  -- no row of these is the one that goes
-  others_left : (xs : List Row) → [] ≡ filter (has_key places values) xs → left_of more xs ≡ left_of gone xs
+module _ (gone more : ColumnKeys) (row : Row) (columns : more.columns ≡ gone.columns)
+    (next : (k : Row) → list_any (same_row k) more.keys ≡ (same_row k (key_at gone.columns row) || list_any (same_row k) gone.keys)) where
+  gone_more : (x : Row) → is_gone more x ≡ (same_row (key_at gone.columns x) (key_at gone.columns row) || is_gone gone x)
+  gone_more x = ap (λ (cs : List ℕ). list_any (same_row (key_at cs x)) more.keys) columns ∙ next (key_at gone.columns x)
+
+  other_key : (x : Row) → has_key gone.columns (key_at gone.columns row) x ≡ false → is_gone more x ≡ is_gone gone x
+  other_key x t = gone_more x ∙ ap (λ b. b || is_gone gone x) (turned (key_at gone.columns row) (key_at gone.columns x) t)
+
+  -- no row of these has the key of the one that goes
+  others_left : (xs : List Row) → [] ≡ filter (has_key gone.columns (key_at gone.columns row)) xs → left_of more xs ≡ left_of gone xs
   others_left [] h = refl
-  others_left (x ∷ xs) h = by (others_left xs) (has_key places values x) refl (same_row row x) refl
+  others_left (x ∷ xs) h = by (others_left xs) (has_key gone.columns (key_at gone.columns row) x) refl
     where
-      by : ([] ≡ filter (has_key places values) xs → left_of more xs ≡ left_of gone xs) → (b : Bool) → has_key places values x ≡ b
-          → (d : Bool) → same_row row x ≡ d → left_of more (x ∷ xs) ≡ left_of gone (x ∷ xs)
-      by ih true t d u =
-          let f : [] ≡ x ∷ filter (has_key places values) xs = rw t at h in
+      by : ([] ≡ filter (has_key gone.columns (key_at gone.columns row)) xs → left_of more xs ≡ left_of gone xs)
+          → (b : Bool) → has_key gone.columns (key_at gone.columns row) x ≡ b → left_of more (x ∷ xs) ≡ left_of gone (x ∷ xs)
+      by ih true t =
+          let f : [] ≡ x ∷ filter (has_key gone.columns (key_at gone.columns row)) xs = rw t at h in
           nil_is f
-      by ih false t true u =
-          let g : has_key places values x ≡ true =
-          subst (λ (r : Row). same_row values (key_at places r) ≡ true) (row_is row x u)
-          (subst (λ (vs : Row). same_row vs (key_at places row) ≡ true) (sym key) (same_self (key_at places row))) in
-          absurd (false≢true (sym t ∙ g))
-      by ih false t false u =
-          let f : [] ≡ filter (has_key places values) xs = rw t at h in
+      by ih false t =
+          let f : [] ≡ filter (has_key gone.columns (key_at gone.columns row)) xs = rw t at h in
           let rest = ih f in
-          let here : list_any (same_row x) more ≡ list_any (same_row x) gone = next x ∙ ap (λ b. b || list_any (same_row x) gone) (turned row x u) in
-          ap (λ b. cond (not b) (x ∷ left_of more xs) (left_of more xs)) here
-          ∙ ap (λ (z : List Row). cond (not (list_any (same_row x) gone)) (x ∷ z) z) rest
+          ap (λ b. cond (not b) (x ∷ left_of more xs) (left_of more xs)) (other_key x t)
+          ∙ ap (λ (z : List Row). cond (not (is_gone gone x)) (x ∷ z) z) rest
 
   -- the only row of its key goes
-  pub one_left : (xs : List Row) (o : Option Row) → filter (has_key places values) xs ≡ option_to_list o → list_any (same_row row) gone ≡ false
+  pub one_left : (xs : List Row) → filter (has_key gone.columns (key_at gone.columns row)) xs ≡ row ∷ [] → is_gone gone row ≡ false
       → left_of more xs ≡ without row (left_of gone xs)
-  one_left [] o e there = refl
-  one_left (x ∷ xs) o e there = by (one_left xs) (has_key places values x) refl (same_row row x) refl (list_any (same_row x) gone) refl
+  one_left [] e free = nil_is e
+  one_left (x ∷ xs) e free = by (one_left xs) (has_key gone.columns (key_at gone.columns row) x) refl
     where
-      beside : left_of more xs ≡ without row (left_of gone xs) → same_row row x ≡ false → (g : Bool) → list_any (same_row x) gone ≡ g
+      it : x ≡ row → [] ≡ filter (has_key gone.columns (key_at gone.columns row)) xs → left_of more (x ∷ xs) ≡ without row (left_of gone (x ∷ xs))
+      it is none =
+          let rest = others_left xs none in
+          let here : is_gone more x ≡ true =
+          gone_more x ∙ ap (λ b. b || is_gone gone x) (ap (λ (y : Row). same_row (key_at gone.columns y) (key_at gone.columns row)) is ∙ same_self (key_at gone.columns row)) in
+          let before : is_gone gone x ≡ false = ap (is_gone gone) is ∙ free in
+          let self : same_row row x ≡ true = ap (same_row row) is ∙ same_self row in
+          simp (here, before, self, rest)
+
+      other : left_of more xs ≡ without row (left_of gone xs) → same_row row x ≡ false → (g : Bool) → is_gone gone x ≡ g → is_gone more x ≡ g
           → left_of more (x ∷ xs) ≡ without row (left_of gone (x ∷ xs))
-      beside rest u true w =
-          let here : list_any (same_row x) more ≡ true = next x ∙ ap (λ b. b || list_any (same_row x) gone) (turned row x u) ∙ w in
-          simp (here, w, rest)
-      beside rest u false w =
-          let here : list_any (same_row x) more ≡ false = next x ∙ ap (λ b. b || list_any (same_row x) gone) (turned row x u) ∙ w in
-          simp (here, w, u, rest)
+      other rest u true w here = simp (here, w, rest)
+      other rest u false w here = simp (here, w, u, rest)
 
-      by : ((o : Option Row) → filter (has_key places values) xs ≡ option_to_list o → list_any (same_row row) gone ≡ false
-          → left_of more xs ≡ without row (left_of gone xs)) → (b : Bool) → has_key places values x ≡ b → (d : Bool) → same_row row x ≡ d
-          → (g : Bool) → list_any (same_row x) gone ≡ g → left_of more (x ∷ xs) ≡ without row (left_of gone (x ∷ xs))
-      by ih b t true u true w = absurd (false≢true (sym there ∙ sym (any_self row x gone u) ∙ w))
-      by ih false t true u false w =
-          let g : has_key places values x ≡ true =
-          subst (λ (r : Row). same_row values (key_at places r) ≡ true) (row_is row x u)
-          (subst (λ (vs : Row). same_row vs (key_at places row) ≡ true) (sym key) (same_self (key_at places row))) in
-          absurd (false≢true (sym t ∙ g))
-      by ih true t true u false w =
-          let f : x ∷ filter (has_key places values) xs ≡ option_to_list o = rw t at e in
-          let rest = others_left xs (sym (some_first x (filter (has_key places values) xs) o f).1) in
-          let self : same_row x row ≡ true = ap (λ (y : Row). same_row y row) (sym (row_is row x u)) ∙ same_self row in
-          let here : list_any (same_row x) more ≡ true = next x ∙ ap (λ b. b || list_any (same_row x) gone) self in
-          simp (here, w, u, rest)
-      by ih false t false u g w =
-          let f : filter (has_key places values) xs ≡ option_to_list o = rw t at e in
-          beside (ih o f there) u g w
-      by ih true t false u g w =
-          let f : x ∷ filter (has_key places values) xs ≡ option_to_list o = rw t at e in
-          beside (ih None (some_first x (filter (has_key places values) xs) o f).1 there) u g w
+      differs : has_key gone.columns (key_at gone.columns row) x ≡ false → (b : Bool) → same_row row x ≡ b → same_row row x ≡ false
+      differs t true u =
+          absurd (false≢true (sym t ∙ ap (λ (y : Row). same_row (key_at gone.columns row) (key_at gone.columns y)) (sym (row_is row x u)) ∙ same_self (key_at gone.columns row)))
+      differs t false u = u
 
--- a row that is there and not gone
-pub still_there : (row : Row) (gone xs : List Row) → list_any (same_row row) xs ≡ true → list_any (same_row row) gone ≡ false
-    → list_any (same_row row) (left_of gone xs) ≡ true
-still_there row gone xs there here =
-    any_kept (same_row row) (λ r. not (list_any (same_row r) gone)) (λ x e. ap not (any_self row x gone e ∙ here)) xs ∙ there
+      by : (filter (has_key gone.columns (key_at gone.columns row)) xs ≡ row ∷ [] → is_gone gone row ≡ false → left_of more xs ≡ without row (left_of gone xs))
+          → (b : Bool) → has_key gone.columns (key_at gone.columns row) x ≡ b → left_of more (x ∷ xs) ≡ without row (left_of gone (x ∷ xs))
+      by ih true t =
+          let f : x ∷ filter (has_key gone.columns (key_at gone.columns row)) xs ≡ row ∷ [] = rw t at e in
+          it (head_is f) (sym (tail_is f))
+      by ih false t =
+          let f : filter (has_key gone.columns (key_at gone.columns row)) xs ≡ row ∷ [] = rw t at e in
+          other (ih f free) (differs t (same_row row x) refl) (is_gone gone x) refl (other_key x t)
 
--- a row that is gone
-pub gone_is_not_there : (row : Row) (gone xs : List Row) → list_any (same_row row) gone ≡ true → list_any (same_row row) (left_of gone xs) ≡ false
-gone_is_not_there row gone xs h =
-    any_dropped (same_row row) (λ r. not (list_any (same_row r) gone)) (λ x e. ap not (any_self row x gone e ∙ h)) xs
+-- a slot's row is the next that is left where its key isn't gone, and else passed over
+pub left_first : (gone : ColumnKeys) (key : RowKey) (slot : Option Row) (row : Row) (slots : List Slot) → slot ≡ Some row → IsAtItsKey gone.columns (key, slot)
+    → list_any (same_row key.values) gone.keys ≡ false → left_of gone (rows_in ((key, slot) ∷ slots)) ≡ row ∷ left_of gone (rows_in slots)
+left_first gone key slot row slots is at free =
+    let here : is_gone gone row ≡ false = ap (λ (k : Row). list_any (same_row k) gone.keys) (sym (at row is)) ∙ free in
+    subst (λ (o : Option Row). left_of gone (option_to_list o ++ rows_in slots) ≡ row ∷ left_of gone (rows_in slots)) (sym is) (simp here)
 
-pub not_left : (row : Row) (gone xs : List Row) → list_any (same_row row) xs ≡ false → list_any (same_row row) (left_of gone xs) ≡ false
-not_left row gone xs h = none_filtered (same_row row) (λ r. not (list_any (same_row r) gone)) xs h
+pub left_passed : (gone : ColumnKeys) (key : RowKey) (slot : Option Row) (row : Row) (slots : List Slot) → slot ≡ Some row → IsAtItsKey gone.columns (key, slot)
+    → list_any (same_row key.values) gone.keys ≡ true → left_of gone (rows_in ((key, slot) ∷ slots)) ≡ left_of gone (rows_in slots)
+left_passed gone key slot row slots is at taken =
+    let here : is_gone gone row ≡ true = ap (λ (k : Row). list_any (same_row k) gone.keys) (sym (at row is)) ∙ taken in
+    subst (λ (o : Option Row). left_of gone (option_to_list o ++ rows_in slots) ≡ left_of gone (rows_in slots)) (sym is) (simp here)
+
+pub not_left : (row : Row) (gone : ColumnKeys) (xs : List Row) → list_any (same_row row) xs ≡ false → list_any (same_row row) (left_of gone xs) ≡ false
+not_left row gone xs h = none_filtered (same_row row) (λ r. not (is_gone gone r)) xs h
 
 -- ---- rows that are lent
 
@@ -268,17 +277,15 @@ or_false : (b : Bool) → (b || false) ≡ b
 or_false true = refl
 or_false false = refl
 
-pub slot_left : (p : Row → Bool) (gone xs : List Row) (row : Row) → filter p xs ≡ row ∷ [] → not (list_any (same_row row) gone) ≡ list_any p (left_of gone xs)
+pub slot_left : (p : Row → Bool) (gone : ColumnKeys) (xs : List Row) (row : Row) → filter p xs ≡ row ∷ [] → not (is_gone gone row) ≡ list_any p (left_of gone xs)
 slot_left p gone xs row e =
-    sym (any_swap p (λ r. not (list_any (same_row r) gone)) xs ∙ ap (list_any (λ r. not (list_any (same_row r) gone))) e
-    ∙ or_false (not (list_any (same_row row) gone)))
+    sym (any_swap p (λ r. not (is_gone gone r)) xs ∙ ap (list_any (λ r. not (is_gone gone r))) e ∙ or_false (not (is_gone gone row)))
 
-pub slot_none : (p : Row → Bool) (gone xs : List Row) → filter p xs ≡ [] → false ≡ list_any p (left_of gone xs)
-slot_none p gone xs e =
-    sym (any_swap p (λ r. not (list_any (same_row r) gone)) xs ∙ ap (list_any (λ r. not (list_any (same_row r) gone))) e)
+pub slot_none : (p : Row → Bool) (gone : ColumnKeys) (xs : List Row) → filter p xs ≡ [] → false ≡ list_any p (left_of gone xs)
+slot_none p gone xs e = sym (any_swap p (λ r. not (is_gone gone r)) xs ∙ ap (list_any (λ r. not (is_gone gone r))) e)
 
 -- a row of which the key is known to have one row, or none
-module _ (places : List ℕ) (values : Row) (row : Row) (key : values ≡ key_at places row) (gone xs : List Row) where
+module _ (places : List ℕ) (values : Row) (row : Row) (key : values ≡ key_at places row) (gone : ColumnKeys) (xs : List Row) where
   has_it : (x : Row) → same_row row x ≡ true → has_key places values x ≡ true
   has_it x e =
       subst (λ (r : Row). same_row values (key_at places r) ≡ true) (row_is row x e)
@@ -287,14 +294,14 @@ module _ (places : List ℕ) (values : Row) (row : Row) (key : values ≡ key_at
   by_key : list_any (same_row row) (left_of gone xs) ≡ list_any (same_row row) (left_of gone (filter (has_key places values) xs))
   by_key =
       sym (any_kept (same_row row) (has_key places values) has_it (left_of gone xs))
-      ∙ ap (list_any (same_row row)) (filter_swap (has_key places values) (λ r. not (list_any (same_row r) gone)) xs)
+      ∙ ap (list_any (same_row row)) (filter_swap (has_key places values) (λ r. not (is_gone gone r)) xs)
 
   pub one_there : (x : Row) → filter (has_key places values) xs ≡ x ∷ []
-      → (same_row row x && not (list_any (same_row row) gone)) ≡ list_any (same_row row) (left_of gone xs)
-  one_there x e = by (same_row row x) refl (list_any (same_row row) gone) refl ∙ sym (by_key ∙ ap (λ (l : List Row). list_any (same_row row) (left_of gone l)) e)
+      → (same_row row x && not (is_gone gone row)) ≡ list_any (same_row row) (left_of gone xs)
+  one_there x e = by (same_row row x) refl (is_gone gone row) refl ∙ sym (by_key ∙ ap (λ (l : List Row). list_any (same_row row) (left_of gone l)) e)
     where
-      by : (d : Bool) → same_row row x ≡ d → (g : Bool) → list_any (same_row row) gone ≡ g
-          → (same_row row x && not (list_any (same_row row) gone)) ≡ list_any (same_row row) (left_of gone (x ∷ []))
+      by : (d : Bool) → same_row row x ≡ d → (g : Bool) → is_gone gone row ≡ g
+          → (same_row row x && not (is_gone gone row)) ≡ list_any (same_row row) (left_of gone (x ∷ []))
       by true u true w =
           let here = any_self row x gone u ∙ w in
           simp (here, u, w)

@@ -1,5 +1,7 @@
 pub mod Chosen
+pub mod Gaps
 pub mod Joined
+pub mod Left
 pub mod Listings
 pub mod Overlays
 pub mod Partners

@@ -1,20 +1,52 @@
-//! Rows that are found by their values.
-ghost use Rattle.std.specs.Prelude.{◌≡◌, ◌||◌, [], List, IfErr, OnOk};
+//! Rows that are gone from the slots of a table, which are found by their keys.
+ghost use Rattle.std.specs.Prelude.{◌≡◌, ◌||◌, [], List, true, false, IfErr, OnOk};
 ghost use Rattle.std.specs.List.{list_any};
+ghost use Rattle.std.specs.Ordering.{is_lt};
+ghost use Rattle.std.specs.Cmp.Lexicographic.{slice_cmp};
 ghost use Rattle.vt_value.specs.declared.value.Value.{Value as V};
+ghost use Rattle.vt_value.specs.Values.{value_at, value_cmp};
 ghost use Rattle.vschema.specs.Database.{same_row};
+ghost use Rattle.shard_store.specs.Tables.{key_at};
+ghost use Rattle.shard_store.specs.inner.Overlays.{is_gone};
+ghost use Rattle.shard_store.specs.inner.Gaps.{is_below_lent, in_gap, IsGapIn};
 
-use crate::key_values::compare_values;
+use crate::key::RowKey;
+use crate::primary::value_at;
 use std::alloc::Global;
 use std::cmp::Ordering;
 use std::collections::BTreeMap;
 use std::marker::Model;
-use vt_value::{Refusal, Row};
+use std::ops::Bound;
+use vt_value::{Refusal, Row, Value, sort_order};
 
-/// A row, in the order of values, one after the other.
+/// A row, in the order of its values in some columns, one after the other.
 #[derive(Clone, Copy)]
 pub struct LentRow<'a> {
+    pub columns: &'a [usize],
     pub row: &'a Row,
+}
+
+// Compares a value of one row with a value of another.
+fn order_at(a: &Row, m: usize, b: &Row, n: usize) -> Ordering
+    ensures { result ≡ value_cmp (value_at a.now m) (value_at b.now n) }
+{
+    let null = Value::Null;
+    sort_order(value_at(a, m, &null), value_at(b, n, &null))
+}
+
+// Compares the values of two rows in columns, one after the other. A proper beginning comes before the longer list.
+fn compare_columns(a: &Row, a_columns: &[usize], b: &Row, b_columns: &[usize]) -> Ordering
+    ensures { result ≡ slice_cmp value_cmp (key_at a_columns.now a.now) (key_at b_columns.now b.now) }
+{
+    match (a_columns.split_first(), b_columns.split_first()) {
+        (None, None) => Ordering::Equal,
+        (None, Some(_)) => Ordering::Less,
+        (Some(_), None) => Ordering::Greater,
+        (Some((m, a_columns)), Some((n, b_columns))) => match order_at(a, *m, b, *n) {
+            Ordering::Equal => compare_columns(a, a_columns, b, b_columns),
+            order => order,
+        },
+    }
 }
 
 impl<'a> PartialEq for LentRow<'a> {
@@ -28,7 +60,7 @@ impl<'a> PartialEq for LentRow<'a> {
     ghost laws = { partial_equiv_from_equiv lent-equiv };
 
     fn eq(&self, other: &LentRow<'a>) -> bool {
-        compare_values(self.row.as_slice(), other.row.as_slice()).is_eq()
+        compare_columns(self.row, self.columns, other.row, other.columns).is_eq()
     }
 }
 
@@ -67,49 +99,105 @@ impl<'a> Ord for LentRow<'a> {
     ghost matches_eq = { λ a b. refl };
 
     fn cmp(&self, other: &LentRow<'a>) -> Ordering {
-        compare_values(self.row.as_slice(), other.row.as_slice())
+        compare_columns(self.row, self.columns, other.row, other.columns)
     }
 }
 
-/// Rows that are gone from the slots of a table. Contracts see the rows.
+/// Keys behind one of a slot and before that of a row, where one is given. A walk in the order of keys stays in one until it comes to a row
+/// that is gone, and so compares two keys at most of its rows.
+#[derive(Clone, Copy)]
+pub struct Gap<'a> {
+    pub after: &'a RowKey,
+    pub before: Option<LentRow<'a>>,
+}
+
+fn is_below_lent(key: &RowKey, row: Option<LentRow<'_>>) -> bool
+    ensures { result ≡ is_below_lent row.entry key.now.values }
+{
+    match row {
+        Some(lent) => key.values.compare_to_row(lent.row, lent.columns).is_lt(),
+        None => true,
+    }
+}
+
+impl<'a> Gap<'a> {
+    /// Whether a key is in it.
+    pub fn has(self, key: &RowKey) -> bool
+        ensures { result ≡ in_gap self.entry key.now.values }
+    {
+        self.after.values.compare(&key.values).is_lt() && is_below_lent(key, self.before)
+    }
+}
+
+/// Rows that are gone from the slots of a table. Contracts see the places of the key columns, and the rows' values there.
 #[derive(Drop)]
 pub struct GoneRows<'a> {
+    columns: &'a [usize],
     rows: BTreeMap<LentRow<'a>, ()>,
 }
 
 impl<'a> Model for GoneRows<'a> {
-    ghost use Rattle.std.specs.Prelude.{List, map};
+    ghost use Rattle.std.specs.Prelude.{map};
     ghost use Rattle.std.specs.Map.{keys_of};
-    ghost use Rattle.vt_value.specs.declared.value.Value.{Value as V};
+    ghost use Rattle.shard_store.specs.inner.Overlays.{ColumnKeys, lent_key};
 
-    ghost Value = { List (List V) };
+    ghost Value = { ColumnKeys };
 
-    ghost view = { λ g. map (λ lent. lent.row.now) (keys_of g.rows.entries) };
+    ghost view = { λ g. record { columns = g.columns.now; keys = map lent_key (keys_of g.rows.entries) } };
 }
 
 impl<'a> GoneRows<'a> {
-    /// None.
-    pub fn new(alloc: Global) -> GoneRows<'a>
-        ensures { result ≡ [] }
+    /// None, of a table whose key columns are at these places.
+    pub fn new(alloc: Global, columns: &'a [usize]) -> GoneRows<'a>
+        ensures columns { result.columns ≡ columns.now }
+        ensures keys { result.keys ≡ [] }
     {
         GoneRows {
+            columns,
             rows: BTreeMap::new(alloc),
         }
     }
 
-    /// Whether a row is among them. Takes no memory.
+    /// Whether a row's key is among theirs. Takes no memory.
     pub fn has(&self, row: &'a Row) -> bool
-        ensures { result ≡ list_any (same_row row.now) self.now }
+        ensures { result ≡ is_gone self.now row.now }
     {
-        self.rows.contains_key(&LentRow { row })
+        let columns = self.columns;
+        self.rows.contains_key(&LentRow { columns, row })
     }
 
     /// Adds a row. Refuses for want of memory.
     pub fn add(&mut self, row: &'a Row) -> Result<(), Refusal>
-        ensures ok { OnOk result ((r : List V) → list_any (same_row r) self.new ≡ (same_row r row.now || list_any (same_row r) self.old)) }
+        ensures columns { self.new.columns ≡ self.old.columns }
+        ensures ok { OnOk result ((key : List V) → list_any (same_row key) self.new.keys ≡ (same_row key (key_at self.old.columns row.now) || list_any (same_row key) self.old.keys)) }
         ensures err { IfErr result (λ e. e ≡ Refusal.OutOfMemory) }
     {
-        self.rows.insert(LentRow { row }, ())?;
+        let columns = self.columns;
+        self.rows.insert(LentRow { columns, row }, ())?;
         Ok(())
+    }
+
+    // The first of them whose key is behind a row's.
+    fn first_behind(&self, row: &'a Row) -> Option<LentRow<'a>>
+        ensures { (key : List V) → is_lt (slice_cmp value_cmp (key_at self.now.columns row.now) key) ≡ true → is_below_lent result key ≡ true → list_any (same_row key) self.now.keys ≡ false }
+    {
+        let columns = self.columns;
+        let lent = LentRow { columns, row };
+        let mut behind = self.rows.range((Bound::Excluded(lent), Bound::Unbounded));
+        match behind.next() {
+            Some((next, _)) => Some(*next),
+            None => None,
+        }
+    }
+
+    /// The keys behind a row's, up to the next of a row that is gone.
+    pub fn gap_behind(&self, key: &'a RowKey, row: &'a Row) -> Gap<'a>
+        requires { key.now.values ≡ key_at self.now.columns row.now }
+        ensures { IsGapIn self.now.keys result }
+    {
+        Gap {
+            after: key,
+            before: self.first_behind(row),
+        }
     }
 }

@@ -1,10 +1,12 @@
 //! The values of a key.
 ghost use Rattle.std.specs.Prelude.{◌≡◌, ◌∷◌, [], IfOk, IfErr};
 ghost use Rattle.std.specs.Cmp.Lexicographic.{slice_cmp};
-ghost use Rattle.vt_value.specs.Values.{value_cmp};
+ghost use Rattle.vt_value.specs.Values.{value_at, value_cmp};
 ghost use Rattle.shard_store.specs.Slots.{begins};
+ghost use Rattle.shard_store.specs.Tables.{key_at};
 ghost use Rattle.shard_store.specs.inner.Listings.{listed};
 
+use crate::primary::value_at;
 use std::alloc::Global;
 use std::cmp::Ordering;
 use std::marker::Model;
@@ -44,6 +46,28 @@ pub(crate) fn compare_values(a: &[Value], b: &[Value]) -> Ordering
         (Some(_), None) => Ordering::Greater,
         (Some((x, a)), Some((y, b))) => match sort_order(x, y) {
             Ordering::Equal => compare_values(a, b),
+            order => order,
+        },
+    }
+}
+
+fn order_of(value: &Value, row: &Row, place: usize) -> Ordering
+    ensures { result ≡ value_cmp value.now (value_at row.now place) }
+{
+    let null = Value::Null;
+    sort_order(value, value_at(row, place, &null))
+}
+
+// Compares values with those of a row in columns, one after the other.
+fn compare_values_to_row(values: &[Value], row: &Row, columns: &[usize]) -> Ordering
+    ensures { result ≡ slice_cmp value_cmp values.now (key_at columns.now row.now) }
+{
+    match (values.split_first(), columns.split_first()) {
+        (None, None) => Ordering::Equal,
+        (None, Some(_)) => Ordering::Less,
+        (Some(_), None) => Ordering::Greater,
+        (Some((value, values)), Some((place, columns))) => match order_of(value, row, *place) {
+            Ordering::Equal => compare_values_to_row(values, row, columns),
             order => order,
         },
     }
@@ -124,6 +148,20 @@ impl KeyValues {
         ensures { result ≡ slice_cmp value_cmp self.now other.now }
     {
         compare_listings(&self.listing, &other.listing)
+    }
+
+    /// Compares them with the values of a row in columns, in the order of values, one after the other.
+    pub fn compare_to_row(&self, row: &Row, columns: &[usize]) -> Ordering
+        ensures { result ≡ slice_cmp value_cmp self.now (key_at columns.now row.now) }
+    {
+        match &self.listing {
+            Listing::Number(number) => {
+                compare_values_to_row(&[Value::Int(i128::from(*number))], row, columns)
+            }
+            Listing::Values(values) => {
+                compare_values_to_row(values.get().as_slice(), row, columns)
+            }
+        }
     }
 
     /// Whether they begin with a value.

@@ -1,6 +1,6 @@
 //! The rows of a table with changes that the table does not have: those in its slots without some, and others. Only the rows that the
-//! changes name are held here, so what is made and read costs as the changes do, however many rows the table has.
-ghost use Rattle.std.specs.Prelude.{◌≡◌, ◌<◌, ◌||◌, ◌++◌, ◌∷◌, [], IsTrue, IfOk, IfErr, OnOk, MatchOption, List, filter, length, position, true};
+//! changes name are held here, so what is made costs as the changes do, and what is read as the rows do, however many changes there are.
+ghost use Rattle.std.specs.Prelude.{◌≡◌, ◌<◌, ◌||◌, ◌++◌, ◌∷◌, [], IsTrue, IsSorted, IfOk, IfErr, OnOk, List, filter, length, position, true};
 ghost use Rattle.std.specs.List.{list_any};
 ghost use Rattle.vt_value.specs.declared.value.Value.{Value as V};
 ghost use Rattle.vschema.specs.Checks.{is_aggregated};
@@ -9,22 +9,24 @@ ghost use Rattle.vschema.specs.Database.{rows_of, same_row, without};
 ghost use Rattle.sql_eval.specs.Conditions.{is_kept};
 ghost use Rattle.sql_eval.specs.Groups.{CanBeSummed};
 ghost use Rattle.sql_eval.specs.Queries.{IsAnswer};
+ghost use Rattle.sql_eval.specs.inner.Lent.{on_lent};
+ghost use Rattle.sql_eval.specs.inner.Keys.{key_cmp};
 ghost use Rattle.shard_store.specs.Tables.{key_at, has_key};
 ghost use Rattle.shard_store.specs.Slots.{rows_in};
-ghost use Rattle.shard_store.specs.Chosen.{slots_chosen};
 ghost use Rattle.shard_store.specs.inner.Joined.{rows_lent};
-ghost use Rattle.shard_store.specs.inner.Overlays.{left_of};
+ghost use Rattle.shard_store.specs.inner.Overlays.{ColumnKeys, left_of};
 
 use crate::beside::TableRows;
 use crate::by_value::all_of;
-use crate::gone::GoneRows;
+use crate::gone::{Gap, GoneRows};
 use crate::key::RowKey;
-use crate::primary::{are_key_places, same_key};
-use crate::source::any_has_key;
+use crate::left::{SlotsLeft, next_left, slots_left};
+use crate::primary::are_key_places;
 use crate::stored::StoredTables;
 use crate::table::StoredTable;
-use crate::walk::ChosenSlots;
-use sql_eval::{RowSource, SliceRows, all_kept, same_row, select_from};
+use sql_eval::{
+    RowSource, SliceRows, all_kept, has_key_among, in_key_order, same_row, select_from,
+};
 use sql_tree::Condition;
 use std::alloc::Global;
 use std::marker::Model;
@@ -42,7 +44,7 @@ pub struct Overlay<'a> {
 }
 
 impl<'a> Model for Overlay<'a> {
-    ghost use Rattle.std.specs.Prelude.{◌++◌};
+    ghost use Rattle.std.specs.Prelude.{◌≡◌, ◌++◌};
     ghost use Rattle.shard_store.specs.Slots.{rows_in};
     ghost use Rattle.shard_store.specs.Stores.{ChangedView};
     ghost use Rattle.shard_store.specs.inner.Joined.{rows_lent};
@@ -51,49 +53,42 @@ impl<'a> Model for Overlay<'a> {
     ghost Value = { ChangedView };
 
     ghost view = { λ o. record { rows = left_of o.gone (rows_in o.stored.now.slots) ++ rows_lent o.others.items; places = o.stored.now.places } };
+
+    ghost invariant = { λ o. o.gone.columns ≡ o.stored.now.places };
 }
 
 /// Rows of an overlay that are still to come. Contracts see the rows.
 #[derive(Drop)]
 pub struct RowsLeft<'a, 'b> {
-    slots: ChosenSlots<'a>,
+    slots: SlotsLeft<'a>,
     gone: &'b GoneRows<'a>,
+    // keys behind the last one that was looked up, none of which is gone
+    gap: Option<Gap<'a>>,
     others: &'b [&'a Row],
     // the place of the next of the others
     next: usize,
 }
 
 impl<'a, 'b> Model for RowsLeft<'a, 'b> {
-    ghost use Rattle.std.specs.Prelude.{◌++◌, List, drop};
+    ghost use Rattle.std.specs.Prelude.{◌++◌, IfSome, List, drop};
     ghost use Rattle.vt_value.specs.declared.value.Value.{Value as V};
-    ghost use Rattle.shard_store.specs.Chosen.{slots_chosen};
     ghost use Rattle.shard_store.specs.inner.Joined.{rows_lent};
     ghost use Rattle.shard_store.specs.inner.Overlays.{left_of};
+    ghost use Rattle.shard_store.specs.inner.Gaps.{IsGapIn};
+    ghost use Rattle.shard_store.specs.inner.Left.{rows_left, AreKeyed};
 
     ghost Value = { List (List V) };
 
-    ghost view = { λ r. left_of r.gone.now (slots_chosen r.slots) ++ rows_lent (drop r.next r.others.now) };
-}
+    ghost view = { λ r. left_of r.gone.now (rows_left r.slots) ++ rows_lent (drop r.next r.others.now) };
 
-// The next row in slots that isn't gone.
-fn next_left<'a>(slots: &mut ChosenSlots<'a>, gone: &GoneRows<'a>) -> Option<&'a Row>
-    ensures { MatchOption result
-        ((left_of gone.now (slots_chosen slots.old) ≡ []) × (slots_chosen slots.new ≡ []))
-        (λ row. left_of gone.now (slots_chosen slots.old) ≡ row.now ∷ left_of gone.now (slots_chosen slots.new)) }
-{
-    while let Some(row) = slots.next_row() {
-        if !gone.has(row) {
-            return Some(row);
-        }
-    }
-    None
+    ghost invariant = { λ r. AreKeyed r.gone.now.columns r.slots × IfSome r.gap (IsGapIn r.gone.now.keys) };
 }
 
 impl<'a, 'b> RowSource<'a> for RowsLeft<'a, 'b> {
     ghost to_come = { λ rows. rows };
 
     fn next_row(&mut self) -> Option<&'a Row> {
-        if let Some(row) = next_left(&mut self.slots, self.gone) {
+        if let Some(row) = next_left(&mut self.slots, self.gone, &mut self.gap) {
             return Some(row);
         }
         if self.next < self.others.len() {
@@ -121,13 +116,6 @@ fn remove_first(rows: &mut Vec<&Row>, row: &Row)
     }
 }
 
-// Whether one of the rows has this row's primary key.
-fn any_lent_has_key(table: &Table, row: &Row, rows: &[&Row]) -> bool
-    ensures { result ≡ list_any (λ r. same_row (key_of table.now row.now) (key_of table.now r.now)) rows.now }
-{
-    rows.iter().any(|r| same_key(table, row, r))
-}
-
 // Whether a row in slots that isn't gone has a key.
 fn has_slot<'a>(stored: &'a StoredTable, gone: &GoneRows<'a>, key: &RowKey) -> bool
     ensures { result ≡ list_any (has_key stored.now.places key.now.values) (left_of gone.now (rows_in stored.now.slots)) }
@@ -138,11 +126,72 @@ fn has_slot<'a>(stored: &'a StoredTable, gone: &GoneRows<'a>, key: &RowKey) -> b
     }
 }
 
+// Whether a row in slots that isn't gone has this row's key.
+fn has_slot_of<'a>(
+    alloc: Global,
+    stored: &'a StoredTable,
+    gone: &GoneRows<'a>,
+    row: &Row,
+) -> Result<bool, Refusal>
+    ensures ok { IfOk result (λ has. has ≡ list_any (has_key stored.now.places (key_at stored.now.places row.now)) (left_of gone.now (rows_in stored.now.slots))) }
+    ensures err { IfErr result (λ e. e ≡ Refusal.OutOfMemory) }
+{
+    let key = stored.key_of(alloc, row)?;
+    Ok(has_slot(stored, gone, &key))
+}
+
+// Whether one has the key of one of these rows.
+fn any_has_slot<'a>(
+    alloc: Global,
+    stored: &'a StoredTable,
+    gone: &GoneRows<'a>,
+    new: &[Row],
+) -> Result<bool, Refusal>
+    ensures ok { IfOk result (λ has. has ≡ list_any (λ n. list_any (has_key stored.now.places (key_at stored.now.places n)) (left_of gone.now (rows_in stored.now.slots))) new.now) }
+    ensures err { IfErr result (λ e. e ≡ Refusal.OutOfMemory) }
+{
+    for row in new {
+        if has_slot_of(alloc, stored, gone, row)? {
+            return Ok(true);
+        }
+    }
+    Ok(false)
+}
+
+// Whether one of the rows has the primary key of one that is sorted by it.
+fn any_lent_has_key(table: &Table, sorted: &[&Row], rows: &[&Row]) -> bool
+    requires { IsSorted (on_lent (key_cmp table.now)) sorted.now }
+    ensures { result ≡ list_any (λ r. list_any (λ n. same_row (key_of table.now n) (key_of table.now r)) (rows_lent sorted.now)) (rows_lent rows.now) }
+{
+    for row in rows {
+        if has_key_among(table, sorted, row) {
+            return true;
+        }
+    }
+    false
+}
+
+// Whether one of the rows that a source lends has the primary key of one that is sorted by it.
+fn any_has_key_among<'a, S: RowSource<'a>>(table: &Table, sorted: &[&Row], rows: S) -> bool
+    requires { IsSorted (on_lent (key_cmp table.now)) sorted.now }
+    ensures { result ≡ list_any (λ r. list_any (λ n. same_row (key_of table.now n) (key_of table.now r)) (rows_lent sorted.now)) (S.to_come rows) }
+{
+    let mut rows = rows;
+    while let Some(row) = rows.next_row() {
+        if has_key_among(table, sorted, row) {
+            return true;
+        }
+    }
+    false
+}
+
 // Whether a row, whose key is given, is in a slot and isn't gone: then it is there once.
 fn is_left<'a>(stored: &StoredTable, gone: &GoneRows<'a>, key: &RowKey, row: &'a Row) -> bool
-    requires { key.now.values ≡ key_at stored.now.places row.now }
+    requires places { gone.now.columns ≡ stored.now.places }
+    requires key { key.now.values ≡ key_at stored.now.places row.now }
     ensures is { result ≡ list_any (same_row row.now) (left_of gone.now (rows_in stored.now.slots)) }
-    ensures once { IsTrue result → (more : List (List V)) → ((r : List V) → list_any (same_row r) more ≡ (same_row r row.now || list_any (same_row r) gone.now))
+    ensures once { IsTrue result → (more : ColumnKeys) → more.columns ≡ gone.now.columns
+        → ((key : List V) → list_any (same_row key) more.keys ≡ (same_row key (key_at gone.now.columns row.now) || list_any (same_row key) gone.now.keys))
         → left_of more (rows_in stored.now.slots) ≡ without row.now (left_of gone.now (rows_in stored.now.slots)) }
 {
     match stored.get(key) {
@@ -155,7 +204,7 @@ impl<'a> Overlay<'a> {
     // Promise: The rows of a table with changes that it doesn't have, of which no other row is copied: a row that is added comes behind the
     // others, and one that is removed is the first that is this one. What is read of them is what is read of that list
     // With: Overlay::{add, remove, all, chosen, kept, select, has_any_key}, StoredTables::overlay
-    // Refuses: overlay_forgets_a_removed_row, added_row_comes_first
+    // Refuses: overlay_forgets_a_removed_row, whole_walk_forgets_a_removed_row, gap_has_no_end, new_rows_are_not_sought, added_row_comes_first
     /// The rows of a table, without any change. Refuses for want of memory.
     pub fn of(alloc: Global, table: &'a TableRows) -> Result<Overlay<'a>, Refusal>
         ensures rows { IfOk result (λ overlay. overlay.rows ≡ table.now.rows) }
@@ -164,7 +213,7 @@ impl<'a> Overlay<'a> {
         let others = all_of(alloc, SliceRows::new(table.beside.as_slice()))?;
         Ok(Overlay {
             stored: &table.stored,
-            gone: GoneRows::new(alloc),
+            gone: GoneRows::new(alloc, table.stored.key_columns()),
             others,
         })
     }
@@ -197,8 +246,9 @@ impl<'a> Overlay<'a> {
         ensures { result ≡ self.now.rows }
     {
         RowsLeft {
-            slots: ChosenSlots::All(self.stored.rows()),
+            slots: SlotsLeft::All(self.stored.slots()),
             gone: &self.gone,
+            gap: None,
             others: self.others.as_slice(),
             next: 0,
         }
@@ -213,10 +263,11 @@ impl<'a> Overlay<'a> {
         ensures ok { IfOk result (λ rows. filter (is_kept condition.now) rows ≡ filter (is_kept condition.now) self.now.rows) }
         ensures err { IfErr result (λ e. e ≡ Refusal.OutOfMemory) }
     {
-        let slots = self.stored.chosen(alloc, condition)?;
+        let slots = slots_left(alloc, self.stored, condition)?;
         Ok(RowsLeft {
             slots,
             gone: &self.gone,
+            gap: None,
             others: self.others.as_slice(),
             next: 0,
         })
@@ -245,18 +296,17 @@ impl<'a> Overlay<'a> {
         select_from(alloc, query, rows)
     }
 
-    // Whether a row has this row's primary key; `keyed` tells whether it can be looked up.
-    fn has_key(&self, alloc: Global, table: &Table, keyed: bool, row: &Row) -> Result<bool, Refusal>
-        requires { IsTrue keyed → (a b : List V) → same_row (key_at self.now.places a) (key_at self.now.places b) ≡ same_row (key_of table.now a) (key_of table.now b) }
-        ensures ok { IfOk result (λ has. has ≡ list_any (λ r. same_row (key_of table.now row.now) (key_of table.now r)) self.now.rows) }
+    // Whether a row has the primary key of one of these, where the places of the key columns tell which are the same.
+    fn has_any_keyed(&self, alloc: Global, table: &Table, new: &[Row]) -> Result<bool, Refusal>
+        requires { (a b : List V) → same_row (key_at self.now.places a) (key_at self.now.places b) ≡ same_row (key_of table.now a) (key_of table.now b) }
+        ensures ok { IfOk result (λ has. has ≡ list_any (λ n. list_any (λ r. same_row (key_of table.now n) (key_of table.now r)) self.now.rows) new.now) }
         ensures err { IfErr result (λ e. e ≡ Refusal.OutOfMemory) }
     {
-        if !keyed {
-            return Ok(any_has_key(table, row, self.all()));
+        if any_has_slot(alloc, self.stored, &self.gone, new)? {
+            return Ok(true);
         }
-        let key = self.stored.key_of(alloc, row)?;
-        let in_slot = has_slot(self.stored, &self.gone, &key);
-        Ok(in_slot || any_lent_has_key(table, row, self.others.as_slice()))
+        let sorted = in_key_order(alloc, table, new)?;
+        Ok(any_lent_has_key(table, sorted.as_slice(), self.others.as_slice()))
     }
 
     /// Whether a row has the primary key of one of these. Refuses for want of memory.
@@ -264,13 +314,11 @@ impl<'a> Overlay<'a> {
         ensures ok { IfOk result (λ has. has ≡ list_any (λ n. list_any (λ r. same_row (key_of table.now n) (key_of table.now r)) self.now.rows) new.now) }
         ensures err { IfErr result (λ e. e ≡ Refusal.OutOfMemory) }
     {
-        let keyed = are_key_places(alloc, table, self.stored.key_columns())?;
-        for row in new {
-            if self.has_key(alloc, table, keyed, row)? {
-                return Ok(true);
-            }
+        if are_key_places(alloc, table, self.stored.key_columns())? {
+            return self.has_any_keyed(alloc, table, new);
         }
-        Ok(false)
+        let sorted = in_key_order(alloc, table, new)?;
+        Ok(any_has_key_among(table, sorted.as_slice(), self.all()))
     }
 }
 

@@ -1,9 +1,9 @@
 ghost use Rattle.std.specs.Prelude.{◌≡◌, ◌<◌, ◌^◌, ◌&&◌, not, ◌++◌, ◌∷◌, [], IsSome, IsTrue, IfOk, IfErr, OnOk, OnErr, IsPermutation, option_to_list, option_copied, filter, length, slice_index, is_some, if◌then◌else◌};
-ghost use Rattle.std.specs.List.{list_any};
+ghost use Rattle.std.specs.List.{AllByRecursion, list_any};
 ghost use Rattle.vt_value.specs.Values.{value_at};
 ghost use Rattle.vschema.specs.Database.{same_row, without};
 ghost use Rattle.shard_store.specs.Slots.{rows_in, slot_at, row_at, slots_from, with_slot, without_slot};
-ghost use Rattle.shard_store.specs.Tables.{key_at, has_key, begins_with, CanTake};
+ghost use Rattle.shard_store.specs.Tables.{key_at, has_key, begins_with, IsAtItsKey, CanTake};
 ghost use Rattle.shard_store.specs.Chosen.{is_among};
 ghost use Rattle.shard_store.specs.Behind.{is_behind, IsInOrder};
 
@@ -13,6 +13,7 @@ use crate::slots::Slots;
 use crate::sorted::sorted;
 use crate::walk::{RowsAmong, RowsInOrder, RowsWith};
 use std::alloc::Global;
+use std::collections::btree_map::Range;
 use std::marker::Model;
 use vschema::Table;
 use vt_value::{Items, Refusal, Row, Value, copy};
@@ -111,6 +112,14 @@ impl StoredTable {
         ensures { result ≡ rows_in self.now.slots }
     {
         self.slots.rows()
+    }
+
+    /// All slots, in the order of their keys. The rows in them are at their keys.
+    pub(crate) fn slots(&self) -> Range<'_, RowKey, Option<Row>>
+        ensures slots { result ≡ self.now.slots }
+        ensures keyed { AllByRecursion (IsAtItsKey self.now.places) result }
+    {
+        self.slots.all()
     }
 
     /// The rows in the order of their keys, from a key on.

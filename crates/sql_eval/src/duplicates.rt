@@ -68,8 +68,8 @@ fn sort(rows: &mut Vec<&Row>, table: &Table) -> Result<(), Refusal>
     Ok(())
 }
 
-/// The rows in the order of their keys. None is copied.
-fn in_key_order<'r>(alloc: Global, table: &Table, rows: &'r [Row]) -> Result<Vec<&'r Row>, Refusal>
+/// The rows in the order of their primary keys. None is copied. Refuses only for want of memory.
+pub fn in_key_order<'r>(alloc: Global, table: &Table, rows: &'r [Row]) -> Result<Vec<&'r Row>, Refusal>
     ensures permutation { IfOk result (λ list. IsPermutation rows.now (map (λ row. row.now) list.items)) }
     ensures sorted { IfOk result (λ list. IsSorted (on_lent (key_cmp table.now)) list.items) }
     ensures err { IfErr result (λ e. e ≡ Refusal.OutOfMemory) }
@@ -103,8 +103,8 @@ fn has_twins(table: &Table, rows: &[&Row]) -> bool
     false
 }
 
-/// Whether a row's key is among those of rows that are in the order of their keys.
-fn has_key_among(table: &Table, sorted: &[&Row], row: &Row) -> bool
+/// Whether a row's primary key is among those of rows that are in the order of theirs. Takes no memory.
+pub fn has_key_among(table: &Table, sorted: &[&Row], row: &Row) -> bool
     requires { IsSorted (on_lent (key_cmp table.now)) sorted.now }
     ensures { result ≡ list_any (λ r. same_row (key_of table.now r) (key_of table.now row.now)) (map (λ r. r.now) sorted.now) }
 {

@@ -15,6 +15,7 @@ mod source;
 mod writes;
 
 pub use conditions::{Seen, keeps, truth};
+pub use duplicates::{has_key_among, in_key_order};
 pub use groups::{Grouping, copy_item, group_columns, group_order};
 pub use joins::{PairSource, SlicePairs, copy_seen, is_pair, select_pairs};
 pub use narrowed::{Narrowed, Whole};

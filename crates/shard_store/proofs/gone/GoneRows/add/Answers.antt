@@ -1,11 +1,13 @@
-use Rattle.std.proofs.Common.{◌∙◌, ◌||◌, List, ap}
+use Rattle.std.proofs.Common.{◌∙◌, ◌||◌, ap}
 use Rattle.std.specs.List.{list_any}
-use Rattle.vt_value.specs.Values.{Row, same_row}
-use Rattle.shard_store.proofs.Overlaid.{rows_at, one_more}
+use Rattle.vt_value.specs.Values.{same_row}
+use Rattle.shard_store.specs.Tables.{key_at}
+use Rattle.shard_store.specs.inner.Overlays.{ColumnKeys}
+use Rattle.shard_store.proofs.Overlaid.{keys_in, one_more}
 use Rattle.shard_store.proofs.gone.GoneRows.add.Goals as goal
 
 pub returns-clause-ok : goal.returns-clause-ok
-returns-clause-ok c = λ r.
-    ap (λ entries. list_any (same_row r) (rows_at entries)) c.in_ok-insert.ensures.entries
-    ∙ one_more r (record { row = c.args.row }) c.self.inside.rows.entries
-    ∙ ap (λ (rows : List Row). same_row r c.args.row.now || list_any (same_row r) rows) c.self.view_is
+returns-clause-ok c = λ key.
+    ap (λ entries. list_any (same_row key) (keys_in entries)) c.in_ok-insert.ensures.entries
+    ∙ one_more key (record { columns = c.self.inside.columns; row = c.args.row }) c.self.inside.rows.entries
+    ∙ ap (λ (v : ColumnKeys). same_row key (key_at v.columns c.args.row.now) || list_any (same_row key) v.keys) c.self.view_is

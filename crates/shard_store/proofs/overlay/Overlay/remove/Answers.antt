@@ -12,7 +12,7 @@ pub returns-then-is_left-clause-ok : goal.returns-then-is_left-clause-ok
 returns-then-is_left-clause-ok c =
     let others = rows_lent c.self.inside.others.items in
     let s = left_of c.self.inside.gone (rows_in c.self.inside.stored.now.slots) in
-    ap (λ (z : List Row). z ++ others) (c.is_left.ensures.once c.if-is_left.true c.add.new.self c.in_ok-add.ensures.ok)
+    ap (λ (z : List Row). z ++ others) (c.is_left.ensures.once c.if-is_left.true c.add.new.self c.in_ok-add.ensures.columns c.in_ok-add.ensures.ok)
     ∙ sym (without_left c.args.row.now s others (sym c.is_left.ensures.is ∙ c.if-is_left.true))
     ∙ ap (λ (v : ChangedView). without c.args.row.now v.rows) c.self.view_is
 
@@ -22,3 +22,6 @@ returns-clause-ok c =
     ap (λ (z : List Row). s ++ z) c.remove_first.ensures
     ∙ sym (without_right c.args.row.now s (rows_lent c.self.inside.others.items) (sym c.is_left.ensures.is ∙ c.if-is_left.false))
     ∙ ap (λ (v : ChangedView). without c.args.row.now v.rows) c.self.view_is
+
+pub invariant_of-self : goal.invariant_of-self
+invariant_of-self c = c.add.ensures.columns ∙ c.self.invariant

@@ -1,7 +1,7 @@
 use Rattle.std.proofs.Common.{◌≡◌, length}
 use Rattle.shard_store.specs.Chosen.{slots_chosen}
 use Rattle.shard_store.specs.inner.Overlays.{left_of}
-use Rattle.shard_store.proofs.overlay.next_left.Given as goal
+use Rattle.shard_store.proofs.left.next_of_chosen.Given as goal
 
 -- no row that is left was passed over
 abbrev pub invariant-loop-row : goal.invariant-loop-row
