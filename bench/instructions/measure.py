@@ -61,8 +61,23 @@ def among(count):
     return ", ".join(str(it) for it in range(1, 2 * count, 2))
 
 
+def own_changes(count, rows):
+    """A transaction's first statements: so many rows are updated, deleted or inserted, a third each, all over the table."""
+    texts = ["BEGIN"]
+    for it in range(count):
+        near = rows // count * it
+        texts.append((f"UPDATE t SET c = 1 WHERE id = {near}", f"DELETE FROM t WHERE id = {near}", insert([rows * 2 + it]))[it % 3])
+    return texts
+
+
+def in_transaction(shown, changes, rows, times, text):
+    """A statement in a transaction with so many changed rows of one shard."""
+    return (f"{shown} after {changes:,} own changes", 1, rows, times, text, own_changes(changes, rows))
+
+
 def kinds():
-    """A statement as a page shows it, how many shards, how many rows before it, how often it is sent, and its text, by the number of the time."""
+    """A statement as a page shows it, how many shards, how many rows before it, how often it is sent, its text, by the number of the time, and
+    what is sent once before it, if anything."""
     return (
         ("`SELECT * .. WHERE id = N`", 2, 1_000, 200, lambda time: f"SELECT * FROM t WHERE id = {time}"),
         ("`UPDATE .. SET c = M WHERE id = N`", 2, 1_000, 200, lambda time: f"UPDATE t SET c = {10**7 + time} WHERE id = {time}"),
@@ -75,6 +90,11 @@ def kinds():
         ("`SELECT * FROM t`", 1, 10_000, 2, lambda time: "SELECT * FROM t"),
         ("`SELECT c, COUNT(*), SUM(id) .. GROUP BY c`", 1, 10_000, 2, lambda time: "SELECT c, COUNT(*), SUM(id) FROM t GROUP BY c"),
         ("`SELECT COUNT(*), SUM(c) FROM t`", 1, 10_000, 2, lambda time: "SELECT COUNT(*), SUM(c) FROM t"),
+        ("`SELECT COUNT(*) FROM t`", 1, 100_000, 2, lambda time: "SELECT COUNT(*) FROM t"),
+        in_transaction("`SELECT COUNT(*) FROM t`", 100, 100_000, 2, lambda time: "SELECT COUNT(*) FROM t"),
+        in_transaction("`SELECT * .. WHERE id = N`", 100, 10_000, 20, lambda time: f"SELECT * FROM t WHERE id = {time}"),
+        in_transaction("`INSERT` of a row", 100, 10_000, 20, lambda time: insert([1_000_000 + time])),
+        in_transaction("`INSERT` of 1,000 rows", 1000, 10_000, 2, lambda time: insert(range(10**6 + time * 1000, 10**6 + time * 1000 + 1000))),
     )
 
 
@@ -122,9 +142,11 @@ class Router:
         return int(re.search(r"^(?:totals|summary): (\d+)", text, re.M).group(1))
 
 
-def measure(program, shards, rows, times, text):
+def measure(program, shards, rows, times, text, opening=()):
     with tempfile.TemporaryDirectory() as work, Router(program, shards, pathlib.Path(work)) as router:
         router.load(rows)
+        for it in opening:
+            router.query(it)
         # what is made once
         router.query(text(0))
         router.counted()
@@ -142,10 +164,10 @@ def main():
     known = (TOP / "docs" / "PERFORMANCE.md").read_text()
     before = {found[:3]: int(found[3]) for found in ROW.findall(known.partition("<!-- bench/instructions.sh begins -->")[2])}
     part = HEAD.format(day=datetime.date.today())
-    for shown, shards, rows, times, text in kinds():
+    for shown, shards, rows, times, text, *opening in kinds():
         if words.only not in shown:
             continue
-        count = measure(words.program, shards, rows, times, text)
+        count = measure(words.program, shards, rows, times, text, *opening)
         last = before.get((shown, str(shards), str(rows)))
         beside = f"{last} | {count / last:.2f}" if last else "- | -"
         line = f"| {shown} | {shards} | {rows} | {count} | {beside} |"

@@ -63,13 +63,13 @@ class Client(packets.Client):
 class Router:
     """A router with so many rows, until the `with` ends, and one client."""
 
-    def __init__(self, program, ranges, rows):
-        self.program, self.ranges, self.rows = program, ranges, rows
+    def __init__(self, program, ranges, rows, workers=4):
+        self.program, self.ranges, self.rows, self.workers = program, ranges, rows, workers
 
     def __enter__(self):
         port, admin = free_ports(2)
         self.address = ("127.0.0.1", port)
-        call = [self.program, "serve", self.ranges, f"127.0.0.1:{port}", f"127.0.0.1:{admin}", "4", "64", "0", "bench", "-", "a nonce of the bench"]
+        call = [self.program, "serve", self.ranges, f"127.0.0.1:{port}", f"127.0.0.1:{admin}", str(self.workers), "64", "0", "bench", "-", "a nonce of the bench"]
         with tempfile.TemporaryFile("w+") as schema:
             json.dump(SCHEMA, schema)
             schema.seek(0)

@@ -1,0 +1,20 @@
+#!/usr/bin/env bash
+# Measures scatters over four shards of one more row each than the session's own thread reads (FEW_ROWS of crates/shard_calls/src/gate.rt), each
+# read in a thread of its own, beside scatters over shards of that many, read one after the other: by 1, 4 and 16 connections. Where the ratio is
+# below 1, threads pay. Prints the table; with --write puts it into docs/PERFORMANCE.md.
+# Usage: bench/threads.sh [--write] [--seconds N] [PROGRAM]   (proved and built where none is given)
+set -euo pipefail
+top=$(cd "$(dirname "$0")/.." && pwd)
+. "$top/scripts/program.sh"
+choices=() program=''
+while [ $# -gt 0 ]; do
+    case $1 in
+        --write) choices+=(--document "$top/docs/PERFORMANCE.md") ;;
+        --seconds | --rows) choices+=("$1" "$2") && shift ;;
+        -*) echo "no such choice: $1" >&2 && exit 2 ;;
+        *) program=$1 ;;
+    esac
+    shift
+done
+program=$(program_of vtgate_main "$program")
+python3 "$top/bench/threads/measure.py" "$(realpath "$program")" "${choices[@]}"
