@@ -69,7 +69,11 @@ fn sort(rows: &mut Vec<&Row>, table: &Table) -> Result<(), Refusal>
 }
 
 /// The rows in the order of their primary keys. None is copied. Refuses only for want of memory.
-pub fn in_key_order<'r>(alloc: Global, table: &Table, rows: &'r [Row]) -> Result<Vec<&'r Row>, Refusal>
+pub fn in_key_order<'r>(
+    alloc: Global,
+    table: &Table,
+    rows: &'r [Row],
+) -> Result<Vec<&'r Row>, Refusal>
     ensures permutation { IfOk result (λ list. IsPermutation rows.now (map (λ row. row.now) list.items)) }
     ensures sorted { IfOk result (λ list. IsSorted (on_lent (key_cmp table.now)) list.items) }
     ensures err { IfErr result (λ e. e ≡ Refusal.OutOfMemory) }
