@@ -25,6 +25,9 @@ use vt_value::{Items, Refusal, Row};
 // More rows than memory can hold. The sums of a query are known to fit up to here.
 const MOST_ROWS: usize = 1 << 60;
 
+// So many new rows are compared with each of a transaction's changes. For more, all changes are done, and the keys are looked up.
+const FEW_NEW: usize = 8;
+
 /// Which rows a statement looks at.
 #[derive(Clone, Copy)]
 pub enum Wanted<'a> {
@@ -143,6 +146,61 @@ fn rows_behind<'a>(
     Ok(behind)
 }
 
+// The rows of the table at a place that the changes leave.
+fn all_behind<'a>(
+    alloc: Global,
+    store: &'a StoredTables,
+    place: usize,
+    changes: &'a [RowChange],
+) -> Result<Overlay<'a>, Refusal>
+    requires { place < length store.now.rows }
+    ensures ok { IfOk result (λ behind. behind.rows ≡ rows_of (all_applied changes.now store.now.rows) place) }
+    ensures err { IfErr result (λ e. e ≡ Refusal.OutOfMemory) }
+{
+    rows_behind(alloc, store, place, changes, Wanted::All)
+}
+
+// Rows of the table at a place, of which those that have the primary key of a new one are those that the changes leave.
+fn keyed_behind<'a>(
+    alloc: Global,
+    store: &'a StoredTables,
+    place: usize,
+    changes: &'a [RowChange],
+    table: &Table,
+    new: &[Row],
+) -> Result<Overlay<'a>, Refusal>
+    requires { place < length store.now.rows }
+    ensures ok { IfOk result (λ behind. list_any (λ n. list_any (λ r. same_row (key_of table.now n) (key_of table.now r)) behind.rows) new.now
+        ≡ list_any (λ n. list_any (λ r. same_row (key_of table.now n) (key_of table.now r)) (rows_of (all_applied changes.now store.now.rows) place)) new.now) }
+    ensures err { IfErr result (λ e. e ≡ Refusal.OutOfMemory) }
+{
+    rows_behind(alloc, store, place, changes, Wanted::Keyed(table, new))
+}
+
+fn are_many(new: &[Row]) -> bool {
+    new.len() > FEW_NEW
+}
+
+// Rows of the table at a place, which have the primary key of a new one where the rows that the changes leave have it.
+fn rows_for<'a>(
+    alloc: Global,
+    store: &'a StoredTables,
+    place: usize,
+    changes: &'a [RowChange],
+    table: &Table,
+    new: &[Row],
+) -> Result<Overlay<'a>, Refusal>
+    requires { place < length store.now.rows }
+    ensures ok { IfOk result (λ behind. list_any (λ n. list_any (λ r. same_row (key_of table.now n) (key_of table.now r)) behind.rows) new.now
+        ≡ list_any (λ n. list_any (λ r. same_row (key_of table.now n) (key_of table.now r)) (rows_of (all_applied changes.now store.now.rows) place)) new.now) }
+    ensures err { IfErr result (λ e. e ≡ Refusal.OutOfMemory) }
+{
+    if are_many(new) {
+        return all_behind(alloc, store, place, changes);
+    }
+    keyed_behind(alloc, store, place, changes, table, new)
+}
+
 impl Contents {
     // What a query over one table gives over its rows with these changes done.
     fn select_one_behind(
@@ -248,8 +306,7 @@ impl Contents {
         ensures err { IfErr result (λ e. (e ≡ Refusal.OutOfMemory)
             ⊎ (changes_over table.now write.now (rows_of (all_applied changes.now self.now.store.rows) place) ≡ Err e)) }
     {
-        let wanted = Wanted::Keyed(table, new);
-        let behind = rows_behind(alloc, &self.store, place, changes, wanted)?;
+        let behind = rows_for(alloc, &self.store, place, changes, table, new)?;
         match behind.has_any_key(alloc, table, new) {
             Ok(true) => Err(Refusal::DuplicateKey),
             Ok(false) => change_local(alloc, table, write, &[]),
