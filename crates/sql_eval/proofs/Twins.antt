@@ -14,7 +14,8 @@ use Rattle.vschema.specs.declared.schema.Table.{Table}
 use Rattle.vschema.specs.Schema.{key_of}
 use Rattle.operators.proofs.OrderLemmas.{value_cmp-total}
 use Rattle.sql_eval.specs.Writes.{has_duplicate}
-use Rattle.sql_eval.specs.inner.Keys.{key_cmp, same_key, has_twins, shares_key}
+use Rattle.sql_eval.specs.KeyOrder.{key_cmp}
+use Rattle.sql_eval.specs.inner.Keys.{same_key, has_twins, shares_key}
 
 pub key_cmp-total : (t : Table) → IsTotalOrder (key_cmp t)
 key_cmp-total t = on_total (key_of t) (lists_total value_cmp-total)

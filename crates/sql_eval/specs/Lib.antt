@@ -2,6 +2,7 @@ pub mod Conditions
 pub mod Groups
 pub mod Grouping
 pub mod Queries
+pub mod KeyOrder
 pub mod Narrowing
 pub mod Pairs
 pub mod Writes

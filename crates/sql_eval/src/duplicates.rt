@@ -5,8 +5,8 @@ ghost use Rattle.vt_value.specs.Values.{value_at, value_cmp};
 ghost use Rattle.vschema.specs.Schema.{key_of};
 ghost use Rattle.vschema.specs.Database.{same_row};
 ghost use Rattle.sql_eval.specs.Writes.{has_duplicate};
-ghost use Rattle.sql_eval.specs.inner.Lent.{on_lent};
-ghost use Rattle.sql_eval.specs.inner.Keys.{key_cmp, is_twin, has_twins, shares_key};
+ghost use Rattle.sql_eval.specs.KeyOrder.{on_lent, key_cmp};
+ghost use Rattle.sql_eval.specs.inner.Keys.{is_twin, has_twins, shares_key};
 
 use crate::rows::{has_key, same_key, value_at};
 use std::alloc::Global;

@@ -6,7 +6,7 @@ ghost use Rattle.vt_value.specs.declared.value.Comparison.TheVariants.{Eq};
 ghost use Rattle.vt_value.specs.Values.{is_true, in_list, value_cmp, compare};
 ghost use Rattle.sql_eval.specs.Conditions.{truth_at, operand_value, is_kept};
 ghost use Rattle.sql_eval.specs.Pairs.{seen};
-ghost use Rattle.sql_eval.specs.inner.Lent.{on_lent};
+ghost use Rattle.sql_eval.specs.KeyOrder.{on_lent};
 ghost use Rattle.sql_eval.specs.inner.Tests.{passes, AreTestsOf};
 
 use crate::conditions::{Seen, is_null_value, keeps, operand, truth_of};
@@ -28,7 +28,7 @@ impl<'m> Model for Sorted<'m> {
     ghost use Rattle.std.specs.Prelude.{List, map, IsSorted};
     ghost use Rattle.vt_value.specs.declared.value.Value.{Value as V};
     ghost use Rattle.vt_value.specs.Values.{value_cmp};
-    ghost use Rattle.sql_eval.specs.inner.Lent.{on_lent};
+    ghost use Rattle.sql_eval.specs.KeyOrder.{on_lent};
 
     ghost Value = { List V };
 

@@ -1,16 +1,10 @@
 -- Primary keys that two rows share.
 use Rattle.std.specs.Prelude.{Bool, false, ◌||◌, List, [], ◌∷◌}
 use Rattle.std.specs.List.{list_any}
-use Rattle.std.specs.Cmp.Lexicographic.{slice_cmp}
-use Rattle.std.specs.declared.cmp.Ordering.{Ordering}
-use Rattle.vt_value.specs.Values.{Row, value_cmp}
+use Rattle.vt_value.specs.Values.{Row}
 use Rattle.vschema.specs.declared.schema.Table.{Table}
 use Rattle.vschema.specs.Schema.{key_of}
 use Rattle.vschema.specs.Database.{same_row}
-
--- the order of two rows by their keys
-abbrev pub key_cmp : Table → Row → Row → Ordering
-key_cmp t a b = slice_cmp value_cmp (key_of t a) (key_of t b)
 
 abbrev pub same_key : Table → Row → Row → Bool
 same_key t a b = same_row (key_of t a) (key_of t b)

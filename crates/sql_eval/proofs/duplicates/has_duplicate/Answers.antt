@@ -1,6 +1,7 @@
 use Rattle.std.proofs.Common.{◌∙◌, ◌||◌, List, ap, Bor, map}
 use Rattle.vt_value.specs.Values.{Row}
-use Rattle.sql_eval.specs.inner.Keys.{key_cmp, has_twins, shares_key}
+use Rattle.sql_eval.specs.KeyOrder.{key_cmp}
+use Rattle.sql_eval.specs.inner.Keys.{has_twins, shares_key}
 use Rattle.sql_eval.proofs.Lent.{lent}
 use Rattle.sql_eval.proofs.Twins.{in_order}
 use Rattle.sql_eval.proofs.duplicates.has_duplicate.Goals as goal

@@ -1,7 +1,8 @@
 use Rattle.std.proofs.Common.{◌≡◌, ◌∙◌, sym, Bor, rules}
 use Rattle.std.proofs.lemmas.Fn.{always_returns_same}
 use Rattle.vt_value.specs.Values.{Row}
-use Rattle.sql_eval.specs.inner.Keys.{key_cmp, same_key}
+use Rattle.sql_eval.specs.KeyOrder.{key_cmp}
+use Rattle.sql_eval.specs.inner.Keys.{same_key}
 use Rattle.sql_eval.proofs.Lent.{found, rising}
 use Rattle.sql_eval.proofs.Twins.{key_cmp-total, any_map}
 use Rattle.sql_eval.proofs.duplicates.has_key_among.Goals as goal

@@ -1,7 +1,7 @@
 use Rattle.std.proofs.Common.{◌≡◌, drop, map}
 use Rattle.std.specs.Cmp.Lexicographic.{slice_cmp}
 use Rattle.vt_value.specs.Values.{value_at, value_cmp}
-use Rattle.sql_eval.specs.inner.Keys.{key_cmp}
+use Rattle.sql_eval.specs.KeyOrder.{key_cmp}
 use Rattle.sql_eval.proofs.duplicates.key_order.Given as goal
 
 -- the columns so far don't decide

@@ -1,5 +1,5 @@
 use Rattle.std.proofs.Common.{rules}
-use Rattle.sql_eval.specs.inner.Keys.{key_cmp}
+use Rattle.sql_eval.specs.KeyOrder.{key_cmp}
 use Rattle.sql_eval.proofs.Lent.{sorted_by_lent}
 use Rattle.sql_eval.proofs.Twins.{key_cmp-total}
 use Rattle.sql_eval.proofs.duplicates.sort.Goals as goal

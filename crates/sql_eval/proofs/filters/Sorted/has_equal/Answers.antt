@@ -6,7 +6,7 @@ use Rattle.vt_value.specs.declared.value.Value.{Value}
 use Rattle.vt_value.specs.declared.value.Comparison.TheVariants.{Eq}
 use Rattle.vt_value.specs.Values.{value_cmp, compare, is_true, is_null}
 use Rattle.operators.proofs.OrderLemmas.{value_cmp-total}
-use Rattle.sql_eval.specs.inner.Lent.{on_lent}
+use Rattle.sql_eval.specs.KeyOrder.{on_lent}
 use Rattle.sql_eval.proofs.Lent.{found, rising}
 use Rattle.sql_eval.proofs.Members.{null_is_none, equal_among}
 use Rattle.sql_eval.proofs.filters.Sorted.has_equal.Goals as goal
