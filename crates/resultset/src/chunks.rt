@@ -1,5 +1,6 @@
 //! Streams of bytes in chunks.
-ghost use Rattle.std.specs.Prelude.{◌≡◌, [], ◌++◌, IfErr, IfOk, OnErr, OnOk};
+ghost use Rattle.std.specs.Prelude.{◌≡◌, ◌<◌, [], ◌++◌, length, if◌then◌else◌, IsTrue, IfErr, IfOk, OnErr, OnOk};
+ghost use Rattle.mysql_packet.specs.Frames.{packet};
 ghost use Rattle.std.specs.List.{concat};
 ghost use Rattle.resultset.specs.Chunks.{AreChunks};
 
@@ -110,6 +111,24 @@ impl Filling {
         }
         self.last.extend_from_slice(rest)?;
         Ok(())
+    }
+
+    /// Appends the packet of a short payload where the present chunk has room for all of it. Tells whether it has. Refuses only for want of
+    /// memory.
+    pub(crate) fn put_packet(&mut self, number: u8, payload: &[u8]) -> Result<bool, Refusal>
+        ensures put { IfOk result (λ put. self.new ≡ (if put then self.old ++ packet number payload.now else self.old)) }
+        ensures short { IfOk result (λ put. IsTrue put → length payload.now < 16384) }
+        ensures err { IfErr result (λ e. e ≡ Refusal.OutOfMemory) }
+    {
+        let room = CHUNK_LIMIT - self.last.len();
+        let length = payload.len();
+        if room < 4 || length > room - 4 {
+            return Ok(false);
+        }
+        let header = [(length % 256) as u8, (length / 256) as u8, 0, number];
+        self.last.extend_from_slice(&header)?;
+        self.last.extend_from_slice(payload)?;
+        Ok(true)
     }
 
     /// Its chunks. Refuses only for want of memory.

@@ -1,7 +1,7 @@
 //! Result sets whose rows are pulled.
 ghost use Rattle.std.specs.Prelude.{◌≡◌, ◌++◌, map, IfErr, IfOk, OnErr, OnOk};
 ghost use Rattle.std.specs.List.{concat};
-ghost use Rattle.mysql_packet.specs.Frames.{frames_from, number_after_all};
+ghost use Rattle.mysql_packet.specs.Frames.{frame, frames_from, number_after, number_after_all};
 ghost use Rattle.resultset.specs.Chunks.{AreChunks};
 ghost use Rattle.resultset.specs.Encoding.{row_payload, set_payloads, payloads_of, encoded};
 
@@ -72,6 +72,27 @@ fn fill<R: Operator>(
     Ok(number)
 }
 
+/// Appends the packets of one payload: straight to the present chunk where they fit it. The packets are scratch, for their memory.
+fn fill_payload(
+    alloc: Global,
+    payload: &[u8],
+    number: u8,
+    packets: &mut BytesMut,
+    filling: &mut Filling,
+) -> Result<u8, Refusal>
+    ensures ok { OnOk result (filling.new ≡ filling.old ++ frame number payload.now) }
+    ensures next { IfOk result (λ n. n ≡ number_after number payload.now) }
+    ensures err { IfErr result (λ e. e ≡ Refusal.OutOfMemory) }
+{
+    if filling.put_packet(number, payload)? {
+        return Ok(number.wrapping_add(1));
+    }
+    packets.clear();
+    let next = put_payload(number, payload, packets)?;
+    filling.append(alloc, packets.as_slice())?;
+    Ok(next)
+}
+
 /// Appends a packet for each row that is still to come. The payload and the packets are scratch, for their memory.
 fn fill_rows<R: Operator>(
     alloc: Global,
@@ -89,9 +110,7 @@ fn fill_rows<R: Operator>(
     while let Some(row) = rows.next(alloc)? {
         payload.clear();
         put_row(row.as_slice(), payload)?;
-        packets.clear();
-        next = put_payload(next, payload, packets)?;
-        filling.append(alloc, packets.as_slice())?;
+        next = fill_payload(alloc, payload, next, packets, filling)?;
     }
     Ok(next)
 }
