@@ -4,7 +4,8 @@ use Rattle.std.proofs.lemmas.List.{append-nil, map-append}
 use Rattle.connection_workers.specs.declared.pool.Job.{Job}
 use Rattle.connection_workers.specs.declared.pool.Job.TheVariants.{Serve, Stop}
 use Rattle.connection_workers.specs.Letting as t
-use Rattle.connection_workers.specs.Letting.{EachWas, HasGiven, GaveAll, HasLetIn, HasServed}
+use Rattle.connection_workers.specs.Letting.{HasGiven, GaveAll}
+use Rattle.connection_workers.specs.inner.Letting.{EachWas, HasLetIn, HasServed}
 
 module _ {X : Type 0} where
   -- What a worker took so far were connections, each of which was served.

@@ -1,1 +1,2 @@
 pub mod Letting
+pub mod inner

@@ -3,7 +3,8 @@ ghost use denote.Param.Send.{IsSync};
 ghost use Rattle.std.specs.Prelude.{◌≡◌, ◌+◌, ◌<◌, ℕ, List, [], ◌∷◌, ◌++◌, true, replicate, IfSome, IfNone, IfOk};
 ghost use Rattle.crossbeam_queue.specs.Passes.{view, IsPassOf, ruled_capacity};
 ghost use Rattle.connection_queue.specs.Order.{first_hand, Puts, Takes};
-ghost use Rattle.connection_workers.specs.Letting.{GaveAll, HasLetIn, HasServed};
+ghost use Rattle.connection_workers.specs.Letting.{GaveAll};
+ghost use Rattle.connection_workers.specs.inner.Letting.{HasLetIn, HasServed};
 
 use crate::signal::Signal;
 use connection_queue::{ConnectionQueue, Known, new_taker, open, put, take};
