@@ -64,6 +64,10 @@ pub fn put_length_encoded(n: u64, out: &mut Vec<u8>) -> Result<(), AllocError>
     ensures ok { OnOk result (out.new.items ≡ out.old.items ++ length_encoded n) }
     ensures err { OnErr result (out.new.items ≡ out.old.items) }
 {
+    if n < 251 {
+        out.push(n as u8)?;
+        return Ok(());
+    }
     out.extend_from_slice(length_encoded(n).as_slice())
 }
 

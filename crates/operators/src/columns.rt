@@ -22,7 +22,7 @@ pub fn project_row(alloc: Global, places: &[usize], row: &Row) -> Result<Row, Re
     ensures ok { IfOk result (λ shown. shown ≡ columns_of places.now row.now) }
     ensures err { IfErr result (λ e. e ≡ Refusal.OutOfMemory) }
 {
-    let mut values = Items::new(alloc);
+    let mut values = Items::from_vec(Vec::with_capacity(alloc, places.len())?);
     for place in places {
         values.push(copy_at(alloc, row, *place)?)?;
     }
