@@ -8,7 +8,8 @@ ghost use Rattle.client_statements.specs.Answers.{type_text, null_text, key_part
 
 use crate::answers::ClientAnswer;
 use crate::keyspaces::keyspace_place;
-use crate::listings::{fits_pattern, heads, texts};
+use crate::likes::Pattern;
+use crate::listings::{fits_pattern, heads, pattern, texts};
 use crate::statement::TableName;
 use itoa::Buffer;
 use sql_tree::Name;
@@ -150,7 +151,7 @@ fn column_row(
 fn push_column(
     alloc: Global,
     full: bool,
-    like: &Option<Name>,
+    like: &Option<Pattern>,
     table: &Table,
     place: usize,
     column: &Column,
@@ -169,7 +170,7 @@ fn push_column(
 fn column_rows(
     alloc: Global,
     full: bool,
-    like: &Option<Name>,
+    like: &Option<Pattern>,
     table: &Table,
 ) -> Result<Items<Row>, AllocError>
     ensures { IfOk result (λ rows. rows ≡ column_rows full like.now table.now 0 table.now.columns) }
@@ -239,6 +240,7 @@ pub fn described(
         return Ok(ClientAnswer::UnknownTable);
     };
     let columns = column_heads(alloc, full)?;
-    let rows = column_rows(alloc, full, like, table)?;
+    let like = pattern(alloc, like)?;
+    let rows = column_rows(alloc, full, &like, table)?;
     Ok(ClientAnswer::Rows { columns, rows })
 }

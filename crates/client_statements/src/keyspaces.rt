@@ -7,7 +7,8 @@ ghost use Rattle.client_statements.specs.declared.statement.ClientStatement.{Cli
 ghost use Rattle.client_statements.specs.Answers.{keyspace_place, keyspace_name, fits_pattern, headed, listed_row, AreListed, names_in, table_heads, listed_keyspace, without_keyspace, IsClientAnswer};
 
 use crate::answers::{ClientAnswer, Facts};
-use crate::listings::{fits_pattern, headed, push_text, texts};
+use crate::likes::Pattern;
+use crate::listings::{fits_pattern, headed, pattern, push_text, texts};
 use sql_tree::Name;
 use std::alloc::{AllocError, Global};
 use vschema::{Keyspace, Table, VSchema};
@@ -43,7 +44,7 @@ pub fn keyspace_name(schema: &VSchema, place: usize) -> Option<&[u8]>
 /// Adds a name, if it fits the pattern.
 fn push_fitting(
     alloc: Global,
-    like: &Option<Name>,
+    like: &Option<Pattern>,
     name: &[u8],
     names: &mut Vec<Name>,
 ) -> Result<(), AllocError>
@@ -60,7 +61,7 @@ fn push_fitting(
 fn keyspace_names(
     alloc: Global,
     keyspaces: &[Keyspace],
-    like: &Option<Name>,
+    like: &Option<Pattern>,
 ) -> Result<Vec<Name>, AllocError>
     ensures { IfOk result (λ v. v.items ≡ filter (fits_pattern like.now) (map (λ k. k.name) keyspaces.now)) }
 {
@@ -76,7 +77,7 @@ fn push_table(
     alloc: Global,
     table: &Table,
     place: usize,
-    like: &Option<Name>,
+    like: &Option<Pattern>,
     names: &mut Vec<Name>,
 ) -> Result<(), AllocError>
     ensures { OnOk result (names.new.items ≡ names.old.items ++ filter (fits_pattern like.now) (names_in place (table.now ∷ []))) }
@@ -93,7 +94,7 @@ fn table_names(
     alloc: Global,
     tables: &[Table],
     place: usize,
-    like: &Option<Name>,
+    like: &Option<Pattern>,
 ) -> Result<Vec<Name>, AllocError>
     ensures { IfOk result (λ v. v.items ≡ filter (fits_pattern like.now) (names_in place tables.now)) }
 {
@@ -144,7 +145,7 @@ fn listed(alloc: Global, full: bool, names: Vec<Name>) -> Result<Items<Row>, All
 fn database_rows(
     alloc: Global,
     schema: &VSchema,
-    like: &Option<Name>,
+    like: &Option<Pattern>,
 ) -> Result<Items<Row>, AllocError>
     ensures { IfOk result (AreListed false (filter (fits_pattern like.now) (map (λ k. k.name) schema.now.keyspaces))) }
 {
@@ -160,7 +161,7 @@ fn one_head(alloc: Global, head: Name) -> Result<Items<Name>, AllocError>
     Ok(heads)
 }
 
-fn database_heads(alloc: Global, like: &Option<Name>) -> Result<Items<Name>, AllocError>
+fn database_heads(alloc: Global, like: &Option<Pattern>) -> Result<Items<Name>, AllocError>
     ensures { IfOk result (λ heads. heads ≡ headed (codes "Database") like.now ∷ []) }
 {
     one_head(alloc, headed(alloc, b"Database", like)?)
@@ -174,8 +175,9 @@ pub fn databases(
 ) -> Result<ClientAnswer, AllocError>
     ensures { IfOk result (λ a. (facts : Facts) → IsClientAnswer schema.now facts (ClientStatement.ShowDatabases like.now) a) }
 {
-    let columns = database_heads(alloc, like)?;
-    let rows = database_rows(alloc, schema, like)?;
+    let like = pattern(alloc, like)?;
+    let columns = database_heads(alloc, &like)?;
+    let rows = database_rows(alloc, schema, &like)?;
     Ok(ClientAnswer::Rows { columns, rows })
 }
 
@@ -193,7 +195,7 @@ fn table_head(
     alloc: Global,
     schema: &VSchema,
     place: usize,
-    like: &Option<Name>,
+    like: &Option<Pattern>,
 ) -> Result<Name, AllocError>
     ensures { IfOk result (λ n. n ≡ headed (codes "Tables_in_" ++ unwrap_or (keyspace_name schema.now place) []) like.now) }
 {
@@ -207,7 +209,7 @@ fn table_heads(
     schema: &VSchema,
     place: usize,
     full: bool,
-    like: &Option<Name>,
+    like: &Option<Pattern>,
 ) -> Result<Items<Name>, AllocError>
     ensures { IfOk result (λ heads. heads ≡ table_heads schema.now place full like.now) }
 {
@@ -242,7 +244,7 @@ fn table_rows(
     schema: &VSchema,
     place: usize,
     full: bool,
-    like: &Option<Name>,
+    like: &Option<Pattern>,
 ) -> Result<Items<Row>, AllocError>
     ensures { IfOk result (AreListed full (filter (fits_pattern like.now) (names_in place schema.now.tables))) }
 {
@@ -264,7 +266,8 @@ pub fn tables(
     let Some(place) = listed_keyspace(schema, facts, named) else {
         return Ok(without_keyspace(named));
     };
-    let columns = table_heads(alloc, schema, place, full, like)?;
-    let rows = table_rows(alloc, schema, place, full, like)?;
+    let like = pattern(alloc, like)?;
+    let columns = table_heads(alloc, schema, place, full, &like)?;
+    let rows = table_rows(alloc, schema, place, full, &like)?;
     Ok(ClientAnswer::Rows { columns, rows })
 }

@@ -1,9 +1,13 @@
 //! Names that a pattern of LIKE fits.
-ghost use Rattle.std.specs.Prelude.{◌≡◌, ◌++◌, ◌<◌, suc, [], false, length, slice_index_or, IfOk};
+ghost use Rattle.std.specs.Prelude.{◌≡◌, ◌++◌, ◌<◌, suc, [], false, length, nat_lt, slice_index_or, ◌∷◌, IfOk, OnOk};
 ghost use Rattle.client_statements.specs.Likes.{pieces, piece_of, is_any, fits_step, fits, is_like};
+ghost use Rattle.client_statements.specs.inner.Patterns.{FitSame, IsReadAs, is_left_out, needed, needed_by};
 ghost use Rattle.client_statements.specs.inner.Rows.{next_row, row_of};
 
+use sql_tree::Name;
 use std::alloc::{AllocError, Global};
+use std::marker::Model;
+use vt_value::Items;
 
 /// A part of a pattern.
 #[derive(Clone, Copy, Debug, PartialEq, Eq)]
@@ -26,9 +30,27 @@ fn piece_of(byte: u8) -> Piece
     }
 }
 
-/// Puts the first part of a pattern, and gives what stands after it.
+/// Whether a byte is a `%` before another, which fits no more than that one.
+fn is_left_out(byte: u8, rest: &[u8]) -> bool
+    ensures { result ≡ is_left_out byte rest.now }
+{
+    byte == b'%' && matches!(rest, [b'%', ..])
+}
+
+/// Puts the piece of a byte that stands for itself, unless it is left out.
+#[tactic(auto, using(crate::proofs::Patterns::fit_pushed))]
+fn push_byte(found: &mut Vec<Piece>, byte: u8, rest: &[u8]) -> Result<(), AllocError>
+    ensures { OnOk result (FitSame (found.new.items ++ pieces rest.now) (found.old.items ++ piece_of byte ∷ pieces rest.now)) }
+{
+    if !is_left_out(byte, rest) {
+        found.push(piece_of(byte))?;
+    }
+    Ok(())
+}
+
+/// Puts the first part of a pattern, unless it is left out, and gives what stands after it.
 fn push_piece<'s>(found: &mut Vec<Piece>, pattern: &'s [u8]) -> Result<&'s [u8], AllocError>
-    ensures same { IfOk result (λ rest. found.new.items ++ pieces rest.now ≡ found.old.items ++ pieces pattern.now) }
+    ensures same { IfOk result (λ rest. FitSame (found.new.items ++ pieces rest.now) (found.old.items ++ pieces pattern.now)) }
     ensures shorter { IfOk result (λ rest. 0 < length pattern.now → length rest.now < length pattern.now) }
 {
     match pattern {
@@ -38,14 +60,15 @@ fn push_piece<'s>(found: &mut Vec<Piece>, pattern: &'s [u8]) -> Result<&'s [u8],
             Ok(rest)
         }
         [byte, rest @ ..] => {
-            found.push(piece_of(*byte))?;
+            push_byte(found, *byte, rest)?;
             Ok(rest)
         }
     }
 }
 
+/// The parts of a pattern, no `%` right after another.
 fn pieces(alloc: Global, pattern: &[u8]) -> Result<Vec<Piece>, AllocError>
-    ensures { IfOk result (λ v. v.items ≡ pieces pattern.now) }
+    ensures { IfOk result (λ v. IsReadAs pattern.now v.items) }
 {
     let mut found = Vec::new(alloc);
     let mut rest = pattern;
@@ -108,12 +131,38 @@ fn first(row: &[bool]) -> bool
     }
 }
 
-// Promise: LIKE fits a name as its pattern says
-/// Whether a pattern of LIKE fits a name: `%` any bytes, `_` one, a byte after a backslash itself, and letters in any case.
-pub fn is_like(alloc: Global, pattern: &[u8], name: &[u8]) -> Result<bool, AllocError>
-    ensures { IfOk result (λ b. b ≡ is_like pattern.now name.now) }
+/// How many bytes a piece needs.
+fn needed_by(piece: Piece) -> usize
+    ensures { result ≡ needed_by piece }
 {
-    let pieces = pieces(alloc, pattern)?;
+    match piece {
+        Piece::Any => 0,
+        Piece::One | Piece::Byte(_) => 1,
+    }
+}
+
+/// Whether pieces need more bytes than these. Looks at no more pieces than that takes.
+fn need_more(pieces: &[Piece], bytes: usize) -> bool
+    ensures { result ≡ nat_lt bytes (needed pieces.now) }
+{
+    let mut count = 0;
+    for piece in pieces {
+        count += needed_by(*piece);
+        if count > bytes {
+            return true;
+        }
+    }
+    false
+}
+
+/// Whether pieces fit a name. Where no `%` stands right after another, that takes time by the name's length alone: those that need more
+/// bytes than it has don't fit, and the others are few.
+fn fits(alloc: Global, pieces: &[Piece], name: &[u8]) -> Result<bool, AllocError>
+    ensures { IfOk result (λ b. b ≡ fits pieces.now name.now) }
+{
+    if need_more(pieces, name.len()) {
+        return Ok(false);
+    }
     let mut row = last_row(alloc, name)?;
     let mut left = pieces.len();
     while left > 0 {
@@ -121,4 +170,58 @@ pub fn is_like(alloc: Global, pattern: &[u8], name: &[u8]) -> Result<bool, Alloc
         next_row(pieces[left], name, row.as_mut_slice());
     }
     Ok(first(row.as_slice()))
+}
+
+/// A pattern of LIKE, read once for all names. Contracts see its text.
+#[derive(Drop)]
+pub struct Pattern {
+    text: Name,
+    pieces: Vec<Piece>,
+}
+
+impl Model for Pattern {
+    ghost use Rattle.std.specs.Prelude.{ℕ, List};
+    ghost use Rattle.client_statements.specs.inner.Patterns.{IsReadAs};
+
+    ghost Value = { List ℕ };
+
+    ghost view = { λ p. p.text };
+
+    ghost invariant = { λ p. IsReadAs p.text p.pieces.items };
+}
+
+impl Pattern {
+    /// Reads a pattern.
+    pub fn new(alloc: Global, text: &[u8]) -> Result<Pattern, AllocError>
+        ensures { IfOk result (λ p. p ≡ text.now) }
+    {
+        let pieces = pieces(alloc, text)?;
+        let text = Items::from_slice(alloc, text)?;
+        Ok(Pattern { text, pieces })
+    }
+
+    /// Its text.
+    pub fn as_slice(&self) -> &[u8]
+        ensures { result.now ≡ self.now }
+    {
+        self.text.as_slice()
+    }
+
+    /// Whether it fits a name.
+    #[tactic(auto, unfolding(crate::specs::Likes::is_like))]
+    pub fn fits(&self, alloc: Global, name: &[u8]) -> Result<bool, AllocError>
+        ensures { IfOk result (λ b. b ≡ is_like self.now name.now) }
+    {
+        fits(alloc, self.pieces.as_slice(), name)
+    }
+}
+
+// Promise: LIKE fits a name as its pattern says
+// Refuses: as_many_pieces_as_bytes_are_too_many, byte_before_percent_is_left_out, cases_of_letters_differ, percent_fits_one_at_least,
+// underscore_fits_none
+/// Whether a pattern of LIKE fits a name: `%` any bytes, `_` one, a byte after a backslash itself, and letters in any case.
+pub fn is_like(alloc: Global, pattern: &[u8], name: &[u8]) -> Result<bool, AllocError>
+    ensures { IfOk result (λ b. b ≡ is_like pattern.now name.now) }
+{
+    Pattern::new(alloc, pattern)?.fits(alloc, name)
 }

@@ -2,7 +2,7 @@
 ghost use Rattle.std.specs.Prelude.{◌≡◌, ◌∷◌, ◌++◌, [], map, codes, option_map, IfOk, OnOk};
 ghost use Rattle.client_statements.specs.Answers.{cell, fits_pattern, headed};
 
-use crate::likes::is_like;
+use crate::likes::Pattern;
 use sql_tree::Name;
 use std::alloc::{AllocError, Global};
 use vt_value::{Items, Row, Value};
@@ -56,8 +56,18 @@ fn in_brackets(alloc: Global, head: &[u8], pattern: &[u8]) -> Result<Vec<u8>, Al
     Ok(name)
 }
 
+/// The pattern of LIKE, if there is one, read.
+pub fn pattern(alloc: Global, like: &Option<Name>) -> Result<Option<Pattern>, AllocError>
+    ensures { IfOk result (λ p. p ≡ like.now) }
+{
+    match like {
+        Some(text) => Ok(Some(Pattern::new(alloc, text.as_slice())?)),
+        None => Ok(None),
+    }
+}
+
 /// A column's name, and the pattern after it, if there is one.
-pub fn headed(alloc: Global, head: &[u8], like: &Option<Name>) -> Result<Name, AllocError>
+pub fn headed(alloc: Global, head: &[u8], like: &Option<Pattern>) -> Result<Name, AllocError>
     ensures { IfOk result (λ n. n ≡ headed head.now like.now) }
 {
     match like {
@@ -71,11 +81,11 @@ pub fn headed(alloc: Global, head: &[u8], like: &Option<Name>) -> Result<Name, A
 }
 
 /// Whether a name fits the pattern, if there is one.
-pub fn fits_pattern(alloc: Global, like: &Option<Name>, name: &[u8]) -> Result<bool, AllocError>
+pub fn fits_pattern(alloc: Global, like: &Option<Pattern>, name: &[u8]) -> Result<bool, AllocError>
     ensures { IfOk result (λ b. b ≡ fits_pattern like.now name.now) }
 {
     match like {
-        Some(pattern) => is_like(alloc, pattern.as_slice(), name),
+        Some(pattern) => pattern.fits(alloc, name),
         None => Ok(true),
     }
 }

@@ -5,7 +5,8 @@ ghost use Rattle.client_statements.specs.declared.statement.ClientStatement.{Cli
 ghost use Rattle.client_statements.specs.Answers.{variable_row, variable_rows, IsClientAnswer};
 
 use crate::answers::{ClientAnswer, Facts};
-use crate::listings::{fits_pattern, heads, texts};
+use crate::likes::Pattern;
+use crate::listings::{fits_pattern, heads, pattern, texts};
 use crate::variable::{VARIABLES, Variable, shown_value, variable_name};
 use sql_tree::Name;
 use std::alloc::{AllocError, Global};
@@ -24,7 +25,7 @@ fn variable_row(alloc: Global, autocommit: bool, variable: Variable) -> Result<R
 fn push_variable(
     alloc: Global,
     autocommit: bool,
-    like: &Option<Name>,
+    like: &Option<Pattern>,
     variable: Variable,
     rows: &mut Items<Row>,
 ) -> Result<(), AllocError>
@@ -40,7 +41,7 @@ fn push_variable(
 fn variable_rows(
     alloc: Global,
     autocommit: bool,
-    like: &Option<Name>,
+    like: &Option<Pattern>,
     variables: &[Variable],
 ) -> Result<Items<Row>, AllocError>
     ensures { IfOk result (λ rows. rows ≡ variable_rows autocommit like.now variables.now) }
@@ -57,6 +58,7 @@ pub fn shown(alloc: Global, facts: &Facts, like: &Option<Name>) -> Result<Client
     ensures { IfOk result (λ a. (schema : VSchema) → IsClientAnswer schema facts.now (ClientStatement.ShowVariables like.now) a) }
 {
     let columns = heads(alloc, &["Variable_name", "Value"])?;
-    let rows = variable_rows(alloc, facts.autocommit, like, &VARIABLES)?;
+    let like = pattern(alloc, like)?;
+    let rows = variable_rows(alloc, facts.autocommit, &like, &VARIABLES)?;
     Ok(ClientAnswer::Rows { columns, rows })
 }

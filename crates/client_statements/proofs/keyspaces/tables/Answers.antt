@@ -7,4 +7,7 @@ pub returns-in_default : goal.returns-in_default
 returns-in_default c = is_answer c.args.schema.now c.args.facts.now _ _ _ c.without_keyspace.ensures (x.without_tables (sym c.in_default.ensures))
 
 pub returns : goal.returns
-returns c = under c.args.schema.now c.args.facts.now _ _ _ _ c.in_ok-columns.ensures (x.tables (sym c.in-Some.ensures) c.in_ok-rows.ensures)
+returns c =
+    let heads = rw c.in_ok-like.ensures at c.in_ok-columns.ensures in
+    let rows = rw c.in_ok-like.ensures at c.in_ok-rows.ensures in
+    under c.args.schema.now c.args.facts.now _ _ _ _ heads (x.tables (sym c.in-Some.ensures) rows)
