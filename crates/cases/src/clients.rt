@@ -176,10 +176,7 @@ fn put_answer(told: &mut Told, answer: &ClientAnswer) {
         ClientAnswer::Rows { columns, rows } => {
             put_listing(told, columns.as_slice(), rows.as_slice());
         }
-        ClientAnswer::NoKeyspace => told.put("no keyspace"),
-        ClientAnswer::UnknownKeyspace => told.put("unknown keyspace"),
-        ClientAnswer::UnknownTable => told.put("unknown table"),
-        ClientAnswer::UnknownVariable => told.put("unknown variable"),
+        ClientAnswer::Refused(refusal) => told.show(refusal),
     }
 }
 

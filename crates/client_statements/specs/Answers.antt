@@ -4,6 +4,8 @@ use Rattle.std.specs.Prelude.{◌≡◌, ℕ, suc, ◌==◌, ◌&&◌, Bool, tru
 use Rattle.std.specs.List.{find, list_all, list_any}
 use Rattle.std.specs.Ordering.{nat_cmp}
 use Rattle.std.specs.Cmp.Lexicographic.{slice_cmp}
+use Rattle.vt_value.specs.declared.refusal.Refusal.{Refusal}
+use Rattle.vt_value.specs.declared.refusal.Refusal.TheVariants.{NoKeyspace, UnknownKeyspace, UnknownTable, UnknownVariable}
 use Rattle.vt_value.specs.declared.value.Value.{Value}
 use Rattle.vt_value.specs.declared.value.Value.TheVariants.{Null, Bytes}
 use Rattle.vt_value.specs.Values.{Row}
@@ -14,7 +16,7 @@ use Rattle.vschema.specs.declared.schema.Table.{Table}
 use Rattle.vschema.specs.declared.schema.VSchema.{VSchema}
 use Rattle.client_statements.specs.declared.answers.Facts.{Facts}
 use Rattle.client_statements.specs.declared.answers.ClientAnswer.{ClientAnswer}
-use Rattle.client_statements.specs.declared.answers.ClientAnswer.TheVariants.{Rows, NoKeyspace, UnknownKeyspace, UnknownTable, UnknownVariable}
+use Rattle.client_statements.specs.declared.answers.ClientAnswer.TheVariants.{Rows, Refused}
 use Rattle.client_statements.specs.declared.statement.Asked.{Asked}
 use Rattle.client_statements.specs.declared.statement.Asked.TheVariants as asked
 use Rattle.client_statements.specs.declared.statement.ClientStatement.{ClientStatement}
@@ -83,8 +85,8 @@ abbrev pub listed_keyspace : VSchema → Facts → Option (List ℕ) → Option 
 listed_keyspace schema facts None = facts.keyspace
 listed_keyspace schema facts (Some name) = keyspace_place schema name
 
--- what is answered where there is none
-abbrev pub without_keyspace : Option (List ℕ) → ClientAnswer
+-- why tables are not listed where there is none
+abbrev pub without_keyspace : Option (List ℕ) → Refusal
 without_keyspace None = NoKeyspace
 without_keyspace (Some name) = UnknownKeyspace
 
@@ -187,17 +189,17 @@ pub data IsClientAnswer (schema : VSchema) (facts : Facts) : ClientStatement →
       → AreListed full (filter (fits_pattern like) (names_in place schema.tables)) rows
       → IsClientAnswer schema facts (ShowTables full named like) (Rows (table_heads schema place full like) rows)
   without_tables : {full : Bool} {named like : Option (List ℕ)} → listed_keyspace schema facts named ≡ None
-      → IsClientAnswer schema facts (ShowTables full named like) (without_keyspace named)
+      → IsClientAnswer schema facts (ShowTables full named like) (Refused (without_keyspace named))
   columns : {full : Bool} {name : TableName} {like : Option (List ℕ)} {t : Table} → is_keyspace schema name.keyspace ≡ true
       → find (is_described schema name) schema.tables ≡ Some t
       → IsClientAnswer schema facts (ShowColumns full name like) (Rows (column_heads full) (column_rows full like t 0 t.columns))
   without_table : {full : Bool} {name : TableName} {like : Option (List ℕ)} → is_keyspace schema name.keyspace ≡ true
-      → find (is_described schema name) schema.tables ≡ None → IsClientAnswer schema facts (ShowColumns full name like) UnknownTable
+      → find (is_described schema name) schema.tables ≡ None → IsClientAnswer schema facts (ShowColumns full name like) (Refused UnknownTable)
   elsewhere : {full : Bool} {name : TableName} {like : Option (List ℕ)} → is_keyspace schema name.keyspace ≡ false
-      → IsClientAnswer schema facts (ShowColumns full name like) UnknownKeyspace
+      → IsClientAnswer schema facts (ShowColumns full name like) (Refused UnknownKeyspace)
   shown : {like : Option (List ℕ)}
       → IsClientAnswer schema facts (ShowVariables like) (Rows (codes "Variable_name" ∷ codes "Value" ∷ []) (variable_rows facts.autocommit like variables))
   no_warnings : IsClientAnswer schema facts ShowWarnings (Rows (codes "Level" ∷ codes "Code" ∷ codes "Message" ∷ []) [])
   selected : {items : List Item} → list_all (λ i. is_told i.asked) items ≡ true
       → IsClientAnswer schema facts (Select items) (Rows (map (λ i. i.name) items) (map (λ i. told_value schema facts i.asked) items ∷ []))
-  unknown : {items : List Item} → list_all (λ i. is_told i.asked) items ≡ false → IsClientAnswer schema facts (Select items) UnknownVariable
+  unknown : {items : List Item} → list_all (λ i. is_told i.asked) items ≡ false → IsClientAnswer schema facts (Select items) (Refused UnknownVariable)

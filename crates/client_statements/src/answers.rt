@@ -15,7 +15,7 @@ use itoa::Buffer;
 use sql_tree::Name;
 use std::alloc::{AllocError, Global};
 use vschema::VSchema;
-use vt_value::{Items, Row, Value};
+use vt_value::{Items, Refusal, Row, Value};
 
 /// What a session knows of itself.
 #[derive(Debug, Drop)]
@@ -38,14 +38,8 @@ pub enum ClientAnswer {
         columns: Items<Name>,
         rows: Items<Row>,
     },
-    /// No keyspace is named, and none is in use.
-    NoKeyspace,
-    /// No keyspace has the name.
-    UnknownKeyspace,
-    /// The keyspace has no table of the name.
-    UnknownTable,
-    /// The server has no variable of the name.
-    UnknownVariable,
+    /// Why there are none.
+    Refused(Refusal),
 }
 
 fn is_told(asked: &Asked) -> bool
@@ -149,7 +143,7 @@ fn selected(
     ensures { IfOk result (IsClientAnswer schema.now facts.now (ClientStatement.Select items.now)) }
 {
     if !are_told(items) {
-        return Ok(ClientAnswer::UnknownVariable);
+        return Ok(ClientAnswer::Refused(Refusal::UnknownVariable));
     }
     let columns = item_names(alloc, items)?;
     let rows = told_rows(alloc, schema, facts, items)?;

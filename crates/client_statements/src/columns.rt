@@ -15,7 +15,7 @@ use itoa::Buffer;
 use sql_tree::Name;
 use std::alloc::{AllocError, Global};
 use vschema::{Column, ColumnType, Table, VSchema};
-use vt_value::{Items, Row};
+use vt_value::{Items, Refusal, Row};
 
 fn varbinary(alloc: Global, most: u8) -> Result<Name, AllocError>
     ensures { IfOk result (λ n. n ≡ type_text (ColumnType.VarBinary most)) }
@@ -234,10 +234,10 @@ pub fn described(
     ensures { IfOk result (λ a. (facts : Facts) → IsClientAnswer schema.now facts (ClientStatement.ShowColumns full name.now like.now) a) }
 {
     if !is_keyspace(schema, &name.keyspace) {
-        return Ok(ClientAnswer::UnknownKeyspace);
+        return Ok(ClientAnswer::Refused(Refusal::UnknownKeyspace));
     }
     let Some(table) = table_named(schema, name) else {
-        return Ok(ClientAnswer::UnknownTable);
+        return Ok(ClientAnswer::Refused(Refusal::UnknownTable));
     };
     let columns = column_heads(alloc, full)?;
     let like = pattern(alloc, like)?;

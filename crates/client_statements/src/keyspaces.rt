@@ -12,7 +12,7 @@ use crate::listings::{fits_pattern, headed, pattern, push_text, texts};
 use sql_tree::Name;
 use std::alloc::{AllocError, Global};
 use vschema::{Keyspace, Table, VSchema};
-use vt_value::{Items, Row};
+use vt_value::{Items, Refusal, Row};
 
 fn is_named(keyspace: &Keyspace, name: &[u8]) -> bool
     ensures { result ≡ bytes_eq keyspace.now.name name.now }
@@ -230,12 +230,12 @@ fn listed_keyspace(schema: &VSchema, facts: &Facts, named: &Option<Name>) -> Opt
     }
 }
 
-fn without_keyspace(named: &Option<Name>) -> ClientAnswer
+fn without_keyspace(named: &Option<Name>) -> Refusal
     ensures { result ≡ without_keyspace named.now }
 {
     match named {
-        Some(_) => ClientAnswer::UnknownKeyspace,
-        None => ClientAnswer::NoKeyspace,
+        Some(_) => Refusal::UnknownKeyspace,
+        None => Refusal::NoKeyspace,
     }
 }
 
@@ -264,7 +264,7 @@ pub fn tables(
     ensures { IfOk result (IsClientAnswer schema.now facts.now (ClientStatement.ShowTables full named.now like.now)) }
 {
     let Some(place) = listed_keyspace(schema, facts, named) else {
-        return Ok(without_keyspace(named));
+        return Ok(ClientAnswer::Refused(without_keyspace(named)));
     };
     let like = pattern(alloc, like)?;
     let columns = table_heads(alloc, schema, place, full, &like)?;

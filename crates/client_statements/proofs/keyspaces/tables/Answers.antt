@@ -1,10 +1,12 @@
-use Rattle.std.proofs.Common.{sym}
+use Rattle.std.proofs.Common.{sym, ap}
+use Rattle.client_statements.specs.declared.answers.ClientAnswer.TheVariants.{Refused}
 use Rattle.client_statements.specs.Answers as x
 use Rattle.client_statements.proofs.Answered.{is_answer, under}
 use Rattle.client_statements.proofs.keyspaces.tables.Goals as goal
 
 pub returns-in_default : goal.returns-in_default
-returns-in_default c = is_answer c.args.schema.now c.args.facts.now _ _ _ c.without_keyspace.ensures (x.without_tables (sym c.in_default.ensures))
+returns-in_default c =
+    is_answer c.args.schema.now c.args.facts.now _ _ _ (ap Refused c.without_keyspace.ensures) (x.without_tables (sym c.in_default.ensures))
 
 pub returns : goal.returns
 returns c =
