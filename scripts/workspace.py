@@ -45,6 +45,20 @@ def layers():
     return {layer: sorted(names, key=ordered.index) for layer, names in found.items()}
 
 
+def comments():
+    """Returns what crates.txt says above each crate, as one line."""
+    found, said = {}, []
+    for line in (TOP / "crates.txt").read_text().splitlines():
+        head, colon, _ = line.partition("#")[0].partition(":")
+        if colon:
+            found[head.split()[0]] = " ".join(said)
+        if line.startswith("# ") and not line.startswith("# == "):
+            said.append(line.removeprefix("# "))
+        else:
+            said = []
+    return found
+
+
 def above(names, below):
     """Returns these crates and all that stand on one of them, lowest first."""
     found = set()
