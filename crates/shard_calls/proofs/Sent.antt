@@ -67,7 +67,7 @@ module _ (W J : RattleType) (w : world.Ghosts W.Denot) (j : naming.Ghosts J.Deno
   pub job_send : (ℓ : _) → IsSend (job.the_row ℓ W J w j)
   job_send ℓ =
       recorded_send (job.the_field ℓ W J w j).row _ _ (job.the_type ℓ W J w j).to_one
-      (struct_send (shape (job.the_type ℓ W J w j)) (search sendable, (shr_send _ _ _ shard_shared, (query_send, (pass_send, tt)))))
+      (struct_send (shape (job.the_type ℓ W J w j)) (search sendable, (shr_send _ _ _ shard_shared, (query_send, (search sendable, (pass_send, tt))))))
 
   pub done_send : IsSend (done.the_row W J w j)
   done_send =

@@ -15,18 +15,22 @@ use operators::{Operator, Rows};
 use planner::{Plan, single_id, takes_by};
 use serving::{Part, Seated};
 use shard::{Read, Reading, Shard, ShardLaw, World};
+use shard_store::{Fixed, fixed_values};
+use sql_tree::Condition;
 use std::alloc::Global;
 use std::sync::Wait;
 use std::thread::{self, Threads};
 use vschema::{Query, Table};
 use vt_value::{Items, Refusal};
 
-/// What a shard is asked: its number among those that a query needs, itself, its piece of the query, and a pass.
+/// What a shard is asked: its number among those that a query needs, itself, its piece of the query, how many rows that reads at most as far
+/// as it tells by itself, and a pass.
 #[derive(Drop)]
 pub struct Job<'e, W: World, J: Naming> {
     pub turn: usize,
     pub shard: &'e Shard<W, J>,
     pub query: Query,
+    pub most: usize,
     pub pass: Pass<ShardLaw<W>, J>,
 }
 
@@ -61,6 +65,47 @@ impl Gathered {
     }
 }
 
+// The vindex column, where it alone is the primary key.
+fn lone_key(table: &Table) -> Option<usize> {
+    match (&table.vindex, table.primary_key.as_slice()) {
+        (Some(vindex), [only]) if *only == vindex.column => Some(*only),
+        _ => None,
+    }
+}
+
+// How many rows a condition keeps at most, where it lists values of the vindex column and this alone is the primary key.
+fn rows_by_key(table: &Table, condition: &Condition<usize>) -> usize {
+    let Some(column) = lone_key(table) else {
+        return usize::MAX;
+    };
+    match fixed_values(condition, column) {
+        Some(Fixed::One(_)) => 1,
+        Some(Fixed::Among(values)) => values.len(),
+        None => usize::MAX,
+    }
+}
+
+// How many rows a query without a condition reads at most: no more than its LIMIT lets through, if any rows will do.
+fn rows_by_limit(query: &Query) -> usize {
+    match query.limit {
+        Some(limit) if query.order_by.is_empty() && !query.is_aggregated() => {
+            limit.offset.saturating_add(limit.count) as usize
+        }
+        _ => usize::MAX,
+    }
+}
+
+// How many rows a query of a table reads at most, as far as it tells by itself.
+fn most_rows(table: &Table, query: &Query) -> usize {
+    if query.join.is_some() {
+        return usize::MAX;
+    }
+    match &query.filter {
+        Some(condition) => rows_by_key(table, condition),
+        None => rows_by_limit(query),
+    }
+}
+
 // What the part's shard is asked under this number, by a pass of its own.
 fn job_for<'e, W: World, J: Naming>(
     alloc: Global,
@@ -82,6 +127,7 @@ fn job_for<'e, W: World, J: Naming>(
         Ok(query) => Ok(Job {
             turn,
             shard: part.shard(),
+            most: most_rows(table, &query),
             query,
             pass,
         }),
@@ -131,6 +177,7 @@ fn read_one<W: World, J: Naming, G: Gate>(
         shard,
         query,
         mut pass,
+        ..
     } = job;
     let slot = shard.slot();
     gate.before(turn);
@@ -144,8 +191,11 @@ fn read_one<W: World, J: Naming, G: Gate>(
     }
 }
 
-// Whether the tables that a job reads have at most so many rows each, as far as one can tell without waiting.
+// Whether a job reads at most so many rows of each table, as far as one can tell without waiting.
 fn is_small<W: World, J: Naming>(job: &Job<W, J>, most: usize) -> bool {
+    if job.most <= most {
+        return true;
+    }
     if !job.shard.is_small(job.query.table, most) {
         return false;
     }
@@ -182,7 +232,7 @@ fn read_in_turn<W: World, J: Naming, G: Gate>(
     Ok(done)
 }
 
-/// Each shard's answer: of one shard, or of small tables, read by this thread; else each in a thread of its own where one can be started.
+/// Each shard's answer: of one shard, or of few rows each, read by this thread; else each in a thread of its own where one can be started.
 /// Refuses only for want of memory.
 pub fn read_all<R: Threads + Wait + Sync, W: World + Send + Sync, J: Naming + Send + Sync, G: Gate>(
     rt: &R,
