@@ -4,7 +4,7 @@ ghost use Rattle.sql_eval.specs.Queries.{Allowed};
 ghost use Rattle.journal.specs.Views.{IsLater};
 ghost use Rattle.shard_run.specs.declared.Entry.{Entry};
 ghost use Rattle.shard_run.specs.declared.Event.{Event};
-ghost use Rattle.shard_run.specs.Runs.{mode, mode_after, is_serving, entries_on, stored_on};
+ghost use Rattle.shard_run.specs.Runs.{held, mode, mode_after, is_serving, entries_on, stored_on};
 ghost use Rattle.shard_law.specs.Legal.{May};
 ghost use Rattle.shard_run.specs.Openings.{row_count};
 ghost use Rattle.journal.specs.Runs.{IsLegal};
@@ -215,6 +215,15 @@ impl<W: World, J: Naming> ShardState<W, J> {
         ensures { result ≡ length (stored_on self.now.shard.slot self.now.seen) }
     {
         self.contents.stored.len() as u64
+    }
+
+    // Promise: A shard that serves tells how many rows it has
+    /// How many rows a shard that serves has, of all tables.
+    pub fn rows(&self) -> u64
+        requires serves { is_serving (mode W.opening self.now.seen self.now.shard.slot) ≡ true }
+        ensures { result ≡ row_count (held W.opening self.now.seen self.now.shard) }
+    {
+        self.contents.store.row_count() as u64
     }
 
     /// The last step with a source by which the shard came forward: behind it the shard stands in the source, and without one it has no
