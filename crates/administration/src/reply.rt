@@ -78,6 +78,8 @@ fn refusal_line(refusal: Refusal) -> &'static [u8]
         Refusal::BufferFull => b"F22\n",
         Refusal::ShardMoved => b"F23\n",
         Refusal::ShardFull => b"F24\n",
+        Refusal::UnknownVariable => b"F25\n",
+        Refusal::NoKeyspace => b"F26\n",
     }
 }
 

@@ -1,7 +1,7 @@
 -- OK, EOF and ERR packets are short.
 use Rattle.std.proofs.Common.{ℕ, ◌≤◌, List, length, arith, lit≤}
 use Rattle.vt_value.specs.declared.refusal.Refusal.{Refusal}
-use Rattle.vt_value.specs.declared.refusal.Refusal.TheVariants.{OutOfMemory, SyntaxError, NotSupported, UnknownTable, UnknownColumn, UnknownKeyspace, AccessDenied, UnknownCommand, PacketTooLarge, PacketsOutOfOrder, BadHandshake, DuplicateKey, NullNotAllowed, NoDefaultValue, OutOfRange, TooLong, WrongValueCount, ColumnNamedTwice, NotGrouped, SeveralShards, Conflict, BufferFull, ShardMoved, ShardFull}
+use Rattle.vt_value.specs.declared.refusal.Refusal.TheVariants.{OutOfMemory, SyntaxError, NotSupported, UnknownTable, UnknownColumn, UnknownKeyspace, AccessDenied, UnknownCommand, PacketTooLarge, PacketsOutOfOrder, BadHandshake, DuplicateKey, NullNotAllowed, NoDefaultValue, OutOfRange, TooLong, WrongValueCount, ColumnNamedTwice, NotGrouped, SeveralShards, Conflict, BufferFull, ShardMoved, ShardFull, UnknownVariable, NoKeyspace}
 use Rattle.vt_value.specs.Refusals.{state_of, message_of}
 use Rattle.mysql_packet.specs.Frames.{frame}
 use Rattle.mysql_packet.proofs.FrameLemmas.{length-frame}
@@ -34,6 +34,8 @@ short_state Conflict = lit≤ tt
 short_state BufferFull = lit≤ tt
 short_state ShardMoved = lit≤ tt
 short_state ShardFull = lit≤ tt
+short_state UnknownVariable = lit≤ tt
+short_state NoKeyspace = lit≤ tt
 
 pub short_message : (r : Refusal) → length (message_of r) ≤ 24
 short_message OutOfMemory = lit≤ tt
@@ -60,3 +62,5 @@ short_message Conflict = lit≤ tt
 short_message BufferFull = lit≤ tt
 short_message ShardMoved = lit≤ tt
 short_message ShardFull = lit≤ tt
+short_message UnknownVariable = lit≤ tt
+short_message NoKeyspace = lit≤ tt

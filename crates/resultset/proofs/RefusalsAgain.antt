@@ -3,11 +3,11 @@ use Rattle.std.proofs.Common.{◌≡◌, ◌≢◌, ℕ, ◌-◌, ◌<◌, List,
 use Rattle.std.specs.Prelude.{nat_eq}
 use Rattle.std.specs.Cmp.Lexicographic.{pointwise}
 use Rattle.vt_value.specs.declared.refusal.Refusal.{Refusal}
-use Rattle.vt_value.specs.declared.refusal.Refusal.TheVariants.{OutOfMemory, SyntaxError, NotSupported, UnknownTable, UnknownColumn, UnknownKeyspace, AccessDenied, UnknownCommand, PacketTooLarge, PacketsOutOfOrder, BadHandshake, DuplicateKey, NullNotAllowed, NoDefaultValue, OutOfRange, TooLong, WrongValueCount, ColumnNamedTwice, NotGrouped, SeveralShards, Conflict, BufferFull, ShardMoved, ShardFull}
+use Rattle.vt_value.specs.declared.refusal.Refusal.TheVariants.{OutOfMemory, SyntaxError, NotSupported, UnknownTable, UnknownColumn, UnknownKeyspace, AccessDenied, UnknownCommand, PacketTooLarge, PacketsOutOfOrder, BadHandshake, DuplicateKey, NullNotAllowed, NoDefaultValue, OutOfRange, TooLong, WrongValueCount, ColumnNamedTwice, NotGrouped, SeveralShards, Conflict, BufferFull, ShardMoved, ShardFull, UnknownVariable, NoKeyspace}
 use Rattle.vt_value.specs.Refusals.{refusal_number, message_of}
 
 abbrev pub all_refusals : List Refusal
-all_refusals = OutOfMemory ∷ SyntaxError ∷ NotSupported ∷ UnknownTable ∷ UnknownColumn ∷ UnknownKeyspace ∷ AccessDenied ∷ UnknownCommand ∷ PacketTooLarge ∷ PacketsOutOfOrder ∷ BadHandshake ∷ DuplicateKey ∷ NullNotAllowed ∷ NoDefaultValue ∷ OutOfRange ∷ TooLong ∷ WrongValueCount ∷ ColumnNamedTwice ∷ NotGrouped ∷ SeveralShards ∷ Conflict ∷ BufferFull ∷ ShardMoved ∷ ShardFull ∷ []
+all_refusals = OutOfMemory ∷ SyntaxError ∷ NotSupported ∷ UnknownTable ∷ UnknownColumn ∷ UnknownKeyspace ∷ AccessDenied ∷ UnknownCommand ∷ PacketTooLarge ∷ PacketsOutOfOrder ∷ BadHandshake ∷ DuplicateKey ∷ NullNotAllowed ∷ NoDefaultValue ∷ OutOfRange ∷ TooLong ∷ WrongValueCount ∷ ColumnNamedTwice ∷ NotGrouped ∷ SeveralShards ∷ Conflict ∷ BufferFull ∷ ShardMoved ∷ ShardFull ∷ UnknownVariable ∷ NoKeyspace ∷ []
 
 abbrev with_message : List Refusal → List ℕ → Option Refusal
 with_message [] message = None
@@ -38,6 +38,8 @@ is_found Conflict = refl
 is_found BufferFull = refl
 is_found ShardMoved = refl
 is_found ShardFull = refl
+is_found UnknownVariable = refl
+is_found NoKeyspace = refl
 
 pub one_message : (message : List ℕ) (r s : Refusal) → message ≡ message_of r → message ≡ message_of s → Some r ≡ Some s
 one_message message r s e f = sym (is_found r) ∙ ap (with_message all_refusals) (sym e ∙ f) ∙ is_found s
@@ -46,7 +48,7 @@ one_message message r s e f = sym (is_found r) ∙ ap (with_message all_refusals
 abbrev pub place : Refusal → ℕ
 place r = refusal_number r - 1
 
-place_within : (r : Refusal) → place r < 24
+place_within : (r : Refusal) → place r < 26
 place_within OutOfMemory = lit< tt
 place_within SyntaxError = lit< tt
 place_within NotSupported = lit< tt
@@ -71,6 +73,8 @@ place_within Conflict = lit< tt
 place_within BufferFull = lit< tt
 place_within ShardMoved = lit< tt
 place_within ShardFull = lit< tt
+place_within UnknownVariable = lit< tt
+place_within NoKeyspace = lit< tt
 
 at_place : (r : Refusal) → get_or all_refusals (place r) OutOfMemory ≡ r
 at_place OutOfMemory = refl
@@ -97,7 +101,9 @@ at_place Conflict = refl
 at_place BufferFull = refl
 at_place ShardMoved = refl
 at_place ShardFull = refl
+at_place UnknownVariable = refl
+at_place NoKeyspace = refl
 
 -- a message that none of them has is no refusal's
-pub no_refusal : (message : List ℕ) → ((k : ℕ) → k < 24 → message_of (get_or all_refusals k OutOfMemory) ≢ message) → (r : Refusal) → message ≢ message_of r
+pub no_refusal : (message : List ℕ) → ((k : ℕ) → k < 26 → message_of (get_or all_refusals k OutOfMemory) ≢ message) → (r : Refusal) → message ≢ message_of r
 no_refusal message none r e = none (place r) (place_within r) (ap message_of (at_place r) ∙ sym e)

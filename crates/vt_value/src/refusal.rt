@@ -56,10 +56,14 @@ pub enum Refusal {
     ShardMoved,
     /// A limit of a shard or of a session's numbers would be passed.
     ShardFull,
+    /// The server has no variable of this name.
+    UnknownVariable,
+    /// The text needs a keyspace, and the session has none.
+    NoKeyspace,
 }
 
 /// Each refusal, in the order of their numbers.
-pub const REFUSALS: [Refusal; 24] = [
+pub const REFUSALS: [Refusal; 26] = [
     Refusal::OutOfMemory,
     Refusal::SyntaxError,
     Refusal::NotSupported,
@@ -84,12 +88,14 @@ pub const REFUSALS: [Refusal; 24] = [
     Refusal::BufferFull,
     Refusal::ShardMoved,
     Refusal::ShardFull,
+    Refusal::UnknownVariable,
+    Refusal::NoKeyspace,
 ];
 
 impl Refusal {
     // Promise: Each refusal has its number, code, state and message, and shows its message
     // With: Refusal::{code, state, message, fmt}
-    /// The number by which the documents and the admin port name the refusal, 1 to 24.
+    /// The number by which the documents and the admin port name the refusal, 1 to 26.
     pub fn number(self) -> u8
         ensures { result ≡ refusal_number self }
     {
@@ -118,6 +124,8 @@ impl Refusal {
             Refusal::BufferFull => 22,
             Refusal::ShardMoved => 23,
             Refusal::ShardFull => 24,
+            Refusal::UnknownVariable => 25,
+            Refusal::NoKeyspace => 26,
         }
     }
 
@@ -150,6 +158,8 @@ impl Refusal {
             Refusal::BufferFull => 1105,
             Refusal::ShardMoved => 1105,
             Refusal::ShardFull => 1114,
+            Refusal::UnknownVariable => 1193,
+            Refusal::NoKeyspace => 1046,
         }
     }
 
@@ -182,6 +192,8 @@ impl Refusal {
             Refusal::BufferFull => "HY000",
             Refusal::ShardMoved => "HY000",
             Refusal::ShardFull => "HY000",
+            Refusal::UnknownVariable => "HY000",
+            Refusal::NoKeyspace => "3D000",
         }
     }
 
@@ -214,6 +226,8 @@ impl Refusal {
             Refusal::BufferFull => "buffer full",
             Refusal::ShardMoved => "shard moved",
             Refusal::ShardFull => "shard full",
+            Refusal::UnknownVariable => "no such variable",
+            Refusal::NoKeyspace => "no database selected",
         }
     }
 }

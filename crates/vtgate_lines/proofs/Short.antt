@@ -1,7 +1,7 @@
 -- The line of a refusal is short.
 use Rattle.std.proofs.Common.{◌+◌, ◌≤◌, length, lit≤}
 use Rattle.vt_value.specs.declared.refusal.Refusal.{Refusal}
-use Rattle.vt_value.specs.declared.refusal.Refusal.TheVariants.{OutOfMemory, SyntaxError, NotSupported, UnknownTable, UnknownColumn, UnknownKeyspace, AccessDenied, UnknownCommand, PacketTooLarge, PacketsOutOfOrder, BadHandshake, DuplicateKey, NullNotAllowed, NoDefaultValue, OutOfRange, TooLong, WrongValueCount, ColumnNamedTwice, NotGrouped, SeveralShards, Conflict, BufferFull, ShardMoved, ShardFull}
+use Rattle.vt_value.specs.declared.refusal.Refusal.TheVariants.{OutOfMemory, SyntaxError, NotSupported, UnknownTable, UnknownColumn, UnknownKeyspace, AccessDenied, UnknownCommand, PacketTooLarge, PacketsOutOfOrder, BadHandshake, DuplicateKey, NullNotAllowed, NoDefaultValue, OutOfRange, TooLong, WrongValueCount, ColumnNamedTwice, NotGrouped, SeveralShards, Conflict, BufferFull, ShardMoved, ShardFull, UnknownVariable, NoKeyspace}
 use Rattle.vt_value.specs.Refusals.{state_of, message_of}
 
 pub short_words : (r : Refusal) → length (state_of r) + length (message_of r) ≤ 32
@@ -29,3 +29,5 @@ short_words Conflict = lit≤ tt
 short_words BufferFull = lit≤ tt
 short_words ShardMoved = lit≤ tt
 short_words ShardFull = lit≤ tt
+short_words UnknownVariable = lit≤ tt
+short_words NoKeyspace = lit≤ tt

@@ -75,3 +75,9 @@ returns-in-ShardMoved c = numbered _ _ c.in-ShardMoved.is _ _ (decimal_two 23 (l
 
 pub returns-in-ShardFull : goal.returns-in-ShardFull
 returns-in-ShardFull c = numbered _ _ c.in-ShardFull.is _ _ (decimal_two 24 (lit≤ tt) (lit< tt)) refl
+
+pub returns-in-UnknownVariable : goal.returns-in-UnknownVariable
+returns-in-UnknownVariable c = numbered _ _ c.in-UnknownVariable.is _ _ (decimal_two 25 (lit≤ tt) (lit< tt)) refl
+
+pub returns-in-NoKeyspace : goal.returns-in-NoKeyspace
+returns-in-NoKeyspace c = numbered _ _ c.in-NoKeyspace.is _ _ (decimal_two 26 (lit≤ tt) (lit< tt)) refl
