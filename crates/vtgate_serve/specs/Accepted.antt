@@ -1,5 +1,5 @@
 -- The connections that a server accepts.
-use Rattle.std.specs.Prelude.{◌≡◌, ◌≤◌, ◌<◌, ℕ, zero, suc}
+use Rattle.std.specs.Prelude.{◌≡◌, ◌≤◌, ◌<◌, ℕ}
 
 -- A connection has the number of those that were accepted, which is a new one.
 pub record Accepts (accepted last number accepted' last' : ℕ) : Type 0 where
@@ -13,8 +13,3 @@ pub record AcceptsNoMore (accepted last accepted' last' : ℕ) : Type 0 where
   pub all : last' ≤ accepted'
   pub later : accepted ≤ accepted'
   pub same : last' ≡ last
-
--- after how many connections a server ends that is asked for this number: 0 stands for the most
-abbrev pub last_of : ℕ → ℕ
-last_of zero = 4294967295
-last_of (suc n) = suc n

@@ -5,7 +5,7 @@ ghost use Rattle.std.specs.Io.KnownBytes.{Appends};
 ghost use Rattle.empty_opening.specs.Empty.{sharded_keyspace};
 ghost use Rattle.administration.specs.Told.{keyspace_of};
 ghost use Rattle.vtgate_input.specs.Statuses.{status_of};
-ghost use Rattle.vtgate_serve.specs.Accepted.{last_of};
+ghost use Rattle.vtgate_serve.specs.inner.Accepted.{last_of};
 ghost use Rattle.vtgate_serve.specs.Served.{listening_text};
 
 use crate::admin_port::serve_admin;
