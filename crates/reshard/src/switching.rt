@@ -147,7 +147,7 @@ impl<W: World, J: Naming> Workflow<W, J> {
     // retires only where the workflow has frozen all, and the step found each target level, and then with no more rows than a shard that serves
     // may have
     // Refuses: given_up_cutover_thaws_none, cutover_steps::failed_cutover_leaves_frozen, switch_step_takes_two,
-    // cutover_without_looking_for_room, given_up_source_freezes_again, retires_behind_a_copy, retires_behind_a_follow,
+    // cutover_without_looking_for_room, failed_cutover_leaves_frozen, retires_behind_a_copy, target_serves_before_level,
     // first_source_retires_before_the_second_froze, cutover_steps::fits_whatever_it_holds, released_before_it_is_published,
     // partition_is_dropped_unpublished, cutover_copies_twice, freeze_is_noted_by_half
     /// Takes the next step of the cutover, and tells which: the next source is frozen; once all are, the first target moves that isn't level,
