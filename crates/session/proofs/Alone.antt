@@ -1,5 +1,5 @@
 -- Where no other session comes between, a conversation is one over one database.
-use Rattle.std.specs.Prelude.{is_some}
+use Rattle.std.specs.Prelude.{is_some, codes}
 use Rattle.std.proofs.Common.{◌≡◌, Bool, true, ℕ, List, Option, Some, None, refl, sym, ap, subst, ◌∙◌}
 use mathlib.Core.List.{IsPrefix}
 use Rattle.mysql_packet.specs.declared.framer.Fed.{Fed}
@@ -36,7 +36,12 @@ use Rattle.session_replies.specs.Outcomes.{PassAndTransaction, IsKept, Means, no
 use Rattle.session_replies.specs.Outcomes as means
 use Rattle.session.specs.Alone.{Alone, OneState, Told, MeansOver, MeansAlone, IsOverAt, alone_terms, without_transaction}
 use Rattle.session.specs.Alone as over
-use Rattle.session_replies.specs.Talk.{AnswersPayload, Replies, Conversation, Talk, set_end_of, status_flags}
+use Rattle.client_statements.specs.declared.statement.ClientStatement.{ClientStatement}
+use Rattle.session_replies.specs.declared.standing.Settings.{Settings}
+use Rattle.session_replies.specs.Terms.{status_flags}
+use Rattle.session_replies.specs.Given.{AnswersClient, GivesText}
+use Rattle.session_replies.specs.Given as given
+use Rattle.session_replies.specs.Talk.{AnswersPayload, Replies, Conversation, Talk, set_end_of}
 use Rattle.session_replies.specs.Talk as t
 use Rattle.session.proofs.Servings.{SoFar}
 use Rattle.session.proofs.Steps.{Follows, stays, answer_on, refusal_at_on}
@@ -65,6 +70,25 @@ module _ (o : Opening) (l : Limits) (hello : Hello) where
   means_on s text _ now (means.untold reply is rows) = answer_on o l text s now reply is
   means_on s text _ now (means.refused {r} why) = refusal_at_on o l text s now r why
 
+  follow_on : (p mid now : PassView Entry) → Follows o p mid → Follows o mid now → Follows o p now
+  follow_on p mid now one two = record {
+    later = prefix_trans p.seen mid.seen now.seen one.later two.later;
+    legal = λ h. two.legal (one.legal h);
+    session = two.session ∙ one.session;
+  }
+
+  client_on : (set then : Settings) (s now : PassAndTransaction) (statement : ClientStatement) (outcome : Outcome)
+      → AnswersClient (terms_of o hello) May set s statement outcome then now → Follows o s.pass now.pass
+  client_on set _ s _ _ _ (given.begun {outcome} {now} may) = means_on s (codes "BEGIN") outcome now may
+  client_on set _ s _ _ _ (given.by_itself tells) = stays o l s.pass
+
+  text_on : (set then : Settings) (s now : PassAndTransaction) (text : List ℕ) (outcome : Outcome) → GivesText (terms_of o hello) May set s text outcome then now
+      → Follows o s.pass now.pass
+  text_on set _ s _ text _ (given.run {outcome} {now} may not_run) = means_on s text outcome now may
+  text_on set _ s _ text _ (given.asked {outcome} {reply} {then} {mid} {now} statement may not_run is_asked answers) =
+      follow_on s.pass mid.pass now.pass (means_on s text outcome mid may) (client_on set then mid now statement reply answers)
+  text_on set _ s _ text _ (given.unread {outcome} {now} may not_run) = means_on s text outcome now may
+
   answers_on : (at : Phase) (s now : PassAndTransaction) (p : Payload) (out : List ℕ) (b : Standing) → AnswersPayload (terms_of o hello) May at s p out b now
       → Follows o s.pass now.pass
   answers_on _ s _ _ _ _ (t.out_of_order first) = stays o l s.pass
@@ -74,7 +98,7 @@ module _ (o : Opening) (l : Limits) (hello : Hello) where
   answers_on _ s _ _ _ _ (t.pinged first command) = stays o l s.pass
   answers_on _ s _ _ _ _ (t.selected name place first command is) = stays o l s.pass
   answers_on _ s _ _ _ _ (t.unknown_keyspace name first command is) = stays o l s.pass
-  answers_on _ s _ _ _ _ (t.queried {now} text outcome first command may) = means_on s text outcome now may
+  answers_on _ s _ _ _ _ (t.queried {set} {after} {now} text outcome first command gives) = text_on set after s now text outcome gives
   answers_on _ s _ _ _ _ (t.told_statistics first command) = stays o l s.pass
   answers_on _ s _ _ _ _ (t.takes_one_statement first command) = stays o l s.pass
   answers_on _ s _ _ _ _ (t.takes_no_more first command) = stays o l s.pass
@@ -148,6 +172,32 @@ module _ (o : Opening) (l : Limits) (hello : Hello) where
         (means_over x text outcome now may_x (subst (λ (y : PassAndTransaction). IsLegal (MayFollow o) y.pass.seen) (sym e) legal)
         (subst (λ (y : PassAndTransaction). NoOthers y.pass now.pass) (sym e) others))
 
+    client_alone : (x : Alone o) (s : PassAndTransaction) → x.kept ≡ s → (set then : Settings) (statement : ClientStatement) (outcome : Outcome) (now : PassAndTransaction)
+        → AnswersClient (terms_of o hello) May set s statement outcome then now → IsLegal (MayFollow o) s.pass.seen → NoOthers s.pass now.pass
+        → Over_it now (λ y. AnswersClient (alone_terms o hello) (MeansAlone o l) set x statement outcome then y)
+    client_alone x s e set _ _ _ _ (given.begun {outcome} {now} may) legal others =
+        let after = means_alone x s e (codes "BEGIN") outcome now may legal others in
+        (after.0, after.1, given.begun after.2)
+    client_alone x s e set _ _ _ _ (given.by_itself tells) legal others = (x, e, given.by_itself tells)
+
+    text_alone : (x : Alone o) (s : PassAndTransaction) → x.kept ≡ s → (set then : Settings) (text : List ℕ) (outcome : Outcome) (now : PassAndTransaction)
+        → GivesText (terms_of o hello) May set s text outcome then now → IsLegal (MayFollow o) s.pass.seen → NoOthers s.pass now.pass
+        → Over_it now (λ y. GivesText (alone_terms o hello) (MeansAlone o l) set x text outcome then y)
+    text_alone x s e set _ text _ _ (given.run {outcome} {now} may not_run) legal others =
+        let after = means_alone x s e text outcome now may legal others in
+        (after.0, after.1, given.run after.2 not_run)
+    text_alone x s e set _ text _ _ (given.asked {outcome} {reply} {then} {mid} {now} statement may not_run is_asked answers) legal others =
+        let first = means_on s text outcome mid may in
+        let second = client_on set then mid now statement reply answers in
+        let one = means_alone x s e text outcome mid may legal (up_to s.pass now.pass others mid.pass first.later second.later) in
+        let two =
+        client_alone one.0 mid one.1 set then statement reply now answers (first.legal legal)
+        (behind s.pass now.pass others mid.pass first.later second.later first.session) in
+        (two.0, two.1, given.asked statement one.2 not_run is_asked two.2)
+    text_alone x s e set _ text _ _ (given.unread {outcome} {now} may not_run) legal others =
+        let after = means_alone x s e text outcome now may legal others in
+        (after.0, after.1, given.unread after.2 not_run)
+
     abbrev Answers_over : Phase → Alone o → Payload → List ℕ → Standing → Alone o → Type 0
     Answers_over = AnswersPayload (alone_terms o hello) (MeansAlone o l)
 
@@ -173,11 +223,11 @@ module _ (o : Opening) (l : Limits) (hello : Hello) where
         with_status x x s e (Commands set) p (λ is_open. frame (reply_number p) (ok_payload 0 (status_flags set.autocommit is_open)))
         (At (Commands (record set { keyspace = Some place }))) (t.selected name place first command is)
     answers_alone x _ s _ _ _ _ e (t.unknown_keyspace name first command is) legal others = (x, e, t.unknown_keyspace name first command is)
-    answers_alone x _ s _ p _ _ e (t.queried {set} {now} text outcome first command may) legal others =
-        let then = means_alone x s e text outcome now may legal others in
-        with_status x then.0 now then.1 (Commands set) p
-        (λ is_open. encoded (set_end_of set.capabilities) outcome (reply_number p) (status_flags set.autocommit is_open)) (At (Commands set))
-        (t.queried text outcome first command then.2)
+    answers_alone x _ s _ p _ _ e (t.queried {set} {after} {now} text outcome first command gives) legal others =
+        let next = text_alone x s e set after text outcome now gives legal others in
+        with_status x next.0 now next.1 (Commands set) p
+        (λ is_open. encoded (set_end_of set.capabilities) outcome (reply_number p) (status_flags after.autocommit is_open)) (At (Commands after))
+        (t.queried text outcome first command next.2)
     answers_alone x _ s _ _ _ _ e (t.told_statistics first command) legal others = (x, e, t.told_statistics first command)
     answers_alone x _ s _ p _ _ e (t.takes_one_statement {set} first command) legal others =
         with_status x x s e (Commands set) p (λ is_open. frame (reply_number p) (behind_rows (set_end_of set.capabilities) (status_flags set.autocommit is_open)))

@@ -21,7 +21,7 @@ use Rattle.shard_calls.specs.declared.reply.Answer.TheVariants.{Count}
 use Rattle.shard_calls.specs.Alone.{NoCommits, GivesOver, IsRefusedOver}
 use Rattle.shard_calls.specs.Transactions.{Step, Transaction, GiveOver, write_on}
 use Rattle.session_replies.specs.declared.hello.Hello.{Hello}
-use Rattle.session_replies.specs.Talk.{Terms}
+use Rattle.session_replies.specs.Terms.{Terms}
 use Rattle.session_replies.specs.Outcomes.{PassAndTransaction, none_open, Shows, HasRows, Means}
 
 -- ---- one database
@@ -126,7 +126,7 @@ without_transaction s = record { kept = none_open s.kept.pass; state = record { 
 
 -- the terms of a conversation over it
 abbrev pub alone_terms : (o : Opening) → Hello → Terms (Alone o)
-alone_terms o hello = record { hello = hello; keyspaces = o.schema.keyspaces; is_open = λ s. is_some s.state.open_one; dropped = without_transaction }
+alone_terms o hello = record { hello = hello; schema = o.schema; is_open = λ s. is_some s.state.open_one; dropped = without_transaction }
 
 -- before its first statement
 abbrev pub alone_first : (o : Opening) → PassView Entry → Alone o

@@ -249,8 +249,9 @@ impl<W: World + Send + Sync, J: Naming + Send + Sync> Core<W, J> {
     // Promise: However a client's bytes are cut, exactly the conversation over them is written, from the greeting on: a client is let in by
     // its user and its answer to the salt, and then by its database, or told why not; each statement has an outcome that its text may have,
     // in the session's open transaction if one is, each from what the session had seen to what it then has seen; a reply's status tells
-    // whether a transaction is open then; a client may name each keyspace, and one that begins anew has no transaction, and keeps its
-    // keyspace; result sets end as the client's capabilities ask; the reply to a write always has room
+    // whether a transaction is open then; a text that isn't run, and asks something of a server, is answered that by the VSchema and by what
+    // the session knows of itself; a client may name each keyspace, and one that begins anew has no transaction, and keeps its keyspace;
+    // result sets end as the client's capabilities ask; the reply to a write always has room
     // With: Core::{new, commands, standing, end_of_input}
     // Clauses: begins, hello, standing, limit, none_open, err, talk, tx, begun, ended, by_command, fault, cause, again, next, session,
     // whole, id
@@ -263,7 +264,11 @@ impl<W: World + Send + Sync, J: Naming + Send + Sync> Core<W, J> {
     // session_replies::count_is_told_halved, session_replies::fault_has_the_refused_number, session_replies::fault_is_not_told,
     // session_replies::key_columns_may_be_null, session_replies::second_tables_columns_come_first,
     // session_replies::keyspace_in_use_is_the_first, session_replies::reset_forgets_the_keyspace, session_replies::reset_keeps_the_settings,
-    // session_replies::reset_keeps_the_transaction, session_replies::several_statements_are_taken_on
+    // session_replies::reset_keeps_the_transaction, session_replies::several_statements_are_taken_on,
+    // session_replies::what_is_not_supported_asks_nothing, session_replies::use_keeps_the_keyspace,
+    // session_replies::autocommit_is_turned_off_in_words, session_replies::user_has_no_host, session_replies::start_transaction_commits,
+    // session_replies::unknown_variable_is_not_supported, session_replies::told_texts_are_characters,
+    // session_replies::unread_text_is_a_syntax_error
     // Headline.
     // Promise: After a fault: without memory for a piece, it counts as not fed, and pass and sink are as before it; where the sink failed,
     // a front of the payloads is answered, each once, and the sink took a front of the replies; where the source failed, each payload that

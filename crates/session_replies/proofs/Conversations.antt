@@ -406,13 +406,13 @@ logs_in_ends hello keyspaces status _ p _ _ (l.answers {out} {standing} {login} 
 answers_end : {S : Type 0} (terms : Terms S) (May : S → List ℕ → Outcome → S → Type 0) (at : Phase) (s now : S) (p : Payload) (out : List ℕ) (b : Standing)
     → AnswersPayload terms May at s p out b now → IfSome (end_of b) IsByCommand
 answers_end terms May _ _ _ _ _ _ (t.out_of_order first) = tt
-answers_end terms May at s _ p _ _ (t.logs_in {out} {standing} l) = logs_in_ends terms.hello terms.keyspaces (status_flags true (terms.is_open s)) at p out standing l
+answers_end terms May at s _ p _ _ (t.logs_in {out} {standing} l) = logs_in_ends terms.hello terms.schema.keyspaces (status_flags true (terms.is_open s)) at p out standing l
 answers_end terms May _ _ _ _ _ _ (t.quits first command) = tt
 answers_end terms May _ _ _ _ _ _ (t.unknown first command) = tt
 answers_end terms May _ _ _ _ _ _ (t.pinged first command) = tt
 answers_end terms May _ _ _ _ _ _ (t.selected name place first command is) = tt
 answers_end terms May _ _ _ _ _ _ (t.unknown_keyspace name first command is) = tt
-answers_end terms May _ _ _ _ _ _ (t.queried text outcome first command may) = tt
+answers_end terms May _ _ _ _ _ _ (t.queried text outcome first command gives) = tt
 answers_end terms May _ _ _ _ _ _ (t.told_statistics first command) = tt
 answers_end terms May _ _ _ _ _ _ (t.takes_one_statement first command) = tt
 answers_end terms May _ _ _ _ _ _ (t.takes_no_more first command) = tt

@@ -4,3 +4,4 @@ pub mod LoginLemmas
 pub mod Conversations
 pub mod Written
 pub mod Readings
+pub mod TextColumns

@@ -81,7 +81,7 @@ module _ (hello : Hello) (keyspaces : List Keyspace) (status : ℕ) (p : Payload
 
 -- what is written for a payload of the connection phase
 pub one_login : {S : Type 0} (terms : Terms S) (May : S → List ℕ → Outcome → S → Type 0) (at then : Phase) (keyspaces : List Keyspace) (s : S) (p : Payload) (out : List ℕ) (standing : Standing)
-    → at ≡ then → keyspaces ≡ terms.keyspaces → LogsIn terms.hello keyspaces (status_flags true (terms.is_open s)) then p out standing → AnswersPayload terms May at s p out standing s
+    → at ≡ then → keyspaces ≡ terms.schema.keyspaces → LogsIn terms.hello keyspaces (status_flags true (terms.is_open s)) then p out standing → AnswersPayload terms May at s p out standing s
 one_login {S} terms May at then keyspaces s p out standing is served logs =
     subst (λ (x : Phase). AnswersPayload terms May x s p out standing s) (sym is)
     (t.logs_in (subst (λ (ks : List Keyspace). LogsIn terms.hello ks (status_flags true (terms.is_open s)) then p out standing) served logs))

@@ -1,7 +1,7 @@
 -- Replies to one payload, and to the payloads behind it.
 use Rattle.std.proofs.Common.{◌≡◌, ℕ, Bool, refl, true, false, ◌==◌, List, [], ◌∷◌, ◌++◌, Option, Some, None, sym, ap, subst, ◌∙◌, append_assoc, eq-eqb, ◌⊎◌, inl, inr}
 use Rattle.std.proofs.lemmas.List.{append-nil}
-use Rattle.std.specs.Prelude.{is_some}
+use Rattle.std.specs.Prelude.{is_some, codes}
 use Rattle.vt_value.specs.declared.refusal.Refusal.TheVariants.{OutOfMemory, PacketsOutOfOrder, UnknownCommand, UnknownKeyspace, NotSupported}
 use Rattle.mysql_packet.specs.declared.framer.Payload.{Payload}
 use Rattle.mysql_packet.specs.Frames.{frame}
@@ -44,7 +44,12 @@ use Rattle.session_replies.specs.Logins.{Admits, LogsIn, keyspace_named, login_o
 use Rattle.session_replies.specs.Logins as l
 use Rattle.session_replies.specs.declared.hello.Hello.{Hello}
 use Rattle.session_replies.proofs.LoginLemmas.{one_login}
-use Rattle.session_replies.specs.Talk.{Terms, AnswersPayload, Replies, Conversation, set_end_of, status_flags, status_in}
+use Rattle.client_statements.specs.declared.answers.ClientAnswer.{ClientAnswer}
+use Rattle.client_statements.specs.declared.statement.ClientStatement.{ClientStatement}
+use Rattle.session_replies.specs.Terms.{Terms, status_flags, status_in}
+use Rattle.session_replies.specs.Given.{TellsAnswer, TellsClient, AnswersClient, GivesText}
+use Rattle.session_replies.specs.Given as g
+use Rattle.session_replies.specs.Talk.{AnswersPayload, Replies, Conversation, set_end_of}
 use Rattle.session_replies.specs.Talk as t
 
 admits_goes : (status number : ℕ) (login : Login) (right : Bool) (out : List ℕ) (b : Standing) → Admits status number login right out b → b ≡ New → ⊥
@@ -103,13 +108,13 @@ module _ {S : Type 0} (terms : Terms S) (May : S → List ℕ → Outcome → S 
     one_reset s p out first is e = as_bytes s (terms.dropped s) p out _ _ e (t.reset_all (eq-eqb p.first 0 first) is)
 
     pub one_selected : (s : S) (p : Payload) (out name : List ℕ) (standing : Standing) → p.first ≡ 0 → command_of p.bytes ≡ Some (init_db name)
-        → ((place : ℕ) → keyspace_named terms.keyspaces name ≡ Some place → (out ≡ frame (reply_number p) (ok_payload 0 (status_in terms set s)))
+        → ((place : ℕ) → keyspace_named terms.schema.keyspaces name ≡ Some place → (out ≡ frame (reply_number p) (ok_payload 0 (status_in terms set s)))
         × (standing ≡ At (Commands (record set { keyspace = Some place }))))
-        → (keyspace_named terms.keyspaces name ≡ None → (out ≡ frame (reply_number p) (err_payload UnknownKeyspace)) × (standing ≡ At (Commands set)))
+        → (keyspace_named terms.schema.keyspaces name ≡ None → (out ≡ frame (reply_number p) (err_payload UnknownKeyspace)) × (standing ≡ At (Commands set)))
         → Goes s p out standing s
-    one_selected s p out name standing first is known unknown = by_name (keyspace_named terms.keyspaces name) refl
+    one_selected s p out name standing first is known unknown = by_name (keyspace_named terms.schema.keyspaces name) refl
       where
-        by_name : (found : Option ℕ) → keyspace_named terms.keyspaces name ≡ found → Goes s p out standing s
+        by_name : (found : Option ℕ) → keyspace_named terms.schema.keyspaces name ≡ found → Goes s p out standing s
         by_name (Some place) e =
             let said = known place e in
             subst (λ (b : Standing). Goes s p out b s) (sym said.1) (as_bytes s s p out _ _ said.0 (t.selected name place (eq-eqb p.first 0 first) is e))
@@ -117,9 +122,10 @@ module _ {S : Type 0} (terms : Terms S) (May : S → List ℕ → Outcome → S 
             let said = unknown e in
             subst (λ (b : Standing). Goes s p out b s) (sym said.1) (as_bytes s s p out _ _ said.0 (t.unknown_keyspace name (eq-eqb p.first 0 first) is e))
 
-    pub one_query : (s now : S) (p : Payload) (out text : List ℕ) (outcome : Outcome) → p.first ≡ 0 → command_of p.bytes ≡ Some (query text)
-        → May s text outcome now → out ≡ encoded (set_end_of set.capabilities) outcome (reply_number p) (status_in terms set now) → Goes s p out (At (Commands set)) now
-    one_query s now p out text outcome first is may e = as_bytes s now p out _ _ e (t.queried text outcome (eq-eqb p.first 0 first) is may)
+    pub one_query : (then : Settings) (s now : S) (p : Payload) (out text : List ℕ) (outcome : Outcome) → p.first ≡ 0 → command_of p.bytes ≡ Some (query text)
+        → GivesText terms May set s text outcome then now → out ≡ encoded (set_end_of set.capabilities) outcome (reply_number p) (status_in terms then now)
+        → Goes s p out (At (Commands then)) now
+    one_query then s now p out text outcome first is gives e = as_bytes s now p out _ _ e (t.queried text outcome (eq-eqb p.first 0 first) is gives)
 
     pub one_quit : (s : S) (p : Payload) (out : List ℕ) → p.first ≡ 0 → command_of p.bytes ≡ Some quit → out ≡ []
         → Goes s p out (Ended Quit) s
@@ -132,13 +138,13 @@ module _ {S : Type 0} (terms : Terms S) (May : S → List ℕ → Outcome → S 
   -- what is written leads to no new session
   answers_go : (at : Phase) (s now : S) (p : Payload) (out : List ℕ) (b : Standing) → AnswersPayload terms May at s p out b now → b ≡ New → ⊥
   answers_go _ _ _ _ _ _ (t.out_of_order first) is = cc
-  answers_go at s _ p _ _ (t.logs_in {out} {standing} logs) is = logs_in_goes terms.hello terms.keyspaces (status_flags true (terms.is_open s)) at p out standing logs is
+  answers_go at s _ p _ _ (t.logs_in {out} {standing} logs) is = logs_in_goes terms.hello terms.schema.keyspaces (status_flags true (terms.is_open s)) at p out standing logs is
   answers_go _ _ _ _ _ _ (t.quits first command) is = cc
   answers_go _ _ _ _ _ _ (t.unknown first command) is = cc
   answers_go _ _ _ _ _ _ (t.pinged first command) is = cc
   answers_go _ _ _ _ _ _ (t.selected name place first command known) is = cc
   answers_go _ _ _ _ _ _ (t.unknown_keyspace name first command known) is = cc
-  answers_go _ _ _ _ _ _ (t.queried text outcome first command may) is = cc
+  answers_go _ _ _ _ _ _ (t.queried text outcome first command gives) is = cc
   answers_go _ _ _ _ _ _ (t.told_statistics first command) is = cc
   answers_go _ _ _ _ _ _ (t.takes_one_statement first command) is = cc
   answers_go _ _ _ _ _ _ (t.takes_no_more first command) is = cc
@@ -205,6 +211,37 @@ unshown o l s text outcome now (q.answered reply is shows) rows = q.untold reply
 unshown o l s text _ now (q.untold reply is has) rows = absurd rows
 unshown o l s text _ now (q.refused why) rows = absurd rows
 
+unshown_answer : (x : ClientAnswer) (outcome : Outcome) → TellsAnswer x outcome → IsRows outcome → TellsAnswer x (Refused OutOfMemory)
+unshown_answer _ _ (g.rows all) rows = g.untold
+unshown_answer _ _ g.untold rows = absurd rows
+unshown_answer _ _ g.refused rows = absurd rows
+
+unshown_by_itself : (schema : VSchema) (hello : Hello) (set then : Settings) (statement : ClientStatement) (outcome : Outcome)
+    → TellsClient schema hello set statement outcome then → IsRows outcome → TellsClient schema hello set statement (Refused OutOfMemory) then
+unshown_by_itself schema hello set _ _ _ g.holds rows = absurd rows
+unshown_by_itself schema hello set _ _ _ (g.stays is) rows = absurd rows
+unshown_by_itself schema hello set _ _ _ (g.not_turned is) rows = absurd rows
+unshown_by_itself schema hello set _ _ _ g.not_supported rows = absurd rows
+unshown_by_itself schema hello set _ _ _ (g.used is) rows = absurd rows
+unshown_by_itself schema hello set _ _ _ (g.not_used is) rows = absurd rows
+unshown_by_itself schema hello set _ _ _ (g.told {answer} {outcome} is tells) rows = g.told is (unshown_answer answer outcome tells rows)
+unshown_by_itself schema hello set _ _ _ (g.no_memory is) rows = absurd rows
+
+unshown_client : (o : Opening) (l : Limits) (hello : Hello) (set then : Settings) (s now : PassAndTransaction) (statement : ClientStatement) (outcome : Outcome)
+    → AnswersClient (terms_of o hello) (Means o l) set s statement outcome then now → IsRows outcome
+    → AnswersClient (terms_of o hello) (Means o l) set s statement (Refused OutOfMemory) then now
+unshown_client o l hello set _ s _ _ _ (g.begun {outcome} {now} may) rows = g.begun (unshown o l s (codes "BEGIN") outcome now may rows)
+unshown_client o l hello set _ s _ _ _ (g.by_itself {statement} {outcome} {then} tells) rows =
+    g.by_itself (unshown_by_itself o.schema hello set then statement outcome tells rows)
+
+unshown_text : (o : Opening) (l : Limits) (hello : Hello) (set then : Settings) (s now : PassAndTransaction) (text : List ℕ) (outcome : Outcome)
+    → GivesText (terms_of o hello) (Means o l) set s text outcome then now → IsRows outcome
+    → GivesText (terms_of o hello) (Means o l) set s text (Refused OutOfMemory) then now
+unshown_text o l hello set _ s _ text _ (g.run {outcome} {now} may not_run) rows = g.run (unshown o l s text outcome now may rows) (λ e statement is_asked. cc)
+unshown_text o l hello set _ s _ text _ (g.asked {reply} {then} {mid} {now} statement may not_run is_asked answers) rows =
+    g.asked statement may not_run is_asked (unshown_client o l hello set then mid now statement reply answers rows)
+unshown_text o l hello set _ s _ text _ (g.unread may not_run) rows = absurd rows
+
 -- ---- what is kept
 
 -- what is kept tells whether a transaction is open
@@ -247,29 +284,38 @@ reset_kept o l hello set anew p kept then payload out status first is none flags
           (one_reset (terms_of o hello) (Means o l) set s payload out first is e),
     )
 
+-- one after the other
+pub then_leads : (o : Opening) (p q r : PassView Entry) (kept mid then : Option OpenView) (R T U : PassAndTransaction → PassAndTransaction → Type 0)
+    → LeadsKept o p kept q mid R → LeadsKept o q mid r then T
+    → ((s m now : PassAndTransaction) → R s m → T m now → U s now) → LeadsKept o p kept r then U
+then_leads o p q r kept mid then R T U first second join = λ s held.
+    let one = first s held in
+    let two = second one.0 one.1 in
+    (two.0, two.1, join s one.0 two.0 one.2 two.2)
+
 -- a query's outcome, told under the status that is kept then
-pub one_query_or_refusal : (o : Opening) (l : Limits) (hello : Hello) (set : Settings) (p q : PassView Entry) (kept then : Option OpenView) (payload : Payload)
+pub one_query_or_refusal : (o : Opening) (l : Limits) (hello : Hello) (set after : Settings) (p q : PassView Entry) (kept then : Option OpenView) (payload : Payload)
     (out text : List ℕ) (outcome : Outcome) → payload.first ≡ 0 → command_of payload.bytes ≡ Some (query text)
-    → LeadsKept o p kept q then (λ s now. Means o l s text outcome now)
-    → (out ≡ encoded (set_end_of set.capabilities) outcome (reply_number payload) (status_flags set.autocommit (is_some then)))
-    ⊎ (IsRows outcome × (out ≡ encoded (set_end_of set.capabilities) (Refused OutOfMemory) (reply_number payload) (status_flags set.autocommit (is_some then))))
-    → LeadsKept o p kept q then (λ s now. AnswersPayload (terms_of o hello) (Means o l) (Commands set) s payload out (At (Commands set)) now)
-one_query_or_refusal o l hello set p q kept then payload out text outcome first is may told = λ s held.
-    let next = may s held in
+    → LeadsKept o p kept q then (λ s now. GivesText (terms_of o hello) (Means o l) set s text outcome after now)
+    → (out ≡ encoded (set_end_of set.capabilities) outcome (reply_number payload) (status_flags after.autocommit (is_some then)))
+    ⊎ (IsRows outcome × (out ≡ encoded (set_end_of set.capabilities) (Refused OutOfMemory) (reply_number payload) (status_flags after.autocommit (is_some then))))
+    → LeadsKept o p kept q then (λ s now. AnswersPayload (terms_of o hello) (Means o l) (Commands set) s payload out (At (Commands after)) now)
+one_query_or_refusal o l hello set after p q kept then payload out text outcome first is gives told = λ s held.
+    let next = gives s held in
     let now = next.0 in
     let same : is_some then ≡ is_some now.tx = kept_status o q then now next.1 in
     (now, next.1, by s now same next.2 told)
   where
     Encoded : Outcome → Bool → List ℕ
-    Encoded x is_open = encoded (set_end_of set.capabilities) x (reply_number payload) (status_flags set.autocommit is_open)
+    Encoded x is_open = encoded (set_end_of set.capabilities) x (reply_number payload) (status_flags after.autocommit is_open)
 
-    by : (s now : PassAndTransaction) → is_some then ≡ is_some now.tx → Means o l s text outcome now
+    by : (s now : PassAndTransaction) → is_some then ≡ is_some now.tx → GivesText (terms_of o hello) (Means o l) set s text outcome after now
         → (out ≡ Encoded outcome (is_some then)) ⊎ (IsRows outcome × (out ≡ Encoded (Refused OutOfMemory) (is_some then)))
-        → AnswersPayload (terms_of o hello) (Means o l) (Commands set) s payload out (At (Commands set)) now
-    by s now same means (inl e) =
-        one_query (terms_of o hello) (Means o l) set s now payload out text outcome first is means (e ∙ ap (λ (b : Bool). Encoded outcome b) same)
-    by s now same means (inr (rows, e)) =
-        one_query (terms_of o hello) (Means o l) set s now payload out text (Refused OutOfMemory) first is (unshown o l s text outcome now means rows)
+        → AnswersPayload (terms_of o hello) (Means o l) (Commands set) s payload out (At (Commands after)) now
+    by s now same gives (inl e) =
+        one_query (terms_of o hello) (Means o l) set after s now payload out text outcome first is gives (e ∙ ap (λ (b : Bool). Encoded outcome b) same)
+    by s now same gives (inr (rows, e)) =
+        one_query (terms_of o hello) (Means o l) set after s now payload out text (Refused OutOfMemory) first is (unshown_text o l hello set after s now text outcome gives rows)
         (e ∙ ap (λ (b : Bool). Encoded (Refused OutOfMemory) b) same)
 
 -- a result set with the columns and rows of an answer

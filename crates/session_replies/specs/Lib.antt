@@ -3,6 +3,8 @@ pub mod Outcomes
 pub mod Standings
 pub mod Packets
 pub mod Logins
+pub mod Terms
+pub mod Given
 pub mod Talk
 pub mod Sessions
 pub mod Faults

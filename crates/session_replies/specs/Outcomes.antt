@@ -1,5 +1,5 @@
 -- What the text of a statement may give its client.
-use Rattle.std.specs.Prelude.{◌≡◌, ℕ, List, Option, Some, None, is_some}
+use Rattle.std.specs.Prelude.{◌≡◌, ℕ, List, Option, None, is_some}
 use Rattle.vt_value.specs.declared.refusal.Refusal.{Refusal}
 use Rattle.vt_value.specs.declared.refusal.Refusal.TheVariants.{OutOfMemory}
 use Rattle.resultset.specs.declared.Column.{Column}
@@ -19,7 +19,7 @@ use Rattle.shard_calls.specs.Pendings.{OpenView, Stands}
 use Rattle.shard_contents.specs.declared.limits.Limits.{Limits}
 use Rattle.session_replies.specs.Columns.{AreColumns}
 use Rattle.session_replies.specs.declared.hello.Hello.{Hello}
-use Rattle.session_replies.specs.Talk.{Terms}
+use Rattle.session_replies.specs.Terms.{Terms}
 
 -- what a session's pass has seen, and its open transaction
 abbrev pub PassAndTransaction : Type 0
@@ -54,4 +54,4 @@ pub data Means (o : Opening) (limits : Limits) (s : PassAndTransaction) (text : 
 
 -- The terms of the router's conversations.
 abbrev pub terms_of : Opening → Hello → Terms PassAndTransaction
-terms_of o hello = record { hello = hello; keyspaces = o.schema.keyspaces; is_open = λ s. is_some s.tx; dropped = λ s. none_open s.pass }
+terms_of o hello = record { hello = hello; schema = o.schema; is_open = λ s. is_some s.tx; dropped = λ s. none_open s.pass }

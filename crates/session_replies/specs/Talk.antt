@@ -1,16 +1,15 @@
 -- A conversation of the MySQL client/server protocol: what the server writes for what it reads.
-use Rattle.std.specs.Prelude.{◌≡◌, ℕ, ◌+◌, Bool, true, false, ◌==◌, List, [], ◌∷◌, ◌++◌, Some, None, if◌then◌else◌}
+use Rattle.std.specs.Prelude.{◌≡◌, ℕ, true, false, ◌==◌, List, [], ◌∷◌, ◌++◌, Some, None, if◌then◌else◌}
 use Rattle.vt_value.specs.declared.refusal.Refusal.TheVariants.{PacketsOutOfOrder, UnknownCommand, UnknownKeyspace, NotSupported}
 use Rattle.mysql_packet.specs.declared.framer.Payload.{Payload}
 use Rattle.mysql_packet.specs.declared.framer.Fault.{Fault}
 use Rattle.mysql_packet.specs.Frames.{frame, Splits, IsRefusedAfter}
-use Rattle.mysql_message.specs.Messages.{autocommit, quit, init_db, query, ping, statistics, multi_statements, reset, command_of, ok_payload, err_payload, statistics_payload}
+use Rattle.mysql_message.specs.Messages.{quit, init_db, query, ping, statistics, multi_statements, reset, command_of, ok_payload, err_payload, statistics_payload}
 use Rattle.resultset.specs.declared.Outcome.{Outcome}
 use Rattle.resultset.specs.declared.SetEnd.{SetEnd}
 use Rattle.resultset.specs.declared.SetEnd.TheVariants.{EofPackets, OkPacket}
 use Rattle.resultset.specs.Encoding.{encoded, behind_rows}
 use Rattle.mysql_handshake.specs.Handshakes.{is_set, deprecate_eof, greeting_payload}
-use Rattle.vschema.specs.declared.schema.Keyspace.{Keyspace}
 use Rattle.session_replies.specs.declared.hello.Hello.{Hello}
 use Rattle.session_replies.specs.declared.end.End.{End}
 use Rattle.session_replies.specs.declared.end.End.TheVariants.{Quit, Closed, Truncated, Broken, Denied}
@@ -21,26 +20,9 @@ use Rattle.session_replies.specs.declared.standing.Standing.{Standing}
 use Rattle.session_replies.specs.declared.standing.Standing.TheVariants.{New, At, Ended}
 use Rattle.session_replies.specs.Standings.{first_number, takes_commands, settings_at_first}
 use Rattle.session_replies.specs.Packets.{refusal_bytes, reply_number}
+pub use Rattle.session_replies.specs.Terms.{Terms, in_transaction, status_flags, status_in}
+use Rattle.session_replies.specs.Given.{GivesText}
 use Rattle.session_replies.specs.Logins.{LogsIn, keyspace_named}
-
--- What holds in a conversation whatever is asked: the greeting and whom it lets in, the keyspaces that a client may use, whether a
--- transaction is open, by what the session has seen, and what it has seen once that is dropped.
-pub record Terms (S : Type 0) : Type 0 where
-  pub hello : Hello
-  pub keyspaces : List Keyspace
-  pub is_open : S → Bool
-  pub dropped : S → S
-
--- SERVER_STATUS_IN_TRANS
-abbrev pub in_transaction : ℕ
-in_transaction = 1
-
--- The status flags of a reply: whether a statement outside a transaction commits by itself, and whether a transaction is open.
-abbrev pub status_flags : Bool → Bool → ℕ
-status_flags commits is_open = (if commits then autocommit else 0) + (if is_open then in_transaction else 0)
-
-abbrev pub status_in : {S : Type 0} → Terms S → Settings → S → ℕ
-status_in terms settings s = status_flags settings.autocommit (terms.is_open s)
 
 -- how the parts of a result set end, by the capabilities that both sides set
 abbrev pub set_end_of : ℕ → SetEnd
@@ -48,12 +30,12 @@ set_end_of bits = if is_set deprecate_eof bits then OkPacket else EofPackets
 
 -- What is written for one payload in a phase, and how the session then stands. A payload whose first number is another than the phase
 -- begins with is out of order, which ends the session, as COM_QUIT does. A client may use each keyspace, which changes no answer. A query has
--- an outcome that its text may have, and that leads from what the session had seen to what it then has seen. COM_RESET_CONNECTION drops an
+-- an outcome that its text may give, and that leads from what the session had seen to what it then has seen. COM_RESET_CONNECTION drops an
 -- open transaction and what was set. Texts of several statements are never taken.
 pub data AnswersPayload {S : Type 0} (terms : Terms S) (May : S → List ℕ → Outcome → S → Type 0) : Phase → S → Payload → List ℕ → Standing → S → Type 0 where
   out_of_order : {at : Phase} {s : S} {p : Payload} → p.first == first_number at ≡ false
       → AnswersPayload terms May at s p (refusal_bytes p.first PacketsOutOfOrder) (Ended Broken) s
-  logs_in : {at : Phase} {s : S} {p : Payload} {out : List ℕ} {standing : Standing} → LogsIn terms.hello terms.keyspaces (status_flags true (terms.is_open s)) at p out standing
+  logs_in : {at : Phase} {s : S} {p : Payload} {out : List ℕ} {standing : Standing} → LogsIn terms.hello terms.schema.keyspaces (status_flags true (terms.is_open s)) at p out standing
       → AnswersPayload terms May at s p out standing s
   quits : {set : Settings} {s : S} {p : Payload} → p.first == 0 ≡ true → command_of p.bytes ≡ Some quit
       → AnswersPayload terms May (Commands set) s p [] (Ended Quit) s
@@ -62,14 +44,14 @@ pub data AnswersPayload {S : Type 0} (terms : Terms S) (May : S → List ℕ →
   pinged : {set : Settings} {s : S} {p : Payload} → p.first == 0 ≡ true → command_of p.bytes ≡ Some ping
       → AnswersPayload terms May (Commands set) s p (frame (reply_number p) (ok_payload 0 (status_in terms set s))) (At (Commands set)) s
   selected : {set : Settings} {s : S} {p : Payload} (name : List ℕ) (place : ℕ) → p.first == 0 ≡ true → command_of p.bytes ≡ Some (init_db name)
-      → keyspace_named terms.keyspaces name ≡ Some place
+      → keyspace_named terms.schema.keyspaces name ≡ Some place
       → AnswersPayload terms May (Commands set) s p (frame (reply_number p) (ok_payload 0 (status_in terms set s))) (At (Commands (record set { keyspace = Some place }))) s
   unknown_keyspace : {set : Settings} {s : S} {p : Payload} (name : List ℕ) → p.first == 0 ≡ true → command_of p.bytes ≡ Some (init_db name)
-      → keyspace_named terms.keyspaces name ≡ None
+      → keyspace_named terms.schema.keyspaces name ≡ None
       → AnswersPayload terms May (Commands set) s p (frame (reply_number p) (err_payload UnknownKeyspace)) (At (Commands set)) s
-  queried : {set : Settings} {s now : S} {p : Payload} (text : List ℕ) (outcome : Outcome)
-      → p.first == 0 ≡ true → command_of p.bytes ≡ Some (query text) → May s text outcome now
-      → AnswersPayload terms May (Commands set) s p (encoded (set_end_of set.capabilities) outcome (reply_number p) (status_in terms set now)) (At (Commands set)) now
+  queried : {set after : Settings} {s now : S} {p : Payload} (text : List ℕ) (outcome : Outcome)
+      → p.first == 0 ≡ true → command_of p.bytes ≡ Some (query text) → GivesText terms May set s text outcome after now
+      → AnswersPayload terms May (Commands set) s p (encoded (set_end_of set.capabilities) outcome (reply_number p) (status_in terms after now)) (At (Commands after)) now
   told_statistics : {set : Settings} {s : S} {p : Payload} → p.first == 0 ≡ true → command_of p.bytes ≡ Some statistics
       → AnswersPayload terms May (Commands set) s p (frame (reply_number p) statistics_payload) (At (Commands set)) s
   takes_one_statement : {set : Settings} {s : S} {p : Payload} → p.first == 0 ≡ true → command_of p.bytes ≡ Some (multi_statements false)

@@ -7,6 +7,7 @@ mod devices;
 mod end;
 mod hello;
 mod login;
+mod own_answers;
 mod reply;
 mod standing;
 mod told;

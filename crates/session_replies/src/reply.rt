@@ -8,18 +8,21 @@ ghost use Rattle.resultset.specs.Encoding.{encoded, behind_rows};
 ghost use Rattle.session_replies.specs.Columns.{AreColumns};
 ghost use Rattle.session_replies.specs.Outcomes.{Means, Shows, HasRows, terms_of};
 ghost use Rattle.session_replies.specs.inner.Outcomes.{LeadsKept, IsRows};
-ghost use Rattle.session_replies.specs.declared.hello.Hello.{Hello};
 ghost use Rattle.session_replies.specs.Logins.{keyspace_named};
-ghost use Rattle.session_replies.specs.Talk.{AnswersPayload, set_end_of, status_flags};
+ghost use Rattle.session_replies.specs.Terms.{status_flags};
+ghost use Rattle.session_replies.specs.Given.{AnswersClient, GivesText};
+ghost use Rattle.session_replies.specs.Talk.{AnswersPayload, set_end_of};
 ghost use Rattle.session_replies.specs.inner.Replies.{reply_bytes};
 
 use crate::columns::columns_of;
 use crate::end::End;
 use crate::hello::Hello;
 use crate::login::{keyspace_named, put_answer, put_response};
+use crate::own_answers::{is_not_run, own_answer, refused};
 use crate::standing::{Phase, Settings, Standing, first_number};
 use crate::told::{ShownSet, Telling, Told};
 use bytes::BytesMut;
+use client_statements::{ClientStatement, read};
 use journal::{Naming, Pass};
 use mysql_handshake::{DEPRECATE_EOF, is_set};
 use mysql_message::{Command, put_eof, put_err, put_ok, put_set_end, put_statistics, read_command};
@@ -134,6 +137,64 @@ fn outcome_of<W: World + Send + Sync, J: Naming + Send + Sync, G: Gate>(
         Err(refusal) => Told {
             telling: Telling::Refused(refusal),
         },
+    }
+}
+
+/// What a statement gives that asks something of the server, and what then holds for commands.
+fn statement_outcome<W: World + Send + Sync, J: Naming + Send + Sync, G: Gate>(
+    rt: &(impl Threads + Wait + Sync),
+    alloc: Global,
+    engine: &Engine<W, J, G>,
+    pass: &mut Pass<ShardLaw<W>, J>,
+    tx: &mut Tx<W, J>,
+    hello: &Hello,
+    settings: Settings,
+    statement: &ClientStatement,
+) -> (Told, Settings)
+    requires session { IsSome pass.old.session }
+    requires tx { IsOf W.opening tx.old pass.old }
+    ensures gives { LeadsKept W.opening pass.old tx.old pass.new tx.new
+        (λ s now. AnswersClient (terms_of W.opening hello.now) (Means W.opening W.limits) settings s statement.now result.0 result.1 now) }
+    ensures tx { IsOf W.opening tx.new pass.new }
+    ensures session { pass.new.session ≡ pass.old.session }
+{
+    match statement {
+        ClientStatement::Begin => {
+            let begun = outcome_of(rt, alloc, engine, pass, tx, b"BEGIN");
+            (begun, settings)
+        }
+        _ => own_answer(alloc, engine.schema(), hello, settings, statement),
+    }
+}
+
+/// What a text gives its client, and what then holds for commands. A text that isn't run may ask something of the server.
+fn given<W: World + Send + Sync, J: Naming + Send + Sync, G: Gate>(
+    rt: &(impl Threads + Wait + Sync),
+    alloc: Global,
+    engine: &Engine<W, J, G>,
+    pass: &mut Pass<ShardLaw<W>, J>,
+    tx: &mut Tx<W, J>,
+    hello: &Hello,
+    settings: Settings,
+    text: &[u8],
+) -> (Told, Settings)
+    requires session { IsSome pass.old.session }
+    requires tx { IsOf W.opening tx.old pass.old }
+    ensures gives { LeadsKept W.opening pass.old tx.old pass.new tx.new
+        (λ s now. GivesText (terms_of W.opening hello.now) (Means W.opening W.limits) settings s text.now result.0 result.1 now) }
+    ensures tx { IsOf W.opening tx.new pass.new }
+    ensures session { pass.new.session ≡ pass.old.session }
+{
+    let outcome = outcome_of(rt, alloc, engine, pass, tx, text);
+    if !is_not_run(&outcome) {
+        return (outcome, settings);
+    }
+    match read(alloc, text) {
+        Ok(Some(statement)) => {
+            statement_outcome(rt, alloc, engine, pass, tx, hello, settings, &statement)
+        }
+        Ok(None) => (outcome, settings),
+        Err(_) => (refused(Refusal::OutOfMemory), settings),
     }
 }
 
@@ -317,6 +378,7 @@ fn put_command<W: World + Send + Sync, J: Naming + Send + Sync, G: Gate>(
     engine: &Engine<W, J, G>,
     pass: &mut Pass<ShardLaw<W>, J>,
     tx: &mut Tx<W, J>,
+    hello: &Hello,
     settings: Settings,
     payload: &Payload,
     reply: &mut BytesMut,
@@ -326,8 +388,8 @@ fn put_command<W: World + Send + Sync, J: Naming + Send + Sync, G: Gate>(
     requires session { IsSome pass.old.session }
     requires tx { IsOf W.opening tx.old pass.old }
     requires number { payload.now.first ≡ 0 }
-    ensures answers { (hello : Hello) → LeadsKept W.opening pass.old tx.old pass.new tx.new
-        (λ s now. AnswersPayload (terms_of W.opening hello) (Means W.opening W.limits) (Phase.Commands settings) s payload.now (reply_bytes result.1 reply.new.items) result.0 now) }
+    ensures answers { LeadsKept W.opening pass.old tx.old pass.new tx.new
+        (λ s now. AnswersPayload (terms_of W.opening hello.now) (Means W.opening W.limits) (Phase.Commands settings) s payload.now (reply_bytes result.1 reply.new.items) result.0 now) }
     ensures tx { IsOf W.opening tx.new pass.new }
     ensures room { REPLY_ROOM ≤ length reply.new.items + reply.new.spare }
     ensures session { pass.new.session ≡ pass.old.session }
@@ -350,11 +412,11 @@ fn put_command<W: World + Send + Sync, J: Naming + Send + Sync, G: Gate>(
             (chosen, None)
         }
         Ok(Command::Query(text)) => {
-            let outcome = outcome_of(rt, alloc, engine, pass, tx, text);
+            let (outcome, then) = given(rt, alloc, engine, pass, tx, hello, settings, text);
             let end = set_end_of(settings.capabilities);
-            let status = status_of(settings.autocommit, tx);
+            let status = status_of(then.autocommit, tx);
             let rows = put_outcome(alloc, outcome, end, number, status, reply);
-            (next, rows)
+            (Standing::At(Phase::Commands(then)), rows)
         }
         Ok(Command::Statistics) => {
             put_line(number, reply);
@@ -415,7 +477,7 @@ pub fn put_reply<W: World + Send + Sync, J: Naming + Send + Sync, G: Gate>(
             None,
         ),
         Phase::Commands(settings) => {
-            put_command(rt, alloc, engine, pass, tx, settings, payload, reply)
+            put_command(rt, alloc, engine, pass, tx, hello, settings, payload, reply)
         }
     }
 }

@@ -11,10 +11,10 @@ use Rattle.session_replies.proofs.reply.put_command.Goals as goal
 pub returns-in-Ok-Quit-clause-answers : goal.returns-in-Ok-Quit-clause-answers
 returns-in-Ok-Quit-clause-answers g c =
     let e = rw c.in-Ok-Quit.field-0-is at c.in-Ok-Quit.ensures.command in
-    λ hello s held. (s, held, one_quit _ _ _ s c.args.payload.now _ c.requires.number (sym (e ∙ ap command_of c.as_slice.ensures)) c.requires.empty)
+    λ s held. (s, held, one_quit _ _ _ s c.args.payload.now _ c.requires.number (sym (e ∙ ap command_of c.as_slice.ensures)) c.requires.empty)
 
 pub returns-in-Err-clause-answers : goal.returns-in-Err-clause-answers
-returns-in-Err-clause-answers g c = λ hello s held. (
+returns-in-Err-clause-answers g c = λ s held. (
   s,
   held,
   one_unknown _ _ _ s c.args.payload.now _ c.requires.number (sym (c.in-Err.ensures.command ∙ ap command_of c.as_slice.ensures))
@@ -24,7 +24,7 @@ returns-in-Err-clause-answers g c = λ hello s held. (
 pub returns-in-Ok-Ping-clause-answers : goal.returns-in-Ok-Ping-clause-answers
 returns-in-Ok-Ping-clause-answers g c =
     let e = rw c.in-Ok-Ping.field-0-is at c.in-Ok-Ping.ensures.command in
-    λ hello s held. (
+    λ s held. (
       s,
       held,
       one_ping _ _ _ s c.args.payload.now _ c.requires.number (sym (e ∙ ap command_of c.as_slice.ensures))
@@ -35,21 +35,21 @@ returns-in-Ok-Ping-clause-answers g c =
 pub returns-in-Ok-Statistics-clause-answers : goal.returns-in-Ok-Statistics-clause-answers
 returns-in-Ok-Statistics-clause-answers g c =
     let e = rw c.in-Ok-Statistics.field-0-is at c.in-Ok-Statistics.ensures.command in
-    λ hello s held. (s, held, one_line _ _ _ s c.args.payload.now _ c.requires.number (sym (e ∙ ap command_of c.as_slice.ensures)) c.put_line.ensures.bytes)
+    λ s held. (s, held, one_line _ _ _ s c.args.payload.now _ c.requires.number (sym (e ∙ ap command_of c.as_slice.ensures)) c.put_line.ensures.bytes)
 
 pub returns-in-Ok-Query-clause-answers : goal.returns-in-Ok-Query-clause-answers
 returns-in-Ok-Query-clause-answers g c =
     let e = rw c.in-Ok-Query.field-0-is at c.in-Ok-Query.ensures.command in
     let bytes = rw (c.set_end_of-end.ensures, c.status_of-status-in-Ok-Query.ensures) at c.put_outcome-rows.ensures.bytes in
-    λ hello. one_query_or_refusal _ _ hello _ _ _ _ _ c.args.payload.now _ _ _ c.requires.number (sym (e ∙ ap command_of c.as_slice.ensures))
-    c.outcome_of-outcome.ensures.means bytes
+    one_query_or_refusal _ _ c.args.hello.now _ _ _ _ _ _ c.args.payload.now _ _ _ c.requires.number (sym (e ∙ ap command_of c.as_slice.ensures))
+    c.given-outcome.ensures.gives bytes
 
 pub returns-in-Ok-InitDb-clause-answers : goal.returns-in-Ok-InitDb-clause-answers
 returns-in-Ok-InitDb-clause-answers g c =
     let e = rw c.in-Ok-InitDb.field-0-is at c.in-Ok-InitDb.ensures.command in
     let known = rw (c.schema.ensures.schema, c.schema.ensures.opening) at c.put_selected-chosen.ensures.known in
     let unknown = rw (c.schema.ensures.schema, c.schema.ensures.opening) at c.put_selected-chosen.ensures.unknown in
-    λ hello s held. (
+    λ s held. (
       s,
       held,
       one_selected _ _ _ s c.args.payload.now _ _ _ c.requires.number (sym (e ∙ ap command_of c.as_slice.ensures))
@@ -65,7 +65,7 @@ pub returns-in-Ok-MultiStatements-clause-answers : goal.returns-in-Ok-MultiState
 returns-in-Ok-MultiStatements-clause-answers g c =
     let e = rw c.in-Ok-MultiStatements.field-0-is at c.in-Ok-MultiStatements.ensures.command in
     let one = rw c.set_end_of-end-in-Ok-MultiStatements.ensures at c.put_option.ensures.one in
-    λ hello s held. (
+    λ s held. (
       s,
       held,
       one_option _ _ _ s c.args.payload.now _ _ c.requires.number (sym (e ∙ ap command_of c.as_slice.ensures)) c.put_option.ensures.several
@@ -76,7 +76,7 @@ returns-in-Ok-MultiStatements-clause-answers g c =
 pub returns-in-Ok-Reset-clause-answers : goal.returns-in-Ok-Reset-clause-answers
 returns-in-Ok-Reset-clause-answers g c =
     let e = rw c.in-Ok-Reset.field-0-is at c.in-Ok-Reset.ensures.command in
-    λ hello. reset_kept _ _ hello _ _ _ _ _ c.args.payload.now _ _ c.requires.number (sym (e ∙ ap command_of c.as_slice.ensures)) c.new.ensures
+    reset_kept _ _ c.args.hello.now _ _ _ _ _ c.args.payload.now _ _ c.requires.number (sym (e ∙ ap command_of c.as_slice.ensures)) c.new.ensures
     c.status_flags.ensures c.at_first-first.ensures c.put_pong-in-Ok-Reset.ensures.bytes
 
 pub returns-in-Ok-Reset-clause-tx : goal.returns-in-Ok-Reset-clause-tx

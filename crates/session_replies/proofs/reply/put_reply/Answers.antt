@@ -23,4 +23,4 @@ returns-in-Switch-clause-answers g c =
     login_kept _ _ _ _ _ _ _ _ c.args.payload.now _ _ _ c.in-Switch.is refl c.status_of-in-Switch.ensures (c.put_answer.ensures.logs_in _)
 
 pub returns-in-Commands-clause-answers : goal.returns-in-Commands-clause-answers
-returns-in-Commands-clause-answers g c = rw c.in-Commands.is (c.put_command.ensures.answers _)
+returns-in-Commands-clause-answers g c = rw c.in-Commands.is c.put_command.ensures.answers

@@ -1,0 +1,12 @@
+use Rattle.session_replies.specs.Given as x
+use Rattle.session_replies.proofs.reply.statement_outcome.Goals as goal
+
+pub returns-in-Begin-clause-gives : goal.returns-in-Begin-clause-gives
+returns-in-Begin-clause-gives g c = λ s held.
+    let next = c.outcome_of-begun.ensures.means s held in
+    (next.0, next.1, rw c.in-Begin.is (x.begun next.2))
+
+pub returns-in_default-clause-gives : goal.returns-in_default-clause-gives
+returns-in_default-clause-gives g c = λ s held.
+    let tells = rw (c.schema.ensures.schema, c.schema.ensures.opening) at c.own_answer.ensures in
+    (s, held, x.by_itself tells)
