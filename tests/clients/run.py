@@ -126,7 +126,7 @@ def needs_options(program):
     with Router(program) as router:
         code = f"import pymysql; pymysql.connect(host='127.0.0.1', port={router.port}, user='{USER}')"
         run = subprocess.run([PYTHON, "-c", code], capture_output=True, text=True)
-        check("PyMySQL without autocommit", run.stderr.splitlines()[-1:], ["pymysql.err.ProgrammingError: (1064, 'syntax error')"])
+        check("PyMySQL without autocommit", run.stderr.splitlines()[-1:], ["pymysql.err.NotSupportedError: (1235, 'not supported')"])
 
 
 COLUMNS = """
