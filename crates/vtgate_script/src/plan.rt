@@ -6,9 +6,7 @@ ghost use Rattle.vtgate_script.specs.Planned.{IsPlanned, HasPlanned};
 use session::{Sink, Source};
 use std::alloc::Global;
 use vschema::Hashing;
-use vtgate_input::{
-    Fault, SUCCESS, WRONG_WORDS, ranges_of, read_schema, refuse, refuse_plainly,
-};
+use vtgate_input::{Fault, SUCCESS, WRONG_WORDS, ranges_of, read_schema, refuse, refuse_plainly};
 use vtgate_lines::plan_line;
 
 fn planned<I: Source>(
