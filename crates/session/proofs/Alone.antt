@@ -7,6 +7,7 @@ use Rattle.mysql_packet.specs.declared.framer.Payload.{Payload}
 use Rattle.mysql_packet.specs.Frames.{frame}
 use Rattle.mysql_message.specs.Messages.{ok_payload}
 use Rattle.resultset.specs.declared.Outcome.{Outcome}
+use Rattle.resultset.specs.declared.Outcome.TheVariants.{Count, Refused}
 use Rattle.resultset.specs.Encoding.{encoded, behind_rows}
 use Rattle.vschema.specs.WellFormed.{is_vschema}
 use Rattle.vschema.specs.Database.{Database}
@@ -39,7 +40,7 @@ use Rattle.session.specs.Alone as over
 use Rattle.client_statements.specs.declared.statement.ClientStatement.{ClientStatement}
 use Rattle.session_replies.specs.declared.standing.Settings.{Settings}
 use Rattle.session_replies.specs.Terms.{status_flags}
-use Rattle.session_replies.specs.Given.{AnswersClient, GivesText}
+use Rattle.session_replies.specs.Given.{NeedsOne, RunsText, AnswersClient, GivesText}
 use Rattle.session_replies.specs.Given as given
 use Rattle.session_replies.specs.Talk.{AnswersPayload, Replies, Conversation, Talk, set_end_of}
 use Rattle.session_replies.specs.Talk as t
@@ -80,14 +81,25 @@ module _ (o : Opening) (l : Limits) (hello : Hello) where
   client_on : (set then : Settings) (s now : PassAndTransaction) (statement : ClientStatement) (outcome : Outcome)
       → AnswersClient (terms_of o hello) May set s statement outcome then now → Follows o s.pass now.pass
   client_on set _ s _ _ _ (given.begun {outcome} {now} may) = means_on s (codes "BEGIN") outcome now may
+  client_on set _ s _ _ _ (given.turned_on off none) = stays o l s.pass
+  client_on set _ s _ _ _ (given.committed {now} off held may) = means_on s (codes "COMMIT") (Count 0) now may
+  client_on set _ s _ _ _ (given.not_committed {why} {now} off held may) = means_on s (codes "COMMIT") (Refused why) now may
   client_on set _ s _ _ _ (given.by_itself tells) = stays o l s.pass
+
+  run_on : (set : Settings) (s now : PassAndTransaction) (text : List ℕ) (outcome : Outcome) → RunsText (terms_of o hello) May set s text outcome now
+      → Follows o s.pass now.pass
+  run_on set s _ text _ (given.alone {outcome} {now} none may) = means_on s text outcome now may
+  run_on set s _ text _ (given.after_begin {outcome} {mid} {now} needs opens begun may) =
+      follow_on s.pass mid.pass now.pass (means_on s (codes "BEGIN") (Count 0) mid begun) (means_on mid text outcome now may)
+  run_on set s _ text _ (given.not_begun {why} {now} needs opens may) = means_on s (codes "BEGIN") (Refused why) now may
+  run_on set s _ text _ (given.not_read needs) = stays o l s.pass
 
   text_on : (set then : Settings) (s now : PassAndTransaction) (text : List ℕ) (outcome : Outcome) → GivesText (terms_of o hello) May set s text outcome then now
       → Follows o s.pass now.pass
-  text_on set _ s _ text _ (given.run {outcome} {now} may not_run) = means_on s text outcome now may
-  text_on set _ s _ text _ (given.asked {outcome} {reply} {then} {mid} {now} statement may not_run is_asked answers) =
-      follow_on s.pass mid.pass now.pass (means_on s text outcome mid may) (client_on set then mid now statement reply answers)
-  text_on set _ s _ text _ (given.unread {outcome} {now} may not_run) = means_on s text outcome now may
+  text_on set _ s _ text _ (given.run {outcome} {now} runs not_run) = run_on set s now text outcome runs
+  text_on set _ s _ text _ (given.asked {outcome} {reply} {then} {mid} {now} statement runs not_run is_asked answers) =
+      follow_on s.pass mid.pass now.pass (run_on set s mid text outcome runs) (client_on set then mid now statement reply answers)
+  text_on set _ s _ text _ (given.unread {outcome} {now} runs not_run) = run_on set s now text outcome runs
 
   answers_on : (at : Phase) (s now : PassAndTransaction) (p : Payload) (out : List ℕ) (b : Standing) → AnswersPayload (terms_of o hello) May at s p out b now
       → Follows o s.pass now.pass
@@ -159,7 +171,7 @@ module _ (o : Opening) (l : Limits) (hello : Hello) where
             let g = refused_over o opens formed l text x.kept now x.state.open_one r others x.tx why in record {
               state = g.state;
               holds =
-                  subst (λ (s : OneState). MeansOver o.schema s text (Rattle.resultset.specs.declared.Outcome.TheVariants.Refused r) g.state) (as_state x) g.holds;
+                  subst (λ (s : OneState). MeansOver o.schema s text (Refused r) g.state) (as_state x) g.holds;
               rows = g.rows;
               tx = g.tx;
             }
@@ -178,24 +190,56 @@ module _ (o : Opening) (l : Limits) (hello : Hello) where
     client_alone x s e set _ _ _ _ (given.begun {outcome} {now} may) legal others =
         let after = means_alone x s e (codes "BEGIN") outcome now may legal others in
         (after.0, after.1, given.begun after.2)
+    client_alone x s e set _ _ _ _ (given.turned_on off none) legal others = (x, e, given.turned_on off (sym (same_status x s e) ∙ none))
+    client_alone x s e set _ _ _ _ (given.committed {now} off held may) legal others =
+        let after = means_alone x s e (codes "COMMIT") (Count 0) now may legal others in
+        (after.0, after.1, given.committed off (sym (same_status x s e) ∙ held) after.2)
+    client_alone x s e set _ _ _ _ (given.not_committed {why} {now} off held may) legal others =
+        let after = means_alone x s e (codes "COMMIT") (Refused why) now may legal others in
+        (after.0, after.1, given.not_committed off (sym (same_status x s e) ∙ held) after.2)
     client_alone x s e set _ _ _ _ (given.by_itself tells) legal others = (x, e, given.by_itself tells)
+
+    -- whether none is open, it tells alike
+    needs_over : (x : Alone o) (s : PassAndTransaction) → x.kept ≡ s → (set : Settings) → NeedsOne (terms_of o hello) set s → NeedsOne (alone_terms o hello) set x
+    needs_over x s e set needs = (needs.0, sym (same_status x s e) ∙ needs.1)
+
+    needs_under : (x : Alone o) (s : PassAndTransaction) → x.kept ≡ s → (set : Settings) → NeedsOne (alone_terms o hello) set x → NeedsOne (terms_of o hello) set s
+    needs_under x s e set needs = (needs.0, same_status x s e ∙ needs.1)
+
+    run_alone : (x : Alone o) (s : PassAndTransaction) → x.kept ≡ s → (set : Settings) (text : List ℕ) (outcome : Outcome) (now : PassAndTransaction)
+        → RunsText (terms_of o hello) May set s text outcome now → IsLegal (MayFollow o) s.pass.seen → NoOthers s.pass now.pass
+        → Over_it now (λ y. RunsText (alone_terms o hello) (MeansAlone o l) set x text outcome y)
+    run_alone x s e set text _ _ (given.alone {outcome} {now} none may) legal others =
+        let after = means_alone x s e text outcome now may legal others in
+        (after.0, after.1, given.alone (λ needs. none (needs_under x s e set needs)) after.2)
+    run_alone x s e set text _ _ (given.after_begin {outcome} {mid} {now} needs opens begun may) legal others =
+        let first = means_on s (codes "BEGIN") (Count 0) mid begun in
+        let second = means_on mid text outcome now may in
+        let one = means_alone x s e (codes "BEGIN") (Count 0) mid begun legal (up_to s.pass now.pass others mid.pass first.later second.later) in
+        let two =
+        means_alone one.0 mid one.1 text outcome now may (first.legal legal) (behind s.pass now.pass others mid.pass first.later second.later first.session) in
+        (two.0, two.1, given.after_begin (needs_over x s e set needs) opens one.2 two.2)
+    run_alone x s e set text _ _ (given.not_begun {why} {now} needs opens may) legal others =
+        let after = means_alone x s e (codes "BEGIN") (Refused why) now may legal others in
+        (after.0, after.1, given.not_begun (needs_over x s e set needs) opens after.2)
+    run_alone x s e set text _ _ (given.not_read needs) legal others = (x, e, given.not_read (needs_over x s e set needs))
 
     text_alone : (x : Alone o) (s : PassAndTransaction) → x.kept ≡ s → (set then : Settings) (text : List ℕ) (outcome : Outcome) (now : PassAndTransaction)
         → GivesText (terms_of o hello) May set s text outcome then now → IsLegal (MayFollow o) s.pass.seen → NoOthers s.pass now.pass
         → Over_it now (λ y. GivesText (alone_terms o hello) (MeansAlone o l) set x text outcome then y)
-    text_alone x s e set _ text _ _ (given.run {outcome} {now} may not_run) legal others =
-        let after = means_alone x s e text outcome now may legal others in
+    text_alone x s e set _ text _ _ (given.run {outcome} {now} runs not_run) legal others =
+        let after = run_alone x s e set text outcome now runs legal others in
         (after.0, after.1, given.run after.2 not_run)
-    text_alone x s e set _ text _ _ (given.asked {outcome} {reply} {then} {mid} {now} statement may not_run is_asked answers) legal others =
-        let first = means_on s text outcome mid may in
+    text_alone x s e set _ text _ _ (given.asked {outcome} {reply} {then} {mid} {now} statement runs not_run is_asked answers) legal others =
+        let first = run_on set s mid text outcome runs in
         let second = client_on set then mid now statement reply answers in
-        let one = means_alone x s e text outcome mid may legal (up_to s.pass now.pass others mid.pass first.later second.later) in
+        let one = run_alone x s e set text outcome mid runs legal (up_to s.pass now.pass others mid.pass first.later second.later) in
         let two =
         client_alone one.0 mid one.1 set then statement reply now answers (first.legal legal)
         (behind s.pass now.pass others mid.pass first.later second.later first.session) in
         (two.0, two.1, given.asked statement one.2 not_run is_asked two.2)
-    text_alone x s e set _ text _ _ (given.unread {outcome} {now} may not_run) legal others =
-        let after = means_alone x s e text outcome now may legal others in
+    text_alone x s e set _ text _ _ (given.unread {outcome} {now} runs not_run) legal others =
+        let after = run_alone x s e set text outcome now runs legal others in
         (after.0, after.1, given.unread after.2 not_run)
 
     abbrev Answers_over : Phase → Alone o → Payload → List ℕ → Standing → Alone o → Type 0

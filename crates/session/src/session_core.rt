@@ -249,9 +249,11 @@ impl<W: World + Send + Sync, J: Naming + Send + Sync> Core<W, J> {
     // Promise: However a client's bytes are cut, exactly the conversation over them is written, from the greeting on: a client is let in by
     // its user and its answer to the salt, and then by its database, or told why not; each statement has an outcome that its text may have,
     // in the session's open transaction if one is, each from what the session had seen to what it then has seen; a reply's status tells
-    // whether a transaction is open then; a text that isn't run, and asks something of a server, is answered that by the VSchema and by what
-    // the session knows of itself; a client may name each keyspace, and one that begins anew has no transaction, and keeps its keyspace;
-    // result sets end as the client's capabilities ask; the reply to a write always has room
+    // whether autocommit is on and a transaction is open then; with autocommit off a statement over rows gives, where none is open, what it
+    // gives after BEGIN, and turning it on commits an open one as COMMIT does, or is refused as that is and leaves it off; a text that isn't
+    // run, and asks something of a server, is answered that by the VSchema and by what the session knows of itself; a client may name each
+    // keyspace, and one that begins anew has no transaction and autocommit on, and keeps its keyspace; result sets end as the client's
+    // capabilities ask; the reply to a write always has room
     // With: Core::{new, commands, standing, end_of_input}
     // Clauses: begins, hello, standing, limit, none_open, err, talk, tx, begun, ended, by_command, fault, cause, again, next, session,
     // whole, id
@@ -266,7 +268,9 @@ impl<W: World + Send + Sync, J: Naming + Send + Sync> Core<W, J> {
     // session_replies::keyspace_in_use_is_the_first, session_replies::reset_forgets_the_keyspace, session_replies::reset_keeps_the_settings,
     // session_replies::reset_keeps_the_transaction, session_replies::several_statements_are_taken_on,
     // session_replies::what_is_not_supported_asks_nothing, session_replies::use_keeps_the_keyspace,
-    // session_replies::autocommit_is_turned_off_in_words, session_replies::user_has_no_host, session_replies::start_transaction_commits,
+    // session_replies::setting_is_told_and_not_done, session_replies::autocommit_off_commits_each,
+    // session_replies::turning_it_on_forgets_the_writes, session_replies::refused_commit_turns_it_on,
+    // session_replies::status_tells_autocommit_while_off, session_replies::user_has_no_host, session_replies::start_transaction_commits,
     // session_replies::unknown_variable_is_not_supported, session_replies::told_texts_are_characters,
     // session_replies::unread_text_is_a_syntax_error
     // Headline.

@@ -1,7 +1,10 @@
 pub mod ColumnLemmas
+pub mod Commands
 pub mod RepliesLemmas
 pub mod LoginLemmas
 pub mod Conversations
 pub mod Written
 pub mod Readings
 pub mod TextColumns
+pub mod OwnAnswers
+pub mod TextLemmas

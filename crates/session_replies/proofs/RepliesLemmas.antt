@@ -7,7 +7,7 @@ use Rattle.mysql_packet.specs.declared.framer.Payload.{Payload}
 use Rattle.mysql_packet.specs.Frames.{frame}
 use Rattle.mysql_message.specs.Messages.{quit, init_db, query, ping, statistics, multi_statements, reset, command_of, ok_payload, err_payload, statistics_payload}
 use Rattle.resultset.specs.declared.Outcome.{Outcome}
-use Rattle.resultset.specs.declared.Outcome.TheVariants.{Refused, Rows}
+use Rattle.resultset.specs.declared.Outcome.TheVariants.{Count, Refused, Rows}
 use Rattle.resultset.specs.declared.ResultSet.{ResultSet}
 use Rattle.vt_value.specs.Values.{Row}
 use Rattle.shard_calls.specs.declared.reply.Reply.{Reply}
@@ -47,7 +47,7 @@ use Rattle.session_replies.proofs.LoginLemmas.{one_login}
 use Rattle.client_statements.specs.declared.answers.ClientAnswer.{ClientAnswer}
 use Rattle.client_statements.specs.declared.statement.ClientStatement.{ClientStatement}
 use Rattle.session_replies.specs.Terms.{Terms, status_flags, status_in}
-use Rattle.session_replies.specs.Given.{TellsAnswer, TellsClient, AnswersClient, GivesText}
+use Rattle.session_replies.specs.Given.{TellsAnswer, TellsClient, AnswersClient, OpensOne, NeedsOne, RunsText, GivesText}
 use Rattle.session_replies.specs.Given as g
 use Rattle.session_replies.specs.Talk.{AnswersPayload, Replies, Conversation, set_end_of}
 use Rattle.session_replies.specs.Talk as t
@@ -220,7 +220,7 @@ unshown_by_itself : (schema : VSchema) (hello : Hello) (set then : Settings) (st
     → TellsClient schema hello set statement outcome then → IsRows outcome → TellsClient schema hello set statement (Refused OutOfMemory) then
 unshown_by_itself schema hello set _ _ _ g.holds rows = absurd rows
 unshown_by_itself schema hello set _ _ _ (g.stays is) rows = absurd rows
-unshown_by_itself schema hello set _ _ _ (g.not_turned is) rows = absurd rows
+unshown_by_itself schema hello set _ _ _ g.turned_off rows = absurd rows
 unshown_by_itself schema hello set _ _ _ g.not_supported rows = absurd rows
 unshown_by_itself schema hello set _ _ _ (g.used is) rows = absurd rows
 unshown_by_itself schema hello set _ _ _ (g.not_used is) rows = absurd rows
@@ -231,16 +231,27 @@ unshown_client : (o : Opening) (l : Limits) (hello : Hello) (set then : Settings
     → AnswersClient (terms_of o hello) (Means o l) set s statement outcome then now → IsRows outcome
     → AnswersClient (terms_of o hello) (Means o l) set s statement (Refused OutOfMemory) then now
 unshown_client o l hello set _ s _ _ _ (g.begun {outcome} {now} may) rows = g.begun (unshown o l s (codes "BEGIN") outcome now may rows)
+unshown_client o l hello set _ s _ _ _ (g.turned_on off none) rows = absurd rows
+unshown_client o l hello set _ s _ _ _ (g.committed off held may) rows = absurd rows
+unshown_client o l hello set _ s _ _ _ (g.not_committed off held may) rows = absurd rows
 unshown_client o l hello set _ s _ _ _ (g.by_itself {statement} {outcome} {then} tells) rows =
     g.by_itself (unshown_by_itself o.schema hello set then statement outcome tells rows)
+
+unshown_run : (o : Opening) (l : Limits) (hello : Hello) (set : Settings) (s now : PassAndTransaction) (text : List ℕ) (outcome : Outcome)
+    → RunsText (terms_of o hello) (Means o l) set s text outcome now → IsRows outcome → RunsText (terms_of o hello) (Means o l) set s text (Refused OutOfMemory) now
+unshown_run o l hello set s _ text _ (g.alone {outcome} {now} none may) rows = g.alone none (unshown o l s text outcome now may rows)
+unshown_run o l hello set s _ text _ (g.after_begin {outcome} {mid} {now} needs opens begun may) rows =
+    g.after_begin needs opens begun (unshown o l mid text outcome now may rows)
+unshown_run o l hello set s _ text _ (g.not_begun needs opens may) rows = absurd rows
+unshown_run o l hello set s _ text _ (g.not_read needs) rows = absurd rows
 
 unshown_text : (o : Opening) (l : Limits) (hello : Hello) (set then : Settings) (s now : PassAndTransaction) (text : List ℕ) (outcome : Outcome)
     → GivesText (terms_of o hello) (Means o l) set s text outcome then now → IsRows outcome
     → GivesText (terms_of o hello) (Means o l) set s text (Refused OutOfMemory) then now
-unshown_text o l hello set _ s _ text _ (g.run {outcome} {now} may not_run) rows = g.run (unshown o l s text outcome now may rows) (λ e statement is_asked. cc)
-unshown_text o l hello set _ s _ text _ (g.asked {reply} {then} {mid} {now} statement may not_run is_asked answers) rows =
-    g.asked statement may not_run is_asked (unshown_client o l hello set then mid now statement reply answers rows)
-unshown_text o l hello set _ s _ text _ (g.unread may not_run) rows = absurd rows
+unshown_text o l hello set _ s _ text _ (g.run {outcome} {now} runs not_run) rows = g.run (unshown_run o l hello set s now text outcome runs rows) (λ e statement is_asked. cc)
+unshown_text o l hello set _ s _ text _ (g.asked {reply} {then} {mid} {now} statement runs not_run is_asked answers) rows =
+    g.asked statement runs not_run is_asked (unshown_client o l hello set then mid now statement reply answers rows)
+unshown_text o l hello set _ s _ text _ (g.unread runs not_run) rows = absurd rows
 
 -- ---- what is kept
 
@@ -252,6 +263,11 @@ status_is o p _ _ (stands.bound is) = refl
 
 pub kept_status : (o : Opening) (p : PassView Entry) (kept : Option OpenView) (s : PassAndTransaction) → IsKept o p kept s → is_some kept ≡ is_some s.tx
 kept_status o p kept s is = status_is o p kept s.tx is.1
+
+-- where autocommit is off and none is kept, one is needed
+pub needs_one : (o : Opening) (hello : Hello) (set : Settings) (p : PassView Entry) (kept : Option OpenView) (s : PassAndTransaction) → kept ≡ None → set.autocommit ≡ false
+    → IsKept o p kept s → NeedsOne (terms_of o hello) set s
+needs_one o hello set p kept s none off held = (off, sym (kept_status o p kept s held) ∙ ap (λ (k : Option OpenView). is_some k) none)
 
 -- what a statement gives, from whatever was kept
 pub gives : (o : Opening) (p q : PassView Entry) (kept then : Option OpenView) (R : PassAndTransaction → PassAndTransaction → Type 0)
@@ -292,6 +308,16 @@ then_leads o p q r kept mid then R T U first second join = λ s held.
     let one = first s held in
     let two = second one.0 one.1 in
     (two.0, two.1, join s one.0 two.0 one.2 two.2)
+
+-- a text after BEGIN
+pub begun_then : (o : Opening) (l : Limits) (hello : Hello) (set : Settings) (p q r : PassView Entry) (kept mid then : Option OpenView) (text : List ℕ) (outcome : Outcome)
+    → kept ≡ None → set.autocommit ≡ false → OpensOne text → LeadsKept o p kept q mid (λ s now. Means o l s (codes "BEGIN") (Count 0) now)
+    → LeadsKept o q mid r then (λ s now. Means o l s text outcome now)
+    → LeadsKept o p kept r then (λ s now. RunsText (terms_of o hello) (Means o l) set s text outcome now)
+begun_then o l hello set p q r kept mid then text outcome none off opens begins runs = λ s held.
+    let one = begins s held in
+    let two = runs one.0 one.1 in
+    (two.0, two.1, g.after_begin (needs_one o hello set p kept s none off held) opens one.2 two.2)
 
 -- a query's outcome, told under the status that is kept then
 pub one_query_or_refusal : (o : Opening) (l : Limits) (hello : Hello) (set after : Settings) (p q : PassView Entry) (kept then : Option OpenView) (payload : Payload)

@@ -1,9 +1,12 @@
--- What a text gives its client: what it means over the tables, or, where it is no SQL that is run, what the session answers by itself to what
--- the text asks of a server.
+-- What a text gives its client: what it means over the tables, in a transaction that is opened first where autocommit is off; or, where it is
+-- no SQL that is run, what the session answers by itself to what the text asks of a server.
 use Rattle.std.specs.Prelude.{◌≡◌, ℕ, Bool, true, false, List, [], ◌∷◌, ◌++◌, codes, Some, None}
 use Rattle.vt_value.specs.declared.refusal.Refusal.{Refusal}
 use Rattle.vt_value.specs.declared.refusal.Refusal.TheVariants as r
 use Rattle.vt_value.specs.Values.{Row}
+use Rattle.sql_tree.specs.declared.Statement.{Statement}
+use Rattle.sql_tree.specs.declared.Statement.TheVariants.{Select, Insert, Update, Delete}
+use Rattle.sql_parser.specs.Grammar.{Reads}
 use Rattle.vschema.specs.declared.schema.VSchema.{VSchema}
 use Rattle.resultset.specs.declared.Column as R
 use Rattle.resultset.specs.declared.Kind.TheVariants.{VarBinary}
@@ -48,12 +51,14 @@ pub data TellsAnswer : ClientAnswer → Outcome → Type 0 where
   untold : {names : List (List ℕ)} {rows : List Row} → TellsAnswer (a.Rows names rows) (Refused r.OutOfMemory)
   refused : {why : Refusal} → TellsAnswer (a.Refused why) (Refused why)
 
--- What a statement gives that the session answers by itself, and what holds for commands then. What is set holds anyway; autocommit can be set
--- to what it is.
+-- ---- statements that need no table
+
+-- What a statement gives that the session answers by itself, and what holds for commands then. Settings hold anyway; autocommit may be what it
+-- is set to, and may be turned off, which leaves an open transaction open.
 pub data TellsClient (schema : VSchema) (hello : Hello) (set : Settings) : ClientStatement → Outcome → Settings → Type 0 where
   holds : TellsClient schema hello set (Set None) (Count 0) set
   stays : {on : Bool} → set.autocommit ≡ on → TellsClient schema hello set (Set (Some on)) (Count 0) set
-  not_turned : {on : Bool} → (set.autocommit ≡ on → ⊥) → TellsClient schema hello set (Set (Some on)) (Refused r.NotSupported) set
+  turned_off : TellsClient schema hello set (Set (Some false)) (Count 0) (record set { autocommit = false })
   not_supported : TellsClient schema hello set NotSupported (Refused r.NotSupported) set
   used : {name : List ℕ} {place : ℕ} → keyspace_named schema.keyspaces name ≡ Some place
       → TellsClient schema hello set (Use name) (Count 0) (record set { keyspace = Some place })
@@ -62,11 +67,46 @@ pub data TellsClient (schema : VSchema) (hello : Hello) (set : Settings) : Clien
       → TellsAnswer answer outcome → TellsClient schema hello set statement outcome set
   no_memory : {statement : ClientStatement} → has_client_answer statement ≡ true → TellsClient schema hello set statement (Refused r.OutOfMemory) set
 
--- START TRANSACTION with what each transaction here has is BEGIN.
+-- What a statement gives that asks something of the server. START TRANSACTION with what each transaction here has is BEGIN. Autocommit that is
+-- turned on commits an open transaction as COMMIT does; where that is refused it stays off.
 pub data AnswersClient {S : Type 0} (terms : Terms S) (May : S → List ℕ → Outcome → S → Type 0) (set : Settings) (s : S) : ClientStatement → Outcome → Settings → S → Type 0 where
   begun : {outcome : Outcome} {now : S} → May s (codes "BEGIN") outcome now → AnswersClient terms May set s Begin outcome set now
+  turned_on : set.autocommit ≡ false → terms.is_open s ≡ false
+      → AnswersClient terms May set s (Set (Some true)) (Count 0) (record set { autocommit = true }) s
+  committed : {now : S} → set.autocommit ≡ false → terms.is_open s ≡ true → May s (codes "COMMIT") (Count 0) now
+      → AnswersClient terms May set s (Set (Some true)) (Count 0) (record set { autocommit = true }) now
+  not_committed : {why : Refusal} {now : S} → set.autocommit ≡ false → terms.is_open s ≡ true → May s (codes "COMMIT") (Refused why) now
+      → AnswersClient terms May set s (Set (Some true)) (Refused why) set now
   by_itself : {statement : ClientStatement} {outcome : Outcome} {then : Settings} → TellsClient terms.schema terms.hello set statement outcome then
       → AnswersClient terms May set s statement outcome then s
+
+-- ---- texts over the tables
+
+-- a statement that opens a transaction, where autocommit is off and none is open
+abbrev pub opens_one : Statement → Bool
+opens_one (Select q) = true
+opens_one (Insert w) = true
+opens_one (Update w) = true
+opens_one (Delete w) = true
+opens_one _ = false
+
+-- the text is such a statement
+abbrev pub OpensOne : List ℕ → Type 0
+OpensOne text = (statement : Statement) × Reads text statement × (opens_one statement ≡ true)
+
+-- autocommit is off, and no transaction is open
+abbrev pub NeedsOne : {S : Type 0} → Terms S → Settings → S → Type 0
+NeedsOne terms set s = (set.autocommit ≡ false) × (terms.is_open s ≡ false)
+
+-- What a text gives that is run over the tables, and what the session has then seen. With autocommit off one that opens a transaction gives,
+-- where none is open, what it gives after BEGIN, or BEGIN's refusal. It may be that there is no memory to read whether it opens one.
+pub data RunsText {S : Type 0} (terms : Terms S) (May : S → List ℕ → Outcome → S → Type 0) (set : Settings) (s : S) (text : List ℕ) : Outcome → S → Type 0 where
+  alone : {outcome : Outcome} {now : S} → (NeedsOne terms set s → OpensOne text → ⊥) → May s text outcome now → RunsText terms May set s text outcome now
+  after_begin : {outcome : Outcome} {mid now : S} → NeedsOne terms set s → OpensOne text → May s (codes "BEGIN") (Count 0) mid → May mid text outcome now
+      → RunsText terms May set s text outcome now
+  not_begun : {why : Refusal} {now : S} → NeedsOne terms set s → OpensOne text → May s (codes "BEGIN") (Refused why) now
+      → RunsText terms May set s text (Refused why) now
+  not_read : NeedsOne terms set s → RunsText terms May set s text (Refused r.OutOfMemory) s
 
 -- a text is refused that isn't SQL over tables, or none that is run
 abbrev pub is_not_run : Outcome → Bool
@@ -77,8 +117,8 @@ is_not_run _ = false
 -- What a text gives, what holds for commands then, and what the session has then seen. A text that isn't run and asks something of the
 -- server is answered that. Where there is no memory to read what it asks, that is told.
 pub data GivesText {S : Type 0} (terms : Terms S) (May : S → List ℕ → Outcome → S → Type 0) (set : Settings) (s : S) (text : List ℕ) : Outcome → Settings → S → Type 0 where
-  run : {outcome : Outcome} {now : S} → May s text outcome now → (is_not_run outcome ≡ true → (statement : ClientStatement) → Asks text statement → ⊥)
+  run : {outcome : Outcome} {now : S} → RunsText terms May set s text outcome now → (is_not_run outcome ≡ true → (statement : ClientStatement) → Asks text statement → ⊥)
       → GivesText terms May set s text outcome set now
-  asked : {outcome reply : Outcome} {then : Settings} {mid now : S} (statement : ClientStatement) → May s text outcome mid → is_not_run outcome ≡ true
+  asked : {outcome reply : Outcome} {then : Settings} {mid now : S} (statement : ClientStatement) → RunsText terms May set s text outcome mid → is_not_run outcome ≡ true
       → Asks text statement → AnswersClient terms May set mid statement reply then now → GivesText terms May set s text reply then now
-  unread : {outcome : Outcome} {now : S} → May s text outcome now → is_not_run outcome ≡ true → GivesText terms May set s text (Refused r.OutOfMemory) set now
+  unread : {outcome : Outcome} {now : S} → RunsText terms May set s text outcome now → is_not_run outcome ≡ true → GivesText terms May set s text (Refused r.OutOfMemory) set now

@@ -10,6 +10,7 @@ mod login;
 mod own_answers;
 mod reply;
 mod standing;
+mod texts;
 mod told;
 
 pub use answers::answer_fed;

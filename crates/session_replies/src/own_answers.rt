@@ -1,10 +1,11 @@
 //! What the session answers by itself, without its tables.
-ghost use Rattle.std.specs.Prelude.{◌≡◌, ◌≢◌, true, is_some, IfOk, IfSome};
+ghost use Rattle.std.specs.Prelude.{◌≡◌, ◌≢◌, ◌↔◌, true, false, is_some, IsNone, IfOk, IfSome};
 ghost use Rattle.vschema.specs.declared.schema.VSchema.{VSchema};
 ghost use Rattle.resultset.specs.declared.Outcome.{Outcome};
 ghost use Rattle.client_statements.specs.Answers.{has_client_answer, IsClientAnswer};
 ghost use Rattle.session_replies.specs.declared.hello.Hello.{Hello};
 ghost use Rattle.session_replies.specs.Given.{DefinesText, AllTexts, facts_of, TellsAnswer, TellsClient, is_not_run};
+ghost use Rattle.session_replies.specs.inner.Tellings.{turns_on};
 
 use crate::hello::Hello;
 use crate::login::keyspace_named;
@@ -18,14 +19,28 @@ use std::alloc::{AllocError, Global};
 use vschema::VSchema;
 use vt_value::{Items, Refusal, Row};
 
-/// Whether a text was refused that isn't SQL over tables, or none that is run.
-pub fn is_not_run(outcome: &Told) -> bool
-    ensures { result ≡ is_not_run outcome.now }
+/// The refusal of a text that isn't SQL over tables, or none that is run.
+pub fn not_run(outcome: &Told) -> Option<Refusal>
+    ensures run { IsNone result ↔ (is_not_run outcome.now ≡ false) }
+    ensures refused { IfSome result (λ why. outcome.now ≡ Outcome.Refused why) }
 {
-    matches!(
-        outcome.telling,
-        Telling::Refused(Refusal::SyntaxError | Refusal::NotSupported)
-    )
+    match outcome.telling {
+        Telling::Refused(Refusal::SyntaxError) => Some(Refusal::SyntaxError),
+        Telling::Refused(Refusal::NotSupported) => Some(Refusal::NotSupported),
+        _ => None,
+    }
+}
+
+/// Whether a statement turns autocommit on that is off.
+pub fn turns_on(settings: Settings, statement: &ClientStatement) -> bool
+    ensures { result ≡ turns_on settings statement.now }
+{
+    match statement {
+        ClientStatement::Set {
+            autocommit: Some(true),
+        } => !settings.autocommit,
+        _ => false,
+    }
 }
 
 /// A refusal, as its client is told it.
@@ -38,7 +53,7 @@ pub fn refused(refusal: Refusal) -> Told
 }
 
 /// That it is done.
-fn done() -> Told
+pub fn done() -> Told
     ensures { result ≡ Outcome.Count 0 }
 {
     Told {
@@ -141,14 +156,14 @@ fn told(
     }
 }
 
-/// What SET gives.
-fn set(settings: Settings, autocommit: Option<bool>) -> Told
-    ensures { (schema : VSchema) (hello : Hello) → TellsClient schema hello settings (ClientStatement.Set autocommit) result settings }
+/// What SET gives, and what then holds for commands.
+fn set(settings: Settings, autocommit: Option<bool>) -> (Told, Settings)
+    requires { turns_on settings (ClientStatement.Set autocommit) ≡ false }
+    ensures { (schema : VSchema) (hello : Hello) → TellsClient schema hello settings (ClientStatement.Set autocommit) result.0 result.1 }
 {
     match autocommit {
-        None => done(),
-        Some(on) if on == settings.autocommit => done(),
-        Some(_) => refused(Refusal::NotSupported),
+        None => (done(), settings),
+        Some(on) => (done(), settings.with_autocommit(on)),
     }
 }
 
@@ -177,12 +192,13 @@ pub fn own_answer(
     settings: Settings,
     statement: &ClientStatement,
 ) -> (Told, Settings)
-    requires { statement.now ≢ ClientStatement.Begin }
+    requires begins { statement.now ≢ ClientStatement.Begin }
+    requires turns_on { turns_on settings statement.now ≡ false }
     ensures { TellsClient schema.now hello.now settings statement.now result.0 result.1 }
 {
     match statement {
         ClientStatement::Begin => unreachable!(),
-        ClientStatement::Set { autocommit } => (set(settings, *autocommit), settings),
+        ClientStatement::Set { autocommit } => set(settings, *autocommit),
         ClientStatement::NotSupported => (refused(Refusal::NotSupported), settings),
         ClientStatement::Use(name) => used(schema, settings, name.as_slice()),
         ClientStatement::Select(_)

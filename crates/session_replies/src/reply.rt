@@ -2,33 +2,31 @@ ghost use Rattle.std.specs.Prelude.{◌≡◌, ℕ, ◌+◌, ◌≤◌, ◌⊎�
 ghost use Rattle.std.specs.List.{concat};
 ghost use Rattle.shard_calls.specs.Pendings.{IsOf};
 ghost use Rattle.mysql_packet.specs.Frames.{frame};
-ghost use Rattle.mysql_message.specs.Messages.{ok_payload, err_payload, statistics_payload};
+ghost use Rattle.mysql_packet.specs.declared.framer.Payload.{Payload};
+ghost use Rattle.mysql_message.specs.Messages.{query, command_of, ok_payload, err_payload, statistics_payload};
 ghost use Rattle.resultset.specs.declared.Outcome.{Outcome};
 ghost use Rattle.resultset.specs.Encoding.{encoded, behind_rows};
-ghost use Rattle.session_replies.specs.Columns.{AreColumns};
-ghost use Rattle.session_replies.specs.Outcomes.{Means, Shows, HasRows, terms_of};
+ghost use Rattle.session_replies.specs.Outcomes.{Means, terms_of};
 ghost use Rattle.session_replies.specs.inner.Outcomes.{LeadsKept, IsRows};
 ghost use Rattle.session_replies.specs.Logins.{keyspace_named};
+ghost use Rattle.session_replies.specs.Packets.{reply_number};
 ghost use Rattle.session_replies.specs.Terms.{status_flags};
-ghost use Rattle.session_replies.specs.Given.{AnswersClient, GivesText};
 ghost use Rattle.session_replies.specs.Talk.{AnswersPayload, set_end_of};
 ghost use Rattle.session_replies.specs.inner.Replies.{reply_bytes};
 
-use crate::columns::columns_of;
 use crate::end::End;
 use crate::hello::Hello;
 use crate::login::{keyspace_named, put_answer, put_response};
-use crate::own_answers::{is_not_run, own_answer, refused};
 use crate::standing::{Phase, Settings, Standing, first_number};
+use crate::texts::given;
 use crate::told::{ShownSet, Telling, Told};
 use bytes::BytesMut;
-use client_statements::{ClientStatement, read};
 use journal::{Naming, Pass};
 use mysql_handshake::{DEPRECATE_EOF, is_set};
 use mysql_message::{Command, put_eof, put_err, put_ok, put_set_end, put_statistics, read_command};
 use mysql_packet::Payload;
 use resultset::{Chunks, SetEnd, encode_rows};
-use route_engine::{Answer, Engine, Gate, Selected, Tx};
+use route_engine::{Engine, Gate, Tx};
 use shard::{ShardLaw, World};
 use std::alloc::Global;
 use std::sync::Wait;
@@ -77,125 +75,6 @@ pub fn put_pong(number: u8, status: u16, reply: &mut BytesMut)
     ensures room { REPLY_ROOM ≤ length reply.new.items + reply.new.spare }
 {
     let _ = put_ok(number, 0, status, reply).unwrap();
-}
-
-fn result_set(alloc: Global, schema: &VSchema, selected: Selected) -> Result<ShownSet, Refusal>
-    ensures columns { IfOk result (λ set. AreColumns schema.now selected.table selected.join selected.items selected.qualified set.columns) }
-    ensures rows { IfOk result (λ set. set.rows ≡ selected.rows) }
-    ensures err { IfErr result (λ e. e ≡ Refusal.OutOfMemory) }
-{
-    let columns = columns_of(
-        alloc,
-        schema,
-        selected.table,
-        selected.join,
-        selected.items.as_slice(),
-        selected.qualified.as_slice(),
-    )?;
-    Ok(ShownSet {
-        columns,
-        rows: selected.rows,
-    })
-}
-
-/// An answer as its client is told it, or, where there is no memory for rows, the refusal that says so.
-fn shown(alloc: Global, schema: &VSchema, answer: Answer) -> Told
-    ensures { Shows schema.now answer result ⊎ (HasRows answer × (result ≡ Outcome.Refused Refusal.OutOfMemory)) }
-{
-    match answer {
-        Answer::Count(count) => Told {
-            telling: Telling::Count(count),
-        },
-        Answer::Rows(selected) => match result_set(alloc, schema, selected) {
-            Ok(set) => Told {
-                telling: Telling::Rows(set),
-            },
-            Err(refusal) => Told {
-                telling: Telling::Refused(refusal),
-            },
-        },
-    }
-}
-
-/// What the text of a statement gives its client.
-fn outcome_of<W: World + Send + Sync, J: Naming + Send + Sync, G: Gate>(
-    rt: &(impl Threads + Wait + Sync),
-    alloc: Global,
-    engine: &Engine<W, J, G>,
-    pass: &mut Pass<ShardLaw<W>, J>,
-    tx: &mut Tx<W, J>,
-    text: &[u8],
-) -> Told
-    requires session { IsSome pass.old.session }
-    requires tx { IsOf W.opening tx.old pass.old }
-    ensures means { LeadsKept W.opening pass.old tx.old pass.new tx.new (λ s now. Means W.opening W.limits s text.now result now) }
-    ensures tx { IsOf W.opening tx.new pass.new }
-    ensures session { pass.new.session ≡ pass.old.session }
-{
-    match engine.execute(rt, alloc, pass, tx, text) {
-        Ok(reply) => shown(alloc, engine.schema(), reply.answer),
-        Err(refusal) => Told {
-            telling: Telling::Refused(refusal),
-        },
-    }
-}
-
-/// What a statement gives that asks something of the server, and what then holds for commands.
-fn statement_outcome<W: World + Send + Sync, J: Naming + Send + Sync, G: Gate>(
-    rt: &(impl Threads + Wait + Sync),
-    alloc: Global,
-    engine: &Engine<W, J, G>,
-    pass: &mut Pass<ShardLaw<W>, J>,
-    tx: &mut Tx<W, J>,
-    hello: &Hello,
-    settings: Settings,
-    statement: &ClientStatement,
-) -> (Told, Settings)
-    requires session { IsSome pass.old.session }
-    requires tx { IsOf W.opening tx.old pass.old }
-    ensures gives { LeadsKept W.opening pass.old tx.old pass.new tx.new
-        (λ s now. AnswersClient (terms_of W.opening hello.now) (Means W.opening W.limits) settings s statement.now result.0 result.1 now) }
-    ensures tx { IsOf W.opening tx.new pass.new }
-    ensures session { pass.new.session ≡ pass.old.session }
-{
-    match statement {
-        ClientStatement::Begin => {
-            let begun = outcome_of(rt, alloc, engine, pass, tx, b"BEGIN");
-            (begun, settings)
-        }
-        _ => own_answer(alloc, engine.schema(), hello, settings, statement),
-    }
-}
-
-/// What a text gives its client, and what then holds for commands. A text that isn't run may ask something of the server.
-fn given<W: World + Send + Sync, J: Naming + Send + Sync, G: Gate>(
-    rt: &(impl Threads + Wait + Sync),
-    alloc: Global,
-    engine: &Engine<W, J, G>,
-    pass: &mut Pass<ShardLaw<W>, J>,
-    tx: &mut Tx<W, J>,
-    hello: &Hello,
-    settings: Settings,
-    text: &[u8],
-) -> (Told, Settings)
-    requires session { IsSome pass.old.session }
-    requires tx { IsOf W.opening tx.old pass.old }
-    ensures gives { LeadsKept W.opening pass.old tx.old pass.new tx.new
-        (λ s now. GivesText (terms_of W.opening hello.now) (Means W.opening W.limits) settings s text.now result.0 result.1 now) }
-    ensures tx { IsOf W.opening tx.new pass.new }
-    ensures session { pass.new.session ≡ pass.old.session }
-{
-    let outcome = outcome_of(rt, alloc, engine, pass, tx, text);
-    if !is_not_run(&outcome) {
-        return (outcome, settings);
-    }
-    match read(alloc, text) {
-        Ok(Some(statement)) => {
-            statement_outcome(rt, alloc, engine, pass, tx, hello, settings, &statement)
-        }
-        Ok(None) => (outcome, settings),
-        Err(_) => (refused(Refusal::OutOfMemory), settings),
-    }
 }
 
 fn put_count(number: u8, count: u64, status: u16, reply: &mut BytesMut)
@@ -371,6 +250,37 @@ fn put_option(several: bool, end: SetEnd, number: u8, status: u16, reply: &mut B
     }
 }
 
+/// The reply to a query, and how the session then stands.
+fn put_query<W: World + Send + Sync, J: Naming + Send + Sync, G: Gate>(
+    rt: &(impl Threads + Wait + Sync),
+    alloc: Global,
+    engine: &Engine<W, J, G>,
+    pass: &mut Pass<ShardLaw<W>, J>,
+    tx: &mut Tx<W, J>,
+    hello: &Hello,
+    settings: Settings,
+    text: &[u8],
+    number: u8,
+    reply: &mut BytesMut,
+) -> (Standing, Option<Chunks>)
+    requires empty { reply.old.items ≡ [] }
+    requires room { REPLY_ROOM ≤ reply.old.spare }
+    requires session { IsSome pass.old.session }
+    requires tx { IsOf W.opening tx.old pass.old }
+    ensures answers { (payload : Payload) → payload.first ≡ 0 → number ≡ reply_number payload → command_of payload.bytes ≡ Some (query text.now)
+        → LeadsKept W.opening pass.old tx.old pass.new tx.new
+        (λ s now. AnswersPayload (terms_of W.opening hello.now) (Means W.opening W.limits) (Phase.Commands settings) s payload (reply_bytes result.1 reply.new.items) result.0 now) }
+    ensures tx { IsOf W.opening tx.new pass.new }
+    ensures room { REPLY_ROOM ≤ length reply.new.items + reply.new.spare }
+    ensures session { pass.new.session ≡ pass.old.session }
+{
+    let (outcome, then) = given(rt, alloc, engine, pass, tx, hello, settings, text);
+    let end = set_end_of(settings.capabilities);
+    let status = status_of(then.autocommit, tx);
+    let rows = put_outcome(alloc, outcome, end, number, status, reply);
+    (Standing::At(Phase::Commands(then)), rows)
+}
+
 /// The reply to a command whose numbers are right, and how the session then stands. A reply of rows lies in chunks, each other in the buffer.
 fn put_command<W: World + Send + Sync, J: Naming + Send + Sync, G: Gate>(
     rt: &(impl Threads + Wait + Sync),
@@ -411,13 +321,9 @@ fn put_command<W: World + Send + Sync, J: Naming + Send + Sync, G: Gate>(
             let chosen = put_selected(engine.schema(), settings, name, number, status, reply);
             (chosen, None)
         }
-        Ok(Command::Query(text)) => {
-            let (outcome, then) = given(rt, alloc, engine, pass, tx, hello, settings, text);
-            let end = set_end_of(settings.capabilities);
-            let status = status_of(then.autocommit, tx);
-            let rows = put_outcome(alloc, outcome, end, number, status, reply);
-            (Standing::At(Phase::Commands(then)), rows)
-        }
+        Ok(Command::Query(text)) => put_query(
+            rt, alloc, engine, pass, tx, hello, settings, text, number, reply,
+        ),
         Ok(Command::Statistics) => {
             put_line(number, reply);
             (next, None)

@@ -34,6 +34,17 @@ impl Settings {
             keyspace,
         }
     }
+
+    /// The same with autocommit so.
+    pub fn with_autocommit(self, autocommit: bool) -> Settings
+        ensures { result ≡ record self { autocommit = autocommit } }
+    {
+        Settings {
+            capabilities: self.capabilities,
+            autocommit,
+            keyspace: self.keyspace,
+        }
+    }
 }
 
 /// What a session awaits from its client.

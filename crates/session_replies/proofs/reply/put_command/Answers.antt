@@ -1,11 +1,11 @@
-use Rattle.std.proofs.Common.{ℕ, Bool, ap, sym, ◌∙◌}
+use Rattle.std.proofs.Common.{ℕ, Bool, ap, refl, sym, ◌∙◌}
 use Rattle.vt_value.specs.declared.refusal.Refusal.{Refusal}
 use Rattle.mysql_packet.specs.Frames.{frame}
 use Rattle.mysql_message.specs.Messages.{command_of, ok_payload, err_payload}
 use Rattle.resultset.specs.Encoding.{behind_rows}
 use Rattle.session_replies.specs.Packets.{reply_number}
 use Rattle.session_replies.specs.Talk.{set_end_of, status_flags}
-use Rattle.session_replies.proofs.RepliesLemmas.{kept_status, none_stands, one_quit, one_unknown, one_ping, one_line, one_option, one_selected, reset_kept, one_query_or_refusal}
+use Rattle.session_replies.proofs.RepliesLemmas.{kept_status, none_stands, one_quit, one_unknown, one_ping, one_line, one_option, one_selected, reset_kept}
 use Rattle.session_replies.proofs.reply.put_command.Goals as goal
 
 pub returns-in-Ok-Quit-clause-answers : goal.returns-in-Ok-Quit-clause-answers
@@ -40,9 +40,7 @@ returns-in-Ok-Statistics-clause-answers g c =
 pub returns-in-Ok-Query-clause-answers : goal.returns-in-Ok-Query-clause-answers
 returns-in-Ok-Query-clause-answers g c =
     let e = rw c.in-Ok-Query.field-0-is at c.in-Ok-Query.ensures.command in
-    let bytes = rw (c.set_end_of-end.ensures, c.status_of-status-in-Ok-Query.ensures) at c.put_outcome-rows.ensures.bytes in
-    one_query_or_refusal _ _ c.args.hello.now _ _ _ _ _ _ c.args.payload.now _ _ _ c.requires.number (sym (e ∙ ap command_of c.as_slice.ensures))
-    c.given-outcome.ensures.gives bytes
+    c.put_query.ensures.answers c.args.payload.now c.requires.number refl (sym (e ∙ ap command_of c.as_slice.ensures))
 
 pub returns-in-Ok-InitDb-clause-answers : goal.returns-in-Ok-InitDb-clause-answers
 returns-in-Ok-InitDb-clause-answers g c =
@@ -64,7 +62,7 @@ returns-in-Ok-InitDb-clause-answers g c =
 pub returns-in-Ok-MultiStatements-clause-answers : goal.returns-in-Ok-MultiStatements-clause-answers
 returns-in-Ok-MultiStatements-clause-answers g c =
     let e = rw c.in-Ok-MultiStatements.field-0-is at c.in-Ok-MultiStatements.ensures.command in
-    let one = rw c.set_end_of-end-in-Ok-MultiStatements.ensures at c.put_option.ensures.one in
+    let one = rw c.set_end_of-end.ensures at c.put_option.ensures.one in
     λ s held. (
       s,
       held,

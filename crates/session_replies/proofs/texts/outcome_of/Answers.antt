@@ -2,7 +2,7 @@ use Rattle.std.proofs.Common.{◌∙◌}
 use Rattle.session_replies.specs.Outcomes as o
 use Rattle.session_replies.specs.Outcomes.{Means}
 use Rattle.session_replies.proofs.RepliesLemmas.{gives, replied}
-use Rattle.session_replies.proofs.reply.outcome_of.Goals as goal
+use Rattle.session_replies.proofs.texts.outcome_of.Goals as goal
 
 pub returns-in-Ok-clause-means : goal.returns-in-Ok-clause-means
 returns-in-Ok-clause-means g c =

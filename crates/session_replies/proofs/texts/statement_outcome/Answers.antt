@@ -1,5 +1,12 @@
+use Rattle.std.proofs.Common.{sym, ◌∙◌}
 use Rattle.session_replies.specs.Given as x
-use Rattle.session_replies.proofs.reply.statement_outcome.Goals as goal
+use Rattle.session_replies.proofs.TextLemmas.{turning}
+use Rattle.session_replies.proofs.texts.statement_outcome.Goals as goal
+
+pub returns-then-turns_on-clause-gives : goal.returns-then-turns_on-clause-gives
+returns-then-turns_on-clause-gives g c =
+    let is = turning c.args.settings c.args.statement.now (sym c.turns_on.ensures ∙ c.if-turns_on.true) in
+    rw is.0 (c.turned_on.ensures.gives c.args.hello.now)
 
 pub returns-in-Begin-clause-gives : goal.returns-in-Begin-clause-gives
 returns-in-Begin-clause-gives g c = λ s held.

@@ -1,8 +1,8 @@
 use Rattle.std.proofs.Common.{inl, inr, refl}
 use Rattle.session_replies.specs.Outcomes as o
 use Rattle.session_replies.proofs.RepliesLemmas.{shows}
-use Rattle.session_replies.proofs.reply.shown.Goals.{in-Ok, in-Err}
-use Rattle.session_replies.proofs.reply.shown.Goals as goal
+use Rattle.session_replies.proofs.texts.shown.Goals.{in-Ok, in-Err}
+use Rattle.session_replies.proofs.texts.shown.Goals as goal
 
 pub returns-in-Count : goal.returns-in-Count
 returns-in-Count c = rw c.in-Count.is (inl o.count)

@@ -1,0 +1,311 @@
+//! What a text gives its client: over the tables, in a transaction that is opened first where autocommit is off; or what it asks of the server.
+ghost use Rattle.std.specs.Prelude.{◌≡◌, ◌↔◌, ◌⊎◌, ℕ, true, false, Some, None, is_some, IsSome, IsNone, IfOk, IfErr, IfSome, Option, codes};
+ghost use Rattle.shard_calls.specs.Pendings.{IsOf};
+ghost use Rattle.sql_tree.specs.declared.Statement.{Statement};
+ghost use Rattle.resultset.specs.declared.Outcome.{Outcome};
+ghost use Rattle.client_statements.specs.declared.statement.ClientStatement.{ClientStatement};
+ghost use Rattle.session_replies.specs.declared.hello.Hello.{Hello};
+ghost use Rattle.session_replies.specs.declared.standing.Settings.{Settings};
+ghost use Rattle.session_replies.specs.Columns.{AreColumns};
+ghost use Rattle.session_replies.specs.Outcomes.{Means, Shows, HasRows, terms_of};
+ghost use Rattle.session_replies.specs.Given.{opens_one, OpensOne, RunsText, AnswersClient, GivesText};
+ghost use Rattle.session_replies.specs.inner.Outcomes.{LeadsKept, GivesNoRows, AnswersAsked};
+ghost use Rattle.session_replies.specs.inner.Tellings.{turns_on};
+
+use crate::columns::columns_of;
+use crate::hello::Hello;
+use crate::own_answers::{done, not_run, own_answer, refused, turns_on};
+use crate::standing::Settings;
+use crate::told::{ShownSet, Telling, Told};
+use client_statements::{ClientStatement, read};
+use journal::{Naming, Pass};
+use route_engine::{Answer, Engine, Gate, Selected, Tx};
+use shard::{ShardLaw, World};
+use sql_parser::parse;
+use sql_tree::Statement;
+use std::alloc::Global;
+use std::sync::Wait;
+use std::thread::Threads;
+use vschema::VSchema;
+use vt_value::Refusal;
+
+fn result_set(alloc: Global, schema: &VSchema, selected: Selected) -> Result<ShownSet, Refusal>
+    ensures columns { IfOk result (λ set. AreColumns schema.now selected.table selected.join selected.items selected.qualified set.columns) }
+    ensures rows { IfOk result (λ set. set.rows ≡ selected.rows) }
+    ensures err { IfErr result (λ e. e ≡ Refusal.OutOfMemory) }
+{
+    let columns = columns_of(
+        alloc,
+        schema,
+        selected.table,
+        selected.join,
+        selected.items.as_slice(),
+        selected.qualified.as_slice(),
+    )?;
+    Ok(ShownSet {
+        columns,
+        rows: selected.rows,
+    })
+}
+
+/// An answer as its client is told it, or, where there is no memory for rows, the refusal that says so.
+fn shown(alloc: Global, schema: &VSchema, answer: Answer) -> Told
+    ensures { Shows schema.now answer result ⊎ (HasRows answer × (result ≡ Outcome.Refused Refusal.OutOfMemory)) }
+{
+    match answer {
+        Answer::Count(count) => Told {
+            telling: Telling::Count(count),
+        },
+        Answer::Rows(selected) => match result_set(alloc, schema, selected) {
+            Ok(set) => Told {
+                telling: Telling::Rows(set),
+            },
+            Err(refusal) => Told {
+                telling: Telling::Refused(refusal),
+            },
+        },
+    }
+}
+
+/// What the text of a statement gives its client.
+fn outcome_of<W: World + Send + Sync, J: Naming + Send + Sync, G: Gate>(
+    rt: &(impl Threads + Wait + Sync),
+    alloc: Global,
+    engine: &Engine<W, J, G>,
+    pass: &mut Pass<ShardLaw<W>, J>,
+    tx: &mut Tx<W, J>,
+    text: &[u8],
+) -> Told
+    requires session { IsSome pass.old.session }
+    requires tx { IsOf W.opening tx.old pass.old }
+    ensures means { LeadsKept W.opening pass.old tx.old pass.new tx.new (λ s now. Means W.opening W.limits s text.now result now) }
+    ensures tx { IsOf W.opening tx.new pass.new }
+    ensures session { pass.new.session ≡ pass.old.session }
+{
+    match engine.execute(rt, alloc, pass, tx, text) {
+        Ok(reply) => shown(alloc, engine.schema(), reply.answer),
+        Err(refusal) => Told {
+            telling: Telling::Refused(refusal),
+        },
+    }
+}
+
+/// Runs BEGIN where none is open, or COMMIT, which give no rows.
+fn run_command<W: World + Send + Sync, J: Naming + Send + Sync, G: Gate>(
+    rt: &(impl Threads + Wait + Sync),
+    alloc: Global,
+    engine: &Engine<W, J, G>,
+    pass: &mut Pass<ShardLaw<W>, J>,
+    tx: &mut Tx<W, J>,
+    command: &[u8],
+) -> Result<(), Refusal>
+    requires session { IsSome pass.old.session }
+    requires tx { IsOf W.opening tx.old pass.old }
+    requires no_rows { GivesNoRows command.now tx.old }
+    ensures ok { IfOk result (λ _. LeadsKept W.opening pass.old tx.old pass.new tx.new (λ s now. Means W.opening W.limits s command.now (Outcome.Count 0) now)) }
+    ensures err { IfErr result (λ why. LeadsKept W.opening pass.old tx.old pass.new tx.new (λ s now. Means W.opening W.limits s command.now (Outcome.Refused why) now)) }
+    ensures tx { IsOf W.opening tx.new pass.new }
+    ensures session { pass.new.session ≡ pass.old.session }
+{
+    match engine.execute(rt, alloc, pass, tx, command) {
+        Ok(reply) => {
+            drop(reply);
+            Ok(())
+        }
+        Err(why) => Err(why),
+    }
+}
+
+/// What a text gives after BEGIN, or BEGIN's refusal.
+fn after_begin<W: World + Send + Sync, J: Naming + Send + Sync, G: Gate>(
+    rt: &(impl Threads + Wait + Sync),
+    alloc: Global,
+    engine: &Engine<W, J, G>,
+    pass: &mut Pass<ShardLaw<W>, J>,
+    tx: &mut Tx<W, J>,
+    text: &[u8],
+) -> Told
+    requires session { IsSome pass.old.session }
+    requires tx { IsOf W.opening tx.old pass.old }
+    requires closed { tx.old ≡ None }
+    ensures runs { (hello : Hello) (set : Settings) → set.autocommit ≡ false → OpensOne text.now → LeadsKept W.opening pass.old tx.old pass.new tx.new
+        (λ s now. RunsText (terms_of W.opening hello) (Means W.opening W.limits) set s text.now result now) }
+    ensures tx { IsOf W.opening tx.new pass.new }
+    ensures session { pass.new.session ≡ pass.old.session }
+{
+    match run_command(rt, alloc, engine, pass, tx, b"BEGIN") {
+        Ok(()) => outcome_of(rt, alloc, engine, pass, tx, text),
+        Err(why) => refused(why),
+    }
+}
+
+/// Whether a statement opens a transaction, where autocommit is off and none is open.
+fn opens_one(statement: &Statement) -> bool
+    ensures { result ≡ opens_one statement.now }
+{
+    matches!(
+        statement,
+        Statement::Select(_) | Statement::Insert(_) | Statement::Update(_) | Statement::Delete(_)
+    )
+}
+
+/// Whether a text is such a statement. It is read again to be run.
+fn text_opens_one(alloc: Global, text: &[u8]) -> Result<bool, Refusal>
+    ensures opens { IfOk result (λ opens. opens ≡ true ↔ OpensOne text.now) }
+    ensures err { IfErr result (λ why. why ≡ Refusal.OutOfMemory) }
+{
+    match parse(alloc, text) {
+        Ok(statement) => Ok(opens_one(&statement)),
+        Err(Refusal::OutOfMemory) => Err(Refusal::OutOfMemory),
+        Err(_) => Ok(false),
+    }
+}
+
+/// Whether a transaction is opened before the text is run.
+fn opens_first<W: World, J: Naming>(
+    alloc: Global,
+    commits: bool,
+    tx: &Tx<W, J>,
+    text: &[u8],
+) -> Result<bool, Refusal>
+    ensures opens { IfOk result (λ opens. opens ≡ true ↔ ((commits ≡ false) × (tx.now ≡ None) × OpensOne text.now)) }
+    ensures err { IfErr result (λ why. (why ≡ Refusal.OutOfMemory) × (commits ≡ false) × (tx.now ≡ None)) }
+{
+    if commits || tx.is_open() {
+        return Ok(false);
+    }
+    text_opens_one(alloc, text)
+}
+
+/// What a text gives that is run over the tables.
+fn run_text<W: World + Send + Sync, J: Naming + Send + Sync, G: Gate>(
+    rt: &(impl Threads + Wait + Sync),
+    alloc: Global,
+    engine: &Engine<W, J, G>,
+    pass: &mut Pass<ShardLaw<W>, J>,
+    tx: &mut Tx<W, J>,
+    settings: Settings,
+    text: &[u8],
+) -> Told
+    requires session { IsSome pass.old.session }
+    requires tx { IsOf W.opening tx.old pass.old }
+    ensures runs { (hello : Hello) → LeadsKept W.opening pass.old tx.old pass.new tx.new
+        (λ s now. RunsText (terms_of W.opening hello) (Means W.opening W.limits) settings s text.now result now) }
+    ensures tx { IsOf W.opening tx.new pass.new }
+    ensures session { pass.new.session ≡ pass.old.session }
+{
+    match opens_first(alloc, settings.autocommit, tx, text) {
+        Ok(true) => after_begin(rt, alloc, engine, pass, tx, text),
+        Ok(false) => outcome_of(rt, alloc, engine, pass, tx, text),
+        Err(why) => refused(why),
+    }
+}
+
+/// What turning autocommit on gives, and what then holds for commands. It commits an open transaction, and stays off where that is refused.
+fn turned_on<W: World + Send + Sync, J: Naming + Send + Sync, G: Gate>(
+    rt: &(impl Threads + Wait + Sync),
+    alloc: Global,
+    engine: &Engine<W, J, G>,
+    pass: &mut Pass<ShardLaw<W>, J>,
+    tx: &mut Tx<W, J>,
+    settings: Settings,
+) -> (Told, Settings)
+    requires session { IsSome pass.old.session }
+    requires tx { IsOf W.opening tx.old pass.old }
+    requires off { settings.autocommit ≡ false }
+    ensures gives { (hello : Hello) → LeadsKept W.opening pass.old tx.old pass.new tx.new
+        (λ s now. AnswersClient (terms_of W.opening hello) (Means W.opening W.limits) settings s (ClientStatement.Set (Some true)) result.0 result.1 now) }
+    ensures tx { IsOf W.opening tx.new pass.new }
+    ensures session { pass.new.session ≡ pass.old.session }
+{
+    if !tx.is_open() {
+        return (done(), settings.with_autocommit(true));
+    }
+    match run_command(rt, alloc, engine, pass, tx, b"COMMIT") {
+        Ok(()) => (done(), settings.with_autocommit(true)),
+        Err(why) => (refused(why), settings),
+    }
+}
+
+/// What a statement gives that asks something of the server, and what then holds for commands.
+fn statement_outcome<W: World + Send + Sync, J: Naming + Send + Sync, G: Gate>(
+    rt: &(impl Threads + Wait + Sync),
+    alloc: Global,
+    engine: &Engine<W, J, G>,
+    pass: &mut Pass<ShardLaw<W>, J>,
+    tx: &mut Tx<W, J>,
+    hello: &Hello,
+    settings: Settings,
+    statement: &ClientStatement,
+) -> (Told, Settings)
+    requires session { IsSome pass.old.session }
+    requires tx { IsOf W.opening tx.old pass.old }
+    ensures gives { LeadsKept W.opening pass.old tx.old pass.new tx.new
+        (λ s now. AnswersClient (terms_of W.opening hello.now) (Means W.opening W.limits) settings s statement.now result.0 result.1 now) }
+    ensures tx { IsOf W.opening tx.new pass.new }
+    ensures session { pass.new.session ≡ pass.old.session }
+{
+    if turns_on(settings, statement) {
+        return turned_on(rt, alloc, engine, pass, tx, settings);
+    }
+    match statement {
+        ClientStatement::Begin => {
+            let begun = outcome_of(rt, alloc, engine, pass, tx, b"BEGIN");
+            (begun, settings)
+        }
+        _ => own_answer(alloc, engine.schema(), hello, settings, statement),
+    }
+}
+
+/// What a text gives that isn't run, and what then holds for commands: what it asks of the server, or its refusal.
+fn asked<W: World + Send + Sync, J: Naming + Send + Sync, G: Gate>(
+    rt: &(impl Threads + Wait + Sync),
+    alloc: Global,
+    engine: &Engine<W, J, G>,
+    pass: &mut Pass<ShardLaw<W>, J>,
+    tx: &mut Tx<W, J>,
+    hello: &Hello,
+    settings: Settings,
+    text: &[u8],
+    why: Refusal,
+) -> (Told, Settings)
+    requires session { IsSome pass.old.session }
+    requires tx { IsOf W.opening tx.old pass.old }
+    ensures gives { LeadsKept W.opening pass.old tx.old pass.new tx.new
+        (λ s now. AnswersAsked (terms_of W.opening hello.now) (Means W.opening W.limits) settings s text.now (Outcome.Refused why) result.0 result.1 now) }
+    ensures tx { IsOf W.opening tx.new pass.new }
+    ensures session { pass.new.session ≡ pass.old.session }
+{
+    match read(alloc, text) {
+        Ok(Some(statement)) => {
+            statement_outcome(rt, alloc, engine, pass, tx, hello, settings, &statement)
+        }
+        Ok(None) => (refused(why), settings),
+        Err(_) => (refused(Refusal::OutOfMemory), settings),
+    }
+}
+
+/// What a text gives its client, and what then holds for commands.
+pub fn given<W: World + Send + Sync, J: Naming + Send + Sync, G: Gate>(
+    rt: &(impl Threads + Wait + Sync),
+    alloc: Global,
+    engine: &Engine<W, J, G>,
+    pass: &mut Pass<ShardLaw<W>, J>,
+    tx: &mut Tx<W, J>,
+    hello: &Hello,
+    settings: Settings,
+    text: &[u8],
+) -> (Told, Settings)
+    requires session { IsSome pass.old.session }
+    requires tx { IsOf W.opening tx.old pass.old }
+    ensures gives { LeadsKept W.opening pass.old tx.old pass.new tx.new
+        (λ s now. GivesText (terms_of W.opening hello.now) (Means W.opening W.limits) settings s text.now result.0 result.1 now) }
+    ensures tx { IsOf W.opening tx.new pass.new }
+    ensures session { pass.new.session ≡ pass.old.session }
+{
+    let outcome = run_text(rt, alloc, engine, pass, tx, settings, text);
+    match not_run(&outcome) {
+        None => (outcome, settings),
+        Some(why) => asked(rt, alloc, engine, pass, tx, hello, settings, text, why),
+    }
+}
