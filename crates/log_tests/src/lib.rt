@@ -1,0 +1,10 @@
+//! Scenes of the log: lines of records, a queue that is full, a device that fails, what a connection's bytes tell, and the place of a fault.
+#![tactic(auto)]
+
+mod answers;
+mod devices;
+mod lines;
+mod losses;
+mod traffic;
+
+pub use answers::answer;

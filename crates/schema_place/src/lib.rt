@@ -1,0 +1,9 @@
+//! Where the fault of a VSchema lies: which keyspace, table and member have it, or where the text is no JSON.
+#![tactic(auto)]
+
+mod finding;
+mod place;
+mod texts;
+
+pub use finding::place_of;
+pub use place::Place;
