@@ -2,7 +2,6 @@
 ghost use Rattle.std.specs.Prelude.{◌≡◌, ◌≢◌, ◌≤◌};
 ghost use Rattle.vtgate_input.specs.Statuses.{status_of};
 
-use itoa::Buffer;
 use session_replies::Sink;
 use vschema::SchemaFault;
 use vt_value::Refusal;
@@ -46,12 +45,12 @@ pub enum Fault {
     Failed,
 }
 
+// By one write, so that no line of a log comes between.
 fn put_schema_fault<E: Sink>(errors: &mut E, fault: SchemaFault) {
     if let Some(number) = fault.number() {
-        let mut buffer = Buffer::new();
-        let _ = errors.write(b"VSchema V");
-        let _ = errors.write(buffer.format(number).as_bytes());
-        let _ = errors.write(b"\n");
+        let mut line = *b"VSchema V0\n";
+        line[9] = b'0' + number % 10;
+        let _ = errors.write(&line);
     }
 }
 

@@ -11,5 +11,5 @@ pub use fault::{
     refuse_plainly,
 };
 pub use input::read_all;
-pub use setup::{has_too_many, ranges_of, read_schema, schema_of};
+pub use setup::{has_too_many, ranges_of, read_schema, read_schema_or_text, schema_of};
 pub use vschema::Hashing;

@@ -64,14 +64,14 @@ pub fn has_too_many(schema: &VSchema, ranges: &[KeyRange]) -> bool
     has_unsharded(schema)
 }
 
-// Promise: A VSchema is read from the whole input, and fits the ranges; the cause of a wrong call is the word of the shards or the input
-// Refuses: plan_under_half_the_input
-/// The VSchema that the whole input declares, whose statements hash groups by the key, and which fits the ranges.
-pub fn read_schema<I: Source>(
+/// The VSchema that the whole input declares, whose statements hash groups by the key, and which fits the ranges. A text that declares none is
+/// left in `text`.
+pub fn read_schema_or_text<I: Source>(
     alloc: Global,
     hashing: &Hashing,
     ranges: &[KeyRange],
     input: &mut I,
+    text: &mut Vec<u8>,
 ) -> Result<VSchema, Fault>
     requires { (word : List ℕ) × NamesPartition word ranges.now }
     ensures read { IfOk result (λ schema. HasDeclared (I.unread input.old) (I.unread input.new) schema) }
@@ -88,6 +88,28 @@ pub fn read_schema<I: Source>(
                 Ok(schema)
             }
         }
-        Err(fault) => Err(fault),
+        Err(fault) => {
+            *text = bytes;
+            Err(fault)
+        }
     }
+}
+
+// Promise: A VSchema is read from the whole input, and fits the ranges; the cause of a wrong call is the word of the shards or the input
+// Refuses: plan_under_half_the_input
+/// The VSchema that the whole input declares, whose statements hash groups by the key, and which fits the ranges.
+pub fn read_schema<I: Source>(
+    alloc: Global,
+    hashing: &Hashing,
+    ranges: &[KeyRange],
+    input: &mut I,
+) -> Result<VSchema, Fault>
+    requires { (word : List ℕ) × NamesPartition word ranges.now }
+    ensures read { IfOk result (λ schema. HasDeclared (I.unread input.old) (I.unread input.new) schema) }
+    ensures formed { IfOk result (λ schema. IsTrue (is_vschema schema)) }
+    ensures fit { IfOk result (λ schema. FitRanges schema ranges.now) }
+    ensures fault { IfErr result (λ f. status_of f ≡ WRONG_WORDS → (word : List ℕ) → NamesPartition word ranges.now → IsWrong word (I.unread input.old) (I.unread input.new)) }
+{
+    let mut text = Vec::new(alloc);
+    read_schema_or_text(alloc, hashing, ranges, input, &mut text)
 }

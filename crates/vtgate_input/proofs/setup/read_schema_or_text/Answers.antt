@@ -4,7 +4,7 @@ use Rattle.vschema.specs.Meant.{contents, schema_read}
 use Rattle.vtgate_input.specs.Statuses as w
 use Rattle.vtgate_input.specs.Statuses.{IsNoSchema}
 use Rattle.vtgate_input.proofs.Fits.{fits}
-use Rattle.vtgate_input.proofs.setup.read_schema.Goals as goal
+use Rattle.vtgate_input.proofs.setup.read_schema_or_text.Goals as goal
 
 pub returns-in-Ok-clause-fit : goal.returns-in-Ok-clause-fit
 returns-in-Ok-clause-fit g c =
