@@ -13,8 +13,12 @@ my ($driver, $port, $user, $password, $database) = @ARGV;
 sub refused { return "ERROR $DBI::err ($DBI::state): $DBI::errstr" }
 
 my $place = "host=127.0.0.1;port=$port" . ($database ne '' ? ";database=$database" : '');
-my $connection = DBI->connect("DBI:$driver:$place", $user, $password, { PrintError => 0, RaiseError => 0, AutoCommit => 1 });
-if (!$connection) {
+
+# By its defaults, but that errors are printed only here.
+sub connected { return DBI->connect("DBI:$driver:$place", $user, $password, { PrintError => 0 }) }
+
+my $client = connected();
+if (!$client) {
     print refused(), "\n";
     exit 1;
 }
@@ -27,23 +31,37 @@ sub value {
     return "'$it'";
 }
 
+my %calls = (
+    '@ping' => sub { $_[0]->ping },
+    '@off' => sub { $_[0]->{AutoCommit} = 0; !$_[0]->err },
+    '@on' => sub { $_[0]->{AutoCommit} = 1; !$_[0]->err },
+    '@begin' => sub { $_[0]->begin_work },
+    '@commit' => sub { $_[0]->commit },
+    '@rollback' => sub { $_[0]->rollback },
+);
+
 sub run {
-    my ($line) = @_;
-    if ($line eq '@ping') {
-        return $connection->ping ? 'ok 0' : refused();
+    my ($connection, $line) = @_;
+    if ($calls{$line}) {
+        my $is_done = $calls{$line}($connection);
+        return $is_done && $connection->err ? 'in silence ' . refused() : $is_done ? 'ok 0' : refused();
     }
-    my (@values, %choices);
-    if ($line =~ /^\@(bind|prepare) (\[.*?\]) (.*)$/) {
+    my ($how, @values, %choices) = ('');
+    if ($line =~ /^\@(bind|typed|prepare) (\[.*?\]) (.*)$/) {
+        $how = $1;
         @values = @{ decode_json($2) };
         $line = $3;
-        $choices{ lc($driver) . '_server_prepare' } = 1 if $1 eq 'prepare';
+        $choices{ lc($driver) . '_server_prepare' } = 1 if $how eq 'prepare';
     }
     my $statement = $connection->prepare($line, \%choices) or return refused();
-    for my $at (0 .. $#values) {
-        my $kind = defined $values[$at] && $values[$at] =~ /^-?\d+$/ ? SQL_BIGINT : SQL_VARCHAR;
-        $statement->bind_param($at + 1, $values[$at], $kind);
+    if ($how ne 'bind') {
+        for my $at (0 .. $#values) {
+            my $kind = defined $values[$at] && $values[$at] =~ /^-?\d+$/ ? SQL_BIGINT : SQL_VARCHAR;
+            $statement->bind_param($at + 1, $values[$at], $kind);
+        }
+        @values = ();
     }
-    my $count = $statement->execute or return refused();
+    my $count = $statement->execute(@values) or return refused();
     return 'ok ' . ($count + 0) if !$statement->{NUM_OF_FIELDS};
     my @is_text = map { $_ == SQL_VARBINARY || $_ == SQL_VARCHAR } @{ $statement->{TYPE} };
     my @lines;
@@ -54,8 +72,19 @@ sub run {
     return (@lines, 'rows ' . scalar @lines);
 }
 
+# DBD::MariaDB takes texts of characters, DBD::mysql such of bytes.
+binmode STDIN, ':encoding(UTF-8)' if $driver eq 'MariaDB';
+my $other;
 while (my $line = <STDIN>) {
     chomp $line;
-    print join("\n", run($line)), "\n\n";
+    my @lines;
+    if ($line =~ s/^\@other //) {
+        $other //= connected();
+        @lines = run($other, $line);
+        run($other, 'COMMIT');
+    } else {
+        @lines = run($client, $line);
+    }
+    print join("\n", @lines), "\n\n";
 }
-$connection->disconnect;
+$_->disconnect for grep { defined } $client, $other;

@@ -7,19 +7,23 @@ import re
 import subprocess
 
 HERE = pathlib.Path(__file__).resolve().parent
-GO_CLIENT = os.environ["GO_CLIENT"]
+BUILT = pathlib.Path(os.environ.get("CLIENTS", "."))  # the folder of the compiled ones
 PYTHON = "/usr/bin/python3"
 
 
-def read_statements(path):
-    """The statements of the list, each with the lines that it has to show."""
-    statements = []
+def read_steps(path):
+    """The steps of a list, each with the lines that it has to show: those of None, and for some clients others."""
+    steps, names = [], (None,)
     for line in path.read_text().splitlines():
         if line.startswith("    "):
-            statements[-1][1].append(line[4:])
+            for name in names:
+                steps[-1][1].setdefault(name, []).append(line[4:])
+        elif line.startswith("  "):
+            names = tuple(line.strip().rstrip(":").split(", "))
         elif line and line[0] != "#":
-            statements.append((line, []))
-    return statements
+            steps.append((line, {}))
+            names = (None,)
+    return steps
 
 
 def outputs_of_process(process, lines, timeout):
@@ -35,30 +39,40 @@ def outputs_of_process(process, lines, timeout):
 class Library:
     name: str
     commands: tuple  # which lines with @ it runs
+    call: tuple = ()
+    options: tuple = ()  # words after those of the place
+    has_numbers: bool = True  # whether it shows the number of a refusal
     has_states: bool = True  # whether it shows the five bytes of SQLSTATE
     has_quotes: bool = True  # whether it tells texts from numbers
-    call: tuple = ()
+    is_exact: bool = True  # whether its numbers have 64 bits, not the 53 of a double
+    first: tuple = ()  # lines that it runs before the others
 
     def can(self, line):
         return line[0] != "@" or line.split()[0] in self.commands
 
+    def wanted(self, outcomes):
+        """What the library has to show, of the outcomes of a step."""
+        return self.shown(outcomes.get(self.name) or outcomes[None])
+
     def shown(self, outcome):
         """How the library shows an outcome of the list."""
-        if outcome[0].startswith("ERROR"):
-            return [outcome[0] if self.has_states else re.sub(r" \(.{5}\)", "", outcome[0])]
-        if self.has_quotes:
-            return outcome
-        return [line.replace("'", "") for line in outcome[:-1]] + outcome[-1:]
+        if "ERROR" in outcome[0]:
+            pattern = "" if self.has_states else r" \(.{5}\)" if self.has_numbers else r" \d+ \(.{5}\):"
+            return [re.sub(pattern, "", outcome[0])]
+        rows = [line if self.has_quotes else line.replace("'", "") for line in outcome[:-1]]
+        if not self.is_exact:
+            rows = [re.sub(r"(^|(?<=\|))-?\d+(?=\||$)", lambda it: str(int(float(it[0]))), row) for row in rows]
+        return rows + outcome[-1:]
 
     def start(self, port, user, password, database):
         words = [str(port), user, password, database]
-        return subprocess.Popen([*self.call, *words], stdin=subprocess.PIPE, stdout=subprocess.PIPE, stderr=subprocess.STDOUT)
+        return subprocess.Popen([*self.call, *words, *self.options], stdin=subprocess.PIPE, stdout=subprocess.PIPE, stderr=subprocess.STDOUT)
 
     def finish(self, process, lines, timeout=120):
         """The outcomes of the lines: a list of lines for each."""
-        output, _ = outputs_of_process(process, lines, timeout)
-        blocks = output.decode("latin-1").rstrip("\n").split("\n\n")
-        return [block.split("\n") for block in blocks if block]
+        output, _ = outputs_of_process(process, [*self.first, *lines], timeout)
+        blocks = [block.split("\n") for block in output.decode("latin-1").rstrip("\n").split("\n\n") if block]
+        return blocks[len(self.first) :] if len(blocks) > len(self.first) else blocks
 
     def run(self, port, user, password, database, lines):
         return self.finish(self.start(port, user, password, database), lines)
@@ -121,8 +135,103 @@ def outputs_of(typed, output):
     return found
 
 
+def script(program, name, *words):
+    return (program, str(HERE / name), *words)
+
+
+# With their defaults: these run `steps`.
+CALLS = ("@off", "@on", "@begin", "@commit", "@rollback", "@other")
+VALUES = ("@bind", "@typed")
+JAR = "/usr/share/java/mariadb-java-client.jar"
+NODE = ("env", "NODE_PATH=/usr/share/nodejs", "node")
+BY_DEFAULT = (
+    Library("terminal", (*CALLS, "@use"), script(PYTHON, "by_terminal.py"), has_quotes=False),
+    Library("PyMySQL", (*CALLS, *VALUES, "@use", "@ping"), script(PYTHON, "by_python.py", "pymysql"), has_states=False),
+    Library("MySQLdb", (*CALLS, *VALUES, "@use", "@ping"), script(PYTHON, "by_python.py", "MySQLdb"), has_states=False),
+    Library("aiomysql", (*CALLS, *VALUES, "@use", "@ping"), script(PYTHON, "by_python.py", "aiomysql"), has_states=False),
+    Library("SQLAlchemy", (*CALLS, *VALUES), script(PYTHON, "by_python.py", "sqlalchemy"), has_states=False),
+    Library("go-sql-driver", (*CALLS, "@bind", "@ping", "@readonly"), (str(BUILT / "by_go"),), has_states=False),
+    Library("DBD::mysql", (*CALLS, *VALUES, "@ping"), script("perl", "by_dbi.pl", "mysql")),
+    Library("DBD::MariaDB", (*CALLS, *VALUES, "@ping"), script("perl", "by_dbi.pl", "MariaDB")),
+    Library("Connector/J", (*CALLS, *VALUES, "@use", "@ping"), ("java", "-cp", f"{BUILT}:{JAR}", "ByJava")),
+    Library("mysqli", (*CALLS, "@bind", "@use", "@ping", "@readonly"), script("php", "by_php.php", "mysqli")),
+    Library("PDO", (*CALLS, *VALUES), script("php", "by_php.php", "PDO")),
+    Library("mysql2", (*CALLS, "@bind", "@use", "@ping"), script("ruby", "by_ruby.rb")),
+    Library("node mysql", (*CALLS, *VALUES, "@ping"), (*NODE, str(HERE / "by_node.js")), is_exact=False),
+    Library("LuaSQL", CALLS, script("lua5.4", "by_lua.lua"), has_numbers=False, has_states=False, has_quotes=False),
+    Library("C", (*CALLS, "@bind", "@use", "@ping"), (str(BUILT / "by_c"),)),
+    Library("mysqltcl", (*CALLS, "@use", "@ping"), script("tclsh", "by_tcl.tcl"), has_states=False, has_quotes=False),
+    Library("RMySQL", CALLS, script("Rscript", "by_r.R"), has_states=False, is_exact=False),
+)
+
+
+def by_name(name, *commands, options=()):
+    """One of these with autocommit on, and with the options that it needs for values."""
+    library = next(it for it in BY_DEFAULT if it.name == name)
+    return dataclasses.replace(library, commands=(*library.commands, *commands), options=options, first=("@on",))
+
+
+# These run `statements`, and all the rest.
 COMMAND_LINE = CommandLine("mariadb", ("@use",), has_quotes=False)
-PYMYSQL = Library("PyMySQL", ("@use", "@ping", "@bind"), has_states=False, call=(PYTHON, str(HERE / "by_pymysql.py")))
-GO = Library("go-sql-driver", ("@ping", "@bind", "@bytes", "@prepare"), has_states=False, call=(GO_CLIENT,))
-DBD_MYSQL = Library("DBD::mysql", ("@ping", "@bind", "@prepare"), call=("perl", str(HERE / "by_dbi.pl"), "mysql"))
-DBD_MARIADB = Library("DBD::MariaDB", ("@ping", "@bind", "@prepare"), call=("perl", str(HERE / "by_dbi.pl"), "MariaDB"))
+PYMYSQL = by_name("PyMySQL")
+GO = by_name("go-sql-driver", "@typed", "@bytes", "@prepare", options=("?interpolateParams=true",))
+DBD_MYSQL = by_name("DBD::mysql", "@prepare")
+DBD_MARIADB = by_name("DBD::MariaDB", "@prepare")
+# These run `statements` too. SQLAlchemy 1.4 doesn't: it sends COMMIT after each write that isn't in a transaction of its own.
+ALSO = tuple(by_name(it.name) for it in BY_DEFAULT if it.name not in ("PyMySQL", "go-sql-driver", "DBD::mysql", "DBD::MariaDB", "SQLAlchemy"))
+
+# The packages of Debian that each needs.
+PACKAGES = {
+    "mariadb": ("mariadb-client",),
+    "terminal": ("mariadb-client",),
+    "PyMySQL": ("python3-pymysql",),
+    "MySQLdb": ("python3-mysqldb",),
+    "aiomysql": ("python3-aiomysql",),
+    "SQLAlchemy": ("python3-sqlalchemy", "python3-pymysql"),
+    "go-sql-driver": ("golang-go", "golang-github-go-sql-driver-mysql-dev"),
+    "DBD::mysql": ("libdbd-mysql-perl",),
+    "DBD::MariaDB": ("libdbd-mariadb-perl",),
+    "Connector/J": ("libmariadb-java",),
+    "mysqli": ("php-cli", "php-mysql"),
+    "PDO": ("php-cli", "php-mysql"),
+    "mysql2": ("ruby", "ruby-mysql2"),
+    "node mysql": ("nodejs", "node-mysql"),
+    "LuaSQL": ("lua5.4", "lua-sql-mysql"),
+    "C": ("gcc", "libmariadb-dev"),
+    "mysqltcl": ("tcl8.6", "mysqltcl"),
+    "tdbc::mysql": ("tcl8.6", "tcl8.6-tdbc-mysql"),
+    "RMySQL": ("r-base-core", "r-cran-rmysql"),
+}
+
+# How the compiled ones are made.
+C_FLAGS = "$(mariadb_config --cflags) $(mariadb_config --libs)"
+BUILDS = {
+    "go-sql-driver": f"cd {HERE}/go_sql_driver && GO111MODULE=off GOPATH=/usr/share/gocode go build -o {BUILT}/by_go .",
+    "Connector/J": f"javac -d {BUILT} {HERE}/ByJava.java",
+    "C": f"gcc -Wall -Wextra -Werror -O1 {HERE}/by_c.c -o {BUILT}/by_c {C_FLAGS}",
+}
+
+
+def run(*call):
+    return subprocess.run(call, stdout=subprocess.PIPE, stderr=subprocess.STDOUT, text=True)
+
+
+def apt_get(*words):
+    as_root = () if os.geteuid() == 0 else ("sudo",)
+    return run(*as_root, "env", "DEBIAN_FRONTEND=noninteractive", "apt-get", *words)
+
+
+def make_ready():
+    """Installs the packages, and compiles the clients that need it. Returns what went wrong, by the client's name."""
+    lacks = lambda packages: [it for it in packages if run("dpkg", "-s", it).returncode]
+    if lacking := lacks({it for packages in PACKAGES.values() for it in packages}):
+        apt_get("update", "-qq")
+        install = ("install", "-y", "-qq", "--no-install-recommends")
+        if apt_get(*install, *lacking).returncode:
+            for each in lacking:
+                apt_get(*install, each)
+    wrong = {name: f"no package {' '.join(lacking)}" for name, packages in PACKAGES.items() if (lacking := lacks(packages))}
+    for name, command in BUILDS.items():
+        if name not in wrong and (built := run("bash", "-c", command)).returncode:
+            wrong[name] = built.stdout
+    return wrong

@@ -12,13 +12,14 @@ import traceback
 
 import libraries
 import packets
-from libraries import COMMAND_LINE, DBD_MARIADB, DBD_MYSQL, GO, PYMYSQL, PYTHON
+from libraries import ALSO, BY_DEFAULT, COMMAND_LINE, DBD_MARIADB, DBD_MYSQL, GO, NODE, PYMYSQL, PYTHON
 from packets import error_of
 from router import SCHEMA, SHARDS, TOP, USER, Router, free_ports
 
 PASSWORD = "It's a password"
 LIBRARIES = (COMMAND_LINE, PYMYSQL, GO, DBD_MYSQL, DBD_MARIADB)
-STATEMENTS = libraries.read_statements(pathlib.Path(__file__).with_name("statements"))
+STATEMENTS = libraries.read_steps(pathlib.Path(__file__).with_name("statements"))
+STEPS = libraries.read_steps(pathlib.Path(__file__).with_name("steps"))
 DENIED = "ERROR 1045 (28000): access denied"
 UNKNOWN = "ERROR 1049 (42000): no such database"
 SYNTAX = "ERROR 1064 (42000): syntax error"
@@ -43,12 +44,15 @@ def check_all(name, library, statements, outcomes):
     check(f"{name}: number of outcomes", len(outcomes), len(statements))
 
 
-def runs_the_list(program, library, password, database):
+def runs_the_list(program, library, steps, password, database):
     name = f"{library.name} {'with' if password else 'without'} a password"
-    statements = [it for it in STATEMENTS if library.can(it[0])]
+    mine = [(line, library.wanted(outcomes)) for line, outcomes in steps if library.can(line)]
     with Router(program, password) as router:
-        outcomes = library.run(router.port, USER, password, database, [line for line, _ in statements])
-    check_all(name, library, statements, outcomes)
+        outcomes = library.run(router.port, USER, password, database, [line for line, _ in mine])
+    for place, (line, wanted) in enumerate(mine):
+        got = outcomes[place] if place < len(outcomes) else None
+        check(f"{name}: {line[:100]}", got, wanted)
+    check(f"{name}: number of outcomes", len(outcomes), len(mine))
 
 
 def refused_line(library, outcomes):
@@ -76,6 +80,14 @@ def refuses_logins(program, library):
                     check(name, refused_line(library, got), library.shown([wanted])[0])
             got = library.run(router.port, USER, password, "base", ["SELECT n FROM u"])
             check(f"{library.name} after those", got, [["rows 0"]])
+
+
+def refuses_a_wrong_password(program, library):
+    """What a login with a wrong password is shown as; aiomysql tells only that it couldn't connect."""
+    wanted = "Can't connect" if library.name == "aiomysql" else "access denied"
+    with Router(program, PASSWORD) as router:
+        got = library.run(router.port, USER, "wrong", "shop", ["SELEC"])
+    check(f"{library.name} with a wrong password", got and wanted in got[0][0] or got, True)
 
 
 def long_list():
@@ -121,12 +133,26 @@ def answers_mariadb_admin(program):
         check("mariadb-admin ping", (run.returncode, run.stdout), (0, "mysqld is alive\n"))
 
 
-def needs_options(program):
-    """What clients do that can't work, as docs/CLIENTS.md has it."""
+def refuses_what_others_ask(program):
+    """The last line of what else clients ask that is refused, as docs/CLIENTS.md has it."""
     with Router(program) as router:
-        code = f"import pymysql; pymysql.connect(host='127.0.0.1', port={router.port}, user='{USER}')"
-        run = subprocess.run([PYTHON, "-c", code], capture_output=True, text=True)
-        check("PyMySQL without autocommit", run.stderr.splitlines()[-1:], ["pymysql.err.NotSupportedError: (1235, 'not supported')"])
+        place = ("-h", "127.0.0.1", "-P", str(router.port), "-u", USER)
+        tcl = f"tdbc::mysql::connection new -host 127.0.0.1 -port {router.port} -user {USER} -passwd {{}} -db shop"
+        php = f'$it = new mysqli("127.0.0.1", "{USER}", "", "shop", {router.port})'
+        python = f"import sqlalchemy; it = sqlalchemy.create_engine('mysql+pymysql://{USER}@127.0.0.1:{router.port}/shop')"
+        node = f"c = require('mysql').createConnection({{host: '127.0.0.1', port: {router.port}, user: '{USER}', database: 'shop'}})"
+        for wanted, call, text in (
+            ("SET @@SQL_MODE='' */': syntax error (1064)", ("mariadb-dump", "--no-defaults", *place, "shop", "t"), ""),
+            ("Error: 1064 syntax error", ("mariadb-import", "--no-defaults", *place, "shop", "/t"), ""),
+            ("db: shop, table: t: syntax error", ("mariadb-show", "--no-defaults", *place, "shop", "t"), ""),
+            ("unknown command", ("tclsh",), f"package require tdbc::mysql; catch {{[{tcl}] allrows {{SELECT c FROM t}}}} told; puts $told"),
+            ("bool(false)", ("php",), f"<?php {php}; var_dump($it->savepoint('x'));"),
+            ("bool(false)", ("php",), f"<?php {php}; $it->begin_transaction(); var_dump($it->begin_transaction());"),
+            ("TypeError: a bytes-like object is required, not 'str'", (PYTHON,), python + "; sqlalchemy.inspect(it).get_table_names()"),
+            ("ER_UNKNOWN_COM_ERROR: unknown command", NODE, node + "; c.changeUser({user: 'app'}, (e) => {console.log(e.message); c.destroy()})"),
+        ):
+            run = subprocess.run(call, input=text, stdout=subprocess.PIPE, stderr=subprocess.STDOUT, text=True)
+            check(f"{call[0]} {text}", run.stdout.rstrip()[-len(wanted) :], wanted)
 
 
 COLUMNS = """
@@ -242,6 +268,37 @@ def begins_anew(program):
             client.command(packets.RESET_CONNECTION)
             check("COM_RESET_CONNECTION", client.read(), bytes.fromhex("00000002000000"))
             check("no row", texts_of(client.query(b"SELECT id FROM t WHERE id = 7")), [])
+
+
+def tells_autocommit(program):
+    """The status of each reply: 2 while autocommit is on, 1 while a transaction is open."""
+    def ok(count, status):
+        return [bytes([0, count, 0, status, 0, 0, 0])]
+
+    with Router(program) as router:
+        with packets.Client(router.address) as client:
+            client.login(USER.encode(), b"")
+            for text, wanted in (
+                (b"SET autocommit = 0", ok(0, 0)),
+                (b"SET NAMES utf8mb4", ok(0, 0)),
+                (b"INSERT INTO t VALUES (4, 1)", ok(1, 1)),
+                (b"ROLLBACK", ok(0, 0)),
+                (b"UPDATE t SET c = 2 WHERE id = 4", ok(0, 1)),
+                (b"COMMIT", ok(0, 0)),
+                (b"INSERT INTO t VALUES (4, 1)", ok(1, 1)),
+                (b"SET autocommit = 1", ok(0, 2)),
+                (b"UPDATE t SET c = 2 WHERE id = 4", ok(1, 2)),
+                (b"BEGIN", ok(0, 3)),
+                (b"SET autocommit = 0", ok(0, 1)),
+                (b"COMMIT", ok(0, 0)),
+            ):
+                check(f"{text}", client.query(text), wanted)
+            ends = [it for it in client.query(b"SELECT c FROM t WHERE id = 4") if it[0] == 0xFE]
+            check("ends of a result set", ends, [bytes.fromhex("fe00000100")] * 2)
+            check("a write that a reset drops", client.query(b"UPDATE t SET c = 7 WHERE id = 4"), ok(1, 1))
+            client.command(packets.RESET_CONNECTION)
+            check("COM_RESET_CONNECTION with autocommit off", client.read(), ok(0, 2)[0])
+            check("rows after it", texts_of(client.query(b"SELECT c FROM t WHERE id = 4")), [[b"2"]])
 
 
 def texts_of(payloads):
@@ -533,22 +590,36 @@ def main():
     program = sys.argv[1]
     # so that an end from outside stops the routers too
     signal.signal(signal.SIGTERM, lambda *_: sys.exit(1))
+    not_ready = libraries.make_ready()
+    for name, why in not_ready.items():
+        check(name, why, "ready")
     waiting = threading.Thread(target=attempt, args=(closes_silent_clients, program))
     waiting.start()
+    for library in BY_DEFAULT:
+        if library.name not in not_ready:
+            attempt(runs_the_list, program, library, STEPS, PASSWORD, "shop")
+            attempt(refuses_a_wrong_password, program, library)
+    for library in ALSO:
+        if library.name not in not_ready:
+            attempt(runs_the_list, program, library, STATEMENTS, "", "shop")
+            # a line at a terminal has at most 4,096 bytes
+            if library.name != "terminal":
+                attempt(runs_long_texts, program, library)
     for library in LIBRARIES:
-        attempt(runs_the_list, program, library, "", "")
-        attempt(runs_the_list, program, library, PASSWORD, "shop")
+        attempt(runs_the_list, program, library, STATEMENTS, "", "")
+        attempt(runs_the_list, program, library, STATEMENTS, PASSWORD, "shop")
         attempt(refuses_logins, program, library)
         attempt(runs_long_texts, program, library)
     for test in (
         switches_plugins,
         answers_mariadb_admin,
-        needs_options,
+        refuses_what_others_ask,
         defines_columns,
         greets,
         ends_result_sets,
         refuses_packets,
         begins_anew,
+        tells_autocommit,
         serves_two_at_once,
         serves_all_at_once,
         gives_up_gone_clients,

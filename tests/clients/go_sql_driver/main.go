@@ -1,5 +1,5 @@
 // Runs the statements on standard input, one a line, by go-sql-driver, and prints the outcome of each, with an empty line behind it.
-// Usage: PROGRAM PORT USER PASSWORD DATABASE
+// Usage: PROGRAM PORT USER PASSWORD DATABASE [OPTIONS]
 package main
 
 import (
@@ -88,10 +88,51 @@ func bound(line string) (string, []interface{}, error) {
 	return line[end+2:], values, nil
 }
 
-func run(connection *sql.Conn, line string) ([]string, error) {
+// A connection of its own, and its transaction if Begin has begun one.
+type client struct {
+	*sql.Conn
+	transaction *sql.Tx
+}
+
+func connected(place string) (*client, error) {
+	pool, err := sql.Open("mysql", place)
+	if err != nil {
+		return nil, err
+	}
+	connection, err := pool.Conn(context.Background())
+	return &client{connection, nil}, err
+}
+
+// What the driver has a call for.
+func (connection *client) call(line string) (bool, error) {
+	var err error
+	switch line {
+	case "@ping":
+		return true, connection.PingContext(context.Background())
+	case "@begin", "@readonly":
+		connection.transaction, err = connection.BeginTx(context.Background(), &sql.TxOptions{ReadOnly: line == "@readonly"})
+		return true, err
+	}
+	if connection.transaction == nil || line != "@commit" && line != "@rollback" {
+		return false, nil
+	}
+	transaction := connection.transaction
+	connection.transaction = nil
+	if line == "@commit" {
+		return true, transaction.Commit()
+	}
+	return true, transaction.Rollback()
+}
+
+var texts = map[string]string{"@off": "SET autocommit = 0", "@on": "SET autocommit = 1", "@commit": "COMMIT", "@rollback": "ROLLBACK"}
+
+func run(connection *client, line string) ([]string, error) {
 	begin := context.Background()
-	if line == "@ping" {
-		return []string{"ok 0"}, connection.PingContext(begin)
+	if is, err := connection.call(line); is || err != nil {
+		return []string{"ok 0"}, err
+	}
+	if text, is := texts[line]; is {
+		line = text
 	}
 	text, values, err := bound(line)
 	if err != nil {
@@ -123,32 +164,41 @@ func run(connection *sql.Conn, line string) ([]string, error) {
 	return []string{fmt.Sprintf("ok %d", count)}, err
 }
 
+func outcome(connection *client, line string) []string {
+	lines, err := run(connection, line)
+	if err != nil {
+		return []string{refused(err)}
+	}
+	return lines
+}
+
 func main() {
-	port, user, password, database := os.Args[1], os.Args[2], os.Args[3], os.Args[4]
-	// without prepared statements the driver has to put the arguments into the text
-	place := fmt.Sprintf("%s:%s@tcp(127.0.0.1:%s)/%s?interpolateParams=true", user, password, port, database)
-	pool, err := sql.Open("mysql", place)
-	if err == nil {
-		err = pool.Ping()
-	}
+	place := fmt.Sprintf("%s:%s@tcp(127.0.0.1:%s)/%s%s", os.Args[2], os.Args[3], os.Args[1], os.Args[4], strings.Join(os.Args[5:], ""))
+	first, err := connected(place)
 	if err != nil {
 		fmt.Println(refused(err))
 		os.Exit(1)
 	}
-	connection, err := pool.Conn(context.Background())
-	if err != nil {
-		fmt.Println(refused(err))
-		os.Exit(1)
-	}
+	var other *client
 	input := bufio.NewScanner(os.Stdin)
 	input.Buffer(nil, 1<<21)
 	for input.Scan() {
-		lines, err := run(connection, input.Text())
-		if err != nil {
-			lines = []string{refused(err)}
+		line := input.Text()
+		if !strings.HasPrefix(line, "@other ") {
+			fmt.Println(strings.Join(outcome(first, line), "\n") + "\n")
+			continue
 		}
-		fmt.Println(strings.Join(lines, "\n") + "\n")
+		if other == nil {
+			if other, err = connected(place); err != nil {
+				fmt.Println(refused(err))
+				os.Exit(1)
+			}
+		}
+		fmt.Println(strings.Join(outcome(other, line[len("@other "):]), "\n") + "\n")
+		outcome(other, "COMMIT")
 	}
-	connection.Close()
-	pool.Close()
+	// without that it would wait for the end of a transaction
+	if first.transaction == nil {
+		first.Close()
+	}
 }
