@@ -2,6 +2,7 @@
 
 import os
 import pathlib
+import re
 import signal
 import subprocess
 import sys
@@ -10,9 +11,10 @@ import threading
 import time
 import traceback
 
+import asks
 import libraries
 import packets
-from libraries import ALSO, BY_DEFAULT, COMMAND_LINE, DBD_MARIADB, DBD_MYSQL, GO, NODE, PYMYSQL, PYTHON
+from libraries import ALSO, BY_DEFAULT, COMMAND_LINE, DBD_MARIADB, DBD_MYSQL, GO, PYMYSQL, PYTHON
 from packets import error_of
 from router import SCHEMA, SHARDS, TOP, USER, Router, free_ports
 
@@ -133,26 +135,28 @@ def answers_mariadb_admin(program):
         check("mariadb-admin ping", (run.returncode, run.stdout), (0, "mysqld is alive\n"))
 
 
-def refuses_what_others_ask(program):
-    """The last line of what else clients ask that is refused, as docs/CLIENTS.md has it."""
+def shows_what_is_asked(program, not_ready):
+    """The last line of what clients ask besides."""
     with Router(program) as router:
-        place = ("-h", "127.0.0.1", "-P", str(router.port), "-u", USER)
-        tcl = f"tdbc::mysql::connection new -host 127.0.0.1 -port {router.port} -user {USER} -passwd {{}} -db shop"
-        php = f'$it = new mysqli("127.0.0.1", "{USER}", "", "shop", {router.port})'
-        python = f"import sqlalchemy; it = sqlalchemy.create_engine('mysql+pymysql://{USER}@127.0.0.1:{router.port}/shop')"
-        node = f"c = require('mysql').createConnection({{host: '127.0.0.1', port: {router.port}, user: '{USER}', database: 'shop'}})"
-        for wanted, call, text in (
-            ("SET @@SQL_MODE='' */': syntax error (1064)", ("mariadb-dump", "--no-defaults", *place, "shop", "t"), ""),
-            ("Error: 1064 syntax error", ("mariadb-import", "--no-defaults", *place, "shop", "/t"), ""),
-            ("db: shop, table: t: syntax error", ("mariadb-show", "--no-defaults", *place, "shop", "t"), ""),
-            ("unknown command", ("tclsh",), f"package require tdbc::mysql; catch {{[{tcl}] allrows {{SELECT c FROM t}}}} told; puts $told"),
-            ("bool(false)", ("php",), f"<?php {php}; var_dump($it->savepoint('x'));"),
-            ("bool(false)", ("php",), f"<?php {php}; $it->begin_transaction(); var_dump($it->begin_transaction());"),
-            ("TypeError: a bytes-like object is required, not 'str'", (PYTHON,), python + "; sqlalchemy.inspect(it).get_table_names()"),
-            ("ER_UNKNOWN_COM_ERROR: unknown command", NODE, node + "; c.changeUser({user: 'app'}, (e) => {console.log(e.message); c.destroy()})"),
-        ):
-            run = subprocess.run(call, input=text, stdout=subprocess.PIPE, stderr=subprocess.STDOUT, text=True)
-            check(f"{call[0]} {text}", run.stdout.rstrip()[-len(wanted) :], wanted)
+        for name, call, wanted in asks.ASKS:
+            if name not in not_ready:
+                words = [word.replace("PORT", str(router.port)) for word in call]
+                run = subprocess.run(words, stdout=subprocess.PIPE, stderr=subprocess.STDOUT, text=True, timeout=60)
+                check(f"{name}: {words[-1]}", (run.stdout.rstrip("\n").splitlines() or [""])[-1], wanted)
+
+
+def documents_variables(program):
+    """docs/CLIENTS.md has each variable, with what SELECT and SHOW VARIABLES tell of it."""
+    rows = re.findall(r"^\| `(\w+)` \| (.*?) \| ?(.*?) ?\|$", (TOP / "docs" / "CLIENTS.md").read_text(), re.M)
+    told = lambda cell: "" if cell == "empty" else cell.strip("`")
+    selected = {name: told(value) for name, value, _ in rows if name != "autocommit"}
+    shown = {name: told(show or value) for name, value, show in rows}
+    shown["autocommit"] = "ON"
+    with Router(program) as router:
+        steps = ["SHOW VARIABLES", *(f"SELECT @@{name}" for name in selected)]
+        listed, *outcomes = PYMYSQL.run(router.port, USER, "", "shop", steps)
+    check("SHOW VARIABLES", listed, [f"'{name}'|'{value}'" for name, value in shown.items()] + [f"rows {len(shown)}"])
+    check("SELECT of each", outcomes, [[f"'{value}'", "rows 1"] for value in selected.values()])
 
 
 COLUMNS = """
@@ -610,10 +614,11 @@ def main():
         attempt(runs_the_list, program, library, STATEMENTS, PASSWORD, "shop")
         attempt(refuses_logins, program, library)
         attempt(runs_long_texts, program, library)
+    attempt(shows_what_is_asked, program, not_ready)
     for test in (
         switches_plugins,
         answers_mariadb_admin,
-        refuses_what_others_ask,
+        documents_variables,
         defines_columns,
         greets,
         ends_result_sets,
