@@ -2,13 +2,13 @@
 
 from libraries import BUILT, C_FLAGS, JAR, NODE, PYTHON
 
-# How each begins. PORT is the router's port.
-PYMYSQL = "import pymysql; it = pymysql.connect(host='127.0.0.1', port=PORT, user='app', database='shop'); c = it.cursor(); "
+# How each begins. %PORT% is the router's port.
+PYMYSQL = "import pymysql; it = pymysql.connect(host='127.0.0.1', port=%PORT%, user='app', database='shop'); c = it.cursor(); "
 AIOMYSQL = """
 import aiomysql, asyncio
 
 async def read():
-    async with aiomysql.create_pool(host="127.0.0.1", port=PORT, user="app", db="shop", maxsize=1) as pool:
+    async with aiomysql.create_pool(host="127.0.0.1", port=%PORT%, user="app", db="shop", maxsize=1) as pool:
         for _ in range(2):
             async with pool.acquire() as it, it.cursor() as cursor:
                 await cursor.execute("SELECT COUNT(*) FROM u")
@@ -17,32 +17,43 @@ async def read():
 
 asyncio.run(read())
 """
-ALCHEMY = "import sqlalchemy as s; it = s.create_engine('mysql+pymysql://app@127.0.0.1:PORT/shop'); "
+PEEWEE = "import peewee; it = peewee.MySQLDatabase('shop', host='127.0.0.1', port=%PORT%, user='app', password=''); "
+PEEWEE_END = "print(it.execute_sql('SELECT COUNT(*) FROM u').fetchall())"
+DJANGO = """
+from django.conf import settings
+place = {"ENGINE": "django.db.backends.mysql", "NAME": "shop", "HOST": "127.0.0.1", "PORT": "%PORT%", "USER": "app"}
+settings.configure(DATABASES={"default": place})
+from django.db import connection
+connection.cursor().execute("SELECT COUNT(*) FROM u")
+"""
+ODBC = "import pyodbc; pyodbc.connect('DRIVER=libmaodbc.so;SERVER=127.0.0.1;PORT=%PORT%;DATABASE=shop;UID=app').execute('SELECT n FROM u')"
+SEQUEL = "require 'sequel'; it = Sequel.connect(adapter: 'mysql2', host: '127.0.0.1', port: %PORT%, user: 'app', database: 'shop'); p it[:u].all"
+ALCHEMY = "import sqlalchemy as s; it = s.create_engine('mysql+pymysql://app@127.0.0.1:%PORT%/shop'); "
 MAPPED = "T = s.table('t', s.column('id'), s.column('c')); "
-MYSQLI = "$it = new mysqli('127.0.0.1', 'app', '', 'shop', PORT); "
+MYSQLI = "$it = new mysqli('127.0.0.1', 'app', '', 'shop', %PORT%); "
 # the write after a refusal that isn't seen is committed at once, and no rollback undoes it
 UNSEEN = "$it->begin_transaction(MYSQLI_TRANS_START_READ_ONLY); $it->query('INSERT INTO t VALUES (48, 1)'); $it->rollback(); "
 UNSEEN += "echo $it->query('SELECT c FROM t WHERE id = 48')->num_rows;"
 KEPT = MYSQLI.replace("127.0.0.1", "p:127.0.0.1")
-PDO = "$it = new PDO('mysql:host=127.0.0.1;port=PORT;dbname=shop', 'app', ''); "
-RUBY = "require 'mysql2'; it = Mysql2::Client.new(host: '127.0.0.1', port: PORT, username: 'app', database: 'shop'); "
-JS = "const it = require('mysql').createConnection({host: '127.0.0.1', port: PORT, user: 'app', database: 'shop'}); "
+PDO = "$it = new PDO('mysql:host=127.0.0.1;port=%PORT%;dbname=shop', 'app', ''); "
+RUBY = "require 'mysql2'; it = Mysql2::Client.new(host: '127.0.0.1', port: %PORT%, username: 'app', database: 'shop'); "
+JS = "const it = require('mysql').createConnection({host: '127.0.0.1', port: %PORT%, user: 'app', database: 'shop'}); "
 JS_END = ", (e, r) => {console.log(e ? e.message : r); it.destroy()})"
 POOL_END = ", (e, r) => {console.log(e ? e.message : r.length); it.end()})"
 BIG = "it.query('INSERT INTO t VALUES (56, 18446744073709551615)'); it.query('SELECT c FROM t WHERE id = 56', (e, r) => {console.log(r[0].c); it.destroy()})"
 CAUGHT = "process.on('uncaughtException', (e) => {console.log(e.message); process.exit()}); "
-PERL = "use DBI; my $it = DBI->connect('DBI:DRIVER:host=127.0.0.1;port=PORT;database=shop', 'app', '', {RaiseError => 1, PrintError => 0}); "
+PERL = "use DBI; my $it = DBI->connect('DBI:DRIVER:host=127.0.0.1;port=%PORT%;database=shop', 'app', '', {RaiseError => 1, PrintError => 0}); "
 # with RaiseError a refused commit is an error, which it is not by default
 TWO = "my $other = $it->clone; $it->begin_work; $it->do('DELETE FROM t WHERE id = 40'); $other->do('INSERT INTO t VALUES (44, 1)'); "
 TWO += "$other->do('DELETE FROM t WHERE id = 44'); eval { $it->commit }; print $@"
-TDBC = "package require tdbc::mysql; set it [tdbc::mysql::connection new -host 127.0.0.1 -port PORT -user app -passwd {} -db shop]; "
-TCL = "package require mysqltcl; set it [mysql::connect -host 127.0.0.1 -port PORT -user app -password {} -db shop]; "
-R = "suppressMessages(library(RMySQL)); it <- dbConnect(MySQL(), host = '127.0.0.1', port = PORTL, username = 'app', dbname = 'shop'); "
+TDBC = "package require tdbc::mysql; set it [tdbc::mysql::connection new -host 127.0.0.1 -port %PORT% -user app -passwd {} -db shop]; "
+TCL = "package require mysqltcl; set it [mysql::connect -host 127.0.0.1 -port %PORT% -user app -password {} -db shop]; "
+R = "suppressMessages(library(RMySQL)); it <- dbConnect(MySQL(), host = '127.0.0.1', port = %PORT%L, username = 'app', dbname = 'shop'); "
 JAVA = """
 import java.sql.*;
 public class Asks {
     interface Call { void run(Connection it) throws SQLException; }
-    static final String PLACE = "jdbc:mariadb://127.0.0.1:PORT/shop?user=app";
+    static final String PLACE = "jdbc:mariadb://127.0.0.1:%PORT%/shop?user=app";
     static String told(Call call) {
         try (Connection it = DriverManager.getConnection(PLACE)) {
             call.run(it);
@@ -75,11 +86,11 @@ C = """
 #include <stdio.h>
 int main() {
     MYSQL *it = mysql_init(NULL);
-    mysql_real_connect(it, "127.0.0.1", "app", "", "shop", PORT, NULL, 0);
+    mysql_real_connect(it, "127.0.0.1", "app", "", "shop", %PORT%, NULL, 0);
     printf("%d %d %d", mysql_change_user(it, "app", "", "shop"), !mysql_list_fields(it, "t", NULL), mysql_reset_connection(it));
 }
 """
-PLACE = ("--no-defaults", "-h", "127.0.0.1", "-P", "PORT", "-u", "app")
+PLACE = ("--no-defaults", "-h", "127.0.0.1", "-P", "%PORT%", "-u", "app")
 
 
 def python(text):
@@ -104,7 +115,7 @@ def in_c():
 
 
 def go(options):
-    return ("bash", "-c", f'{BUILT}/by_go PORT app "" shop "$0" < /dev/null', options)
+    return ("bash", "-c", f'{BUILT}/by_go %PORT% app "" shop "$0" < /dev/null', options)
 
 
 ASKS = (
@@ -121,6 +132,12 @@ ASKS = (
     ("SQLAlchemy", python(ALCHEMY + MAPPED + "print(it.connect().execute(T.insert().values(id=4, c=1)).rowcount)"), "1"),
     ("SQLAlchemy", python(ALCHEMY + MAPPED + "it.connect().execute(T.delete().where(T.c.id == 4))"), "(Background on this error at: https://sqlalche.me/e/14/f405)"),
     ("SQLAlchemy", python(ALCHEMY + "s.inspect(it).get_table_names()"), "TypeError: a bytes-like object is required, not 'str'"),
+    ("peewee", python(PEEWEE + PEEWEE_END), "peewee.NotSupportedError: (1235, 'not supported')"),
+    ("peewee", python(PEEWEE.replace("'shop'", "'shop', sql_mode=''") + PEEWEE_END), "((0,),)"),
+    ("Django", python(DJANGO), "django.db.utils.ProgrammingError: (1064, 'syntax error')"),
+    ("pyodbc", python(ODBC), "pyodbc.OperationalError: ('08S01', '[08S01] [ma-3.1.15][8.0.0-router]unknown command (1047) (SQLExecDirectW)')"),
+    ("Sequel", ("ruby", "-e", "begin; " + SEQUEL + "; rescue => e; puts e.message; end"), "Mysql2::Error: not supported"),
+    ("Sequel", ("ruby", "-e", SEQUEL.replace("'shop'", "'shop', timeout: 28800")), "[]"),
     ("DBD::mysql", perl("mysql", TWO), "DBD::mysql::db commit failed: conflict at -e line 1."),
     ("DBD::MariaDB", perl("MariaDB", TWO), "DBD::MariaDB::db commit failed: conflict at -e line 1."),
     ("DBD::mysql", perl("mysql", "$it->column_info(undef, 'shop', 't', '%')"), "DBD::mysql::db column_info failed: syntax error at -e line 1."),

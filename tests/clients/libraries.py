@@ -199,6 +199,10 @@ PACKAGES = {
     "LuaSQL": ("lua5.4", "lua-sql-mysql"),
     "C": ("gcc", "libmariadb-dev"),
     "mysqltcl": ("tcl8.6", "mysqltcl"),
+    "peewee": ("python3-peewee", "python3-pymysql"),
+    "Django": ("python3-django", "python3-mysqldb"),
+    "pyodbc": ("python3-pyodbc", "odbc-mariadb"),
+    "Sequel": ("ruby", "ruby-sequel", "ruby-mysql2"),
     "tdbc::mysql": ("tcl8.6", "tcl8.6-tdbc-mysql"),
     "RMySQL": ("r-base-core", "r-cran-rmysql"),
 }

@@ -140,7 +140,7 @@ def shows_what_is_asked(program, not_ready):
     with Router(program) as router:
         for name, call, wanted in asks.ASKS:
             if name not in not_ready:
-                words = [word.replace("PORT", str(router.port)) for word in call]
+                words = [word.replace("%PORT%", str(router.port)) for word in call]
                 run = subprocess.run(words, stdout=subprocess.PIPE, stderr=subprocess.STDOUT, text=True, timeout=60)
                 check(f"{name}: {words[-1]}", (run.stdout.rstrip("\n").splitlines() or [""])[-1], wanted)
 
