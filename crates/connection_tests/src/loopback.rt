@@ -12,6 +12,8 @@ use case_fields::Unanswered;
 use empty_opening::ranges_fit;
 use journal::{Naming, Opened};
 use keyrange::KeyRange;
+use log::sink::Discard;
+use log::{LevelFilter, Logged};
 use route_engine::Gate;
 use serve_lines::Asked;
 use session::Writer;
@@ -278,8 +280,9 @@ fn is_served<W: World + Send + Sync, J: Naming + Send + Sync, R: Threads + Wait 
     requires ranges { FitRanges schema ranges.now }
 {
     let mut output = Writer::new(Vec::new(alloc));
-    let served = serve_opened::<W, J, HoldsFirst<'_>, R, Writer<Vec<u8>>>(
-        rt,
+    let quiet = Logged::new(rt, LevelFilter::Off, Discard);
+    let served = serve_opened::<W, J, HoldsFirst<'_>, Logged<&R, Discard>, Writer<Vec<u8>>>(
+        &quiet,
         alloc,
         schema,
         ranges,

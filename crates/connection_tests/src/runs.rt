@@ -1,6 +1,8 @@
 //! Runs of the program by its words.
 use crate::failing::{FailingSink, FailingSource};
 use case_fields::{Told, Unanswered, fields, text_of};
+use log::sink::Discard;
+use log::{LevelFilter, Logged};
 use serve_lines::Word;
 use session::{Reader, Sink, Source, Writer};
 use std::alloc::Global;
@@ -73,7 +75,8 @@ fn status_of<
     if let Some(shards) = script_words(words) {
         return run_script(rt, alloc, &hashing, shards, input, output, errors);
     }
-    run_serve(rt, alloc, &hashing, words, input, output, errors)
+    let quiet = Logged::new(rt, LevelFilter::Off, Discard);
+    run_serve(&quiet, alloc, &hashing, words, input, output, errors)
 }
 
 fn put_bracketed(told: &mut Told, text: &[u8]) {

@@ -9,7 +9,7 @@
 //! |---|---|---|
 //! | those of `cases` | | |
 //! | those of `connection_tests` | | |
-//! | `pulled`, `threads`, `limits`, `scene` | the name of a scene of `pulled_rows`, `thread_tests`, `shard_limits` or `router_tests` | `ok`, where it went as it is to go |
+//! | `pulled`, `threads`, `log`, `limits`, `scene` | the name of a scene of `pulled_rows`, `thread_tests`, `log_tests`, `shard_limits` or `router_tests` | `ok`, where it went as it is to go |
 //! | `soak` | seconds, a seed, and maybe `counts`, with blanks between them | `nothing lost or doubled`, and what was done where that is asked for |
 //! | `measure` | a VSchema, the ranges of its shards with commas between them, measurements of `bench` | what each gave; standard error has how long it took |
 //!
@@ -31,6 +31,7 @@ fn answer<
     match area {
         "pulled" => pulled_rows::answer(alloc, case, told),
         "threads" => thread_tests::answer(rt, alloc, case, told),
+        "log" => log_tests::answer(rt, alloc, case, told),
         "limits" => shard_limits::answer(rt, alloc, case, told),
         "scene" => router_tests::answer(rt, alloc, case, told),
         "soak" => soak::answer(rt, alloc, case, told),

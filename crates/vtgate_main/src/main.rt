@@ -3,13 +3,19 @@
 
 mod running;
 
+use log::{LevelFilter, Logged, error};
 use running::run;
 use serve_lines::Word;
+use server_log::{LineQueue, LineSink, NotStarted, environment_level, start_writing};
 use session::{Reader, Sink, Writer};
 use std::alloc::{AllocError, Global};
 use std::env::FillError;
+use std::io;
 use std::process::ExitCode;
 use std::rt::Env;
+use std::sync::{Arc, Wait};
+use std::thread::Threads;
+use std::time::Clock;
 use vtgate_input::{FAILED, FAILURE, Hashing};
 
 /// How many bytes a word is first given room for, and how often that is doubled.
@@ -45,6 +51,22 @@ fn words<R: Env>(rt: &R, alloc: Global) -> Result<Vec<Word>, AllocError> {
     Ok(words)
 }
 
+// Starts the log, unless nothing is to be logged.
+fn open_log<
+    R: Threads + Wait + Clock + Copy + Send + 'static,
+    W: io::Write + Drop + Send + 'static,
+>(
+    rt: R,
+    alloc: Global,
+    level: LevelFilter,
+    device: W,
+) -> Result<Option<Arc<LineQueue>>, NotStarted> {
+    if level == LevelFilter::Off {
+        return Ok(None);
+    }
+    Ok(Some(start_writing(rt, alloc, device)?))
+}
+
 fn main(rt: HostRuntime) -> ExitCode {
     let mut errors = Writer::new(rt.stderr());
     let Ok(words) = words(&rt, rt.alloc()) else {
@@ -55,10 +77,23 @@ fn main(rt: HostRuntime) -> ExitCode {
         let _ = errors.write(FAILED);
         return ExitCode::from(FAILURE);
     };
+    let asked = environment_level(&rt);
+    let level = asked.unwrap_or(LevelFilter::Error);
+    let Ok(queue) = open_log(rt, rt.alloc(), level, rt.stderr()) else {
+        let _ = errors.write(FAILED);
+        return ExitCode::from(FAILURE);
+    };
+    let sink = queue
+        .as_ref()
+        .map(|queue| LineSink::new(rt, rt.alloc(), queue));
+    let logged = Logged::new(rt, level, sink);
+    if asked.is_none() {
+        error!(logged; taken = "error"; "unknown_level");
+    }
     let mut input = Reader::new(rt.stdin());
     let mut output = Writer::new(rt.stdout());
     let status = run(
-        &rt,
+        &logged,
         rt.alloc(),
         &hashing,
         &words,
@@ -66,5 +101,9 @@ fn main(rt: HostRuntime) -> ExitCode {
         &mut output,
         &mut errors,
     );
+    if let Some(queue) = &queue {
+        queue.close();
+        queue.wait_for_end(&rt);
+    }
     ExitCode::from(status)
 }

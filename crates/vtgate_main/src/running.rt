@@ -9,6 +9,7 @@ ghost use Rattle.vtgate_script.specs.Scripted.{HasScripted};
 ghost use Rattle.vtgate_script.specs.Wrong.{IsWrongScript};
 ghost use Rattle.vtgate_serve.specs.Served.{HasServed};
 
+use log::Log;
 use serve_lines::Word;
 use session::{Sink, Source};
 use std::alloc::Global;
@@ -82,7 +83,7 @@ fn script_words(words: &[Word]) -> Option<&str>
 /// started, a device fails or there is no memory. Any other words are wrong: the usage is told, and the status is 2. A word that isn't UTF-8
 /// is wrong, but for the statement of `plan`. A VSchema's fault is told too, and the status is 2. Groups are hashed by the key.
 pub fn run<
-    R: Threads + Wait + Sync + Clock + Net<Listener = TcpListener, Stream = TcpStream>,
+    R: Threads + Wait + Sync + Clock + Log + Net<Listener = TcpListener, Stream = TcpStream>,
     I: Source,
     O: Sink,
     E: Sink,

@@ -15,6 +15,9 @@ use Rattle.shard_run.proofs.Sent.{entry_send}
 use Rattle.shard.specs.declared.world.World as world
 use Rattle.std.proofs.net.tcp.TcpStream.TheSendSync as stream
 use Rattle.std.proofs.net.tcp.TcpListener.TheSendSync as listener
+use Rattle.std.proofs.net.socket_addr.SocketAddr.TheSendSync as address
+use Rattle.std.proofs.time.Instant.TheSendSync as instant
+use Rattle.std.proofs.Crossing as std
 use Rattle.vtgate_serve.specs.contracts.connection.Connection as connection
 use Rattle.vtgate_serve.proofs.progress.Progress.TheSendSync as progress
 use Rattle.vtgate_serve.specs.contracts.entrance.Acceptor as acceptor
@@ -27,7 +30,7 @@ module _ (W J : RattleType) (w : world.Ghosts W.Denot) (j : naming.Ghosts J.Deno
   pub connection_send : IsSend (connection.the_row W J j w)
   connection_send =
       recorded_send (connection.the_field W J j w).row _ _ (connection.the_type W J j w).to_one
-      (struct_send (shape (connection.the_type W J j w)) (search sendable, (stream.the_field_send, (pass_send W J w j, tt))))
+      (struct_send (shape (connection.the_type W J j w)) (search sendable, (stream.the_field_send, (address.the_field_send, (pass_send W J w j, tt)))))
 
   opener_send : IsSend (opener_row.the_row (law.the_row W) J entry.the_row j (laws.ghosts W w laws.no_dict))
   opener_send = opener.the_send (law.the_row W) J entry.the_row j (laws.ghosts W w laws.no_dict) entry_send
@@ -36,4 +39,4 @@ module _ (W J : RattleType) (w : world.Ghosts W.Denot) (j : naming.Ghosts J.Deno
   pub acceptor_send : (ℓ : _) → IsSend (acceptor.the_row ℓ W J j w)
   acceptor_send ℓ =
       recorded_send (acceptor.the_field ℓ W J j w).row _ _ (acceptor.the_type ℓ W J j w).to_one
-      (struct_send (shape (acceptor.the_type ℓ W J j w)) (shr_send _ _ _ listener.the_sync, (opener_send, (pass_send W J w j, (shr_send _ _ _ progress.the_sync, search sendable)))))
+      (struct_send (shape (acceptor.the_type ℓ W J j w)) (shr_send _ _ _ listener.the_sync, (opener_send, (pass_send W J w j, (shr_send _ _ _ progress.the_sync, search (instant.the_send, std.crosses, sendable))))))

@@ -9,6 +9,7 @@ use crate::progress::Progress;
 use crate::waits::is_made_again;
 use administration::Administrator;
 use journal::{Naming, Pass};
+use log::Log;
 use route_engine::{Engine, Gate};
 use session::{DeviceFailed, Sink, Source};
 use shard::{ShardLaw, World};
@@ -31,9 +32,13 @@ const SILENT_READS: u32 = 6000;
 /// How many such writes of an answer may move nothing: a minute.
 const STUCK_WRITES: u32 = 600;
 
+/// The word of the line that takes all steps of a cutover.
+const SWITCH: &[u8] = b"switch";
+
 /// Reads from a client of the admin port, until all is served.
 #[derive(Drop)]
-struct Lines<'s> {
+struct Lines<'s, R: Clock> {
+    rt: &'s R,
     stream: &'s TcpStream,
     progress: &'s Progress,
     failures: u64,
@@ -63,14 +68,20 @@ fn read_until(
     Err(DeviceFailed)
 }
 
-impl Source for Lines<'_> {
+impl<R: Clock> Source for Lines<'_, R> {
     ghost unread = { λ _. None };
 
     ghost failures = { λ s. s.failures };
 
     fn read(&mut self, buffer: &mut [u8]) -> Result<usize, DeviceFailed> {
+        self.progress.end_switch();
         match read_until(self.stream, self.progress, buffer) {
-            Ok(n) => Ok(n),
+            Ok(n) => {
+                if buffer[..n].starts_with(SWITCH) {
+                    self.progress.begin_switch(self.rt);
+                }
+                Ok(n)
+            }
             Err(_) => {
                 self.failures = self.failures.wrapping_add(1);
                 Err(DeviceFailed)
@@ -127,6 +138,7 @@ impl Sink for Answers<'_> {
     ghost failures = { λ s. s.failures };
 
     fn write(&mut self, bytes: &[u8]) -> Result<(), DeviceFailed> {
+        self.progress.end_switch();
         match write_until(self.stream, self.progress, bytes) {
             Ok(()) => Ok(()),
             Err(_) => {
@@ -138,8 +150,8 @@ impl Sink for Answers<'_> {
 }
 
 // Answers the lines of one client, until it leaves or all is served.
-fn serve_one<W: World + Send + Sync, J: Naming + Send + Sync, G: Gate>(
-    rt: &impl Wait,
+fn serve_one<W: World + Send + Sync, J: Naming + Send + Sync, G: Gate, R: Wait + Clock + Log>(
+    rt: &R,
     alloc: Global,
     engine: &Engine<W, J, G>,
     administrator: &mut Administrator<W, J>,
@@ -155,6 +167,7 @@ fn serve_one<W: World + Send + Sync, J: Naming + Send + Sync, G: Gate>(
     let _ = stream.set_read_timeout(Some(patience));
     let _ = stream.set_write_timeout(Some(patience));
     let mut source = Lines {
+        rt,
         stream,
         progress,
         failures: 0,
@@ -173,11 +186,12 @@ fn serve_one<W: World + Send + Sync, J: Naming + Send + Sync, G: Gate>(
         &mut source,
         &mut sink,
     );
+    progress.end_switch();
 }
 
 /// Serves the clients of the admin port, one after the other, until all connections are served. The administrator is that of the engine's
 /// sharded keyspace.
-pub fn serve_admin<W: World + Send + Sync, J: Naming + Send + Sync, G: Gate, R: Wait + Clock>(
+pub fn serve_admin<W: World + Send + Sync, J: Naming + Send + Sync, G: Gate, R: Wait + Clock + Log>(
     rt: &R,
     alloc: Global,
     engine: &Engine<W, J, G>,

@@ -2,10 +2,16 @@
 ghost use Rattle.std.specs.Prelude.{◌≡◌, None};
 ghost use Rattle.std.specs.Io.{ReadsAtMost};
 
+use crate::events::time_since;
 use crate::keepalive::probe;
 use crate::logins::Login;
+use crate::statements::StatementLog;
 use crate::waits::is_made_again;
+use client_traffic::{Incoming, Outgoing};
+use journal::Naming;
+use log::Log;
 use session::{DeviceFailed, Sink, Source};
+use shard::World;
 use std::io::{ErrorKind, Read};
 use std::net::{Shutdown, TcpStream};
 use std::time::{Clock, Duration, Instant};
@@ -36,11 +42,24 @@ pub fn begin(stream: &TcpStream) {
 
 /// Where a client's bytes come from.
 #[derive(Drop)]
-pub struct Requests<'s, R: Clock> {
+pub struct Requests<'s, W: World, J: Naming, R: Clock> {
     pub rt: &'s R,
     pub stream: &'s TcpStream,
     pub login: &'s Login<'s>,
     pub failures: u64,
+    pub incoming: Incoming,
+    pub statements: StatementLog<'s, W, J>,
+    /// How long the client had said nothing where that ended it.
+    pub silence: Option<Duration>,
+}
+
+/// Why nothing could be read.
+#[derive(Clone, Copy)]
+enum Unread {
+    /// The client has said nothing for too long.
+    Silent,
+    /// The device failed.
+    Failed,
 }
 
 // Reads while the client logs in, unless that has taken too long.
@@ -49,56 +68,104 @@ fn read_login<R: Clock>(
     mut stream: &TcpStream,
     login: &Login<'_>,
     buffer: &mut [u8],
-) -> Result<usize, DeviceFailed>
+) -> Result<usize, Unread>
     ensures { ReadsAtMost result buffer.new }
 {
     for _ in 0..SILENT_READS {
         if !login.may_go_on(rt) {
-            return Err(DeviceFailed);
+            return Err(Unread::Silent);
         }
         match stream.read(buffer) {
             Ok(n) => return Ok(n),
             Err(error) => {
                 if !is_made_again(error.kind()) {
-                    return Err(DeviceFailed);
+                    return Err(Unread::Failed);
                 }
             }
         }
     }
-    Err(DeviceFailed)
+    Err(Unread::Silent)
 }
 
 // Reads from a client that is let in. A read that was interrupted is made again.
-fn read_command(mut stream: &TcpStream, buffer: &mut [u8]) -> Result<usize, DeviceFailed>
+fn read_command(mut stream: &TcpStream, buffer: &mut [u8]) -> Result<usize, Unread>
     ensures { ReadsAtMost result buffer.new }
 {
     for _ in 0..u64::MAX {
         match stream.read(buffer) {
             Ok(n) => return Ok(n),
-            Err(error) => {
-                if error.kind() != ErrorKind::Interrupted {
-                    return Err(DeviceFailed);
-                }
-            }
+            Err(error) => match error.kind() {
+                ErrorKind::Interrupted => {}
+                ErrorKind::WouldBlock => return Err(Unread::Silent),
+                _ => return Err(Unread::Failed),
+            },
         }
     }
-    Err(DeviceFailed)
+    Err(Unread::Failed)
 }
 
-impl<R: Clock> Source for Requests<'_, R> {
+impl<W: World, J: Naming, R: Clock + Log> Requests<'_, W, J, R> {
+    // What is told before the client is waited for: the statements that it has an answer to. And since when it is waited for.
+    fn begin_read(&mut self) -> Option<Instant>
+        ensures { self.new.failures ≡ self.old.failures }
+    {
+        self.tell_last();
+        if self.incoming.detail().has_counts() {
+            Instant::now(self.rt).ok()
+        } else {
+            None
+        }
+    }
+
+    /// Tells the statements that were answered last.
+    pub fn tell_last(&mut self)
+        ensures { self.new.failures ≡ self.old.failures }
+    {
+        if self.incoming.detail().has_statements() {
+            self.statements.tell(self.rt, &mut self.incoming);
+        }
+    }
+
+    // Takes what came.
+    fn end_read(&mut self, is_login: bool, bytes: &[u8])
+        ensures { self.new.failures ≡ self.old.failures }
+    {
+        self.incoming.take(is_login, bytes);
+        if self.incoming.detail().has_statements() {
+            self.statements.begin(self.rt);
+        }
+    }
+
+    // Notes that nothing came.
+    fn fail_read(&mut self, why: Unread, start: Option<Instant>)
+        ensures { self.new.failures ≡ self.old.failures }
+    {
+        if matches!(why, Unread::Silent) {
+            self.silence = Some(time_since(self.rt, start));
+        }
+    }
+}
+
+impl<W: World, J: Naming, R: Clock + Log> Source for Requests<'_, W, J, R> {
     ghost unread = { λ _. None };
 
     ghost failures = { λ s. s.failures };
 
     fn read(&mut self, buffer: &mut [u8]) -> Result<usize, DeviceFailed> {
-        let read = if self.login.is_under_way() {
+        let start = self.begin_read();
+        let is_login = self.login.is_under_way();
+        let read = if is_login {
             read_login(self.rt, self.stream, self.login, buffer)
         } else {
             read_command(self.stream, buffer)
         };
         match read {
-            Ok(n) => Ok(n),
-            Err(_) => {
+            Ok(n) => {
+                self.end_read(is_login, &buffer[..n]);
+                Ok(n)
+            }
+            Err(why) => {
+                self.fail_read(why, start);
                 self.failures = self.failures.wrapping_add(1);
                 Err(DeviceFailed)
             }
@@ -117,6 +184,7 @@ pub struct Replies<'s, S: Sink> {
     pub stream: &'s TcpStream,
     pub login: &'s Login<'s>,
     pub sink: S,
+    pub outgoing: Outgoing<'s>,
 }
 
 impl<'s, S: Sink> Sink for Replies<'s, S> {
@@ -130,6 +198,7 @@ impl<'s, S: Sink> Sink for Replies<'s, S> {
             let patience = Duration::from_secs(COMMAND_PATIENCE);
             let _ = self.stream.set_read_timeout(Some(patience));
         }
+        self.outgoing.take(self.login.is_under_way(), bytes);
         self.sink.write(bytes)
     }
 }

@@ -11,35 +11,47 @@ ghost use Rattle.vtgate_serve.specs.Admitted.{hello_of};
 
 use crate::admission::Admission;
 use crate::client::{Replies, Requests, begin, end};
+use crate::events;
+use crate::events::Passed;
 use crate::logins::{Login, Logins};
+use crate::statements::statement_log;
+use client_traffic::{Detail, Incoming, Outgoing, Replied};
 use journal::{Naming, Pass};
+use log::{Level, Log, log_enabled};
 use route_engine::{Engine, Gate};
 use serve_lines::salt_of;
 use session::{End, SessionFault, Sink, Source, Standing, Writer, serve};
 use shard::{ShardLaw, World};
 use std::alloc::Global;
-use std::net::TcpStream;
+use std::net::{SocketAddr, TcpStream};
 use std::sync::Wait;
 use std::thread::Threads;
-use std::time::Clock;
+use std::time::{Clock, Instant};
 
-/// A connection that was accepted: its number, its socket, and the pass of its session.
+/// A connection that was accepted: its number, its socket, the client's address, and the pass of its session.
 #[derive(Drop)]
 pub struct Connection<W: World, J: Naming> {
     number: u32,
     stream: TcpStream,
+    peer: SocketAddr,
     pass: Pass<ShardLaw<W>, J>,
     ghost session: { IsSome pass.session },
 }
 
 impl<W: World, J: Naming> Connection<W, J> {
-    pub fn new(number: u32, stream: TcpStream, pass: Pass<ShardLaw<W>, J>) -> Connection<W, J>
+    pub fn new(
+        number: u32,
+        stream: TcpStream,
+        peer: SocketAddr,
+        pass: Pass<ShardLaw<W>, J>,
+    ) -> Connection<W, J>
         requires { IsSome pass.session }
         ensures { result.number ≡ number }
     {
         Connection {
             number,
             stream,
+            peer,
             pass,
         }
     }
@@ -102,12 +114,23 @@ pub fn serve_connection<
     serve(rt, alloc, engine, pass, access, &salt, number, source, sink)
 }
 
+// How much is kept of a connection, by what is logged.
+fn detail_of<R: Log>(rt: &R) -> Detail {
+    if log_enabled!(rt; Level::Debug) {
+        Detail::Statements
+    } else if log_enabled!(rt; Level::Info) {
+        Detail::Counts
+    } else {
+        Detail::Bytes
+    }
+}
+
 /// Serves the connection until it ends, and closes it.
 pub fn serve_socket<
     W: World + Send + Sync,
     J: Naming + Send + Sync,
     G: Gate,
-    R: Threads + Wait + Sync + Clock,
+    R: Threads + Wait + Sync + Clock + Log,
 >(
     rt: &R,
     alloc: Global,
@@ -119,21 +142,29 @@ pub fn serve_socket<
     let Connection {
         number,
         stream,
+        peer,
         mut pass,
         ..
     } = connection;
     begin(&stream);
+    let start = Instant::now(rt).ok();
+    let detail = detail_of(rt);
+    let replied = Replied::new();
     let login = Login::begin(rt, logins);
     let mut source = Requests {
         rt,
         stream: &stream,
         login: &login,
         failures: 0,
+        incoming: Incoming::new(alloc, detail),
+        statements: statement_log(alloc, engine, number, &replied),
+        silence: None,
     };
     let mut sink = Replies {
         stream: &stream,
         login: &login,
         sink: Writer::new(&stream),
+        outgoing: Outgoing::new(detail, &replied),
     };
     let served = serve_connection(
         rt,
@@ -146,6 +177,17 @@ pub fn serve_socket<
         &mut sink,
     );
     login.end();
+    source.tell_last();
+    let passed = Passed {
+        number,
+        peer,
+        served: &served,
+        incoming: &source.incoming,
+        outgoing: &sink.outgoing,
+        silence: source.silence,
+        time: events::since(rt, start),
+    };
+    events::ended(rt, passed);
     // Who has said nothing for too long has no reply to wait for.
     if !matches!(served, Err(SessionFault::Read)) {
         end(rt, &stream);

@@ -11,14 +11,18 @@ ghost use Rattle.administration.specs.Told.{IsTold, keyspace_of};
 ghost use Rattle.administration.specs.Words.{reply_text};
 ghost use Rattle.vtgate_serve.specs.Conversations.{AllTold, BreaksOff, HasEndedEarly, HasAnsweredAll, is_word_byte};
 
+use crate::census::Marks;
 use crate::lines::ended_line;
+use crate::{census, events};
 use administration::{Administrator, administer};
 use journal::{Naming, Pass};
+use log::Log;
 use route_engine::{Engine, Gate};
 use session::{Sink, Source};
 use shard::{ShardLaw, World};
 use std::alloc::Global;
 use std::sync::Wait;
+use std::time::{Clock, Instant};
 
 /// The most bytes of a line, without the byte 0A that ends it.
 pub const LONGEST_LINE: usize = 8192;
@@ -28,6 +32,9 @@ const PIECE: usize = 4096;
 
 /// What answers a line with a byte outside 20 to 7E.
 const UNKNOWN: &[u8] = b"unknown\n";
+
+/// The line by which the shards are asked for.
+const STATUS: &[u8] = b"status";
 
 /// A conversation can't go on: a device failed, or a line is too long, has a byte outside 20 to 7E, or there is no memory for it.
 #[derive(Clone, Copy, Debug, PartialEq, Eq)]
@@ -65,9 +72,24 @@ fn reject<O: Sink>(sink: &mut O) -> BrokenOff
     BrokenOff
 }
 
+// Logs that a line was answered, and for `status` what the shards hold.
+fn tell_answer<W: World + Send + Sync, J: Naming + Send + Sync, G: Gate, R: Wait + Clock + Log>(
+    rt: &R,
+    engine: &Engine<W, J, G>,
+    words: &[u8],
+    answer: &[u8],
+    start: Option<Instant>,
+) {
+    if words == STATUS && census::tells_each(rt) {
+        census::tell_all(rt, engine, &mut Marks::all());
+    }
+    let waiting = engine.buffer().waiting(rt);
+    events::administered(rt, words, answer, waiting, events::since(rt, start));
+}
+
 // Answers a line.
 fn answer<W: World + Send + Sync, J: Naming + Send + Sync, G: Gate, O: Sink>(
-    rt: &impl Wait,
+    rt: &(impl Wait + Clock + Log),
     alloc: Global,
     engine: &Engine<W, J, G>,
     administrator: &mut Administrator<W, J>,
@@ -82,7 +104,9 @@ fn answer<W: World + Send + Sync, J: Naming + Send + Sync, G: Gate, O: Sink>(
     ensures untold { OnErr result ((reply : AdminReply) × IsTold W.opening W.limits words.now pass.old pass.new reply administrator.old administrator.new
         × AppendsFront (O.taken sink.old) (O.taken sink.new) (reply_text reply)) }
 {
+    let start = Instant::now(rt).ok();
     let reply = administer(rt, alloc, engine, administrator, pass, words);
+    tell_answer(rt, engine, words, reply.line(), start);
     match sink.write(reply.line()) {
         Ok(()) => Ok(()),
         Err(_) => Err(BrokenOff),
@@ -91,7 +115,7 @@ fn answer<W: World + Send + Sync, J: Naming + Send + Sync, G: Gate, O: Sink>(
 
 // Answers the lines that a piece ends behind the front of a line. What stands behind them waits for its end.
 fn answer_piece<W: World + Send + Sync, J: Naming + Send + Sync, G: Gate, O: Sink>(
-    rt: &impl Wait,
+    rt: &(impl Wait + Clock + Log),
     alloc: Global,
     engine: &Engine<W, J, G>,
     administrator: &mut Administrator<W, J>,
@@ -124,7 +148,7 @@ fn answer_piece<W: World + Send + Sync, J: Naming + Send + Sync, G: Gate, O: Sin
 
 // Answers the lines that the next piece of the source ends, and tells whether there was one.
 fn answer_next<W: World + Send + Sync, J: Naming + Send + Sync, G: Gate, I: Source, O: Sink>(
-    rt: &impl Wait,
+    rt: &(impl Wait + Clock + Log),
     alloc: Global,
     engine: &Engine<W, J, G>,
     administrator: &mut Administrator<W, J>,
@@ -165,7 +189,7 @@ fn answer_next<W: World + Send + Sync, J: Naming + Send + Sync, G: Gate, I: Sour
 
 // Answers the lines that the source gives. What came of a line that has not ended is kept in front.
 fn answer_all<W: World + Send + Sync, J: Naming + Send + Sync, G: Gate, I: Source, O: Sink>(
-    rt: &impl Wait,
+    rt: &(impl Wait + Clock + Log),
     alloc: Global,
     engine: &Engine<W, J, G>,
     administrator: &mut Administrator<W, J>,
@@ -213,7 +237,7 @@ fn answer_all<W: World + Send + Sync, J: Naming + Send + Sync, G: Gate, I: Sourc
 /// nothing more is done then. What the line before that asked for is done, even where its reply couldn't be written. It also breaks off
 /// at a line with a byte outside 20 to 7E, which it answers `unknown`: what a browser sends has such a byte in each line.
 pub fn talk<W: World + Send + Sync, J: Naming + Send + Sync, G: Gate, I: Source, O: Sink>(
-    rt: &impl Wait,
+    rt: &(impl Wait + Clock + Log),
     alloc: Global,
     engine: &Engine<W, J, G>,
     administrator: &mut Administrator<W, J>,

@@ -3,14 +3,18 @@ ghost use Rattle.std.specs.Prelude.{◌≡◌, ◌≤◌, ◌<◌, ◌+◌, [], 
 ghost use Rattle.vtgate_serve.specs.Accepted.{Accepts, AcceptsNoMore};
 
 use crate::connection::Connection;
+use crate::events;
+use crate::logins::Logins;
+use crate::ports::QUEUED;
 use crate::progress::Progress;
 use connection_workers::Entrance;
 use journal::{Naming, Opener, Pass};
+use log::Log;
 use shard::{ShardLaw, World};
-use std::net::{TcpListener, TcpStream};
+use std::net::{SocketAddr, TcpListener, TcpStream};
 use std::sync::Wait;
 use std::thread;
-use std::time::{Clock, Duration};
+use std::time::{Clock, Duration, Instant};
 
 /// How long it sleeps after a client could not be accepted, in milliseconds.
 const AFTER_FAILURE: u64 = 20;
@@ -24,6 +28,7 @@ pub struct Acceptor<'l, W: World, J: Naming> {
     progress: &'l Progress,
     accepted: u32,
     last: u32,
+    full_since: Option<Instant>,
     // Promise: The server has opened at most as many sessions as it has accepted connections, from none on
     // Refuses: connection_opens_two_sessions, serve_opens_a_session_of_its_own
     ghost opened: { opener ≤ accepted },
@@ -50,11 +55,17 @@ impl<'l, W: World, J: Naming> Acceptor<'l, W, J> {
             progress,
             accepted: 0,
             last,
+            full_since: None,
         }
     }
 
+    /// How many connections were accepted.
+    pub fn accepted(&self) -> u32 {
+        self.accepted
+    }
+
     // The next connection, unless it can have no session: then it is closed.
-    fn connection(&mut self, stream: TcpStream) -> Option<Connection<W, J>>
+    fn connection(&mut self, stream: TcpStream, peer: SocketAddr) -> Option<Connection<W, J>>
         requires room { self.old.accepted < 4294967295 }
         ensures one_more { self.new.accepted ≡ self.old.accepted + 1 }
         ensures last { self.new.last ≡ self.old.last }
@@ -62,11 +73,28 @@ impl<'l, W: World, J: Naming> Acceptor<'l, W, J> {
     {
         self.accepted = self.accepted.saturating_add(1);
         let pass = self.opener.open(&mut self.pass).ok()?;
-        Some(Connection::new(self.accepted, stream, pass))
+        Some(Connection::new(self.accepted, stream, peer, pass))
     }
 }
 
-impl<'l, W: World, J: Naming, R: Wait + Clock> Entrance<Connection<W, J>, R>
+/// Tells that the queue of connections is full, where it has become so.
+fn tell_full<R: Clock + Log>(rt: &R, logins: &Logins, full_since: &mut Option<Instant>) {
+    let waiting = logins.waiting();
+    if full_since.is_none() && waiting > QUEUED as u64 {
+        *full_since = Instant::now(rt).ok();
+        events::queue_full(rt, waiting);
+    }
+}
+
+/// Tells that the queue has places again, where it was full.
+fn tell_free<R: Clock + Log>(rt: &R, logins: &Logins, full_since: &mut Option<Instant>) {
+    if full_since.is_some() && logins.waiting() <= QUEUED as u64 / 2 {
+        events::queue_free(rt, events::since(rt, *full_since));
+        *full_since = None;
+    }
+}
+
+impl<'l, W: World, J: Naming, R: Wait + Clock + Log> Entrance<Connection<W, J>, R>
     for Acceptor<'l, W, J> {
     ghost use Rattle.vtgate_serve.specs.Accepted.{Accepts, AcceptsNoMore};
 
@@ -83,9 +111,11 @@ impl<'l, W: World, J: Naming, R: Wait + Clock> Entrance<Connection<W, J>, R>
                 return None;
             }
             match self.listener.accept() {
-                Ok((stream, _)) => {
-                    if let Some(connection) = self.connection(stream) {
+                Ok((stream, peer)) => {
+                    tell_free(rt, &self.progress.logins, &mut self.full_since);
+                    if let Some(connection) = self.connection(stream, peer) {
                         self.progress.logins.wait();
+                        tell_full(rt, &self.progress.logins, &mut self.full_since);
                         return Some(connection);
                     }
                 }

@@ -3,16 +3,21 @@
 
 mod admin_port;
 mod admission;
+mod census;
 mod client;
 mod connection;
 mod conversation;
+mod cutover;
 mod entrance;
+mod events;
 mod keepalive;
 mod lines;
 mod logins;
 mod ports;
 mod progress;
+mod schema_faults;
 mod serve;
+mod statements;
 mod waits;
 
 pub use admission::{Admission, admission_of};

@@ -38,6 +38,11 @@ impl Logins {
         self.waiting.fetch_add(1, Ordering::SeqCst);
     }
 
+    /// How many connections wait for a worker.
+    pub fn waiting(&self) -> u64 {
+        self.waiting.load(Ordering::SeqCst)
+    }
+
     // A worker has taken one that waited.
     fn begin(&self) {
         self.waiting.fetch_sub(1, Ordering::SeqCst);

@@ -12,10 +12,13 @@ use crate::admin_port::serve_admin;
 use crate::admission::Admission;
 use crate::connection::{Connection, serve_socket};
 use crate::entrance::Acceptor;
+use crate::events::Start;
 use crate::progress::Progress;
-use administration::Administrator;
+use crate::{census, events};
+use administration::{Administrator, widest_limits};
 use connection_workers::run;
 use journal::{Naming, Opener, Pass};
+use log::Log;
 use route_engine::{Engine, Gate};
 use serve_lines::Asked;
 use session::Sink;
@@ -30,7 +33,7 @@ use std::time::{Clock, Duration};
 use vtgate_input::{FAILURE, Fault};
 
 /// How many connections wait for a worker.
-const QUEUED: usize = 64;
+pub(crate) const QUEUED: usize = 64;
 
 /// What is told once clients can connect.
 const LISTENING: &[u8] = b"listening\n";
@@ -42,20 +45,33 @@ pub struct Ports {
     pub admin: TcpListener,
 }
 
+// Binds one port.
+fn bind_port<R: Log + Net<Listener = TcpListener, Stream = TcpStream>>(
+    rt: &R,
+    port: &'static str,
+    address: &str,
+) -> Result<TcpListener, Fault>
+    ensures fault { IfErr result (λ f. status_of f ≡ FAILURE) }
+{
+    match TcpListener::bind(rt, address) {
+        Ok(listener) => Ok(listener),
+        Err(reason) => {
+            events::unbound(rt, port, address, &reason);
+            Err(Fault::CannotBind)
+        }
+    }
+}
+
 /// Binds both ports.
-pub fn bind<R: Net<Listener = TcpListener, Stream = TcpStream>>(
+pub fn bind<R: Log + Net<Listener = TcpListener, Stream = TcpStream>>(
     rt: &R,
     address: &str,
     admin: &str,
 ) -> Result<Ports, Fault>
     ensures fault { IfErr result (λ f. status_of f ≡ FAILURE) }
 {
-    let Ok(clients) = TcpListener::bind(rt, address) else {
-        return Err(Fault::CannotBind);
-    };
-    let Ok(admin) = TcpListener::bind(rt, admin) else {
-        return Err(Fault::CannotBind);
-    };
+    let clients = bind_port(rt, "clients", address)?;
+    let admin = bind_port(rt, "admin", admin)?;
     Ok(Ports { clients, admin })
 }
 
@@ -86,7 +102,7 @@ fn serve_clients<
     W: World + Send + Sync,
     J: Naming + Send + Sync,
     G: Gate,
-    R: Threads + Wait + Sync + Clock,
+    R: Threads + Wait + Sync + Clock + Log,
 >(
     rt: &R,
     alloc: Global,
@@ -106,11 +122,15 @@ fn serve_clients<
         },
         acceptor,
     );
+    match &served {
+        Ok(acceptor) => events::ended_all(rt, acceptor.accepted()),
+        Err(why) => events::not_run(rt, why),
+    }
     progress.end(served.is_ok());
 }
 
 // Serves the admin port until the last connection is served, and tells whether it was.
-fn serve_operators<W: World + Send + Sync, J: Naming + Send + Sync, G: Gate, R: Wait + Clock>(
+fn serve_operators<W: World + Send + Sync, J: Naming + Send + Sync, G: Gate, R: Wait + Clock + Log>(
     rt: &R,
     alloc: Global,
     engine: &Engine<W, J, G>,
@@ -135,7 +155,7 @@ fn serve_both<
     W: World + Send + Sync,
     J: Naming + Send + Sync,
     G: Gate,
-    R: Threads + Wait + Sync + Clock,
+    R: Threads + Wait + Sync + Clock + Log,
 >(
     rt: &R,
     alloc: Global,
@@ -166,6 +186,13 @@ fn serve_both<
                 .is_err()
             {
                 return Err(Fault::Failed);
+            }
+            if census::is_logged(rt) {
+                let _ = scope.spawn(
+                    move ||
+                        requires { IsSync R.row × IsSync G.row }
+                    { census::watch(rt, engine, progress) },
+                );
             }
             serve_operators(
                 rt,
@@ -216,13 +243,19 @@ fn can_start<R: Threads + Wait + Sync + Clock>(rt: &R, threads: u32) -> bool {
     )
 }
 
+// How many threads it starts for so many workers: one that accepts clients, and one that watches the shards if that is logged.
+fn threads_beside<R: Log>(rt: &R, workers: u32) -> u32 {
+    let watching = u32::from(census::is_logged(rt));
+    workers.saturating_add(1).saturating_add(watching)
+}
+
 // Serves the connections of a listener, and beside them the admin port.
 fn serve_opened_ports<
     'p,
     W: World + Send + Sync,
     J: Naming + Send + Sync,
     G: Gate,
-    R: Threads + Wait + Sync + Clock,
+    R: Threads + Wait + Sync + Clock + Log,
 >(
     rt: &R,
     alloc: Global,
@@ -255,13 +288,29 @@ fn serve_opened_ports<
     )
 }
 
+// Tells that clients can connect, and to what.
+fn tell_started<W: World + Send + Sync, J: Naming + Send + Sync, G: Gate, R: Log>(
+    rt: &R,
+    asked: &Asked<'_>,
+    engine: &Engine<W, J, G>,
+) {
+    let limits = widest_limits();
+    let start = Start {
+        asked,
+        tables: engine.schema().tables.len() as u64,
+        rows: limits.rows,
+        entries: limits.stored,
+    };
+    events::started(rt, start);
+}
+
 /// Serves the connections that clients open, in threads of their own, and beside them the admin port, until the last connection is served. The
 /// administrator is that of the engine's sharded keyspace. No session was opened before, and nobody has committed.
 pub fn serve_ports<
     W: World + Send + Sync,
     J: Naming + Send + Sync,
     G: Gate,
-    R: Threads + Wait + Sync + Clock,
+    R: Threads + Wait + Sync + Clock + Log,
     O: Sink,
 >(
     rt: &R,
@@ -282,10 +331,11 @@ pub fn serve_ports<
     ensures fault { IfErr result (λ f. status_of f ≡ FAILURE) }
 {
     let asked = admission.asked;
-    if !can_start(rt, asked.workers.saturating_add(1)) {
+    if !can_start(rt, threads_beside(rt, asked.workers)) {
         return Err(Fault::Failed);
     }
     tell_listening(output)?;
+    tell_started(rt, asked, engine);
     let progress = Progress::new(asked.workers);
     serve_opened_ports(
         rt,

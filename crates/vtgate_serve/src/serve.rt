@@ -1,5 +1,5 @@
 //! What `vtgate serve` reads, and what it serves over.
-ghost use Rattle.std.specs.Prelude.{◌≡◌, ◌≢◌, ◌≤◌, [], None, IsTrue, IfOk, IfErr, OnOk};
+ghost use Rattle.std.specs.Prelude.{◌≡◌, ◌≢◌, ◌≤◌, ℕ, List, [], None, IsTrue, IfOk, IfErr, OnOk};
 ghost use Rattle.std.specs.Io.KnownBytes.{Appends};
 ghost use Rattle.keyrange.specs.declared.KeyRange.{KeyRange};
 ghost use Rattle.vschema.specs.WellFormed.{is_vschema};
@@ -8,14 +8,18 @@ ghost use Rattle.shard_contents.specs.Shards.{most_limits};
 ghost use Rattle.empty_opening.specs.Empty.{opening_of, sharded_keyspace, FitRanges};
 ghost use Rattle.administration.specs.Told.{keyspace_of};
 ghost use Rattle.serve_lines.specs.Asking.{Asking, Asks};
+ghost use Rattle.vtgate_input.specs.Inputs.{HasDeclared};
 ghost use Rattle.vtgate_input.specs.Statuses.{IsWrong, TellsNone, status_of};
+ghost use Rattle.vtgate_lines.specs.Partitions.{NamesPartition};
 ghost use Rattle.vtgate_serve.specs.Served.{HasServed, listening_text};
 
 use crate::admission::{Admission, admission_of};
 use crate::ports::{Ports, bind, serve_ports};
+use crate::{events, schema_faults};
 use administration::{Administrator, administered_router, widest_limits};
 use journal::{Naming, Opened, Opener, Pass};
 use keyrange::KeyRange;
+use log::Log;
 use route_engine::{Engine, Gate, Open};
 use serve_lines::{Asked, Word, read_words};
 use session::{Sink, Source};
@@ -28,7 +32,7 @@ use std::thread::Threads;
 use std::time::Clock;
 use vschema::{Hashing, VSchema};
 use vtgate_input::{
-    FAILURE, Fault, SUCCESS, USAGE, WRONG_WORDS, ranges_of, read_schema, refuse_plainly,
+    FAILURE, Fault, SUCCESS, USAGE, WRONG_WORDS, ranges_of, read_schema_or_text, refuse_plainly,
 };
 
 /// What a server is told: whom it lets in, as the words ask, and its ports.
@@ -58,7 +62,7 @@ fn serve_router<
     W: World + Send + Sync,
     J: Naming + Send + Sync,
     G: Gate,
-    R: Threads + Wait + Sync + Clock,
+    R: Threads + Wait + Sync + Clock + Log,
     O: Sink,
 >(
     rt: &R,
@@ -98,7 +102,7 @@ pub fn serve_opened<
     W: World + Send + Sync,
     J: Naming + Send + Sync,
     G: Gate,
-    R: Threads + Wait + Sync + Clock,
+    R: Threads + Wait + Sync + Clock + Log,
     O: Sink,
 >(
     rt: &R,
@@ -137,7 +141,7 @@ pub fn serve_opened<
 }
 
 // The same in the world that begins with this VSchema and these ranges, and no rows.
-fn serve_in_world<W: World + Send + Sync, R: Threads + Wait + Sync + Clock, O: Sink>(
+fn serve_in_world<W: World + Send + Sync, R: Threads + Wait + Sync + Clock + Log, O: Sink>(
     rt: &R,
     alloc: Global,
     schema: VSchema,
@@ -160,7 +164,7 @@ fn serve_in_world<W: World + Send + Sync, R: Threads + Wait + Sync + Clock, O: S
 
 // Binds the ports, and serves over the VSchema and the ranges.
 fn serve_over<
-    R: Threads + Wait + Sync + Clock + Net<Listener = TcpListener, Stream = TcpStream>,
+    R: Threads + Wait + Sync + Clock + Log + Net<Listener = TcpListener, Stream = TcpStream>,
     O: Sink,
 >(
     rt: &R,
@@ -182,8 +186,30 @@ fn serve_over<
     }
 }
 
+// The VSchema that the whole input declares, and which fits the ranges. A fault of it is logged.
+fn read_told<R: Log, I: Source>(
+    rt: &R,
+    alloc: Global,
+    hashing: &Hashing,
+    ranges: &[KeyRange],
+    input: &mut I,
+) -> Result<VSchema, Fault>
+    requires { (word : List ℕ) × NamesPartition word ranges.now }
+    ensures read { IfOk result (λ schema. HasDeclared (I.unread input.old) (I.unread input.new) schema) }
+    ensures formed { IfOk result (λ schema. IsTrue (is_vschema schema)) }
+    ensures fit { IfOk result (λ schema. FitRanges schema ranges.now) }
+    ensures fault { IfErr result (λ f. status_of f ≡ WRONG_WORDS → (word : List ℕ) → NamesPartition word ranges.now → IsWrong word (I.unread input.old) (I.unread input.new)) }
+{
+    let mut text = Vec::new(alloc);
+    let read = read_schema_or_text(alloc, hashing, ranges, input, &mut text);
+    if let Err(fault) = &read {
+        schema_faults::tell(rt, alloc, fault, &text);
+    }
+    read
+}
+
 fn served<
-    R: Threads + Wait + Sync + Clock + Net<Listener = TcpListener, Stream = TcpStream>,
+    R: Threads + Wait + Sync + Clock + Log + Net<Listener = TcpListener, Stream = TcpStream>,
     I: Source,
     O: Sink,
 >(
@@ -199,13 +225,13 @@ fn served<
     ensures fault { IfErr result (λ f. status_of f ≡ WRONG_WORDS → IsWrong asked.now.shards (I.unread input.old) (I.unread input.new)) }
 {
     let ranges = ranges_of(alloc, asked.shards)?;
-    let schema = read_schema(alloc, hashing, &ranges, input)?;
+    let schema = read_told(rt, alloc, hashing, &ranges, input)?;
     serve_over(rt, alloc, asked, schema, &ranges, output)
 }
 
 // Serves connections as the words ask, and gives the status.
 fn run_asked<
-    R: Threads + Wait + Sync + Clock + Net<Listener = TcpListener, Stream = TcpStream>,
+    R: Threads + Wait + Sync + Clock + Log + Net<Listener = TcpListener, Stream = TcpStream>,
     I: Source,
     O: Sink,
     E: Sink,
@@ -225,6 +251,7 @@ fn run_asked<
     ensures wrong { result ≡ WRONG_WORDS → IsWrong asked.now.shards (I.unread input.old) (I.unread input.new) }
 {
     if let Err(fault) = served(rt, alloc, hashing, asked, input, output) {
+        events::failed(rt, &fault);
         return refuse_plainly(fault, output, errors);
     }
     SUCCESS
@@ -236,7 +263,7 @@ fn run_asked<
 /// keyspace, and where the input declares no VSchema. Words that aren't those of `serve` are wrong: the usage is told, and the status is 2.
 /// Groups are hashed by the key.
 pub fn run_serve<
-    R: Threads + Wait + Sync + Clock + Net<Listener = TcpListener, Stream = TcpStream>,
+    R: Threads + Wait + Sync + Clock + Log + Net<Listener = TcpListener, Stream = TcpStream>,
     I: Source,
     O: Sink,
     E: Sink,

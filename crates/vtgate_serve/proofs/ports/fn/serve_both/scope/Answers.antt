@@ -43,3 +43,19 @@ spawn-requires-send-F g c κs within =
         ),
       ),
     )))
+
+-- and the thread that watches the shards: the handle, the engine and the progress
+pub spawn-requires-then-is_logged-send-F : goal.spawn-requires-then-is_logged-send-F
+spawn-requires-then-is_logged-send-F g c κs within =
+    let W = param 0 g.row.W in
+    let J = param 1 g.row.J in
+    let G = param 2 g.row.G in
+    let E = engine.the_row W J G g.W.World g.J.Naming in
+    let r : IsSync (param 3 g.row.R) = c.requires.0 in
+    let gate : IsSync (param 2 g.row.G) = c.requires.1 in
+    let captures : List RattleType =
+    (shr_ref_field _ (param 3 g.row.R) tt).row ∷ (shr_ref_field _ E tt).row ∷ (shr_ref_field _ progress.the_row tt).row ∷ [] in
+    param_send 1 _ (arg_send _ no (TupleAt _ captures) (captures_send _ captures (
+      shr_send _ _ (param 3 g.row.R) r,
+      (shr_send _ _ E (engine_sync W J g.W.World g.J.Naming G gate), (shr_send _ _ progress.the_row sent_progress.the_sync, tt)),
+    )))
