@@ -121,6 +121,10 @@ class Client:
     def query(self, text):
         """Sends a query, and gives the payloads of its reply."""
         self.command(QUERY, text)
+        return self.read_reply()
+
+    def read_reply(self):
+        """The payloads of the reply to a query."""
         payloads = [self.read()]
         if payloads[0][0] in (0x00, 0xFF):
             return payloads
