@@ -111,8 +111,6 @@ impl<W: World, J: Naming> Administrator<W, J> {
     // cutover, those of the shards that serve then, in their order, and how far the workflow is.
     // Without a sharded keyspace there is no workflow. The answer's line takes no memory, so that what was done can be told
     // With: Administrator::answer, AdminReply::line
-    // Refuses: advance_takes_two_steps, cancel_answers_alone, create_is_told_unbegun, status_forgets_the_stage, status_lists_the_partition,
-    // reshard::status_lists_retired_sources, reshard::status_lists_targets_that_follow
     /// Over the workflow of the sharded keyspace, or, without such a keyspace, none.
     pub fn new(workflow: Option<Workflow<W, J>>) -> Administrator<W, J>
         ensures { result ≡ workflow }

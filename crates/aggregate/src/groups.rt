@@ -160,7 +160,6 @@ impl GroupMerge {
     // Promise: The groups of several shards' rows are joined, each once, NULLs of a column in one; without group values there is one group,
     // also of no rows
     // With: GroupMerge::next
-    // Refuses: nulls_of_a_group_are_apart, groups_in_reverse, parts_are_lost, groups_of_one_length_are_one, known_group_is_the_first
     /// Joins the groups of the input's rows. A row begins with `width` group values, behind which stand the parts of the
     /// aggregates, one column each. Groups come in the order in which they come first; without group values there is one, also
     /// of no rows. NULLs of a group value are one group. The numbers of a column of parts stay below 2^127 together, as those of

@@ -30,7 +30,6 @@ pub trait Aggregate {
     // that of two bags together is the join of theirs, and a part gives what the aggregate means over the bag
     // With: Aggregate::{add, join, finish, laws, holds}, evaluate, Count::{empty, add, join, finish}, CountStar::{empty, add, join,
     // finish}, Sum::{empty, add, join, finish}, Min::{empty, add, join, finish}, Max::{empty, add, join, finish}
-    // Refuses: sum_in_64_bits, min_joins_as_max, null_part_counts_as_0
     /// The part of no values.
     fn empty() -> Self::Part
         ensures { result ≡ part_of [] };

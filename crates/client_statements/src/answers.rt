@@ -164,9 +164,6 @@ fn no_warnings(alloc: Global) -> Result<ClientAnswer, AllocError>
 // Promise: A client statement that has rows is answered by them, names in the order of their bytes, or by why there are none; only memory
 // refuses it
 // With: keyspace_place, keyspace_name
-// Refuses: autocommit_is_told_on, database_is_the_first, full_columns_all_fit, keyspace_in_use_wins, later_columns_are_of_the_key,
-// names_come_backwards, no_keyspace_is_an_unknown_one, null_is_told_turned_round, table_of_another_keyspace_is_told,
-// tables_of_later_keyspaces_too, unknown_keyspace_is_an_unknown_table, unknown_variable_is_null, warnings_have_no_answer
 /// What a client statement is answered, where it has rows: no settings, transactions or keyspaces to use. Takes memory for the rows.
 pub fn answer(
     alloc: Global,

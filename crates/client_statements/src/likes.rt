@@ -217,8 +217,6 @@ impl Pattern {
 }
 
 // Promise: LIKE fits a name as its pattern says
-// Refuses: as_many_pieces_as_bytes_are_too_many, byte_before_percent_is_left_out, cases_of_letters_differ, percent_fits_one_at_least,
-// underscore_fits_none
 /// Whether a pattern of LIKE fits a name: `%` any bytes, `_` one, a byte after a backslash itself, and letters in any case.
 pub fn is_like(alloc: Global, pattern: &[u8], name: &[u8]) -> Result<bool, AllocError>
     ensures { IfOk result (λ b. b ≡ is_like pattern.now name.now) }

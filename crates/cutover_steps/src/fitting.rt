@@ -63,7 +63,6 @@ fn fits<W: World, J: Naming>(
 
 // Promise: Before the first source retires, each target is looked at: yes is answered only where each had no more rows than a shard that
 // serves may have, and no only where one had more
-// Refuses: fits_whatever_it_holds
 /// Whether each of the targets has no more rows than a shard that serves may have. Takes no memory.
 pub fn all_fit<W: World, J: Naming>(
     rt: &impl Wait,

@@ -73,8 +73,6 @@ fn try_freeze<W: World, J: Naming>(
 // stored. A freeze looks at its shard three times, and nowhere else, so its pass freezes no other, and that one once. A retirement, and a target that
 // serves, look at their shard alone, so they change no other's mode
 // With: thaw, retire, serve
-// Refuses: source_serves_beside_target, target_serves_before_level, freeze_appends_nothing, retires_with_an_entry_left,
-// serves_with_a_table_left, serves_with_one_source_followed
 /// Freezes the shard, and answers how many entries it has stored. Refuses where it has too many entries; then nothing was appended. Takes no
 /// memory.
 pub fn freeze<W: World, J: Naming>(

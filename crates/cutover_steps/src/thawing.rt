@@ -62,7 +62,6 @@ fn unfreeze<W: World, J: Naming>(
 // Promise: The sources of a cutover that is given up are thawed one after the other: what the pass has seen when it leaves one ends with that one
 // serving, and then it looks at no source but the next. A Freeze comes right after two looks of its own, so no source is frozen after its turn:
 // each Freeze of the call is followed by its Thaw
-// Refuses: thawed_source_freezes_again, earlier_source_freezes_again, failed_cutover_leaves_frozen
 /// Thaws each of the sources that is frozen. Takes no memory.
 pub fn unfreeze_all<W: World, J: Naming>(
     rt: &impl Wait,

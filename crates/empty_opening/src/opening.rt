@@ -85,7 +85,6 @@ pub fn opening_shards(
 
 // Promise: Ranges with names fit exactly where the sharded keyspace, if there is one, has each keyspace id in one of them, and there are at most
 // 64 shards
-// Refuses: unfitting_ranges_fit
 /// Whether the shards over ranges that have names make an opening: they hold each keyspace id of the sharded keyspace once, where there is one,
 /// and fit into 64 slots. It refuses only for want of memory.
 pub fn ranges_fit(alloc: Global, schema: &VSchema, ranges: &[KeyRange]) -> Result<bool, Refusal>

@@ -319,16 +319,11 @@ fn try_step<W: World, J: Naming>(
 // no two sources of it overlap
 // With: bring_forward_with
 // Clauses: moved, once, copied_within, followed_within, onward
-// Refuses: step_answers_level_at_once, copied_without_an_entry, followed_without_an_entry, copies_beyond_an_entry_that_is_left,
-// steps_until_level, step_looks_at_the_source_alone_and_moves_again, next_source_is_tried_after_a_step, step_thaws_its_source,
-// step_thaws_its_source_first, step_freezes_its_source_first
 // Promise: It is refused for want of memory, or where a Copy or a Follow that may come next passes a limit of the target (F24): it has 2^40
 // entries, it stores as many as it may, which counts for a Follow alone, or with the step it would have more rows than it may. The looks of
 // its pass are then the first of those of a step with an entry, and nothing was appended after the last
 // With: bring_forward_with
 // Clauses: err, nothing
-// Refuses: step_moves_and_is_refused, second_step_is_refused, long_entry_is_refused, shard_contents::copy_is_full_one_step_too_late,
-// shard_contents::removed_rows_are_not_counted
 /// Brings a target forward with a source of it: it takes over the entry that is next, where one is left, else it copies the next rows, at
 /// most 100 of them, else it is level. At most one entry is appended. Refuses for want of memory, and what would pass a limit of the target;
 /// then nothing was appended.

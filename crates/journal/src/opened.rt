@@ -44,7 +44,6 @@ impl<L: Law> Opened<L> {
 
     // Promise: A new table of words has an empty run, a seat for each of its 64 slots, and one opener
     // With: Opened::named
-    // Refuses: seats_all_of_slot_zero
     /// Opens a table, each word 0. It refuses `OutOfMemory` where no block is given.
     pub fn new(alloc: Global) -> Result<Opened<L>, Refusal>
         ensures refused { IfErr result (λ e. e ≡ OutOfMemory) }

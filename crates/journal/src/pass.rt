@@ -59,7 +59,6 @@ impl<L: Law, J: Naming> Pass<L, J> {
     // Promise: A pass numbers its session's statements from 1, each above all commits of the session that it has seen, which is legal
     // With: Pass::session
     // Clauses: number, counted, above, legal, full, unchanged
-    // Refuses: session_answers_none
     /// The number of the session's next statement, from 1 on. It is above those of all commits of its session that the
     /// pass has seen. It refuses `ShardFull` once 2^62 statements were numbered; then nothing has changed.
     pub fn next_statement(&mut self) -> Result<u64, Refusal>

@@ -57,7 +57,6 @@ impl<L: Law, J: Naming> ShardSeat<L, J> {
     }
 
     // Promise: An append adds exactly its entry, after any such run, where the entry is lawful
-    // Refuses: append_does_nothing, append_leaves_pass_behind
     /// Adds the entry to the run, and this entry alone; seat and pass have then seen the run up to it. A commit is of
     /// the pass's session, and has a number that the pass has given out. The entry is lawful after any legal run that
     /// begins with what was seen and has no more entries on the slot or of the session.

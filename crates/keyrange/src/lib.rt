@@ -23,7 +23,6 @@ impl KeyRange {
 
     // Promise: The range of all keyspace ids has an empty begin and no end; an edge's bytes
     // With: Edge::{empty, as_slice}
-    // Refuses: edges_of_one_length_are_equal
     /// The range of all ids.
     pub fn full() -> KeyRange
         ensures { result ≡ record { begin = []; end = None } }

@@ -63,7 +63,6 @@ fn is_in_one(ranges: &[KeyRange], id: &[u8]) -> bool
 }
 
 // Promise: Ranges cover, in any order, exactly where each id lies in just one
-// Refuses: covers_once_looks_at_union
 /// Whether each keyspace id lies in exactly one of the ranges, in whatever order they are. It takes no memory, and
 /// compares each edge with each range.
 pub fn covers_once(ranges: &[KeyRange]) -> bool

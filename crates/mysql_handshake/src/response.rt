@@ -143,7 +143,6 @@ fn response_in(payload: &[u8]) -> Option<Response<'_>>
 
 // Promise: A client's answer to the greeting is read exactly where the payload has its layout and the needed capabilities are set, else it
 // is refused
-// Refuses: answer_cut_short, plugin_before_database, response_refused_without_database, secure_connection_not_needed
 /// A client's answer to the greeting. It is refused where it has not the layout of one, or a capability that the server needs
 /// isn't set.
 pub fn read_response(payload: &[u8]) -> Result<Response<'_>, Refusal>

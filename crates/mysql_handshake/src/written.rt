@@ -134,7 +134,6 @@ fn put_short(number: u8, payload: &[u8], out: &mut BytesMut) -> Result<u8, Refus
 
 // Promise: The greeting and the request to switch have their one layout; with 84 bytes of room they can't fail
 // With: put_auth_switch
-// Refuses: eof_not_deprecated, salt_halves_swapped
 /// Appends the greeting of the connection with this id, whose packet has the number 0. It gives the sequence number
 /// after it. It refuses only for want of memory, and then leaves the buffer as it was.
 pub fn put_greeting(id: u32, salt: &[u8; 20], out: &mut BytesMut) -> Result<u8, Refusal>

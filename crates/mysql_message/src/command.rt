@@ -55,7 +55,6 @@ fn read_option(option: &[u8]) -> Result<Command<'_>, Refusal>
 }
 
 // Promise: A payload is the command that it is, or an unknown one
-// Refuses: ping_as_quit, init_db_as_query, reset_as_ping, option_off_is_on
 /// The command that a payload asks for. Its first byte tells which; the bytes after that of COM_INIT_DB are the name of
 /// the keyspace, those after that of COM_QUERY the text of the query, the two after that of COM_SET_OPTION the option, and those after the others
 /// aren't looked at. An empty payload, any other first byte and any other option are refused.

@@ -28,7 +28,6 @@ const MAX_PAYLOAD: usize = 60;
 
 // Promise: OK, EOF and ERR packets, and the OK packet that ends a result set, have their one layout; with 64 bytes of room they can't fail
 // With: put_eof, put_err, put_set_end, put_statistics
-// Refuses: ok_without_status, code_bytes_swapped, statistics_are_cut_short
 /// Appends an OK packet: so many affected rows, 0 as the last insert id, the status, no warnings. It gives the
 /// sequence number after it. It refuses only for want of memory, and then leaves the buffer as it was.
 pub fn put_ok(number: u8, affected: u64, status: u16, out: &mut BytesMut) -> Result<u8, Refusal>

@@ -84,14 +84,11 @@ impl Framer {
 
     // Promise: However the client's stream is cut, the payloads are those of the whole stream so far, with their first and last numbers
     // Clauses: payloads, limit
-    // Refuses: feed_drops_payloads, feed_refuses_the_limit
     // Promise: A fault comes only where a refused header stands in a part's place, with that header's number; every later piece gives that
     // fault alone
     // Clauses: fault, stopped, again
-    // Refuses: feed_checks_no_number, feed_forgets_fault, feed_tells_no_fault_again
     // Promise: Where memory is refused, the piece counts as not fed
     // Clauses: err, memory
-    // Refuses: feed_keeps_the_piece_on_error
     /// Takes the next piece of the stream: gives each payload that is whole now, in order, and behind them the fault,
     /// if a header is refused there. A payload's packets are numbered one after another, modulo 256, from any first
     /// number, and together have at most as many bytes as the limit. A header is refused as soon as it has come, its

@@ -18,7 +18,6 @@ pub trait Operator: Drop {
     // Promise: An operator gives its rows in order, one at a time; where it once had no memory it gives none again
     // With: Rows::next, Concat::next, MergeSort::next, Limit::next, Project::next
     // Clauses: row, failed, fails, err
-    // Refuses: limit_passes_over_fewer, limit_forgets_the_limit, longer_row_is_shown_whole
     /// The next row, or `None` where no row is left. Refuses only for want of memory, and then each later call does.
     fn next(&mut self, alloc: Global) -> Result<Option<Row>, Refusal>
         ensures row { IfOk result (λ next. MatchOption next

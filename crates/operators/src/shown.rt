@@ -30,8 +30,6 @@ impl Model for ShownRows {
 impl ShownRows {
     // Promise: Of rows the columns in given places are shown, each row as it is pulled; what is held are the rows as they were read
     // With: ShownRows::len, ShownRows::whole, ShownRows::pulled, ShownRows::into_rows, PulledRows::next
-    // Refuses: rows_are_shown_as_they_were_read, row_is_shown_at_no_place, pulled_rows_are_none, shown_rows_recover, narrow_rows_are_whole,
-    // half_of_the_shown_rows_are_counted
     /// Of each of these rows the values in these places, NULL behind its end, or the row as it is where there are no places. Takes no memory.
     pub fn new(rows: Items<Row>, places: Option<Items<usize>>) -> ShownRows
         ensures { result ≡ shown_at places rows }

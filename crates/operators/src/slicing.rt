@@ -38,7 +38,6 @@ impl<O: Operator> Limit<O> {
     // never again once the input failed; without LIMIT once a call
     // With: Limit::next
     // Clauses: calls, call
-    // Refuses: limit_pulls_one_row_more, limit_forgets_that_its_input_failed
     /// What `limit` leaves of the input's rows, all of them where it is `None`.
     pub fn new(input: O, limit: Option<sql_tree::Limit>) -> Limit<O>
         ensures rows { ⟦<Limit<O> as Operator>⟧.to_come result ≡ sliced limit (O.to_come input) }

@@ -32,7 +32,6 @@ fn compare_key(key: &Key<usize>, a: &Row, b: &Row) -> Ordering
 
 // Promise: Rows are compared and sorted by sort keys, shown by their columns, and taken from an operator
 // With: sort_rows, project_row, collect
-// Refuses: collect_takes_one_row
 /// The order of two rows by sort keys, the first key first. NULL is first ascending and last descending.
 pub fn compare_rows(keys: &[Key<usize>], a: &Row, b: &Row) -> Ordering
     ensures { result ≡ row_cmp keys.now a.now b.now }

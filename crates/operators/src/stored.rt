@@ -25,8 +25,6 @@ impl Rows {
     // of a limit, the columns in given places
     // With: Concat::new, MergeSort::new, Limit::new, Project::new, Rows::from_vec
     // Clauses: rows, fresh, permutation, sorted, ok, err
-    // Refuses: merge_ignores_descending, merge_keeps_the_order_of_its_inputs, merge_takes_from_another_input, merge_ends_with_an_input,
-    // project_shows_nothing, merge_begins_failed
     /// Gives these rows. Refuses only for want of memory.
     pub fn new(alloc: Global, rows: Items<Row>) -> Result<Rows, Refusal>
         ensures ok { IfOk result (λ made. ⟦<Rows as Operator>⟧.to_come made ≡ rows) }

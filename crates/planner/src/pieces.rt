@@ -245,8 +245,6 @@ impl Plan {
     // Promise: Each shard's piece, the finish of the pieces' answers, a write's route, the places of a route among ranges, and whether a
     // route takes a range, also by an id that was made before, are as written
     // With: Finish::{answer, answer_in_order}, write_route, shards, takes, single_id, takes_by, copy_items
-    // Refuses: in_gives_each_shard_all_members, last_instead_of_the_leftmost_conjunct, null_members_routed, or_of_null_is_never,
-    // plan_forgets_the_condition, unsharded_takes_each_place, write_route_of_an_insert_scatters
     /// The query that the shard of a range answers: the piece, under IN with the members of that conjunct cut to the shard's own.
     /// `table` is the query's table. Refuses only for want of memory.
     pub fn piece_for(

@@ -268,10 +268,6 @@ fn shown_and_pushed(
 // pieces' answers is an answer over all rows, also over no shard and with aggregates, and of a join over all pairs, where no id lies in two
 // of the ranges; a shard that its route skips holds no row or pair that the query keeps; and without aggregates each piece's answer is in
 // the order of the finish's keys
-// Refuses: in_sends_all_members_to_one_shard, offset_pushed_and_applied_again, groups_of_shards_are_not_joined, limit_of_groups_is_pushed,
-// in_gives_each_shard_all_members, last_instead_of_the_leftmost_conjunct, null_members_routed, or_of_null_is_never,
-// plan_forgets_the_condition, unsharded_takes_each_place, write_route_of_an_insert_scatters, route_forgets_the_join, pieces_have_no_join,
-// second_column_decides_nothing, second_column_is_a_number, literal_is_judged_by_the_first_columns_type
 /// The plan of a query. Refuses only for want of memory.
 pub fn plan(alloc: Global, schema: &VSchema, query: Query) -> Result<Plan, Refusal>
     ensures exact { IfOk result (λ p. p ≡ planned (table_at schema.now query.table) query) }

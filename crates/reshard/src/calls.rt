@@ -31,12 +31,6 @@ impl<W: World, J: Naming> Workflow<W, J> {
     // too few slots (N3). A partition that N5 or N3 speaks of is one of shards of the run, each of which was found in this call, and doesn't
     // follow. Then nothing changed, and no slot is taken: targets that were made give theirs back
     // With: Workflow::{stage, create}
-    // Refuses: reshard_beginning::create_takes_any_targets, reshard_beginning::create_refused_takes_a_slot,
-    // reshard_beginning::shard_refused_takes_its_slot, reshard_beginning::overlap_is_judged_before_the_sources,
-    // reshard_beginning::slots_are_counted_before_the_sources, reshard_beginning::targets_in_falling_order,
-    // reshard_beginning::sources_in_falling_order, reshard_beginning::each_source_is_a_wrong_one, reshard_beginning::all_targets_leave_a_gap,
-    // reshard_beginning::frozen_source_is_taken, reshard_beginning::parts_are_not_looked_at, reshard_beginning::part_may_follow,
-    // reshard_beginning::target_takes_from_all_sources, reshard_beginning::source_may_be_named_twice
     /// A controller of a keyspace and these free slots, which has no workflow.
     pub fn new(
         alloc: Global,
@@ -142,8 +136,6 @@ impl<W: World, J: Naming> Workflow<W, J> {
     // step with one source does, so it changes no shard's mode, which makes two looks in a row. It is refused only where no targets follow
     // (N4), a Copy or a Follow of a target that may come next passes a limit of it (F24), or for memory; then the looks of its pass are those of
     // a step that is refused, and nothing was appended after the last
-    // Refuses: step_moves_no_target, step_moves_twice, refused_step_has_moved, step_thaws_its_sources,
-    // reshard_beginning::second_target_is_tried_after_a_step
     /// Brings the first target forward, in their order, that isn't level with its sources: it takes over the entry that is next, else it
     /// copies the next rows; where all are level, nothing. Refuses where no targets follow; what would pass a limit of a target; and for
     /// want of memory. Then nothing was appended.

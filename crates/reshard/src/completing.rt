@@ -26,7 +26,6 @@ impl<W: World, J: Naming> Workflow<W, J> {
 
     // Promise: A workflow is completed exactly where its targets serve (else N4): each of its sources is retired, so that no statement
     // reads it, and there is none. That the sources' rows are given up no clause tells
-    // Refuses: completed_before_its_end, completed_sources_are_not_looked_at
     /// Ends the workflow, whose targets serve: its sources' rows are dropped, and their slots are used up. Refuses where the targets don't
     /// serve. Takes no memory.
     pub fn complete(

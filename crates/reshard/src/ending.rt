@@ -54,8 +54,6 @@ impl<W: World, J: Naming> Workflow<W, J> {
     // Promise: A workflow is given up exactly while its targets follow or no source is retired (else N4): each source that it froze serves
     // again and isn't looked at after that, and it is none. That the statements that wait go on, and that no controller takes its
     // targets up again, is for tests
-    // Refuses: cancelled_after_a_retirement, cutover_steps::cancelled_target_serves, cutover_steps::failed_cutover_leaves_frozen,
-    // cancelled_targets_are_kept, cancelled_source_freezes_again
     /// Gives the workflow up, of which no source is retired: each source that is frozen is thawed, and the statements that wait go on. Its
     /// targets' slots are used up, and no controller takes them up again. Refuses where there is none, or a source is retired. Takes no memory.
     pub fn cancel(

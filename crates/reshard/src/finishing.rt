@@ -87,7 +87,6 @@ impl<W: World, J: Naming> Workflow<W, J> {
     // Promise: A whole cutover, begun while targets follow, ends with each source retired and each target serving in what the pass has
     // seen, and the next partition published; else it stopped as a step does, with nothing retired, and was given up. That the targets
     // come level before the first source freezes is for tests
-    // Refuses: whole_cutover_ends_before_its_release, whole_cutover_goes_on_with_one_that_began
     /// Takes all steps of the cutover that are left: the targets serve then, in the place of the sources. Before the first source freezes it
     /// brings the targets forward, as `step` does, until all are level, or twice as many entries were followed as their sources had stored.
     /// Refuses where no targets follow, or a cutover has begun. For want of memory, and where a shard would have more rows or entries than it may, the cutover is given up, of which
@@ -131,7 +130,6 @@ impl<W: World, J: Naming> Workflow<W, J> {
     // Promise: A cutover that had begun is thawed, of which no source was retired: each source serves again and isn't looked at after that,
     // and the targets follow; else it is finished: each source is retired, and each target serves. Refused exactly where none had begun (N4).
     // It takes no memory
-    // Refuses: resume_forgets_a_source
     /// Ends a cutover that has begun: where no source is retired, each is thawed that is frozen, the statements that waited go on, and the
     /// targets follow; else the cutover is finished. Refuses where none has begun. Takes no memory.
     pub fn resume(

@@ -76,7 +76,6 @@ fn ranges_of_both<W: World, J: Naming>(
 impl<W: World, J: Naming> Workflow<W, J> {
     // Promise: In the midst of a cutover the ranges that are served are those of the parts that stay, which with the targets make a partition
     // of the keyspace, of the sources that aren't retired, and of the targets that serve already
-    // Refuses: status_lists_retired_sources, status_lists_targets_that_follow
     /// The ranges of the shards that serve now, or are frozen: of the parts that the workflow leaves, of its sources that aren't retired, and
     /// of its targets that serve. Refuses for want of memory.
     pub fn served_ranges(&self, alloc: Global) -> Result<Vec<KeyRange>, Refusal>

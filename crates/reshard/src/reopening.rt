@@ -51,9 +51,6 @@ impl<W: World, J: Naming> Workflow<W, J> {
     // workflow already, where the shards found aren't those of one beside the other parts of some partition, where each source is retired
     // and each target serves, or where no source is retired (N4), and for want of memory; then it stands as it stood. That N4 is answered of
     // the last two only where a source's rows were dropped, and where the workflow was given up, is for tests
-    // Refuses: reshard_reopening::frozen_is_found_serving, reshard_reopening::reopened_forgets_a_source,
-    // reshard_reopening::reopened_with_a_source_unfrozen, reshard_reopening::target_is_taken_up_that_was_not_named,
-    // reshard_reopening::retired_source_is_found_to_name_nobody, reopened_once_more_publishes_nothing, reopened_publishes_again
     /// Takes up a workflow that another controller stopped, from the shards that are its sources and its targets, each in their order: each
     /// is looked at under its lock. Where a source is frozen or retired its cutover has begun, which `resume` ends and `switch_step` goes
     /// on with; else its targets follow. All memory of the cutover is made. Refuses where there is a workflow already; where the shards aren't

@@ -146,10 +146,6 @@ impl<W: World, J: Naming> Workflow<W, J> {
     // their sources, as a step does that finds all level, or at sources that are retired; and the others look nowhere. The first source
     // retires only where the workflow has frozen all, and the step found each target level, and then with no more rows than a shard that serves
     // may have
-    // Refuses: given_up_cutover_thaws_none, cutover_steps::failed_cutover_leaves_frozen, switch_step_takes_two,
-    // cutover_without_looking_for_room, failed_cutover_leaves_frozen, retires_behind_a_copy, target_serves_before_level,
-    // first_source_retires_before_the_second_froze, cutover_steps::fits_whatever_it_holds, released_before_it_is_published,
-    // partition_is_dropped_unpublished, cutover_copies_twice, freeze_is_noted_by_half
     /// Takes the next step of the cutover, and tells which: the next source is frozen; once all are, the first target moves that isn't level,
     /// else the next source is retired; then the targets serve, the next partition is published, and the statements that waited go on.
     /// Refuses where no targets follow and no cutover has begun. For want of memory, and where a shard would have more rows or entries than

@@ -16,7 +16,6 @@ use vt_value::Refusal;
 
 // Promise: A result set whose rows are pulled, each encoded as it comes and then dropped, is appended in that spelling, in chunks of at
 // most 16,384 bytes of which none is empty; where memory is refused, also to a row that is pulled, the chunks are as they were
-// Refuses: chunk_is_too_large, chunk_is_empty, chunks_in_reverse, row_is_encoded_twice, pulled_row_is_encoded_empty
 /// Appends the packets of the result set with these columns and with the rows that are still to come, the first with this sequence
 /// number, and gives the number after the last. Each row is encoded as it is pulled, and then dropped. It refuses only for want of memory,
 /// also where pulling a row does, and then leaves the stream as it was.

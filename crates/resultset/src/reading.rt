@@ -22,7 +22,6 @@ use std::alloc::Global;
 use vt_value::{Items, Refusal, Row};
 
 // Promise: What is read is a result that has this spelling, and a result that has it is read
-// Refuses: count_without_its_number, negative_count, read_with_eof_packets
 /// The result that has exactly this spelling, with this first sequence number, this status and these ends; none where no
 /// result has it. For a client that wants to know what it was told. It refuses only for want of memory.
 pub fn decode(

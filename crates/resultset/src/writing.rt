@@ -20,8 +20,6 @@ pub(crate) const PAYLOAD_ROOM: usize = 256;
 
 // Promise: A result is appended in its one spelling, with EOF packets or with an OK packet at its end, and the next number given; where
 // memory is refused the buffer is as it was
-// Refuses: length_251_as_one_byte, null_as_empty_text, no_last_eof, part_stays_on_failure, type_of_sum, eof_behind_definitions,
-// set_end_as_eof
 /// Appends the packets of a result, the first with this sequence number, and gives the number after the last. A count
 /// is an OK packet and a refusal an ERR packet. A result set is the number of its columns, a definition of each, EOF,
 /// its rows, EOF, a packet for each; without EOF packets it ends with a packet laid out as OK. It refuses only for want

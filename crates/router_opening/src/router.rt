@@ -292,7 +292,6 @@ pub fn opened_seats<W: World, J: Naming>(
 // Promise: The engine over a well-formed VSchema and ranges that fit, with no rows: each opening shard on the seat of its slot; the opener
 // of its sessions, a pass that has seen nothing, and the seats that no shard is on
 // With: opened_seats
-// Refuses: half_of_the_shards, seats_in_another_order, a_table_more, every_part_has_the_first_shard
 /// The engine over a VSchema and the ranges of its sharded keyspace, whose tables are empty, in the journal that was opened; the opener
 /// of its sessions, a first pass, which has seen nothing, and the seats of the slots on which none of its shards stands. Each shard has these
 /// limits, and so many statements may wait in its buffer. It refuses only for want of memory.

@@ -14,7 +14,6 @@ pub const VARIABLE: &str = "VTGATE_LOG";
 const LONGEST_VALUE: usize = 16;
 
 // Promise: The value of `VTGATE_LOG` asks for the level that it names, in any case; the empty value asks for `off`, and any other for none
-// Refuses: empty_value_is_info, each_level_is_error
 /// The level that a value of the variable asks for, where it names one.
 pub fn asked_level(value: &str) -> Option<LevelFilter>
     ensures { result ≡ level_asked value.now }

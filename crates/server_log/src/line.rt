@@ -43,7 +43,6 @@ impl Line {
     // Promise: Each line of the log has one break, which stands at its end, and otherwise bytes from 20 to 7E alone, whatever a client names itself
     // With: line_of
     // Clauses: one
-    // Refuses: break_is_shown_as_it_is, line_does_not_end
     pub fn as_bytes(&self) -> &[u8]
         ensures bytes { result.now ≡ self.now }
         ensures one { IsOneLine result.now }
@@ -53,8 +52,6 @@ impl Line {
 }
 
 // Promise: A record's line tells the instant, the level, the event and each field in order, each as one word, so that no value ends a word or a line
-// Refuses: quote_ends_a_value, blank_stands_bare, equals_sign_stands_bare, empty_word_stands_bare, key_and_value_change_places,
-// event_stands_before_the_level, spans_are_left_out, level_is_forgotten, warning_has_another_word, time_has_no_places
 /// The line of a record at an instant: its time in UTC, its level and its event, and as fields those of the spans around it and then its own. A
 /// text that isn't one word of visible bytes stands between quotes. Refuses for want of memory, and where a value can't be shown.
 pub fn line_of<D: Display, K: Source, S: Spans>(

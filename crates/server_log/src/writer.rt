@@ -53,7 +53,6 @@ fn is_part(taken: usize, all: usize) -> bool
 }
 
 // Promise: The report of lost lines tells how many there were
-// Refuses: report_tells_half
 /// The line that tells how many lines were lost.
 pub fn report_of(alloc: Global, instant: Timestamp, lost: u64) -> Result<Line, AllocError>
     ensures { IfOk result (λ line. IsReport instant lost line) }
@@ -95,7 +94,6 @@ impl<W: Write> LineWriter<W> {
     }
 
     // Promise: A line is written whole, behind the break that ends a part of one before it, or a front of these is; then it counts as lost
-    // Refuses: part_of_a_line_is_the_line, torn_lines_are_joined
     /// Writes a line by one write, and tells whether it was written whole.
     pub fn put(&mut self, line: &Line) -> bool
         ensures whole { result ≡ true → (self.new.is_torn ≡ false) × Appends (W.contents self.old.device) (W.contents self.new.device) (mended self.old.is_torn line.now) }
@@ -126,7 +124,6 @@ impl<W: Write> LineWriter<W> {
     }
 
     // Promise: No line is written before the lines that were lost are told; a line that isn't written counts among them
-    // Refuses: lost_lines_are_forgotten, line_without_the_report, unwritten_line_is_written
     /// Writes a line, behind the report of the lines that were lost before it, where some were. Tells how many lines are lost then, and untold.
     pub fn tell(&mut self, alloc: Global, instant: Timestamp, line: &Line, lost: u64) -> u64
         ensures written { result ≡ 0 → lost ≡ 0 → Appends (W.contents self.old.device) (W.contents self.new.device) (mended self.old.is_torn line.now) }

@@ -12,7 +12,6 @@ use shard_run::Shard;
 impl<W: World, J: Naming> ShardState<W, J> {
     // Promise: A shard that is retired tells the targets that its entry names. Whether a target's workflow was given up no run tells
     // With: ShardState::{named, give_up}
-    // Refuses: retired_shard_names_no_target
     /// The targets that a retired shard named.
     pub fn named(&self) -> &[Shard]
         ensures { mode W.opening self.now.seen self.now.shard.slot ≡ Mode.Retired

@@ -31,7 +31,6 @@ impl<W: World, J: Naming> ShardState<W, J> {
     // Promise: Freeze, thaw, retire and serve are exactly one entry each, and take no memory. Each makes two looks at its shard first, one right
     // after the other, which its pass keeps: a pass that has no two looks at one shard in a row has changed no mode
     // With: ShardState::{thaw, retire, serve}
-    // Refuses: mode_changes_after_one_look
     /// From now on it takes no commits: two looks in a row, which the pass keeps, and then one entry. Takes no memory.
     pub fn freeze(&mut self, pass: &mut Pass<ShardLaw<W>, J>)
         requires serving { mode W.opening self.old.seen self.old.shard.slot ≡ Mode.Serving }

@@ -43,7 +43,6 @@ impl<W: World, J: Naming> ShardState<W, J> {
     // Promise: A shard tells whether it is retired, and for which targets behind how many stored entries; a retired one gives up its rows,
     // and nothing else of it changes
     // With: ShardState::{is_retired_for, drop_rows}
-    // Refuses: dropped_shard_keeps_its_rows
     /// Whether it is retired, and its rows are still there.
     pub fn is_retired(&self) -> bool
         ensures { result ≡ true → (targets : List which.Shard) × Contains self.now.seen (record { shard = self.now.shard; event = Event.Retire targets }) }

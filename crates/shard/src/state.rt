@@ -290,7 +290,6 @@ impl<W: World, J: Naming> ShardState<W, J> {
     // Promise: A read makes one look, which the pass keeps; its answer is one of the query's over what the run leaves on the shard at that
     // look, where it serves and has at most 2^20 rows, with the number of the shard's entries then; else it says that the shard doesn't
     // serve
-    // Refuses: read_gives_another_table, read_gives_no_rows, read_gives_no_groups, read_gives_opening_rows, read_tells_an_entry_more
     /// What the query gives over the rows that the run, as it is, leaves on the shard, where it serves: one look, which the pass keeps.
     /// Refuses only for want of memory; then too the look was made.
     pub fn read(
@@ -355,13 +354,9 @@ impl<W: World, J: Naming> ShardState<W, J> {
     // the write and its changes; its count is what the write gives over the one database before the entry, in the shard's place. Where the
     // shard is frozen or doesn't serve, the write comes back after one look
     // Clauses: answered, seen, later, shard, stands
-    // Refuses: write_appends_nothing, shard_contents::write_appends_another_change, shard_contents::write_commits_no_statement,
-    // number_of_another_statement, shard_contents::rows_forget_the_commit
     // Promise: It is refused only for its cause at the look's run, and then nothing is appended: a primary key that is there (F12), a limit
     // of rows, stored entries or entries (F24), or memory
     // Clauses: refused, looked
-    // Refuses: shard_contents::duplicate_is_not_tested, shard_contents::always_full, shard_contents::full_one_row_too_late,
-    // shard_contents::full_one_entry_too_late, shard_store::rows_are_counted_short, shard_contents::full_one_stored_entry_too_late
     /// Commits one write of the pass's session, under the number of its statement, where the shard serves and isn't frozen: one look,
     /// which the pass keeps, and then one entry. Answers how many rows it added, removed or really changed; else the look was made, and
     /// the write comes back. It refuses a primary key that is there already, what would pass a limit of the shard, and for want of

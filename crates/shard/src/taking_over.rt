@@ -186,17 +186,6 @@ impl<W: World, J: Naming> ShardState<W, J> {
     // at a place, cut to the target's place, or that none is left; else at most 100 rows of a table of that place, in the order of their
     // keys, behind the last that was copied, and whether they are the last. What is followed is cut to what is copied
     // With: ShardState::{behind, copied_changes, entry_for, rows_to_copy}
-    // Refuses: shard_contents::follows_without_range_filter, shard_contents::copies_one_row_too_few,
-    // shard_contents::copies_rows_out_of_order, shard_contents::copies_beyond_the_place, shard_contents::walk_ends_at_a_row_with_a_place,
-    // shard_contents::walk_ends_out_of_order, shard_contents::last_copy_is_forgotten, shard_contents::last_copy_is_dropped,
-    // shard_contents::copies_from_another_source_are_dropped, shard_contents::superseded_steps_alone_are_kept, shard_contents::summary_is_a_step_behind,
-    // shard_contents::position_of_an_entry_before,
-    // tables_of_another_source_are_copied, finished_table_is_copied_again, tables_behind_the_last_copy_are_whole, last_copy_is_of_another_source,
-    // shard_contents::copies_a_row_again, shard_contents::copy_adds_no_rows,
-    // shard_contents::tables_in_any_order, shard_contents::sorted_rows_are_not_brought_forward,
-    // shard_contents::sorted_rows_are_brought_forward_twice, shard_contents::removed_row_stays_among_the_sorted,
-    // shard_contents::sorted_rows_are_of_another_table, shard_contents::sorts_the_rows_of_another_table,
-    // shard_contents::changes_of_another_table_are_sorted_in
     /// How far a target that follows has come with a source, by its slot. Refuses for want of memory.
     pub fn progress(
         &self,

@@ -36,14 +36,6 @@ impl<W: World, J: Naming> ShardState<W, J> {
     // changes. It is refused for its cause alone: the shard doesn't serve or is frozen (F23), a touched table was changed since (F21,
     // exactly then), a primary key (F12), a limit at the commit (F24), or memory; where it is refused, the transaction is as it was
     // With: ShardState::{read_in, write_in, commit_in}, Shard::{check, read_in, write_in, commit_in}
-    // Refuses: shard_contents::commit_without_conflict_test, shard_contents::conflict_for_every_commit,
-    // shard_contents::commit_leaves_out_a_write, shard_contents::conflict_looks_one_entry_too_late, frozen_shard_takes_a_transaction,
-    // query_touches_at_the_first_entry, shard_contents::changes_of_the_second_table_are_not_seen,
-    // shard_contents::join_sees_one_tables_writes, shard_contents::own_removal_is_not_seen, shard_contents::query_sees_no_own_writes,
-    // shard_contents::query_touches_another_table, shard_contents::refused_commit_loses_its_writes,
-    // shard_contents::second_touch_is_forgotten, shard_contents::transaction_commits_no_changes,
-    // shard_contents::transaction_counts_removed_as_added, shard_contents::transaction_keeps_no_write,
-    // shard_contents::write_sees_no_own_writes, shard_contents::insert_sees_no_own_writes
     /// One look, which the pass keeps. Answers how many entries the shard has then. It refuses where the shard is frozen or doesn't serve;
     /// else where an entry of the shard has changed a table that the transaction touched before it. Takes no memory.
     pub fn check(&mut self, pass: &mut Pass<ShardLaw<W>, J>, tx: &Pending) -> Result<u64, Refusal>

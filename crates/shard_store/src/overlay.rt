@@ -203,7 +203,6 @@ impl<'a> Overlay<'a> {
     // Promise: The rows of a table with changes that it doesn't have, of which no other row is copied: a row that is added comes behind the
     // others, and one that is removed is the first that is this one. What is read of them is what is read of that list
     // With: Overlay::{add, remove, all, chosen, kept, select, has_any_key}, StoredTables::overlay
-    // Refuses: overlay_forgets_a_removed_row, whole_walk_forgets_a_removed_row, gap_has_no_end, new_rows_are_not_sought, added_row_comes_first
     /// The rows of a table, without any change. Refuses for want of memory.
     pub fn of(alloc: Global, table: &'a TableRows) -> Result<Overlay<'a>, Refusal>
         ensures rows { IfOk result (λ overlay. overlay.rows ≡ table.now.rows) }

@@ -66,11 +66,6 @@ impl StoredTables {
     // keeps are those over all rows of the table. What a join gives is what it gives over all pairs of rows of its two tables, whether the
     // store or other sources lend them
     // With: StoredTables::{push_table, row_count, has_at_most, prepare, apply, select, changes, kept, all}, select_joined
-    // Refuses: applied_row_is_in_the_first_table, removal_is_forgotten, apply_makes_half_the_room, replaced_row_stays,
-    // rows_beside_are_not_read, key_beside_is_not_tested, point_read_over_another_column, places_are_not_compared, nulls_are_joined,
-    // on_is_left_out, second_partner_is_lost, only_the_first_row_is_joined, joined_rows_beside_are_not_found, first_rows_beside_are_not_joined,
-    // joined_column_is_another, joined_key_is_another_column, column_of_the_second_row_is_the_firsts, members_of_or_are_conjuncts,
-    // second_key_fixes_another_column, equal_values_are_passed_over
     /// No tables.
     pub fn new(alloc: Global) -> StoredTables
         ensures { result.rows ≡ [] }

@@ -140,7 +140,6 @@ fn some(members: &[Condition<usize>], values: Seen) -> Truth
 
 // Promise: The truth of a condition at a row is SQL's; WHERE keeps the rows where it is true
 // With: keeps
-// Refuses: in_forgets_null_members, not_leaves_the_truth, keeps_unknown_rows, null_is_among_members, rows_that_fail_a_test_are_kept
 /// The truth of a condition at a row, by SQL's three-valued logic. A row has NULL behind its last value. Takes no memory.
 pub fn truth(condition: &Condition<usize>, row: &Row) -> Truth
     ensures { result ≡ truth_at row.now condition.now }

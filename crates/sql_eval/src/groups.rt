@@ -74,7 +74,6 @@ fn aggregates_of(alloc: Global, items: &[Item<usize>]) -> Result<Items<Item<usiz
 impl Grouping {
     // Promise: How groups are made of parts, and shown
     // With: Grouping::joined, group_columns, group_order, copy_item
-    // Refuses: group_columns_shows_one_aggregate_twice, group_order_turns_keys_round
     /// The grouping of an aggregated query. Refuses only for want of memory.
     pub fn of(alloc: Global, query: &Query) -> Result<Grouping, Refusal>
         ensures ok { IfOk result (λ grouping. grouping ≡ grouping_of query.now) }

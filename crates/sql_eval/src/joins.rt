@@ -197,7 +197,6 @@ fn shown_pairs<O: Operator>(
 
 // Promise: What a query gives over the pairs that it is lent is one of its answers
 // With: SlicePairs::new, is_pair, copy_seen
-// Refuses: nulls_are_a_pair, on_is_left_out, second_partner_is_lost, first_row_is_one_wider, limit_of_pairs_is_left_out
 /// What a query that isn't aggregated gives over the pairs that a source lends, as `select_from` over rows. No pair is copied that isn't
 /// kept, and without ORDER BY none behind the last one that its LIMIT leaves is asked for. Refuses only for want of memory.
 pub fn select_pairs<'a, S: PairSource<'a>>(

@@ -182,8 +182,6 @@ impl Narrowed {
     // Promise: A query that shows items again and again is run with each of them once: of whatever that may answer over rows, the columns in the
     // places that are told are what the whole query may answer
     // With: Narrowed::query, Narrowed::places, Narrowed::split, Narrowed::shown
-    // Refuses: item_is_shown_at_another_place, items_are_shown_in_another_order, second_item_is_lost, sum_has_the_number_of_a_count,
-    // narrow_items_are_told, narrow_rows_are_shown_as_they_are, short_list_is_taken_for_different
     /// The query that shows each item of this one once. Refuses only for want of memory.
     pub fn of(alloc: Global, query: Query) -> Result<Narrowed, Refusal>
         ensures ok { IfOk result (λ n. n ≡ query) }

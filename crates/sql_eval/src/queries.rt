@@ -220,8 +220,6 @@ fn select_groups<'a, S: RowSource<'a>>(
 // Promise: What a query gives over the rows that it is lent is one of its answers: rows, or a row for each group with exact aggregates, in
 // an order that its ORDER BY allows, and of these the slice of its LIMIT
 // With: select_local, show, next_kept, all_kept
-// Refuses: one_row_more_is_shown, offset_is_halved, parts_of_all_rows, count_of_column_counts_null, groups_are_counted_together,
-// lent_rows_descend, rows_are_counted_by_halves, kept_rows_are_not_copied, front_loses_its_last_row, front_forgets_the_offset
 /// What a query gives over the rows of its table that a source lends: those whose condition is true, each by the columns that the
 /// query shows, or, of an aggregated query, their groups; in an order that its ORDER BY allows, and of these what its LIMIT leaves. No
 /// row is copied that doesn't go out. Refuses only for want of memory.

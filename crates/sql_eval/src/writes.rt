@@ -97,8 +97,6 @@ fn updated(
 // Promise: What a write does to the rows of its table, or F12 exactly where an INSERT has a primary key twice; rows are the same where they
 // compare as equal
 // With: same_row
-// Refuses: duplicate_among_the_new_alone, change_is_dropped, delete_takes_the_other_rows, update_leaves_a_value,
-// neighbours_of_one_key_are_passed_over, keys_that_are_there_are_passed_over
 /// What a write does to the rows of its table: rows added, removed or really changed. Refuses `DuplicateKey` where an INSERT
 /// has the primary key of a row that is there, or one twice, and else only for want of memory.
 pub fn change_local(

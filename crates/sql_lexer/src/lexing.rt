@@ -172,7 +172,6 @@ fn tokens(alloc: Global, text: &[u8]) -> Result<Vec<Token>, Refusal>
 }
 
 // Promise: The tokens of a text are given, and a syntax error comes only where it has none
-// Refuses: bang_is_less, closing_quote_not_wanted, letter_behind_number_taken, vertical_tab_is_no_blank, word_of_65_bytes_taken
 /// The tokens of a text: words of at most 64 bytes, keywords in any case, words in backquotes, numbers, texts in single
 /// quotes, signs and operators, each as long as possible, with blanks between them. A text with anything else in it, or
 /// with a letter right behind a number, is a syntax error.

@@ -232,10 +232,6 @@ fn whole(alloc: Global, text: &[u8], tokens: &[Token]) -> Result<Statement, Refu
 
 // Promise: The tree of a text is given exactly where the whole grammar has one, within its limits, and a syntax error comes only where it
 // has none
-// Refuses: chained_comparison_parses, second_semicolon_parses, keyword_is_an_identifier, depth_of_65_taken, literal_4097_taken,
-// too_large_number_taken, sign_of_a_number_lost, not_of_an_in_lost, descending_key_ascends, escaped_quote_lost, last_column_dropped,
-// where_reads_as_unequal, any_name_is_a_setting, qualified_column_in_update_is_taken, qualifier_lost, inner_without_join_is_taken,
-// sides_of_on_swapped
 /// The tree of a text, which is one statement of the grammar with at most one semicolon behind it. Any other text is a
 /// syntax error, and so is one that passes a limit: 64 open parentheses and NOTs on one path of a condition, 4096
 /// literals, numbers from -2^63 to 2^64 - 1. So is an UPDATE or a DELETE that has a column behind the name of a table.

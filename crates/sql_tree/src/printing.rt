@@ -169,7 +169,6 @@ fn put_statement(out: &mut Vec<u8>, statement: &Statement) -> Result<(), Refusal
 
 // Promise: A statement is printed in its one form, and an item of a select list too; only memory refuses it
 // With: print_item
-// Refuses: and_in_an_and_is_bare, backslash_printed_once, keyword_printed_bare, offset_lost, sign_of_a_number_lost, unequal_as_bang
 /// The text of a statement in its one form: keywords in upper case, one blank between words, after commas and around
 /// operators, an identifier bare, or in backquotes where it is a keyword, ASC and an OFFSET of 0 left out, and
 /// parentheses only where an AND or an OR needs them.

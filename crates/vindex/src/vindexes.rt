@@ -27,7 +27,6 @@ pub trait Vindex {
 
     // Promise: A vindex maps a key to its keyspace id, without memory
     // With: Numeric::{map, id_of}, ReverseBits::{map, id_of}, Binary::map, BinaryMd5::map, Ksid::as_slice
-    // Refuses: neighbours_of_the_high_half_alone, pairs_keep_their_places
     /// The keyspace id of a key. It takes no memory.
     fn map<'k>(key: &'k Self::Key) -> Ksid<'k>
         ensures id { ksid_bytes result ≡ keyspace_id key.now }
@@ -40,7 +39,6 @@ pub trait Reversible: Vindex {
 
     // Promise: The id of a number gives the number back, and no other id gives it
     // With: Reversible::back, Numeric::reverse, ReverseBits::reverse, map_and_reverse
-    // Refuses: reverse_answers_none
     /// The key that has this keyspace id, or `None` where no key has it.
     fn reverse(id: &Ksid) -> Option<Self::Key>
         ensures key { result ≡ key_of (ksid_bytes id.now) }

@@ -24,7 +24,6 @@ impl Model for GroupBy {
 impl GroupBy {
     // Promise: A query's columns of GROUP BY are the same whatever key they carry, and so are those of its copies
     // With: GroupBy::{copy, as_slice}
-    // Refuses: copied_group_by_is_empty
     /// These columns.
     pub fn new(columns: Items<usize>, hashing: Hashing) -> GroupBy
         ensures { result ≡ columns }

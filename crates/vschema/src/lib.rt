@@ -36,7 +36,6 @@ pub use write_checks::{is_out_of_range, is_too_long};
 
 // Promise: Each join that a statement means is one that shards can make by themselves: both tables lie in one keyspace, and either neither has a
 // vindex, or ON has the columns of the vindex that both have
-// Refuses: joins_tables_of_two_vindexes
 /// The pairs of each join that a statement means lie on one shard each.
 pub fn joins_lie_in_place()
     ensures { (schema : VSchema) (s : Select) (q : Query) → typed_select schema s ≡ Ok q → JoinsInPlace schema q }

@@ -12,9 +12,6 @@ impl VSchema {
     // Promise: A text is the VSchema that it declares, or the fault with the least number that applies; every VSchema is well-formed, as
     // its type keeps
     // With: VSchema::formed, vschema_document::{parse, read_document, first_fault, SchemaFault::number}
-    // Refuses: vschema_document::read_faults_in_another_order, read_gives_no_tables, vschema_document::read_takes_no_json_for_ill_formed,
-    // vschema_document::read_takes_nullable_keys, vschema_document::read_takes_unknown_members, vschema_document::names_are_never_twice,
-    // vschema_document::each_name_stands_first
     /// The VSchema that a JSON text declares, or the fault with the least number that applies. Beside these it refuses only
     /// for want of memory. Keyspaces, and the tables of each, are in the order of their names.
     pub fn read(alloc: Global, text: &str) -> Result<VSchema, SchemaFault>
@@ -30,7 +27,6 @@ impl VSchema {
         }
     }
     // Promise: A VSchema is the same whatever key it carries
-    // Refuses: keyed_vschema_lacks_a_table
     /// The VSchema, with the key by which the values of groups are hashed. One that was read has a key that everybody knows, so a program
     /// with clients gives it one of its own.
     pub fn keyed(self, hashing: &Hashing) -> VSchema

@@ -558,10 +558,6 @@ impl VSchema {
     // Promise: A statement of the grammar is its typed statement, or the first refusal that applies: F4 (of a join the first table before the
     // second), F18, F17, F5 (also a bare name that both tables of a join have), F3 (also a join that shards can't make by themselves), F19,
     // F14, F13, F15, F16, in this order
-    // Refuses: resolve_takes_unknown_tables_for_columns, resolve_drops_the_condition, resolve_takes_commit_for_rollback,
-    // ungrouped_column_taken, sum_of_texts_taken, insert_counts_before_names, insert_takes_null_anywhere, update_sets_keys,
-    // delete_drops_the_condition, unsigned_2_to_64_taken, insert_takes_a_column_named_twice, update_sets_a_column_twice,
-    // first_place_counts_from_the_end, name_of_both_tables_is_the_first, table_is_joined_with_itself
     /// The statement with its names resolved, or the first refusal that applies, in this order: an unknown table; a column
     /// named twice in INSERT's list or in SET; a row with another number of values than columns; an unknown column; a number
     /// with a text, a SUM of texts, or SET of a key; a column of an aggregated query that isn't grouped; a column that INSERT

@@ -69,7 +69,6 @@ pub fn refuse_plainly<O: Sink, E: Sink>(fault: Fault, output: &mut O, errors: &m
 // Promise: A run that has failed has the status 2 where its words or its VSchema are wrong, and otherwise 1
 // With: ranges_of, schema_of, has_too_many
 // Clauses: status, fault, many
-// Refuses: wrong_words_have_status_one, every_fault_is_a_wrong_word, schema_without_memory_is_wrong, two_ranges_are_too_many
 /// Tells why a run has failed, and gives its status: 2 where the words or the VSchema are wrong, otherwise 1.
 pub fn refuse<O: Sink, E: Sink>(fault: Fault, output: &mut O, errors: &mut E) -> u8
     ensures failed { result ≢ SUCCESS }

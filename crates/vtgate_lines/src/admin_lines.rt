@@ -101,7 +101,6 @@ fn single_word(words: &[u8]) -> Option<AdminLine>
 }
 
 // Promise: The words of an admin line ask for exactly one thing, or are unknown
-// Refuses: no_line_creates, switch_is_one_step, targets_are_replaced
 /// What the words of a line ask for. Refuses for want of memory for the ranges.
 pub fn read_admin_line(alloc: Global, words: &[u8]) -> Result<AdminLine, Refusal>
     ensures ok { IfOk result (AsksFor words.now) }

@@ -55,7 +55,6 @@ pub(crate) fn behind<'b>(bytes: &'b [u8], front: &[u8]) -> Option<&'b [u8]>
 
 // Promise: An input's first line and what follows it; what a line says
 // With: read_line
-// Refuses: lines_end_with_return, name_of_capitals
 /// The first line of an input, without the byte 0A that ends it, and what follows it. The last line may lack that byte.
 /// `None` where nothing is left.
 pub fn next_line(input: &[u8]) -> Option<(&[u8], &[u8])>

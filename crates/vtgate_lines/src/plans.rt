@@ -176,8 +176,6 @@ fn typed_line(
 }
 
 // Promise: A plan's line is that of the text's route and shards; a refusal comes for its cause
-// Refuses: plan_forgets_the_condition, none_is_scatter, shards_without_blanks, unsharded_shard_is_a_range,
-// statement_without_a_table_is_unsharded
 /// The line of a statement's plan over the ranges of the sharded keyspace, in their order: the name of its route, a colon,
 /// and each shard that it has after a blank, as `IN: -80 80-`. A table of the unsharded keyspace has the shard `0`; a
 /// statement without a table has none. An INSERT into a sharded table is `EqualUnique` where its rows have one shard, and

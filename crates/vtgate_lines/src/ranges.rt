@@ -49,7 +49,6 @@ pub(crate) fn named_ranges(alloc: Global, text: &str) -> Result<Option<Vec<KeyRa
 }
 
 // Promise: A word tells ranges exactly where it has the names of at most 64 that cover each id once; they come in range order
-// Refuses: sixty_five_ranges
 /// The ranges that a comma list of names tells, as `-80,80-`, in the order of their begins. `None` where some part is no
 /// range's name, where there are more than 64, or where some id lies in none of them or in several.
 pub fn read_ranges(alloc: Global, text: &str) -> Result<Option<Vec<KeyRange>>, Refusal>

@@ -154,7 +154,6 @@ pub fn put_shown_rows(alloc: Global, out: &mut Vec<u8>, rows: ShownRows) -> Resu
 
 // Promise: Results, counts and refusals have their one printed form
 // With: put_shown_rows, count_line, refusal_line
-// Refuses: values_parted_by_commas, null_in_lower_case, delete_byte_as_it_is
 /// Puts a result: a line for each row, its values with bars between them, and a line that tells how many rows there are,
 /// as `rows 2`. A number is in decimal, NULL is `NULL`, and a text stands in single quotes, with each byte outside 20..7E,
 /// each quote and each backslash as `\x` and two lower-case hexadecimal digits. Refuses only for want of memory.
