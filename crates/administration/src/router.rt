@@ -1,3 +1,4 @@
+//! Opens a router with empty tables together with the administrator of its sharded keyspace, over one journal.
 ghost use Rattle.std.specs.Prelude.{◌≡◌, ◌≤◌, ◌^◌, [], None, IsTrue, IfOk, IfErr, drop, length};
 ghost use Rattle.vschema.specs.WellFormed.{is_vschema};
 ghost use Rattle.journal.specs.Views.{fresh_seats, new_pass};

@@ -1,3 +1,4 @@
+//! The parts of one aggregate column, as the shards answer them, and how they are joined into the column's value.
 ghost use Rattle.std.specs.Prelude.{◌≡◌, [], ◌∷◌, ◌+ℤ◌, map, FitsSigned, IfOk, IfErr, IfSome, OnOk};
 ghost use Rattle.std.specs.Int.{w128};
 ghost use Rattle.vt_value.specs.Values.{value_at};

@@ -1,3 +1,4 @@
+//! COUNT of a column and COUNT(*): parts are numbers, joined by addition.
 ghost use Rattle.vt_value.specs.declared.value.Value.{Value};
 
 use crate::joining::Aggregate;

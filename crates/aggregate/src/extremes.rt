@@ -1,3 +1,4 @@
+//! MIN and MAX. Both skip NULL; the part of a bag is its least or greatest value, or none.
 ghost use Rattle.std.specs.Prelude.{◌≡◌, Some, OnOk, OnErr, IfErr};
 ghost use Rattle.aggregate.specs.Aggregates.{lesser, greater};
 ghost use Rattle.aggregate.specs.Parts.{join_options};

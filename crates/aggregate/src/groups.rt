@@ -1,3 +1,4 @@
+//! Joins the groups that several shards answer. Groups are found by a hash of their values, and each keeps the parts of its aggregates.
 ghost use Rattle.std.specs.Prelude.{◌≡◌, ◌++◌, List, [], ◌∷◌, Some, Bool, ◌<◌, map, take, drop, length, slice_get, slice_index_or, slice_set, IfOk, IfErr, OnOk, if◌then◌else◌};
 ghost use Rattle.std.specs.List.{IsDistinct, zip};
 ghost use Rattle.indexmap.specs.IndexSet.{insert_key};

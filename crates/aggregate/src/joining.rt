@@ -1,3 +1,4 @@
+//! What every aggregate provides, so that each shard can aggregate its own rows and the router joins the parts.
 ghost use Rattle.std.specs.Prelude.{◌≡◌, List, [], ◌∷◌, OnOk, OnErr, IfOk, IfErr};
 ghost use Rattle.vt_value.specs.declared.value.Value.{Value};
 ghost use Rattle.aggregate.specs.Aggregates.{IsHeld};

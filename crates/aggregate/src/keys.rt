@@ -1,3 +1,5 @@
+//! The values by which a group is found in a hash map; NULL is equal to NULL here, unlike in a comparison of SQL. And the hasher, whose key is made
+//! when the program starts, so that no client can choose values of one hash.
 ghost use Rattle.std.specs.Prelude.{◌≡◌, fold};
 ghost use Rattle.vt_value.specs.Values.{same_row};
 ghost use Rattle.aggregate.specs.Keys.{value_writes};

@@ -1,3 +1,4 @@
+//! SUM, exact in 128 bits: as many numbers as fit in memory can't overflow it.
 ghost use Rattle.std.specs.Prelude.{◌≡◌, ◌+ℤ◌, IfSome, FitsSigned};
 ghost use Rattle.std.specs.Int.{w128};
 ghost use Rattle.aggregate.specs.Parts.{join_options, present_number};

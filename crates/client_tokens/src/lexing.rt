@@ -1,3 +1,4 @@
+//! Cuts what a client says into tokens, one at a time from the front. Each kind of token has a function, which tells how many bytes it takes.
 ghost use Rattle.std.specs.Prelude.{◌≡◌, ◌++◌, [], ℕ, List, OnOk, IfOk, IfSome, Some, length, option_map};
 ghost use Rattle.client_tokens.specs.declared.token.Token.{Token};
 ghost use Rattle.client_tokens.specs.Tokens.{HasTokens, onto_tokens};

@@ -1,3 +1,5 @@
+//! Tokens of what a client says. They borrow nothing: a token has its kind, and where it begins and ends.
+
 /// A word that the grammar of client statements names; it stands in a text in any case.
 #[derive(Clone, Copy, Debug, PartialEq, Eq)]
 pub enum Keyword {

@@ -1,3 +1,4 @@
+//! Which shards a router opens with over a VSchema and ranges, and when ranges make an opening.
 ghost use Rattle.std.specs.Prelude.{◌≡◌, ◌++◌, ◌↔◌, [], length, map, replicate, IfOk, IfErr, OnOk, IsTrue};
 ghost use Rattle.std.specs.List.{AllByRecursion};
 ghost use Rattle.keyrange.specs.Names.{IsNamed};

@@ -1,3 +1,4 @@
+//! What a user of the journal decides: what entries are, which may follow a run, and which table of words a seat belongs to.
 ghost use Rattle.std.specs.Prelude.{ℕ, List, Option};
 ghost use Rattle.atomic_table.specs.Seated.{TableId};
 

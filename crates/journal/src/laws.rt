@@ -1,3 +1,4 @@
+//! Laws of runs, proved of all of them: no code calls these functions.
 ghost use Rattle.journal.specs.Laws.{RunsAgree, LaterThanLater};
 
 use crate::law::Law;

@@ -1,3 +1,5 @@
+//! A new journal. Its seats, its opener and its first pass are handed out once, under a name of their own, so that those of two journals
+//! are never mixed.
 ghost use Rattle.std.specs.Prelude.{◌≡◌, [], None, IfOk, IfErr, OnOk};
 ghost use Rattle.vt_value.specs.declared.refusal.Refusal.TheVariants.{OutOfMemory};
 

@@ -1,3 +1,4 @@
+//! Opens sessions: gives each a number that no other has.
 ghost use Rattle.std.specs.Prelude.{◌≡◌, ◌⊎◌, ◌+◌, ◌<◌, ◌≤◌, ◌^◌, [], Some, IfOk, IfErr};
 ghost use Rattle.std.specs.List.{filter};
 ghost use Rattle.vt_value.specs.declared.refusal.Refusal.TheVariants.{OutOfMemory, ShardFull};

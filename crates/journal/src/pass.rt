@@ -1,3 +1,4 @@
+//! What one session has seen of the run. Passes meet where threads exchange what they have seen, and each commit is numbered by its pass.
 ghost use Rattle.std.specs.Prelude.{ℕ, Some, ◌≡◌, ◌≢◌, ◌⊎◌, ◌+◌, ◌++◌, [], None, IfOk, IfErr, ◌≤◌, ◌<◌, ◌^◌};
 ghost use Rattle.vt_value.specs.declared.refusal.Refusal.TheVariants.{OutOfMemory, ShardFull};
 

@@ -1,3 +1,5 @@
+//! The rule of the shared words: what each step may do to them, and what it tells the seat that takes it. These types stand in proofs alone;
+//! they are what the kit's table of atomic words is proved with.
 use crate::law::Law;
 use atomic_table::{Join, Play, Split, TableRule};
 use std::collections::LinkedList;

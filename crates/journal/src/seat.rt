@@ -1,3 +1,4 @@
+//! The right to append to one slot. There is one seat a slot, kept under the shard's lock, so a slot has one writer.
 ghost use Rattle.std.specs.Prelude.{◌≡◌, ◌<◌, ◌≤◌, ◌^◌, ◌++◌, ◌∷◌, [], Some, length, List, ℕ};
 ghost use Rattle.std.specs.List.{filter};
 

@@ -1,3 +1,5 @@
+//! The atomic words behind the journal. Each step here is one atomic operation, with what the rule says of it; seats, passes and the opener
+//! call them.
 ghost use Rattle.std.specs.Prelude.{◌≡◌, ◌<◌, ◌≤◌, ◌^◌, ◌++◌, []};
 ghost use Rattle.std.specs.List.{count_by};
 ghost use mathlib.Core.List.{IsPrefix};

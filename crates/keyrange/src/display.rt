@@ -1,3 +1,4 @@
+//! Key ranges and their edges as text: `40-80`.
 ghost use Rattle.std.specs.Prelude.{◌≡◌, ◌<◌, ◌∷◌, [], Some, encode_utf8};
 ghost use Rattle.keyrange.specs.declared.KeyRange.{KeyRange};
 ghost use Rattle.keyrange.specs.Names.{hex_digit, hex, range_text};

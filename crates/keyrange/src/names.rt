@@ -1,3 +1,4 @@
+//! Reads a key range from its name, and the law that a name means one range.
 ghost use Rattle.std.specs.Prelude.{◌≡◌, ◌≢◌, ◌<◌, ◌≤◌, ℕ, List, length, IfSome, IfNone, Some};
 ghost use Rattle.keyrange.specs.Ranges.{IsByteString};
 ghost use Rattle.keyrange.specs.declared.KeyRange.{KeyRange};

@@ -1,3 +1,4 @@
+//! What ranges are asked: whether an id lies in one, whether two overlap, and whether several hold each id once.
 ghost use Rattle.std.specs.Prelude.{◌≡◌, ◌↔◌, IsTrue};
 ghost use Rattle.keyrange.specs.Ranges.{is_before, has_id, Overlap, Cover};
 ghost use Rattle.keyrange.specs.inner.Covers.{later, is_in_one, has_edges_in_one, HasByteEdges};

@@ -1,3 +1,4 @@
+//! Reads what a client asks for in the command phase.
 ghost use Rattle.std.specs.Prelude.{◌≡◌, IfErr, option_map};
 ghost use Rattle.std.specs.Result.{result_ok};
 ghost use Rattle.mysql_message.specs.Messages.{request_of, option_of, command_of};

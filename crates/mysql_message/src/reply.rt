@@ -1,3 +1,4 @@
+//! Writes the packets that carry no rows: OK, EOF, ERR and the line of COM_STATISTICS.
 ghost use Rattle.std.specs.Prelude.{◌≡◌, ◌+◌, ◌≤◌, ◌++◌, length, IfErr, IfOk, IsOk, OnErr, OnOk};
 ghost use Rattle.mysql_packet.specs.Frames.{frame, number_after};
 ghost use Rattle.mysql_message.specs.Messages.{ok_payload, eof_payload, set_end_payload, statistics_payload, err_payload};

@@ -1,3 +1,4 @@
+//! Reads payloads from a stream that comes in pieces. It keeps only the bytes of a payload that isn't whole yet.
 ghost use Rattle.std.specs.Prelude.{◌≡◌, ◌↔◌, IsTrue, ℕ, [], ◌≤◌, ◌++◌, List, None, Some, drop, IfErr, IfOk, IfSome, IsNone, OnErr, vec_len};
 ghost use Rattle.mysql_packet.specs.Frames.{IsRefusedAfter};
 ghost use Rattle.mysql_packet.specs.Framing.{HasFramed};

@@ -1,3 +1,5 @@
+//! Takes whole payloads off the front of some bytes. A payload of 2^24 - 1 bytes or more comes in several packets, which are joined.
+
 // What stands at the front of a stream: less than a payload, a header that is refused, or a whole payload.
 ghost use Rattle.std.specs.Prelude.{◌≡◌, [], ◌∷◌, ◌+◌, ◌*◌, ◌%◌, ◌^◌, ◌<◌, ◌≤◌, length, take, drop, IfOk};
 ghost use Rattle.mysql_packet.specs.Frames.{full, header_fault};

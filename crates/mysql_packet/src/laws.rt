@@ -1,3 +1,4 @@
+//! Laws of streams of packets, proved of all of them: no code calls these functions.
 ghost use Rattle.std.specs.List.{AllByRecursion};
 ghost use Rattle.std.specs.Prelude.{◌≡◌, ◌+◌, ◌*◌, ◌/◌, ◌<◌, ℕ, List, [], length};
 ghost use Rattle.mysql_packet.specs.Frames.{full, stream_of, IsRefusedAfter, IsTaken, Splits};

@@ -1,3 +1,4 @@
+//! Writes payloads as packets.
 ghost use Rattle.std.specs.Prelude.{◌≡◌, ◌+◌, ◌*◌, ◌%◌, ◌<◌, ◌≤◌, ◌++◌, length, IfErr, IfOk, IsOk, OnErr, OnOk};
 ghost use Rattle.mysql_packet.specs.Frames.{frame, full, header, number_after, packet};
 ghost use Rattle.vt_value.specs.declared.refusal.Refusal.{Refusal};

@@ -1,3 +1,4 @@
+//! Shows some columns of each row. A row that is shown whole is passed on as it is, without a copy.
 ghost use Rattle.std.specs.Prelude.{◌≡◌, true, length, map, IsTrue, IfOk, IfErr};
 ghost use Rattle.std.specs.List.{range_with_len};
 ghost use Rattle.vt_value.specs.Values.{value_at};

@@ -1,3 +1,4 @@
+//! Rows of one input after those of another, in no order of their own.
 ghost use Rattle.std.specs.Prelude.{◌≡◌, IsTrue, flat_map};
 ghost use Rattle.operators.specs.Slices.{first_is};
 

@@ -1,3 +1,4 @@
+//! Merges inputs that are in order already. It holds one row of each input, and never sorts.
 ghost use Rattle.std.specs.Prelude.{◌≡◌, [], ◌∷◌, false, All, map, flat_map, MatchOption, IsPermutation, IsSorted, IfOk, IfErr, length, ◌<◌};
 ghost use Rattle.operators.specs.Orders.{row_cmp};
 ghost use Rattle.operators.specs.inner.Merges.{row_lt, head_rows, earlier, IsFirst};

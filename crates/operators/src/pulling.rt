@@ -1,3 +1,4 @@
+//! What every operator is: something that gives one row at a time.
 ghost use Rattle.std.specs.Prelude.{◌≡◌, List, [], ◌∷◌, ◌↔◌, Bool, IsTrue, IsErr, IfOk, IfErr, MatchOption, ⊤};
 ghost use Rattle.vt_value.specs.declared.value.Value.{Value};
 

@@ -1,3 +1,4 @@
+//! LIMIT and OFFSET. It stops calling its input once it has what it needs.
 ghost use Rattle.std.specs.Prelude.{◌≡◌, [], ◌∷◌, IsTrue, IfOk, IfErr, IsErr, IsOk, OnErr, OnOk, ◌↔◌, MatchOption, true, false, drop, ℕ};
 ghost use Rattle.operators.specs.Slices.{sliced};
 ghost use Rattle.operators.specs.Calls.{Calls, CallsAtMost, most_calls};

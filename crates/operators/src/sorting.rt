@@ -1,3 +1,4 @@
+//! ORDER BY: the order of two rows by sort keys, and sorting by it.
 ghost use Rattle.std.specs.Prelude.{◌≡◌, IsPermutation, IsSorted, IfOk, IfErr, OnOk};
 ghost use Rattle.vt_value.specs.Values.{value_at};
 ghost use Rattle.operators.specs.Orders.{value_order, row_cmp};

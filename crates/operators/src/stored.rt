@@ -1,3 +1,4 @@
+//! Rows that are in memory already, as an operator.
 ghost use Rattle.std.specs.Prelude.{◌≡◌, reverse, IfOk, IfErr};
 
 use crate::pulling::Operator;

@@ -1,3 +1,4 @@
+//! What a plan is made of: the route, the query for each shard, and what is made of the answers.
 use crate::routes::Route;
 use sql_eval::Grouping;
 use sql_tree::{Item, Key, Limit};

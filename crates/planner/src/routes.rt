@@ -1,3 +1,4 @@
+//! Which shards of its keyspace a statement needs, by the values that its condition or its rows give for the vindex column.
 ghost use Rattle.std.specs.Prelude.{◌≡◌, IfOk, IfErr, filter, map, slice_get};
 ghost use Rattle.vt_value.specs.Values.{value_at};
 ghost use Rattle.planner.specs.Routes.{type_at, is_held, route_among, route_by, sharded_route, filter_route, route_of, insert_route, write_route};

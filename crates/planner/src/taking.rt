@@ -1,3 +1,4 @@
+//! Which ranges a route takes. Keyspace ids are made once for a statement, not once for each shard.
 ghost use Rattle.std.specs.Prelude.{◌≡◌, ◌&&◌, [], IfOk, IfErr, IfNone, IfSome};
 ghost use Rattle.std.specs.List.{list_any};
 ghost use Rattle.keyrange.specs.declared.KeyRange.{KeyRange};

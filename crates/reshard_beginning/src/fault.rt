@@ -1,3 +1,4 @@
+//! Why a call of a workflow is refused: N1 to N5, or what a shard refuses.
 use std::fmt::{Display, Error, Formatter, Write};
 use vt_value::Refusal;
 

@@ -1,3 +1,4 @@
+//! Reads a result back from its packets. No server needs it: that its packets have one meaning is said and tested by it.
 ghost use Rattle.std.specs.Prelude.{◌≡◌, ℕ, ◌<◌, ◌^◌, List, ◌++◌, length, map, IsTrue, IfOk, IfErr, IfSome, Some};
 ghost use Rattle.std.specs.List.{AllByRecursion};
 ghost use Rattle.vt_value.specs.Values.{Row};

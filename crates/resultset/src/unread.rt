@@ -1,3 +1,4 @@
+//! Why bytes are no result.
 ghost use Rattle.std.specs.Prelude.{◌≡◌};
 ghost use Rattle.resultset.specs.declared.unread.Unread.TheVariants.{OutOfMemory};
 

@@ -1,3 +1,4 @@
+//! Writes a result as packets: the column count, the definitions, the rows, and what ends them. Packets go straight into the output.
 ghost use Rattle.std.specs.Prelude.{◌≡◌, ◌+◌, ◌≤◌, ◌∷◌, [], ◌++◌, length, map, take, IfErr, IfOk, IsOk, OnErr, OnOk};
 ghost use Rattle.mysql_packet.specs.Numbers.{little_endian, length_encoded};
 ghost use Rattle.mysql_packet.specs.Frames.{frame, frames_from, number_after, number_after_all};

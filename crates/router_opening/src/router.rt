@@ -1,3 +1,4 @@
+//! Opens a router with empty tables: makes a shard for each range, and the engine over them.
 ghost use Rattle.std.specs.Prelude.{◌≡◌, ◌==◌, ℕ, ◌<◌, ◌≤◌, ◌^◌, [], None, IsTrue, IfOk, IfErr, Contains, length, map, filter, take, drop, slice_index_or};
 ghost use Rattle.std.specs.List.{range_with_len};
 ghost use Rattle.vschema.specs.WellFormed.{is_vschema};

@@ -1,3 +1,5 @@
+//! What a shard holds, apart from its seat: rows, stored entries, mode and place. A commit is made in two parts: one takes all memory and may be
+//! refused, the other changes the rows and can't fail.
 ghost use Rattle.std.specs.Prelude.{◌≡◌, ◌+◌, ◌<◌, ◌≤◌, ◌^◌, ◌++◌, ◌∷◌, [], Ok, IfOk, IfErr, OnOk, IsTrue, length, slice_index_or, vec_len, vec_capacity};
 ghost use Rattle.vschema.specs.Schema.{no_table};
 ghost use Rattle.std.specs.List.{AllByRecursion};

@@ -1,3 +1,4 @@
+//! Equal shards and changes, with memory of their own, and two helpers for values that are handed on.
 ghost use Rattle.std.specs.Prelude.{◌≡◌, ◌∷◌, [], Ok, Err, IfOk, IfErr};
 
 use shard_run::Shard;

@@ -1,3 +1,4 @@
+//! The steps that a target has taken with its sources. Only those are kept that no later one supersedes.
 ghost use Rattle.std.specs.Prelude.{◌≡◌, ◌<◌, vec_len, vec_capacity};
 ghost use Rattle.shard_contents.specs.inner.Progress.{source_of};
 ghost use Rattle.shard_contents.specs.Kept.{is_copy_from, supersedes, keep};

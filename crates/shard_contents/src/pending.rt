@@ -1,3 +1,4 @@
+//! A transaction that isn't committed: what it has touched, for conflicts, and what it has written.
 ghost use Rattle.std.specs.Prelude.{◌≡◌, false, ◌↔◌, ◌++◌, ◌+◌, ◌<◌, ◌≤◌, ◌∷◌, [], IfOk, IfErr, OnOk, OnErr, length, vec_len, vec_capacity};
 ghost use Rattle.shard_contents.specs.Transactions.{nothing_done, changes_table, is_changed, is_conflict, is_touched, touched_with, touched_all};
 ghost use Rattle.vschema.specs.Sources.{source_tables};

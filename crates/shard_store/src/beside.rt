@@ -1,3 +1,4 @@
+//! The rows of a table, without a promise that their keys differ: a row lies in the slot of its key, or in a list if another row has that slot.
 ghost use Rattle.std.specs.Prelude.{◌≡◌, ◌+◌, ◌<◌, ◌≤◌, ◌++◌, ◌∷◌, [], IfOk, IfErr, OnOk, IsPermutation, length, position};
 ghost use Rattle.vschema.specs.Database.{same_row, without};
 ghost use Rattle.shard_store.specs.Slots.{rows_in};

@@ -1,3 +1,4 @@
+//! By which columns a table's rows are stored. The vindex column comes first, so that a lookup by it walks few rows.
 ghost use Rattle.std.specs.Prelude.{◌≡◌, IsTrue, IfOk, IfErr, List};
 ghost use Rattle.vt_value.specs.declared.value.Value.{Value};
 ghost use Rattle.vschema.specs.Schema.{key_of};

@@ -1,3 +1,4 @@
+//! The tables of a shard. Changes are prepared with all their memory first, and then applied without any.
 ghost use Rattle.std.specs.Prelude.{◌≡◌, ◌==◌, ◌+◌, ◌<◌, ◌≤◌, ◌^◌, if◌then◌else◌, ◌++◌, ◌∷◌, [], ℕ, IsTrue, OnOk, OnErr, IfOk, IfErr, length, slice_set, count_by, IsPermutation, sum_by, nat_le};
 ghost use Rattle.std.specs.List.{AllByRecursion};
 ghost use Rattle.vschema.specs.declared.changes.RowChange.TheVariants.{Added, Removed};

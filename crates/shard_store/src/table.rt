@@ -1,3 +1,4 @@
+//! The rows of a table whose keys differ, each in the slot of its key.
 ghost use Rattle.std.specs.Prelude.{◌≡◌, ◌<◌, ◌^◌, ◌&&◌, not, ◌++◌, ◌∷◌, [], IsSome, IsTrue, IfOk, IfErr, OnOk, OnErr, IsPermutation, option_to_list, option_copied, filter, length, slice_index, is_some, if◌then◌else◌};
 ghost use Rattle.std.specs.List.{AllByRecursion, list_any};
 ghost use Rattle.vt_value.specs.Values.{value_at};

@@ -1,3 +1,4 @@
+//! The truth of conditions by SQL's three-valued logic, at a row or at a pair of rows, without copies.
 ghost use Rattle.std.specs.Prelude.{◌≡◌, ◌++◌, map, IsTrue};
 ghost use Rattle.std.specs.List.{list_any};
 ghost use Rattle.vt_value.specs.Values.{in_list, is_null, is_true, all_true, any_true};

@@ -1,3 +1,5 @@
+//! What a query gives over the rows of one table. Groups, order and LIMIT each have a way of their own, so that no more rows are copied than are
+//! shown.
 ghost use Rattle.std.specs.Prelude.{◌≡◌, ◌≤◌, ◌^◌, ◌∷◌, [], IsTrue, length, pos, IfOk, IfErr, IfSome, map, filter, true};
 ghost use Rattle.std.specs.List.{list_all};
 ghost use Rattle.vschema.specs.Checks.{is_aggregated};

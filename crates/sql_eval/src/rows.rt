@@ -1,3 +1,4 @@
+//! The value of a row at a place, and when rows or their keys are equal.
 ghost use Rattle.std.specs.Prelude.{◌≡◌, zip};
 ghost use Rattle.std.specs.List.{list_any, list_all};
 ghost use Rattle.std.specs.Ordering.{is_eq};

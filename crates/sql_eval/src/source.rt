@@ -1,3 +1,4 @@
+//! Lends rows one at a time, so that a query copies only what it shows, and LIMIT ends a walk early.
 ghost use Rattle.std.specs.Prelude.{◌≡◌, List, [], ◌∷◌, MatchOption, IfOk, IfErr, OnOk, ◌≤◌, ◌^◌, length, filter, map, take, drop};
 ghost use Rattle.vt_value.specs.declared.value.Value.{Value};
 ghost use Rattle.operators.specs.Slices.{columns_of, sliced};

@@ -1,3 +1,4 @@
+//! What a write does to the rows of its table, as a list of changes: the rows themselves stay.
 ghost use Rattle.std.specs.Prelude.{◌≡◌, ◌⊎◌, IfOk, IfErr, Ok, Err, map, filter, flat_map, option_to_list};
 ghost use Rattle.vschema.specs.declared.changes.RowChange.TheVariants.{Added, Removed};
 ghost use Rattle.sql_eval.specs.Conditions.{is_kept};

@@ -1,3 +1,4 @@
+//! Cuts a text of SQL into tokens, one at a time from the front.
 ghost use Rattle.std.specs.Prelude.{◌≡◌, ◌≤◌, ◌++◌, ◌⊎◌, ℕ, List, IfOk, IfErr, MatchResult, true, length, drop};
 ghost use Rattle.sql_lexer.specs.declared.token.Token.{Token};
 ghost use Rattle.sql_lexer.specs.declared.token.TokenKind.{TokenKind};

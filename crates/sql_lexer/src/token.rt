@@ -1,3 +1,4 @@
+//! Tokens of SQL. They borrow nothing: a token has its kind, and where it begins and ends.
 use vt_value::Comparison;
 
 /// A keyword, which stands in a text in any case.

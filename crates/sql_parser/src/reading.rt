@@ -1,3 +1,4 @@
+//! Reads the statement that tokens are, one function for each rule of the grammar. Each gives what it read, and the tokens that are left.
 ghost use Rattle.std.specs.Prelude.{◌≡◌, ◌⊎◌, ℕ, IfOk, IfErr, MatchResult, List, map, bytes_eq};
 ghost use Rattle.std.specs.Char.{to_ascii_lowercase};
 ghost use Rattle.sql_lexer.specs.Lexemes.{lexemes_of};

@@ -1,3 +1,4 @@
+//! A keyspace id, which borrows the key if the two are the same bytes.
 ghost use Rattle.std.specs.Prelude.{◌≡◌};
 ghost use Rattle.vindex.specs.Ksids.{ksid_bytes};
 

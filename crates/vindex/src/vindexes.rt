@@ -1,3 +1,4 @@
+//! The four vindexes, and the law that a reversible one gives its keys back.
 ghost use Rattle.std.specs.Prelude.{◌≡◌, ℕ, ◌<◌, ◌^◌, ⊤, List, Option, Some, IfSome};
 ghost use Rattle.md5.specs.Md5.{md5};
 ghost use Rattle.vindex.specs.Keys.{key_number, reversed_number_of};

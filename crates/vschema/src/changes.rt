@@ -1,3 +1,4 @@
+//! A write with its names resolved, and what it does to one row.
 use sql_tree::{Assignment, Condition};
 use vt_value::{Items, Row};
 

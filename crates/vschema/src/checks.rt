@@ -1,3 +1,4 @@
+//! What is refused of a query: names that aren't there, numbers compared with texts, and columns outside GROUP BY.
 ghost use Rattle.std.specs.Prelude.{◌≡◌, ◌||◌, map, is_none, IfOk};
 ghost use Rattle.std.specs.List.{list_any};
 ghost use Rattle.vschema.specs.Checks.{is_unknown, is_unnamed, join_names_unknown, operand_is_unknown, condition_names_unknown, filter_has, item_names_unknown, list_names_unknown, names_unknown_column};

@@ -1,3 +1,4 @@
+//! A table's columns, found by name without a walk over all.
 ghost use Rattle.std.specs.Prelude.{◌≡◌, not, ◌++◌, ◌∷◌, [], bytes_eq, length, IfOk, OnOk, OnErr, OnSome, if◌then◌else◌};
 ghost use Rattle.std.specs.List.{list_any};
 ghost use Rattle.std.specs.Option.{option_copied};

@@ -1,3 +1,4 @@
+//! Finds numbers of a list in n log n, where a client chooses how long the list is.
 ghost use Rattle.std.specs.Prelude.{◌≡◌, ◌==◌, ℕ, IfOk};
 ghost use Rattle.vschema.specs.Schema.{place_from};
 ghost use Rattle.vschema.specs.FirstPlaces.{first_place};

@@ -1,3 +1,4 @@
+//! Finds tables and columns by name.
 ghost use Rattle.std.specs.Prelude.{◌≡◌, bytes_eq};
 ghost use Rattle.vschema.specs.Schema.{column_place, table_place};
 ghost use Rattle.vschema.specs.Checks.{is_unknown};

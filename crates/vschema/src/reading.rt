@@ -1,3 +1,4 @@
+//! Reads a VSchema from its JSON text: the document, its first fault, then what it means.
 use crate::hashing::Hashing;
 use crate::meaning::meant;
 use crate::schema::VSchema;

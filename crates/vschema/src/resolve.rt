@@ -1,3 +1,4 @@
+//! Statements with their names resolved: tables and columns become places, and the first refusal that applies is told.
 ghost use Rattle.std.specs.Prelude.{◌≡◌, ◌⊎◌, IfOk, IfErr, IfSome, IfNone, map, slice_get, option_map, Ok, Err, Some, None, true, false};
 ghost use Rattle.vschema.specs.Checks.{shows_ungrouped};
 ghost use Rattle.vschema.specs.Scopes.{only, both_of, scope_columns, place_in};

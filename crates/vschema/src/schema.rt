@@ -1,3 +1,4 @@
+//! The VSchema and the statements over it, as types. Places stand for names, so nothing is looked up once a statement is resolved.
 ghost use Rattle.std.specs.Prelude.{◌≡◌, IsTrue, length};
 ghost use Rattle.vschema.specs.Formed.{is_formed};
 

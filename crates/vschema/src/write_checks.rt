@@ -1,3 +1,4 @@
+//! What is refused of a write: rows of another length, values outside their column's type, and changes of a key.
 ghost use Rattle.std.specs.Prelude.{◌≡◌, ◌==◌, not, ◌&&◌, map, zip, flat_map, length, bytes_eq};
 ghost use Rattle.std.specs.List.{list_any};
 ghost use Rattle.vschema.specs.Resolved.{place, places_from};

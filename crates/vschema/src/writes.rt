@@ -1,3 +1,4 @@
+//! INSERT, UPDATE and DELETE with their names resolved, or the refusal of the first check that fails.
 ghost use Rattle.std.specs.Prelude.{◌≡◌, ◌⊎◌, ◌==◌, IfOk, IfErr, map, option_map, false, Ok, Err};
 ghost use Rattle.vschema.specs.Schema.{place_from};
 ghost use Rattle.vschema.specs.Resolved.{places_from};

@@ -1,3 +1,4 @@
+//! A VSchema as its text declares it, before anything is checked.
 use crate::column::Column;
 use sql_tree::Name;
 use vindex::AnyVindex;

@@ -1,3 +1,4 @@
+//! Why a text is no VSchema: V1 to V9.
 ghost use Rattle.std.specs.Prelude.{◌≡◌};
 ghost use Rattle.vschema_document.specs.FaultNumbers.{fault_number};
 

@@ -1,3 +1,4 @@
+//! Finds the first fault of a document, in the order V1 to V9, in time n log n.
 ghost use Rattle.std.specs.Prelude.{◌≡◌, ◌||◌, ◌++◌, not, map, find, filter, length, nat_lt, bytes_eq, is_none, IfOk};
 ghost use Rattle.std.specs.List.{list_any};
 ghost use Rattle.vschema_document.specs.Twice.{has_twice};

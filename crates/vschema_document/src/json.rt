@@ -1,3 +1,4 @@
+//! Reads arrays, objects and flags of JSON values. A member of another name than those that are known is a fault.
 ghost use Rattle.std.specs.Prelude.{◌≡◌, List, ℕ, Option, Some, None, IfOk, IfErr, map, bytes_eq, false};
 ghost use Rattle.std.specs.List.{list_all, list_any};
 ghost use Rattle.serde_json.specs.Data.{Data};

@@ -1,3 +1,4 @@
+//! Finds columns and vindexes of a document by name, through indexes that are made once for a table.
 ghost use Rattle.std.specs.Prelude.{◌≡◌};
 ghost use Rattle.std.specs.Option.{option_copied};
 ghost use Rattle.vschema_document.specs.Faults.{keys, vindexes, place_of, column_of, vindex_of, lacks_column, is_nullable, mismatch};

@@ -1,3 +1,4 @@
+//! Reads the parts of a document from JSON: names, column types, tables, vindexes and keyspaces.
 ghost use Rattle.std.specs.Prelude.{◌≡◌, ◌+◌, ◌-◌, ◌*◌, ◌<◌, true, Some, None, IfOk, IfErr, IfSome, IfNone, option_and_then};
 ghost use Rattle.std.specs.List.{list_all};
 ghost use Rattle.serde_json.specs.Find.{as_str};

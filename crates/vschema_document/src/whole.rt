@@ -1,3 +1,4 @@
+//! The faults that concern all keyspaces together: how many there are of each sort, and how many tables.
 ghost use Rattle.std.specs.Prelude.{◌≡◌, not, filter, length, nat_lt, IfOk};
 ghost use Rattle.vschema_document.specs.Faults.{all_tables, whole_has};
 

@@ -1,3 +1,4 @@
+//! Which bytes are a name.
 ghost use Rattle.std.specs.Prelude.{◌≡◌};
 ghost use Rattle.std.specs.List.{list_all};
 ghost use Rattle.sql_lexer.specs.Lexemes.{is_letter, is_word_byte, is_word};

@@ -1,3 +1,4 @@
+//! Every refusal, with the number, code, state and message by which a client sees it.
 ghost use Rattle.std.specs.Prelude.{◌≡◌, Some};
 ghost use Rattle.vt_value.specs.Refusals.{refusal_number, code_of, state_of, message_of};
 
