@@ -78,7 +78,7 @@ fn served_ranges<W: World, J: Naming>(
     ranges_of(alloc, serving.current().parts())
 }
 
-// The same in the order of their begins.
+// The ranges that are served, in the order of their begins.
 fn ordered_ranges<W: World, J: Naming>(
     alloc: Global,
     workflow: &Workflow<W, J>,

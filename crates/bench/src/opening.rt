@@ -99,7 +99,7 @@ fn run_opened<
     }
 }
 
-// The same in the world that has this VSchema and these ranges, and no rows.
+// Runs the lines over a router of this VSchema and these ranges, whose tables are empty.
 fn run_in_empty_world<W: World + Send + Sync, R: Threads + Wait + Clock + Eprint + Sync>(
     rt: &R,
     alloc: Global,

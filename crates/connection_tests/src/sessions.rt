@@ -300,7 +300,7 @@ fn serve_opened<W: World + Send + Sync, J: Naming + Send + Sync, R: Threads + Wa
     )
 }
 
-// The same in the world that has this VSchema and these ranges.
+// Plays over a router of this VSchema and these ranges.
 fn serve_in_world<W: World + Send + Sync, R: Threads + Wait + Sync>(
     rt: &R,
     alloc: Global,

@@ -56,7 +56,7 @@ fn confirm<W: World, J: Naming>(
     unreachable!()
 }
 
-// The same, where the source is one of the target's.
+// Confirms that a source is retired for the target, if it is one of the target's.
 fn confirm_own<W: World, J: Naming>(
     rt: &impl Wait,
     source: &Source<W, J>,

@@ -38,7 +38,7 @@ fn try_drop<W: World, J: Naming>(
     }
 }
 
-// The same under its lock, until it is out of use.
+// Drops the rows of a shard under its lock; it tries until the shard is out of use.
 fn drop_rows<W: World, J: Naming>(
     rt: &impl Wait,
     member: &Member<W, J>,

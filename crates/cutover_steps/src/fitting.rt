@@ -41,7 +41,7 @@ fn try_fits<W: World, J: Naming>(
     }
 }
 
-// The same under its lock, until it follows.
+// Whether a target's rows fit, asked under its lock; it tries until the target follows.
 fn fits<W: World, J: Naming>(
     rt: &impl Wait,
     member: &Member<W, J>,

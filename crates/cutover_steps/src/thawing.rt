@@ -41,7 +41,7 @@ fn try_unfreeze<W: World, J: Naming>(
     }
 }
 
-// The same under its lock, until it serves.
+// Thaws a source under its lock; it tries until the source serves.
 fn unfreeze<W: World, J: Naming>(
     rt: &impl Wait,
     member: &Member<W, J>,

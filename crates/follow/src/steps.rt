@@ -142,7 +142,7 @@ fn try_give<W: World, J: Naming>(
     Ok(Some(given))
 }
 
-// The same under the source's lock, until it serves.
+// What the source gives, asked under its lock; it tries until the source serves.
 fn given_by<W: World, J: Naming>(
     rt: &impl Wait,
     alloc: Global,
@@ -280,7 +280,7 @@ fn come_forward<W: World, J: Naming>(
     take(state, alloc, pass, schema, given)
 }
 
-// The same, where the state is the target's and it follows.
+// A step, if the state is the target's and it follows.
 fn try_step<W: World, J: Naming>(
     rt: &impl Wait,
     alloc: Global,

@@ -42,7 +42,7 @@ impl Finish {
         show(alloc, rows, self.order_by.as_slice(), self.limit, columns)
     }
 
-    /// The same where each piece gives its rows in the order of the finish's keys, as those of `plan` do. They are merged, and no more of
+    /// What `answer` gives, if each piece has its rows in the order of the finish's keys, as those of `plan` do. They are merged, and no more of
     /// them are pulled than the limit asks for and one of each piece. Refuses only for want of memory.
     pub fn answer_in_order<O: Operator>(
         &self,

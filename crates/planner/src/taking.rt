@@ -29,7 +29,7 @@ pub fn has_value(table: &Table, range: &KeyRange, value: &Value) -> bool
     }
 }
 
-/// The same of a value whose id may be known.
+/// Whether the keyspace id of a member of IN, which may be known already, lies in the range.
 pub fn has_member(table: &Table, range: &KeyRange, member: &Member) -> bool
     ensures { result ≡ has_id range.now (id_of table.now member.now.value) }
 {

@@ -47,7 +47,7 @@ fn is_among(range: &KeyRange, ranges: &[KeyRange]) -> bool
     false
 }
 
-/// The same part once more, whose shard is shared.
+/// Another handle of the part, whose shard is shared.
 pub fn copy_part<S: Seated + Drop>(part: &Part<S>) -> Result<Part<S>, Refusal>
     ensures ok { IfOk result (λ p. p ≡ part.now) }
     ensures err { IfErr result (λ e. e ≡ Refusal.OutOfMemory) }

@@ -52,7 +52,7 @@ pub fn copy_shard(alloc: Global, shard: &shard_run::Shard) -> Result<shard_run::
     })
 }
 
-/// The same shard once more, which is shared.
+/// Another handle of the member, whose shard is shared.
 pub fn copy_member<W: World, J: Naming>(
     alloc: Global,
     member: &Member<W, J>,
@@ -89,7 +89,7 @@ fn try_source<W: World, J: Naming>(
     Ok(Sight::Serves(which))
 }
 
-// The same under its lock.
+// Looks once at the shard of a part under its lock.
 fn look_once<W: World, J: Naming>(
     rt: &impl Wait,
     alloc: Global,

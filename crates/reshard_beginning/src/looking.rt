@@ -45,7 +45,7 @@ pub(crate) fn stands<W: World, J: Naming>(
     !follows(state)
 }
 
-// The same under its lock.
+// Whether the shard of a part stands there, asked under its lock.
 fn stands_once<W: World, J: Naming>(
     rt: &impl Wait,
     pass: &mut Pass<ShardLaw<W>, J>,

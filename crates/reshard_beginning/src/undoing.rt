@@ -37,7 +37,7 @@ pub(crate) fn seat_back<W: World, J: Naming>(
     unreachable!()
 }
 
-// The same of one that nobody else holds a share of.
+// The seat of a shard of which nobody else holds a share.
 fn seat_of_shared<W: World, J: Naming>(
     rt: &impl Wait,
     shard: Arc<Shard<W, J>, Global>,

@@ -32,7 +32,7 @@ pub(crate) struct Found<W: World, J: Naming> {
     pub(crate) given_up: bool,
 }
 
-// The same without what lies behind its lock.
+// What one look at a shard tells of it.
 #[derive(Drop)]
 struct Glance {
     which: shard_run::Shard,
@@ -66,7 +66,7 @@ fn stored_of<W: World, J: Naming>(state: &ShardState<W, J>) -> u64 {
     }
 }
 
-// The same shards once more.
+// Copies of these shards.
 fn copy_shards(
     alloc: Global,
     shards: &[shard_run::Shard],
@@ -110,7 +110,7 @@ fn look_at<W: World, J: Naming>(
     }))
 }
 
-// The same under its lock.
+// Looks at the shard of a part under its lock.
 fn look_locked<W: World, J: Naming>(
     rt: &impl Wait,
     alloc: Global,

@@ -43,7 +43,7 @@ fn is_named(target: &Shard, slot: usize, named: &[Shard]) -> bool
     true
 }
 
-// The same of each.
+// Whether each target that takes from the source on the slot is one of these.
 fn are_named<W: World, J: Naming>(targets: &[Found<W, J>], slot: usize, named: &[Shard]) -> bool
     ensures yes { result ≡ true → AllByRecursion (λ t. IsTrue (has_source slot t) → Contains named.now t) (map (λ f. f.member.which) targets.now) }
     ensures no { result ≡ false → AllByRecursion (λ t. IsTrue (has_source slot t) → Contains named.now t) (map (λ f. f.member.which) targets.now) → ⊥ }
@@ -77,7 +77,7 @@ fn named_those<W: World, J: Naming>(source: &Found<W, J>, targets: &[Found<W, J>
     true
 }
 
-/// The same of each.
+/// Whether each retired source named the targets that take from it.
 pub(crate) fn all_named<W: World, J: Naming>(
     sources: &[Found<W, J>],
     targets: &[Found<W, J>],

@@ -84,7 +84,7 @@ fn target_of<W: World, J: Naming>(
     }))
 }
 
-// The same of each.
+// The targets with their sources, none if one of them doesn't fit.
 fn targets_of<W: World, J: Naming>(
     alloc: Global,
     found: &[Found<W, J>],

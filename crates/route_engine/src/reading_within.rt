@@ -144,7 +144,7 @@ impl<W: World + Send + Sync, J: Naming + Send + Sync, G: Gate> Engine<W, J, G> {
         }
     }
 
-    // The same, by its route.
+    // The rows of a query in a transaction, by its route.
     fn rows_in(
         &self,
         rt: &impl Wait,

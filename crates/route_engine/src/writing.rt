@@ -74,7 +74,7 @@ impl<W: World + Send + Sync, J: Naming + Send + Sync, G: Gate> Engine<W, J, G> {
         }
     }
 
-    // The same, until it is committed: while that shard takes no commits it waits in the buffer, and begins again with the present partition.
+    // Tries a write until it is committed: while its shard takes no commits it waits in the buffer, and begins again with the present partition.
     fn commit_until(
         &self,
         rt: &impl Wait,

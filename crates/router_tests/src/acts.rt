@@ -9,7 +9,7 @@ pub enum Act<'t> {
     Line(&'t [u8], &'t [u8]),
     /// A statement of the first session, and how many rows it gives or changes, or why it is refused.
     One(&'t [u8], Result<u64, Refusal>),
-    /// The same of the second session.
+    /// A statement of the second session, and what it gives likewise.
     Two(&'t [u8], Result<u64, Refusal>),
     /// The controller stops, and another takes its workflow up from the shards, or is refused.
     Reopen(Result<(), ReshardFault>),

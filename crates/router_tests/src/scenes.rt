@@ -172,7 +172,7 @@ fn play_over<W: World + Send + Sync, J: Naming + Send + Sync, R: Threads + Wait 
     }
 }
 
-// The same in the world that has this VSchema and these ranges, and no rows.
+// Plays a scene over a router of this VSchema and these ranges, whose tables are empty.
 fn play_in_world<W: World + Send + Sync, R: Threads + Wait + Sync>(
     rt: &R,
     alloc: Global,
@@ -211,7 +211,7 @@ fn limits_of(rows: u64) -> Limits
     }
 }
 
-// The same with these signals.
+// Plays a scene with this gate and these signals.
 fn play_by<R: Threads + Wait + Sync>(
     rt: &R,
     alloc: Global,
@@ -254,7 +254,7 @@ pub fn plays_alone<R: Threads + Wait + Sync>(
     plays_within(rt, alloc, schema, MOST_ROWS, acts)
 }
 
-/// The same where each shard may have so many rows.
+/// Plays acts as `plays_alone` does, over shards that may have so many rows each.
 pub fn plays_within<R: Threads + Wait + Sync>(
     rt: &R,
     alloc: Global,

@@ -204,7 +204,7 @@ fn play_beside_lock<W: World + Send + Sync, J: Naming + Send + Sync, R: Threads 
     wrong
 }
 
-/// The same, while the lock of the first shard is held.
+/// Plays the parts while the lock of the first shard is held.
 pub(crate) fn play_locked<
     W: World + Send + Sync,
     J: Naming + Send + Sync,

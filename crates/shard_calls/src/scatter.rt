@@ -205,7 +205,7 @@ fn is_small<W: World, J: Naming>(job: &Job<W, J>, most: usize) -> bool {
     }
 }
 
-// The same of all these jobs.
+// Whether each of these jobs reads at most so many rows of each table.
 fn are_small<W: World, J: Naming>(jobs: &[Job<W, J>], most: usize) -> bool {
     for job in jobs {
         if !is_small(job, most) {

@@ -166,7 +166,7 @@ pub fn write_at<W: World, J: Naming>(
         .write_in(rt, alloc, pass, pending, schema, write)
 }
 
-// The same of a transaction that is bound to the shard then.
+// Runs a write on the shard of a transaction that is bound to it then.
 pub fn write_first<W: World, J: Naming>(
     rt: &impl Wait,
     alloc: Global,

@@ -244,7 +244,7 @@ impl Contents {
         self.stored.push_reserved(entry);
         count
     }
-    /// The same of a step with a source.
+    /// Takes over a step with a source for which memory was made. Takes no memory.
     pub fn take_step(&mut self, prepared: Prepared, step: Step)
         requires ready { IsReadyFor self.old.store (held_changes prepared.entry.event) prepared.changes.items }
         requires one_more { vec_len self.old.stored < vec_capacity self.old.stored }

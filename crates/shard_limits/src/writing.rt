@@ -277,7 +277,7 @@ impl<J: Naming, R: Wait> Session<'_, J, R> {
         self.write(write)
     }
 
-    // The same, once more where the first had no memory: a commit that was refused for it has changed nothing.
+    // Runs the next statement, and runs it again if it had no memory: a commit that was refused for memory has changed nothing.
     fn run_again(&mut self, act: Act) -> Result<u64, Refusal> {
         match self.run(act) {
             Err(Refusal::OutOfMemory) => self.run(act),

@@ -35,7 +35,7 @@ pub fn script(choice: u32) -> &'static [&'static str] {
 /// What is to be said after a line.
 #[derive(Clone, Copy)]
 pub enum Next {
-    /// The same line.
+    /// That line once more.
     Again,
     /// The next line.
     Over,

@@ -235,7 +235,7 @@ fn play_over<W: World + Send + Sync, J: Naming + Send + Sync, R: Threads + Wait 
     }
 }
 
-// The same in the world that has this VSchema and these ranges, and no rows.
+// Plays over a router of this VSchema and these ranges, whose tables are empty.
 fn play_in_world<W: World + Send + Sync, R: Threads + Wait + Clock + Sync>(
     rt: &R,
     alloc: Global,

@@ -1,4 +1,4 @@
--- The same rows in another order have the same answers, and are as many.
+-- Rows in another order have equal answers, and are as many.
 use Rattle.std.proofs.Common.{Bool, true, false, cond, ℕ, List, [], ◌∷◌, length, filter, map, subst, IsPermutation}
 use Rattle.std.proofs.lemmas.List.Sorted.{IsPermutation-map, IsPermutation-sym, IsPermutation-trans}
 use Rattle.vt_value.specs.Values.{Row}

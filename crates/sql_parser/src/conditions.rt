@@ -152,7 +152,7 @@ fn not<'s>(
     }
 }
 
-/// The same, where a parenthesis or a NOT may stand, and `deeper` more behind it.
+/// not = NOT not | atom, where one more parenthesis or NOT may be open, and then `deeper` more.
 #[cycle(condition)]
 #[tactic(auto, unfolding(crate::specs::inner::Reading::negation_at))]
 fn negation<'s>(

@@ -94,7 +94,7 @@ fn work_in_two<J: Naming + Send + Sync, R: Threads + Wait + Sync>(
 
 type Passes<J> = (Pass<Rising, J>, Pass<Rising, J>);
 
-// The same with four passes in four threads.
+// Works with four passes in four threads.
 fn work_in_four<J: Naming + Send + Sync, R: Threads + Wait + Sync>(
     rt: &R,
     seats: &[Mutex<ShardSeat<Rising, J>>],
@@ -164,7 +164,7 @@ fn count_locked<J: Naming + Send + Sync, R: Threads + Wait + Sync>(
     counted(rt, alloc, locked, pass)
 }
 
-// The same over four slots of a table that was just opened.
+// Counts with four passes over four slots of a table that was just opened.
 fn count_by_four<J: Naming + Send + Sync, R: Threads + Wait + Sync>(
     rt: &R,
     alloc: Global,

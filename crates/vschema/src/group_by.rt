@@ -31,7 +31,7 @@ impl GroupBy {
         GroupBy { columns, hashing }
     }
 
-    /// The same columns and the same key. Refuses for want of memory.
+    /// A copy with the key of this one. Refuses for want of memory.
     pub fn copy(&self, alloc: Global) -> Result<GroupBy, AllocError>
         ensures { IfOk result (λ copied. copied ≡ self.now) }
     {

@@ -441,7 +441,7 @@ fn resolve_both(
     resolve_over(alloc, hashing, place, Some(second), &scope, select)
 }
 
-// The same with the second at its place.
+// Resolves a join whose second table is told by its place.
 fn resolve_beside(
     alloc: Global,
     schema: &VSchema,
@@ -462,7 +462,7 @@ fn resolve_beside(
     }
 }
 
-// The same with the second by its name.
+// Resolves a join whose second table is told by its name.
 fn resolve_pair(
     alloc: Global,
     schema: &VSchema,

@@ -59,7 +59,7 @@ impl Tables {
         }
     }
 
-    /// The same tables, with another key.
+    /// These tables with another key.
     pub fn keyed(self, hashing: Hashing) -> Tables
         ensures { result ≡ self }
     {

@@ -94,7 +94,7 @@ fn run_opened<W: World + Send + Sync, J: Naming + Send + Sync, R: Threads + Wait
     }
 }
 
-// The same in the world that begins with this VSchema and these ranges, and no rows.
+// Runs the lines over a router of this VSchema and these ranges, whose tables are empty.
 fn run_in_world<W: World + Send + Sync, R: Threads + Wait + Sync, O: Sink>(
     rt: &R,
     alloc: Global,
