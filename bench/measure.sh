@@ -22,3 +22,4 @@ for other in serve joins worst split load threads before instructions; do
     sed -n "/^<!-- bench\/$other.sh begins/,/^<!-- bench\/$other.sh ends/p" "$document" >> "$work/page"
 done
 mv "$work/page" "$document"
+python3 "$top/bench/summary.py" "$document"

@@ -1,5 +1,7 @@
 """Puts what a script of this folder measured into docs/PERFORMANCE.md, in the place of what it put there before."""
 
+import summary
+
 
 def put(document, script, part):
     """Writes the part between the marks of the script: at the page's end where it has none."""
@@ -10,4 +12,4 @@ def put(document, script, part):
         text = f"{front}{begin}\n{part}{end}{rest.split(end)[1]}"
     else:
         text = f"{text.rstrip()}\n\n{begin}\n{part}{end}\n"
-    document.write_text(text)
+    document.write_text(summary.with_summary(text))

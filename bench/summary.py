@@ -1,0 +1,158 @@
+"""Writes the summary at the top of docs/PERFORMANCE.md from the tables of the page itself, so that it says what they say.
+
+Usage: bench/summary.py [--check] [DOCUMENT]   (--check: ends with 1 if the summary isn't that of the page)
+
+Each script that writes a part of the page ends by calling this. A line whose tables aren't there is left out.
+"""
+
+import pathlib
+import re
+import sys
+
+PAGE = pathlib.Path(__file__).resolve().parent.parent / "docs/PERFORMANCE.md"
+BEGIN, END = "<!-- bench/summary.py begins -->\n", "<!-- bench/summary.py ends -->\n"
+HEAD = "\n## In short\n\n"
+# The page's headings of what MariaDB's server was asked too, and what a summary calls each.
+KINDS = {
+    "Point": "a query by key",
+    "Insert": "an INSERT",
+    "Update": "an UPDATE",
+    "Scatter": "a query of all shards",
+    "Mix": "a mix of these",
+    "Transaction": "a transaction",
+}
+
+
+def sections(text):
+    """Returns the tables below each heading, each a list of rows by the names of the columns."""
+    found, current, head = {}, [], None
+    for line in text.split("\n"):
+        if line.startswith("#"):
+            current = found.setdefault(line.lstrip("# "), [])
+            head = None
+        elif not line.startswith("|"):
+            head = None
+        elif head is None:
+            head = named_apart(cells(line))
+            current.append([])
+        elif not set(line) <= set("|-"):
+            current[-1].append(dict(zip(head, cells(line))))
+    return found
+
+
+def cells(line):
+    return [it.strip() for it in line.strip().strip("|").split(" | ")]
+
+
+def named_apart(names):
+    """Returns the names of columns, where one that was there already gets a number."""
+    return [it if it not in names[:at] else f"{it} {names[:at].count(it) + 1}" for at, it in enumerate(names)]
+
+
+def numbers(rows, column):
+    return [float(it[column]) for it in rows if re.fullmatch(r"[\d.]+", it.get(column, ""))]
+
+
+def shown(value):
+    return f"{value:.0f}" if value >= 10 else f"{value:.1f}" if value >= 1 else f"{value:.2f}"
+
+
+def span(values):
+    low, high = shown(min(values)), shown(max(values))
+    return low if low == high else f"{low} to {high}"
+
+
+def against_mariadb(page):
+    """Returns the ratios to MariaDB's server of each kind of statement and of each join."""
+    found = {}
+    for kind, words in KINDS.items():
+        for rows in page.get(kind, []):
+            found[words] = numbers(rows, "router : MariaDB")
+    joins = {row["join"]: numbers([row], "ratio") for rows in page.get("Joins", [])[:1] for row in rows}
+    found["a join"] = [it for values in joins.values() for it in values if it >= 1]
+    found |= {f"the join of {name}": values for name, values in joins.items() if values and values[0] < 1}
+    return {name: values for name, values in found.items() if values}
+
+
+def faster(page):
+    kinds = {name: it for name, it in against_mariadb(page).items() if min(it) >= 1}
+    if kinds:
+        said = ", ".join(f"{name} {span(it)}" for name, it in kinds.items())
+        yield f"Faster than MariaDB's server on the same machine, which keeps its rows on a disk: {said} times as fast."
+
+
+def slower(page):
+    kinds = {name: it for name, it in against_mariadb(page).items() if min(it) < 1}
+    if kinds:
+        said = ", ".join(f"{name} {span(it)}" for name, it in kinds.items())
+        given_up = [float(it["conflicts"].rstrip(" %")) for rows in page.get("Transaction", []) for it in rows if "conflicts" in it]
+        conflicts = f" Up to {max(given_up):.0f} % of the transactions on one table conflict and have to be tried again." if given_up else ""
+        yield f"Slower than it, at least at some number of connections: {said} times as fast.{conflicts}"
+
+
+def threads(page):
+    said = []
+    for rows in page.get("Writes and point queries", []):
+        one, two = (next((it for it in rows if it["sessions"] == many), None) for many in ("1", "2"))
+        if one and two:
+            said.append(f"two sessions insert into one shard {float(two['INSERTs']) / float(one['INSERTs']):.2f} times as fast as one")
+    for rows in page.get("The journal", []):
+        four = next((it for it in rows if it[""].startswith("threads 4, a slot")), None)
+        if four:
+            said.append(f"four threads append to the journal {float(four['ratio']):.2f} times as fast as one, on slots of their own")
+    if said:
+        yield f"More threads don't mean more writes: {'; '.join(said)}."
+
+
+def splits(page):
+    said, tables = [], page.get("Splits", [])
+    for rows in tables:
+        if rows and "copied a second" in rows[0]:
+            said.append(f"{int(numbers(rows, 'copied a second')[-1]):,} rows are copied a second")
+        if rows and "copies begun" in rows[0]:
+            worst = min(rows, key=lambda it: float(it["ratio"]))
+            said.append(f"beside a copy `{worst['statements']}` keeps {float(worst['ratio']):.2f} of its rate")
+        if rows and "longest wait, ms" in rows[0]:
+            said.append(f"while a shard changes hands a write waits up to {max(numbers(rows, 'longest wait, ms')):.1f} ms, and `switch` takes up to {max(numbers(rows, '`switch`, ms')):.0f} ms")
+    if said:
+        yield f"In a split {'; '.join(said)}."
+
+
+def memory(page):
+    for rows in page.get("The dearest statement of each kind", [])[:1]:
+        each = [it for it in rows if re.fullmatch(r"\d+", it["bytes a row beyond the reply"])]
+        most, slowest = max(each, key=lambda it: int(it["bytes a row beyond the reply"])), max(rows, key=lambda it: float(it["milliseconds"]))
+        yield (
+            f"The router holds up to {int(most['bytes a row beyond the reply']):,} bytes for each row that a statement reads or changes ({most['kind']}). "
+            f"The slowest statement of all over 100,000 rows takes {float(slowest['milliseconds']):.0f} ms ({slowest['kind']})."
+        )
+
+
+def summary(text):
+    page = sections(text)
+    lines = [line for part in (faster, slower, threads, splits, memory) for line in part(page)]
+    return BEGIN + HEAD.lstrip("\n") + "".join(f"- {it}\n" for it in lines) + END + "\n" if lines else ""
+
+
+def with_summary(text):
+    """Returns the page with its summary, before the first part."""
+    text = re.sub(re.escape(BEGIN) + ".*?" + re.escape(END) + "\n?", "", text, flags=re.S)
+    at = text.find("\n## ") + 1
+    return text[:at] + summary(text) + text[at:]
+
+
+def write(document):
+    document.write_text(with_summary(document.read_text()))
+
+
+def main():
+    words = [it for it in sys.argv[1:] if it != "--check"]
+    document = pathlib.Path(words[0]) if words else PAGE
+    if "--check" in sys.argv:
+        return int(document.read_text() != with_summary(document.read_text()))
+    write(document)
+    return 0
+
+
+if __name__ == "__main__":
+    sys.exit(main())
