@@ -59,7 +59,7 @@ all_free : (schema : VSchema) (ranges : List KeyRange) (seats : List (SeatView E
 all_free schema ranges [] h = tt
 all_free schema ranges (s ∷ seats) h = (free_of schema ranges s h.0, all_free schema ranges seats h.1)
 
--- the seats behind those of the opening's shards are free
+-- the seats after those of the opening's shards are free
 pub free_behind : (schema : VSchema) (ranges : List KeyRange)
     → AllByRecursion (IsFree (opening_of schema ranges)) (drop (length (empty_shards schema ranges)) (fresh_seats 64))
 free_behind schema ranges =
@@ -82,7 +82,7 @@ slots_from n (suc k) (suc m) =
     let many : m - k ≡ suc m - suc k = omega arith in
     slots_from (n + 1) k m ∙ ap₂ range_with_len from many
 
--- the slots of the seats behind so many
+-- the slots of the seats after so many
 pub their_slots : (n : ℕ) → map (λ (s : SeatView Entry). s.slot) (drop n (fresh_seats 64)) ≡ range_with_len n (64 - n)
 their_slots n = let from : 0 + n ≡ n = omega arith in slots_from 0 n 64 ∙ ap (λ (x : ℕ). range_with_len x (64 - n)) from
 

@@ -23,7 +23,7 @@ idle keyspace free = record {
   published = false;
 }
 
--- the slots behind those of the opening's shards: there are 64
+-- the slots after those of the opening's shards: there are 64
 abbrev pub free_slots : VSchema → List KeyRange → List ℕ
 free_slots schema ranges = range_with_len (length (empty_shards schema ranges)) (64 - length (empty_shards schema ranges))
 

@@ -1,5 +1,5 @@
 //! The administration of a router: admin lines over the workflow of its sharded keyspace, what answers them, and a router that is opened
-//! beside its administrator.
+//! with its administrator.
 #![tactic(auto)]
 
 mod administering;

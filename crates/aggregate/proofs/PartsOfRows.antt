@@ -80,7 +80,7 @@ column_holds (Sum c) vs h = sum_fits vs h
 column_holds (Min c) vs h = tt
 column_holds (Max c) vs h = tt
 
--- the numbers behind the group values in size, together
+-- the numbers after the group values in size, together
 abbrev pub rows_size : ℕ → List Row → ℕ
 rows_size width rows = sum_by (λ row. sum_by size (drop width row)) rows
 

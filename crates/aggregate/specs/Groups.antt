@@ -44,6 +44,6 @@ joined_rows aggregates width rows =
 abbrev pub column_size : ℕ → List Row → ℕ
 column_size n rows = sum_by (λ row. size (value_at row n)) rows
 
--- in each column behind the group values they stay below 2^127, so that every sum of parts fits
+-- in each column after the group values they stay below 2^127, so that every sum of parts fits
 abbrev pub AreSummable : ℕ → List Row → Type 0
 AreSummable width rows = (n : ℕ) → width ≤ n → column_size n rows < 2 ^ 127

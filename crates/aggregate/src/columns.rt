@@ -77,7 +77,7 @@ impl ColumnPart {
         }
     }
 
-    /// Joins the part that stands in a place of these values, NULL behind the last.
+    /// Joins the part that stands in a place of these values, NULL after the last.
     fn add_at(&mut self, alloc: Global, values: &[Value], place: usize) -> Result<(), Refusal>
         requires { CanHold (with_value self.old (value_at values.now place)) }
         ensures ok { OnOk result (self.new ≡ with_value self.old (value_at values.now place)) }
@@ -115,7 +115,7 @@ pub fn empty_parts(alloc: Global, aggregates: &[Item<usize>]) -> Result<Vec<Colu
     Ok(parts)
 }
 
-/// Joins the parts that stand in a row behind its group's values. Refuses only for want of memory.
+/// Joins the parts that stand in a row after its group's values. Refuses only for want of memory.
 pub fn add_values(
     alloc: Global,
     parts: &mut Vec<ColumnPart>,

@@ -161,7 +161,7 @@ impl GroupMerge {
     // Promise: The groups of several shards' rows are joined, each once, NULLs of a column in one; without group values there is one group,
     // also of no rows
     // With: GroupMerge::next
-    /// Joins the groups of the input's rows. A row begins with `width` group values, behind which stand the parts of the
+    /// Joins the groups of the input's rows. A row begins with `width` group values, after which come the parts of the
     /// aggregates, one column each. Groups come in the order in which they come first; without group values there is one, also
     /// of no rows. NULLs of a group value are one group. The numbers of a column of parts stay below 2^127 together, as those of
     /// 2^60 values that a column holds do. Groups are found by hashes of their values that begin as `hasher`: one with a key that nobody

@@ -22,7 +22,7 @@ use std::time::Clock;
 use vschema::VSchema;
 use vt_value::Refusal;
 
-// Puts the range of a name behind the others.
+// Puts the range of a name after the others.
 fn push_named(ranges: &mut Vec<KeyRange>, name: &str) -> Result<(), Refusal>
     ensures { OnOk result (AllByRecursion IsNamed ranges.old.items → AllByRecursion IsNamed ranges.new.items) }
 {
@@ -117,7 +117,7 @@ fn run_in_empty_world<W: World + Send + Sync, R: Threads + Wait + Clock + Eprint
     run_opened::<W, Brand, R>(rt, alloc, schema, ranges, opened, lines, told)
 }
 
-/// Runs the lines of a case behind its first two fields, which say over what: a VSchema, and the ranges of its shards with commas between them.
+/// Runs the lines of a case after its first two fields, which say over what: a VSchema, and the ranges of its shards with commas between them.
 pub fn answer<R: Threads + Wait + Clock + Eprint + Sync>(
     rt: &R,
     alloc: Global,

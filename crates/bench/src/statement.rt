@@ -3,7 +3,7 @@ use itoa::Buffer;
 use std::alloc::Global;
 use vt_value::Refusal;
 
-/// A number that is `(first + round * step) % bound`, and the text behind it.
+/// A number that is `(first + round * step) % bound`, and the text after it.
 #[derive(Clone, Copy)]
 struct Number<'t> {
     step: u64,
@@ -38,7 +38,7 @@ pub struct Statement<'t> {
 }
 
 impl<'t> Statement<'t> {
-    /// Refused where a brace has no three numbers behind it, and for want of memory.
+    /// Refused where a brace has no three numbers after it, and for want of memory.
     pub fn read(alloc: Global, text: &'t str) -> Result<Statement<'t>, Refusal> {
         let mut parts = text.split('{');
         let front = parts.next().unwrap_or("");
@@ -50,7 +50,7 @@ impl<'t> Statement<'t> {
         Ok(Statement { front, numbers })
     }
 
-    /// Puts the statement of a round behind a text.
+    /// Puts the statement of a round after a text.
     pub fn put(&self, text: &mut Vec<u8>, round: u64) -> Result<(), Refusal> {
         text.extend_from_slice(self.front.as_bytes())?;
         for number in &self.numbers {

@@ -82,7 +82,7 @@ fn push_run(bytes: &mut Vec<u8>, run: &str) -> Result<(), Unanswered> {
     Ok(bytes.resize(len, byte)?)
 }
 
-// What stands behind a `(`: a run, `)`, and hexadecimal digits.
+// What comes after a `(`: a run, `)`, and hexadecimal digits.
 fn push_run_and_more(alloc: Global, bytes: &mut Vec<u8>, part: &str) -> Result<(), Unanswered> {
     let (run, rest) = part.split_once(')').ok_or(Unanswered::BadLine)?;
     push_run(bytes, run)?;
@@ -107,7 +107,7 @@ pub fn bytes_of(alloc: Global, field: &str) -> Result<Vec<u8>, Unanswered> {
     made(bytes, done)
 }
 
-// What stands behind a `\x`: two hexadecimal digits, and text.
+// What comes after a `\x`: two hexadecimal digits, and text.
 fn push_escaped(bytes: &mut Vec<u8>, part: &str) -> Result<(), Unanswered> {
     let (digits, rest) = part.split_at_checked(2).ok_or(Unanswered::BadLine)?;
     let [byte] = <[u8; 1] as FromHex>::from_hex(digits)?;
@@ -165,7 +165,7 @@ fn push_rows(alloc: Global, rows: &mut Items<Row>, field: &str) -> Result<(), Un
     Ok(())
 }
 
-/// Rows with semicolons between them, or behind each.
+/// Rows with semicolons between them, or after each.
 pub fn rows_of(alloc: Global, field: &str) -> Result<Items<Row>, Unanswered> {
     let mut rows = Items::new(alloc);
     let done = push_rows(alloc, &mut rows, field);

@@ -53,7 +53,7 @@ module _ (q : ℕ) (other : eqb 0x5C q ≡ false) where
   closes {raw} r rest h =
       through r 0 (q ∷ rest) ∙ inside_quote (0 + length raw) rest ∙ behind_end (0 + length raw + 1) rest h ∙ ap (λ (m : ℕ). Some m) (omega arith)
 
--- what a place has behind it
+-- what a place has after it
 abbrev before : ℕ → Place → List ℕ
 before q Inside = []
 before q BehindQuote = q ∷ []
@@ -68,7 +68,7 @@ pub record Closed (q : ℕ) (bs : List ℕ) (n : ℕ) : Type 0 where
   pub body : IsQuoted q raw
   pub ended : first_passes (λ b. eqb b q) rest ≡ false
 
--- n bytes were read before what a place has behind it
+-- n bytes were read before what a place has after it
 abbrev Reached : ℕ → Place → List ℕ → ℕ → ℕ → Type 0
 Reached q place bs n m = (k : ℕ) × (m ≡ n + k) × Closed q (before q place ++ bs) k
 
@@ -160,7 +160,7 @@ module _ (q : ℕ) where
       )
   text_sound (b ∷ bs) n BehindBackslash m e = escape_more b n m bs (text_sound bs (n + 2) Inside m (recount (n + 1 + 1) (n + 2 + 0) Inside bs m (omega arith) e))
 
-  -- what is read behind a first quote
+  -- what is read after a first quote
   pub text_closed : (bs : List ℕ) (n : ℕ) → text_len q 0 Inside bs ≡ Some n → Closed q bs n
   text_closed bs n e =
       let r = text_sound bs 0 Inside n (recount 0 (0 + 0) Inside bs n (omega arith) e) in

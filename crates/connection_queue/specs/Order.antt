@@ -88,7 +88,7 @@ module _ {T : Type 0} where
   abbrev pub Puts : Hand T → T → Hand T → Type 0
   Puts v x w = w ≡ record v { put = v.put ++ x ∷ [] }
 
-  -- One was taken: behind all that the pass had seen, and perhaps more that others took. What was taken so far is a beginning of what was put
+  -- One was taken: after all that the pass had seen, and perhaps more that others took. What was taken so far is a beginning of what was put
   -- so far, and of it this pass took just what it knows that it took.
   pub record Takes (v : Hand T) (x : T) (w : Hand T) : Type 0 where
     pub between : List (ℕ × T)

@@ -104,7 +104,7 @@ pub type ConnectionQueue<T> = RuledArrayQueue<T, Hand<T>, Order>;
 /// What a thread knows of it. It has no bytes.
 pub type Known<T> = Pass<T, Hand<T>>;
 
-// Promise: What is put into the queue of connections stands behind what was put before, or is handed back where the queue is full; what is
+// Promise: What is put into the queue of connections stands after what was put before, or is handed back where the queue is full; what is
 // taken is, in the order of taking, a beginning of what was put, and no connection is taken twice; passes that ended are compared in one
 // order
 // With: new_taker, put, take, absorb
@@ -136,7 +136,7 @@ pub fn new_taker<T>(queue: &ConnectionQueue<T>, pass: &mut Known<T>) -> Known<T>
     queue.another::<Taker>(pass)
 }
 
-/// Puts a connection behind all that were put before. Where the queue is full it hands the connection back.
+/// Puts a connection after all that were put before. Where the queue is full it hands the connection back.
 pub fn put<T, R: Wait>(
     rt: &R,
     queue: &ConnectionQueue<T>,

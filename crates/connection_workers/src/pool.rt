@@ -64,7 +64,7 @@ impl<T> Pool<T> {
         }
     }
 
-    /// Puts a job behind all that were put before, and waits where the queue is full.
+    /// Puts a job after all that were put before, and waits where the queue is full.
     fn put<R: Wait>(&self, rt: &R, pass: &mut Known<Job<T>>, job: Job<T>)
         requires of { IsPassOf self.now.queue pass.old }
         requires puts { (view pass.old).puts ≡ true }
@@ -143,7 +143,7 @@ fn stop<T, R: Wait>(rt: &R, pool: &Pool<T>, workers: u32, pass: &mut Known<Job<T
     }
 }
 
-// Each connection that comes is put into the queue: a `T` can't be let go here. Behind the last one a stop is put for each worker.
+// Each connection that comes is put into the queue: a `T` can't be let go here. After the last one a stop is put for each worker.
 fn let_in<T, R: Wait, E: Entrance<T, R>>(
     rt: &R,
     pool: &Pool<T>,
@@ -222,7 +222,7 @@ fn run_in<T: Send + Drop, R: Threads + Wait + Sync, F: Fn(T) + Sync, E: Entrance
     )
 }
 
-// Promise: Workers are run until the entrance has no more connections: each that it gives is put into the queue, once and in order, and behind
+// Promise: Workers are run until the entrance has no more connections: each that it gives is put into the queue, once and in order, and after
 // them a stop for each worker; a worker serves each connection that it takes, and ends only where it takes a stop
 // Refuses: vtgate_serve::serve_lets_in_one_too_few
 /// Starts so many workers, then lets in the connections of the entrance, in order, and has `serve` serve each, in one of the workers. Each

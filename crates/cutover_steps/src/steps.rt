@@ -67,7 +67,7 @@ fn try_freeze<W: World, J: Naming>(
     Ok(Some(stored))
 }
 
-// Promise: A step of a cutover is exactly one entry of its shard, made behind a look under its lock: a freeze (refused only at 2^40
+// Promise: A step of a cutover is exactly one entry of its shard, made after a look under its lock: a freeze (refused only at 2^40
 // entries), a thaw, a retirement for targets that together hold the shard's place, when it has stored just so many entries, and a target
 // that serves once its sources, of which there may be several, are retired for it and it has copied all tables and followed all that they
 // stored. A freeze looks at its shard three times, and nowhere else, so its pass freezes no other, and that one once. A retirement, and a target that
@@ -204,7 +204,7 @@ pub(crate) fn follows<W: World, J: Naming>(state: &ShardState<W, J>) -> bool
     state.mode() == Mode::Following
 }
 
-// Whether the target has copied each table of its keyspace from the source, and stands behind all that it has stored.
+// Whether the target has copied each table of its keyspace from the source, and stands after all that it has stored.
 fn is_up_to<W: World, J: Naming>(
     state: &ShardState<W, J>,
     schema: &VSchema,

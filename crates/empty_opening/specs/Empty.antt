@@ -36,7 +36,7 @@ keyspace_shards slot (Some keyspace) ranges = shards_from slot keyspace ranges
 abbrev pub unsharded_shards : VSchema → List Shard
 unsharded_shards schema = keyspace_shards 0 (unsharded_keyspace schema) (full_range ∷ [])
 
--- one shard for the unsharded keyspace, and behind it one for each range of the sharded one
+-- one shard for the unsharded keyspace, and after it one for each range of the sharded one
 abbrev pub empty_shards : VSchema → List KeyRange → List Shard
 empty_shards schema ranges =
     unsharded_shards schema ++ keyspace_shards (length (unsharded_shards schema)) (sharded_keyspace schema) ranges

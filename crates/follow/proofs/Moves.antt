@@ -64,7 +64,7 @@ next_there o run target source p is = by p.next is.next
 -- the target is locked, and the pass has seen `run` by a look at the source
 module _ (o : Opening) (opens : IsOpening o) (run : Run) (legal : Legal o run) (source : Shard) (target : ShardView) (later : IsPrefix target.seen run)
     (of_source : Contains target.shard.sources source.slot) where
-  -- where the source has stored no more, the target stands behind all that it has
+  -- where the source has stored no more, the target stands after all that it has
   level_at : (p : SourceProgress) → IsProgress o target.seen target.shard source.slot p → NoneLeft run source.slot p.behind → (n : ℕ)
       → position target.seen target.shard.slot source.slot ≡ Some n → n ≡ length (stored_on source.slot run)
   level_at p is none n at =

@@ -36,7 +36,7 @@ pub record IsRunBetween (p now : PassView Entry) (run : Run) : Type 0 where
   pub since : IsPrefix p.seen run
   pub until : IsPrefix run now.seen
 
--- After a run the target has copied each table of its keyspace from the source, and stands behind as many entries as the source has stored
+-- After a run the target has copied each table of its keyspace from the source, and stands after as many entries as the source has stored
 -- after another.
 pub record IsLevel (o : Opening) (source target : Shard) (run looked : Run) : Type 0 where
   pub copied : HasCopiedAll o run target source.slot
@@ -49,7 +49,7 @@ pub data IsFull (o : Opening) (most : Limits) (target : Shard) (run : Run) : Typ
   follow : (f : F.Follow) → MayFollow o run (record { shard = target; event = events.Follow f }) → PassesLimit o most run target (events.Follow f)
       → IsFull o most target run
 
--- What a step of a target with a source does. Either its one entry ends what the pass has seen: a Copy, behind all entries that the source had
+-- What a step of a target with a source does. Either its one entry ends what the pass has seen: a Copy, after all entries that the source had
 -- stored at a look since the step began, or a Follow. Or there is none, and the target was level with what the source had stored at a look.
 pub data HasMoved (o : Opening) (source target : Shard) (p now : PassView Entry) : Step → Type 0 where
   copied : (c : C.Copied) → c.source ≡ source.slot → (looked : Run) → IsRunBetween p now looked → c.place ≡ length (stored_on source.slot looked)

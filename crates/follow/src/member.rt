@@ -3,7 +3,7 @@ use shard::{Shard, World};
 use std::alloc::Global;
 use std::sync::Arc;
 
-/// A shard that takes part in a workflow, and what lies behind its lock, which others may hold too.
+/// A shard that takes part in a workflow, and what is under its lock, which others may hold too.
 #[derive(Drop)]
 pub struct Member<W: World, J: Naming> {
     pub which: shard_run::Shard,

@@ -311,7 +311,7 @@ fn try_step<W: World, J: Naming>(
 }
 
 // Promise: A step of a target with one of its sources, or with the first of several that it isn't level with, appends exactly one entry, a
-// Copy behind all that the source had stored at a look of the step, or a Follow; or none, and then the target was level with what the
+// Copy after all that the source had stored at a look of the step, or a Follow; or none, and then the target was level with what the
 // source had stored at a look. Its pass looks once at the target and once at the source, once more at the target right before the entry, and
 // nowhere else. Each Copy and each Follow makes a look at the target right before it, and takes what a look at the source showed, so there is no
 // second one. A freeze, a thaw, a retirement and a target that serves make two looks at their shard in a row, so the pass has none of them.

@@ -65,7 +65,7 @@ module _ {E : Type 0} where
   abbrev pub sessions_of : View E → View E
   sessions_of v = record (knower v.seen []) { session_from = v.session_from; session_end = v.session_end }
 
-  -- has the other's sessions beside its own slots
+  -- has the other's sessions besides its own slots
   abbrev pub borrows : View E → View E → View E
   borrows v w = record v {
     told = [];
@@ -86,7 +86,7 @@ module _ {E : Type 0} where
     held_end = 0;
   }
 
-  -- has the other's sessions beside its own
+  -- has the other's sessions besides its own
   abbrev pub holding : View E → View E → View E
   holding v w = record v { told = []; held_from = w.session_from; held_end = w.session_end }
 

@@ -10,7 +10,7 @@
 //!
 //! That there is one run shows wherever two of them come together. After a look or an append (`IsLater`), a `meet` or a
 //! `join` (`IsLonger`), both have seen the same legal run, which begins with what either had seen before: the two were
-//! beginnings of one run all along. Beside an appended entry it has none on the seat's slot, or of the session of
+//! beginnings of one run all along. With an appended entry it has none on the seat's slot, or of the session of
 //! either pass, that was not seen before. [`runs_agree`] says what follows of two passes, and [`later_than_later`] that
 //! steps add up.
 #![tactic(auto)]

@@ -16,7 +16,7 @@ pub struct View<E> {
     pub slot_end: u64,
     pub session_from: u64,
     pub session_end: u64,
-    // Sessions that another seat lends beside those.
+    // Sessions that another seat lends besides those.
     pub held_from: u64,
     pub held_end: u64,
 }
@@ -140,7 +140,7 @@ impl<E> Join<View<E>> for Sessions {
     ghost spent = { knower [] [] };
 }
 
-/// The right to another's sessions, beside its own.
+/// The right to another's sessions, besides its own.
 pub struct Hold;
 
 impl<E> Join<View<E>> for Hold {

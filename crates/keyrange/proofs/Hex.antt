@@ -32,7 +32,7 @@ same_byte a b h g e f =
     let low = hex_digit_one (a % 16) (b % 16) (omega arith) (omega arith) f in
     omega arith
 
--- what stands behind the digits of a
+-- what comes after the digits of a
 pub hex_split : (a e rest : List ℕ) → IsByteString a → IsByteString e → hex e ≡ hex a ++ rest
     → (more : List ℕ) × IsByteString more × (e ≡ a ++ more) × (hex more ≡ rest)
 hex_split [] e rest h g i = (e, g, refl, i)

@@ -26,7 +26,7 @@ pub const SECURE_CONNECTION: u32 = 0x8000;
 /// The client names an authentication plugin.
 pub const PLUGIN_AUTH: u32 = 0x8_0000;
 
-/// A result set ends without an EOF packet behind its definitions.
+/// A result set ends without an EOF packet after its definitions.
 pub const DEPRECATE_EOF: u32 = 0x100_0000;
 
 /// A client's answer to the greeting. It borrows from its payload.

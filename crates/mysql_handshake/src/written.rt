@@ -43,7 +43,7 @@ const BINARY: u8 = 63;
 /// SERVER_STATUS_AUTOCOMMIT, the lower byte.
 const AUTOCOMMIT: u8 = 2;
 
-/// The length of the salt with the zero behind it.
+/// The length of the salt with the zero after it.
 const SALT_LENGTH: u8 = 21;
 
 /// The lower capabilities, the character set, the status, the upper capabilities, the length of the salt.

@@ -71,7 +71,7 @@ pub fn put_length_encoded(n: u64, out: &mut Vec<u8>) -> Result<(), AllocError>
     out.extend_from_slice(length_encoded(n).as_slice())
 }
 
-/// Appends a text behind its length. Where a growth is refused, `out` may have the length already.
+/// Appends a text after its length. Where a growth is refused, `out` may have the length already.
 pub fn put_length_encoded_string(text: &[u8], out: &mut Vec<u8>) -> Result<(), AllocError>
     ensures { OnOk result (out.new.items ≡ out.old.items ++ length_encoded_string text.now) }
 {
@@ -90,7 +90,7 @@ pub fn read_length_encoded(bytes: &[u8]) -> Option<(u64, &[u8])>
     Some((n, rest))
 }
 
-/// The text behind its length at the front of the bytes, and what follows it.
+/// The text after its length at the front of the bytes, and what follows it.
 pub fn read_length_encoded_string(bytes: &[u8]) -> Option<(&[u8], &[u8])>
     ensures found { IfSome result (λ x. bytes.now ≡ length_encoded_string x.0.now ++ x.1.now) }
     ensures only { (text rest : List ℕ) → bytes.now ≡ length_encoded_string text ++ rest

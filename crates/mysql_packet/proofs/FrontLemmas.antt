@@ -150,7 +150,7 @@ module _ {limit : ℕ} {bytes rest body : List ℕ} {first come len number : ℕ
     part_is : length (take len body) ≡ len
     part_is = omega (arith, length-take len body, enough)
 
-    -- the next packet and the bytes behind it
+    -- the next packet and the bytes after it
     split : bytes ≡ packets first s.parts ++ (packet ((first + length s.parts) % 256) (take len body) ++ drop len body)
     split =
         parsed

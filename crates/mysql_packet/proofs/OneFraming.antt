@@ -137,7 +137,7 @@ at-parts limit first n parts tail small begun is fuel =
     ap (λ k. scan (length (packets first parts ++ tail)) limit k 0 [] (packets first parts ++ tail)) is
     ∙ scan-parts limit first parts (length (packets first parts ++ tail)) n 0 (length parts) first [] tail begun.0 fuel (omega arith) (omega (arith, small)) (omega (arith, begun.1))
 
--- how many steps are left behind the full parts
+-- how many steps are left after the full parts
 size-behind : (first : ℕ) (parts : List (List ℕ)) (tail : List ℕ) → AreFull parts → length parts + length tail ≤ length (packets first parts ++ tail)
 size-behind first parts tail all = omega (arith, length-append (packets first parts) tail, length-packets first parts all)
 
@@ -245,7 +245,7 @@ waits-end limit r e p rest f = let g : waits ≡ takes p rest = sym e ∙ f in a
 refuses-end : (limit : ℕ) (r : List ℕ) (fault : Fault) → at limit r ≡ refuses fault → IsEnd limit r
 refuses-end limit r fault e p rest f = let g : refuses fault ≡ takes p rest = sym e ∙ f in absurd (cc g)
 
--- the refused header and what is before it in its payload, and what is behind
+-- the refused header and what is before it in its payload, and what is after
 record RefusedEnd (limit : ℕ) (bytes : List ℕ) (ps : List Payload) (fault : Fault) : Type 0 where
   rest : List ℕ
   whole_is : bytes ≡ stream_of ps ++ rest

@@ -4,7 +4,7 @@ use Rattle.mysql_packet.specs.declared.framer.Payload.{Payload}
 use Rattle.mysql_packet.specs.declared.framer.Fault.{Fault}
 use Rattle.mysql_packet.specs.Frames.{Splits}
 
--- the limit of a payload, the bytes behind the last whole payload, and the fault that ended the stream
+-- the limit of a payload, the bytes after the last whole payload, and the fault that ended the stream
 pub record Framing : Type 0 where
   pub limit : ℕ
   pub rest : List ℕ

@@ -25,7 +25,7 @@ pub struct Fault {
     pub number: u8,
 }
 
-/// What a piece of the stream gave: the payloads that it completes, and the fault behind them, if there is one.
+/// What a piece of the stream gave: the payloads that it completes, and the fault after them, if there is one.
 #[derive(Debug, Drop)]
 pub struct Fed {
     pub payloads: Items<Payload>,
@@ -90,7 +90,7 @@ impl Framer {
     // Clauses: fault, stopped, again
     // Promise: Where memory is refused, the piece counts as not fed
     // Clauses: err, memory
-    /// Takes the next piece of the stream: gives each payload that is whole now, in order, and behind them the fault,
+    /// Takes the next piece of the stream: gives each payload that is whole now, in order, and after them the fault,
     /// if a header is refused there. A payload's packets are numbered one after another, modulo 256, from any first
     /// number, and together have at most as many bytes as the limit. A header is refused as soon as it has come, its
     /// number before its length, and after it the stream gives nothing more. Refuses only for want of memory, and the
@@ -100,7 +100,7 @@ impl Framer {
         ensures payloads { IfOk result (λ fed. IsNone fed.fault → (stream : List ℕ) (before : List Payload) →
             HasFramed self.old stream before →
             HasFramed self.new (stream ++ piece.now) (before ++ fed.payloads)) }
-        // A fault comes only where a refused header stands in a part's place behind them.
+        // A fault comes only where a refused header stands in a part's place after them.
         ensures fault { IfOk result (λ fed. IfSome fed.fault (λ f. (stream : List ℕ) (before : List Payload) →
             HasFramed self.old stream before →
             IsRefusedAfter self.old.limit (stream ++ piece.now) (before ++ fed.payloads) f)) }

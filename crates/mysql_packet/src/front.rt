@@ -22,7 +22,7 @@ pub(crate) enum Front {
     Whole(u8, usize, usize),
 }
 
-/// The payloads that were taken off the front, how many bytes they took, and the fault behind them.
+/// The payloads that were taken off the front, how many bytes they took, and the fault after them.
 #[derive(Drop)]
 pub(crate) struct Taken {
     pub(crate) payloads: Items<Payload>,

@@ -33,7 +33,7 @@ null_first = refl
 null_last : row_cmp (key 0 true ∷ []) (Null ∷ []) (n 0 ∷ []) ≡ Greater
 null_last = refl
 
--- the second key decides where the first doesn't, and a row has NULL behind its end
+-- the second key decides where the first doesn't, and a row has NULL after its end
 second_key : row_cmp (key 1 false ∷ key 0 true ∷ []) (n 1 ∷ n 5 ∷ []) (n 2 ∷ n 5 ∷ []) ≡ Greater
 second_key = refl
 

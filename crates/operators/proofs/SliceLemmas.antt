@@ -3,7 +3,7 @@ use Rattle.std.proofs.Common.{◌≡◌, ℕ, ◌+◌, ◌-◌, ◌<◌, ◌≤�
 use Rattle.std.proofs.Math.Seq.{drop-nil}
 
 module _ {X : Type 0} where
-  -- where nothing is left behind m elements, nothing is left behind more
+  -- where nothing is left after m elements, nothing is left after more
   pub drop_ended : (xs : List X) (m n : ℕ) → drop m xs ≡ [] → m ≤ n → drop n xs ≡ []
   drop_ended [] m n ended h = drop-nil n
   drop_ended (x ∷ xs) zero n ended h = cc
@@ -15,7 +15,7 @@ module _ {X : Type 0} where
   after_first (x ∷ xs) ys y zero e = cc
   after_first (x ∷ xs) ys y (suc m) e = after_first xs ys y m e
 
-  -- the element behind m others is the first of what is left
+  -- the element after m others is the first of what is left
   pub drop_next : (xs ys : List X) (y : X) (m : ℕ) → drop m xs ≡ y ∷ ys → drop (m + 1) xs ≡ ys
   drop_next xs ys y m e = rw add-one (after_first xs ys y m e)
 

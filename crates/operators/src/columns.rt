@@ -18,7 +18,7 @@ fn copy_at(alloc: Global, row: &Row, place: usize) -> Result<Value, Refusal>
     }
 }
 
-/// The values of a row in these places, NULL behind its end. Refuses only for want of memory.
+/// The values of a row in these places, NULL after its end. Refuses only for want of memory.
 pub fn project_row(alloc: Global, places: &[usize], row: &Row) -> Result<Row, Refusal>
     ensures ok { IfOk result (λ shown. shown ≡ columns_of places.now row.now) }
     ensures err { IfErr result (λ e. e ≡ Refusal.OutOfMemory) }
@@ -58,7 +58,7 @@ pub struct Project<O> {
 }
 
 impl<O: Operator> Project<O> {
-    /// Of each row of the input the values in these places, NULL behind its end.
+    /// Of each row of the input the values in these places, NULL after its end.
     pub fn new(input: O, places: Items<usize>) -> Project<O>
         ensures rows { ⟦<Project<O> as Operator>⟧.to_come result ≡ map (columns_of places) (O.to_come input) }
         ensures fresh { ⟦<Project<O> as Operator>⟧.has_failed result ≡ O.has_failed input }

@@ -1,4 +1,4 @@
--- The rows of pieces: the shown columns, and behind them those of the sort keys.
+-- The rows of pieces: the shown columns, and after them those of the sort keys.
 use Rattle.std.proofs.Common.{◌≡◌, ℕ, zero, suc, ◌+◌, ◌<◌, List, [], ◌∷◌, ◌++◌, length, get_or, drop, map, refl, ap, ◌∙◌, arith}
 use Rattle.std.specs.Ordering.{ordering_then}
 use Rattle.vt_value.specs.declared.value.Value.{Value}

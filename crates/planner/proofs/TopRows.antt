@@ -163,7 +163,7 @@ module _ {X : Type 0} (lt : X → X → Bool) (o : IsStrictWeakOrder lt) where
         same = take_inserted n r f.filled f.sorted enough ∙ f.same;
       }
 
-  -- what a sorted list has behind its first n isn't below them
+  -- what a sorted list has after its first n isn't below them
   behind : (n : ℕ) (xs : List X) → Up xs → AllByRecursion (λ r. n ≤ up_to r (take n xs)) (drop n xs)
   behind zero xs up = all_any (λ r. zero ≤ up_to r (take zero xs)) (λ r. omega arith) xs
   behind (suc n) [] up = tt

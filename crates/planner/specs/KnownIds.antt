@@ -1,4 +1,4 @@
--- The keyspace id of a value, kept beside it.
+-- The keyspace id of a value, kept with it.
 use Rattle.std.specs.Prelude.{◌≡◌, ℕ, true, List, Option, Some, None}
 use Rattle.std.specs.Option.{ForSome}
 use Rattle.vt_value.specs.declared.value.Value.{Value}

@@ -61,7 +61,7 @@ abbrev pub of_kind : {X : Type 0} → Option ColumnType → X → List (ColumnTy
 of_kind None x = []
 of_kind (Some kind) x = (kind, x) ∷ []
 
--- the literal that is compared with a deciding column, beside the column's type
+-- the literal that is compared with a deciding column, with the column's type
 abbrev pub literal_beside : Keys → Operand ℕ → Operand ℕ → List (ColumnType × Value)
 literal_beside keys (Column c) (Literal x) = of_kind (kind_in keys c) x
 literal_beside keys (Literal x) (Column c) = of_kind (kind_in keys c) x

@@ -81,7 +81,7 @@ fn column_items(alloc: Global, columns: &[usize]) -> Result<Items<Item<usize>>, 
     Ok(items)
 }
 
-// The columns of GROUP BY, and behind them the aggregates.
+// The columns of GROUP BY, and after them the aggregates.
 fn group_items(
     alloc: Global,
     columns: &[usize],

@@ -1,4 +1,4 @@
-//! What `encode_rows` writes beside what `encode` does, and where its rows fail.
+//! What `encode_rows` writes, compared with what `encode` does, and where its rows fail.
 use crate::failing::Failing;
 use bytes::BytesMut;
 use operators::Rows;

@@ -66,7 +66,7 @@ fn limited(
     pulled(alloc, Limit::new(Counting { input, calls }, limit))
 }
 
-/// A limit asks for no row behind its last one.
+/// A limit asks for no row after its last one.
 pub(crate) fn a_limit_pulls_no_row_behind_its_last(alloc: Global) -> Result<bool, Refusal> {
     let cases = [
         (Some((2, 3)), [7, 7].as_slice(), 5),

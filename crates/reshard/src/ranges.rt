@@ -11,7 +11,7 @@ use shard::World;
 use std::alloc::Global;
 use vt_value::Refusal;
 
-// The sources behind the first so many.
+// The sources after the first so many.
 fn behind_first<W: World, J: Naming>(sources: &[Source<W, J>], n: usize) -> &[Source<W, J>]
     ensures { result.now ≡ drop n sources.now }
 {

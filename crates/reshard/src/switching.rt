@@ -21,7 +21,7 @@ use vschema::VSchema;
 use vt_value::Refusal;
 
 impl<W: World, J: Naming> Workflow<W, J> {
-    // A step behind which nothing takes memory nor fails.
+    // A step after which nothing takes memory nor fails.
     pub(crate) fn switch_after(
         &mut self,
         rt: &impl Wait,

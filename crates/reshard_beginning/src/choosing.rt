@@ -96,7 +96,7 @@ pub fn any_overlap(ranges: &[KeyRange]) -> bool
     false
 }
 
-/// The ranges of the parts, and the targets behind them.
+/// The ranges of the parts, and the targets after them.
 pub fn next_ranges<S: Seated + Drop>(
     alloc: Global,
     parts: &[Part<S>],

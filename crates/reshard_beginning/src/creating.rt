@@ -222,7 +222,7 @@ fn empty_store(alloc: Global, schema: &VSchema) -> Result<Store, Refusal>
     Ok(store)
 }
 
-// The state of a target's shard behind its lock, or its seat again.
+// The state of a target's shard under its lock, or its seat again.
 fn shared<W: World, J: Naming>(
     rt: &impl Wait,
     alloc: Global,
@@ -239,7 +239,7 @@ fn shared<W: World, J: Naming>(
     }
 }
 
-// The shard of a target on the last of the free slots, which is told, without rows, behind its lock.
+// The shard of a target on the last of the free slots, which is told, without rows, under its lock.
 fn open_shard<W: World, J: Naming>(
     rt: &impl Wait,
     alloc: Global,

@@ -59,7 +59,7 @@ pub record TakesThose (sources : List Shard) (target : Shard) : Type 0 where
 abbrev pub others : List Seat → List Seat → List Seat
 others seats parts = filter (λ part. not (list_any (λ seat. seat.0 == part.0) seats)) parts
 
--- Beside the rest the ones make up the keyspace, and so do those that take their place, with at most 64 parts.
+-- With the rest the ones make up the keyspace, and so do those that take their place, with at most 64 parts.
 pub record MayReplace (keyspace : ℕ) (rest from into : List Seat) : Type 0 where
   pub some : from ≡ [] → ⊥
   pub home : AreOf keyspace (from ++ into)
@@ -71,7 +71,7 @@ pub record MayReplace (keyspace : ℕ) (rest from into : List Seat) : Type 0 whe
 abbrev pub NamedThose : List Shard → Found → Type 0
 NamedThose targets source = source.1 ≡ modes.Retired → AllByRecursion (λ t. IsTrue (has_source source.0.slot t) → Contains source.2 t) targets
 
--- The shards are the sources and the targets of one workflow, beside the other parts of a partition, those that are retired
+-- The shards are the sources and the targets of one workflow, with the other parts of a partition, those that are retired
 -- named the targets, and its cutover is so far.
 pub record IsWorkflowAt (keyspace : ℕ) (parts from into : List Seat) (sources targets : List Found) (frozen retired served : ℕ) : Type 0 where
   pub replace : MayReplace keyspace (others (from ++ into) parts) from into
@@ -79,7 +79,7 @@ pub record IsWorkflowAt (keyspace : ℕ) (parts from into : List Seat) (sources 
   pub named : AllByRecursion (NamedThose (map (λ f. f.0) targets)) sources
   pub course : IsCourse (map (λ f. f.1) sources) (map (λ f. f.1) targets) frozen retired served
 
--- Sources and targets are those of these seats, each target with those of the sources that overlap it, beside the other parts of this partition,
+-- Sources and targets are those of these seats, each target with those of the sources that overlap it, with the other parts of this partition,
 -- and the cutover is so far as the modes tell that a look at each of them found.
 pub record AreMadeAgain (o : Opening) (p now : PassView Entry) (keyspace : ℕ) (parts from into : List Seat) (sources : List Shard) (targets : List Taking)
     (frozen retired served : ℕ) : Type 0 where
@@ -94,7 +94,7 @@ pub record AreMadeAgain (o : Opening) (p now : PassView Entry) (keyspace : ℕ) 
   pub own : AllByRecursion (λ t. AreThose t.0.place.range sources t.1) targets
 
 -- Why no workflow is made again of the shards of these seats, where there is none yet: want of memory; or by a look at each of them they aren't
--- those of one workflow, beside the other parts of some partition; or its cutover is through, so that the sources' rows may be gone; or none of its
+-- those of one workflow, with the other parts of some partition; or its cutover is through, so that the sources' rows may be gone; or none of its
 -- sources is retired, so that it may have been given up.
 pub data IsReopenRefusal (o : Opening) (p now : PassView Entry) (keyspace : ℕ) (from into : List Seat) : ReshardFault → Type 0 where
   no_memory : IsReopenRefusal o p now keyspace from into (Refused OutOfMemory)

@@ -1,4 +1,4 @@
-//! Which parts of a partition stay beside the shards of a workflow, and whether these may take one another's place there.
+//! Which parts of a partition stay with the shards of a workflow, and whether these may take one another's place there.
 ghost use Rattle.std.specs.Prelude.{◌≡◌, ◌↔◌, ◌≤◌, ◌+◌, ◌==◌, ◌++◌, true, false, not, IsTrue, IfOk, IfErr};
 ghost use Rattle.std.specs.List.{list_any};
 ghost use Rattle.keyrange.specs.Ranges.{Cover};
@@ -73,7 +73,7 @@ fn are_few(rest: usize, into: usize) -> bool
     rest <= MOST_PARTS && into <= MOST_PARTS - rest
 }
 
-/// Whether the ones may take the place of the others beside the rest.
+/// Whether the ones may take the place of the others with the rest.
 pub(crate) fn may_replace<S: Seated + Drop>(
     alloc: Global,
     keyspace: usize,

@@ -26,7 +26,7 @@ fn leading(modes: &[Mode], mode: Mode) -> usize
     modes.len()
 }
 
-// Those behind the first `n`.
+// Those after the first `n`.
 fn behind(modes: &[Mode], n: usize) -> &[Mode]
     requires { n ≤ length modes.now }
     ensures { result.now ≡ drop n modes.now }

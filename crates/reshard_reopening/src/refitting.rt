@@ -157,7 +157,7 @@ fn sides_of<W: World, J: Naming>(
     }))
 }
 
-// The other parts of the partition, where the shards may take one another's place beside them.
+// The other parts of the partition, where the shards may take one another's place with them.
 fn rest_of<W: World, J: Naming>(
     alloc: Global,
     keyspace: usize,
@@ -186,7 +186,7 @@ pub struct Refitted<W: World, J: Naming> {
     pub course: Course,
 }
 
-/// The workflow of these shards, beside the other parts of the partition, if they are those of one.
+/// The workflow of these shards, with the other parts of the partition, if they are those of one.
 pub(crate) fn refit<W: World, J: Naming>(
     rt: &impl Wait,
     alloc: Global,

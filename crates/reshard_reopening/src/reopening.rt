@@ -139,7 +139,7 @@ pub struct TakenUp<W: World, J: Naming> {
 }
 
 /// The workflow of the shards of these parts, each looked at under its lock, and the memory of the steps that are left. Refuses where the
-/// shards aren't the sources and the targets of one, beside the other parts of the partition, as a cutover leaves them; where a source that is
+/// shards aren't the sources and the targets of one, with the other parts of the partition, as a cutover leaves them; where a source that is
 /// retired didn't name a target that takes from it; where the sources' rows were dropped, or the workflow was given up; and for want of memory.
 pub fn take_up<W: World, J: Naming>(
     rt: &impl Wait,

@@ -18,7 +18,7 @@ pub record Remains (payload more so_far rest : List ℕ) : Type 0 where
 abbrev pub StillReads : List ℕ → List ℕ → List ℕ → Type 0
 StillReads bytes so_far rest = (number : ℕ) (payload more : List ℕ) → bytes ≡ frame number payload ++ more → Remains payload more so_far rest
 
--- what a part and the bytes behind it say of each packet that the bytes may begin with
+-- what a part and the bytes after it say of each packet that the bytes may begin with
 abbrev pub IsPart : List ℕ → List ℕ → List ℕ → Type 0
 IsPart rest part after = (number : ℕ) (p more : List ℕ) → length p ≤ full → rest ≡ packet number p ++ more → (part ≡ p) × (after ≡ more)
 
@@ -97,7 +97,7 @@ StillSplits bytes so_far rest = (number : ℕ) (all : List (List ℕ)) → bytes
 no_frame : (number : ℕ) (p : List ℕ) (more : List ℕ) → frame number p ++ more ≢ []
 no_frame number p more e = omega (arith, ap length e, length-append (frame number p) more, length-frame number p)
 
--- what a payload and the bytes behind it say of each frame that the bytes may begin with
+-- what a payload and the bytes after it say of each frame that the bytes may begin with
 abbrev pub IsPayload : List ℕ → List ℕ → List ℕ → Type 0
 IsPayload rest payload after = (number : ℕ) (p more : List ℕ) → rest ≡ frame number p ++ more → (payload ≡ p) × (after ≡ more)
 

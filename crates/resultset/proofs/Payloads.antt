@@ -20,7 +20,7 @@ pub number_after_all-append : (first : ℕ) (ps qs : List (List ℕ)) → number
 number_after_all-append first [] qs = refl
 number_after_all-append first (p ∷ ps) qs = number_after_all-append (number_after first p) ps qs
 
--- Behind what was there at the start stand these payloads, and no room was lost.
+-- After what was there at the start stand these payloads, and no room was lost.
 pub record HasPut (start : List ℕ) (first size : ℕ) (ps : List (List ℕ)) (items : List ℕ) (spare number : ℕ) : Type 0 where
   pub whole : items ≡ start ++ frames_from first ps
   pub next : number ≡ number_after_all first ps

@@ -26,7 +26,7 @@ fits_push [] c (u ∷ row) v fits f = absurd fits
 fits_push (d ∷ columns) c [] v fits f = absurd fits
 fits_push (d ∷ columns) c (u ∷ row) v fits f = (fits.0, fits_push columns c row v fits.1 f)
 
--- what the next value and the bytes behind it say of each value that the bytes may begin with
+-- what the next value and the bytes after it say of each value that the bytes may begin with
 abbrev pub IsValue : Column → List ℕ → Value → List ℕ → Type 0
 IsValue c rest value after = (v : Value) (more : List ℕ) → FitsKind c.kind v → rest ≡ value_bytes v ++ more → (value ≡ v) × (after ≡ more)
 

@@ -17,7 +17,7 @@ between front middle back i n e f =
     ap (λ (k : ℕ). take n (drop k (front ++ (middle ++ back)))) e ∙ ap (take n) (drop-append_seam front (middle ++ back))
     ∙ ap (λ (k : ℕ). take k (middle ++ back)) f ∙ take-append_seam middle back
 
--- the status of the packets behind the definitions doesn't tell how many they are
+-- the status of the packets after the definitions doesn't tell how many they are
 behind_length : (end : SetEnd) (status other : ℕ) → length (behind_definitions end status) ≡ length (behind_definitions end other)
 behind_length EofPackets status other = refl
 behind_length OkPacket status other = refl

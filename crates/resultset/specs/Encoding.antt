@@ -46,7 +46,7 @@ fixed_fields kind flags =
 abbrev pub definition_payload : Column → List ℕ
 definition_payload c = name_fields c ++ fixed_fields c.kind c.flags
 
--- what stands behind the definitions of a result set, and what behind its rows
+-- what comes after the definitions of a result set, and what after its rows
 abbrev pub behind_definitions : SetEnd → ℕ → List (List ℕ)
 behind_definitions EofPackets status = eof_payload status ∷ []
 behind_definitions OkPacket status = []
@@ -55,7 +55,7 @@ abbrev pub behind_rows : SetEnd → ℕ → List ℕ
 behind_rows EofPackets status = eof_payload status
 behind_rows OkPacket status = set_end_payload status
 
--- a result set: the number of columns, each definition and what stands behind them, each row and what stands behind them
+-- a result set: the number of columns, each definition and what comes after them, each row and what comes after them
 abbrev pub set_payloads : SetEnd → ResultSet → ℕ → List (List ℕ)
 set_payloads end set status =
     (length_encoded (length set.columns) ∷ map definition_payload set.columns)

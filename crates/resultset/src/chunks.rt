@@ -67,7 +67,7 @@ impl Chunks {
 #[derive(Drop)]
 pub(crate) struct Filling {
     full: Vec<Items<u8>>,
-    /// The bytes behind those.
+    /// The bytes after those.
     last: Vec<u8>,
 }
 

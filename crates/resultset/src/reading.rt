@@ -120,7 +120,7 @@ fn read_set(
     Ok(ResultSet { columns, rows })
 }
 
-/// How many packets stand behind the definitions of a result set.
+/// How many packets stand after the definitions of a result set.
 fn packets_behind_definitions(end: SetEnd) -> usize
     ensures { result ≡ length (behind_definitions end 0) }
 {

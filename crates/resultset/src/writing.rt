@@ -114,7 +114,7 @@ pub(crate) fn put_head(
     put_definitions_end(number, status, end, out)
 }
 
-/// Appends what stands behind the definitions.
+/// Appends what comes after the definitions.
 fn put_definitions_end(
     number: u8,
     status: u16,
@@ -133,7 +133,7 @@ fn put_definitions_end(
     }
 }
 
-/// Appends what stands behind the rows.
+/// Appends what comes after the rows.
 pub(crate) fn put_rows_end(
     number: u8,
     status: u16,

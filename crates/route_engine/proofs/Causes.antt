@@ -1,4 +1,4 @@
--- Why a transaction is refused for a conflict: behind one of its statements another session's commit has changed a row of that statement's table.
+-- Why a transaction is refused for a conflict: after one of its statements another session's commit has changed a row of that statement's table.
 use Rattle.std.proofs.Common.{◌≡◌, inl, inr, ℕ, Bool, true, false, ◌||◌, ◌&&◌, List, [], ◌∷◌, ◌++◌, length, drop, filter, Option, Some, refl, sym, ap, subst, ◌∙◌}
 use Rattle.std.proofs.Math.Seq.{drop-append_seam}
 use Rattle.std.specs.List.{AllByRecursion, list_any}
@@ -49,7 +49,7 @@ one_on_slot o opens run legal a b on_a on_b serves same =
     (slots o opens run (legal_is o run legal)).unique a b (of_shard o run a (of_run o opens run a on_a (ap is_serving serves)))
     (of_shard o run b (of_run o opens run b on_b (ap is_serving (subst (λ n. mode o run n ≡ Serving) same serves)))) same
 
--- ---- what stands behind a run at which a shard served
+-- ---- what comes after a run at which a shard served
 
 -- where an entry stands, the shard on the slot didn't follow
 record Stood (o : Opening) (slot : ℕ) (e : Entry) : Type 0 where
@@ -74,7 +74,7 @@ found {X} p (x ∷ xs) h = by (p x) refl h (found p xs)
 abbrev own : ℕ → Run → Run
 own n run = filter (by_session commit_of n) run
 
--- a session without a commit behind a run has none there
+-- a session without a commit after a run has none there
 none_own : (n : ℕ) (front behind now : Run) → now ≡ front ++ behind → own n now ≡ own n front → (e : Entry) → In e behind → by_session commit_of n e ≡ true → ⊥
 none_own n front behind now is same e h of =
     let none : own n behind ≡ [] =

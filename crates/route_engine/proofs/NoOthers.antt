@@ -97,13 +97,13 @@ quiet n (e ∷ run) all none = by e.event all.0 none (quiet n run all.1)
     by (Retire targets) own none rest = (refl, rest none)
     by Serve own none rest = (refl, rest none)
 
--- ---- a pass beside which no other session comes
+-- ---- a pass with which no other session comes
 
 module _ (p now : PassView Entry) (alone : NoOthers p now) where
   abbrev own : List Entry → List Entry
   own run = filter (by_session commit_of alone.session) run
 
-  -- what was added up to a run between, and behind it
+  -- what was added up to a run between, and after it
   added_is : (mid : Run) (before : IsPrefix p.seen mid) (after : IsPrefix mid now.seen) → before.0 ++ after.0 ≡ alone.added
   added_is mid before after =
       append_cancel_left p.seen (before.0 ++ after.0) alone.added
@@ -125,7 +125,7 @@ module _ (p now : PassView Entry) (alone : NoOthers p now) where
             (append_cancel_left (own p.seen) (own before.0) [] whole);
       }
 
-  -- no other session comes up to a pass between, and behind it
+  -- no other session comes up to a pass between, and after it
   pub up_to : (mid : PassView Entry) → IsPrefix p.seen mid.seen → IsPrefix mid.seen now.seen → NoOthers p mid
   up_to mid before after = record {
     session = alone.session;
@@ -153,7 +153,7 @@ module _ (p now : PassView Entry) (alone : NoOthers p now) where
   pub looked_unchanged : (o : Opening) (slot : ℕ) → HasLooked o slot p now → NoCommits p.seen now.seen
   looked_unchanged o slot looked = unchanged now.seen looked.later (prefix_self now.seen) (looked.own alone.session alone.of_session)
 
-  -- a commit's entry stands behind what was seen, and no other commit between
+  -- a commit's entry stands after what was seen, and no other commit between
   pub committed_at : (o : Opening) (l : Limits) (s : Shard) (w : Write) (count : ℕ) (c : HasCommitted o l s p w count now) → NoCommits p.seen c.before
   committed_at o l s w count c =
       unchanged c.before (prefix_trans p.seen c.looked.seen c.before c.look.later c.later) (_, sym c.seen) (c.own alone.session alone.of_session)

@@ -1,4 +1,4 @@
--- Session 1 over the shards -80 and 80- with the rows (1, NULL) and (2, NULL) of t, beside what one database gives.
+-- Session 1 over the shards -80 and 80- with the rows (1, NULL) and (2, NULL) of t, with what one database gives.
 use Rattle.std.proofs.Common.{◌≡◌, ℕ, [], ◌∷◌, refl, sym, ap, subst, ◌∙◌, None, Some, Option, Err, arith}
 use Rattle.std.specs.List.{AllByRecursion}
 use Rattle.std.proofs.lemmas.List.Sorted.{IsPermutation-refl}
@@ -41,7 +41,7 @@ alone = record {
   own = ((λ c is. sym (ap session_in is)), ((λ c is. sym (ap session_in is)), tt));
 }
 
--- beside it a shard may freeze
+-- meanwhile a shard may freeze
 abbrev frozen : Entry
 frozen = record { shard = seven.shard; event = Freeze }
 

@@ -118,7 +118,7 @@ fn empty_shards<W: World, J: Naming>(
     Ok(held)
 }
 
-// The opening shards, and the seats behind theirs.
+// The opening shards, and the seats after theirs.
 fn shards_and_seats<W: World, J: Naming>(
     alloc: Global,
     tables: &[Table],
@@ -199,7 +199,7 @@ fn opening_keyspaces<W: World, J: Naming>(
     Ok(all)
 }
 
-// The opening shards, the partitions of so many keyspaces, which begin with the opening's, and the seats behind those of the shards.
+// The opening shards, the partitions of so many keyspaces, which begin with the opening's, and the seats after those of the shards.
 fn held_and_served<W: World, J: Naming>(
     alloc: Global,
     tables: &[Table],

@@ -1,4 +1,4 @@
-//! Scenes over a new router, each played once: an administrator and two sessions act in turn, each act with what it is to give, beside a third
+//! Scenes over a new router, each played once: an administrator and two sessions act in turn, each act with what it is to give, with a third
 //! session's statement in a thread of its own. A gate holds reads, and one more thread a shard's lock, until the acts let them go.
 #![tactic(auto)]
 

@@ -53,7 +53,7 @@ const THEN: [Act<'static>; 8] = [
     ),
 ];
 
-/// A row too many that comes behind the copy is refused as it is followed, also once both are frozen.
+/// A row too many that comes after the copy is refused as it is followed, also once both are frozen.
 const OF_FOLLOWS: [Act<'static>; 12] = [
     Act::One(b"INSERT INTO t (id, c) VALUES (2, 1)", Ok(1)),
     Act::Two(b"INSERT INTO t (id, c) VALUES (1, 1)", Ok(1)),

@@ -8,7 +8,7 @@ use std::sync::Wait;
 use std::thread::Threads;
 use vt_value::Refusal;
 
-/// A second query finds no room beside the one that waits.
+/// A second query finds no room while that one waits.
 const NO_ROOM: Act<'static> = Act::One(ALL, Err(Refusal::BufferFull));
 
 /// A second query is answered.
@@ -96,7 +96,7 @@ const BEGUN_PUBLISHED: [Act<'static>; 9] = [
     SWITCHED,
 ];
 
-// Plays the acts behind a split that is level, over which the query of all rows is asked by a third session.
+// Plays the acts after a split that is level, over which the query of all rows is asked by a third session.
 fn reads_all<'x, R: Threads + Wait + Sync>(
     rt: &R,
     alloc: Global,

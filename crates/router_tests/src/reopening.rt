@@ -52,7 +52,7 @@ impl<W: World, J: Naming> Found<W, J> {
     }
 }
 
-// Puts a shard behind the others.
+// Puts a shard after the others.
 fn put<W: World, J: Naming>(
     parts: &mut Vec<Part<Shard<W, J>>>,
     shard: &Arc<Shard<W, J>, Global>,

@@ -59,7 +59,7 @@ impl Played {
     }
 }
 
-// The acts, and beside them the third session in a thread of its own.
+// The acts, and with them the third session in a thread of its own.
 fn play_beside<W: World + Send + Sync, J: Naming + Send + Sync, R: Threads + Wait + Sync>(
     rt: &R,
     stage: &mut Stage<'_, W, J, R>,
@@ -273,7 +273,7 @@ pub fn plays_within<R: Threads + Wait + Sync>(
     Ok(play(rt, alloc, &scene)? == Played::right(0))
 }
 
-/// Whether they do in the shop, where one statement may wait, and the third session, beside them, is told this.
+/// Whether they do in the shop, where one statement may wait, and the third session, with them, is told this.
 pub fn plays_beside<R: Threads + Wait + Sync>(
     rt: &R,
     alloc: Global,

@@ -184,7 +184,7 @@ fn hold<W: World, J: Naming>(rt: &impl Wait, shard: &Shard<W, J>, signals: &Sign
     signals.hold();
 }
 
-// The acts, and beside them a thread that holds a shard's lock.
+// The acts, and with them a thread that holds a shard's lock.
 fn play_beside_lock<W: World + Send + Sync, J: Naming + Send + Sync, R: Threads + Wait + Sync>(
     rt: &R,
     stage: &mut Stage<'_, W, J, R>,

@@ -122,7 +122,7 @@ fn ended(steps: usize) -> [Act<'static>; 2] {
     }
 }
 
-// What another controller finds: which ranges are served, behind the retirement, and as each target begins to serve.
+// What another controller finds: which ranges are served, after the retirement, and as each target begins to serve.
 fn found(steps: usize) -> Act<'static> {
     match steps {
         0 => FOLLOWING,

@@ -13,7 +13,7 @@ use vt_value::Refusal;
 /// The rows that were accepted are there, and no others.
 const ALL_READ: Act<'static> = Act::One(ALL, Ok(8));
 
-/// The INSERT waits. Another one into the shard that is split finds no room beside it, and one into the other shard doesn't wait.
+/// The INSERT waits. Another one into the shard that is split finds no room while it waits, and one into the other shard doesn't wait.
 const WAITING: [Act<'static>; 4] = [
     Act::Begin,
     Act::Waits,
@@ -32,7 +32,7 @@ const THERE: [Act<'static>; 4] = [
 /// The targets serve in the source's place, and what waits is let go at last.
 const SERVED: [Act<'static>; 6] = [RETIRE, SERVE, SERVE, PUBLISH, Act::Waits, RELEASE];
 
-// Plays the acts behind a split that is level, over which the INSERT is asked by a third session.
+// Plays the acts after a split that is level, over which the INSERT is asked by a third session.
 fn adds_one<'x, R: Threads + Wait + Sync>(
     rt: &R,
     alloc: Global,

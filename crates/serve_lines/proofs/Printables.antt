@@ -2,7 +2,7 @@
 use Rattle.std.proofs.Common.{◌≡◌, ℕ, zero, suc, ◌+◌, ◌<◌, List, [], ◌∷◌, ◌++◌, length, take, drop, set, map, slice_index, refl, ap, subst, ◌∙◌, arith}
 use Rattle.serve_lines.specs.Salts.{printable}
 
--- so many bytes are printable, and those behind them are as they were
+-- so many bytes are printable, and those after them are as they were
 pub half : ℕ → List ℕ → List ℕ
 half n xs = map printable (take n xs) ++ drop n xs
 

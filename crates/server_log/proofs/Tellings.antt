@@ -46,7 +46,7 @@ joined head d1 d2 d3 line spans pairs h s p e =
     ∙ (append_assoc head (flat_map log_field spans) (flat_map log_field pairs)
     ∙ ap (λ (x : List ℕ). head ++ x) (sym (flat_map-append log_field spans pairs)))))
 
--- the parts of a line, one behind the other
+-- the parts of a line, one after the other
 pub whole_line : (t : Timestamp) (level : Level) (event : Option (List ℕ)) (scopes : Option (List Scope)) (pairs : Option (List Pair)) (d1 d2 d3 line : List ℕ)
     → IfSome event (λ text. (time : List ℕ) × IsTimeText t time × (d1 ≡ log_head time (level_text level) text))
     → IfSome scopes (λ ss. d2 ≡ d1 ++ flat_map log_field (span_pairs ss))

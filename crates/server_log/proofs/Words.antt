@@ -14,7 +14,7 @@ pub and_right : (a b : Bool) → (a && b) ≡ true → b ≡ true
 and_right true b e = e
 and_right false b e = cc
 
--- two lists whose bytes are all visible, one behind the other
+-- two lists whose bytes are all visible, one after the other
 pub visible-append : (xs ys : List ℕ) → list_all is_visible xs ≡ true → list_all is_visible ys ≡ true → list_all is_visible (xs ++ ys) ≡ true
 visible-append xs ys x y = rw (list_all-append is_visible xs ys, x) y
 

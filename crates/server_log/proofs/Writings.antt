@@ -10,7 +10,7 @@ use Rattle.server_log.specs.Writing.{IsReport, mended, TakesPart}
 abbrev Known : Type 0
 Known = Option (List ℕ)
 
--- a write that took nothing, and one behind such
+-- a write that took nothing, and one after such
 pub nothing_kept : (a b : Known) → Keeps a b → Appends a b []
 nothing_kept None b p = tt
 nothing_kept (Some xs) None p = absurd p

@@ -51,7 +51,7 @@ level_text Trace = codes "trace"
 abbrev pub log_head : List ℕ → List ℕ → List ℕ → List ℕ
 log_head time level event = log_word time ++ 0x20 ∷ log_word level ++ 0x20 ∷ log_word event
 
--- what a line tells beside its time
+-- what a line tells besides its time
 pub record LogEntry : Type 0 where
   pub level : Level
   pub event : List ℕ

@@ -6,12 +6,12 @@ use Rattle.log.specs.declared.level.Level.TheVariants.{Warn}
 use Rattle.jiff.specs.Types.{Timestamp}
 use Rattle.server_log.specs.Lines.{LogEntry, TellsAt}
 
--- a line is written behind the break that ends a torn one
+-- a line is written after the break that ends a torn one
 abbrev pub mended : Bool → List ℕ → List ℕ
 mended true bytes = 0x0A ∷ bytes
 mended false bytes = bytes
 
--- what a write of a line took that didn't take the whole: nothing; or a part of the line, behind the break that a torn one needs. The line is torn
+-- what a write of a line took that didn't take the whole: nothing; or a part of the line, after the break that a torn one needs. The line is torn
 -- then, unless the part is empty
 abbrev pub TakesPart : Bool → List ℕ → List ℕ → Bool → Type 0
 TakesPart torn line taken after =

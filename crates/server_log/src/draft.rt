@@ -69,7 +69,7 @@ impl Draft {
         Ok(Draft { alloc, bytes })
     }
 
-    // Puts bytes that are visible behind the others.
+    // Puts bytes that are visible after the others.
     fn add(&mut self, text: &[u8]) -> Result<(), AllocError>
         requires { list_all is_visible text.now ≡ true }
         ensures { OnOk result (self.new ≡ self.old ++ text.now) }

@@ -93,7 +93,7 @@ impl<W: Write> LineWriter<W> {
         true
     }
 
-    // Promise: A line is written whole, behind the break that ends a part of one before it, or a front of these is; then it counts as lost
+    // Promise: A line is written whole, after the break that ends a part of one before it, or a front of these is; then it counts as lost
     /// Writes a line by one write, and tells whether it was written whole.
     pub fn put(&mut self, line: &Line) -> bool
         ensures whole { result ≡ true → (self.new.is_torn ≡ false) × Appends (W.contents self.old.device) (W.contents self.new.device) (mended self.old.is_torn line.now) }
@@ -124,7 +124,7 @@ impl<W: Write> LineWriter<W> {
     }
 
     // Promise: No line is written before the lines that were lost are told; a line that isn't written counts among them
-    /// Writes a line, behind the report of the lines that were lost before it, where some were. Tells how many lines are lost then, and untold.
+    /// Writes a line, after the report of the lines that were lost before it, where some were. Tells how many lines are lost then, and untold.
     pub fn tell(&mut self, alloc: Global, instant: Timestamp, line: &Line, lost: u64) -> u64
         ensures written { result ≡ 0 → lost ≡ 0 → Appends (W.contents self.old.device) (W.contents self.new.device) (mended self.old.is_torn line.now) }
         ensures reported { result ≡ 0 → 0 < lost → (bytes : List ℕ) × IsReport instant lost bytes

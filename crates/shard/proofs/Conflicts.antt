@@ -1,4 +1,4 @@
--- Where no entry behind a touch changes a table, the shard's rows of it are those at the touch.
+-- Where no entry after a touch changes a table, the shard's rows of it are those at the touch.
 use Rattle.std.proofs.Common.{◌≡◌, ◌≤◌, false, ◌&&◌, [], ◌++◌, length, drop, sym, ap, ◌∙◌, subst}
 use Rattle.std.specs.List.{list_any}
 use Rattle.std.proofs.lemmas.List.{drop-append-le}
@@ -25,7 +25,7 @@ module _ (o : Opening) (s : Shard) (old new : Run) (later : IsPrefix old new) wh
   abbrev pub added : Run
   added = later.0
 
-  -- what the shard stored behind the old run
+  -- what the shard stored after the old run
   pub stored_is : stored_on s.slot new ≡ stored_on s.slot old ++ stored_on s.slot added
   stored_is = ap (stored_on s.slot) (sym later.1) ∙ filter-append (λ e. is_on s.slot e && is_stored e.event) old added
 

@@ -37,7 +37,7 @@ module _ (schema : VSchema) where
   changes_same (w ∷ writes) a b changes same (first, rest, split, of, are) =
       (first, rest, split, change_same w a b first same of, changes_same writes (all_applied first a) (all_applied first b) rest (all_applied-same first a b same) are)
 
-  -- one more write behind others
+  -- one more write after others
   pub snoc : (writes : List Write) (w : Write) (db : Database) (changes more : List RowChange) → AreChangesOf schema writes db changes
       → IsChangeOf schema w (all_applied changes db) more → AreChangesOf schema (writes ++ w ∷ []) db (changes ++ more)
   snoc [] w db changes more are is =

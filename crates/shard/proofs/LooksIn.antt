@@ -90,7 +90,7 @@ module _ (o : Opening) (most : Limits) (seat : SeatView Entry) (c : Contents) (i
   clear : IsClear o c.shard seat.seen tx
   clear = subst (λ (u : Shard). IsClear o u seat.seen tx) (sym shard_is) (subst (λ (r : Run). IsClear o s r tx) (sym seen_is) clear_is)
 
-  -- the rows beside the seat with more changes, and those of the run
+  -- the rows with the seat with more changes, and those of the run
   same_behind : (changes : List RowChange) → SameRows (all_applied changes c.store.rows) (all_applied changes (held o seat.seen c.shard))
   same_behind changes =
       all_applied-same changes c.store.rows (held o seat.seen c.shard)
@@ -116,7 +116,7 @@ module _ (o : Opening) (most : Limits) (seat : SeatView Entry) (c : Contents) (i
       ap length (commits.has o most seat c is clear.serving).stored ∙ ap (λ (u : Shard). length (stored_on u.slot seat.seen)) shard_is
       ∙ ap (λ (r : Run). length (stored_on s.slot r)) seen_is
 
-  -- what a query gives over those beside the seat it may give over those of the run
+  -- what a query gives over those with the seat it may give over those of the run
   pub allowed : (changes : List RowChange) (q : Query) (rows : List Row) → Allowed q (all_applied changes c.store.rows) rows
       → Allowed q (all_applied changes (held o v.seen s)) rows
   allowed changes q rows answer =

@@ -105,7 +105,7 @@ changes_agree schema touched a b long same (w ∷ writes) changes on (first, res
           (λ m h. same_after first a b m long (same m h)) writes rest on.1 are,
     )
 
--- a touch of a table behind which no entry has changed it
+-- a touch of a table after which no entry has changed it
 record Touched (o : Opening) (s : Shard) (old : Run) (stored : List Entry) (n : ℕ) : Type 0 where
   touch : Touch
   at : touch.table ≡ n
@@ -139,7 +139,7 @@ module _ (o : Opening) (s : Shard) where
         let past : mode o old s.slot ≡ Following → ⊥ = λ e. let i = f.is.serving in absurd (cc (i, e)) in
         subst (λ k. rows_of (held o new s) k ≡ rows_of (held o old s) k) f.at (same_rows o s old new later legal past f.touch f.is.stored f.clear)
 
-    -- and behind the transaction's own changes
+    -- and after the transaction's own changes
     pub rows_after_stay : (changes : List RowChange) (n : ℕ) → is_touched touched n ≡ true
         → rows_of (all_applied changes (held o new s)) n ≡ rows_of (all_applied changes (held o old s)) n
     rows_after_stay changes n h = same_after changes (held o new s) (held o old s) n (held-long new old) (rows_stay n h)
@@ -157,7 +157,7 @@ module _ (o : Opening) (s : Shard) where
         })
         touched touches
 
-  -- The transaction after a later run, behind which no touched table was changed.
+  -- The transaction after a later run, after which no touched table was changed.
   pub pending_later : (old new : Run) (tx : PendingView) → IsPending o s old tx → IsPrefix old new → IsLegal (MayFollow o) new → IsClear o s new tx
       → IsPending o s new tx
   pending_later old new tx is later legal clear = record {

@@ -172,7 +172,7 @@ permuted_of n exact changes of are =
     let P : RowChange → Type 0 = λ c. Rattle.vschema.specs.Database.changed_table c ≡ n in
     recursion_from_All P changes (All-permutation P exact changes of (All-from_recursion P exact are))
 
--- all rows, behind all writes
+-- all rows, after all writes
 pub total : (schema : VSchema) (writes : List Write) (db : Database) (changes : List RowChange) → AreChangesOf schema writes db changes
     → AllByRecursion (λ w. written_table w < length db) writes
     → row_count (all_applied changes db) + count_by is_removed changes ≡ row_count db + count_by is_added changes

@@ -24,7 +24,7 @@ use std::mem::replace;
 use vschema::{Place, Query, VSchema, Write};
 use vt_value::{Items, Refusal, Row};
 
-/// What lies under a shard's lock: its rows, its mode and the entries that it stores, beside the seat whose run says so.
+/// What lies under a shard's lock: its rows, its mode and the entries that it stores, with the seat whose run says so.
 /// Contracts see a `ShardView`: which shard it is, and the run that its seat has seen.
 #[derive(Drop)]
 pub struct ShardState<W: World, J: Naming> {
@@ -228,7 +228,7 @@ impl<W: World, J: Naming> ShardState<W, J> {
         self.contents.store.row_count() as u64
     }
 
-    /// The last step with a source by which the shard came forward: behind it the shard stands in the source, and without one it has no
+    /// The last step with a source by which the shard came forward: after it the shard stands in the source, and without one it has no
     /// position there.
     pub fn last_step(&self, source: usize) -> Option<&Step>
         requires lives { mode W.opening self.now.seen self.now.shard.slot ≡ Mode.Retired → ⊥ }
@@ -400,10 +400,10 @@ impl<W: World, J: Naming> ShardState<W, J> {
         }
     }
 
-    // Promise: A following step takes over the source's next entry as one entry, behind a look. It is done only where the target had fewer than
+    // Promise: A following step takes over the source's next entry as one entry, after a look. It is done only where the target had fewer than
     // 2^40 entries and fewer stored ones than it may; then it has no more rows than it may, if no two sources of it overlap. It is refused for
     // want of memory, or where it passes one of these limits (F24): for rows only where the target would have more than it may, with that
-    // entry behind the run. A refused one could have come next, and appended nothing
+    // entry after the run. A refused one could have come next, and appended nothing
     /// Takes over what the source's next stored entry changes in its place: one look, which the pass keeps, and then one entry. Refuses for
     /// want of memory, and what would pass a limit of the shard; then the look was made, and nothing else.
     pub fn follow(

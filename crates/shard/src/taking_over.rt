@@ -149,7 +149,7 @@ impl<W: World, J: Naming> ShardState<W, J> {
         }
     }
 
-    /// Behind how many of a source's stored entries it stands, by the source's slot; none before its first Copy from there. Takes no memory.
+    /// After how many of a source's stored entries it stands, by the source's slot; none before its first Copy from there. Takes no memory.
     pub fn behind(&self, source: usize) -> Option<u128>
         requires lives { mode W.opening self.now.seen self.now.shard.slot ≡ Mode.Retired → ⊥ }
         ensures { result ≡ position self.now.seen self.now.shard.slot source }
@@ -184,7 +184,7 @@ impl<W: World, J: Naming> ShardState<W, J> {
 
     // Promise: A target tells how far it has come with a source, and where it copies on; a source tells what it has for it next: its entry
     // at a place, cut to the target's place, or that none is left; else at most 100 rows of a table of that place, in the order of their
-    // keys, behind the last that was copied, and whether they are the last. What is followed is cut to what is copied
+    // keys, after the last that was copied, and whether they are the last. What is followed is cut to what is copied
     // With: ShardState::{behind, copied_changes, entry_for, rows_to_copy}
     /// How far a target that follows has come with a source, by its slot. Refuses for want of memory.
     pub fn progress(
@@ -283,7 +283,7 @@ impl<W: World, J: Naming> ShardState<W, J> {
         }))
     }
 
-    /// The next rows of a table for a target, as a shard that serves has them: of those that lie in the target's place behind the last row
+    /// The next rows of a table for a target, as a shard that serves has them: of those that lie in the target's place after the last row
     /// there, the first 100 by primary key. A table that isn't stored in the order of its primary key is sorted at its first step, which
     /// takes as long as that, and kept in that order until its last. Refuses for want of memory.
     pub fn rows_to_copy(
@@ -323,9 +323,9 @@ impl<W: World, J: Naming> ShardState<W, J> {
         self.sorted.clear();
     }
 
-    // Promise: A Copy is exactly one entry, behind a look. It is done only where the target had fewer than 2^40 entries, and has no more rows
+    // Promise: A Copy is exactly one entry, after a look. It is done only where the target had fewer than 2^40 entries, and has no more rows
     // then than it may. It is refused for want of memory, or where it passes one of these limits (F24): for rows only where the target would
-    // have more than it may, with that entry behind the run. A refused one could have come next, and appended nothing
+    // have more than it may, with that entry after the run. A refused one could have come next, and appended nothing
     /// Takes over the rows of a Copy that is next for it, on a target that follows: one look, which the pass keeps, and then one entry.
     /// Refuses for want of memory, and what would pass a limit of the shard; then the look was made, and nothing else.
     pub fn copy(

@@ -137,7 +137,7 @@ pub record NeedsAlone (o : Opening) (w : Write) (s : Shard) : Type 0 where
 
 -- A write that needs no shard counts 0 and does nothing, which is what it means over the one database. Another needs one shard, on which the
 -- session has committed it, after looks at most. The reply counts what it means over the one database right before its entry, which leads to
--- the one right behind it.
+-- the one right after it.
 pub data HasWritten (o : Opening) (limits : Limits) (p : PassView Entry) (w : Write) : Reply → PassView Entry → Type 0 where
   nowhere : {now : PassView Entry} (seats : List Seat) → IsPartition seats → needed_by o w seats ≡ [] → HasGone o p now
       → GivesOver o.schema (one o now.seen) (typed.Write w) (Count 0) (one o now.seen)

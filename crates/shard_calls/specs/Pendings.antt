@@ -67,7 +67,7 @@ pub data AreTold (o : Opening) (s : Shard) (run : Run) (touched : List Touch) : 
       → AreTold o s run touched (steps ++ record { typed = typed.Write w; answer = Count (length more); on = Some s; seen = seen } ∷ [])
       (writes ++ w ∷ []) (changes ++ more)
 
--- a table was touched by a statement on the shard, which served at the run that it had seen, behind which the session has no commit
+-- a table was touched by a statement on the shard, which served at the run that it had seen, after which the session has no commit
 pub record IsTouchOf (o : Opening) (s : Shard) (session : Option ℕ) (at : Run) (steps : List Step) (t : Touch) : Type 0 where
   pub step : Step
   pub is : Contains steps step

@@ -144,7 +144,7 @@ tables_of (typed.Select q) = source_tables q
 tables_of (typed.Write w) = written_table w ∷ []
 tables_of _ = []
 
--- Behind a statement of the transaction another session's commit on the shard that it used has changed a row of a table of that statement.
+-- After a statement of the transaction another session's commit on the shard that it used has changed a row of a table of that statement.
 pub record IsConflict (o : Opening) (s : Shard) (session : Option ℕ) (run : Run) (steps : List Step) : Type 0 where
   pub step : Step
   pub is : Contains steps step
@@ -171,7 +171,7 @@ reads_of _ s run = []
 
 -- The session of the pass has committed these statements on the shard: one look, then one entry with their writes, in order, and this alone is
 -- new of its session. Up to the entry none of their tables was changed by another session, and the statements lead from the one database right
--- before the entry to the one right behind it.
+-- before the entry to the one right after it.
 pub record IsCommitted (o : Opening) (limits : Limits) (s : Shard) (p : PassView Entry) (steps : List Step) (now : PassView Entry) : Type 0 where
   pub looked : PassView Entry
   pub look : HasLooked o s.slot p looked

@@ -39,7 +39,7 @@ pub fn closes(statement: &Typed) -> bool
     matches!(statement, Typed::Commit | Typed::Rollback)
 }
 
-/// Whether a transaction stays open behind what one of its statements gave, which closes it where it is answered, or doesn't.
+/// Whether a transaction stays open after what one of its statements gave, which closes it where it is answered, or doesn't.
 pub fn stays_open(closes: bool, given: &Result<Reply, Refusal>) -> bool
     ensures { result ≡ stays_open closes given.now }
 {

@@ -112,7 +112,7 @@ module _ (o : Opening) (most : Limits) (seat : SeatView Entry) (c : Contents) (i
     part : SameRows (held o run s) restricted
     part = part_held o is.opens run s stands (ap is_serving serves) legal
 
-    -- so are the rows beside the seat those of the one database in the shard's place
+    -- so are the rows with the seat those of the one database in the shard's place
     beside : SameRows c.store.rows restricted
     beside = same_through c.store.rows (held o run s) restricted rows part
 

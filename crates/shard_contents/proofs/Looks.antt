@@ -42,7 +42,7 @@ pub not_serving_is : (o : Opening) (most : Limits) (run : Run) (c : Contents) �
 not_serving_is o most run c (holds h) other is = other (h.mode ∙ is)
 not_serving_is o most run c (dropped d r) other is = absurd (cc (r, is))
 
--- what lies beside a seat tells whether a transaction is clear there
+-- what lies with a seat tells whether a transaction is clear there
 module _ (o : Opening) (most : Limits) (seat : SeatView Entry) (c : Contents) (is : IsAfter o most seat c) (tx : PendingView) where
   serving_here : c.mode ≡ Serving → mode o seat.seen c.shard.slot ≡ Serving
   serving_here = serving_is o most seat.seen c is.keeps

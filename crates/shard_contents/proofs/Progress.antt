@@ -39,7 +39,7 @@ no_steps Serve plain = refl
 
 -- ---- the position
 
--- behind the last of these steps that is with the source
+-- after the last of these steps that is with the source
 abbrev pub behind_last : ℕ → Option ℕ → List Step → Option ℕ
 behind_last source p [] = p
 behind_last source p (step ∷ steps) = behind_last source (if source_of step == source then Some (behind step) else p) steps

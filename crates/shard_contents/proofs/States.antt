@@ -114,7 +114,7 @@ pub holds_of : (o : Opening) (limits : Limits) (run : Run) (c : Contents) → Ke
 holds_of o limits run c (holds h) lives = h
 holds_of o limits run c (dropped d r) lives = absurd (lives r)
 
--- the mode beside the seat, as far as it answers
+-- the mode with the seat, as far as it answers
 pub serves_is : (o : Opening) (limits : Limits) (run : Run) (c : Contents) → Keeps o limits run c → is_serving c.mode ≡ is_serving (mode o run c.shard.slot)
 serves_is o limits run c (holds h) = ap is_serving h.mode
 serves_is o limits run c (dropped d r) = ap is_serving d ∙ sym (ap is_serving r)
@@ -147,7 +147,7 @@ still_names o old new s targets same later named retired =
 pub names_none : (o : Opening) (run : Run) (s : Shard) (targets : List Shard) → (mode o run s.slot ≡ Retired → ⊥) → Names o run s targets
 names_none o run s targets lives retired = absurd (lives retired)
 
--- what lies beside a seat after a look
+-- what lies with a seat after a look
 module _ (o : Opening) (limits : Limits) (old new : SeatView Entry) (p : PassView Entry) (c : Contents) (targets : List Shard)
     (later : IsLater slot_of commit_of (MayFollow o) old p new.seen) (slot : new.slot ≡ old.slot) (is : IsAfter o limits old c) where
   pub after_look : IsAfter o limits new c
@@ -162,7 +162,7 @@ module _ (o : Opening) (limits : Limits) (old new : SeatView Entry) (p : PassVie
   pub names_after_look : Names o old.seen c.shard targets → Names o new.seen c.shard targets
   names_after_look = still_names o old.seen new.seen c.shard targets alone_here later.seat
 
--- what lies beside a seat once it has looked, whatever else the state keeps
+-- what lies with a seat once it has looked, whatever else the state keeps
 pub record Looked (o : Opening) (most : Limits) (seat : SeatView Entry) (c : Contents) (targets : List Shard) : Type 0 where
   pub is : IsAfter o most seat c
   pub names : Names o seat.seen c.shard targets

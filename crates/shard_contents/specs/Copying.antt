@@ -47,8 +47,8 @@ pub record IsNextTable (o : Opening) (run : Run) (target : Shard) (source n : �
       → IsTrue (is_before (table_at o.schema m).name (table_at o.schema n).name)
       → IsTrue (has_copied_all run target.slot source m)
 
--- After the run the target follows, and has come so far with a source: it stands behind so many of the source's stored entries, and copies
--- on with this table behind this row of it, if it has not copied all.
+-- After the run the target follows, and has come so far with a source: it stands after so many of the source's stored entries, and copies
+-- on with this table after this row of it, if it has not copied all.
 pub record IsProgress (o : Opening) (run : Run) (target : Shard) (source : ℕ) (p : SourceProgress) : Type 0 where
   pub following : mode o run target.slot ≡ Following
   pub behind : p.behind ≡ position run target.slot source
@@ -63,7 +63,7 @@ pub record IsEntryFor (o : Opening) (run : Run) (source : ℕ) (place : Place) (
   pub stored : slice_get (stored_on source run) f.place ≡ Some entry
   pub changes : f.changes ≡ restricted_changes o.schema place (stored_changes entry.event)
 
--- the first rows, by key, of those of a table that a source which serves has beyond the reached ones in a target's place, behind what it has
+-- the first rows, by key, of those of a table that a source which serves has beyond the reached ones in a target's place, after what it has
 -- stored
 pub record IsCopyFor (o : Opening) (run : Run) (source : Shard) (into : Place) (after : Option Row) (c : Copied) : Type 0 where
   pub of_source : c.source ≡ source.slot

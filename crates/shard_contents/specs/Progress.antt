@@ -22,7 +22,7 @@ steps_of _ = []
 abbrev pub steps_on : ℕ → Run → List Step
 steps_on slot run = flat_map (λ e. steps_of e.event) (entries_on slot run)
 
--- how many of the source's stored entries the target stands behind after the step
+-- how many of the source's stored entries the target stands after once it took the step
 abbrev pub behind : Step → ℕ
 behind (Followed source place) = place + 1
 behind (Copied source table place last row) = place

@@ -43,7 +43,7 @@ nothing_done = record { touched = []; writes = []; changes = [] }
 abbrev pub changes_table : ℕ → Entry → Bool
 changes_table n e = list_any (λ c. changed_table c == n) (stored_changes e.event)
 
--- of the entries that the shard has stored, one behind the touch changes a row of its table
+-- of the entries that the shard has stored, one after the touch changes a row of its table
 abbrev pub is_changed : List Entry → Touch → Bool
 is_changed stored t = list_any (changes_table t.table) (drop t.stored stored)
 

@@ -21,7 +21,7 @@ use std::alloc::Global;
 use vschema::{RowChange, VSchema, Write};
 use vt_value::{Items, Refusal};
 
-/// What a shard holds beside its seat.
+/// What a shard holds besides its seat.
 #[derive(Drop)]
 pub struct Contents {
     pub shard: Shard,

@@ -36,14 +36,14 @@ pub struct NextTable {
 /// How far a target has come with a source.
 #[derive(Drop)]
 pub struct SourceProgress {
-    /// Behind how many of the source's stored entries it stands. None before its first Copy from there.
+    /// After how many of the source's stored entries it stands. None before its first Copy from there.
     pub behind: Option<u128>,
     /// Where it copies on. None where it has copied all tables.
     pub next: Option<NextTable>,
 }
 
 impl Step {
-    // Behind how many of the source's stored entries the target stands after the step.
+    // After how many of the source's stored entries the target stands after the step.
     pub fn behind(&self) -> u128
         ensures { result ≡ behind self.now }
     {

@@ -104,7 +104,7 @@ all_rise (v ∷ vs) = rises v vs
 
 -- ---- the slots of several values
 
--- a key that begins with a value above v is behind v
+-- a key that begins with a value above v is after v
 less_first : (v x : Value) (ks : Row) (vs : List Value) → Below v vs → list_any (λ w. begins w (x ∷ ks)) vs ≡ true → value_cmp v x ≡ Less
 less_first v x ks [] h e = absurd (false≢true e)
 less_first v x ks (w ∷ vs) h e = by (less_first v x ks vs h.1) (is_eq (value_cmp w x)) refl e

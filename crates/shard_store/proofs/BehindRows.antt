@@ -1,4 +1,4 @@
--- A walk from the key of a row on has all rows behind it, and stands in the order of primary keys.
+-- A walk from the key of a row on has all rows after it, and stands in the order of primary keys.
 use Rattle.std.proofs.Common.{◌≡◌, ℕ, Bool, true, false, cond, List, [], ◌∷◌, ◌++◌, filter, option_to_list, Option, Some, None, refl, sym, ap, ◌∙◌, subst}
 use Rattle.std.proofs.lemmas.Bool.{false≢true}
 use Rattle.std.specs.List.{AllByRecursion}
@@ -20,7 +20,7 @@ use Rattle.shard_store.specs.Proofs.KeyLemmas.{key_cmp-total}
 use Rattle.shard_store.proofs.Prefix.{Ascend, ascend}
 use Rattle.shard_store.proofs.Keyed.{Keyed}
 
--- ---- no row before the first key of the walk is behind that key
+-- ---- no row before the first key of the walk is after that key
 
 less_le : (o : Ordering) → is_lt o ≡ true → is_le o ≡ true
 less_le Less e = refl

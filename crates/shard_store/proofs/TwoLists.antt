@@ -1,4 +1,4 @@
--- Rows in slots and beside them.
+-- Rows in slots and outside them.
 use Rattle.std.proofs.Common.{◌≡◌, ◌↔◌, IsTrue, ℕ, zero, suc, ◌<◌, Bool, true, false, ◌&&◌, not, List, [], ◌∷◌, ◌++◌, length, get_or, filter, position, option_to_list, Option, Some, IsPermutation, refl, sym, ap, ◌∙◌, subst, arith}
 use Rattle.std.specs.Prelude.{nat_lt}
 use Rattle.std.specs.List.{position_or_len, remove, list_any}
@@ -51,7 +51,7 @@ pub any_of_perm_left : (r : Row) (xs ys zs : List Row) → IsPermutation zs (wit
 any_of_perm_left r xs ys zs h any =
     subst (IsPermutation (zs ++ ys)) (sym (without_left r xs ys any)) (IsPermutation-append_left ys zs (without r xs) h)
 
--- a row more before the others is a row more behind them
+-- a row more before the others is a row more after them
 pub added_before : (r : Row) (xs ys zs : List Row) → IsPermutation zs (xs ++ r ∷ []) → IsPermutation (zs ++ ys) ((xs ++ ys) ++ r ∷ [])
 added_before r xs ys zs h =
     IsPermutation-trans (zs ++ ys) ((xs ++ r ∷ []) ++ ys) ((xs ++ ys) ++ r ∷ []) (IsPermutation-append_left ys zs (xs ++ r ∷ []) h)

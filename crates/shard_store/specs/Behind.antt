@@ -1,4 +1,4 @@
--- Rows of a table behind a row, and rows in the order of their primary keys.
+-- Rows of a table after a row, and rows in the order of their primary keys.
 use Rattle.std.specs.Prelude.{◌≡◌, Bool, true, false, List, [], ◌∷◌, Option, Some, None}
 use Rattle.std.specs.List.{AllByRecursion}
 use Rattle.std.specs.Ordering.{is_lt}
@@ -11,7 +11,7 @@ use Rattle.vschema.specs.Schema.{key_of}
 abbrev pub is_row_before : Table → Row → Row → Bool
 is_row_before t a b = is_lt (slice_cmp value_cmp (key_of t a) (key_of t b))
 
--- a row is behind the last one, if one is given
+-- a row is after the last one, if one is given
 abbrev pub is_behind : Table → Option Row → Row → Bool
 is_behind t None row = true
 is_behind t (Some last) row = is_row_before t last row

@@ -35,6 +35,6 @@ slots_chosen (All rows) = rows
 slots_chosen (With rows) = rows
 slots_chosen (Among rows) = rows
 
--- and those beside them
+-- and those outside them
 abbrev pub rows_chosen : ChosenRows → List Row
 rows_chosen rows = slots_chosen rows.slots ++ rows.beside

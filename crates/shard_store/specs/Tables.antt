@@ -34,7 +34,7 @@ pub record IsStored (places : List ℕ) (slots : List Slot) (count : ℕ) : Type
   pub keyed : AllByRecursion (IsAtItsKey places) slots
   pub counted : count ≡ length (rows_in slots)
 
--- a table that has a slot for the row can take it beside these rows: no row of them has its key
+-- a table that has a slot for the row can take it with these rows: no row of them has its key
 pub record CanTake (t : TableView) (key : RowKey) (row : Row) (rows : List Row) : Type 0 where
   pub at : key.values ≡ key_at t.places row
   pub slot : IsSome (slot_at t.slots key)

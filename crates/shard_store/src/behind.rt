@@ -11,8 +11,8 @@ use std::alloc::Global;
 use vschema::Table;
 use vt_value::{Refusal, Row};
 
-/// Rows of a table that are still to come, among which are all behind a row: those in slots, in the order of primary keys where
-/// `in_order` says so, and those beside them.
+/// Rows of a table that are still to come, among which are all after a row: those in slots, in the order of primary keys where
+/// `in_order` says so, and those outside them.
 #[derive(Drop)]
 pub struct RowsBehind<'a> {
     pub slots: RowsInOrder<'a>,
@@ -21,7 +21,7 @@ pub struct RowsBehind<'a> {
 }
 
 impl TableRows {
-    /// Rows among which are all whose primary key is behind that of the last row; all, if none is given. Refuses for want of memory.
+    /// Rows among which are all whose primary key is after that of the last row; all, if none is given. Refuses for want of memory.
     pub fn behind(
         &self,
         alloc: Global,
@@ -43,7 +43,7 @@ impl TableRows {
 }
 
 impl StoredTables {
-    /// Rows of the table at a place among which are all whose primary key is behind that of the last row; all, if none is given. Refuses
+    /// Rows of the table at a place among which are all whose primary key is after that of the last row; all, if none is given. Refuses
     /// for want of memory.
     pub fn behind(
         &self,

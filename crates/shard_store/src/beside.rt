@@ -29,7 +29,7 @@ fn sweep_slots(stored: &mut StoredTable, keys: &mut Vec<RowKey>)
     }
 }
 
-/// The rows of a table in any number, also of one key: each in the slot of its key, or beside the slots where another row has its key
+/// The rows of a table in any number, also of one key: each in the slot of its key, or outside the slots if another row has its key
 /// or the key has no slot. Contracts see a `RowsView`.
 #[derive(Drop)]
 pub struct TableRows {

@@ -103,7 +103,7 @@ impl<'a> Ord for LentRow<'a> {
     }
 }
 
-/// Keys behind one of a slot and before that of a row, where one is given. A walk in the order of keys stays in one until it comes to a row
+/// Keys after one of a slot and before that of a row, where one is given. A walk in the order of keys stays in one until it comes to a row
 /// that is gone, and so compares two keys at most of its rows.
 #[derive(Clone, Copy)]
 pub struct Gap<'a> {
@@ -177,7 +177,7 @@ impl<'a> GoneRows<'a> {
         Ok(())
     }
 
-    // The first of them whose key is behind a row's.
+    // The first of them whose key is after a row's.
     fn first_behind(&self, row: &'a Row) -> Option<LentRow<'a>>
         ensures { (key : List V) → is_lt (slice_cmp value_cmp (key_at self.now.columns row.now) key) ≡ true → is_below_lent result key ≡ true → list_any (same_row key) self.now.keys ≡ false }
     {
@@ -190,7 +190,7 @@ impl<'a> GoneRows<'a> {
         }
     }
 
-    /// The keys behind a row's, up to the next of a row that is gone.
+    /// The keys after a row's, up to the next of a row that is gone.
     pub fn gap_behind(&self, key: &'a RowKey, row: &'a Row) -> Gap<'a>
         requires { key.now.values ≡ key_at self.now.columns row.now }
         ensures { IsGapIn self.now.keys result }

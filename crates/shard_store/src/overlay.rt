@@ -38,7 +38,7 @@ pub struct Overlay<'a> {
     stored: &'a StoredTable,
     // rows in slots that the changes take away
     gone: GoneRows<'a>,
-    // the rows beside the slots, and those that the changes add
+    // the rows outside the slots, and those that the changes add
     others: Vec<&'a Row>,
 }
 
@@ -61,7 +61,7 @@ impl<'a> Model for Overlay<'a> {
 pub struct RowsLeft<'a, 'b> {
     slots: SlotsLeft<'a>,
     gone: &'b GoneRows<'a>,
-    // keys behind the last one that was looked up, none of which is gone
+    // keys after the last one that was looked up, none of which is gone
     gap: Option<Gap<'a>>,
     others: &'b [&'a Row],
     // the place of the next of the others
@@ -200,7 +200,7 @@ fn is_left<'a>(stored: &StoredTable, gone: &GoneRows<'a>, key: &RowKey, row: &'a
 }
 
 impl<'a> Overlay<'a> {
-    // Promise: The rows of a table with changes that it doesn't have, of which no other row is copied: a row that is added comes behind the
+    // Promise: The rows of a table with changes that it doesn't have, of which no other row is copied: a row that is added comes after the
     // others, and one that is removed is the first that is this one. What is read of them is what is read of that list
     // With: Overlay::{add, remove, all, chosen, kept, select, has_any_key}, StoredTables::overlay
     /// The rows of a table, without any change. Refuses for want of memory.

@@ -175,7 +175,7 @@ impl StoredTables {
         self.tables.get(place)
     }
 
-    /// How many rows the table at a place has: none behind the last table.
+    /// How many rows the table at a place has: none after the last table.
     pub fn row_count_of(&self, place: usize) -> usize
         ensures { result ≡ length (rows_of self.now.rows place) }
     {
@@ -185,7 +185,7 @@ impl StoredTables {
         }
     }
 
-    /// Copies of the rows of the table at a place whose condition is true: none behind the last table. Refuses for want of memory.
+    /// Copies of the rows of the table at a place whose condition is true: none after the last table. Refuses for want of memory.
     pub fn kept(
         &self,
         alloc: Global,

@@ -76,7 +76,7 @@ impl StoredTables {
         }
     }
 
-    /// Adds a table without rows behind those that are there. Refuses for want of memory; then nothing has changed.
+    /// Adds a table without rows after those that are there. Refuses for want of memory; then nothing has changed.
     pub fn push_table(&mut self, alloc: Global, table: &Table) -> Result<(), Refusal>
         ensures ok { OnOk result (self.new.rows ≡ self.old.rows ++ [] ∷ []) }
         ensures err { IfErr result (λ e. e ≡ Refusal.OutOfMemory) }
@@ -141,7 +141,7 @@ impl StoredTables {
         }
     }
 
-    // Puts the addition of a row behind the changes.
+    // Puts the addition of a row after the changes.
     fn push_put(
         &self,
         alloc: Global,
@@ -159,7 +159,7 @@ impl StoredTables {
         Ok(())
     }
 
-    // Puts the removal of a row behind the changes.
+    // Puts the removal of a row after the changes.
     fn push_take(
         &self,
         alloc: Global,

@@ -38,7 +38,7 @@ impl Model for StoredTable {
     ghost invariant = { λ t. IsStored t.places t.slots t.count };
 }
 
-/// A copy of the value of a row at a place: NULL behind its last one. Refuses for want of memory.
+/// A copy of the value of a row at a place: NULL after its last one. Refuses for want of memory.
 fn copy_at(alloc: Global, row: &Row, place: usize) -> Result<Value, Refusal>
     ensures ok { IfOk result (λ v. v ≡ value_at row.now place) }
     ensures err { IfErr result (λ e. e ≡ Refusal.OutOfMemory) }
@@ -146,7 +146,7 @@ impl StoredTable {
         Ok(self.slots.rows_from(&key))
     }
 
-    /// Rows in slots among which are all behind a row; all, where they don't stand in the order of primary keys.
+    /// Rows in slots among which are all after a row; all, where they don't stand in the order of primary keys.
     pub(crate) fn behind(
         &self,
         alloc: Global,

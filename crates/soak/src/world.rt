@@ -83,7 +83,7 @@ fn run_sessions<
     )
 }
 
-// The sessions, and beside them the administrator.
+// The sessions, and with them the administrator.
 fn run_beside<W: World + Send + Sync, J: Naming + Send + Sync, R: Threads + Wait + Clock + Sync>(
     controller: &mut Controller<'_, W, J, R>,
     clients: Vec<Client<W, J>>,
@@ -116,7 +116,7 @@ fn sum(books: &[Book], tally: &mut Tally) -> Result<u64, Fault> {
     made
 }
 
-// The rows are those of the books, for a session that begins behind their end.
+// The rows are those of the books, for a session that begins after their end.
 fn check_rows<W: World + Send + Sync, J: Naming + Send + Sync, R: Threads + Wait + Clock + Sync>(
     controller: &mut Controller<'_, W, J, R>,
     opener: &mut Opener<ShardLaw<W>, J>,

@@ -229,7 +229,7 @@ impl Book {
     }
 
     /// Compares what a statement was told with what it is to be, and does to the rows what it says. It was said in a transaction or not, and
-    /// one is open behind it or not: what wasn't committed is undone.
+    /// one is open after it or not: what wasn't committed is undone.
     pub fn settle(
         &mut self,
         statement: &Statement,

@@ -105,7 +105,7 @@ impl Rows {
         Ok(())
     }
 
-    /// A query gave those of these rows that it names, each once, beside rows of other sessions.
+    /// A query gave those of these rows that it names, each once, with rows of other sessions.
     pub fn check(&self, statement: &Statement, answer: &Answer) -> Result<(), Fault> {
         let (Verb::Find | Verb::Scatter, Answer::Rows(selected)) = (statement.verb, answer) else {
             return Ok(());

@@ -86,7 +86,7 @@ largest = n 18446744073709551615
 wide : kept_rows (grouped (item.Min 1 ∷ item.Sum 1 ∷ []) [] []) ((n 1 ∷ largest ∷ []) ∷ (n 3 ∷ largest ∷ []) ∷ []) ≡ alone (largest ∷ n 36893488147419103230 ∷ []) ∷ []
 wide = refl
 
--- c and COUNT(*) by c, beside the sort key c: NULLs are one group
+-- c and COUNT(*) by c, with the sort key c: NULLs are one group
 counts : kept_rows (grouped (item.Column 1 ∷ item.CountRows ∷ []) (1 ∷ []) (record { column = 1; descending = false } ∷ [])) t_rows
     ≡ ((Null ∷ n 2 ∷ []), (Null ∷ [])) ∷ ((n 7 ∷ n 2 ∷ []), (n 7 ∷ [])) ∷ ((n 9 ∷ n 1 ∷ []), (n 9 ∷ [])) ∷ ((n 1 ∷ n 1 ∷ []), (n 1 ∷ [])) ∷ []
 counts = refl

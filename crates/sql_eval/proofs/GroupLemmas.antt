@@ -32,14 +32,14 @@ map_both f g h same (x ∷ xs) = λ i. same x i ∷ map_both f g h same xs i
 pub at_drop : (row : Row) (n : ℕ) (v : Value) (rest : Row) → drop n row ≡ v ∷ rest → value_at row n ≡ v
 at_drop row n v rest e = sym (first_behind n row) ∙ ap (λ r. value_at r 0) e
 
--- nothing stands behind the last value
+-- nothing stands after the last value
 at_end : (row : Row) (n : ℕ) → length row ≤ n → value_at row n ≡ Null
 at_end [] zero h = refl
 at_end [] (suc n) h = refl
 at_end (v ∷ row) zero h = absurd (omega (arith, h))
 at_end (v ∷ row) (suc n) h = at_end row n (omega (arith, h))
 
--- the parts of columns that stand in a list behind some place, joined
+-- the parts of columns that stand in a list after some place, joined
 joined_each : {X : Type 0} (aggregates : List (Item ℕ)) (n : ℕ) (f : X → Row) (g : X → Item ℕ → Value) (xs : List X) → ((x : X) → drop n (f x) ≡ map (g x) aggregates)
     → joined_parts aggregates n (map f xs) ≡ map (λ a. joined_part a (map (λ x. g x a) xs)) aggregates
 joined_each [] n f g xs h = refl

@@ -107,7 +107,7 @@ not_again i x same = rw (by_number i x (eqb-true _ _ same), same_as_itself (item
 again : (i x : Item ℕ) → same_item i x ≡ false → filter (λ j. not (same_item x j)) (i ∷ []) ≡ i ∷ []
 again i x apart = rw (turned (item_code x) (item_code i), apart) refl
 
--- an item that was there goes nowhere, and a new one goes behind the others
+-- an item that was there goes nowhere, and a new one goes after the others
 pub one_item_more : (i : Item ℕ) (items : List (Item ℕ)) (b : Bool) → has_item i (distinct_items items) ≡ b
     → distinct_items (items ++ i ∷ []) ≡ cond b (distinct_items items) (distinct_items items ++ i ∷ [])
 one_item_more i [] true is = absurd cc

@@ -16,7 +16,7 @@ left_at (suc w) [] b (suc n) h = left_at w [] b n (omega (arith, h)) ∙ empty_a
 left_at (suc w) (v ∷ a) b zero h = refl
 left_at (suc w) (v ∷ a) b (suc n) h = left_at w a b n (omega (arith, h))
 
--- and behind them those of its second
+-- and after them those of its second
 pub right_at : (w : ℕ) (a b : Row) (n m : ℕ) → m ≡ w + n → value_at (padded w a ++ b) m ≡ value_at b n
 right_at zero a b n m e = let same : m ≡ n = omega (arith, e) in ap (value_at b) same
 right_at (suc w) a b n zero e = absurd (omega (arith, e))

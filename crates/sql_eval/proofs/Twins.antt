@@ -70,7 +70,7 @@ twice-permutation t a b h = by (twice t a) (twice t b) refl refl
     by false y e f = e ∙ sym (carried t a b h e)
 
 module _ {X : Type 0} (R : X → X → Ordering) (o : IsTotalOrder R) where
-  -- what isn't before b comes behind a, which is before b
+  -- what isn't before b comes after a, which is before b
   behind : (a b c : X) → R a b ≡ Less → is_lt (R c b) ≡ false → is_eq (R a c) ≡ false
   behind a b c less h = by (R c b) refl h
     where

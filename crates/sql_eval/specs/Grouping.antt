@@ -35,7 +35,7 @@ item_places other columns n (i ∷ items) =
 abbrev pub placed_key : ℕ → List ℕ → Key ℕ → Key ℕ
 placed_key other columns k = record { column = group_place_from 0 other columns k.column; descending = k.descending }
 
--- a place behind the last value of a group's row
+-- a place after the last value of a group's row
 abbrev pub behind_groups : Query → ℕ
 behind_groups q = length q.group_by + length q.items
 

@@ -10,7 +10,7 @@ abbrev pub seen : Seen → Row
 seen (of.Row row) = row.now
 seen (of.Pair a width b) = padded width a.now ++ b.now
 
--- the pairs of the first of these rows with the rest of the others, and of each behind it with all of them
+-- the pairs of the first of these rows with the rest of the others, and of each after it with all of them
 abbrev pub pairs_left : Join → List Row → List Row → List Row → List Row
 pairs_left j [] rest seconds = []
 pairs_left j (a ∷ firsts) rest seconds = map (paired j a) (filter (is_pair j a) rest) ++ pairs_of j firsts seconds

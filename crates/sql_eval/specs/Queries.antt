@@ -14,7 +14,7 @@ use Rattle.vschema.specs.Sources.{source_rows}
 use Rattle.sql_eval.specs.Conditions.{is_kept}
 use Rattle.sql_eval.specs.Groups.{group_values, group_rows, group_value, item_value}
 
--- a row of the answer beside its sort keys, a value for each key of ORDER BY
+-- a row of the answer with its sort keys, a value for each key of ORDER BY
 abbrev pub Keyed : Type 0
 Keyed = Row × List Value
 
@@ -42,7 +42,7 @@ abbrev pub keyed_groups : Query → List Row → List Keyed
 keyed_groups q rows = map (keyed_group q rows) (group_values q.group_by rows)
 
 -- The bag of the whole answer: the rows whose condition is true, as they are shown, or their groups where the query is aggregated, each
--- beside its sort keys.
+-- with its sort keys.
 abbrev pub kept_rows : Query → List Row → List Keyed
 kept_rows q rows =
     if is_aggregated q then keyed_groups q (filter (is_kept q.filter) rows) else map (keyed_row q) (filter (is_kept q.filter) rows)

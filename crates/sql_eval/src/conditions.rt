@@ -35,7 +35,7 @@ fn pair_at<'v>(
     }
 }
 
-/// The value at a place: `null`, which is NULL, behind the last one.
+/// The value at a place: `null`, which is NULL, after the last one.
 pub fn seen_at<'v>(values: Seen<'v>, place: usize, null: &'v Value) -> &'v Value
     requires { null.now ≡ Value.Null }
     ensures { result.now ≡ Rattle.vt_value.specs.Values.value_at (seen values.entry) place }
@@ -141,7 +141,7 @@ fn some(members: &[Condition<usize>], values: Seen) -> Truth
 
 // Promise: The truth of a condition at a row is SQL's; WHERE keeps the rows where it is true
 // With: keeps
-/// The truth of a condition at a row, by SQL's three-valued logic. A row has NULL behind its last value. Takes no memory.
+/// The truth of a condition at a row, by SQL's three-valued logic. A row has NULL after its last value. Takes no memory.
 pub fn truth(condition: &Condition<usize>, row: &Row) -> Truth
     ensures { result ≡ truth_at row.now condition.now }
 {

@@ -85,7 +85,7 @@ pub fn in_key_order<'r>(
     }
 }
 
-/// Whether a row has the key of the first of those behind it.
+/// Whether a row has the key of the first of those after it.
 fn is_twin(table: &Table, row: &Row, behind: &[&Row]) -> bool
     ensures { result ≡ is_twin table.now row.now (map (λ r. r.now) behind.now) }
 {

@@ -41,7 +41,7 @@ pub fn is_pair(join: Join, first: &Row, second: &Row) -> bool
     matches!(compare(Comparison::Eq, left, right), Truth::True)
 }
 
-// The first of these rows that is a pair with this one, and those behind it.
+// The first of these rows that is a pair with this one, and those after it.
 fn partner<'a>(join: Join, first: &Row, rest: &'a [Row]) -> Option<(&'a Row, &'a [Row])>
     ensures { MatchOption result
         (filter (is_pair join first.now) rest.now ≡ [])
@@ -198,7 +198,7 @@ fn shown_pairs<O: Operator>(
 // Promise: What a query gives over the pairs that it is lent is one of its answers
 // With: SlicePairs::new, is_pair, copy_seen
 /// What a query that isn't aggregated gives over the pairs that a source lends, as `select_from` over rows. No pair is copied that isn't
-/// kept, and without ORDER BY none behind the last one that its LIMIT leaves is asked for. Refuses only for want of memory.
+/// kept, and without ORDER BY none after the last one that its LIMIT leaves is asked for. Refuses only for want of memory.
 pub fn select_pairs<'a, S: PairSource<'a>>(
     alloc: Global,
     query: &'a Query,

@@ -60,7 +60,7 @@ struct Seen {
 }
 
 impl Seen {
-    /// Puts an item behind those so far. Refuses only for want of memory.
+    /// Puts an item after those so far. Refuses only for want of memory.
     fn add(&mut self, item: &Item<usize>) -> Result<(), Refusal>
         ensures ok { OnOk result ((before : List (I ℕ)) → IsSeen before self.old → IsSeen (before ++ item.now ∷ []) self.new) }
         ensures err { IfErr result (λ e. e ≡ Refusal.OutOfMemory) }

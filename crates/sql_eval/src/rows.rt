@@ -10,7 +10,7 @@ ghost use Rattle.vschema.specs.Database.{same_row};
 use vschema::Table;
 use vt_value::{Row, Value, sort_order};
 
-/// The value of a row at a place: `null`, which is NULL, behind its last one.
+/// The value of a row at a place: `null`, which is NULL, after its last one.
 pub fn value_at<'a>(row: &'a Row, place: usize, null: &'a Value) -> &'a Value
     requires { null.now ≡ Value.Null }
     ensures { result.now ≡ value_at row.now place }

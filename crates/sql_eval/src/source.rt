@@ -146,7 +146,7 @@ fn pass_over<'a, S: RowSource<'a>>(condition: &Filter, rows: &mut S, count: u64)
     }
 }
 
-// Of the first rows whose condition is true, at most so many, the columns in these places. No row behind the last of them is asked for.
+// Of the first rows whose condition is true, at most so many, the columns in these places. No row after the last of them is asked for.
 fn first_shown<'a, S: RowSource<'a>>(
     alloc: Global,
     condition: &Filter,
@@ -186,7 +186,7 @@ fn all_shown<'a, S: RowSource<'a>>(
 }
 
 /// Of the rows whose condition is true those that `limit` leaves, each by the columns in these places. No other row is copied, and none
-/// behind the last of them is asked for. Refuses only for want of memory.
+/// after the last of them is asked for. Refuses only for want of memory.
 pub fn shown<'a, S: RowSource<'a>>(
     alloc: Global,
     condition: &Filter,

@@ -54,7 +54,7 @@ lex_sound (suc n) at (b ∷ bs) tokens le e = go (is_blank b) refl e (lex_sound 
         (subst (λ (cs : List ℕ). LexesFrom at cs (record { kind = a.0.0; start = at; end = at + length f.front } ∷ d.0)) (sym f.parts) r) in
         subst (LexesFrom at (b ∷ bs)) (some_is (token_of at a.0 ∷ d.0) tokens d.2) whole
 
--- the reading goes on behind a blank, or behind a token
+-- the reading goes on after a blank, or after a token
 pub at_blank : (n at b : ℕ) (bs : List ℕ) → is_blank b ≡ true → lex_at (suc n) at (b ∷ bs) ≡ lex_at n (at + 1) bs
 unfolding lex_at
 at_blank n at b bs is = rw is refl
@@ -64,7 +64,7 @@ pub at_token : (n at b : ℕ) (bs : List ℕ) → is_blank b ≡ false
 unfolding lex_at
 at_token n at b bs plain = rw plain refl
 
--- one token, and what is read behind it
+-- one token, and what is read after it
 one_token : (n at b : ℕ) (bs : List ℕ) (x : Front) (tokens : List Token) → is_blank b ≡ false → token_at (b ∷ bs) ≡ Some x
     → lex_at n (at + x.1) (drop x.1 (b ∷ bs)) ≡ Some tokens
     → lex_at (suc n) at (b ∷ bs) ≡ Some (token_of at x ∷ tokens)

@@ -55,7 +55,7 @@ pub closes : {raw : List ℕ} → IsBody raw → (rest : List ℕ) → ends_toke
 closes {raw} r rest h =
     through r 0 (0x27 ∷ rest) ∙ inside_quote (0 + length raw) rest ∙ behind_end (0 + length raw + 1) rest h ∙ ap (λ (m : ℕ). Some m) (omega arith)
 
--- what a place has behind it
+-- what a place has after it
 abbrev before : Place → List ℕ
 before Inside = []
 before BehindQuote = 0x27 ∷ []
@@ -70,7 +70,7 @@ pub record Closed (bs : List ℕ) (n : ℕ) : Type 0 where
   pub body : IsBody raw
   pub ended : ends_token Text rest ≡ true
 
--- n bytes were read before what a place has behind it
+-- n bytes were read before what a place has after it
 abbrev Reached : Place → List ℕ → ℕ → ℕ → Type 0
 Reached place bs n m = (k : ℕ) × (m ≡ n + k) × Closed (before place ++ bs) k
 
@@ -161,7 +161,7 @@ text_sound (b ∷ bs) n BehindQuote m e = go (eqb b 0x27) refl e (text_sound bs)
     )
 text_sound (b ∷ bs) n BehindBackslash m e = escape_more b n m bs (text_sound bs (n + 2) Inside m (recount (n + 1 + 1) (n + 2 + 0) Inside bs m (omega arith) e))
 
--- what is read behind a first quote
+-- what is read after a first quote
 pub text_closed : (bs : List ℕ) (n : ℕ) → text_len 0 Inside bs ≡ Some n → Closed bs n
 text_closed bs n e =
     let r = text_sound bs 0 Inside n (recount 0 (0 + 0) Inside bs n (omega arith) e) in

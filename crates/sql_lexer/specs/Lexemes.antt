@@ -132,7 +132,7 @@ said_by (Operator op) bytes = operator op
 abbrev pub lexemes_of : List ℕ → List Token → List Lexeme
 lexemes_of bytes tokens = map (λ t. said_by t.kind (slice_range bytes t.start t.end)) tokens
 
--- A byte that a token of the kind doesn't stand right before: it would make the token longer, or it is a letter behind a number.
+-- A byte that a token of the kind doesn't stand right before: it would make the token longer, or it is a letter after a number.
 abbrev pub goes_on : TokenKind → ℕ → Bool
 goes_on (Keyword k) b = is_word_byte b
 goes_on Word b = is_word_byte b

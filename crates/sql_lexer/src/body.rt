@@ -7,13 +7,13 @@ ghost use Rattle.sql_lexer.specs.inner.Scanning.{after_byte, text_len};
 #[derive(Clone, Copy, Debug, PartialEq, Eq)]
 pub enum Place {
     Inside,
-    /// Behind a quote, which closes the text or is the first of a pair.
+    /// After a quote, which closes the text or is the first of a pair.
     BehindQuote,
-    /// Behind a backslash, which escapes the next byte.
+    /// After a backslash, which escapes the next byte.
     BehindBackslash,
 }
 
-/// The place behind a byte, unless the text ended before it.
+/// The place after a byte, unless the text ended before it.
 fn after_byte(place: Place, byte: u8) -> Option<Place>
     ensures { result ≡ after_byte place byte }
 {
@@ -25,7 +25,7 @@ fn after_byte(place: Place, byte: u8) -> Option<Place>
     }
 }
 
-/// How many bytes a text has behind its first quote, where it is closed.
+/// How many bytes a text has after its first quote, where it is closed.
 #[tactic(auto, unfolding(crate::specs::inner::Scanning::text_len))]
 pub fn text_len(bytes: &[u8]) -> Option<usize>
     ensures value { result ≡ text_len 0 Inside bytes.now }

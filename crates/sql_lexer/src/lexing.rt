@@ -51,7 +51,7 @@ fn number(rest: &[u8]) -> Option<Front>
     Some((TokenKind::Number, length))
 }
 
-/// A word between backquotes, behind the first.
+/// A word between backquotes, after the first.
 #[tactic(auto, unfolding(crate::specs::inner::Scanning::quoted_at))]
 fn quoted(rest: &[u8]) -> Option<Front>
     ensures { result ≡ quoted_at rest.now }
@@ -66,7 +66,7 @@ fn quoted(rest: &[u8]) -> Option<Front>
     }
 }
 
-/// A text in single quotes, behind the first.
+/// A text in single quotes, after the first.
 #[tactic(auto, unfolding(crate::specs::inner::Scanning::string_at))]
 fn text(rest: &[u8]) -> Option<Front>
     ensures { result ≡ string_at rest.now }
@@ -175,7 +175,7 @@ fn tokens(alloc: Global, text: &[u8]) -> Result<Vec<Token>, Refusal>
 // Promise: The tokens of a text are given, and a syntax error comes only where it has none
 /// The tokens of a text: words of at most 64 bytes, keywords in any case, words in backquotes, numbers, texts in single
 /// quotes, signs and operators, each as long as possible, with blanks between them. A text with anything else in it, or
-/// with a letter right behind a number, is a syntax error.
+/// with a letter right after a number, is a syntax error.
 pub fn lex(alloc: Global, text: &[u8]) -> Result<Vec<Token>, Refusal>
     // What is given are the text's tokens.
     ensures found { IfOk result (λ v. Lexes text.now v.items) }

@@ -11,7 +11,7 @@ use Rattle.sql_parser.specs.Grammar.{Lexemes, Optional, ReadsWhere, ReadsGroup, 
 use Rattle.sql_parser.specs.Grammar as g
 use Rattle.sql_parser.specs.inner.Reading.{is_comma, is_and, is_or, is_dot, after_at, join_at, where_at, group_at, direction_at, order_at, offset_at, limit_at}
 
--- Tokens that stand behind the clause of the number: 1 is WHERE, 2 GROUP BY, 3 ORDER BY and 4 LIMIT; 0 is what stands before them.
+-- Tokens that come after the clause of the number: 1 is WHERE, 2 GROUP BY, 3 ORDER BY and 4 LIMIT; 0 is what stands before them.
 pub data Behind (n : ℕ) : Lexemes → Type 0 where
   end : Behind n []
   semicolon : {ts : Lexemes} → Behind n (sign Semicolon ∷ ts)
@@ -117,7 +117,7 @@ no_offset _ (at_group le) = refl
 no_offset _ (at_order le) = refl
 no_offset _ (at_limit le) = refl
 
--- ---- clauses with what stands behind them
+-- ---- clauses with what comes after them
 
 pub earlier : (n m : ℕ) → m ≤ n → (ts : Lexemes) → Behind n ts → Behind m ts
 earlier n m le _ end = end

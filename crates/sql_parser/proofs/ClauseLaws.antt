@@ -1,4 +1,4 @@
--- The two laws for a SELECT's list, for its second table and for the clauses behind its tables.
+-- The two laws for a SELECT's list, for its second table and for the clauses after its tables.
 use Rattle.std.proofs.Common.{◌≡◌, ℕ, ◌<◌, ◌^◌, Bool, false, List, [], ◌∷◌, ◌++◌, Option, Some, None, refl, sym, ap, subst, ◌∙◌, append_assoc}
 use Rattle.vt_value.specs.declared.value.Comparison.TheVariants.{Eq}
 use Rattle.sql_lexer.specs.declared.token.Keyword.{Keyword}
@@ -110,7 +110,7 @@ unfolding equals_at
 equals_is (operator Eq ∷ ts) rest e = ap (λ (us : Lexemes). operator Eq ∷ us) (some_is ts rest e)
 equals_is _ rest e = absurd cc
 
--- what is read behind JOIN
+-- what is read after JOIN
 record Joins (ts : Lexemes) (x : JoinOn × Lexemes) : Type 0 where
   left : Lexemes
   right : Lexemes
@@ -183,7 +183,7 @@ unfolding group_at
 group_sound (keyword k.Group ∷ keyword k.By ∷ ts) x e = clause_sound k.Group k.By ReadsColumn ts x (listed_sound column_at ReadsColumn column_sound ts x e)
 group_sound ts x e = no_clause (keyword k.Group ∷ keyword k.By ∷ []) ReadsColumn ts x e
 
--- what is read of a key whose column has these tokens, and of its direction behind them
+-- what is read of a key whose column has these tokens, and of its direction after them
 record Direction (column_tokens : Lexemes) (c : ColumnName) (ts : Lexemes) (x : Bool × Lexemes) : Type 0 where
   front : Lexemes
   parts : column_tokens ++ ts ≡ front ++ x.1
@@ -210,7 +210,7 @@ unfolding order_at
 order_sound (keyword k.Order ∷ keyword k.By ∷ ts) x e = clause_sound k.Order k.By ReadsKey ts x (listed_sound sort_key_at ReadsKey key_sound ts x e)
 order_sound ts x e = no_clause (keyword k.Order ∷ keyword k.By ∷ []) ReadsKey ts x e
 
--- what is read of an OFFSET behind a count
+-- what is read of an OFFSET after a count
 pub record Offset (n : ℕ) (ts : Lexemes) (x : ℕ × Lexemes) : Type 0 where
   pub front : Lexemes
   pub parts : ts ≡ front ++ x.1

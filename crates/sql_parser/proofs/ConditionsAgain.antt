@@ -67,7 +67,7 @@ module _ (Deeper : Lexemes → Condition ColumnName → Type 0) (deeper : Lexeme
   begins_plain _ _ (g.literal (g.negative n le)) rest = refl
   begins_plain _ _ (g.literal (g.string bytes)) rest = refl
 
-  -- the same of what stands behind it
+  -- the same of what comes after it
   plain : (ts us : Lexemes) (x : Operand ColumnName) → ReadsOperand ts x → (rest : Lexemes) → negation_at deeper ((ts ++ us) ++ rest) ≡ predicate_at true ((ts ++ us) ++ rest)
   plain ts us x r rest = rw (append_assoc ts us rest) (begins_plain ts x r (us ++ rest))
 

@@ -53,13 +53,13 @@ module _ (sep : Lexeme → Bool) (word : Lexeme) (only : (t : Lexeme) → sep t 
           subst (Front (Joined word node Item) ts) (some_is y x e) (record { front = f.front; parts = f.parts; reads = g.single f.reads })
       go y f true is e = several_sound ts y x f is e
 
--- ---- what stands behind an operand
+-- ---- what comes after an operand
 
 -- Whatever tokens the operand has, they and these are read as the condition.
 abbrev Behind : (Lexemes → Condition ColumnName → Type 0) → Operand ColumnName → Lexemes → Condition ColumnName → Type 0
 Behind Reads left us x = (ls : Lexemes) → ReadsOperand ls left → Reads (ls ++ us) x
 
--- the same behind an IS
+-- the same after an IS
 abbrev BehindIs : (Lexemes → Condition ColumnName → Type 0) → Operand ColumnName → Lexemes → Condition ColumnName → Type 0
 BehindIs Reads left us x = (ls : Lexemes) → ReadsOperand ls left → Reads (ls ++ keyword k.Is ∷ us) x
 

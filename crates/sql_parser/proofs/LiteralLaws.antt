@@ -1,4 +1,4 @@
--- The two laws for names, columns, literals and operands: what is read is in the grammar, and what is in the grammar is read, whatever follows. Behind a
+-- The two laws for names, columns, literals and operands: what is read is in the grammar, and what is in the grammar is read, whatever follows. After a
 -- column that may be anything but a dot.
 use Rattle.std.proofs.Common.{◌≡◌, ℕ, ◌<◌, ◌≤◌, ◌^◌, List, [], ◌∷◌, ◌++◌, Some, refl, ap, subst, ◌∙◌, append_assoc, pos, None, arith}
 use Rattle.std.specs.Prelude.{neg_ℤ}
@@ -84,7 +84,7 @@ literal_operand ts x e =
     let f = literal_sound ts v p in
     subst (Front ReadsOperand ts) (some_is _ x e1) (record { front = f.front; parts = f.parts; reads = g.literal f.reads }))
 
--- a name, and behind a dot the one that it qualifies
+-- a name, and after a dot the one that it qualifies
 pub behind_name_sound : (bytes : Name) (ts : Lexemes) (x : ColumnName × Lexemes) → behind_name_at bytes ts ≡ Some x → Front ReadsColumn (identifier bytes ∷ ts) x
 unfolding behind_name_at
 behind_name_sound bytes (sign Dot ∷ ts) x e =

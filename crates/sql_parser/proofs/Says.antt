@@ -26,7 +26,7 @@ pub data Says : List ℕ → Lexemes → Type 0 where
   token : {bytes rest : List ℕ} {which : TokenKind} {ls : Lexemes} → Spells bytes which → ends_token which rest ≡ true → Says rest ls
       → Says (bytes ++ rest) (said_by which bytes ∷ ls)
 
--- the tokens of these bytes behind others
+-- the tokens of these bytes after others
 record Lexed (before bytes : List ℕ) (ls : Lexemes) : Type 0 where
   tokens : List Token
   lexes : LexesFrom (length before) bytes tokens
@@ -62,7 +62,7 @@ says_reads bytes ls x says reads few plain =
     let f = lexed [] bytes ls says in
     (f.tokens, f.lexes, subst (λ (us : Lexemes). ReadsText us x) (sym f.says) reads, few, plain)
 
--- ---- what may stand right behind a word, a number or a text
+-- ---- what may come right after a word, a number or a text
 
 pub data Breaks : List ℕ → Type 0 where
   at_end : Breaks []
@@ -124,7 +124,7 @@ one_token bytes which h rest ms b r = token h (breaks_end which rest b) r
 pub word : (f : Keyword) → Part (keyword_text f) (keyword f ∷ [])
 word f = one_token (keyword_text f) (kind.Keyword f) (s.keyword_word f (spelled f))
 
--- a part, and what stands behind it
+-- a part, and what comes after it
 pub then_joint : (a : List ℕ) (us : Lexemes) (j : List ℕ) (ws : Lexemes) → Part a us → Joint j ws
     → (rest : List ℕ) (ms : Lexemes) → Says rest ms → Says ((a ++ j) ++ rest) ((us ++ ws) ++ ms)
 then_joint a us j ws p q rest ms r = simp append_assoc (p (j ++ rest) (ws ++ ms) (q.breaks rest) (q.says rest ms r))

@@ -225,7 +225,7 @@ pub data ReadsDelete : Lexemes → D.Delete → Type 0 where
   delete : {filter_tokens : Lexemes} {table : Name} {filter : Option (Condition ColumnName)} → Optional ReadsWhere filter_tokens filter
       → ReadsDelete (keyword K.Delete ∷ keyword K.From ∷ identifier table ∷ filter_tokens) (record { table = table; filter = filter })
 
--- what clients set to a character set or to a collation beside SET NAMES
+-- what clients set to a character set or to a collation besides SET NAMES
 abbrev pub settings : List (List ℕ)
 settings = codes "character_set_server" ∷ codes "collation_connection" ∷ codes "collation_server" ∷ []
 

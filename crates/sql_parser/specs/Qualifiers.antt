@@ -1,4 +1,4 @@
--- A column may stand behind the name of its table in a SELECT alone.
+-- A column may stand after the name of its table in a SELECT alone.
 use Rattle.std.specs.Prelude.{Bool, false, ◌||◌, is_some, Option, Some, None}
 use Rattle.std.specs.List.{list_any}
 use Rattle.sql_tree.specs.declared.ColumnName.{ColumnName}
@@ -28,7 +28,7 @@ abbrev pub filter_is_qualified : Option (Condition ColumnName) → Bool
 filter_is_qualified None = false
 filter_is_qualified (Some c) = condition_is_qualified c
 
--- a condition of an UPDATE or a DELETE has a column behind the name of a table
+-- a condition of an UPDATE or a DELETE has a column after the name of a table
 abbrev pub qualifies_outside_select : Statement → Bool
 qualifies_outside_select (Update s) = filter_is_qualified s.filter
 qualifies_outside_select (Delete s) = filter_is_qualified s.filter

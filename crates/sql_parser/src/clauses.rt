@@ -1,4 +1,4 @@
-//! FROM, the second table, and the clauses behind the tables' names.
+//! FROM, the second table, and the clauses after the tables' names.
 ghost use Rattle.std.specs.Prelude.{◌≡◌, ℕ, List};
 ghost use Rattle.sql_lexer.specs.Lexemes.{lexemes_of};
 ghost use Rattle.sql_lexer.specs.inner.Results.{AgreesWith};
@@ -32,7 +32,7 @@ pub fn from<'s>(
     }
 }
 
-/// What stands behind ON.
+/// What comes after ON.
 #[tactic(auto, unfolding(crate::specs::inner::Reading::on_at))]
 fn on(tokens: &[Token]) -> Result<&[Token], Refusal>
     ensures { (text : List ℕ) → AgreesWith (λ x. lexemes_of text x.now) result (on_at (lexemes_of text tokens.now)) }
@@ -43,7 +43,7 @@ fn on(tokens: &[Token]) -> Result<&[Token], Refusal>
     }
 }
 
-/// name ON column = column, behind JOIN
+/// name ON column = column, after JOIN
 #[tactic(auto, unfolding(crate::specs::inner::Reading::joined_on_at))]
 fn joined_on<'s>(
     alloc: Global,

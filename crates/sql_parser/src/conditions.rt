@@ -33,7 +33,7 @@ fn after_or(tokens: &[Token]) -> Option<&[Token]>
     }
 }
 
-/// IN (literal,..), behind an operand.
+/// IN (literal,..), after an operand.
 #[tactic(auto, unfolding(crate::specs::inner::Reading::in_at))]
 fn in_list<'s>(
     alloc: Global,
@@ -52,7 +52,7 @@ fn in_list<'s>(
     }
 }
 
-/// NULL, behind an operand and IS.
+/// NULL, after an operand and IS.
 #[tactic(auto, unfolding(crate::specs::inner::Reading::null_at))]
 fn null(
     left: Operand<ColumnName>,
@@ -67,7 +67,7 @@ fn null(
     }
 }
 
-/// [NOT] NULL, behind an operand and IS.
+/// [NOT] NULL, after an operand and IS.
 #[tactic(auto, unfolding(crate::specs::inner::Reading::is_at))]
 fn is<'s>(
     alloc: Global,
@@ -87,7 +87,7 @@ fn is<'s>(
     }
 }
 
-/// What stands behind an operand; a NOT only where one may stand.
+/// What comes after an operand; a NOT only where one may stand.
 #[tactic(auto, unfolding(crate::specs::inner::Reading::test_at))]
 fn test<'s>(
     alloc: Global,
@@ -119,7 +119,7 @@ fn test<'s>(
     }
 }
 
-/// An operand and what stands behind it.
+/// An operand and what comes after it.
 #[tactic(auto, unfolding(crate::specs::inner::Reading::predicate_at))]
 fn predicate<'s>(
     alloc: Global,

@@ -12,7 +12,7 @@ use sql_tree::{ColumnName, Item, SelectList};
 use std::alloc::Global;
 use vt_value::{Items, Refusal};
 
-/// (column), behind the name of an aggregate.
+/// (column), after the name of an aggregate.
 #[tactic(auto, unfolding(crate::specs::inner::Reading::argument_at))]
 fn argument<'s>(
     alloc: Global,
@@ -26,7 +26,7 @@ fn argument<'s>(
     closed(column, rest)
 }
 
-/// (*) | (column), behind COUNT.
+/// (*) | (column), after COUNT.
 #[tactic(auto, unfolding(crate::specs::inner::Reading::count_at))]
 fn count<'s>(
     alloc: Global,

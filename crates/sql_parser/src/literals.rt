@@ -13,10 +13,10 @@ use sql_tree::{ColumnName, Operand};
 use std::alloc::Global;
 use vt_value::{Items, Refusal, Value};
 
-/// How large a number may be behind a minus.
+/// How large a number may be after a minus.
 const MAX_NEGATIVE: u64 = 0x8000_0000_0000_0000;
 
-/// What stands behind a closing parenthesis.
+/// What comes after a closing parenthesis.
 #[tactic(auto, unfolding(crate::specs::inner::Reading::close_at))]
 fn close(tokens: &[Token]) -> Result<&[Token], Refusal>
     ensures { (text : List ℕ)
@@ -28,7 +28,7 @@ fn close(tokens: &[Token]) -> Result<&[Token], Refusal>
     }
 }
 
-/// What was read in parentheses, and what stands behind the closing one.
+/// What was read in parentheses, and what comes after the closing one.
 pub fn closed<'s, T: Drop>(inner: T, tokens: &'s [Token]) -> Result<(T, &'s [Token]), Refusal>
     ensures same { IfOk result (λ x. x.0 ≡ inner) }
     ensures behind { (text : List ℕ)
@@ -38,7 +38,7 @@ pub fn closed<'s, T: Drop>(inner: T, tokens: &'s [Token]) -> Result<(T, &'s [Tok
     Ok((inner, rest))
 }
 
-/// What stands behind an opening parenthesis.
+/// What comes after an opening parenthesis.
 #[tactic(auto, unfolding(crate::specs::inner::Reading::open_at))]
 pub fn open(tokens: &[Token]) -> Result<&[Token], Refusal>
     ensures { (text : List ℕ)
@@ -58,7 +58,7 @@ fn natural<'s>(text: &[u8], tokens: &'s [Token]) -> Result<(Value, &'s [Token]),
     Ok((Value::Int(i128::from(value)), rest))
 }
 
-/// A number behind its minus.
+/// A number after its minus.
 #[tactic(auto, unfolding(crate::specs::inner::Reading::negative_at))]
 fn negative<'s>(text: &[u8], tokens: &'s [Token]) -> Result<(Value, &'s [Token]), Refusal>
     ensures { AgreesWith (λ x. (x.0, lexemes_of text.now x.1.now)) result (negative_at (lexemes_of text.now tokens.now)) }

@@ -13,7 +13,7 @@ use sql_tree::{ColumnName, Name};
 use std::alloc::Global;
 use vt_value::{Items, Refusal};
 
-/// What stands behind a comma, where one stands here.
+/// What comes after a comma, where one stands here.
 pub fn after_comma(tokens: &[Token]) -> Option<&[Token]>
     ensures { (text : List ℕ)
         → option_map (lexemes_of text) (option_copied result) ≡ after_at is_comma (lexemes_of text tokens.now) }
@@ -42,7 +42,7 @@ pub fn name<'s>(
     Ok((Items::from_slice(alloc, bytes)?, rest))
 }
 
-/// The column that begins with a name: that name, or the one behind a dot.
+/// The column that begins with a name: that name, or the one after a dot.
 #[tactic(auto, unfolding(crate::specs::inner::Reading::behind_name_at))]
 pub fn behind_name<'s>(
     alloc: Global,

@@ -1,4 +1,4 @@
-//! Whether an UPDATE or a DELETE has a column behind the name of a table.
+//! Whether an UPDATE or a DELETE has a column after the name of a table.
 ghost use Rattle.std.specs.Prelude.{◌≡◌, map};
 ghost use Rattle.std.specs.List.{list_any};
 ghost use Rattle.sql_parser.specs.Qualifiers.{operand_is_qualified, condition_is_qualified, filter_is_qualified};
@@ -15,7 +15,7 @@ fn operand_is_qualified(operand: &Operand<ColumnName>) -> bool
     }
 }
 
-/// Whether a column of a condition stands behind the name of a table.
+/// Whether a column of a condition stands after the name of a table.
 #[cycle(qualified)]
 fn is_qualified(condition: &Condition<ColumnName>) -> bool
     ensures { result ≡ condition_is_qualified condition.now }
@@ -51,7 +51,7 @@ fn filter_is_qualified(filter: &Option<Condition<ColumnName>>) -> bool
     }
 }
 
-/// Whether a condition of an UPDATE or a DELETE has a column behind the name of a table.
+/// Whether a condition of an UPDATE or a DELETE has a column after the name of a table.
 pub fn qualifies_outside_select(statement: &Statement) -> bool
     ensures { result ≡ qualifies_outside_select statement.now }
 {

@@ -36,7 +36,7 @@ fn both<'s, A: Drop, B>(
     Ok(((first, second), rest))
 }
 
-/// list FROM name and the clauses behind it, behind SELECT.
+/// list FROM name and the clauses after it, after SELECT.
 #[tactic(auto, unfolding(crate::specs::inner::Reading::select_at))]
 fn select<'s>(
     alloc: Global,
@@ -99,7 +99,7 @@ fn is_in_any_case(name: &[u8], word: &[u8]) -> bool
     name.eq_ignore_ascii_case(word)
 }
 
-/// Whether a name is one of those that clients set to a character set or to a collation beside SET NAMES.
+/// Whether a name is one of those that clients set to a character set or to a collation besides SET NAMES.
 fn is_setting(name: &[u8]) -> bool
     ensures { result ≡ is_setting name.now }
 {
@@ -108,7 +108,7 @@ fn is_setting(name: &[u8]) -> bool
         || is_in_any_case(name, b"collation_server")
 }
 
-/// setting = (identifier | string), behind SET.
+/// setting = (identifier | string), after SET.
 #[tactic(auto, unfolding(crate::specs::inner::Reading::setting_at))]
 fn setting<'s>(
     alloc: Global,
@@ -212,7 +212,7 @@ fn is_end(tokens: &[Token]) -> bool
     }
 }
 
-/// Whether a statement with this behind it is a whole text, within the limit on literals, and with qualified columns in a
+/// Whether a statement with this after it is a whole text, within the limit on literals, and with qualified columns in a
 /// SELECT alone.
 fn is_text(statement: &Statement, rest: &[Token]) -> bool
     ensures { (text : List ℕ) → result ≡ is_text (statement.now, lexemes_of text rest.now) }
@@ -233,9 +233,9 @@ fn whole(alloc: Global, text: &[u8], tokens: &[Token]) -> Result<Statement, Refu
 
 // Promise: The tree of a text is given exactly where the whole grammar has one, within its limits, and a syntax error comes only where it
 // has none
-/// The tree of a text, which is one statement of the grammar with at most one semicolon behind it. Any other text is a
+/// The tree of a text, which is one statement of the grammar with at most one semicolon after it. Any other text is a
 /// syntax error, and so is one that passes a limit: 64 open parentheses and NOTs on one path of a condition, 4096
-/// literals, numbers from -2^63 to 2^64 - 1. So is an UPDATE or a DELETE that has a column behind the name of a table.
+/// literals, numbers from -2^63 to 2^64 - 1. So is an UPDATE or a DELETE that has a column after the name of a table.
 pub fn parse(alloc: Global, text: &[u8]) -> Result<Statement, Refusal>
     // What is given is the text's tree.
     ensures found { IfOk result (λ tree. Reads text.now tree) }

@@ -26,7 +26,7 @@ fn push_escaped(said: &mut Vec<u8>, byte: u8) -> Result<(), Refusal>
     Ok(())
 }
 
-/// Puts what the first part of a body says, and gives what stands behind it.
+/// Puts what the first part of a body says, and gives what comes after it.
 fn push_part<'s>(said: &mut Vec<u8>, body: &'s [u8]) -> Result<&'s [u8], Refusal>
     ensures same { IfOk result (λ rest. said.new.items ++ unescaped rest.now ≡ said.old.items ++ unescaped body.now) }
     ensures shorter { IfOk result (λ rest. 0 < length body.now → length rest.now < length body.now) }
@@ -49,7 +49,7 @@ fn push_part<'s>(said: &mut Vec<u8>, body: &'s [u8]) -> Result<&'s [u8], Refusal
     }
 }
 
-/// What the bytes between a text's quotes say: a pair of quotes is one, and a backslash escapes the byte behind it.
+/// What the bytes between a text's quotes say: a pair of quotes is one, and a backslash escapes the byte after it.
 pub fn unescaped(alloc: Global, body: &[u8]) -> Result<Items<u8>, Refusal>
     ensures ok { IfOk result (λ said. said ≡ unescaped body.now) }
     ensures err { IfErr result (λ e. e ≡ Refusal.OutOfMemory) }

@@ -1,4 +1,4 @@
-//! INSERT, UPDATE and DELETE, behind their first words.
+//! INSERT, UPDATE and DELETE, after their first words.
 ghost use Rattle.std.specs.Prelude.{◌≡◌, ℕ, List};
 ghost use Rattle.sql_lexer.specs.Lexemes.{lexemes_of};
 ghost use Rattle.sql_lexer.specs.inner.Results.{AgreesWith};
@@ -14,7 +14,7 @@ use sql_tree::{Assignment, Delete, Insert, Name, Update};
 use std::alloc::Global;
 use vt_value::{Items, Refusal, Value};
 
-/// What stands behind VALUES.
+/// What comes after VALUES.
 #[tactic(auto, unfolding(crate::specs::inner::Reading::values_at))]
 fn values(tokens: &[Token]) -> Result<&[Token], Refusal>
     ensures { (text : List ℕ)
@@ -26,7 +26,7 @@ fn values(tokens: &[Token]) -> Result<&[Token], Refusal>
     }
 }
 
-/// What stands behind SET.
+/// What comes after SET.
 #[tactic(auto, unfolding(crate::specs::inner::Reading::set_at))]
 fn set(tokens: &[Token]) -> Result<&[Token], Refusal>
     ensures { (text : List ℕ)
@@ -38,7 +38,7 @@ fn set(tokens: &[Token]) -> Result<&[Token], Refusal>
     }
 }
 
-/// What stands behind `=`.
+/// What comes after `=`.
 #[tactic(auto, unfolding(crate::specs::inner::Reading::equals_at))]
 pub fn equals(tokens: &[Token]) -> Result<&[Token], Refusal>
     ensures { (text : List ℕ)
@@ -103,7 +103,7 @@ fn rows<'s>(
     Ok((rows, rest))
 }
 
-/// name [(name,..)] VALUES (literal,..),.., behind INSERT INTO.
+/// name [(name,..)] VALUES (literal,..),.., after INSERT INTO.
 #[tactic(auto, unfolding(crate::specs::inner::Reading::insert_at))]
 pub fn insert<'s>(
     alloc: Global,
@@ -159,7 +159,7 @@ fn assignments<'s>(
     Ok((assignments, rest))
 }
 
-/// name SET name = literal,.. [WHERE or], behind UPDATE.
+/// name SET name = literal,.. [WHERE or], after UPDATE.
 #[tactic(auto, unfolding(crate::specs::inner::Reading::update_at))]
 pub fn update<'s>(
     alloc: Global,
@@ -180,7 +180,7 @@ pub fn update<'s>(
     Ok((update, rest))
 }
 
-/// FROM name [WHERE or], behind DELETE.
+/// FROM name [WHERE or], after DELETE.
 #[tactic(auto, unfolding(crate::specs::inner::Reading::delete_at))]
 pub fn delete<'s>(
     alloc: Global,

@@ -66,7 +66,7 @@ abbrev pub qualifier_text : Option Name → Text
 qualifier_text None = []
 qualifier_text (Some t) = name_text t ++ codes "."
 
--- a column stands behind its table and a dot where it is qualified
+-- a column stands after its table and a dot where it is qualified
 abbrev pub column_text : ColumnName → Text
 column_text c = qualifier_text c.table ++ name_text c.name
 

@@ -12,7 +12,7 @@ use vt_value::{Boxed, Comparison, Items, Value};
 /// The name of a table or a column, byte by byte as it was written.
 pub type Name = Items<u8>;
 
-/// The name of a column, behind that of its table where it is qualified.
+/// The name of a column, after that of its table where it is qualified.
 #[derive(Drop)]
 pub struct ColumnName {
     pub table: Option<Name>,

@@ -80,7 +80,7 @@ pub fn put_value(out: &mut Vec<u8>, value: &Value) -> Result<(), Refusal>
     }
 }
 
-/// Puts a column, behind its table and a dot where it is qualified.
+/// Puts a column, after its table and a dot where it is qualified.
 pub fn put_column(out: &mut Vec<u8>, column: &ColumnName) -> Result<(), Refusal>
     ensures ok { OnOk result (out.new.items ≡ out.old.items ++ column_text column.now) }
     ensures err { IfErr result (λ e. e ≡ Refusal.OutOfMemory) }

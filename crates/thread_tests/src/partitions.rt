@@ -67,7 +67,7 @@ fn is_published(alloc: Global, serving: &Serving<Chair>, slot: usize) -> Result<
     Ok(serving.publish(next).is_ok())
 }
 
-// The slots of the partitions that were present behind each that was published, and the last behind one more, which isn't taken; none where
+// The slots of the partitions that were present after each that was published, and the last after one more, which isn't taken; none where
 // one is taken that isn't to be, or handed back.
 fn present_slots(alloc: Global, serving: &Serving<Chair>) -> Result<Vec<Option<usize>>, Refusal>
     requires { serving.now ≡ 0 }
@@ -99,7 +99,7 @@ fn push_slots(
     Ok(())
 }
 
-// Whether each is the slot of the partition published last: they begin behind the first, and end behind one that wasn't taken.
+// Whether each is the slot of the partition published last: they begin after the first, and end after one that wasn't taken.
 fn are_last(slots: &[Option<usize>]) -> bool {
     for (before, present) in slots.iter().enumerate() {
         if *present != Some(before.saturating_add(1).min(MOST_PUBLISHED)) {

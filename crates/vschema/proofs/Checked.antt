@@ -10,7 +10,7 @@ use Rattle.vschema.specs.Checks.{names_unknown_column, select_is_not_supported, 
 use Rattle.vschema.specs.Joins.{join_is_refused}
 use Rattle.vschema.specs.TypedStatement.{over, checked}
 
--- why a query is refused behind the checks of its names and kinds
+-- why a query is refused after the checks of its names and kinds
 abbrev pub IsLate : Scope → Query → Refusal → Type 0
 IsLate scope q r =
     (r ≡ OutOfMemory) ⊎ (((r ≡ NotSupported) × (join_is_refused scope q ≡ true)) ⊎ ((r ≡ NotGrouped) × ((join_is_refused scope q ≡ false) × (shows_ungrouped q ≡ true))))

@@ -14,7 +14,7 @@ use Rattle.vschema_document.specs.Faults.{place_of, column_of, lacks_column, is_
 use Rattle.vschema.specs.Meant.{place_in}
 use Rattle.vschema_document.proofs.Options.{some_same, never, neither, join}
 
--- an element that passes the test, at its place behind a number
+-- an element that passes the test, at its place after a number
 abbrev Found : {X : Type 0} → (X → Bool) → ℕ → List X → ℕ → Type 0
 Found {X} test n xs p = (x : X) × (i : ℕ) × (p ≡ n + i) × (slice_get xs i ≡ Some x) × (test x ≡ true)
 

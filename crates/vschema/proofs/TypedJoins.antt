@@ -52,7 +52,7 @@ one_vindex BinaryMd5 ReverseBits e = cc
 one_vindex BinaryMd5 Binary e = cc
 one_vindex BinaryMd5 BinaryMd5 e = refl
 
--- a column behind those of the first table
+-- a column after those of the first table
 behind_at : (xs ys : List Column) (n m : ℕ) → m ≡ length xs + n → slice_get (xs ++ ys) m ≡ slice_get ys n
 behind_at [] ys n m e = let same : m ≡ n = omega (arith, e) in ap (slice_get ys) same
 behind_at (x ∷ xs) ys n zero e = absurd (omega (arith, e))

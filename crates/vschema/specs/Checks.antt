@@ -27,7 +27,7 @@ pub use Rattle.vschema_document.specs.Twice.{has_number}
 abbrev pub is_unknown : Table → Name → Bool
 is_unknown t name = is_none (column_place t name)
 
--- a name that is no column behind FROM, or a column of both tables
+-- a name that is no column after FROM, or a column of both tables
 abbrev pub is_unnamed : Scope → ColumnName → Bool
 is_unnamed s c = is_none (scope_place s c)
 

@@ -6,7 +6,7 @@ use Rattle.vschema_document.specs.declared.column.Column.{Column}
 use Rattle.vschema.specs.declared.schema.Table.{Table}
 use Rattle.vschema.specs.Schema.{column_place}
 
--- the tables behind FROM
+-- the tables after FROM
 pub record Scope : Type 0 where
   pub first : Table
   pub second : Option Table
@@ -21,7 +21,7 @@ abbrev pub columns_of : Option Table → List Column
 columns_of None = []
 columns_of (Some t) = t.columns
 
--- the columns of the first, and behind them those of the second
+-- the columns of the first, and after them those of the second
 abbrev pub scope_columns : Scope → List Column
 scope_columns s = s.first.columns ++ columns_of s.second
 

@@ -16,7 +16,7 @@ use Rattle.vschema.specs.Schema.{table_at}
 use Rattle.vschema.specs.Checks.{is_aggregated}
 use Rattle.vschema.specs.Database.{Database, rows_of}
 
--- the first values of a row, so many, with NULL behind its last one
+-- the first values of a row, so many, with NULL after its last one
 abbrev pub padded : ℕ → Row → Row
 padded zero row = []
 padded (suc n) [] = Null ∷ padded n []

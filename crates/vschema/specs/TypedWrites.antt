@@ -24,7 +24,7 @@ abbrev pub unless_refused : List (Bool × Refusal) → Write → Result Write Re
 unless_refused [] w = Ok w
 unless_refused ((fails, r) ∷ checks) w = if fails then Err r else unless_refused checks w
 
--- the checks of what is stored, behind that of its kinds
+-- the checks of what is stored, after that of its kinds
 abbrev pub stored_checks : Stored → List (Bool × Refusal)
 stored_checks stored =
     (has_wrong_null stored, NullNotAllowed) ∷ (has_out_of_range stored, OutOfRange) ∷ (has_too_long stored, TooLong) ∷ []

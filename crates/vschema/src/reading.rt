@@ -13,7 +13,7 @@ impl VSchema {
     // Promise: A text is the VSchema that it declares, or the fault with the least number that applies; every VSchema is well-formed, as
     // its type keeps
     // With: VSchema::formed, vschema_document::{parse, read_document, first_fault, SchemaFault::number}
-    /// The VSchema that a JSON text declares, or the fault with the least number that applies. Beside these it refuses only
+    /// The VSchema that a JSON text declares, or the fault with the least number that applies. Besides these it refuses only
     /// for want of memory. Keyspaces, and the tables of each, are in the order of their names.
     pub fn read(alloc: Global, text: &str) -> Result<VSchema, SchemaFault>
         ensures ok { IfOk result (λ schema. schema_read text.now ≡ Ok (contents schema)) }

@@ -562,7 +562,7 @@ impl VSchema {
     /// The statement with its names resolved, or the first refusal that applies, in this order: an unknown table; a column
     /// named twice in INSERT's list or in SET; a row with another number of values than columns; an unknown column; a number
     /// with a text, a SUM of texts, or SET of a key; a column of an aggregated query that isn't grouped; a column that INSERT
-    /// leaves out and that needs a value; NULL, a number out of range or a text too long for its column. Beside these it
+    /// leaves out and that needs a value; NULL, a number out of range or a text too long for its column. Besides these it
     /// refuses only for want of memory.
     pub fn resolve(&self, alloc: Global, statement: Statement) -> Result<Typed, Refusal>
         ensures ok { IfOk result (λ typed. typed_statement self.now statement ≡ Ok typed) }

@@ -11,7 +11,7 @@ use sql_tree::{ColumnName, Name};
 use std::marker::Model;
 use vschema_document::{ColumnType, is_name};
 
-/// The tables behind FROM: one, or the two of a join. Contracts see them as a `Scope` of definitions.
+/// The tables after FROM: one, or the two of a join. Contracts see them as a `Scope` of definitions.
 #[derive(Drop)]
 pub struct Scope<'s> {
     one: &'s Table,
@@ -46,7 +46,7 @@ fn place_below(table: &Table, name: &Name) -> Option<usize>
     column_place(table, name)
 }
 
-// The place of a column behind those of a first table.
+// The place of a column after those of a first table.
 fn place_behind(first: &Table, table: &Table, name: &Name) -> Option<usize>
     ensures { result ≡ option_map (λ n. length first.now.columns + n) (place_of table.now name.now) }
 {
@@ -72,7 +72,7 @@ impl<'s> Scope<'s> {
         }
     }
 
-    /// The columns of a table, and behind them those of another.
+    /// The columns of a table, and after them those of another.
     pub fn of_both(first: &'s Table, second: &'s Table) -> Scope<'s>
         ensures { result ≡ both_of first.now second.now }
     {

@@ -94,7 +94,7 @@ fn row_fails(check: StoredCheck, table: &Table, places: &[usize], row: &[Value])
     value_fails(check, table, *place, value) || row_fails(check, table, places, row)
 }
 
-/// Whether a value of a row fails, each beside the column at its place.
+/// Whether a value of a row fails, each with the column at its place.
 pub fn rows_fail(check: StoredCheck, table: &Table, places: &[usize], rows: &[Items<Value>]) -> bool
     ensures { result ≡ list_any (fails check) (flat_map (λ row. flat_map (λ p. beside table.now p.0 p.1) (zip places.now row)) rows.now) }
 {

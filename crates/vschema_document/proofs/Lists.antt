@@ -1,4 +1,4 @@
--- Lists that are read element by element, and JSON arrays and objects beside the values that hold them.
+-- Lists that are read element by element, and JSON arrays and objects with the values that hold them.
 use Rattle.std.proofs.Common.{◌≡◌, ℕ, List, [], ◌∷◌, ◌++◌, map, Option, Some, None, option_map, Bool, String, Global, string_bytes, string_cmp, nat_cmp, is_eq, Less, bytes_eq, false, refl, sym, ap, ◌∙◌, append_assoc}
 use Rattle.std.proofs.lemmas.Map.Text.{is_eq-slice_cmp}
 use Rattle.std.specs.Cmp.Lexicographic.{slice_cmp}
@@ -44,7 +44,7 @@ pub named_view : (es : List Entry) → named_values (members_view es) ≡ map na
 named_view [] = refl
 named_view (e ∷ es) = ap (λ ms. named e ∷ ms) (named_view es)
 
--- a text isn't among the names that stand behind it
+-- a text isn't among the names that come after it
 above : (name : List ℕ) (es : List Entry) → AllByRecursion (λ k. slice_cmp nat_cmp name (string_bytes k) ≡ Less) (keys_of es) → list_any (bytes_eq name) (map (λ m. m.0) (named_values (members_view es))) ≡ false
 above name [] h = refl
 above name (e ∷ es) h =

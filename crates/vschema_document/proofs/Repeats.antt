@@ -36,7 +36,7 @@ twice_behind f [] i e = nothing_behind f i e
 twice_behind f (x ∷ xs) zero e = e
 twice_behind f (x ∷ xs) (suc i) e = or_right (list_any (bytes_eq (f x)) (map f xs)) (has_twice (map f xs)) (twice_behind f xs i e)
 
--- where no name behind is twice, one stands twice exactly if the set had it
+-- where no name after is twice, one stands twice exactly if the set had it
 pub decided : (x : List ℕ) (rest all : List (List ℕ)) (had new : Bool) → all ≡ x ∷ rest → new ≡ not had → had ≡ list_any (bytes_eq x) rest
     → has_twice rest ≡ false → has_twice all ≡ not new
 decided x rest all true new e added known once = rw (e, sym known, added) refl

@@ -24,7 +24,7 @@ if_word name = if is_word name then Some name else None
 abbrev pub word : Data → Option Name
 word d = option_and_then if_word (as_str d)
 
--- what stands behind a front, and before an end
+-- what comes after a front, and before an end
 abbrev pub rest_behind : List ℕ → List ℕ → Option (List ℕ)
 rest_behind front text = if bytes_eq (take (length front) text) front then Some (drop (length front) text) else None
 

@@ -67,7 +67,7 @@ abbrev pub is_out_of_place : Bool → Option (List DeclaredVindex) → Bool
 is_out_of_place sharded None = sharded
 is_out_of_place sharded (Some found) = not sharded
 
--- a fault that lies in one keyspace, beside its tables
+-- a fault that lies in one keyspace, with its tables
 abbrev pub keyspace_has : SchemaFault → DeclaredKeyspace → Bool
 keyspace_has IllFormed k = is_out_of_place k.sharded k.vindexes
 keyspace_has UnknownVindex k = list_any (λ v. is_none v.kind) (vindexes k)

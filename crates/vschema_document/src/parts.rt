@@ -61,7 +61,7 @@ fn begins_above_zero(digits: &[u8]) -> bool
     }
 }
 
-// A size with one more digit behind it.
+// A size with one more digit after it.
 fn with_digit(size: u8, digit: u8) -> Option<u8>
     ensures some { IfSome result (λ n. (n ≡ size * 10 + (digit - 0x30)) × (is_digit digit ≡ true)) }
     ensures none { IfNone result (is_digit digit ≡ true → 255 < size * 10 + (digit - 0x30)) }

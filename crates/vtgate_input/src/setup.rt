@@ -53,7 +53,7 @@ fn has_unsharded(schema: &VSchema) -> bool
     keyspaces.iter().any(|keyspace| !keyspace.sharded)
 }
 
-/// Whether there are more than 63 ranges beside an unsharded keyspace, whose shard is one of the shards.
+/// Whether there are more than 63 ranges with an unsharded keyspace, whose shard is one of the shards.
 pub fn has_too_many(schema: &VSchema, ranges: &[KeyRange]) -> bool
     ensures few { result ≡ false → length ranges.now ≤ MOST_RANGES → length (empty_shards schema.now ranges.now) ≤ MOST_RANGES }
     ensures many { result ≡ true → AreTooMany schema.now ranges.now }

@@ -6,7 +6,7 @@ use Rattle.std.proofs.lemmas.Bool.{and_parts, true≢false}
 use Rattle.std.proofs.Math.Seq.{drop-cons}
 use Rattle.vtgate_lines.specs.Lines.{is_lower_letter, is_inner, IsStatementLine, IsNextLine, ended, last}
 
--- what stands behind the front at n
+-- what comes after the front at n
 pub at : (xs : List ℕ) (n : ℕ) → n < length xs → drop n xs ≡ slice_index xs n ∷ drop (suc n) xs
 at xs n h = drop-cons xs n 0 h
 
@@ -58,7 +58,7 @@ letters_apart (x ∷ xs) (y ∷ ys) z zs ws h g other behind e =
     let same : x ≡ y = cc in
     (cc, w.1)
 
--- behind as many letters as there are, another byte or nothing stands
+-- after as many letters as there are, another byte or nothing stands
 other_behind : (line : List ℕ) (n : ℕ) → n ≤ length line → (n < length line → is_lower_letter (slice_index line n) ≡ false)
     → (w : ℕ) (more : List ℕ) → drop n line ≡ w ∷ more → is_lower_letter w ≡ false
 other_behind line n bound end w more e =

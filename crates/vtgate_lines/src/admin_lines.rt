@@ -17,7 +17,7 @@ use vt_value::Refusal;
 pub enum AdminLine {
     /// Which shards serve, and how far a workflow is.
     Status,
-    /// A workflow: shards of the ranges behind take the place of those of the ranges before.
+    /// A workflow: shards of the second ranges take the place of those of the first.
     Create(Vec<KeyRange>, Vec<KeyRange>),
     /// The next step of the targets.
     Step,

@@ -11,7 +11,7 @@ use vt_value::Refusal;
 /// How many ranges a keyspace may have at most.
 pub const MOST_RANGES: usize = 64;
 
-/// Puts the range of this name behind the others, and tells whether there is one.
+/// Puts the range of this name after the others, and tells whether there is one.
 fn push_named(ranges: &mut Vec<KeyRange>, name: &str) -> Result<bool, Refusal>
     ensures found { IfOk result (λ b. IsTrue b → (range : KeyRange) × IsNameOf name.now range × (ranges.new.items ≡ ranges.old.items ++ range ∷ [])) }
     ensures none { IfOk result (λ b. b ≡ false → (range : KeyRange) → IsNameOf name.now range → ⊥) }

@@ -18,7 +18,7 @@ use Rattle.vtgate_script.specs.Scripted as s
 use Rattle.vtgate_script.specs.inner.UnderWay.{KeptProgress, IsProgressOf, nothing_kept}
 use Rattle.vtgate_script.specs.Scripted.{Progress, PrintsLine, AllGive, HasGiven, at_first}
 
--- What was written so far, over the lines that are run: whatever the rest gives stands behind it.
+-- What was written so far, over the lines that are run: whatever the rest gives stands after it.
 pub record IsUnderWay (o : Opening) (first : Progress) (workflow : AdministratorView) (lines : List ℕ) (taken : Known) (now : Progress)
     (then : AdministratorView) (rest : List ℕ) (taken_now : Known) : Type 0 where
   pub written : List ℕ
@@ -92,7 +92,7 @@ admin_run o kept after was then line words p q reply asks seen still left told f
   s.admin words p q asks (seen ∙ held.seen) (subst (λ (r : Run). NoCommits r q.seen) held.seen still) told,
 )
 
--- a line is behind it
+-- a line is after it
 pub shorter : (input line rest : List ℕ) → IsNextLine input line rest → length rest < length input
 shorter _ _ _ (l.ended {line} {rest} inner) = let e = length-append line (0x0A ∷ rest) in omega (arith, e)
 shorter _ [] _ (l.last inner some) = absurd (some refl)

@@ -35,7 +35,7 @@ abbrev pub answer_text : Answer → List ℕ
 answer_text (Rows selected) = rows_text selected.rows
 answer_text (Count n) = count_text n
 
--- What is printed for the text of a statement: an answer that it may have behind what its session's pass had seen, in the session's open
+-- What is printed for the text of a statement: an answer that it may have after what its session's pass had seen, in the session's open
 -- transaction if one is, or a refusal for its cause. Where there is no memory to print rows, that is printed in their place. And what the pass
 -- has seen then, and the transaction.
 pub data Prints (o : Opening) (s : PassAndTransaction) (sql : List ℕ) : List ℕ → PassAndTransaction → Type 0 where

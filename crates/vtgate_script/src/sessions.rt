@@ -63,7 +63,7 @@ fn write_outcome<O: Sink>(
     }
 }
 
-// Runs a statement of the pass's session behind all that was seen, and writes what is printed for it.
+// Runs a statement of the pass's session after all that was seen, and writes what is printed for it.
 fn run_behind<W: World + Send + Sync, J: Naming + Send + Sync, R: Threads + Wait + Sync, O: Sink>(
     rt: &R,
     alloc: Global,
@@ -314,7 +314,7 @@ impl<W: World + Send + Sync, J: Naming + Send + Sync> Sessions<W, J> {
         }
     }
 
-    // Does what the words of an admin line ask for, behind all that was seen.
+    // Does what the words of an admin line ask for, after all that was seen.
     fn run_admin<R: Wait, O: Sink>(
         &mut self,
         rt: &R,

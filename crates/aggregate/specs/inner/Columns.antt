@@ -51,7 +51,7 @@ finished (Total p) = part_value p
 finished (Least p) = unwrap_or p Null
 finished (Greatest p) = unwrap_or p Null
 
--- the parts with one value more each, NULL behind the last value
+-- the parts with one value more each, NULL after the last value
 abbrev pub with_values : List ColumnPart → List Value → List ColumnPart
 with_values [] vs = []
 with_values (p ∷ parts) vs = with_value p (value_at vs 0) ∷ with_values parts (drop 1 vs)

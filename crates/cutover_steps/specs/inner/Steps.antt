@@ -7,7 +7,7 @@ use Rattle.shard_run.specs.Copies.{position}
 use Rattle.shard_contents.specs.Copying.{HasCopiedAll}
 use Rattle.cutover_steps.specs.Steps.{Looked, has_source}
 
--- after the run the target has copied all of the source, and stands behind what it has stored
+-- after the run the target has copied all of the source, and stands after what it has stored
 pub record IsUpTo (o : Opening) (run : Run) (target : Shard) (source : Looked) : Type 0 where
   pub copied : HasCopiedAll o run target source.0.slot
   pub level : (n : ℕ) → position run target.slot source.0.slot ≡ Some n → n ≡ source.1

@@ -23,7 +23,7 @@ use Rattle.follow.specs.declared.steps.Given.TheVariants.{Entry, Rows, Nothing}
 abbrev pub IsOneLook : ℕ → PassView E.Entry → PassView E.Entry → Type 0
 IsOneLook slot p now = now.looks ≡ p.looks ++ (slot, length now.seen) ∷ []
 
--- the source has stored no more entries than the target stands behind
+-- the source has stored no more entries than the target stands after
 abbrev pub NoneLeft : Run → ℕ → Option ℕ → Type 0
 NoneLeft run source behind = (n : ℕ) → behind ≡ Some n → length (stored_on source run) ≤ n
 

@@ -10,12 +10,12 @@ use Rattle.mysql_packet.specs.declared.front.Taken.{Taken}
 abbrev pub size_of : ℕ → ℕ → ℕ
 size_of come len = come * (full + 4) + 4 + len
 
--- the parts behind their headers, joined
+-- the parts after their headers, joined
 unfoldable pub payload_at : ℕ → ℕ → List ℕ → List ℕ
 payload_at zero len bytes = take len (drop 4 bytes)
 payload_at (suc come) len bytes = take full (drop 4 bytes) ++ payload_at come len (drop full (drop 4 bytes))
 
--- the next header, and the bytes behind it
+-- the next header, and the bytes after it
 pub record IsNextHeader (len number : ℕ) (body rest : List ℕ) : Type 0 where
   pub spelled : rest ≡ header len number ++ body
   pub len_small : len < 2 ^ 24
@@ -46,7 +46,7 @@ IsFront limit bytes Waits = IsPartial limit bytes
 IsFront limit bytes (Refused fault) = HasFault limit fault bytes
 IsFront limit bytes (Whole first come len) = HasPayload limit first come len bytes
 
--- the payloads at the front, and behind them less than one more, or a fault
+-- the payloads at the front, and after them less than one more, or a fault
 abbrev pub TakesPayloads : ℕ → List ℕ → Taken → Type 0
 TakesPayloads limit bytes taken =
     (taken.used ≤ length bytes)

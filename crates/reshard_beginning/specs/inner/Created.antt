@@ -71,7 +71,7 @@ pub record IsMade (sources : List S.Shard) (keyspace : ℕ) (range : KeyRange) (
   pub at : t.0.place.range ≡ range
   pub is : IsMadeOf sources keyspace t
 
--- Of the parts of a partition those of the named ranges, whose shards are the sources; targets of the other ranges may stand beside the rest.
+-- Of the parts of a partition those of the named ranges, whose shards are the sources; targets of the other ranges may stand with the rest.
 pub record IsSurvey (keyspace : ℕ) (from into : List KeyRange) (parts : List Seat) (sources : List S.Shard) (rest : List Seat) : Type 0 where
   pub taken : List Seat
   pub named : AreNamed from parts taken rest

@@ -5,6 +5,6 @@ use Rattle.resultset.specs.declared.Column.{Column}
 use Rattle.resultset.specs.declared.SetEnd.{SetEnd}
 use Rattle.resultset.specs.Encoding.{definition_payload, behind_definitions}
 
--- the number of columns, each definition and what stands behind them
+-- the number of columns, each definition and what comes after them
 abbrev pub head_payloads : SetEnd → List Column → ℕ → List (List ℕ)
 head_payloads end columns status = (length_encoded (length columns) ∷ map definition_payload columns) ++ behind_definitions end status

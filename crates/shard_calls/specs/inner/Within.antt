@@ -114,7 +114,7 @@ closes Commit = true
 closes Rollback = true
 closes _ = false
 
--- a transaction stays open behind an answered statement that doesn't close it, and behind a refusal that doesn't end it
+-- a transaction stays open after an answered statement that doesn't close it, and after a refusal that doesn't end it
 abbrev pub stays_open : Bool → Result Reply Refusal → Bool
 stays_open c (Ok reply) = if c then false else true
 stays_open c (Err e) = if ends e then false else true

@@ -9,7 +9,7 @@ use Rattle.vschema.specs.Database.{same_row}
 abbrev pub same_key : Table → Row → Row → Bool
 same_key t a b = same_row (key_of t a) (key_of t b)
 
--- a row has the key of the first of those behind it
+-- a row has the key of the first of those after it
 abbrev pub is_twin : Table → Row → List Row → Bool
 is_twin t a [] = false
 is_twin t a (b ∷ rows) = same_key t a b

@@ -22,7 +22,7 @@ row_part row (Sum c) = value_at row c
 row_part row (Min c) = value_at row c
 row_part row (Max c) = value_at row c
 
--- the values of its group, and behind them the parts
+-- the values of its group, and after them the parts
 abbrev pub part_row : List ℕ → List (Item ℕ) → Row → Row
 part_row columns aggregates row = columns_of columns row ++ map (row_part row) aggregates
 

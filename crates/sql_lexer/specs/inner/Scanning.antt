@@ -44,13 +44,13 @@ word_at bytes =
 unfoldable pub digits_at : List ℕ → Option Front
 digits_at bytes = if first_passes is_word_byte (drop (run is_digit bytes) bytes) then None else Some (Number, run is_digit bytes)
 
--- behind the first backquote
+-- after the first backquote
 unfoldable pub quoted_at : List ℕ → Option Front
 quoted_at bytes =
     if first_passes is_letter bytes && nat_le (run is_word_byte bytes) max_word && first_passes (λ b. b == 0x60) (drop (run is_word_byte bytes) bytes)
     then Some (Quoted, run is_word_byte bytes + 2) else None
 
--- the place in a text behind a byte, unless the text ended before it
+-- the place in a text after a byte, unless the text ended before it
 abbrev pub after_byte : Place → ℕ → Option Place
 after_byte Inside b = if b == 0x27 then Some BehindQuote else if b == 0x5C then Some BehindBackslash else Some Inside
 after_byte BehindQuote b = if b == 0x27 then Some Inside else None
@@ -61,12 +61,12 @@ closed n Inside = None
 closed n BehindQuote = Some n
 closed n BehindBackslash = None
 
--- how many bytes a text has behind its first quote, where it is closed: n of them before these
+-- how many bytes a text has after its first quote, where it is closed: n of them before these
 unfoldable pub text_len : ℕ → Place → List ℕ → Option ℕ
 text_len n place [] = closed n place
 text_len n place (b ∷ bytes) = elim (after_byte place b) [ Some next ↦ text_len (n + 1) next bytes | None ↦ Some n ]
 
--- behind the first quote
+-- after the first quote
 unfoldable pub string_at : List ℕ → Option Front
 string_at bytes = text_len 0 Inside bytes >>= λ n. Some (Text, n + 1)
 

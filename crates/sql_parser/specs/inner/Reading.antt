@@ -32,7 +32,7 @@ use Rattle.sql_tree.specs.Literals.{Name, literals_of}
 use Rattle.sql_parser.specs.Qualifiers.{qualifies_outside_select}
 use Rattle.sql_parser.specs.Grammar.{Lexemes, Joined, ReadsNot, max_depth, max_literals, is_setting}
 
--- what is read at the front, and what stands behind it
+-- what is read at the front, and what comes after it
 abbrev pub Read : Type 0 → Type 0
 Read A = Option (A × Lexemes)
 
@@ -52,7 +52,7 @@ abbrev pub is_or : Lexeme → Bool
 is_or (keyword k.Or) = true
 is_or _ = false
 
--- what stands behind a token, where that stands there
+-- what comes after a token, where that stands there
 abbrev pub after_at : (Lexeme → Bool) → Lexemes → Option Lexemes
 after_at sep [] = None
 after_at sep (x ∷ ts) = if sep x then Some ts else None
@@ -97,7 +97,7 @@ is_dot _ = false
 abbrev pub qualified_by : Name → Read Name → Read ColumnName
 qualified_by table read = read >>= λ name. Some (record { table = Some table; name = name.0 }, name.1)
 
--- a name, and behind a dot the one that it qualifies
+-- a name, and after a dot the one that it qualifies
 unfoldable pub behind_name_at : Name → Lexemes → Read ColumnName
 behind_name_at bytes (sign Dot ∷ rest) = qualified_by bytes (name_at rest)
 behind_name_at bytes rest = Some (record { table = None; name = bytes }, rest)
@@ -122,7 +122,7 @@ open_at _ = None
 unfoldable pub natural_at : Lexemes → Read Value
 natural_at ts = number_at ts >>= λ n. Some (Int (pos n.0), n.1)
 
--- behind the minus
+-- after the minus
 unfoldable pub negative_at : Lexemes → Read Value
 negative_at ts = number_at ts >>= λ n. if nat_le n.0 (2 ^ 63) then Some (Int (neg_ℤ (pos n.0)), n.1) else None
 
@@ -158,12 +158,12 @@ unfoldable pub null_at : Operand ColumnName → Lexemes → Read (Condition Colu
 null_at left (keyword k.Null ∷ rest) = Some (IsNull left, rest)
 null_at left _ = None
 
--- behind an IS, with a NOT only where one may stand
+-- after an IS, with a NOT only where one may stand
 unfoldable pub is_at : Bool → Operand ColumnName → Lexemes → Read (Condition ColumnName)
 is_at true left (keyword k.Not ∷ rest) = null_at left rest >>= λ x. Some (Not x.0, x.1)
 is_at may left ts = null_at left ts
 
--- what stands behind an operand, with a NOT only where one may stand
+-- what comes after an operand, with a NOT only where one may stand
 unfoldable pub test_at : Bool → Operand ColumnName → Lexemes → Read (Condition ColumnName)
 test_at may left (operator op ∷ rest) = operand_at rest >>= λ right. Some (Compare op left right.0, right.1)
 test_at may left (keyword k.Is ∷ rest) = is_at may left rest
@@ -182,7 +182,7 @@ joined_at sep node item ts = do
 abbrev pub or_of : (Lexemes → Read (Condition ColumnName)) → Lexemes → Read (Condition ColumnName)
 or_of negation = joined_at is_or Or (joined_at is_and And negation)
 
--- where a NOT or a parenthesis may stand, behind which deeper reads
+-- where a NOT or a parenthesis may stand, after which deeper reads
 unfoldable pub negation_at : (Lexemes → Read (Condition ColumnName)) → Lexemes → Read (Condition ColumnName)
 negation_at deeper (keyword k.Not ∷ rest) = deeper rest >>= λ x. Some (Not x.0, x.1)
 negation_at deeper (sign LeftParenthesis ∷ rest) = or_of deeper rest >>= λ x. close_at x.1 >>= λ rest. Some (x.0, rest)
@@ -208,7 +208,7 @@ argument_at ts = do
   rest ← close_at column.1
   Some (column.0, rest)
 
--- behind COUNT
+-- after COUNT
 unfoldable pub count_at : Lexemes → Read (Item ColumnName)
 count_at (sign LeftParenthesis ∷ sign Star ∷ sign RightParenthesis ∷ rest) = Some (shown.CountRows, rest)
 count_at ts = argument_at ts >>= λ column. Some (shown.Count column.0, column.1)
@@ -236,7 +236,7 @@ unfoldable pub on_at : Lexemes → Option Lexemes
 on_at (keyword k.On ∷ rest) = Some rest
 on_at _ = None
 
--- name ON column = column, behind JOIN
+-- name ON column = column, after JOIN
 unfoldable pub joined_on_at : Lexemes → Read JoinOn
 joined_on_at ts = do
   table ← name_at ts
@@ -303,7 +303,7 @@ assignment_at ts = do
   value ← literal_at rest
   Some (record { column = column.0; value = value.0 }, value.1)
 
--- ---- statements, each behind its first words
+-- ---- statements, each after its first words
 
 unfoldable pub select_at : Lexemes → Read S.Select
 select_at ts = do
@@ -343,7 +343,7 @@ charset_at (identifier bytes ∷ rest) = Some (charset.Identifier bytes, rest)
 charset_at (text bytes ∷ rest) = Some (charset.Text bytes, rest)
 charset_at _ = None
 
--- a setting, = and what it is set to, behind SET
+-- a setting, = and what it is set to, after SET
 unfoldable pub setting_at : Lexemes → Read Statement
 setting_at ts = do
   name ← name_at ts

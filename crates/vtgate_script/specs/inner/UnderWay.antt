@@ -53,7 +53,7 @@ pub record IsProgressOf (o : Opening) (k : KeptProgress) (s : Progress) : Type 0
 abbrev pub IsBehind : Opening → Run → KeptSession → Type 0
 IsBehind o seen s = IsSome s.kept.pass.session × IsPrefix s.kept.pass.seen seen × IsOf o s.kept.tx s.kept.pass
 
--- what is printed for a statement behind all that was seen, from what is kept to what is kept then
+-- what is printed for a statement after all that was seen, from what is kept to what is kept then
 abbrev pub PrintsFrom : Opening → Run → Kept → List ℕ → List ℕ → Kept → Type 0
 PrintsFrom o seen k sql text then =
     (s : PassAndTransaction) → IsKeptOf o k s → (now : PassAndTransaction) × IsKeptOf o then now × Prints o (met seen s) sql text now

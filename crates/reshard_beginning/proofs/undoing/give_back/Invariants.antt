@@ -4,7 +4,7 @@ use Rattle.std.specs.List.{AllByRecursion}
 use Rattle.reshard_beginning.specs.Grounds.{IsFree}
 use Rattle.reshard_beginning.proofs.undoing.give_back.Given as goal
 
--- the seats of the targets so far lie behind the others, and there is room for the rest
+-- the seats of the targets so far lie after the others, and there is room for the rest
 abbrev pub invariant-loop-target : goal.invariant-loop-target
 invariant-loop-target g l = record {
   free : AllByRecursion (IsFree g.W.World.opening) l.free.items;

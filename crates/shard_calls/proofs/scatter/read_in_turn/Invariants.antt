@@ -5,7 +5,7 @@ use Rattle.shard.specs.Seats.{place_at}
 use Rattle.shard_calls.specs.inner.Scatter.{IsReadingOf}
 use Rattle.shard_calls.proofs.scatter.read_in_turn.Given as goal
 
--- the jobs so far, each beside its reading, with those still to come, are all
+-- the jobs so far, each with its reading, with those still to come, are all
 abbrev pub invariant-loop-job : goal.invariant-loop-job
 invariant-loop-job g l =
     record {

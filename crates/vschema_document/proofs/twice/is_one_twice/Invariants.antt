@@ -6,7 +6,7 @@ use Rattle.vschema_document.specs.Twice.{has_twice}
 use Rattle.vschema_document.proofs.twice.is_one_twice.Given as goal
 use denote.Ref.{Bor}
 
--- the set has the names that stand behind, of which none is twice
+-- the set has the names that come after, of which none is twice
 abbrev pub invariant-loop-i : goal.invariant-loop-i
 invariant-loop-i l = record {
   known : (q : Bor (List ℕ)) → contains (λ x y. slice_cmp nat_cmp x.now y.now) l.later q ≡ list_any (bytes_eq q.now) (map (λ n. n.now) (drop l.i l.names));
