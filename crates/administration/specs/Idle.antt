@@ -31,6 +31,6 @@ abbrev pub idle_in : Option ℕ → List ℕ → Option WorkflowView
 idle_in None free = None
 idle_in (Some keyspace) free = Some (idle keyspace free)
 
--- what the administrator begins with: no workflow in the sharded keyspace, where there is one
+-- what the administrator begins with: no workflow in the sharded keyspace, if there is one
 abbrev pub opening_workflow : VSchema → List KeyRange → Option WorkflowView
 opening_workflow schema ranges = idle_in (sharded_keyspace schema) (free_slots schema ranges)

@@ -28,7 +28,7 @@ use Rattle.administration.specs.declared.reply.AdminReply.{AdminReply}
 use Rattle.administration.specs.declared.reply.AdminReply.TheVariants.{Done, Moved, Took, Refused, Status, Unknown}
 use Rattle.administration.specs.Words.{status_text}
 
--- what an administrator has: the workflow of the sharded keyspace, where there is one
+-- what an administrator has: the workflow of the sharded keyspace, if there is one
 abbrev pub AdministratorView : Type 0
 AdministratorView = Option WorkflowView
 
@@ -111,7 +111,7 @@ pub data HasCompleted (o : Opening) (w now : WorkflowView) (p q : PassView Entry
   done : w.stage ≡ stages.Switched → HasEnded w now → AllByRecursion (λ s. IsOutOfUse o s p q) w.sources → HasCompleted o w now p q Done
   wrong_state : (w.stage ≡ stages.Switched → ⊥) → now ≡ w → q ≡ p → HasCompleted o w now p q (Refused faults.WrongState)
 
--- What the words of a line did over a workflow. Where there is no memory to read it, nothing.
+-- What the words of a line did over a workflow. If there is no memory to read it, nothing.
 pub data IsAnswered (o : Opening) (most : Limits) (words : List ℕ) (w now : WorkflowView) (p q : PassView Entry) : AdminReply → Type 0 where
   unread : now ≡ w → q ≡ p → IsAnswered o most words w now p q (Refused (faults.Refused OutOfMemory))
   status : {reply : AdminReply} → words ≡ codes "status" → now ≡ w → q ≡ p → TellsStatus w reply → IsAnswered o most words w now p q reply
@@ -137,7 +137,7 @@ pub data IsAnsweredWithout (words : List ℕ) : AdminReply → Type 0 where
   other : Contains workflow_words words → IsAnsweredWithout words (Refused faults.WrongState)
   unknown : AsksFor words lines.Unknown → IsAnsweredWithout words Unknown
 
--- what the words of a line did, over the workflow of the sharded keyspace, where there is one
+-- what the words of a line did, over the workflow of the sharded keyspace, if there is one
 pub data IsTold (o : Opening) (most : Limits) (words : List ℕ) (p q : PassView Entry) (reply : AdminReply) : AdministratorView → AdministratorView → Type 0 where
   over : {w now : WorkflowView} → IsAnswered o most words w now p q reply → IsTold o most words p q reply (Some w) (Some now)
   without : IsAnsweredWithout words reply → q ≡ p → IsTold o most words p q reply None None

@@ -14,7 +14,7 @@ use shard::{Shard, ShardLaw, World};
 use std::alloc::Global;
 use std::sync::Wait;
 
-// The partitions of the sharded keyspace, where there is one.
+// The partitions of the sharded keyspace, if there is one.
 fn sharded_partitions<W: World + Send + Sync, J: Naming + Send + Sync, G: Gate>(
     engine: &Engine<W, J, G>,
 ) -> Option<&Serving<Shard<W, J>>>

@@ -65,7 +65,7 @@ fn answer_over<W: World, J: Naming>(
     }
 }
 
-// Answers a line where there is no sharded keyspace.
+// Answers a line if there is no sharded keyspace.
 fn answer_without(alloc: Global, words: &[u8]) -> AdminReply
     ensures { IsAnsweredWithout words.now result }
 {
@@ -126,8 +126,8 @@ impl<W: World, J: Naming> Administrator<W, J> {
         workflow
     }
 
-    /// Reads the words of an admin line, does what they ask for, and tells what was done, or why it wasn't. Where there is no memory to
-    /// read them, the workflow stands as it stood. The partitions are those of the sharded keyspace, where there is one.
+    /// Reads the words of an admin line, does what they ask for, and tells what was done, or why it wasn't. If there is no memory to
+    /// read them, the workflow stands as it stood. The partitions are those of the sharded keyspace, if there is one.
     pub fn answer(
         &mut self,
         rt: &impl Wait,

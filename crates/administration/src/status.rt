@@ -123,7 +123,7 @@ pub(crate) fn status<W: World, J: Naming>(
     }
 }
 
-/// Tells the status where there is no sharded keyspace.
+/// Tells the status if there is no sharded keyspace.
 pub(crate) fn empty_status(alloc: Global) -> AdminReply
     ensures { IsAnsweredWithout (codes "status") result }
 {

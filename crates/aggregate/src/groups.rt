@@ -62,7 +62,7 @@ impl Groups {
         Ok(groups)
     }
 
-    /// The place of the group with these values, which is made where there is none.
+    /// The place of the group with these values, which is made if there is none.
     fn open(
         &mut self,
         alloc: Global,

@@ -56,7 +56,7 @@ pub trait Aggregate {
 
     ghost laws: { PartLaws part_of joined };
 
-    // the part of values fits where they are few enough
+    // the part of values fits if they are few enough
     ghost holds: { (values : List Value) → IsHeld values → can_hold (part_of values) };
 }
 

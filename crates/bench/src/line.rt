@@ -43,7 +43,7 @@ pub struct Line<'l> {
 }
 
 impl<'l> Line<'l> {
-    /// `None` where the line is none of these.
+    /// `None` if the line is none of these.
     pub fn read(line: &'l str) -> Option<Line<'l>> {
         let (head, text) = line.split_once(": ")?;
         let (measured, head) = head.split_once(' ')?;

@@ -47,7 +47,7 @@ fn read_ranges(alloc: Global, names: &str) -> Result<Vec<KeyRange>, Refusal>
     Ok(ranges)
 }
 
-// The VSchema that a text declares, where its shards over the ranges hold each keyspace id once and fit into 64 slots.
+// The VSchema that a text declares, if its shards over the ranges hold each keyspace id once and fit into 64 slots.
 fn read_schema(alloc: Global, text: &str, ranges: &[KeyRange]) -> Result<VSchema, Refusal>
     requires { AllByRecursion IsNamed ranges.now }
     ensures formed { IfOk result (λ schema. IsTrue (is_vschema schema)) }

@@ -40,7 +40,7 @@ fn put_given(told: &mut Told, name: &str, given: Result<u64, Refusal>) {
     }
 }
 
-// Says on standard error how long a line took. Where nobody reads that, nothing is said.
+// Says on standard error how long a line took. If nobody reads that, nothing is said.
 fn say_time<R: Eprint>(rt: &R, name: &str, time: Duration) {
     let nanos = u64::try_from(time.as_nanos()).unwrap_or(u64::MAX);
     let _ = eprintln!(rt; "{name}: {nanos} nanoseconds");

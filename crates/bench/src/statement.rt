@@ -38,7 +38,7 @@ pub struct Statement<'t> {
 }
 
 impl<'t> Statement<'t> {
-    /// Refused where a brace has no three numbers after it, and for want of memory.
+    /// Refused if a brace has no three numbers after it, and for want of memory.
     pub fn read(alloc: Global, text: &'t str) -> Result<Statement<'t>, Refusal> {
         let mut parts = text.split('{');
         let front = parts.next().unwrap_or("");

@@ -59,7 +59,7 @@ fn query_in(statement: Typed) -> Option<Query> {
     }
 }
 
-// How many of the ranges a text needs: none where it writes.
+// How many of the ranges a text needs: none if it writes.
 fn plan_text(
     alloc: Global,
     schema: &VSchema,

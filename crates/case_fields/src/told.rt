@@ -46,7 +46,7 @@ impl Told {
         self.show(&number);
     }
 
-    /// Puts how a scene went: `ok` where each thing was as it is to be, else `WRONG`.
+    /// Puts how a scene went: `ok` if each thing was as it is to be, else `WRONG`.
     pub fn put_went(&mut self, went: Result<bool, Refusal>) -> Result<(), Unanswered> {
         self.put(if went? { "ok" } else { "WRONG" });
         Ok(())
@@ -91,7 +91,7 @@ impl Told {
         }
     }
 
-    /// Puts bytes in hexadecimal, `.` where there are none.
+    /// Puts bytes in hexadecimal, `.` if there are none.
     pub fn put_some_bytes(&mut self, bytes: &[u8]) {
         if bytes.is_empty() {
             self.put(".");

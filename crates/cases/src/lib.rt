@@ -46,7 +46,7 @@
 //! | `rows` | rows | their printed form |
 //! | `count` | a number | the printed form of a count |
 //! | `error` | a refusal's number | its printed form |
-//! | `laws` | none | `hold`, where each law is called without a premise |
+//! | `laws` | none | `hold`, if each law is called without a premise |
 //!
 //! Several tokens, payloads, pieces or values have blanks between them, rows semicolons. Bytes and ids are in hexadecimal, a run of 64 or
 //! more equal bytes as `(07*300)`; no bytes, and an open edge, are told as `.`. In a text, each byte outside 20..7E and the backslash is

@@ -36,7 +36,7 @@ cell (Some text) = Bytes text
 abbrev pub texts : List (Option (List ℕ)) → Row
 texts cells = map cell cells
 
--- each name fits where there is no pattern
+-- each name fits if there is no pattern
 abbrev pub fits_pattern : Option (List ℕ) → List ℕ → Bool
 fits_pattern None name = true
 fits_pattern (Some pattern) name = is_like pattern name
@@ -61,7 +61,7 @@ name_in_use schema (Some place) = keyspace_name schema place
 
 -- ---- SHOW DATABASES and SHOW TABLES
 
--- a name, and where it is asked for the sort of table that it is
+-- a name, and if it is asked for the sort of table that it is
 abbrev pub listed_row : Bool → List ℕ → Row
 listed_row full name = if full then texts (Some name ∷ Some (codes "BASE TABLE") ∷ []) else texts (Some name ∷ [])
 
@@ -85,7 +85,7 @@ abbrev pub listed_keyspace : VSchema → Facts → Option (List ℕ) → Option 
 listed_keyspace schema facts None = facts.keyspace
 listed_keyspace schema facts (Some name) = keyspace_place schema name
 
--- why tables are not listed where there is none
+-- why tables are not listed if there is none
 abbrev pub without_keyspace : Option (List ℕ) → Refusal
 without_keyspace None = NoKeyspace
 without_keyspace (Some name) = UnknownKeyspace

@@ -204,7 +204,7 @@ unfoldable pub session_at : Lexemes → Lexemes → Option (Option Bool)
 session_at ts (bare (Some k.Transaction) w ∷ rest) = characteristic_at rest >>= end_at None
 session_at ts _ = settings_at (length ts) None ts
 
--- what SET sets autocommit to, where all that it sets holds; after its word
+-- what SET sets autocommit to, if all that it sets holds; after its word
 unfoldable pub set_at : Lexemes → Option (Option Bool)
 set_at (bare (Some k.Names) w ∷ rest) = names_at rest >>= end_at None
 set_at (bare (Some k.Charset) w ∷ rest) = any_at rest >>= end_at None

@@ -57,7 +57,7 @@ fn name_in_use(schema: &VSchema, place: Option<usize>) -> Option<&[u8]>
     }
 }
 
-/// The value that is asked for: NULL, where the server doesn't have it.
+/// The value that is asked for: NULL, if the server doesn't have it.
 fn told_value(
     alloc: Global,
     schema: &VSchema,
@@ -164,7 +164,7 @@ fn no_warnings(alloc: Global) -> Result<ClientAnswer, AllocError>
 // Promise: A client statement that has rows is answered by them, names in the order of their bytes, or by why there are none; only memory
 // refuses it
 // With: keyspace_place, keyspace_name
-/// What a client statement is answered, where it has rows: no settings, transactions or keyspaces to use. Takes memory for the rows.
+/// What a client statement is answered, if it has rows: no settings, transactions or keyspaces to use. Takes memory for the rows.
 pub fn answer(
     alloc: Global,
     schema: &VSchema,

@@ -155,7 +155,7 @@ fn need_more(pieces: &[Piece], bytes: usize) -> bool
     false
 }
 
-/// Whether pieces fit a name. Where no `%` stands right after another, that takes time by the name's length alone: those that need more
+/// Whether pieces fit a name. If no `%` stands right after another, that takes time by the name's length alone: those that need more
 /// bytes than it has don't fit, and the others are few.
 fn fits(alloc: Global, pieces: &[Piece], name: &[u8]) -> Result<bool, AllocError>
     ensures { IfOk result (λ b. b ≡ fits pieces.now name.now) }

@@ -88,7 +88,7 @@ fn client_statement(
     statement(alloc, text, without_semicolon(tokens))
 }
 
-// Promise: A text is a client statement exactly where its tokens say so by the grammar, and is read as the one that it is
+// Promise: A text is a client statement exactly when its tokens say so by the grammar, and is read as the one that it is
 /// What a text asks of a server, if it is a client statement; any other text is SQL over tables, or none.
 pub fn read(alloc: Global, text: &[u8]) -> Result<Option<ClientStatement>, AllocError>
     // What is given is what the text asks.

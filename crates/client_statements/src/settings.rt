@@ -421,7 +421,7 @@ fn session(
     }
 }
 
-/// What SET sets autocommit to, where all that it sets holds; after its word.
+/// What SET sets autocommit to, if all that it sets holds; after its word.
 #[tactic(auto, unfolding(crate::specs::Grammar::set_at))]
 fn set(alloc: Global, text: &[u8], tokens: &[Token]) -> Result<Option<bool>, Refusal>
     ensures { AgreesWith (λ x. x) result (set_at (lexemes_of text.now tokens.now)) }

@@ -37,7 +37,7 @@ pub struct TableName {
 /// What a client asks of a server.
 #[derive(Debug, Drop)]
 pub enum ClientStatement {
-    /// SET of settings that hold anyway, and of `autocommit`, where that is one of them.
+    /// SET of settings that hold anyway, and of `autocommit`, if that is one of them.
     Set {
         autocommit: Option<bool>,
     },

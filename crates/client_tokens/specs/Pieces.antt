@@ -43,7 +43,7 @@ sign_text LeftParenthesis = codes "("
 sign_text RightParenthesis = codes ")"
 sign_text Semicolon = codes ";"
 
--- The first bytes are a piece, where the second ones follow it: a token of the kind, or none of a blank and of a comment. A comment is `#`
+-- The first bytes are a piece, if the second ones follow it: a token of the kind, or none of a blank and of a comment. A comment is `#`
 -- or `-- ` up to the end of the line, or stands between `/*` and the next `*/`; one that begins with `!` is none. A token is as long as
 -- possible, and no letter stands right after a number.
 pub data Stands : List ℕ → List ℕ → Option TokenKind → Type 0 where

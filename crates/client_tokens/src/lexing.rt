@@ -186,7 +186,7 @@ fn tokens(alloc: Global, text: &[u8]) -> Result<Option<Vec<Token>>, AllocError>
     Ok(Some(tokens))
 }
 
-// Promise: What a client says has its tokens, with comments as blanks, and none only where it isn't tokens, blanks and comments
+// Promise: What a client says has its tokens, with comments as blanks, and none only if it isn't tokens, blanks and comments
 /// The tokens of what a client says, if it is tokens, blanks and comments.
 pub fn lex(alloc: Global, text: &[u8]) -> Result<Option<Vec<Token>>, AllocError>
     ensures found { IfOk result (λ o. IfSome o (λ v. HasTokens text.now v.items)) }

@@ -69,14 +69,14 @@ module _ {T : Type 0} where
   abbrev pub first_hand : Hand T
   first_hand = record { puts = true; takes = true; number = 0; passes = 1; put = []; taken = []; own = []; joined = [] }
 
-  -- the acceptor's, where one more pass was made, and the pass that was made: it has seen what the acceptor had
+  -- the acceptor's, if one more pass was made, and the pass that was made: it has seen what the acceptor had
   abbrev pub with_one_more : Hand T → Hand T
   with_one_more v = record v { passes = v.passes + 1 }
 
   abbrev pub new_hand : Hand T → Hand T
   new_hand v = record { puts = false; takes = true; number = v.passes; passes = 0; put = v.put; taken = v.taken; own = []; joined = [] }
 
-  -- the acceptor's, where it joined another, and what is left of that
+  -- the acceptor's, if it joined another, and what is left of that
   abbrev pub with_joined : Hand T → Hand T → Hand T
   with_joined v w =
       record v { taken = longer v.taken w.taken; joined = v.joined ++ (record { number = w.number; own = w.own; taken = w.taken; before = v.taken }) ∷ [] }

@@ -18,7 +18,7 @@ pub struct Joined<T> {
     pub before: LinkedList<(u64, T)>,
 }
 
-/// What a pass knows. Whether it puts and may take, its number, and, where it puts, how many passes there are; what it has seen of what was
+/// What a pass knows. Whether it puts and may take, its number, and, if it puts, how many passes there are; what it has seen of what was
 /// put and of what was taken, in the order of taking and with the number of the pass that took it; what it took itself, and which passes it
 /// joined. No value of it is made.
 pub struct Hand<T> {
@@ -104,7 +104,7 @@ pub type ConnectionQueue<T> = RuledArrayQueue<T, Hand<T>, Order>;
 /// What a thread knows of it. It has no bytes.
 pub type Known<T> = Pass<T, Hand<T>>;
 
-// Promise: What is put into the queue of connections stands after what was put before, or is handed back where the queue is full; what is
+// Promise: What is put into the queue of connections stands after what was put before, or is handed back if the queue is full; what is
 // taken is, in the order of taking, a beginning of what was put, and no connection is taken twice; passes that ended are compared in one
 // order
 // With: new_taker, put, take, absorb
@@ -136,7 +136,7 @@ pub fn new_taker<T>(queue: &ConnectionQueue<T>, pass: &mut Known<T>) -> Known<T>
     queue.another::<Taker>(pass)
 }
 
-/// Puts a connection after all that were put before. Where the queue is full it hands the connection back.
+/// Puts a connection after all that were put before. If the queue is full it hands the connection back.
 pub fn put<T, R: Wait>(
     rt: &R,
     queue: &ConnectionQueue<T>,
@@ -148,7 +148,7 @@ pub fn put<T, R: Wait>(
     ensures of { IsPassOf queue.now pass.new }
     ensures put { IfOk result (λ _. Puts (view pass.old) connection (view pass.new)) }
     ensures back { IfErr result (λ x. x ≡ connection) }
-    // Where it is handed back, nothing was put, and the queue was full.
+    // If it is handed back, nothing was put, and the queue was full.
     ensures same { IfErr result (λ x. view pass.new ≡ view pass.old) }
     ensures full { IfErr result (λ x. Held (ruled_capacity queue.now) (HeldThen (view pass.old))) }
     ensures puts { (view pass.new).puts ≡ true }
@@ -156,13 +156,13 @@ pub fn put<T, R: Wait>(
     queue.push_as::<Putting, R>(rt, pass, connection)
 }
 
-/// Takes the first connection of those that no one took yet. None where the queue is empty.
+/// Takes the first connection of those that no one took yet. None if the queue is empty.
 pub fn take<T, R: Wait>(rt: &R, queue: &ConnectionQueue<T>, pass: &mut Known<T>) -> Option<T>
     requires of { IsPassOf queue.now pass.old }
     requires takes { (view pass.old).takes ≡ true }
     ensures of { IsPassOf queue.now pass.new }
     ensures taken { IfSome result (λ x. Takes (view pass.old) x (view pass.new)) }
-    // Where there is none, nothing was taken, and the queue was empty.
+    // If there is none, nothing was taken, and the queue was empty.
     ensures same { IfNone result (view pass.new ≡ view pass.old) }
     ensures empty { IfNone result (Held 0 (HeldThen (view pass.old))) }
     ensures takes { (view pass.new).takes ≡ true }

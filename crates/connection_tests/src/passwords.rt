@@ -39,7 +39,7 @@ const UNANSWERED: &[u8] =
 
 const DENIED: &[u8] = b"\x16\x00\x00\x02\xff\x15\x04#28000access denied";
 
-// Reads the greeting of the connection with the number. `None` where it has another salt.
+// Reads the greeting of the connection with the number. `None` if it has another salt.
 fn read_greeting(stream: &TcpStream, number: u8, salt: &[u8; 20]) -> Option<()> {
     let rest = greeted(stream, number)?;
     if rest[..8] == salt[..8] && rest[27..39] == salt[8..] {

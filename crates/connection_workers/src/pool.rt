@@ -64,7 +64,7 @@ impl<T> Pool<T> {
         }
     }
 
-    /// Puts a job after all that were put before, and waits where the queue is full.
+    /// Puts a job after all that were put before, and waits if the queue is full.
     fn put<R: Wait>(&self, rt: &R, pass: &mut Known<Job<T>>, job: Job<T>)
         requires of { IsPassOf self.now.queue pass.old }
         requires puts { (view pass.old).puts ≡ true }
@@ -89,7 +89,7 @@ impl<T> Pool<T> {
         unreachable!()
     }
 
-    /// Takes the first job of those that no one took yet, and waits where there is none.
+    /// Takes the first job of those that no one took yet, and waits if there is none.
     fn take<R: Wait>(&self, rt: &R, pass: &mut Known<Job<T>>) -> Job<T>
         requires of { IsPassOf self.now.queue pass.old }
         requires takes { (view pass.old).takes ≡ true }
@@ -223,11 +223,11 @@ fn run_in<T: Send + Drop, R: Threads + Wait + Sync, F: Fn(T) + Sync, E: Entrance
 }
 
 // Promise: Workers are run until the entrance has no more connections: each that it gives is put into the queue, once and in order, and after
-// them a stop for each worker; a worker serves each connection that it takes, and ends only where it takes a stop
+// them a stop for each worker; a worker serves each connection that it takes, and ends only if it takes a stop
 // Refuses: vtgate_serve::serve_lets_in_one_too_few
 /// Starts so many workers, then lets in the connections of the entrance, in order, and has `serve` serve each, in one of the workers. Each
-/// waits in a queue of this capacity for a worker that is free; where it is full, the next one is let in once a worker took one. Returns
-/// once the entrance has no more and all are served. Refuses, and serves none, where there is no memory for the queue and where not all
+/// waits in a queue of this capacity for a worker that is free; if it is full, the next one is let in once a worker took one. Returns
+/// once the entrance has no more and all are served. Refuses, and serves none, if there is no memory for the queue and if not all
 /// workers could be started.
 pub fn run<T: Send + Drop, R: Threads + Wait + Sync, F: Fn(T) + Sync, E: Entrance<T, R> + Drop>(
     rt: &R,

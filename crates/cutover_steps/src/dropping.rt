@@ -14,7 +14,7 @@ use shard::{ShardLaw, ShardState, World};
 use shard_run::{Mode, Shard};
 use std::sync::Wait;
 
-// Drops the shard's rows, where it is this one and retired. Whether it is out of use.
+// Drops the shard's rows, if it is this one and retired. Whether it is out of use.
 fn try_drop<W: World, J: Naming>(
     state: &mut ShardState<W, J>,
     which: &Shard,

@@ -18,7 +18,7 @@ use shard::{ShardLaw, ShardState, World};
 use shard_run::Shard;
 use std::sync::Wait;
 
-// Whether the target fits, where the state is its own and it follows.
+// Whether the target fits, if the state is its own and it follows.
 fn try_fits<W: World, J: Naming>(
     state: &mut ShardState<W, J>,
     which: &Shard,
@@ -61,8 +61,8 @@ fn fits<W: World, J: Naming>(
     unreachable!()
 }
 
-// Promise: Before the first source retires, each target is looked at: yes is answered only where each had no more rows than a shard that
-// serves may have, and no only where one had more
+// Promise: Before the first source retires, each target is looked at: yes is answered only if each had no more rows than a shard that
+// serves may have, and no only if one had more
 /// Whether each of the targets has no more rows than a shard that serves may have. Takes no memory.
 pub fn all_fit<W: World, J: Naming>(
     rt: &impl Wait,

@@ -1,5 +1,5 @@
 //! The steps that change a shard's mode. A lock can't tell which shard it holds and in which mode the controller left it, so both are
-//! tested under it; where they differ, which no run of one controller meets, the lock is taken again.
+//! tested under it; if they differ, which no run of one controller meets, the lock is taken again.
 ghost use Rattle.std.specs.Prelude.{◌≡◌, ◌≤◌, ◌^◌, ◌∷◌, [], true, false, IsTrue, IfOk, IfErr, IfSome, MatchOption, OnOk, OnErr, length, map};
 ghost use Rattle.journal.specs.Runs.{IsLegal};
 ghost use Rattle.shard_run.specs.declared.Event.{Event};
@@ -38,7 +38,7 @@ pub fn serves<W: World, J: Naming>(state: &ShardState<W, J>) -> bool
     }
 }
 
-// Freezes the shard, where it is this one and serves.
+// Freezes the shard, if it is this one and serves.
 fn try_freeze<W: World, J: Naming>(
     state: &mut ShardState<W, J>,
     which: &shard_run::Shard,
@@ -73,7 +73,7 @@ fn try_freeze<W: World, J: Naming>(
 // stored. A freeze looks at its shard three times, and nowhere else, so its pass freezes no other, and that one once. A retirement, and a target that
 // serves, look at their shard alone, so they change no other's mode
 // With: thaw, retire, serve
-/// Freezes the shard, and answers how many entries it has stored. Refuses where it has too many entries; then nothing was appended. Takes no
+/// Freezes the shard, and answers how many entries it has stored. Refuses if it has too many entries; then nothing was appended. Takes no
 /// memory.
 pub fn freeze<W: World, J: Naming>(
     rt: &impl Wait,
@@ -104,7 +104,7 @@ fn is_frozen<W: World, J: Naming>(state: &ShardState<W, J>) -> bool
     state.mode() == Mode::Frozen
 }
 
-// Thaws the shard, where it is this one and frozen.
+// Thaws the shard, if it is this one and frozen.
 fn try_thaw<W: World, J: Naming>(
     state: &mut ShardState<W, J>,
     which: &shard_run::Shard,
@@ -143,7 +143,7 @@ pub fn thaw<W: World, J: Naming>(
     unreachable!()
 }
 
-// Retires the shard, where it is this one, frozen, and has stored so many entries; else the targets come back.
+// Retires the shard, if it is this one, frozen, and has stored so many entries; else the targets come back.
 fn try_retire<W: World, J: Naming>(
     state: &mut ShardState<W, J>,
     which: &shard_run::Shard,
@@ -268,7 +268,7 @@ fn is_level<W: World, J: Naming>(
     true
 }
 
-// Serves the target, where it is this one, follows, is level with its sources, and has no more rows than a shard that serves may have.
+// Serves the target, if it is this one, follows, is level with its sources, and has no more rows than a shard that serves may have.
 fn try_serve<W: World, J: Naming>(
     state: &mut ShardState<W, J>,
     target: &shard_run::Shard,

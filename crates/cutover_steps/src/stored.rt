@@ -18,7 +18,7 @@ pub fn note_stored<W: World, J: Naming>(sources: &mut [Source<W, J>], at: usize,
     sources[at].stored = stored;
 }
 
-// How many of the source's entries the target stands after, where it lives.
+// How many of the source's entries the target stands after, if it lives.
 fn behind_in<W: World, J: Naming>(state: &ShardState<W, J>, slot: usize) -> u64 {
     let lives = match state.mode() {
         Mode::Following => true,

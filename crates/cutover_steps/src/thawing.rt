@@ -15,7 +15,7 @@ use shard::{ShardLaw, ShardState, World};
 use shard_run::{Mode, Shard};
 use std::sync::Wait;
 
-// Thaws the shard, where it is this one and frozen, and has it drop what it keeps for its targets. Whether it serves now.
+// Thaws the shard, if it is this one and frozen, and has it drop what it keeps for its targets. Whether it serves now.
 fn try_unfreeze<W: World, J: Naming>(
     state: &mut ShardState<W, J>,
     which: &Shard,

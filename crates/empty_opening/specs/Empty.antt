@@ -49,7 +49,7 @@ abbrev pub opening_of : VSchema → List KeyRange → Opening
 opening_of schema ranges =
     record { schema = schema; shards = map (λ s. (s, no_rows schema)) (empty_shards schema ranges) }
 
--- Where a keyspace is sharded, the ranges have names and hold each keyspace id once. The shards fit into 64 slots.
+-- If a keyspace is sharded, the ranges have names and hold each keyspace id once. The shards fit into 64 slots.
 pub record FitRanges (schema : VSchema) (ranges : List KeyRange) : Type 0 where
   pub named : IfSome (sharded_keyspace schema) (λ k. AllByRecursion IsNamed ranges)
   pub cover : IfSome (sharded_keyspace schema) (λ k. Cover ranges)

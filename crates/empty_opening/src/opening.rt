@@ -36,7 +36,7 @@ pub fn sharded_keyspace(schema: &VSchema) -> Option<usize>
     None
 }
 
-// Shards of the keyspace, where there is one, on the next slots: one for each range.
+// Shards of the keyspace, if there is one, on the next slots: one for each range.
 fn push_shards(
     shards: &mut Items<Shard>,
     alloc: Global,
@@ -62,11 +62,11 @@ fn push_shards(
     Ok(())
 }
 
-// Promise: The shards without rows: slot 0 for the unsharded keyspace, where there is one, and on the next slots one for each range of the
+// Promise: The shards without rows: slot 0 for the unsharded keyspace, if there is one, and on the next slots one for each range of the
 // sharded one; a well-formed VSchema with ranges that fit makes them an opening
 // With: empty_tables
-/// The shards of the opening that has no rows: one on slot 0 for the unsharded keyspace, where there is one, and on the
-/// next slots one for each range of the sharded keyspace, where there is one. Ranges that have names, hold each keyspace
+/// The shards of the opening that has no rows: one on slot 0 for the unsharded keyspace, if there is one, and on the
+/// next slots one for each range of the sharded keyspace, if there is one. Ranges that have names, hold each keyspace
 /// id once and fit into 64 slots make it an opening. It refuses only for want of memory.
 pub fn opening_shards(
     alloc: Global,
@@ -84,9 +84,9 @@ pub fn opening_shards(
     Ok(shards)
 }
 
-// Promise: Ranges with names fit exactly where the sharded keyspace, if there is one, has each keyspace id in one of them, and there are at most
+// Promise: Ranges with names fit exactly when the sharded keyspace, if there is one, has each keyspace id in one of them, and there are at most
 // 64 shards
-/// Whether the shards over ranges that have names make an opening: they hold each keyspace id of the sharded keyspace once, where there is one,
+/// Whether the shards over ranges that have names make an opening: they hold each keyspace id of the sharded keyspace once, if there is one,
 /// and fit into 64 slots. It refuses only for want of memory.
 pub fn ranges_fit(alloc: Global, schema: &VSchema, ranges: &[KeyRange]) -> Result<bool, Refusal>
     requires named { AllByRecursion IsNamed ranges.now }

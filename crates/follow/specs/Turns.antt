@@ -29,7 +29,7 @@ abbrev pub looks_of : ℕ → Step → List ℕ
 looks_of target Level = []
 looks_of target _ = target ∷ []
 
--- The looks of one step of a target with a source: one at the target, one at the source, and one more at the target for an entry. Where there
+-- The looks of one step of a target with a source: one at the target, one at the source, and one more at the target for an entry. If there
 -- is none, nothing was appended after the last look. No two in a row are at one shard, as they are before each change of a shard's mode
 -- (HasChangedMode), so there is none of these.
 pub record IsOneStep (source target : Shard) (p now : PassView Entry) (step : Step) : Type 0 where

@@ -114,7 +114,7 @@ fn give<W: World, J: Naming>(
     }
 }
 
-// What the source has for the target, where the state is the source's and it serves.
+// What the source has for the target, if the state is the source's and it serves.
 fn try_give<W: World, J: Naming>(
     state: &mut ShardState<W, J>,
     alloc: Global,
@@ -319,12 +319,12 @@ fn try_step<W: World, J: Naming>(
 // no two sources of it overlap
 // With: bring_forward_with
 // Clauses: moved, once, copied_within, followed_within, onward
-// Promise: It is refused for want of memory, or where a Copy or a Follow that may come next passes a limit of the target (F24): it has 2^40
+// Promise: It is refused for want of memory, or if a Copy or a Follow that may come next passes a limit of the target (F24): it has 2^40
 // entries, it stores as many as it may, which counts for a Follow alone, or with the step it would have more rows than it may. The looks of
 // its pass are then the first of those of a step with an entry, and nothing was appended after the last
 // With: bring_forward_with
 // Clauses: err, nothing
-/// Brings a target forward with a source of it: it takes over the entry that is next, where one is left, else it copies the next rows, at
+/// Brings a target forward with a source of it: it takes over the entry that is next, if one is left, else it copies the next rows, at
 /// most 100 of them, else it is level. At most one entry is appended. Refuses for want of memory, and what would pass a limit of the target;
 /// then nothing was appended.
 pub fn bring_forward<W: World, J: Naming>(

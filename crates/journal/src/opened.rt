@@ -46,7 +46,7 @@ impl<L: Law> Opened<L> {
 
     // Promise: A new table of words has an empty run, a seat for each of its 64 slots, and one opener
     // With: Opened::named
-    /// Opens a table, each word 0. It refuses `OutOfMemory` where no block is given.
+    /// Opens a table, each word 0. It refuses `OutOfMemory` if no block is given.
     pub fn new(alloc: Global) -> Result<Opened<L>, Refusal>
         ensures refused { IfErr result (λ e. e ≡ OutOfMemory) }
     {
@@ -77,7 +77,7 @@ impl<L: Law> Opened<L> {
     }
 
     /// The seats of the slots in order, the opener, which gives number 0 first, and a first pass without a session
-    /// number, all under the table's name. It refuses `OutOfMemory` where no block is given.
+    /// number, all under the table's name. It refuses `OutOfMemory` if no block is given.
     pub fn named<J: Naming>(
         self,
         alloc: Global,

@@ -59,11 +59,11 @@ impl<L: Law, J: Naming> Opener<L, J> {
         self.words.compare(&mut self.seat, &mut pass.seat);
     }
 
-    // Promise: The opener gives each session number once, to a pass that has seen what its parent had, and refuses only where the numbers
+    // Promise: The opener gives each session number once, to a pass that has seen what its parent had, and refuses only if the numbers
     // are used up (F24) or for want of memory
     // With: Opener::next
     /// A pass with the next session number, which has seen what `pass` has. No entry is of its session yet. It refuses
-    /// `ShardFull` once 2^62 numbers are used up, and before that `OutOfMemory` where there are too many handles; then
+    /// `ShardFull` once 2^62 numbers are used up, and before that `OutOfMemory` if there are too many handles; then
     /// nothing has changed.
     pub fn open(&mut self, pass: &mut Pass<L, J>) -> Result<Pass<L, J>, Refusal>
         ensures parent { pass.new ≡ pass.old }

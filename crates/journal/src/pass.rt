@@ -40,7 +40,7 @@ impl<L: Law, J: Naming> Pass<L, J> {
     ghost use Rattle.journal.specs.Runs.{IsLegal, NumbersBelow, by_session};
     ghost use Rattle.journal.specs.Views.{IsLonger, new_pass};
 
-    /// The number of its session; none where it was split off or came first. What it has seen is legal, and the commits
+    /// The number of its session; none if it was split off or came first. What it has seen is legal, and the commits
     /// of its session there have numbers that it has given out.
     pub fn session(&self) -> Option<u64>
         ensures number { result ≡ self.now.session }
@@ -81,7 +81,7 @@ impl<L: Law, J: Naming> Pass<L, J> {
     // pass that joined another has its looks too; no two passes have one session number
     // With: Pass::{meet, join}
     /// A pass without a session number or looks, which has seen as much: a worker's, to be joined back. It refuses
-    /// `OutOfMemory` where there are too many handles.
+    /// `OutOfMemory` if there are too many handles.
     pub fn split(&mut self) -> Result<Pass<L, J>, Refusal>
         ensures same { self.new ≡ self.old }
         ensures new { IfOk result (λ p. p ≡ new_pass self.old.seen None) }

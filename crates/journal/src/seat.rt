@@ -57,7 +57,7 @@ impl<L: Law, J: Naming> ShardSeat<L, J> {
         self.words.look(&mut self.seat, &mut pass.seat, self.slot)
     }
 
-    // Promise: An append adds exactly its entry, after any such run, where the entry is lawful
+    // Promise: An append adds exactly its entry, after any such run, if the entry is lawful
     /// Adds the entry to the run, and this entry alone; seat and pass have then seen the run up to it. A commit is of
     /// the pass's session, and has a number that the pass has given out. The entry is lawful after any legal run that
     /// begins with what was seen and has no more entries on the slot or of the session.

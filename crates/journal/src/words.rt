@@ -74,7 +74,7 @@ impl<L: Law, J: Naming> Words<L, J> {
         self.table.shared.load::<Look<L>>(seat, slot)
     }
 
-    // Both have then seen the longer of what they had seen. Where the first has the right to the slot, the answer is
+    // Both have then seen the longer of what they had seen. If the first has the right to the slot, the answer is
     // the number of entries on it.
     pub(crate) fn agree(&self, one: &mut Knower<L>, other: &mut Knower<L>, slot: usize) -> u64
         requires table { (one.old.table_id ≡ J.table) × (other.old.table_id ≡ J.table) }

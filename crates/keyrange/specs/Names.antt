@@ -22,7 +22,7 @@ range_text range = hex range.begin ++ codes "-" ++ end_text range.end
 abbrev pub IsEdge : List ℕ → Type 0
 IsEdge bytes = IsByteString bytes × (length bytes ≤ 8) × ((bytes ≡ []) ⊎ (slice_index bytes (length bytes - 1) ≢ 0))
 
--- a range that has a name: the end, where there is one, isn't empty and comes after the begin
+-- a range that has a name: the end, if there is one, isn't empty and comes after the begin
 abbrev pub IsNamed : KeyRange → Type 0
 IsNamed range =
     IsEdge range.begin × IfSome range.end (λ end. IsEdge end × (end ≢ []) × IsTrue (is_before range.begin end))

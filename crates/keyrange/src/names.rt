@@ -19,7 +19,7 @@ fn digit_value(digit: u8) -> Option<u8>
     }
 }
 
-// The bytes that digits spell, two digits a byte, where they are at most eight.
+// The bytes that digits spell, two digits a byte, if they are at most eight.
 fn read_bytes(digits: &[u8]) -> Option<Edge>
     ensures found { IfSome result (λ edge. hex edge ≡ digits.now) }
     ensures spelled { (edge : List ℕ) → IsByteString edge → length edge ≤ 8 → hex edge ≡ digits.now → result ≡ Some edge }
@@ -49,10 +49,10 @@ fn read_edge(digits: &[u8]) -> Option<Edge>
 }
 
 impl KeyRange {
-    // Promise: A text names one range at most; it is read exactly where it names one, and what a range prints is its name
+    // Promise: A text names one range at most; it is read exactly when it names one, and what a range prints is its name
     // With: KeyRange::fmt, Edge::fmt, one_range
     /// The range that has this text as its name, as `40-80`, `-80` or `-`: an edge has up to 16 lower-case hexadecimal
-    /// digits, two a byte, and doesn't end in `00`; an end stands after the begin. `None` where no range has that name.
+    /// digits, two a byte, and doesn't end in `00`; an end stands after the begin. `None` if no range has that name.
     /// It takes no memory, and gives back the range of which `Display` wrote the name.
     pub fn read(text: &str) -> Option<KeyRange>
         ensures found { IfSome result (λ range. IsNameOf text.now range) }

@@ -18,7 +18,7 @@ fn later<'e>(a: &'e [u8], b: &'e [u8]) -> &'e [u8]
 }
 
 impl KeyRange {
-    // Promise: A range holds the ids from its begin to before its end; two overlap exactly where some id lies in both
+    // Promise: A range holds the ids from its begin to before its end; two overlap exactly when some id lies in both
     // With: KeyRange::overlaps
     /// Whether a keyspace id lies in the range.
     pub fn contains(&self, id: &[u8]) -> bool
@@ -33,7 +33,7 @@ impl KeyRange {
         }
     }
 
-    /// Whether some keyspace id lies in both ranges: where one does, the later begin does.
+    /// Whether some keyspace id lies in both ranges: if one does, the later begin does.
     pub fn overlaps(&self, other: &KeyRange) -> bool
         ensures { IsTrue result ↔ Overlap self.now other.now }
     {
@@ -63,7 +63,7 @@ fn is_in_one(ranges: &[KeyRange], id: &[u8]) -> bool
     ranges.iter().filter(|range| range.contains(id)).count() == 1
 }
 
-// Promise: Ranges cover, in any order, exactly where each id lies in just one
+// Promise: Ranges cover, in any order, exactly when each id lies in just one
 /// Whether each keyspace id lies in exactly one of the ranges, in whatever order they are. It takes no memory, and
 /// compares each edge with each range.
 pub fn covers_once(ranges: &[KeyRange]) -> bool

@@ -66,7 +66,7 @@ abbrev pub field_before : Option (List ℕ) → List ℕ → List ℕ
 field_before None rest = rest
 field_before (Some text) rest = text ++ (0x00 ∷ rest)
 
--- a field is there exactly where its capability is set, and has no zero
+-- a field is there exactly when its capability is set, and has no zero
 abbrev pub IsField : Bool → Option (List ℕ) → Type 0
 IsField true None = ⊥
 IsField true (Some text) = HasNoZero text

@@ -141,9 +141,9 @@ fn response_in(payload: &[u8]) -> Option<Response<'_>>
     })
 }
 
-// Promise: A client's answer to the greeting is read exactly where the payload has its layout and the needed capabilities are set, else it
+// Promise: A client's answer to the greeting is read exactly when the payload has its layout and the needed capabilities are set, else it
 // is refused
-/// A client's answer to the greeting. It is refused where it has not the layout of one, or a capability that the server needs
+/// A client's answer to the greeting. It is refused if it has not the layout of one, or a capability that the server needs
 /// isn't set.
 pub fn read_response(payload: &[u8]) -> Result<Response<'_>, Refusal>
     ensures found { IfOk result (λ r. IsResponse payload.now (answered_of r)) }

@@ -19,7 +19,7 @@ ok_payload affected status =
 abbrev pub eof_payload : ℕ → List ℕ
 eof_payload status = 0xFE ∷ little_endian 2 0 ++ little_endian 2 status
 
--- The end of a result set where CLIENT_DEPRECATE_EOF is set: an OK packet of no affected rows, by the header of EOF.
+-- The end of a result set if CLIENT_DEPRECATE_EOF is set: an OK packet of no affected rows, by the header of EOF.
 abbrev pub set_end_payload : ℕ → List ℕ
 set_end_payload status = 0xFE ∷ length_encoded 0 ++ length_encoded 0 ++ little_endian 2 status ++ little_endian 2 0
 

@@ -59,7 +59,7 @@ pub fn length_encoded(n: u64) -> ArrayVec<u8, 9>
     }
 }
 
-/// Appends a number in its shortest length-encoded form. It leaves `out` as it was where a growth is refused.
+/// Appends a number in its shortest length-encoded form. It leaves `out` as it was if a growth is refused.
 pub fn put_length_encoded(n: u64, out: &mut Vec<u8>) -> Result<(), AllocError>
     ensures ok { OnOk result (out.new.items ≡ out.old.items ++ length_encoded n) }
     ensures err { OnErr result (out.new.items ≡ out.old.items) }
@@ -71,7 +71,7 @@ pub fn put_length_encoded(n: u64, out: &mut Vec<u8>) -> Result<(), AllocError>
     out.extend_from_slice(length_encoded(n).as_slice())
 }
 
-/// Appends a text after its length. Where a growth is refused, `out` may have the length already.
+/// Appends a text after its length. If a growth is refused, `out` may have the length already.
 pub fn put_length_encoded_string(text: &[u8], out: &mut Vec<u8>) -> Result<(), AllocError>
     ensures { OnOk result (out.new.items ≡ out.old.items ++ length_encoded_string text.now) }
 {

@@ -61,7 +61,7 @@ pub fn put_eof(number: u8, status: u16, out: &mut BytesMut) -> Result<u8, Refusa
     put_short(number, &[EOF, 0x00, 0x00, low, high], out)
 }
 
-/// Appends the packet that ends a result set where client and server set CLIENT_DEPRECATE_EOF: no affected rows, 0 as
+/// Appends the packet that ends a result set if client and server set CLIENT_DEPRECATE_EOF: no affected rows, 0 as
 /// the last insert id, the status, no warnings. It gives the sequence number after it. It refuses only for want of
 /// memory, and then leaves the buffer as it was.
 pub fn put_set_end(number: u8, status: u16, out: &mut BytesMut) -> Result<u8, Refusal>

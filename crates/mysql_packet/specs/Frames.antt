@@ -55,7 +55,7 @@ IsNumbered p = (p.first < 256) × (p.last ≡ last_number p.first p.bytes)
 abbrev pub stream_of : List Payload → List ℕ
 stream_of payloads = flat_map (λ p. frame p.first p.bytes) payloads
 
--- Why a header is refused, if it is, where so many full parts of its payload have come and the first had this number. The number is
+-- Why a header is refused, if it is, if so many full parts of its payload have come and the first had this number. The number is
 -- looked at first: a part has to follow the one before. Then no payload is longer than the limit. The first number of a payload may be any.
 abbrev pub header_fault : ℕ → ℕ → ℕ → ℕ → ℕ → Option Refusal
 header_fault limit first come len number =

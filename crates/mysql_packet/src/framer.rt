@@ -85,10 +85,10 @@ impl Framer {
 
     // Promise: However the client's stream is cut, the payloads are those of the whole stream so far, with their first and last numbers
     // Clauses: payloads, limit
-    // Promise: A fault comes only where a refused header stands in a part's place, with that header's number; every later piece gives that
+    // Promise: A fault comes only if a refused header stands in a part's place, with that header's number; every later piece gives that
     // fault alone
     // Clauses: fault, stopped, again
-    // Promise: Where memory is refused, the piece counts as not fed
+    // Promise: If memory is refused, the piece counts as not fed
     // Clauses: err, memory
     /// Takes the next piece of the stream: gives each payload that is whole now, in order, and after them the fault,
     /// if a header is refused there. A payload's packets are numbered one after another, modulo 256, from any first
@@ -100,7 +100,7 @@ impl Framer {
         ensures payloads { IfOk result (λ fed. IsNone fed.fault → (stream : List ℕ) (before : List Payload) →
             HasFramed self.old stream before →
             HasFramed self.new (stream ++ piece.now) (before ++ fed.payloads)) }
-        // A fault comes only where a refused header stands in a part's place after them.
+        // A fault comes only if a refused header stands in a part's place after them.
         ensures fault { IfOk result (λ fed. IfSome fed.fault (λ f. (stream : List ℕ) (before : List Payload) →
             HasFramed self.old stream before →
             IsRefusedAfter self.old.limit (stream ++ piece.now) (before ++ fed.payloads) f)) }

@@ -30,7 +30,7 @@ fn put_packet(number: u8, part: &[u8], out: &mut BytesMut)
     out.extend_reserved(part);
 }
 
-// Promise: A payload's packets are appended, and the next number given; where memory is refused the buffer is as it was; with room it can't
+// Promise: A payload's packets are appended, and the next number given; if memory is refused the buffer is as it was; with room it can't
 // fail
 /// Appends the packets of one payload, and gives the sequence number after its last: parts of 0xFFFFFF bytes, and
 /// then a shorter one, which may be empty. Refuses only for want of memory, and then leaves the buffer as it was.

@@ -10,7 +10,7 @@ Calls {S} call (suc n) s t = (u : S) × call s u × Calls call n u t
 abbrev pub CallsAtMost : {S : Type 0} → (S → S → Type 0) → ℕ → S → S → Type 0
 CallsAtMost call most s t = (n : ℕ) × (n ≤ most) × Calls call n s t
 
--- How often so many calls of a limit call its input at most: offset plus count times in all, and never where count is 0. Without LIMIT
+-- How often so many calls of a limit call its input at most: offset plus count times in all, and never if count is 0. Without LIMIT
 -- each calls it once.
 abbrev pub most_calls : Option Limit → ℕ → ℕ
 most_calls None calls = calls

@@ -10,7 +10,7 @@ use std::alloc::Global;
 use std::mem;
 use vt_value::{Refusal, Row};
 
-/// An input, and the row that it gave last: none where it has ended.
+/// An input, and the row that it gave last: none if it has ended.
 #[derive(Drop)]
 struct Head<O> {
     row: Option<Row>,
@@ -78,7 +78,7 @@ fn first<O>(keys: &[Key<usize>], heads: &[Head<O>]) -> usize
     least
 }
 
-/// The rows of several inputs in one order, where each input has its rows in that order. It keeps one row of each input, and pulls the
+/// The rows of several inputs in one order, if each input has its rows in that order. It keeps one row of each input, and pulls the
 /// next from the input that it took from. Of rows that the keys don't tell apart those of earlier inputs come first.
 #[derive(Drop)]
 pub struct MergeSort<'a, O> {
@@ -88,7 +88,7 @@ pub struct MergeSort<'a, O> {
 }
 
 impl<'a, O: Operator> MergeSort<'a, O> {
-    /// The rows of these inputs, in an order that the keys allow where each input's rows are in such an order. Pulls the first row of
+    /// The rows of these inputs, in an order that the keys allow if each input's rows are in such an order. Pulls the first row of
     /// each. Refuses only for want of memory.
     pub fn new(
         alloc: Global,

@@ -16,10 +16,10 @@ pub trait Operator: Drop {
     // what one call of `next` may make of an operator: by this relation calls are counted
     ghost one_call: { Self → Self → Type 0 } = { λ _ _. ⊤ };
 
-    // Promise: An operator gives its rows in order, one at a time; where it once had no memory it gives none again
+    // Promise: An operator gives its rows in order, one at a time; if it once had no memory it gives none again
     // With: Rows::next, Concat::next, MergeSort::next, Limit::next, Project::next
     // Clauses: row, failed, fails, err
-    /// The next row, or `None` where no row is left. Refuses only for want of memory, and then each later call does.
+    /// The next row, or `None` if no row is left. Refuses only for want of memory, and then each later call does.
     fn next(&mut self, alloc: Global) -> Result<Option<Row>, Refusal>
         ensures row { IfOk result (λ next. MatchOption next
             ((to_come self.old ≡ []) × (to_come self.new ≡ []))

@@ -30,7 +30,7 @@ impl Model for ShownRows {
 impl ShownRows {
     // Promise: Of rows the columns in given places are shown, each row as it is pulled; what is held are the rows as they were read
     // With: ShownRows::len, ShownRows::whole, ShownRows::pulled, ShownRows::into_rows, PulledRows::next
-    /// Of each of these rows the values in these places, NULL after its end, or the row as it is where there are no places. Takes no memory.
+    /// Of each of these rows the values in these places, NULL after its end, or the row as it is if there are no places. Takes no memory.
     pub fn new(rows: Items<Row>, places: Option<Items<usize>>) -> ShownRows
         ensures { result ≡ shown_at places rows }
     {

@@ -17,7 +17,7 @@ pub struct Limit<O> {
     failed: bool,
 }
 
-/// Passes over `count` rows, or all where there are fewer.
+/// Passes over `count` rows, or all if there are fewer.
 fn pass_over<O: Operator>(alloc: Global, input: &mut O, count: u64) -> Result<(), Refusal>
     ensures ok { OnOk result (O.to_come input.new ≡ drop count (O.to_come input.old)) }
     ensures calls { CallsAtMost O.one_call count input.old input.new }
@@ -39,7 +39,7 @@ impl<O: Operator> Limit<O> {
     // never again once the input failed; without LIMIT once a call
     // With: Limit::next
     // Clauses: calls, call
-    /// What `limit` leaves of the input's rows, all of them where it is `None`.
+    /// What `limit` leaves of the input's rows, all of them if it is `None`.
     pub fn new(input: O, limit: Option<sql_tree::Limit>) -> Limit<O>
         ensures rows { ⟦<Limit<O> as Operator>⟧.to_come result ≡ sliced limit (O.to_come input) }
         ensures fresh { IsTrue (⟦<Limit<O> as Operator>⟧.has_failed result) → IsTrue (O.has_failed input) }
@@ -55,7 +55,7 @@ impl<O: Operator> Limit<O> {
         }
     }
 
-    /// The next row, where no call failed before.
+    /// The next row, if no call failed before.
     fn pull(&mut self, alloc: Global) -> Result<Option<Row>, Refusal>
         requires { self.old.failed ≡ false }
         ensures row { IfOk result (λ next. MatchOption next

@@ -12,6 +12,6 @@ known_bytes (Eight bytes) = Some bytes
 known_bytes (Sixteen bytes) = Some bytes
 known_bytes Unknown = None
 
--- where there is one, it is the value's id by this vindex
+-- if there is one, it is the value's id by this vindex
 abbrev pub IsIdOf : AnyVindex → Value → KnownId → Type 0
 IsIdOf x v id = ForSome (known_bytes id) (λ bytes. (is_key x v ≡ true) × (keyspace_id x v ≡ bytes))

@@ -39,11 +39,11 @@ pushed_limit l = record { count = min (l.offset + l.count) (2 ^ 64 - 1); offset 
 abbrev pub key_item : Key ℕ → Item ℕ
 key_item k = item.Column k.column
 
--- The query as each shard gets it where it isn't aggregated. It shows the query's columns, and after them those of its sort keys.
+-- The query as each shard gets it if it isn't aggregated. It shows the query's columns, and after them those of its sort keys.
 abbrev pub pushed_rows : Query → Query
 pushed_rows q = record q { items = q.items ++ map key_item q.order_by; limit = option_map pushed_limit q.limit }
 
--- Where it is, a shard gives each of its groups: the columns of GROUP BY, and after them the aggregates. It has no order and no limit.
+-- If it is, a shard gives each of its groups: the columns of GROUP BY, and after them the aggregates. It has no order and no limit.
 abbrev pub pushed_groups : Query → Query
 pushed_groups q = record q { items = map item.Column q.group_by ++ aggregates_of q.items; order_by = []; limit = None }
 
@@ -64,7 +64,7 @@ rows_finish q = record {
   limit = q.limit;
 }
 
--- where it is aggregated, the groups of the pieces are joined before
+-- if it is aggregated, the groups of the pieces are joined before
 abbrev pub groups_finish : Query → Finish
 groups_finish q = record { grouping = Some (grouping_of q); columns = group_columns q; order_by = group_order q; limit = q.limit }
 

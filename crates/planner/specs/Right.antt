@@ -28,7 +28,7 @@ pub record LiesInPlace (schema : VSchema) (keyspace : ℕ) (tables : List ℕ) (
   pub placed : restrict schema (record { keyspace = keyspace; range = shard.0 }) shard.1 ≡ shard.1
   pub storable : AllByRecursion (λ n. AllByRecursion (λ row. is_storable (table_at schema n) row ≡ true) (rows_of shard.1 n)) tables
 
--- where the plan's route takes the shard, the query is over fewer than 2^64 rows there
+-- if the plan's route takes the shard, the query is over fewer than 2^64 rows there
 abbrev pub HasFewRows : Table → Plan → Query → Shard → Type 0
 HasFewRows t p q shard = takes t p.route shard.0 ≡ true → length (source_rows q shard.1) < 2 ^ 64
 
@@ -41,7 +41,7 @@ abbrev pub AreApart : List Shard → Type 0
 AreApart [] = Unit {0}
 AreApart (shard ∷ shards) = AllByRecursion (λ (other : Shard). IsApart shard.0 other.0) shards × AreApart shards
 
--- where the query joins two tables, the shards' ranges are apart
+-- if the query joins two tables, the shards' ranges are apart
 abbrev pub JoinsApart : Query → List Shard → Type 0
 JoinsApart q shards = (j : Join) → q.join ≡ Some j → AreApart shards
 
@@ -59,7 +59,7 @@ SkipsNothing schema q p =
     → takes (table_at schema q.table) p.route shard.0 ≡ false
     → (row : Row) → Contains (source_rows q shard.1) row → is_kept q.filter row ≡ false
 
--- Where the query isn't aggregated, each list that a shard may give for its piece is in the order of the finish's keys.
+-- If the query isn't aggregated, each list that a shard may give for its piece is in the order of the finish's keys.
 abbrev pub GivesInOrder : Table → Plan → Type 0
 GivesInOrder t p =
     p.finish.grouping ≡ None → (shard : Shard) (list : List Row) → Allowed (piece_of t p shard.0) shard.1 list → IsSorted (row_cmp p.finish.order_by) list

@@ -53,7 +53,7 @@ abbrev pub second_kind : Option KeyColumn → ℕ → Option ColumnType
 second_kind None c = None
 second_kind (Some k) c = if k.column == c then Some k.kind else None
 
--- the type of a column, where its value decides the shard of a row
+-- the type of a column, if its value decides the shard of a row
 abbrev pub kind_in : Keys → ℕ → Option ColumnType
 kind_in keys c = if keys.first.column == c then Some keys.first.kind else second_kind keys.second c
 

@@ -26,7 +26,7 @@ fn slice<O: Operator>(
 }
 
 impl Finish {
-    /// The rows of the answer, from those of the pieces: joined to groups where the query is aggregated, sorted by the keys, sliced and cut
+    /// The rows of the answer, from those of the pieces: joined to groups if the query is aggregated, sorted by the keys, sliced and cut
     /// to the answer's columns. Without groups and keys no more rows are pulled than the limit asks for. Refuses only for want of memory.
     pub fn answer<O: Operator>(&self, alloc: Global, pieces: Vec<O>) -> Result<Items<Row>, Refusal>
         requires fit { CanJoin self.now.grouping (flat_map O.to_come pieces.items) }

@@ -28,7 +28,7 @@ fn second_kind(second: Option<KeyColumn>, column: usize) -> Option<ColumnType>
     }
 }
 
-/// The type of a column, where it is one of these.
+/// The type of a column, if it is one of these.
 pub fn kind_in(keys: Keys, column: usize) -> Option<ColumnType>
     ensures { result ≡ kind_in keys column }
 {

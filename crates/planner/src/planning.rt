@@ -265,7 +265,7 @@ fn shown_and_pushed(
 }
 
 // Promise: A plan is the written one, and right: over any shards whose rows lie in their ranges, each list that its finish may give of the
-// pieces' answers is an answer over all rows, also over no shard and with aggregates, and of a join over all pairs, where no id lies in two
+// pieces' answers is an answer over all rows, also over no shard and with aggregates, and of a join over all pairs, if no id lies in two
 // of the ranges; a shard that its route skips holds no row or pair that the query keeps; and without aggregates each piece's answer is in
 // the order of the finish's keys
 /// The plan of a query. Refuses only for want of memory.

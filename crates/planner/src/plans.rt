@@ -5,11 +5,11 @@ use sql_tree::{Item, Key, Limit};
 use vschema::Query;
 use vt_value::Items;
 
-/// What is made of the rows of the pieces: they are joined to groups where the query is aggregated, sorted, sliced and cut to the columns of
+/// What is made of the rows of the pieces: they are joined to groups if the query is aggregated, sorted, sliced and cut to the columns of
 /// the answer.
 #[derive(Drop)]
 pub struct Finish {
-    /// How the groups of the pieces are joined, where the query is aggregated.
+    /// How the groups of the pieces are joined, if the query is aggregated.
     pub grouping: Option<Grouping>,
     /// The columns of the answer, by their places in the rows of the pieces, or of the joined groups.
     pub columns: Items<usize>,

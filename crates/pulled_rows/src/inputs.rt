@@ -146,7 +146,7 @@ pub(crate) fn a_merge_pulls_a_row_of_each_input_and_one_for_each_that_it_gave(
     Ok(told.len() == wanted.len())
 }
 
-/// What calls of `next` give: `r` for a row, `e` at the end, and `f` where they fail.
+/// What calls of `next` give: `r` for a row, `e` at the end, and `f` if they fail.
 fn outcomes<O: Operator>(alloc: Global, mut input: O, calls: u32) -> Result<Vec<u8>, Refusal> {
     let mut told = Vec::new(alloc);
     for _ in 0..calls {
@@ -171,7 +171,7 @@ fn inputs_of(alloc: Global, rows: &[u32]) -> Result<Vec<Failing>, Refusal> {
     Ok(inputs)
 }
 
-/// A merge stays failed where one of its inputs fails.
+/// A merge stays failed if one of its inputs fails.
 pub(crate) fn a_merge_stays_failed_where_an_input_does(alloc: Global) -> Result<bool, Refusal> {
     let merge = MergeSort::new(alloc, inputs_of(alloc, &[3, 2])?, &[])?;
     Ok(outcomes(alloc, merge, 5)?.as_slice() == b"rrfff".as_slice())

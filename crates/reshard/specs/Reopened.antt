@@ -19,7 +19,7 @@ stage_at (suc n) = stages.Switching
 abbrev pub has_any : List Seat → List Seat → Bool
 has_any parts seats = list_any (λ seat. list_any (λ part. part.0 == seat.0) parts) seats
 
--- The workflow is made again from the shards of these seats. The memory of its cutover is made, and the next partition was published where the
+-- The workflow is made again from the shards of these seats. The memory of its cutover is made, and the next partition was published if the
 -- partition that it is found in has one of the targets.
 pub record IsReopened (o : Opening) (p now : PassView Entry) (from into : List Seat) (w next : WorkflowView) : Type 0 where
   pub parts : List Seat

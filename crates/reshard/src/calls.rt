@@ -79,8 +79,8 @@ impl<W: World, J: Naming> Workflow<W, J> {
     }
 
     /// Begins a workflow: targets of these ranges, on the last of the free slots, one for each, are to take the place of the shards of
-    /// those. Refuses where it has a workflow; where no source is named, one is named twice or isn't a range of the present partition, or
-    /// its shard doesn't serve or is frozen; where two targets overlap; where they don't hold what the sources do; where too few slots are
+    /// those. Refuses if it has a workflow; if no source is named, one is named twice or isn't a range of the present partition, or
+    /// its shard doesn't serve or is frozen; if two targets overlap; if they don't hold what the sources do; if too few slots are
     /// free; and for want of memory. Then it stands as it stood, and no slot is taken.
     pub fn create(
         &mut self,
@@ -133,11 +133,11 @@ impl<W: World, J: Naming> Workflow<W, J> {
 
     // Promise: A step of a workflow brings the first target forward, in the order of their ranges, that isn't level with its sources, by
     // exactly one entry; or all are level, and there is none. Its pass looks once at each target and source that it finds level, and then as one
-    // step with one source does, so it changes no shard's mode, which makes two looks in a row. It is refused only where no targets follow
+    // step with one source does, so it changes no shard's mode, which makes two looks in a row. It is refused only if no targets follow
     // (N4), a Copy or a Follow of a target that may come next passes a limit of it (F24), or for memory; then the looks of its pass are those of
     // a step that is refused, and nothing was appended after the last
     /// Brings the first target forward, in their order, that isn't level with its sources: it takes over the entry that is next, else it
-    /// copies the next rows; where all are level, nothing. Refuses where no targets follow; what would pass a limit of a target; and for
+    /// copies the next rows; if all are level, nothing. Refuses if no targets follow; what would pass a limit of a target; and for
     /// want of memory. Then nothing was appended.
     pub fn step(
         &mut self,

@@ -55,7 +55,7 @@ impl<W: World, J: Naming> Workflow<W, J> {
     // again and isn't looked at after that, and it is none. That the statements that wait go on, and that no controller takes its
     // targets up again, is for tests
     /// Gives the workflow up, of which no source is retired: each source that is frozen is thawed, and the statements that wait go on. Its
-    /// targets' slots are used up, and no controller takes them up again. Refuses where there is none, or a source is retired. Takes no memory.
+    /// targets' slots are used up, and no controller takes them up again. Refuses if there is none, or a source is retired. Takes no memory.
     pub fn cancel(
         &mut self,
         rt: &impl Wait,

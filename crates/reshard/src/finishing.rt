@@ -89,7 +89,7 @@ impl<W: World, J: Naming> Workflow<W, J> {
     // come level before the first source freezes is for tests
     /// Takes all steps of the cutover that are left: the targets serve then, in the place of the sources. Before the first source freezes it
     /// brings the targets forward, as `step` does, until all are level, or twice as many entries were followed as their sources had stored.
-    /// Refuses where no targets follow, or a cutover has begun. For want of memory, and where a shard would have more rows or entries than it may, the cutover is given up, of which
+    /// Refuses if no targets follow, or a cutover has begun. For want of memory, and if a shard would have more rows or entries than it may, the cutover is given up, of which
     /// no source is retired: each source serves again, the statements that waited go on, and the targets follow.
     pub fn switch_traffic(
         &mut self,
@@ -128,10 +128,10 @@ impl<W: World, J: Naming> Workflow<W, J> {
     }
 
     // Promise: A cutover that had begun is thawed, of which no source was retired: each source serves again and isn't looked at after that,
-    // and the targets follow; else it is finished: each source is retired, and each target serves. Refused exactly where none had begun (N4).
+    // and the targets follow; else it is finished: each source is retired, and each target serves. Refused exactly when none had begun (N4).
     // It takes no memory
-    /// Ends a cutover that has begun: where no source is retired, each is thawed that is frozen, the statements that waited go on, and the
-    /// targets follow; else the cutover is finished. Refuses where none has begun. Takes no memory.
+    /// Ends a cutover that has begun: if no source is retired, each is thawed that is frozen, the statements that waited go on, and the
+    /// targets follow; else the cutover is finished. Refuses if none has begun. Takes no memory.
     pub fn resume(
         &mut self,
         rt: &impl Wait,

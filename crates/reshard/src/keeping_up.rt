@@ -83,7 +83,7 @@ fn come_level<W: World, J: Naming>(
 }
 
 impl<W: World, J: Naming> Workflow<W, J> {
-    // Makes the moves that are left before a cutover begins. Where one is refused, the cutover is given up.
+    // Makes the moves that are left before a cutover begins. If one is refused, the cutover is given up.
     pub(crate) fn keep_up(
         &mut self,
         rt: &impl Wait,

@@ -57,7 +57,7 @@ impl<W: World, J: Naming> Workflow<W, J> {
         CutoverStep::Release
     }
 
-    // A step of a cutover of which no source is retired, or none where the first may retire.
+    // A step of a cutover of which no source is retired, or none if the first may retire.
     pub(crate) fn switch_before(
         &mut self,
         rt: &impl Wait,
@@ -94,7 +94,7 @@ impl<W: World, J: Naming> Workflow<W, J> {
         }
     }
 
-    // The next step of the cutover, where nothing is given up.
+    // The next step of the cutover, if nothing is given up.
     fn try_switch(
         &mut self,
         rt: &impl Wait,
@@ -139,16 +139,16 @@ impl<W: World, J: Naming> Workflow<W, J> {
     // Promise: A step of a cutover is exactly one of these, in this order, and it is told which: the next source is frozen; once all are,
     // the first target that isn't level moves; once all are, the next source is retired for its targets; then the next target serves; then
     // the next partition is published, once, and only then the statements that waited go on. That others see the partition then, and that
-    // the statements do go on, is for tests. It is taken exactly while targets follow or the cutover has begun (else N4, and nothing changed). For want of memory, and where a source or a target would pass a limit (F24), which it tells
-    // only where the pass came by it, the cutover is given up, of which no source is retired: each source serves again and isn't looked
+    // the statements do go on, is for tests. It is taken exactly while targets follow or the cutover has begun (else N4, and nothing changed). For want of memory, and if a source or a target would pass a limit (F24), which it tells
+    // only if the pass came by it, the cutover is given up, of which no source is retired: each source serves again and isn't looked
     // at after that, and the targets follow. A step does no more than it tells: one that moves a target is one step of it, as `step` takes it; one
     // that freezes or retires a source, or has a target serve, ends with looks at that shard alone, and before them it looked only at targets and
     // their sources, as a step does that finds all level, or at sources that are retired; and the others look nowhere. The first source
-    // retires only where the workflow has frozen all, and the step found each target level, and then with no more rows than a shard that serves
+    // retires only if the workflow has frozen all, and the step found each target level, and then with no more rows than a shard that serves
     // may have
     /// Takes the next step of the cutover, and tells which: the next source is frozen; once all are, the first target moves that isn't level,
     /// else the next source is retired; then the targets serve, the next partition is published, and the statements that waited go on.
-    /// Refuses where no targets follow and no cutover has begun. For want of memory, and where a shard would have more rows or entries than
+    /// Refuses if no targets follow and no cutover has begun. For want of memory, and if a shard would have more rows or entries than
     /// it may, the cutover is given up, of which no source is retired: each source serves again, the statements that waited go on, and the
     /// targets follow.
     pub fn switch_step(

@@ -80,7 +80,7 @@ struct Surveyed<W: World, J: Naming> {
     rest: Vec<Part<Shard<W, J>>>,
 }
 
-// The sources of these ranges, where targets of those may take their place, for which so many slots are free.
+// The sources of these ranges, if targets of those may take their place, for which so many slots are free.
 fn survey<W: World, J: Naming>(
     rt: &impl Wait,
     alloc: Global,
@@ -117,9 +117,9 @@ fn survey<W: World, J: Naming>(
     })
 }
 
-/// The sources of these ranges, and targets of those, on the last of the free slots. Refuses where no source is named, one is named twice or
-/// isn't a range of the partition, or its shard doesn't serve or is frozen; where two targets overlap; where they don't hold what the sources
-/// do; where too few slots are free; and for want of memory. Then no slot is taken.
+/// The sources of these ranges, and targets of those, on the last of the free slots. Refuses if no source is named, one is named twice or
+/// isn't a range of the partition, or its shard doesn't serve or is frozen; if two targets overlap; if they don't hold what the sources
+/// do; if too few slots are free; and for want of memory. Then no slot is taken.
 pub fn begin<W: World, J: Naming>(
     rt: &impl Wait,
     alloc: Global,

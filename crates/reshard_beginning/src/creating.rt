@@ -117,7 +117,7 @@ fn member_of<W: World, J: Naming>(
     Ok(Member { which, shard })
 }
 
-// The shard of a part, where it serves and isn't frozen.
+// The shard of a part, if it serves and isn't frozen.
 pub(crate) fn source_of<W: World, J: Naming>(
     rt: &impl Wait,
     alloc: Global,
@@ -169,7 +169,7 @@ impl<W: World, J: Naming> Own<W, J> {
 }
 
 impl<W: World, J: Naming> Own<W, J> {
-    // Adds the source where it overlaps the range.
+    // Adds the source if it overlaps the range.
     fn consider(
         &mut self,
         alloc: Global,

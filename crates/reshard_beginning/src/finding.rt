@@ -23,7 +23,7 @@ use std::alloc::Global;
 use std::sync::Wait;
 use vt_value::Refusal;
 
-// The shards of the parts, where each serves and isn't frozen.
+// The shards of the parts, if each serves and isn't frozen.
 pub(crate) fn sources_of<W: World, J: Naming>(
     rt: &impl Wait,
     alloc: Global,
@@ -72,7 +72,7 @@ pub(crate) fn test_targets<W: World, J: Naming>(
     }
 }
 
-// The sources of these ranges, where targets of those may take their place.
+// The sources of these ranges, if targets of those may take their place.
 pub(crate) fn find_sources<W: World, J: Naming>(
     rt: &impl Wait,
     alloc: Global,

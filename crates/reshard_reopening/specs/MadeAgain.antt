@@ -24,7 +24,7 @@ use Rattle.reshard_beginning.specs.Splits.{IsSplit, target_seats, AreThose}
 abbrev pub Found : Type 0
 Found = Shard × Mode × List Shard
 
--- at a run that the pass came by the shard stood on its slot, in this mode; where it was retired, its entry names these targets
+-- at a run that the pass came by the shard stood on its slot, in this mode; if it was retired, its entry names these targets
 pub record IsFound (o : Opening) (p now : PassView Entry) (f : Found) : Type 0 where
   pub run : Run
   pub between : IsRunBetween p now run
@@ -93,7 +93,7 @@ pub record AreMadeAgain (o : Opening) (p now : PassView Entry) (keyspace : ℕ) 
   pub same_targets : shards_of targets ≡ map (λ f. f.0) found_targets
   pub own : AllByRecursion (λ t. AreThose t.0.place.range sources t.1) targets
 
--- Why no workflow is made again of the shards of these seats, where there is none yet: want of memory; or by a look at each of them they aren't
+-- Why no workflow is made again of the shards of these seats, if there is none yet: want of memory; or by a look at each of them they aren't
 -- those of one workflow, with the other parts of some partition; or its cutover is through, so that the sources' rows may be gone; or none of its
 -- sources is retired, so that it may have been given up.
 pub data IsReopenRefusal (o : Opening) (p now : PassView Entry) (keyspace : ℕ) (from into : List Seat) : ReshardFault → Type 0 where

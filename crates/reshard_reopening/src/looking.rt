@@ -20,7 +20,7 @@ use std::sync::{Arc, Wait};
 use vschema::Place;
 use vt_value::{Items, Refusal};
 
-/// A shard, its mode in the run, the targets that it named, where it is retired, how many entries it has stored, where it is frozen, and whether
+/// A shard, its mode in the run, the targets that it named, if it is retired, how many entries it has stored, if it is frozen, and whether
 /// its rows are gone, or its workflow was given up.
 #[derive(Drop)]
 pub(crate) struct Found<W: World, J: Naming> {
@@ -57,7 +57,7 @@ fn is_dropped<W: World, J: Naming>(state: &ShardState<W, J>) -> bool {
     state.mode() == Mode::Dropped
 }
 
-// How many entries it has stored, where it is frozen.
+// How many entries it has stored, if it is frozen.
 fn stored_of<W: World, J: Naming>(state: &ShardState<W, J>) -> u64 {
     if state.mode() == Mode::Frozen {
         state.stored()
@@ -81,7 +81,7 @@ fn copy_shards(
     Ok(copies)
 }
 
-// One look, where it is the shard of this slot and place.
+// One look, if it is the shard of this slot and place.
 fn look_at<W: World, J: Naming>(
     state: &mut ShardState<W, J>,
     alloc: Global,
@@ -156,7 +156,7 @@ fn found_of<W: World, J: Naming>(
     })
 }
 
-// The shard of a part. A lock can't tell which shard it holds, so that is tested; where it is another, which no run meets, it is taken again.
+// The shard of a part. A lock can't tell which shard it holds, so that is tested; if it is another, which no run meets, it is taken again.
 fn find<W: World, J: Naming>(
     rt: &impl Wait,
     alloc: Global,

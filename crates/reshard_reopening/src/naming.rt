@@ -32,7 +32,7 @@ fn is_among(shard: &Shard, shards: &[Shard]) -> bool
     false
 }
 
-// Whether the target is one of these, where it takes from the source on the slot.
+// Whether the target is one of these, if it takes from the source on the slot.
 fn is_named(target: &Shard, slot: usize, named: &[Shard]) -> bool
     ensures yes { result ≡ true → IsTrue (has_source slot target.now) → Contains named.now target.now }
     ensures no { result ≡ false → (IsTrue (has_source slot target.now) → Contains named.now target.now) → ⊥ }
@@ -66,7 +66,7 @@ fn is_retired(mode: Mode) -> bool
     }
 }
 
-// Whether the source named the targets that take from it, where it is retired.
+// Whether the source named the targets that take from it, if it is retired.
 fn named_those<W: World, J: Naming>(source: &Found<W, J>, targets: &[Found<W, J>]) -> bool
     ensures yes { result ≡ true → NamedThose (map (λ f. f.member.which) targets.now) (source.now.member.which, source.now.mode, source.now.named) }
     ensures no { result ≡ false → NamedThose (map (λ f. f.member.which) targets.now) (source.now.member.which, source.now.mode, source.now.named) → ⊥ }

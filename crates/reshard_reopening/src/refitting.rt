@@ -1,4 +1,4 @@
-//! Sources, and targets that take from them, are made again of shards that were found, where they are those of one workflow.
+//! Sources, and targets that take from them, are made again of shards that were found, if they are those of one workflow.
 ghost use Rattle.std.specs.Prelude.{◌≡◌, ◌++◌, ℕ, true, false, IfOk, IfErr, IfSome, MatchOption, map};
 ghost use Rattle.std.specs.List.{AllByRecursion};
 ghost use Rattle.keyrange.specs.Names.{IsNamed};
@@ -60,7 +60,7 @@ fn same_slots(a: &[usize], b: &[usize]) -> bool
     a == b
 }
 
-// The shard as a target, where it takes from those of the sources that overlap it.
+// The shard as a target, if it takes from those of the sources that overlap it.
 fn target_of<W: World, J: Naming>(
     alloc: Global,
     found: &Found<W, J>,
@@ -130,7 +130,7 @@ struct Sides<W: World, J: Naming> {
     targets: Vec<Target<W, J>>,
 }
 
-// The shards as sources and targets, where each target takes from those of the sources that overlap it.
+// The shards as sources and targets, if each target takes from those of the sources that overlap it.
 fn sides_of<W: World, J: Naming>(
     rt: &impl Wait,
     alloc: Global,
@@ -157,7 +157,7 @@ fn sides_of<W: World, J: Naming>(
     }))
 }
 
-// The other parts of the partition, where the shards may take one another's place with them.
+// The other parts of the partition, if the shards may take one another's place with them.
 fn rest_of<W: World, J: Naming>(
     alloc: Global,
     keyspace: usize,

@@ -138,9 +138,9 @@ pub struct TakenUp<W: World, J: Naming> {
     pub memory: Memory<W, J>,
 }
 
-/// The workflow of the shards of these parts, each looked at under its lock, and the memory of the steps that are left. Refuses where the
-/// shards aren't the sources and the targets of one, with the other parts of the partition, as a cutover leaves them; where a source that is
-/// retired didn't name a target that takes from it; where the sources' rows were dropped, or the workflow was given up; and for want of memory.
+/// The workflow of the shards of these parts, each looked at under its lock, and the memory of the steps that are left. Refuses if the
+/// shards aren't the sources and the targets of one, with the other parts of the partition, as a cutover leaves them; if a source that is
+/// retired didn't name a target that takes from it; if the sources' rows were dropped, or the workflow was given up; and for want of memory.
 pub fn take_up<W: World, J: Naming>(
     rt: &impl Wait,
     alloc: Global,

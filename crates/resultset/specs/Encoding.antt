@@ -1,4 +1,4 @@
--- The packets of a result: the text protocol of the MySQL client/server protocol, with EOF packets, and without them where
+-- The packets of a result: the text protocol of the MySQL client/server protocol, with EOF packets, and without them if
 -- client and server set CLIENT_DEPRECATE_EOF.
 use Rattle.std.specs.Prelude.{◌≡◌, ℕ, ℤ, pos, negsuc, neg_ℤ, ◌^◌, ◌<◌, ◌≤◌, ◌≤ℤ◌, List, [], ◌∷◌, ◌++◌, length, map, flat_map, codes}
 use Rattle.std.specs.Fmt.{signed_decimal}

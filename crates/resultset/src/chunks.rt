@@ -113,7 +113,7 @@ impl Filling {
         Ok(())
     }
 
-    /// Appends the packet of a short payload where the present chunk has room for all of it. Tells whether it has. Refuses only for want of
+    /// Appends the packet of a short payload if the present chunk has room for all of it. Tells whether it has. Refuses only for want of
     /// memory.
     pub(crate) fn put_packet(&mut self, number: u8, payload: &[u8]) -> Result<bool, Refusal>
         ensures put { IfOk result (λ put. self.new ≡ (if put then self.old ++ packet number payload.now else self.old)) }

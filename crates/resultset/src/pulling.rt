@@ -15,10 +15,10 @@ use std::alloc::Global;
 use vt_value::Refusal;
 
 // Promise: A result set whose rows are pulled, each encoded as it comes and then dropped, is appended in that spelling, in chunks of at
-// most 16,384 bytes of which none is empty; where memory is refused, also to a row that is pulled, the chunks are as they were
+// most 16,384 bytes of which none is empty; if memory is refused, also to a row that is pulled, the chunks are as they were
 /// Appends the packets of the result set with these columns and with the rows that are still to come, the first with this sequence
 /// number, and gives the number after the last. Each row is encoded as it is pulled, and then dropped. It refuses only for want of memory,
-/// also where pulling a row does, and then leaves the stream as it was.
+/// also if pulling a row does, and then leaves the stream as it was.
 pub fn encode_rows<R: Operator>(
     alloc: Global,
     columns: &[Column],
@@ -71,7 +71,7 @@ fn fill<R: Operator>(
     Ok(number)
 }
 
-/// Appends the packets of one payload: straight to the present chunk where they fit it. The packets are scratch, for their memory.
+/// Appends the packets of one payload: straight to the present chunk if they fit it. The packets are scratch, for their memory.
 fn fill_payload(
     alloc: Global,
     payload: &[u8],

@@ -23,7 +23,7 @@ use std::alloc::Global;
 use vt_value::{Items, Refusal, Row};
 
 // Promise: What is read is a result that has this spelling, and a result that has it is read
-/// The result that has exactly this spelling, with this first sequence number, this status and these ends; none where no
+/// The result that has exactly this spelling, with this first sequence number, this status and these ends; none if no
 /// result has it. For a client that wants to know what it was told. It refuses only for want of memory.
 pub fn decode(
     alloc: Global,

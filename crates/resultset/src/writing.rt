@@ -19,7 +19,7 @@ use vt_value::{Refusal, Row, Value};
 /// The room for one payload that is made at first, in bytes: most definitions and rows have less.
 pub(crate) const PAYLOAD_ROOM: usize = 256;
 
-// Promise: A result is appended in its one spelling, with EOF packets or with an OK packet at its end, and the next number given; where
+// Promise: A result is appended in its one spelling, with EOF packets or with an OK packet at its end, and the next number given; if
 // memory is refused the buffer is as it was
 /// Appends the packets of a result, the first with this sequence number, and gives the number after the last. A count
 /// is an OK packet and a refusal an ERR packet. A result set is the number of its columns, a definition of each, EOF,

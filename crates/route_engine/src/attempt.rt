@@ -55,7 +55,7 @@ impl<'e, W: World, J: Naming> Attempt<'e, W, J> {
         self.partition
     }
 
-    /// Waits for a release after the turn, if none was made yet. Refuses where the buffer is full.
+    /// Waits for a release after the turn, if none was made yet. Refuses if the buffer is full.
     pub fn wait(self, rt: &impl Wait) -> Result<(), Refusal>
         ensures full { IfErr result (λ e. e ≡ Refusal.BufferFull) }
     {

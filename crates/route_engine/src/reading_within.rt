@@ -47,7 +47,7 @@ impl<W: World + Send + Sync, J: Naming + Send + Sync, G: Gate> Engine<W, J, G> {
         }
     }
 
-    // Whether a statement on the table with this route needs the shard that its transaction is bound to, or none. Refuses where it needs another shard, or several.
+    // Whether a statement on the table with this route needs the shard that its transaction is bound to, or none. Refuses if it needs another shard, or several.
     pub(crate) fn needs_bound(
         &self,
         here: &Bound<W, J>,
@@ -72,7 +72,7 @@ impl<W: World + Send + Sync, J: Naming + Send + Sync, G: Gate> Engine<W, J, G> {
         }
     }
 
-    // What a transaction is bound to by its first statement that needs a shard: by this partition, if this one needs one. Refuses where it
+    // What a transaction is bound to by its first statement that needs a shard: by this partition, if this one needs one. Refuses if it
     // needs several, and for want of memory.
     pub(crate) fn first_bound(
         alloc: Global,

@@ -20,7 +20,7 @@ use std::sync::Wait;
 use vschema::{Table, Write};
 use vt_value::Refusal;
 
-// The count, or the write again where its shard took no commits.
+// The count, or the write again if its shard took no commits.
 fn tried(committed: Committed) -> Result<u64, Write>
     ensures { result ≡ tried committed }
 {
@@ -32,8 +32,8 @@ fn tried(committed: Committed) -> Result<u64, Write>
 }
 
 impl<W: World + Send + Sync, J: Naming + Send + Sync, G: Gate> Engine<W, J, G> {
-    // Commits the write on the one shard that it needs by the partition: the count, or the write again where that shard takes no commits.
-    // Where it needs several, each shard of the partition is looked at.
+    // Commits the write on the one shard that it needs by the partition: the count, or the write again if that shard takes no commits.
+    // If it needs several, each shard of the partition is looked at.
     fn commit(
         &self,
         rt: &impl Wait,

@@ -20,7 +20,7 @@ pub(crate) fn halves() -> Option<[KeyRange; 2]>
     Some([low, high])
 }
 
-/// The VSchema that a text declares, where its shards over the ranges hold each keyspace id once and fit into 64 slots.
+/// The VSchema that a text declares, if its shards over the ranges hold each keyspace id once and fit into 64 slots.
 pub(crate) fn read_schema(
     alloc: Global,
     text: &str,

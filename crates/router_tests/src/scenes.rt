@@ -244,7 +244,7 @@ pub fn play<R: Threads + Wait + Sync>(
     play_by(rt, alloc, gate, &signals, scene)
 }
 
-/// Whether the acts give what they are to give, where the third session asks nothing and nobody may wait.
+/// Whether the acts give what they are to give, if the third session asks nothing and nobody may wait.
 pub fn plays_alone<R: Threads + Wait + Sync>(
     rt: &R,
     alloc: Global,
@@ -273,7 +273,7 @@ pub fn plays_within<R: Threads + Wait + Sync>(
     Ok(play(rt, alloc, &scene)? == Played::right(0))
 }
 
-/// Whether they do in the shop, where one statement may wait, and the third session, with them, is told this.
+/// Whether they do in the shop, if one statement may wait, and the third session, with them, is told this.
 pub fn plays_beside<R: Threads + Wait + Sync>(
     rt: &R,
     alloc: Global,

@@ -79,7 +79,7 @@ const AGAIN: [Act<'static>; 16] = [
     Act::One(b"INSERT INTO t (id, c) VALUES (25, 1)", TWICE),
 ];
 
-/// How many rows were accepted where so many steps were taken, and how many there are once those that were refused have come too.
+/// How many rows were accepted if so many steps were taken, and how many there are once those that were refused have come too.
 const ROWS: [(u64, u64); 9] = [
     (7, 7),
     (8, 9),
@@ -133,7 +133,7 @@ fn found(steps: usize) -> Act<'static> {
     }
 }
 
-// Whether all goes as it is to where the cutover is stopped after so many steps.
+// Whether all goes as it should if the cutover is stopped after so many steps.
 fn is_kept<R: Threads + Wait + Sync>(
     rt: &R,
     alloc: Global,

@@ -9,7 +9,7 @@ abbrev pub word_bytes : Word → List ℕ
 word_bytes (Text text) = string_bytes text
 word_bytes (Bytes bytes) = bytes.items
 
--- the same, where it is UTF-8
+-- the same, if it is UTF-8
 abbrev pub word_text : Word → Option (List ℕ)
 word_text (Text text) = Some (string_bytes text)
 word_text (Bytes bytes) = None

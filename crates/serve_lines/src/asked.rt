@@ -82,7 +82,7 @@ fn read_digest(text: &[u8]) -> Option<[u8; 20]>
     }
 }
 
-/// What the server knows of the password: nothing where there is none.
+/// What the server knows of the password: nothing if there is none.
 fn read_stage2(text: &[u8]) -> Option<Option<[u8; 20]>>
     ensures found { IfSome result (λ stage2. text.now ≡ stage2_text stage2) }
     ensures bytes { IfSome result (λ stage2. IfSome stage2 (λ bytes. IsBytes bytes × (length bytes ≡ 20))) }
@@ -100,11 +100,11 @@ fn is_serve(text: &str) -> bool
     text.as_bytes() == b"serve".as_slice()
 }
 
-// Promise: Words ask `serve` for something exactly where they write it; what `serve` reads and prints; wrong words touch neither
+// Promise: Words ask `serve` for something exactly when they write it; what `serve` reads and prints; wrong words touch neither
 // With: vtgate_main::run, vtgate_serve::run_serve
 // Clauses: found, none, serve, unserved, wrong
 // Refuses: vtgate_serve::wrong_words_succeed, vtgate_main::another_word_is_taken, vtgate_serve::serve_says_nothing
-/// What the words ask for, where they are the words of `serve`.
+/// What the words ask for, if they are the words of `serve`.
 pub fn read_words(words: &[Word]) -> Option<Asked<'_>>
     ensures found { IfSome result (λ a. Asks words.now a) }
     ensures none { IfNone result ((a : Asking) → Asks words.now a → ⊥) }

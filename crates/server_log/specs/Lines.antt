@@ -85,7 +85,7 @@ known_entry level (Some event) (Some scopes) (Some pairs) =
     Some (record { level = level; event = event; fields = span_pairs scopes ++ pairs })
 
 module _ {D K S : Type 0} where
-  -- what a record tells, where the texts of its values are known; the first three arguments are the members of `D`, `K` and `S`
+  -- what a record tells, if the texts of its values are known; the first three arguments are the members of `D`, `K` and `S`
   abbrev pub recorded_entry : (D → Option (List ℕ)) → (K → Option (List Pair)) → (S → Option (List Scope)) → Record D K S → Option LogEntry
   recorded_entry output pairs scopes r =
       known_entry (metadata_level (record_metadata r)) (output (record_args r)) (scopes (record_spans r)) (pairs (record_key_values r))

@@ -14,7 +14,7 @@ pub const VARIABLE: &str = "VTGATE_LOG";
 const LONGEST_VALUE: usize = 16;
 
 // Promise: The value of `VTGATE_LOG` asks for the level that it names, in any case; the empty value asks for `off`, and any other for none
-/// The level that a value of the variable asks for, where it names one.
+/// The level that a value of the variable asks for, if it names one.
 pub fn asked_level(value: &str) -> Option<LevelFilter>
     ensures { result ≡ level_asked value.now }
 {
@@ -27,7 +27,7 @@ pub fn asked_level(value: &str) -> Option<LevelFilter>
     }
 }
 
-/// The level that the environment asks for: `off` where the variable isn't set, and none where its value names no level.
+/// The level that the environment asks for: `off` if the variable isn't set, and none if its value names no level.
 pub fn environment_level<R: Env>(rt: &R) -> Option<LevelFilter> {
     let mut value = [0u8; LONGEST_VALUE];
     match rt.var(VARIABLE, &mut value) {

@@ -55,7 +55,7 @@ impl LineQueue {
         self.lost.swap(0, Ordering::SeqCst)
     }
 
-    /// Puts a line after the others. Where the queue is full the line is lost, and counted.
+    /// Puts a line after the others. If the queue is full the line is lost, and counted.
     pub fn put<R: Wait>(&self, rt: &R, line: Line) {
         match self.lines.push(rt, line) {
             Ok(()) => self.wake(),

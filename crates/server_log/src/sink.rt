@@ -1,4 +1,4 @@
-//! Where records go.
+//! If records go.
 ghost use Rattle.std.specs.Prelude.{ℕ, Some, true, []};
 
 use crate::line::line_of;

@@ -10,7 +10,7 @@ use std::time::Clock;
 /// How many places a second's fraction has.
 const PLACES: u8 = 3;
 
-/// Now; where the clock can't be read, the beginning of 1970.
+/// Now; if the clock can't be read, the beginning of 1970.
 pub fn instant<R: Clock>(rt: &R) -> Timestamp {
     match Timestamp::now(rt) {
         Ok(now) => now,

@@ -26,7 +26,7 @@ pub struct LineWriter<W: Write> {
     pub is_torn: bool,
 }
 
-// One write: how many of the bytes it took, none where it failed. It is made again where it was interrupted.
+// One write: how many of the bytes it took, none if it failed. It is made again if it was interrupted.
 #[tactic(auto, using(crate::proofs::Writings::nothing_kept, crate::proofs::Writings::nothing_then, crate::proofs::Writings::nothing_more))]
 fn write_once<W: Write>(device: &mut W, bytes: &[u8]) -> usize
     ensures bound { result ≤ length bytes.now }
@@ -108,7 +108,7 @@ impl<W: Write> LineWriter<W> {
         taken == bytes.len()
     }
 
-    /// Tells how many lines were lost, where some were, and tells whether it did.
+    /// Tells how many lines were lost, if some were, and tells whether it did.
     pub fn report(&mut self, alloc: Global, instant: Timestamp, lost: u64) -> bool
         ensures none { lost ≡ 0 → (result ≡ true) × (self.new ≡ self.old) }
         ensures told { result ≡ true → 0 < lost → (bytes : List ℕ) × IsReport instant lost bytes
@@ -124,12 +124,12 @@ impl<W: Write> LineWriter<W> {
     }
 
     // Promise: No line is written before the lines that were lost are told; a line that isn't written counts among them
-    /// Writes a line, after the report of the lines that were lost before it, where some were. Tells how many lines are lost then, and untold.
+    /// Writes a line, after the report of the lines that were lost before it, if some were. Tells how many lines are lost then, and untold.
     pub fn tell(&mut self, alloc: Global, instant: Timestamp, line: &Line, lost: u64) -> u64
         ensures written { result ≡ 0 → lost ≡ 0 → Appends (W.contents self.old.device) (W.contents self.new.device) (mended self.old.is_torn line.now) }
         ensures reported { result ≡ 0 → 0 < lost → (bytes : List ℕ) × IsReport instant lost bytes
             × Appends (W.contents self.old.device) (W.contents self.new.device) (mended self.old.is_torn (bytes ++ line.now)) }
-        // Where it isn't written, all are untold, or the line alone is: then the report of the others was written.
+        // If it isn't written, all are untold, or the line alone is: then the report of the others was written.
         ensures untold { result ≢ 0 → (result ≡ min (lost + 1) (2 ^ 64 - 1)) ⊎ ((result ≡ 1) × (bytes : List ℕ) × IsReport instant lost bytes × (more : List ℕ)
             × Appends (W.contents self.old.device) (W.contents self.new.device) (mended self.old.is_torn (bytes ++ more))) }
     {

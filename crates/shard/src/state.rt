@@ -120,7 +120,7 @@ impl<W: World, J: Naming> ShardState<W, J> {
     ghost use Rattle.shard_law.specs.Law.{SourcesApart};
 
     // Promise: A shard's rows (as bags), mode, stored entries, targets and how far it has come with each source are those that the run
-    // which its seat has seen leaves on it, within its limits where it serves: the invariant of the type. It is an opening shard or a
+    // which its seat has seen leaves on it, within its limits if it serves: the invariant of the type. It is an opening shard or a
     // target
     // With: ShardState::{shard, slot, stands_at, is, stored, mode, last_step, next_table, look, invariant}
     /// A shard with its first rows, of each table of the VSchema: an opening one, or a target on a slot of its own. Nothing has happened
@@ -290,9 +290,9 @@ impl<W: World, J: Naming> ShardState<W, J> {
     }
 
     // Promise: A read makes one look, which the pass keeps; its answer is one of the query's over what the run leaves on the shard at that
-    // look, where it serves and has at most 2^20 rows, with the number of the shard's entries then; else it says that the shard doesn't
+    // look, if it serves and has at most 2^20 rows, with the number of the shard's entries then; else it says that the shard doesn't
     // serve
-    /// What the query gives over the rows that the run, as it is, leaves on the shard, where it serves: one look, which the pass keeps.
+    /// What the query gives over the rows that the run, as it is, leaves on the shard, if it serves: one look, which the pass keeps.
     /// Refuses only for want of memory; then too the look was made.
     pub fn read(
         &mut self,
@@ -353,13 +353,13 @@ impl<W: World, J: Naming> ShardState<W, J> {
     }
 
     // Promise: A commit of a write on a serving shard is one look and exactly one entry, with the pass's session, the statement's number,
-    // the write and its changes; its count is what the write gives over the one database before the entry, in the shard's place. Where the
+    // the write and its changes; its count is what the write gives over the one database before the entry, in the shard's place. If the
     // shard is frozen or doesn't serve, the write comes back after one look
     // Clauses: answered, seen, later, shard, stands
     // Promise: It is refused only for its cause at the look's run, and then nothing is appended: a primary key that is there (F12), a limit
     // of rows, stored entries or entries (F24), or memory
     // Clauses: refused, looked
-    /// Commits one write of the pass's session, under the number of its statement, where the shard serves and isn't frozen: one look,
+    /// Commits one write of the pass's session, under the number of its statement, if the shard serves and isn't frozen: one look,
     /// which the pass keeps, and then one entry. Answers how many rows it added, removed or really changed; else the look was made, and
     /// the write comes back. It refuses a primary key that is there already, what would pass a limit of the shard, and for want of
     /// memory; then the look was made, and nothing else.
@@ -400,9 +400,9 @@ impl<W: World, J: Naming> ShardState<W, J> {
         }
     }
 
-    // Promise: A following step takes over the source's next entry as one entry, after a look. It is done only where the target had fewer than
+    // Promise: A following step takes over the source's next entry as one entry, after a look. It is done only if the target had fewer than
     // 2^40 entries and fewer stored ones than it may; then it has no more rows than it may, if no two sources of it overlap. It is refused for
-    // want of memory, or where it passes one of these limits (F24): for rows only where the target would have more than it may, with that
+    // want of memory, or if it passes one of these limits (F24): for rows only if the target would have more than it may, with that
     // entry after the run. A refused one could have come next, and appended nothing
     /// Takes over what the source's next stored entry changes in its place: one look, which the pass keeps, and then one entry. Refuses for
     /// want of memory, and what would pass a limit of the shard; then the look was made, and nothing else.

@@ -30,7 +30,7 @@ use std::alloc::Global;
 use vschema::{Place, RowChange, VSchema};
 use vt_value::{Items, Refusal, Row};
 
-// Whether a table is wholly copied, where the last Copy was of another one or of it.
+// Whether a table is wholly copied, if the last Copy was of another one or of it.
 fn is_whole(schema: &VSchema, keyspace: usize, reached: usize, last: bool, n: usize) -> bool
     requires n { n < length schema.now.tables }
     requires reached { reached < length schema.now.tables }
@@ -84,7 +84,7 @@ impl<W: World, J: Naming> ShardState<W, J> {
         }
     }
 
-    // The table of the last Copy from a source, where it has more rows.
+    // The table of the last Copy from a source, if it has more rows.
     fn begun_table(&self, source: usize) -> Option<usize>
         requires lives { mode W.opening self.now.seen self.now.shard.slot ≡ Mode.Retired → ⊥ }
         ensures { IfSome result (IsNextTable W.opening self.now.seen self.now.shard source) }
@@ -106,7 +106,7 @@ impl<W: World, J: Naming> ShardState<W, J> {
             && !self.has_copied(schema, source, n)
     }
 
-    // The first table of its keyspace that isn't wholly copied, where none is begun.
+    // The first table of its keyspace that isn't wholly copied, if none is begun.
     fn first_unfinished(&self, schema: &VSchema, source: usize) -> Option<usize>
         requires schema { schema.now ≡ W.opening.schema }
         requires lives { mode W.opening self.now.seen self.now.shard.slot ≡ Mode.Retired → ⊥ }
@@ -122,7 +122,7 @@ impl<W: World, J: Naming> ShardState<W, J> {
     }
 
     /// The first table of its keyspace, by name, that it hasn't wholly copied from a source, by its slot. Takes no memory. It walks the tables
-    /// only where the last Copy ended one.
+    /// only if the last Copy ended one.
     pub fn next_table(&self, schema: &VSchema, source: usize) -> Option<usize>
         requires schema { schema.now ≡ W.opening.schema }
         requires lives { mode W.opening self.now.seen self.now.shard.slot ≡ Mode.Retired → ⊥ }
@@ -254,7 +254,7 @@ impl<W: World, J: Naming> ShardState<W, J> {
         })
     }
 
-    /// What the entry that the shard has stored at a place, counted from 0, changes in a target's place. None where it hasn't stored so
+    /// What the entry that the shard has stored at a place, counted from 0, changes in a target's place. None if it hasn't stored so
     /// many. Refuses for want of memory.
     pub fn entry_for(
         &self,
@@ -316,15 +316,15 @@ impl<W: World, J: Naming> ShardState<W, J> {
         })
     }
 
-    /// Drops the tables that it keeps in order for targets, as where these are given up. Takes no memory.
+    /// Drops the tables that it keeps in order for targets, as when these are given up. Takes no memory.
     pub fn drop_sorted(&mut self)
         ensures { self.new ≡ self.old }
     {
         self.sorted.clear();
     }
 
-    // Promise: A Copy is exactly one entry, after a look. It is done only where the target had fewer than 2^40 entries, and has no more rows
-    // then than it may. It is refused for want of memory, or where it passes one of these limits (F24): for rows only where the target would
+    // Promise: A Copy is exactly one entry, after a look. It is done only if the target had fewer than 2^40 entries, and has no more rows
+    // then than it may. It is refused for want of memory, or if it passes one of these limits (F24): for rows only if the target would
     // have more than it may, with that entry after the run. A refused one could have come next, and appended nothing
     /// Takes over the rows of a Copy that is next for it, on a target that follows: one look, which the pass keeps, and then one entry.
     /// Refuses for want of memory, and what would pass a limit of the shard; then the look was made, and nothing else.

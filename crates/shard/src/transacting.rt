@@ -30,14 +30,14 @@ impl<W: World, J: Naming> ShardState<W, J> {
     ghost use Rattle.shard_contents.specs.Commits.{IsPlaced};
     ghost use Rattle.shard_contents.specs.Transactions.{IsClear, IsPendingOf, HasReadIn, HasWrittenIn, IsStopped, IsReadRefusal, IsWriteRefusal, HasCommittedAll, IsCommitAllRefusal};
 
-    // Promise: A transaction on one shard, before its commit: each statement of it makes one look, where the shard serves, isn't frozen and
+    // Promise: A transaction on one shard, before its commit: each statement of it makes one look, if the shard serves, isn't frozen and
     // no table that it touched was changed since, and gives what it means over the rows that the run leaves on the shard with the
     // transaction's own changes; then nothing is appended. Its commit is one look and exactly one entry with its writes in order and their
     // changes. It is refused for its cause alone: the shard doesn't serve or is frozen (F23), a touched table was changed since (F21,
-    // exactly then), a primary key (F12), a limit at the commit (F24), or memory; where it is refused, the transaction is as it was
+    // exactly then), a primary key (F12), a limit at the commit (F24), or memory; if it is refused, the transaction is as it was
     // With: ShardState::{read_in, write_in, commit_in}, Shard::{check, read_in, write_in, commit_in}
-    /// One look, which the pass keeps. Answers how many entries the shard has then. It refuses where the shard is frozen or doesn't serve;
-    /// else where an entry of the shard has changed a table that the transaction touched before it. Takes no memory.
+    /// One look, which the pass keeps. Answers how many entries the shard has then. It refuses if the shard is frozen or doesn't serve;
+    /// else if an entry of the shard has changed a table that the transaction touched before it. Takes no memory.
     pub fn check(&mut self, pass: &mut Pass<ShardLaw<W>, J>, tx: &Pending) -> Result<u64, Refusal>
         ensures seen { IsLater slot_of commit_of (MayFollow W.opening) (seat_view self.old) pass.old self.new.seen }
         ensures entries { IfOk result (λ n. n ≡ length (entries_on self.old.shard.slot self.new.seen)) }

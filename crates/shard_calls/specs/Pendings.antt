@@ -89,7 +89,7 @@ pub record WasTouched (s : Shard) (touched : List Touch) (n : ℕ) (seen : Run) 
 abbrev pub HasTouched : Shard → List Touch → Step → Type 0
 HasTouched s touched step = (n : ℕ) → step.on ≡ Some s → Contains (tables_of step.typed) n → WasTouched s touched n step.seen
 
--- bound to a shard of the partition that it keeps, where it has gone on up to the run of the transaction, which the pass has seen, and has made
+-- bound to a shard of the partition that it keeps, if it has gone on up to the run of the transaction, which the pass has seen, and has made
 -- no commit since
 pub record IsBound (o : Opening) (p : PassView Entry) (v : OpenView) (t : Transaction) : Type 0 where
   pub shard : Shard

@@ -191,7 +191,7 @@ pub record IsCommitted (o : Opening) (limits : Limits) (s : Shard) (p : PassView
 -- What a statement gives in an open transaction. One that needs no shard gives what it means with those before it. One that needs a shard needs
 -- the transaction's, which serves at a look, up to which no other session has changed a table of an earlier statement, and then all statements
 -- so far give what they mean over the one database as it is at this look. The partition by which the first of them needed it is kept, and tells
--- which shards the later ones need. So it is where a commit has read alone, which adds nothing; one that
+-- which shards the later ones need. So it is if a commit has read alone, which adds nothing; one that
 -- has written adds one entry. A rollback adds nothing.
 pub data GivesIn (o : Opening) (limits : Limits) (p : PassView Entry) (t : Transaction) : Typed → Reply → Standing → Type 0 where
   nowhere : {typed : Typed} {answer : Answer} → NeedsNone o typed → AreOver o t.at (with_step t.steps typed answer None p.seen)
@@ -266,7 +266,7 @@ pub record IsUndisturbed (o : Opening) (p : PassView Entry) (t : Transaction) (s
 -- a shard a statement may need several by a partition whose shards were found; then it may need another than its own, or several, by the partition
 -- that it keeps; or some shard of another keyspace. All else is of its own shard at a look: that it is frozen or doesn't serve, that its tables were
 -- changed, a primary key, and at a commit that has written a limit, which the changes of its writes there would pass. The transaction goes on, but
--- where its shard is frozen or doesn't serve, its tables were changed, or its commit has no room.
+-- if its shard is frozen or doesn't serve, its tables were changed, or its commit has no room.
 pub data IsRefusedIn (o : Opening) (limits : Limits) (p : PassView Entry) (t : Transaction) : Typed → Refusal → Standing → Type 0 where
   no_memory : {typed : Typed} {now : PassView Entry} → HasGone o p now → IsRefusedIn o limits p t typed OutOfMemory (record { pass = now; tx = Some t })
   open_twice : IsRefusedIn o limits p t typed.Begin NotSupported (record { pass = p; tx = Some t })

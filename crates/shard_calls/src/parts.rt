@@ -20,7 +20,7 @@ pub fn shard_of<W: World, J: Naming>(part: &Part<Shard<W, J>>) -> &Shard<W, J>
     part.shard()
 }
 
-/// The one part that a write on the table with this route needs, if it needs one. Refuses where it needs several.
+/// The one part that a write on the table with this route needs, if it needs one. Refuses if it needs several.
 pub fn only_needed<'e, S: Seated + Drop>(
     parts: &'e [Part<S>],
     table: &Table,

@@ -39,7 +39,7 @@ pub fn closes(statement: &Typed) -> bool
     matches!(statement, Typed::Commit | Typed::Rollback)
 }
 
-/// Whether a transaction stays open after what one of its statements gave, which closes it where it is answered, or doesn't.
+/// Whether a transaction stays open after what one of its statements gave, which closes it if it is answered, or doesn't.
 pub fn stays_open(closes: bool, given: &Result<Reply, Refusal>) -> bool
     ensures { result ≡ stays_open closes given.now }
 {
@@ -197,7 +197,7 @@ pub fn write_first<W: World, J: Naming>(
     }
 }
 
-// Commits a transaction on its shard: one entry, where it has written, and else a look alone.
+// Commits a transaction on its shard: one entry, if it has written, and else a look alone.
 pub fn commit_at<W: World, J: Naming>(
     rt: &impl Wait,
     alloc: Global,

@@ -21,7 +21,7 @@ use Rattle.shard_contents.specs.declared.limits.Limits.{Limits}
 use Rattle.shard_contents.specs.Shards.{ShardView}
 use Rattle.shard_contents.specs.declared.copying.SourceProgress.{SourceProgress}
 
--- a row is reached where it isn't beyond the last row that was copied; before any was, none is
+-- a row is reached if it isn't beyond the last row that was copied; before any was, none is
 abbrev pub is_reached : Table → Option Row → Row → Bool
 is_reached t None row = false
 is_reached t (Some last) row = not (is_key_before (key_of t last) (key_of t row))

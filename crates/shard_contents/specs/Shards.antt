@@ -58,7 +58,7 @@ beyond Following = 0
 beyond Frozen = 0
 beyond _ = 1
 
--- Its rows, in any order, its mode, the entries that it stores and what it keeps of its steps with its sources are those that the run leaves on it, and where it serves its rows are within
+-- Its rows, in any order, its mode, the entries that it stores and what it keeps of its steps with its sources are those that the run leaves on it, and if it serves its rows are within
 -- the limits.
 pub record Holds (o : Opening) (most : Limits) (run : Run) (c : Contents) : Type 0 where
   pub rows : SameRows c.store.rows (held o run c.shard)

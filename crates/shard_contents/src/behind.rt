@@ -181,7 +181,7 @@ fn are_many(new: &[Row]) -> bool {
     new.len() > FEW_NEW
 }
 
-// Rows of the table at a place, which have the primary key of a new one where the rows that the changes leave have it.
+// Rows of the table at a place, which have the primary key of a new one if the rows that the changes leave have it.
 fn rows_for<'a>(
     alloc: Global,
     store: &'a StoredTables,
@@ -245,7 +245,7 @@ impl Contents {
         select_joined(alloc, query, join, firsts.all(), seconds.all())
     }
 
-    /// What the query gives over the rows with these changes done. None of them is done where none is of a table that it is over.
+    /// What the query gives over the rows with these changes done. None of them is done if none is of a table that it is over.
     pub fn select_behind(
         &self,
         alloc: Global,
@@ -341,7 +341,7 @@ impl Contents {
     }
 
     /// The changes of the write over the rows with these changes done, unless it has a primary key that is there already. None of them is
-    /// done where none is of the write's table.
+    /// done if none is of the write's table.
     pub fn changes_behind(
         &self,
         alloc: Global,

@@ -60,7 +60,7 @@ pub fn one<T: Drop>(alloc: Global, item: T) -> Result<Items<T>, Refusal>
     Ok(items)
 }
 
-/// The value with what was got; where nothing was got, the value is dropped here, and not at each place that calls this.
+/// The value with what was got; if nothing was got, the value is dropped here, and not at each place that calls this.
 pub fn beside<T, U: Drop, E>(got: Result<T, E>, owned: U) -> Result<(T, U), E>
     ensures ok { IfOk result (λ both. (got ≡ Ok both.0) × (both.1 ≡ owned)) }
     ensures err { IfErr result (λ e. got ≡ Err e) }

@@ -38,7 +38,7 @@ pub struct NextTable {
 pub struct SourceProgress {
     /// After how many of the source's stored entries it stands. None before its first Copy from there.
     pub behind: Option<u128>,
-    /// Where it copies on. None where it has copied all tables.
+    /// Where it copies on. None if it has copied all tables.
     pub next: Option<NextTable>,
 }
 
@@ -124,7 +124,7 @@ pub fn stored_changes(event: &Event) -> &[RowChange]
     }
 }
 
-// The first by name of two tables, where the other was found.
+// The first by name of two tables, if the other was found.
 pub fn first_named(schema: &VSchema, n: usize, found: Option<usize>) -> usize
     requires n { n < length schema.now.tables }
     requires found { IfSome found (λ m. m < length schema.now.tables) }

@@ -13,7 +13,7 @@ pub enum Step {
         source: usize,
         place: u64,
     },
-    /// It copied rows of a table as they were after so many stored entries, all that were left where it was the last such step, and the
+    /// It copied rows of a table as they were after so many stored entries, all that were left if it was the last such step, and the
     /// last of these rows.
     Copied {
         source: usize,

@@ -239,7 +239,7 @@ impl SortedTables {
         Some(self.tables.remove(at))
     }
 
-    // Takes out the table at a place, brought forward to what is stored; makes it where it isn't there. Where memory is wanting it is gone.
+    // Takes out the table at a place, brought forward to what is stored; makes it if it isn't there. If memory is wanting it is gone.
     fn take_current(
         &mut self,
         alloc: Global,

@@ -1,4 +1,4 @@
-//! The rows of a table from a row on, in the order of primary keys where the rows are stored in that order.
+//! The rows of a table from a row on, in the order of primary keys if the rows are stored in that order.
 ghost use Rattle.std.specs.Prelude.{◌≡◌, ◌<◌, ◌++◌, IsTrue, IfOk, IfErr, option_copied, filter, length};
 ghost use Rattle.vschema.specs.Database.{rows_of};
 ghost use Rattle.shard_store.specs.Behind.{is_behind, IsInOrder};
@@ -11,7 +11,7 @@ use std::alloc::Global;
 use vschema::Table;
 use vt_value::{Refusal, Row};
 
-/// Rows of a table that are still to come, among which are all after a row: those in slots, in the order of primary keys where
+/// Rows of a table that are still to come, among which are all after a row: those in slots, in the order of primary keys if
 /// `in_order` says so, and those outside them.
 #[derive(Drop)]
 pub struct RowsBehind<'a> {

@@ -99,7 +99,7 @@ impl TableRows {
         Ok(())
     }
 
-    // Makes a slot for a key, where it has none.
+    // Makes a slot for a key, if it has none.
     fn reserve_slot(&mut self, alloc: Global, key: &RowKey) -> Result<(), Refusal>
         ensures rows { self.new.rows ≡ self.old.rows }
         ensures places { self.new.places ≡ self.old.places }
@@ -164,7 +164,7 @@ impl TableRows {
         Ok(())
     }
 
-    /// Remembers the key of a removed row, whose slot is to be given up by `sweep`, where there is memory for that. Takes no memory.
+    /// Remembers the key of a removed row, whose slot is to be given up by `sweep`, if there is memory for that. Takes no memory.
     pub fn free(&mut self, key: RowKey)
         ensures { self.new ≡ self.old }
     {
@@ -173,7 +173,7 @@ impl TableRows {
         }
     }
 
-    /// Gives up the slots of removed rows where no other row has come into them. Takes no memory.
+    /// Gives up the slots of removed rows if no other row has come into them. Takes no memory.
     pub fn sweep(&mut self)
         ensures { self.new ≡ self.old }
     {

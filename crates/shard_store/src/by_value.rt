@@ -139,7 +139,7 @@ fn slots_with<'a>(
     }
 }
 
-// The value in a column, or `None` where it is NULL.
+// The value in a column, or `None` if it is NULL.
 fn not_null(row: &Row, column: usize) -> Option<&Value>
     ensures { MatchOption result (value_at row.now column ≡ Value.Null) (λ v. v.now ≡ value_at row.now column) }
 {

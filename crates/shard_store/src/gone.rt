@@ -103,7 +103,7 @@ impl<'a> Ord for LentRow<'a> {
     }
 }
 
-/// Keys after one of a slot and before that of a row, where one is given. A walk in the order of keys stays in one until it comes to a row
+/// Keys after one of a slot and before that of a row, if one is given. A walk in the order of keys stays in one until it comes to a row
 /// that is gone, and so compares two keys at most of its rows.
 #[derive(Clone, Copy)]
 pub struct Gap<'a> {

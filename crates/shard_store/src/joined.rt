@@ -31,7 +31,7 @@ pub struct Partners<'a, 'b> {
 #[derive(Drop)]
 struct JoinedPairs<'a, 'b, S> {
     join: Join,
-    // conditions on the first row alone: where one isn't true, no partner is looked up
+    // conditions on the first row alone: if one isn't true, no partner is looked up
     own: Vec<&'a Condition<usize>>,
     firsts: S,
     seconds: &'b RowsByValue<'a>,

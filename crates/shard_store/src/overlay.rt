@@ -294,7 +294,7 @@ impl<'a> Overlay<'a> {
         select_from(alloc, query, rows)
     }
 
-    // Whether a row has the primary key of one of these, where the places of the key columns tell which are the same.
+    // Whether a row has the primary key of one of these, if the places of the key columns tell which are the same.
     fn has_any_keyed(&self, alloc: Global, table: &Table, new: &[Row]) -> Result<bool, Refusal>
         requires { (a b : List V) → same_row (key_at self.now.places a) (key_at self.now.places b) ≡ same_row (key_of table.now a) (key_of table.now b) }
         ensures ok { IfOk result (λ has. has ≡ list_any (λ n. list_any (λ r. same_row (key_of table.now n) (key_of table.now r)) self.now.rows) new.now) }

@@ -59,7 +59,7 @@ impl TableRows {
         })
     }
 
-    // The rows, to be looked up by a column. Those in slots are found by their keys where these begin with the column, and only the others
+    // The rows, to be looked up by a column. Those in slots are found by their keys if these begin with the column, and only the others
     // are sorted.
     fn by_value(&self, alloc: Global, column: usize) -> Result<RowsByValue<'_>, Refusal>
         ensures ok { IfOk result (λ r. IsPermutation r.rows self.now.rows) }

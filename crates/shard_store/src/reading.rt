@@ -1,4 +1,4 @@
-//! What queries give and what writes change, over the stored rows. Where a condition fixes the first key column to values, the rows of these
+//! What queries give and what writes change, over the stored rows. If a condition fixes the first key column to values, the rows of these
 //! values alone are looked at, and an INSERT looks each of its keys up.
 ghost use Rattle.std.specs.Prelude.{◌≡◌, ◌⊎◌, ◌<◌, true, IsTrue, IfOk, IfErr, IfSome, MatchOption, Ok, Err, List, [], filter, length, slice_index};
 ghost use Rattle.std.specs.List.{list_any};
@@ -281,7 +281,7 @@ impl StoredTables {
         }
     }
 
-    /// What a write does to the rows of its table. Refuses `DuplicateKey` where an INSERT has the primary key of a row that is there, or
+    /// What a write does to the rows of its table. Refuses `DuplicateKey` if an INSERT has the primary key of a row that is there, or
     /// one twice, and else only for want of memory.
     pub fn changes(
         &self,

@@ -62,7 +62,7 @@ fn sweep_tables(tables: &mut Vec<TableRows>)
 
 impl StoredTables {
     // Promise: A shard's store (`shard::Store`) does any changes, whatever keys their rows have: all memory is made before, together with
-    // the changes by their keys, and leaves the rows as they are, also where it is refused; the changes are then done without memory, and
+    // the changes by their keys, and leaves the rows as they are, also if it is refused; the changes are then done without memory, and
     // leave, as bags, the rows that they should. What a query gives, what a write changes or is refused for, and which rows a condition
     // keeps are those over all rows of the table. What a join gives is what it gives over all pairs of rows of its two tables, whether the
     // store or other sources lend them

@@ -146,7 +146,7 @@ impl StoredTable {
         Ok(self.slots.rows_from(&key))
     }
 
-    /// Rows in slots among which are all after a row; all, where they don't stand in the order of primary keys.
+    /// Rows in slots among which are all after a row; all, if they don't stand in the order of primary keys.
     pub(crate) fn behind(
         &self,
         alloc: Global,
@@ -222,7 +222,7 @@ impl StoredTable {
         self.slots.holds(key, row)
     }
 
-    /// Makes a slot for a key, where it has none. Refuses for want of memory; the rows stay as they are.
+    /// Makes a slot for a key, if it has none. Refuses for want of memory; the rows stay as they are.
     pub fn reserve(&mut self, alloc: Global, key: &RowKey) -> Result<(), Refusal>
         ensures rows { rows_in self.new.slots ≡ rows_in self.old.slots }
         ensures ok { OnOk result (IsSome (slot_at self.new.slots key.now)) }

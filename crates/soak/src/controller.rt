@@ -20,7 +20,7 @@ use std::thread;
 use std::time::{Clock, Duration};
 use vt_value::Refusal;
 
-/// The administrator of a router, what it has seen, and the shards that have ever served there. Where it cuts over step by step, each of its
+/// The administrator of a router, what it has seen, and the shards that have ever served there. If it cuts over step by step, each of its
 /// entries is counted.
 #[derive(Drop)]
 pub struct Controller<'e, W: World, J: Naming, R> {
@@ -74,7 +74,7 @@ impl<'e, W: World + Send + Sync, J: Naming + Send + Sync, R: Wait + Clock> Contr
     }
 
     /// All shards that have ever served have as many entries as the sessions and the administrator made. An entry can't be looked at, so it
-    /// is their number that is compared, where all cutovers were step by step.
+    /// is their number that is compared, if all cutovers were step by step.
     pub fn check_entries(&mut self, made: u64) -> Result<(), Fault> {
         let mut there = 0u64;
         for shard in self.shards.as_slice() {

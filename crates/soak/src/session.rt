@@ -68,7 +68,7 @@ impl<'e, W: World + Send + Sync, J: Naming + Send + Sync, R: Threads + Wait + Sy
         }
     }
 
-    // Runs a statement in the session's transaction, where one is open.
+    // Runs a statement in the session's transaction, if one is open.
     fn ask(&mut self, tx: &mut Tx<W, J>, statement: &Statement) -> Result<Answer, Refusal>
         requires tx { IsOf W.opening tx.old self.old.pass }
         ensures tx { IsOf W.opening tx.new self.new.pass }

@@ -133,7 +133,7 @@ fn check_rows<W: World + Send + Sync, J: Naming + Send + Sync, R: Threads + Wait
     last.check(books)
 }
 
-// The end of a world: it is counted, and checked where nobody has found a fault.
+// The end of a world: it is counted, and checked if nobody has found a fault.
 fn end<W: World + Send + Sync, J: Naming + Send + Sync, R: Threads + Wait + Clock + Sync>(
     controller: &mut Controller<'_, W, J, R>,
     opener: &mut Opener<ShardLaw<W>, J>,

@@ -21,7 +21,7 @@ struct Group {
 pub struct Book {
     number: u64,
     choices: Pcg32,
-    // its rows, and those that stay where the open transaction is undone
+    // its rows, and those that stay if the open transaction is undone
     rows: Rows,
     kept: Rows,
     // the value of the last command
@@ -61,7 +61,7 @@ impl Book {
         self.number / 2
     }
 
-    // A number below this one, or 0 where there is none.
+    // A number below this one, or 0 if there is none.
     fn below(&mut self, end: u32) -> u32 {
         let any = self.choices.next_word();
         if end == 0 { 0 } else { any % end }
@@ -148,7 +148,7 @@ impl Book {
         self.over(verb, Ids::Nothing)
     }
 
-    /// The next statement, in a transaction where one is open.
+    /// The next statement, in a transaction if one is open.
     pub fn choose(&mut self, within: bool) -> Statement {
         if within {
             return self.choose_within();
@@ -163,7 +163,7 @@ impl Book {
         }
     }
 
-    // How many rows a statement is to tell, or why it is refused where its shard takes it.
+    // How many rows a statement is to tell, or why it is refused if its shard takes it.
     fn wanted(&self, statement: &Statement) -> Result<u64, Refusal> {
         let there = self.rows.among(statement.ids).count();
         match (statement.verb, statement.ids) {

@@ -12,7 +12,7 @@ abbrev pub operand_value : Row → Operand ℕ → Value
 operand_value row (Column n) = value_at row n
 operand_value row (Literal v) = v
 
--- what a node gives, where each member has given its truth
+-- what a node gives, if each member has given its truth
 abbrev pub node_truth : Row → Condition-F ℕ Truth → Truth
 node_truth row (Compare op a b) = compare op (operand_value row a) (operand_value row b)
 node_truth row (In a members) = in_list (operand_value row a) members

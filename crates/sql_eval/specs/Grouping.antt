@@ -12,7 +12,7 @@ use Rattle.vschema.specs.declared.schema.Query.{Query}
 use Rattle.vschema.specs.Checks.{is_aggregate}
 use Rattle.sql_eval.specs.declared.groups.Grouping.{Grouping}
 
--- the column that an item shows, 0 where it shows an aggregate
+-- the column that an item shows, 0 if it shows an aggregate
 abbrev pub shown_place : Item ℕ → ℕ
 shown_place (Column n) = n
 shown_place _ = 0
@@ -20,12 +20,12 @@ shown_place _ = 0
 abbrev pub aggregates_of : List (Item ℕ) → List (Item ℕ)
 aggregates_of items = filter is_aggregate items
 
--- the place of a column among those of GROUP BY, counted from a number on, and another place where it isn't there
+-- the place of a column among those of GROUP BY, counted from a number on, and another place if it isn't there
 abbrev pub group_place_from : ℕ → ℕ → List ℕ → ℕ → ℕ
 group_place_from n other [] c = other
 group_place_from n other (g ∷ columns) c = if g == c then n else group_place_from (n + 1) other columns c
 
--- the places of a query's items in the rows of groups, where the aggregates stand from a place on
+-- the places of a query's items in the rows of groups, if the aggregates stand from a place on
 abbrev pub item_places : ℕ → List ℕ → ℕ → List (Item ℕ) → List ℕ
 item_places other columns n [] = []
 item_places other columns n (i ∷ items) =

@@ -41,7 +41,7 @@ keyed_group q rows values = (
 abbrev pub keyed_groups : Query → List Row → List Keyed
 keyed_groups q rows = map (keyed_group q rows) (group_values q.group_by rows)
 
--- The bag of the whole answer: the rows whose condition is true, as they are shown, or their groups where the query is aggregated, each
+-- The bag of the whole answer: the rows whose condition is true, as they are shown, or their groups if the query is aggregated, each
 -- with its sort keys.
 abbrev pub kept_rows : Query → List Row → List Keyed
 kept_rows q rows =

@@ -139,7 +139,7 @@ fn some(members: &[Condition<usize>], values: Seen) -> Truth
     t
 }
 
-// Promise: The truth of a condition at a row is SQL's; WHERE keeps the rows where it is true
+// Promise: The truth of a condition at a row is SQL's; WHERE keeps the rows if it is true
 // With: keeps
 /// The truth of a condition at a row, by SQL's three-valued logic. A row has NULL after its last value. Takes no memory.
 pub fn truth(condition: &Condition<usize>, row: &Row) -> Truth

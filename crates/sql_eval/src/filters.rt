@@ -158,7 +158,7 @@ fn all_tests<'c>(alloc: Global, members: &'c [Condition<usize>]) -> Result<Items
     Ok(tests)
 }
 
-/// The tests of a condition in which an IN is long; `None` where it is tested as it stands.
+/// The tests of a condition in which an IN is long; `None` if it is tested as it stands.
 fn tests_of_tree<'c>(
     alloc: Global,
     condition: &'c Condition<usize>,

@@ -34,7 +34,7 @@ fn is_aggregate(item: &Item<usize>) -> bool
     !matches!(item, Item::Column(_))
 }
 
-/// The column that an item shows, 0 where it shows an aggregate.
+/// The column that an item shows, 0 if it shows an aggregate.
 pub fn shown_place(item: &Item<usize>) -> usize
     ensures { result ≡ shown_place item.now }
 {

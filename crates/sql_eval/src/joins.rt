@@ -22,7 +22,7 @@ pub trait PairSource<'a>: Drop {
     // the pairs that are still to come
     ghost to_come: { Self → List (List V) };
 
-    /// The next pair, or `None` where no pair is left. Refuses for want of memory.
+    /// The next pair, or `None` if no pair is left. Refuses for want of memory.
     fn next_pair(&mut self, alloc: Global) -> Result<Option<Seen<'a>>, Refusal>
         ensures pair { IfOk result (λ next. MatchOption next
             ((to_come self.old ≡ []) × (to_come self.new ≡ []))
@@ -99,7 +99,7 @@ impl<'a> PairSource<'a> for SlicePairs<'a> {
     }
 }
 
-// The next pair whose condition is true, or `None` where none is left.
+// The next pair whose condition is true, or `None` if none is left.
 fn next_kept_pair<'a, S: PairSource<'a>>(
     alloc: Global,
     condition: &Option<Condition<usize>>,

@@ -102,7 +102,7 @@ pub struct Whole {
     pub places: Items<usize>,
 }
 
-/// The different items of a list, and where each of the list stands among them; `None` where all are different. Refuses only for want of
+/// The different items of a list, and where each of the list stands among them; `None` if all are different. Refuses only for want of
 /// memory.
 fn different(
     alloc: Global,
@@ -206,7 +206,7 @@ impl Narrowed {
         &self.query
     }
 
-    /// Where the items of the whole query stand among those of the one that is run; `None` where they are the same. Refuses only for want of
+    /// Where the items of the whole query stand among those of the one that is run; `None` if they are the same. Refuses only for want of
     /// memory.
     pub fn places(&self, alloc: Global) -> Result<Option<Items<usize>>, Refusal>
         ensures ok { IfOk result (ShowsAt self.now) }

@@ -70,7 +70,7 @@ pub fn show(
 /// So many rows at most are held in order while rows come: each may move all of them.
 const FRONT: u64 = 1_000;
 
-/// How many of the first rows a limit needs, where these are few.
+/// How many of the first rows a limit needs, if these are few.
 fn front_of(limit: Option<sql_tree::Limit>) -> Option<usize>
     ensures { IfSome result (λ most. IsWithin most limit) }
 {

@@ -17,7 +17,7 @@ pub trait RowSource<'a>: Drop {
     // the rows that are still to come
     ghost to_come: { Self → List (List Value) };
 
-    /// The next row, or `None` where no row is left. Takes no memory.
+    /// The next row, or `None` if no row is left. Takes no memory.
     fn next_row(&mut self) -> Option<&'a Row>
         ensures { MatchOption result
             ((to_come self.old ≡ []) × (to_come self.new ≡ []))
@@ -62,7 +62,7 @@ impl<'a> RowSource<'a> for SliceRows<'a> {
     }
 }
 
-/// The next row whose condition is true, or `None` where none is left. Takes no memory.
+/// The next row whose condition is true, or `None` if none is left. Takes no memory.
 pub fn next_kept<'a, S: RowSource<'a>>(
     condition: &Option<Condition<usize>>,
     rows: &mut S,
@@ -79,7 +79,7 @@ pub fn next_kept<'a, S: RowSource<'a>>(
     None
 }
 
-/// The next row that a filter keeps, or `None` where none is left. Takes no memory.
+/// The next row that a filter keeps, or `None` if none is left. Takes no memory.
 pub fn next_passing<'a, S: RowSource<'a>>(condition: &Filter, rows: &mut S) -> Option<&'a Row>
     ensures { MatchOption result
         ((filter (is_kept condition.now) (S.to_come rows.old) ≡ []) × (S.to_come rows.new ≡ []))
@@ -135,7 +135,7 @@ pub fn all_kept<'a, S: RowSource<'a>>(
     all_passing(alloc, &filter, rows)
 }
 
-// Passes over so many of the rows whose condition is true, or over all where there are fewer.
+// Passes over so many of the rows whose condition is true, or over all if there are fewer.
 fn pass_over<'a, S: RowSource<'a>>(condition: &Filter, rows: &mut S, count: u64)
     ensures { filter (is_kept condition.now) (S.to_come rows.new) ≡ drop count (filter (is_kept condition.now) (S.to_come rows.old)) }
 {

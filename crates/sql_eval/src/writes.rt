@@ -95,10 +95,10 @@ fn updated(
     Ok(changes)
 }
 
-// Promise: What a write does to the rows of its table, or F12 exactly where an INSERT has a primary key twice; rows are the same where they
+// Promise: What a write does to the rows of its table, or F12 exactly when an INSERT has a primary key twice; rows are the same if they
 // compare as equal
 // With: same_row
-/// What a write does to the rows of its table: rows added, removed or really changed. Refuses `DuplicateKey` where an INSERT
+/// What a write does to the rows of its table: rows added, removed or really changed. Refuses `DuplicateKey` if an INSERT
 /// has the primary key of a row that is there, or one twice, and else only for want of memory.
 pub fn change_local(
     alloc: Global,

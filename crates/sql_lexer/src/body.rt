@@ -25,7 +25,7 @@ fn after_byte(place: Place, byte: u8) -> Option<Place>
     }
 }
 
-/// How many bytes a text has after its first quote, where it is closed.
+/// How many bytes a text has after its first quote, if it is closed.
 #[tactic(auto, unfolding(crate::specs::inner::Scanning::text_len))]
 pub fn text_len(bytes: &[u8]) -> Option<usize>
     ensures value { result ≡ text_len 0 Inside bytes.now }

@@ -94,7 +94,7 @@ fn is_spelling_of(word: &[u8], keyword: Keyword) -> bool
     word.eq_ignore_ascii_case(text_of(keyword).as_bytes())
 }
 
-/// The keywords of this length, those of a query by a key first; where none has it, all.
+/// The keywords of this length, those of a query by a key first; if none has it, all.
 fn of_length(length: usize) -> &'static [Keyword]
     ensures { (word : List ℕ) → list_length word ≡ length → find (is_spelling_of word) result.now ≡ keyword_at word }
 {
@@ -166,7 +166,7 @@ pub fn keyword_of(word: &[u8]) -> Option<Keyword>
     among(word, of_length(word.len()))
 }
 
-// Promise: A word is a keyword exactly where it is one in some case
+// Promise: A word is a keyword exactly when it is one in some case
 /// Whether the word is a keyword in some case, so that as an identifier it stands in backquotes.
 pub fn is_keyword(word: &[u8]) -> bool
     ensures { result ≡ is_keyword word.now }

@@ -172,14 +172,14 @@ fn tokens(alloc: Global, text: &[u8]) -> Result<Vec<Token>, Refusal>
     Ok(tokens)
 }
 
-// Promise: The tokens of a text are given, and a syntax error comes only where it has none
+// Promise: The tokens of a text are given, and a syntax error comes only if it has none
 /// The tokens of a text: words of at most 64 bytes, keywords in any case, words in backquotes, numbers, texts in single
 /// quotes, signs and operators, each as long as possible, with blanks between them. A text with anything else in it, or
 /// with a letter right after a number, is a syntax error.
 pub fn lex(alloc: Global, text: &[u8]) -> Result<Vec<Token>, Refusal>
     // What is given are the text's tokens.
     ensures found { IfOk result (λ v. Lexes text.now v.items) }
-    // A text that has tokens is read, unless memory runs out; so a syntax error comes only where it is no tokens and
+    // A text that has tokens is read, unless memory runs out; so a syntax error comes only if it is no tokens and
     // blanks.
     ensures only { (tokens : List Token) → Lexes text.now tokens
         → MatchResult result (λ v. v.items ≡ tokens) (λ e. e ≡ Refusal.OutOfMemory) }

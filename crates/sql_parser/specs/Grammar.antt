@@ -158,7 +158,7 @@ pub data ReadsKey : Lexemes → Key ColumnName → Type 0 where
   ascending_key : {ts : Lexemes} {c : ColumnName} → ReadsColumn ts c → ReadsKey (ts ++ keyword K.Asc ∷ []) (record { column = c; descending = false })
   descending_key : {ts : Lexemes} {c : ColumnName} → ReadsColumn ts c → ReadsKey (ts ++ keyword K.Desc ∷ []) (record { column = c; descending = true })
 
--- [words x,..], a list that is empty where the clause isn't there
+-- [words x,..], a list that is empty if the clause isn't there
 pub data Clause {A : Type 0} (words : Lexemes) (Item : Lexemes → A → Type 0) : Lexemes → List A → Type 0 where
   without : Clause words Item [] []
   clause : {ts : Lexemes} {xs : List A} → Listed Item ts xs → Clause words Item (words ++ ts) xs

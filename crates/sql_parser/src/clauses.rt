@@ -183,7 +183,7 @@ pub fn order<'s>(
     }
 }
 
-/// [OFFSET count], which is 0 where it isn't there.
+/// [OFFSET count], which is 0 if it isn't there.
 #[tactic(auto, unfolding(crate::specs::inner::Reading::offset_at))]
 fn offset<'s>(text: &[u8], tokens: &'s [Token]) -> Result<(u64, &'s [Token]), Refusal>
     ensures { AgreesWith (λ x. (x.0, lexemes_of text.now x.1.now)) result (offset_at (lexemes_of text.now tokens.now)) }

@@ -231,7 +231,7 @@ fn whole(alloc: Global, text: &[u8], tokens: &[Token]) -> Result<Statement, Refu
         .ok_or(Refusal::SyntaxError)
 }
 
-// Promise: The tree of a text is given exactly where the whole grammar has one, within its limits, and a syntax error comes only where it
+// Promise: The tree of a text is given exactly when the whole grammar has one, within its limits, and a syntax error comes only if it
 // has none
 /// The tree of a text, which is one statement of the grammar with at most one semicolon after it. Any other text is a
 /// syntax error, and so is one that passes a limit: 64 open parentheses and NOTs on one path of a condition, 4096
@@ -239,7 +239,7 @@ fn whole(alloc: Global, text: &[u8], tokens: &[Token]) -> Result<Statement, Refu
 pub fn parse(alloc: Global, text: &[u8]) -> Result<Statement, Refusal>
     // What is given is the text's tree.
     ensures found { IfOk result (λ tree. Reads text.now tree) }
-    // A text that has a tree is read, unless memory runs out; so a syntax error comes only where there is none.
+    // A text that has a tree is read, unless memory runs out; so a syntax error comes only if there is none.
     ensures only { (tree : Statement) → Reads text.now tree
         → MatchResult result (λ t. t ≡ tree) (λ e. e ≡ Refusal.OutOfMemory) }
     ensures err { IfErr result (λ e. (e ≡ Refusal.OutOfMemory) ⊎ (e ≡ Refusal.SyntaxError)) }

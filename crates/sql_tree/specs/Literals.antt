@@ -15,7 +15,7 @@ abbrev pub operand_literals : Operand ColumnName → ℕ
 operand_literals (operand.Column c) = 0
 operand_literals (operand.Literal v) = 1
 
--- those of a node, where each member has given its own
+-- those of a node, if each member has given its own
 abbrev pub node_literals : Condition-F ColumnName ℕ → ℕ
 node_literals (Compare op a b) = operand_literals a + operand_literals b
 node_literals (In a members) = operand_literals a + length members

@@ -47,7 +47,7 @@ commas = joined (codes ", ")
 abbrev pub bracketed : Text → Text
 bracketed t = codes "(" ++ t ++ codes ")"
 
--- an identifier stands in backquotes where it is a keyword
+-- an identifier stands in backquotes if it is a keyword
 unfoldable pub name_text : Name → Text
 name_text name = if is_keyword name then 0x60 ∷ name ++ 0x60 ∷ [] else name
 
@@ -66,7 +66,7 @@ abbrev pub qualifier_text : Option Name → Text
 qualifier_text None = []
 qualifier_text (Some t) = name_text t ++ codes "."
 
--- a column stands after its table and a dot where it is qualified
+-- a column stands after its table and a dot if it is qualified
 abbrev pub column_text : ColumnName → Text
 column_text c = qualifier_text c.table ++ name_text c.name
 
@@ -97,7 +97,7 @@ inside_or (an_and t) = t
 inside_or (an_or t) = bracketed t
 inside_or (other t) = t
 
--- what is printed for a node, where each member is
+-- what is printed for a node, if each member is
 abbrev pub node_printed : Condition-F ColumnName Printed → Printed
 node_printed (Compare op a b) = other (operand_text a ++ codes " " ++ operator_text op ++ codes " " ++ operand_text b)
 node_printed (In a members) = other (operand_text a ++ codes " IN " ++ bracketed (commas (map value_text members)))
@@ -131,12 +131,12 @@ list_text (shown.Items items) = commas (map item_text items)
 abbrev pub key_text : Key ColumnName → Text
 key_text k = column_text k.column ++ (if k.descending then codes " DESC" else [])
 
--- the second table, where there is one, and the columns that are equal
+-- the second table, if there is one, and the columns that are equal
 abbrev pub join_text : Option JoinOn → Text
 join_text None = []
 join_text (Some j) = codes " JOIN " ++ name_text j.table ++ codes " ON " ++ column_text j.left ++ codes " = " ++ column_text j.right
 
--- a clause that is left out where its list is empty
+-- a clause that is left out if its list is empty
 abbrev pub clause_text : Text → List Text → Text
 clause_text words [] = []
 clause_text words (x ∷ xs) = words ++ commas (x ∷ xs)

@@ -12,7 +12,7 @@ use vt_value::{Boxed, Comparison, Items, Value};
 /// The name of a table or a column, byte by byte as it was written.
 pub type Name = Items<u8>;
 
-/// The name of a column, after that of its table where it is qualified.
+/// The name of a column, after that of its table if it is qualified.
 #[derive(Drop)]
 pub struct ColumnName {
     pub table: Option<Name>,
@@ -78,7 +78,7 @@ pub struct JoinOn {
     pub right: ColumnName,
 }
 
-/// A SELECT. `group_by` and `order_by` are empty where it has no such clause.
+/// A SELECT. `group_by` and `order_by` are empty if it has no such clause.
 #[derive(Drop)]
 pub struct Select {
     pub list: SelectList,

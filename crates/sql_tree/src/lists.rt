@@ -52,7 +52,7 @@ pub fn put_bracketed<T: Print>(out: &mut Vec<u8>, items: &[T]) -> Result<(), Ref
     put(out, b")")
 }
 
-/// Puts a clause, which is left out where its list is empty.
+/// Puts a clause, which is left out if its list is empty.
 pub fn put_clause<T: Print>(out: &mut Vec<u8>, words: &[u8], items: &[T]) -> Result<(), Refusal>
     ensures ok { OnOk result (out.new.items ≡ out.old.items ++ clause_text words.now (map T.text items.now)) }
     ensures err { IfErr result (λ e. e ≡ Refusal.OutOfMemory) }

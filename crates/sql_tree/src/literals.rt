@@ -17,7 +17,7 @@ pub fn put(out: &mut Vec<u8>, text: &[u8]) -> Result<(), Refusal>
     Ok(())
 }
 
-/// Puts an identifier, in backquotes where it is a keyword.
+/// Puts an identifier, in backquotes if it is a keyword.
 #[tactic(auto, unfolding(crate::specs::Printing::name_text))]
 pub fn put_name(out: &mut Vec<u8>, name: &[u8]) -> Result<(), Refusal>
     ensures ok { OnOk result (out.new.items ≡ out.old.items ++ name_text name.now) }
@@ -80,7 +80,7 @@ pub fn put_value(out: &mut Vec<u8>, value: &Value) -> Result<(), Refusal>
     }
 }
 
-/// Puts a column, after its table and a dot where it is qualified.
+/// Puts a column, after its table and a dot if it is qualified.
 pub fn put_column(out: &mut Vec<u8>, column: &ColumnName) -> Result<(), Refusal>
     ensures ok { OnOk result (out.new.items ≡ out.old.items ++ column_text column.now) }
     ensures err { IfErr result (λ e. e ≡ Refusal.OutOfMemory) }

@@ -170,7 +170,7 @@ fn put_statement(out: &mut Vec<u8>, statement: &Statement) -> Result<(), Refusal
 // Promise: A statement is printed in its one form, and an item of a select list too; only memory refuses it
 // With: print_item
 /// The text of a statement in its one form: keywords in upper case, one blank between words, after commas and around
-/// operators, an identifier bare, or in backquotes where it is a keyword, ASC and an OFFSET of 0 left out, and
+/// operators, an identifier bare, or in backquotes if it is a keyword, ASC and an OFFSET of 0 left out, and
 /// parentheses only where an AND or an OR needs them.
 pub fn print(alloc: Global, statement: &Statement) -> Result<Vec<u8>, Refusal>
     ensures ok { IfOk result (λ v. v.items ≡ printed statement.now) }

@@ -67,7 +67,7 @@ fn is_published(alloc: Global, serving: &Serving<Chair>, slot: usize) -> Result<
     Ok(serving.publish(next).is_ok())
 }
 
-// The slots of the partitions that were present after each that was published, and the last after one more, which isn't taken; none where
+// The slots of the partitions that were present after each that was published, and the last after one more, which isn't taken; none if
 // one is taken that isn't to be, or handed back.
 fn present_slots(alloc: Global, serving: &Serving<Chair>) -> Result<Vec<Option<usize>>, Refusal>
     requires { serving.now ≡ 0 }

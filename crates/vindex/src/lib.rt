@@ -26,8 +26,8 @@ pub enum AnyVindex {
 }
 
 impl AnyVindex {
-    // Promise: A value has a keyspace id under a vindex exactly where it is a key of it
-    /// The keyspace id of a key. It takes no memory. `None` where the value is no key of this vindex: NULL, a text for a
+    // Promise: A value has a keyspace id under a vindex exactly when it is a key of it
+    /// The keyspace id of a key. It takes no memory. `None` if the value is no key of this vindex: NULL, a text for a
     /// number, a number for a text, or a number that is negative or has more than 64 bits.
     pub fn map<'v>(self, value: &'v Value) -> Option<Ksid<'v>>
         ensures key { IsSome result ↔ IsTrue (is_key self value.now) }

@@ -40,7 +40,7 @@ pub trait Reversible: Vindex {
 
     // Promise: The id of a number gives the number back, and no other id gives it
     // With: Reversible::back, Numeric::reverse, ReverseBits::reverse, map_and_reverse
-    /// The key that has this keyspace id, or `None` where no key has it.
+    /// The key that has this keyspace id, or `None` if no key has it.
     fn reverse(id: &Ksid) -> Option<Self::Key>
         ensures key { result ≡ key_of (ksid_bytes id.now) }
         ensures only { IfSome result (λ key. Self.keyspace_id key ≡ ksid_bytes id.now) };

@@ -129,7 +129,7 @@ abbrev pub is_aggregate : Item ℕ → Bool
 is_aggregate (item.Column n) = false
 is_aggregate _ = true
 
--- a query is aggregated where it shows an aggregate or has a GROUP BY
+-- a query is aggregated if it shows an aggregate or has a GROUP BY
 abbrev pub is_aggregated : Query → Bool
 is_aggregated q = list_any is_aggregate q.items || not (is_nil q.group_by)
   where

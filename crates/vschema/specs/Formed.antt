@@ -21,7 +21,7 @@ abbrev pub fits_vindex : ColumnVindex → Option Column → Bool
 fits_vindex v None = false
 fits_vindex v (Some c) = takes_type v.vindex c.kind
 
--- The vindex column is NOT NULL, of the vindex's type, and in the primary key. A table has one exactly where its
+-- The vindex column is NOT NULL, of the vindex's type, and in the primary key. A table has one exactly when its
 -- keyspace is sharded.
 abbrev pub is_vindex_right : Table → Bool → Option ColumnVindex → Bool
 is_vindex_right t sharded None = not sharded

@@ -1,4 +1,4 @@
--- The VSchema that a text means: where no fault applies, what it declares, with columns by their places.
+-- The VSchema that a text means: if no fault applies, what it declares, with columns by their places.
 use Rattle.std.specs.Prelude.{ℕ, ◌+◌, List, [], ◌∷◌, ◌++◌, map, slice_get, Option, Some, None, option_map, option_and_then, unwrap_or, bytes_eq, Result, Ok, Err}
 use Rattle.serde_json.specs.Data.{Data}
 use Rattle.serde_json.specs.Read as json

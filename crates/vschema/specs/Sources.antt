@@ -26,7 +26,7 @@ padded (suc n) (v ∷ row) = v ∷ padded n row
 abbrev pub paired : Join → Row → Row → Row
 paired j a b = padded j.width a ++ b
 
--- two rows are a pair where the two columns have equal values, of which then neither is NULL
+-- two rows are a pair if the two columns have equal values, of which then neither is NULL
 abbrev pub is_pair : Join → Row → Row → Bool
 is_pair j a b = is_true (compare Eq (value_at (paired j a b) j.first) (value_at (paired j a b) j.second))
 

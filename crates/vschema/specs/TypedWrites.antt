@@ -43,7 +43,7 @@ update_checks t s =
 abbrev pub delete_checks : Table → D.Delete → List (Bool × Refusal)
 delete_checks t s = (delete_names_unknown t s, UnknownColumn) ∷ (delete_is_not_supported t s, NotSupported) ∷ []
 
--- the value of INSERT's row for a column, NULL where it isn't named
+-- the value of INSERT's row for a column, NULL if it isn't named
 abbrev pub value_for : List ℕ → List Value → ℕ → Value
 value_for places values n = unwrap_or (option_and_then (slice_get values) (place_from (λ m. m == n) 0 places)) Null
 

@@ -31,7 +31,7 @@ listed_names (Some names) = names
 abbrev pub insert_names : Insert → List Name
 insert_names s = listed_names s.columns
 
--- the places of INSERT's columns: all of them, in their order, where none is named
+-- the places of INSERT's columns: all of them, in their order, if none is named
 abbrev pub insert_places : Table → Option (List Name) → List ℕ
 insert_places t None = places_from 0 t.columns
 insert_places t (Some names) = map (place t) names

@@ -274,7 +274,7 @@ impl Query {
     ghost use Rattle.std.specs.Prelude.{◌≡◌};
     ghost use Rattle.vschema.specs.Checks.{is_aggregated};
 
-    // Promise: A query is aggregated where it shows an aggregate or has a GROUP BY
+    // Promise: A query is aggregated if it shows an aggregate or has a GROUP BY
     /// Whether the query shows an aggregate or has a GROUP BY.
     pub fn is_aggregated(&self) -> bool
         ensures { result ≡ is_aggregated self.now }

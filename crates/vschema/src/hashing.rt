@@ -29,7 +29,7 @@ impl Hashing {
         }
     }
 
-    /// A hasher with a key that the system's random source gives. Fails where that does.
+    /// A hasher with a key that the system's random source gives. Fails if that does.
     pub fn random<R: RandomSource>(rt: &R) -> io::Result<Hashing> {
         let keys = RandomState::new(rt)?;
         Ok(Hashing {

@@ -161,7 +161,7 @@ fn all_keyspaces(
     Ok(keyspaces)
 }
 
-/// The VSchema that is meant, where no fault applies.
+/// The VSchema that is meant, if no fault applies.
 pub fn meant(alloc: Global, declared: &[DeclaredKeyspace]) -> Result<VSchema, SchemaFault>
     requires once { has SchemaFault.NamedTwice declared.now ≡ false }
     requires formed { IsTrue (is_formed (meant declared.now).keyspaces (meant declared.now).tables) }

@@ -279,7 +279,7 @@ fn resolve_keys(
     Ok(resolved)
 }
 
-/// The condition with its columns by their places, where there is one.
+/// The condition with its columns by their places, if there is one.
 pub fn resolve_filter(
     alloc: Global,
     scope: &Scope,

@@ -21,7 +21,7 @@ pub struct ColumnVindex {
     pub number: usize,
 }
 
-/// A table. Its keyspace and the columns of its primary key are told by their places. It has a vindex where its
+/// A table. Its keyspace and the columns of its primary key are told by their places. It has a vindex if its
 /// keyspace is sharded.
 #[derive(Drop)]
 pub struct Table {
@@ -129,7 +129,7 @@ pub struct Join {
 }
 
 /// A query. Its table is told by its place in the VSchema, its columns by their places in the table, or in the pairs of a join.
-/// `group_by` and `order_by` are empty where it has no such clause.
+/// `group_by` and `order_by` are empty if it has no such clause.
 #[derive(Drop)]
 pub struct Query {
     pub table: usize,

@@ -113,7 +113,7 @@ fn named_place(scope: &Scope, table: &Name, name: &Name) -> Option<usize>
     }
 }
 
-/// The place of a column, where just one is meant.
+/// The place of a column, if just one is meant.
 pub fn scope_place(scope: &Scope, column: &ColumnName) -> Option<usize>
     ensures { result ≡ scope_place scope.now column.now }
 {

@@ -1,4 +1,4 @@
--- What a JSON value declares: the one format of a VSchema, with columns and vindexes by their names. There is none where a
+-- What a JSON value declares: the one format of a VSchema, with columns and vindexes by their names. There is none if a
 -- member is unknown, missing, of the wrong kind or ill-formed.
 use Rattle.std.specs.Prelude.{ℕ, Bool, false, not, ◌-◌, ◌==◌, ◌&&◌, nat_le, List, [], ◌∷◌, length, take, drop, codes, bytes_eq, Option, Some, None, option_map, option_and_then, unwrap_or, if◌then◌else◌}
 use Rattle.std.specs.List.{list_all}

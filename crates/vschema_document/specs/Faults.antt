@@ -29,7 +29,7 @@ place_of t name = place_from (λ c. bytes_eq c.name name) 0 t.columns
 abbrev pub column_of : DeclaredTable → Name → Option Column
 column_of t name = option_and_then (slice_get t.columns) (place_of t name)
 
--- the vindex that a keyspace declares under this name, where its type is known
+-- the vindex that a keyspace declares under this name, if its type is known
 abbrev pub vindex_of : DeclaredKeyspace → Name → Option AnyVindex
 vindex_of k name = option_and_then (λ v. v.kind) (find (λ v. bytes_eq v.name name) (vindexes k))
 

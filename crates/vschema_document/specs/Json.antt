@@ -12,7 +12,7 @@ abbrev pub named_values : Members → List (List ℕ × Data)
 named_values no_members = []
 named_values (member name d ms) = (name, d) ∷ named_values ms
 
--- the list of all, where none is missing
+-- the list of all, if none is missing
 abbrev pub all_some : {A : Type 0} → List (Option A) → Option (List A)
 all_some [] = Some []
 all_some (o ∷ os) = option_and_then (λ x. option_map (λ xs. x ∷ xs) (all_some os)) o

@@ -12,7 +12,7 @@ pub enum ColumnType {
     VarBinary(u8),
 }
 
-/// A column of a table. It may hold NULL only where it is nullable.
+/// A column of a table. It may hold NULL only if it is nullable.
 #[derive(Drop)]
 pub struct Column {
     pub name: Name,
@@ -20,7 +20,7 @@ pub struct Column {
     pub nullable: bool,
 }
 
-/// Columns of one table are the same where their names are.
+/// Columns of one table are the same if their names are.
 impl PartialEq for Column {
     ghost use Rattle.std.specs.Prelude.{bytes_eq};
     ghost use Rattle.std.specs.Cmp.{partial_equiv_from_equiv};

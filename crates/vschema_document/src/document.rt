@@ -4,7 +4,7 @@ use sql_tree::Name;
 use vindex::AnyVindex;
 use vt_value::Items;
 
-/// A vindex that a keyspace declares. It has no kind where its type is unknown.
+/// A vindex that a keyspace declares. It has no kind if its type is unknown.
 #[derive(Drop)]
 pub struct DeclaredVindex {
     pub name: Name,
@@ -18,7 +18,7 @@ pub struct DeclaredKey {
     pub vindex: Name,
 }
 
-/// A table as a text declares it, its columns by their names. It has no list of column vindexes where the text has none.
+/// A table as a text declares it, its columns by their names. It has no list of column vindexes if the text has none.
 #[derive(Drop)]
 pub struct DeclaredTable {
     pub name: Name,
@@ -27,7 +27,7 @@ pub struct DeclaredTable {
     pub column_vindexes: Option<Items<DeclaredKey>>,
 }
 
-/// A keyspace as a text declares it. It has no list of vindexes where the text has none.
+/// A keyspace as a text declares it. It has no list of vindexes if the text has none.
 #[derive(Drop)]
 pub struct DeclaredKeyspace {
     pub name: Name,

@@ -5,7 +5,7 @@ ghost use Rattle.vschema_document.specs.FaultNumbers.{fault_number};
 use std::alloc::{AllocError, AllocFailed};
 use thiserror::Error;
 
-/// Why a text is no VSchema. Where several apply, the one with the least number is answered.
+/// Why a text is no VSchema. If several apply, the one with the least number is answered.
 #[derive(Clone, Copy, Debug, PartialEq, Eq, Error)]
 pub enum SchemaFault {
     /// A growth was refused. It has no number.

@@ -83,7 +83,7 @@ fn names_of_vindexes(alloc: Global, vindexes: &[DeclaredVindex]) -> Result<Vec<&
     Ok(texts)
 }
 
-// The type of the vindex in this place, where it is known.
+// The type of the vindex in this place, if it is known.
 fn kind_at(vindexes: &[DeclaredVindex], place: Option<usize>) -> Option<AnyVindex>
     ensures { result ≡ option_and_then (λ v. v.kind) (option_and_then (slice_get vindexes.now) place) }
 {
@@ -110,7 +110,7 @@ impl<'k> KeyspaceIndex<'k> {
         self.keyspace
     }
 
-    /// The vindex that the keyspace declares under this name, where its type is known.
+    /// The vindex that the keyspace declares under this name, if its type is known.
     pub fn vindex_of(&self, name: &'k Name) -> Option<AnyVindex>
         ensures { result ≡ vindex_of self.now name.now }
     {

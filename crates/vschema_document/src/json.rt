@@ -131,7 +131,7 @@ pub fn read_flag(value: &Value) -> Result<bool, SchemaFault>
     }
 }
 
-/// True or false, where there is such a member.
+/// True or false, if there is such a member.
 pub fn optional_flag(value: &Value, name: &str) -> Result<Option<bool>, SchemaFault>
     ensures ok { IfOk result (λ b. optional as_bool name.now (view value.now) ≡ Some b) }
     ensures err { IfErr result (λ e. IsFaultOf e (optional as_bool name.now (view value.now))) }
@@ -154,7 +154,7 @@ pub fn needed_array<T: Element>(
     read_array(alloc, needed(value, name)?)
 }
 
-/// An array, where there is such a member.
+/// An array, if there is such a member.
 pub fn optional_array<T: Element>(
     alloc: Global,
     value: &Value,
@@ -181,7 +181,7 @@ pub fn needed_object<T: Member>(
     read_object(alloc, needed(value, name)?)
 }
 
-/// An object, where there is such a member.
+/// An object, if there is such a member.
 pub fn optional_object<T: Member>(
     alloc: Global,
     value: &Value,

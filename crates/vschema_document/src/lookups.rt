@@ -45,7 +45,7 @@ pub fn column_of<'t>(table: &TableIndex<'t>, name: &'t Name) -> Option<&'t Colum
     table.table().columns.get(table.place_of(name)?)
 }
 
-/// The vindex that a keyspace declares under this name, where its type is known.
+/// The vindex that a keyspace declares under this name, if its type is known.
 pub fn vindex_of(keyspace: &DeclaredKeyspace, name: &Name) -> Option<AnyVindex>
     ensures { result ≡ vindex_of keyspace.now name.now }
 {

@@ -4,7 +4,7 @@ use Rattle.std.specs.Io.KnownBytes.{Consumes, IsAtEnd}
 use Rattle.vschema.specs.declared.schema.VSchema.{VSchema}
 use Rattle.vschema.specs.Meant.{contents, schema_read}
 
--- the bytes that a device has left or has taken, where they are known
+-- the bytes that a device has left or has taken, if they are known
 abbrev pub Known : Type 0
 Known = Option (List ℕ)
 

@@ -11,7 +11,7 @@ use Rattle.vtgate_input.specs.declared.fault.Fault.{Fault}
 use Rattle.vtgate_input.specs.declared.fault.Fault.TheVariants.{WrongWords, Schema, Refused, OutOfMemory, CannotBind, Failed}
 use Rattle.vtgate_input.specs.Inputs.{Known, HasDeclared}
 
--- 2 where the words or the VSchema are wrong, else 1
+-- 2 if the words or the VSchema are wrong, else 1
 abbrev pub status_of : Fault → ℕ
 status_of WrongWords = 2
 status_of (Schema fault) = 2

@@ -56,7 +56,7 @@ pub(crate) fn behind<'b>(bytes: &'b [u8], front: &[u8]) -> Option<&'b [u8]>
 // Promise: An input's first line and what follows it; what a line says
 // With: read_line
 /// The first line of an input, without the byte 0A that ends it, and what follows it. The last line may lack that byte.
-/// `None` where nothing is left.
+/// `None` if nothing is left.
 pub fn next_line(input: &[u8]) -> Option<(&[u8], &[u8])>
     ensures found { IfSome result (λ x. IsNextLine input.now x.0.now x.1.now) }
     ensures none { IfNone result (input.now ≡ []) }

@@ -178,7 +178,7 @@ fn typed_line(
 // Promise: A plan's line is that of the text's route and shards; a refusal comes for its cause
 /// The line of a statement's plan over the ranges of the sharded keyspace, in their order: the name of its route, a colon,
 /// and each shard that it has after a blank, as `IN: -80 80-`. A table of the unsharded keyspace has the shard `0`; a
-/// statement without a table has none. An INSERT into a sharded table is `EqualUnique` where its rows have one shard, and
+/// statement without a table has none. An INSERT into a sharded table is `EqualUnique` if its rows have one shard, and
 /// `IN` elsewhere. Refuses a text that has no tree, one that its VSchema refuses, and, for want of memory, any.
 pub fn plan_line(
     alloc: Global,

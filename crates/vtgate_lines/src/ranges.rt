@@ -27,7 +27,7 @@ fn push_named(ranges: &mut Vec<KeyRange>, name: &str) -> Result<bool, Refusal>
     }
 }
 
-/// The ranges of which the text has the names, in the text's order. `None` where some part is no range's name.
+/// The ranges of which the text has the names, in the text's order. `None` if some part is no range's name.
 pub(crate) fn named_ranges(alloc: Global, text: &str) -> Result<Option<Vec<KeyRange>>, Refusal>
     ensures found { IfOk result (λ o. IfSome o (λ v. IsListOf text.now v.items)) }
     ensures only { IfOk result (λ o. (ranges : List KeyRange) → IsListOf text.now ranges → IsSomeAnd o (λ v. v.items ≡ ranges)) }
@@ -48,9 +48,9 @@ pub(crate) fn named_ranges(alloc: Global, text: &str) -> Result<Option<Vec<KeyRa
     }
 }
 
-// Promise: A word tells ranges exactly where it has the names of at most 64 that cover each id once; they come in range order
-/// The ranges that a comma list of names tells, as `-80,80-`, in the order of their begins. `None` where some part is no
-/// range's name, where there are more than 64, or where some id lies in none of them or in several.
+// Promise: A word tells ranges exactly when it has the names of at most 64 that cover each id once; they come in range order
+/// The ranges that a comma list of names tells, as `-80,80-`, in the order of their begins. `None` if some part is no
+/// range's name, if there are more than 64, or if some id lies in none of them or in several.
 pub fn read_ranges(alloc: Global, text: &str) -> Result<Option<Vec<KeyRange>>, Refusal>
     ensures found { IfOk result (λ o. IfSome o (λ v. NamesPartition text.now v.items)) }
     ensures none { IfOk result (λ o. IfNone o ((ranges : List KeyRange) → NamesPartition text.now ranges → ⊥)) }

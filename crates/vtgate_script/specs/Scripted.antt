@@ -36,7 +36,7 @@ answer_text (Rows selected) = rows_text selected.rows
 answer_text (Count n) = count_text n
 
 -- What is printed for the text of a statement: an answer that it may have after what its session's pass had seen, in the session's open
--- transaction if one is, or a refusal for its cause. Where there is no memory to print rows, that is printed in their place. And what the pass
+-- transaction if one is, or a refusal for its cause. If there is no memory to print rows, that is printed in their place. And what the pass
 -- has seen then, and the transaction.
 pub data Prints (o : Opening) (s : PassAndTransaction) (sql : List ℕ) : List ℕ → PassAndTransaction → Type 0 where
   answered : {now : PassAndTransaction} (reply : Reply) → IsReplyTo o most_limits s sql reply now → Prints o s sql (answer_text reply.answer) now
@@ -94,7 +94,7 @@ pub data Runs (o : Opening) (s : Progress) (name sql : List ℕ) : List ℕ → 
 abbrev pub unknown_text : List ℕ
 unknown_text = codes "unknown\n"
 
--- What is printed for a line, over a workflow of the sharded keyspace, where there is one. An admin line is the controller's, whose pass has
+-- What is printed for a line, over a workflow of the sharded keyspace, if there is one. An admin line is the controller's, whose pass has
 -- seen what all lines before it have; nobody commits meanwhile, so that the one database stays.
 pub data PrintsLine (o : Opening) (s : Progress) (workflow : AdministratorView) (text : List ℕ) : List ℕ → Progress → AdministratorView → Type 0 where
   statement : {printed : List ℕ} {now : Progress} (name sql : List ℕ) → IsStatementLine text name sql → Runs o s name sql printed now

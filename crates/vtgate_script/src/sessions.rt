@@ -247,7 +247,7 @@ impl<W: World + Send + Sync, J: Naming + Send + Sync> Sessions<W, J> {
         Ok(())
     }
 
-    // The place of the session of this name, which is opened where there is none.
+    // The place of the session of this name, which is opened if there is none.
     fn place_or_open(&mut self, alloc: Global, name: &[u8]) -> Result<usize, Refusal>
         ensures { IfOk result (λ place. HasOpened self.old name.now place self.new) }
     {
@@ -372,7 +372,7 @@ fn write_all<O: Sink>(text: &[u8], output: &mut O) -> Result<(), Fault>
     }
 }
 
-/// Runs the lines in order, and writes what is printed for each before the next is run. Refuses where the output fails, and where there is
+/// Runs the lines in order, and writes what is printed for each before the next is run. Refuses if the output fails, and if there is
 /// no memory for a session.
 pub fn run_lines<
     W: World + Send + Sync,

@@ -54,7 +54,7 @@ pub record IsSeenAt (o : Opening) (p now : PassView Entry) (keyspace : ℕ) (Suc
 abbrev pub HasSeen : Opening → PassView Entry → PassView Entry → ℕ → (Mode → Type 0) → Seat → Type 0
 HasSeen o p now keyspace Such seat = (s : S.Shard) × IsSeenAt o p now keyspace Such seat s
 
--- a list of those that overlap the range grows by the shard where it does
+-- a list of those that overlap the range grows by the shard if it does
 pub data HasGrown (range : KeyRange) (s : S.Shard) (old new : List S.Shard) : Type 0 where
   added : Overlap s.place.range range → new ≡ old ++ s ∷ [] → HasGrown range s old new
   left : (Overlap s.place.range range → ⊥) → new ≡ old → HasGrown range s old new

@@ -15,7 +15,7 @@ use Rattle.reshard_reopening.specs.MadeAgain.{Found, AreFound}
 use Rattle.cutover_steps.specs.Steps.{HasEntry}
 use Rattle.cutover_steps.specs.Takings.{Taking}
 
--- after the run this shard stands on the slot, at the place, in this mode; where it is retired, its entry names these targets
+-- after the run this shard stands on the slot, at the place, in this mode; if it is retired, its entry names these targets
 pub record IsGlance (o : Opening) (run : Run) (slot : ℕ) (place : Place) (s : S.Shard) (m : Mode) (named : List S.Shard) : Type 0 where
   pub at : s.slot ≡ slot
   pub in_place : s.place ≡ place

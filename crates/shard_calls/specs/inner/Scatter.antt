@@ -137,7 +137,7 @@ CanJoinAll o t plan p =
     (pieces : List (List Row)) (reads : List ShardRead) (now : PassView Entry) → IsScattered o t plan p pieces reads now
     → CanJoin plan.finish.grouping (flat_map (λ l. l) pieces)
 
--- where the plan's query isn't aggregated, what each of them gives is in the order of the finish's keys
+-- if the plan's query isn't aggregated, what each of them gives is in the order of the finish's keys
 abbrev pub AllInOrder : Opening → Table → Plan → PassView Entry → Type 0
 AllInOrder o t plan p =
     (pieces : List (List Row)) (reads : List ShardRead) (now : PassView Entry) → IsScattered o t plan p pieces reads now
@@ -149,7 +149,7 @@ pub record IsFinished (o : Opening) (t : Table) (plan : Plan) (p : PassView Entr
   pub scattered : IsScattered o t plan p pieces reads now
   pub finished : Finishes plan.finish (flat_map (λ l. l) pieces) rows
 
--- a count, or the write again where its shard took no commits
+-- a count, or the write again if its shard took no commits
 abbrev pub tried : Committed → Result ℕ Write
 tried (c.Count n) = Ok n
 tried (c.Frozen w) = Err w

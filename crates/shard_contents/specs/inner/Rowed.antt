@@ -12,7 +12,7 @@ abbrev pub row_of : ℕ → ℕ → Step → Option Row
 row_of source table (Followed from place) = None
 row_of source table (Copied from of place last row) = if (from == source) && (of == table) then row else None
 
--- the first by name of two tables, where the other was found
+-- the first by name of two tables, if the other was found
 abbrev pub first_named : VSchema → ℕ → Option ℕ → ℕ
 first_named schema n None = n
 first_named schema n (Some m) = if is_before (table_at schema n).name (table_at schema m).name then n else m

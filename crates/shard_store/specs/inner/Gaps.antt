@@ -8,7 +8,7 @@ use Rattle.shard_store.specs.declared.gone.LentRow.{LentRow}
 use Rattle.shard_store.specs.declared.gone.Gap.{Gap}
 use Rattle.shard_store.specs.inner.Overlays.{lent_key}
 
--- the key is before the row's, where a row is given
+-- the key is before the row's, if a row is given
 abbrev pub is_below_lent : Option LentRow → Row → Bool
 is_below_lent None key = true
 is_below_lent (Some lent) key = is_lt (slice_cmp value_cmp key (lent_key lent))

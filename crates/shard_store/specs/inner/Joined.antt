@@ -22,7 +22,7 @@ pub record ColumnRows : Type 0 where
 abbrev pub has_value : ℕ → Value → Row → Bool
 has_value column v row = is_eq (value_cmp v (value_at row column))
 
--- the row has one of the values in the column, where values are given
+-- the row has one of the values in the column, if values are given
 abbrev pub may_have : Option Fixed → ℕ → Row → Bool
 may_have None column row = true
 may_have (Some f) column row = fits f (value_at row column)

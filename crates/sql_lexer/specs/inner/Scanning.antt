@@ -61,7 +61,7 @@ closed n Inside = None
 closed n BehindQuote = Some n
 closed n BehindBackslash = None
 
--- how many bytes a text has after its first quote, where it is closed: n of them before these
+-- how many bytes a text has after its first quote, if it is closed: n of them before these
 unfoldable pub text_len : ℕ → Place → List ℕ → Option ℕ
 text_len n place [] = closed n place
 text_len n place (b ∷ bytes) = elim (after_byte place b) [ Some next ↦ text_len (n + 1) next bytes | None ↦ Some n ]

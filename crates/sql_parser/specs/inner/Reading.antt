@@ -52,7 +52,7 @@ abbrev pub is_or : Lexeme → Bool
 is_or (keyword k.Or) = true
 is_or _ = false
 
--- what comes after a token, where that stands there
+-- what comes after a token, if that stands there
 abbrev pub after_at : (Lexeme → Bool) → Lexemes → Option Lexemes
 after_at sep [] = None
 after_at sep (x ∷ ts) = if sep x then Some ts else None

@@ -16,7 +16,7 @@ fails WrongNull p = is_null p.1 && not p.0.nullable
 fails OutOfRange p = is_out_of_range p.0.kind p.1
 fails TooLong p = is_too_long p.0.kind p.1
 
--- the refusal, or the write where there is none
+-- the refusal, or the write if there is none
 abbrev pub unless : Option Refusal → Write → Result Write Refusal
 unless None w = Ok w
 unless (Some r) w = Err r

@@ -74,14 +74,14 @@ pub record IsKnown (opened : ℕ) (seen : Run) (sessions : List KeptSession) : T
   pub own : (k : ℕ) (d : KeptSession) → k < length sessions → KnowsOwn seen (slice_index_or sessions k d)
   pub unopened : (n : ℕ) → opened ≤ n → filter (by_session commit_of n) seen ≡ []
 
--- the session of the name is at the place; where there was none, it was opened there
+-- the session of the name is at the place; if there was none, it was opened there
 pub data HasOpened (s : KeptProgress) (name : List ℕ) (place : ℕ) : KeptProgress → Type 0 where
   was : place < length s.sessions → ((d : KeptSession) → (slice_index_or s.sessions place d).name ≡ name) → HasOpened s name place s
   opened : AllByRecursion (λ x. x.name ≢ name) s.sessions → place ≡ length s.sessions
       → HasOpened s name place
       (record s { sessions = s.sessions ++ record { name = name; kept = record { pass = new_pass s.seen (Some place); tx = None } } ∷ [] })
 
--- what is printed of an answer; where there is no memory for its rows, that
+-- what is printed of an answer; if there is no memory for its rows, that
 abbrev pub IsShown : Answer → List ℕ → Type 0
 IsShown answer text = (text ≡ answer_text answer) ⊎ (HasRows answer × (text ≡ refusal_text OutOfMemory))
 
