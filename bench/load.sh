@@ -1,6 +1,6 @@
 #!/usr/bin/env bash
-# Measures what statements cost beside others, as ratios of what is measured side by side in one run: statements in a transaction with own
-# writes beside the same ones outside, short reads of large tables beside reads of one row while other clients are at work, and the bytes
+# Measures what statements cost compared with others, as ratios of what is measured in one run: statements in a transaction with own
+# writes and outside, short reads of large tables and reads of one row while other clients are at work, and the bytes
 # that a write keeps. Prints the tables; with --write puts them into docs/PERFORMANCE.md.
 # Usage: bench/load.sh [--write] [--rows N] [--changes N] [--rounds N] [PROGRAM]   (proved and built where none is given)
 set -euo pipefail

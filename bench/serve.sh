@@ -1,5 +1,5 @@
 #!/usr/bin/env bash
-# Measures the router's server beside MariaDB's server and a bare echo of the same bytes, all by one client program over loopback, one cell
+# Measures the router's server, MariaDB's server and a bare echo of the same bytes, all by one client program over loopback, one cell
 # after the other in one run: point SELECTs, INSERTs, UPDATEs by key, a scatter over 4 shards, a mix, and transactions, by 1 to 32
 # connections. Prints the tables; with --write puts them into docs/PERFORMANCE.md.
 # Usage: bench/serve.sh [--quick] [--write] [--kinds KIND,..] [--connections N,..] [--rounds N] [--seconds S] [--rows N] [PROGRAM]

@@ -1,6 +1,6 @@
 #!/usr/bin/env bash
-# Measures a split through sockets: rows copied a second, the longest time that a writer waits over a cutover, statements a second beside a running
-# copy, how soon targets are level beside writers at full speed, and steps a second by entries. Prints the tables; with --write puts them into
+# Measures a split through sockets: rows copied a second, the longest time that a writer waits over a cutover, statements a second during a running
+# copy, how soon targets are level with writers at full speed, and steps a second by entries. Prints the tables; with --write puts them into
 # docs/PERFORMANCE.md.
 # Usage: bench/split.sh [--write] [--rows N,..] [--rounds N] [--seconds S] [PROGRAM]
 # PROGRAM is proved and built where none is given. Needs a C compiler.

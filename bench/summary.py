@@ -111,7 +111,7 @@ def splits(page):
             said.append(f"{int(numbers(rows, 'copied a second')[-1]):,} rows are copied a second")
         if rows and "copies begun" in rows[0]:
             worst = min(rows, key=lambda it: float(it["ratio"]))
-            said.append(f"beside a copy `{worst['statements']}` keeps {float(worst['ratio']):.2f} of its rate")
+            said.append(f"during a copy `{worst['statements']}` keeps {float(worst['ratio']):.2f} of its rate")
         if rows and "longest wait, ms" in rows[0]:
             said.append(f"while a shard changes hands a write waits up to {max(numbers(rows, 'longest wait, ms')):.1f} ms, and `switch` takes up to {max(numbers(rows, '`switch`, ms')):.0f} ms")
     if said:

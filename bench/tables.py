@@ -34,7 +34,7 @@ def run(program, shards, asked):
     ran = subprocess.run([program], input=lines.program_input(shards, asked), capture_output=True, text=True)
     given, took = ran.stdout.rstrip("\n").split("\t"), ran.stderr.splitlines()
     if ran.returncode or len(given) != len(asked) or len(took) != len(asked):
-        sys.exit(f"{program} failed with status {ran.returncode} behind {given[-1:]}: {took[-1:]}")
+        sys.exit(f"{program} failed with status {ran.returncode} after {given[-1:]}: {took[-1:]}")
     return [
         (line, told.removeprefix(f"{line.name}: "), int(time.removeprefix(f"{line.name}: ").removesuffix(" nanoseconds")))
         for line, told, time in zip(asked, given, took)

@@ -1,7 +1,7 @@
 #!/usr/bin/env python3
 """Moves an amount from one row to another of the same shard, and begins again where another session was faster.
 
-Usage: examples/again.py [PORT]     beside examples/serve.sh; needs PyMySQL (Debian: python3-pymysql)
+Usage: examples/again.py [PORT]     while examples/serve.sh runs; needs PyMySQL (Debian: python3-pymysql)
 """
 import sys
 

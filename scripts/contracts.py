@@ -1,4 +1,4 @@
-"""What the crates' sources say of their functions: the clauses, what these cite, and the promise comments. For the scripts beside it.
+"""What the crates' sources say of their functions: the clauses, what these cite, and the promise comments. For the scripts next to it.
 
 An item is a function, a type, a trait, or a `ghost` line of one of these, by its path (`Framer::feed`). A function of a trait that is written in
 an impl has the clauses of the trait's, or for std's Display the impl's `ghost output`. A `ghost` line is a clause of its own name.
@@ -71,7 +71,7 @@ class File:
             at = self.read(at)
 
     def read(self, at):
-        """Reads what begins at a line, and returns the line behind what was read."""
+        """Reads what begins at a line, and returns the line after what was read."""
         line = self.lines[at]
         if line.strip().startswith("ghost use "):
             note_definitions(line, self.names if self.block is None else self.block["names"])

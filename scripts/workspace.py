@@ -1,4 +1,4 @@
-"""What crates.txt says of the workspace, and which crates a change touches. For the scripts beside it."""
+"""What crates.txt says of the workspace, and which crates a change touches. For the scripts next to it."""
 
 import functools
 import pathlib

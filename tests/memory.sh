@@ -88,7 +88,7 @@ refusal_of() {
     esac
 }
 
-# runs NAME WORD..: what the program may give that runs the lines of standard input behind the VSchema. Without one of them it gives what
+# runs NAME WORD..: what the program may give that runs the lines of standard input after the VSchema. Without one of them it gives what
 # it gives where that one is refused, but for the refusal.
 runs() {
     local name=$1 count=0 at before line

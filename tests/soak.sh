@@ -1,5 +1,5 @@
 #!/usr/bin/env bash
-# Splits shards and merges them back again and again, beside eight sessions in threads of one process that write, transact and read all their
+# Splits shards and merges them back again and again, while eight sessions in threads of one process write, transact and read all their
 # rows, and compares each answer, and the rows at the end, with those of the accepted commands. Status 1 where something differs, 124 where
 # it hangs.
 # Usage: tests/soak.sh [SECONDS [SEED [PROGRAM]]]   (a minute, and any seed, where none is given; proved and built, where no program is)

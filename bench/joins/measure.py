@@ -1,4 +1,4 @@
-"""Measures joins of the router beside MariaDB's server on the same tables, and prints the section of the page. Called by bench/joins.sh."""
+"""Measures joins of the router and of MariaDB's server on the same tables, and prints the section of the page. Called by bench/joins.sh."""
 
 import argparse
 import datetime
@@ -25,7 +25,7 @@ CREATE TABLE b (n BIGINT UNSIGNED PRIMARY KEY, k BIGINT UNSIGNED NOT NULL);
 """
 HEAD = """## Joins
 
-Written by `bench/joins.sh` on {day}, on {cores} processors: the router over 4 shards beside MariaDB's server ({version}) on the same tables, by
+Written by `bench/joins.sh` on {day}, on {cores} processors: the router over 4 shards and MariaDB's server ({version}) on the same tables, by
 one connection of MariaDB's client, one statement after the other, the servers in turn. The median of {rounds} rounds, without what the client
 takes to start. The ratio is MariaDB's time to the router's: above 1 the router is faster.
 

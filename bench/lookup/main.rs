@@ -1,4 +1,4 @@
-//! What a lookup costs in maps of few entries and of many: std's `BTreeMap` and `HashMap`, keys of 16 bytes, and behind each a row on the heap, as
+//! What a lookup costs in maps of few entries and of many: std's `BTreeMap` and `HashMap`, keys of 16 bytes, and for each a row on the heap, as
 //! a shard's store has them. Between two lookups some 32 KiB are written, as a statement that is read, planned and answered does. Prints for
 //! each map and number of rows the nanoseconds of a lookup: the middle one of nine rounds, without what lies between the lookups.
 use std::collections::{BTreeMap, HashMap};
@@ -7,7 +7,7 @@ use std::time::Instant;
 
 type Key = (u64, u64);
 
-/// A row's list of values, and what a slot has beside it.
+/// A row's list of values, and what a slot has besides.
 struct Slot {
     row: Vec<[u64; 3]>,
     _beside: u64,

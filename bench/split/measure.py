@@ -1,5 +1,5 @@
-"""Measures splits of a served shard: copying, the longest wait of a writer, the rate of statements beside a copy, how soon targets are level
-beside writers at full speed, and how long steps take by entries and by tables. Called by bench/split.sh."""
+"""Measures splits of a served shard: copying, the longest wait of a writer, the rate of statements during a copy, how soon targets are level
+with writers at full speed, and how long steps take by entries and by tables. Called by bench/split.sh."""
 
 import argparse
 import contextlib
@@ -31,7 +31,7 @@ FIRST_ID = 100000
 BETWEEN = 0.001
 # each takes two of a router's 64 slots, of which two are shards' and one is the unsharded keyspace's
 MOST_COPIES = 30
-# the writers beside a split, each as fast as it is answered, and for how many seconds
+# the writers during a split, each as fast as it is answered, and for how many seconds
 WRITERS, WRITING = "4", 5
 # steps that are sent at once until the targets are level, and how often at most
 BATCH, MOST_BATCHES = 2000, 500
@@ -44,7 +44,7 @@ HEAD = """## Splits
 
 Written by `bench/split.sh` on {day}, on a machine of {cores} processors, through sockets: one of two shards, with half the rows of a table, is split
 into two by lines to the admin port. A step copies at most 100 rows. The longest wait is that of one client which changes a row of the split
-shard each millisecond, while `switch` is answered and a hundredth of a second behind; beside it stands what it waits at most in the fifth of a
+shard each millisecond, while `switch` is answered and a hundredth of a second after; next to it stands what it waits at most in the fifth of a
 second before. Rounds: {rounds}, each with a new router; figures are the middle ones.
 """
 
@@ -187,7 +187,7 @@ def rate(router, words, kind):
 
 
 def beside(words, kind, rows=100000):
-    """Statements a second without a copy and beside one, which is begun again as it ends while there are slots for its targets. Each has
+    """Statements a second without a copy and during one, which is begun again as it ends while there are slots for its targets. Each has
     a router of its own, since both insert the same rows."""
     with Router(words, rows) as router:
         without = rate(router, words, kind)
@@ -268,7 +268,7 @@ def by_tables(words):
 
 
 def left(words, kind, rows=100000):
-    """Entries that are left to follow where the source is frozen by `advance` right behind steps that came level, beside clients at full speed."""
+    """Entries that are left to follow where the source is frozen by `advance` right after steps that came level, with clients at full speed."""
     with Router(words, rows) as router:
         writers = threading.Thread(target=lambda: write(router, kind, WRITING))
         router.does("create -80 -40,40-80")
@@ -287,7 +287,7 @@ def left(words, kind, rows=100000):
 
 
 def at_once(words, kind, rows=100000):
-    """Microseconds of a `switch` right behind `create`, and of the longest wait of a writer meanwhile, beside clients at full speed."""
+    """Microseconds of a `switch` right after `create`, and of the longest wait of a writer meanwhile, with clients at full speed."""
     with Router(words, rows) as router:
         writer = Writer(router.port)
         writers = threading.Thread(target=lambda: write(router, kind, WRITING))
@@ -309,19 +309,19 @@ def section(words):
     lines = [HEAD.format(day=datetime.date.today(), cores=os.cpu_count(), rounds=words.rounds)]
     lines += ["| rows | copied a second | `switch`, µs | longest wait before, µs | longest wait meanwhile, µs | of all rounds |", "|---|---|---|---|---|---|"]
     lines += ["| " + " | ".join(f"{it:.0f}" for it in row) + " |" for row in splits(words)]
-    lines += ["", "Statements of `bench/serve.sh` a second by 4 connections, without a copy and beside one of 50,000 rows that begins again once it has ended:", ""]
+    lines += ["", "Statements of `bench/serve.sh` a second by 4 connections, without a copy and during one of 50,000 rows that begins again once it has ended:", ""]
     lines += ["| statements | without | beside | ratio | copies begun |", "|---|---|---|---|---|"]
     for kind in KINDS:
         rounds = [beside(words, kind) for _ in range(words.rounds)]
         without, during, copies = (statistics.median(it) for it in zip(*rounds))
         lines.append(f"| {kind} | {without:.0f} | {during:.0f} | {during / without:.2f} | {copies:.0f} |")
-    lines += ["", f"A split of 50,000 rows beside {WRITERS} clients that ask as fast as they are answered for {WRITING} seconds. Steps are taken by lines, 20 at once:", ""]
-    lines += ["| statements | a second | steps | level after, s | of which behind the clients, s |", "|---|---|---|---|---|"]
+    lines += ["", f"A split of 50,000 rows with {WRITERS} clients that ask as fast as they are answered for {WRITING} seconds. Steps are taken by lines, 20 at once:", ""]
+    lines += ["| statements | a second | steps | level after, s | of which after the clients, s |", "|---|---|---|---|---|"]
     for kind in ("update", "insert", "point"):
         asked, steps, whole, behind = beside_writers(words, kind)
         lines.append(f"| {kind} | {asked} | {steps} | {whole:.1f} | {behind:.2f} |")
-    lines += ["", f"The freeze, likewise beside {WRITERS} clients at full speed: entries that are left to follow where `advance` freezes the source right behind steps"]
-    lines += ["that came level; and `switch` alone, right behind `create`, with the longest wait of a client that changes a row each millisecond:", ""]
+    lines += ["", f"The freeze, likewise with {WRITERS} clients at full speed: entries that are left to follow when `advance` freezes the source right after steps"]
+    lines += ["that came level; and `switch` alone, right after `create`, with the longest wait of a client that changes a row each millisecond:", ""]
     lines += ["| statements | entries left | `switch`, ms | longest wait, ms |", "|---|---|---|---|"]
     for kind in ("update", "insert", "point"):
         entries = statistics.median(left(words, kind) for _ in range(words.rounds))

@@ -127,7 +127,7 @@ class Router:
 
 
 def is_end(count, last):
-    """Whether these are the last bytes of a reply: an OK packet, whose first byte is 0 in place of rows and FE behind them."""
+    """Whether these are the last bytes of a reply: an OK packet, whose first byte is 0 in place of rows and FE after them."""
     return (count == len(last) and count > 4 and last[4] == 0) or last[-11:-8] == b"\x07\0\0" and last[-7:-6] == b"\xfe"
 
 

@@ -1,5 +1,5 @@
 #!/usr/bin/env python3
-"""Groups by values that a client chose so that their hashes would be equal, beside ordinary ones, in one run of a script.
+"""Groups by values that a client chose so that their hashes would be equal, and by ordinary ones, in one run of a script.
 
 Usage: groups.py PROGRAM [--rows N] [--rounds N] [--most RATIO]
 `texts` are chosen against a hash whose key is known; `rows` against one that takes the values of a row as one text, without their lengths.

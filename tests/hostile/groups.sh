@@ -1,5 +1,5 @@
 #!/usr/bin/env bash
-# GROUP BY over 40,000 texts, and over 20,000 rows of three texts, that a client chose so that they would have one hash, beside as many ordinary
+# GROUP BY over 40,000 texts, and over 20,000 rows of three texts, that a client chose so that they would have one hash, and over as many ordinary
 # ones: at most 1.5 times as long.
 # Usage: tests/hostile/groups.sh [PROGRAM]   (proved and built where none is given)
 set -euo pipefail

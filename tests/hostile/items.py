@@ -9,7 +9,7 @@ sys.path[:0] = [str(TOP / "bench" / "worst")]
 import measure  # noqa: E402
 
 ITEMS = 500_000
-# What may be held of each item of the statement, beside the reply: its tree, its column's definition, its place.
+# What may be held of each item of the statement, besides the reply: its tree, its column's definition, its place.
 BYTES_OF_AN_ITEM = 1000
 # What may be held of each byte of the reply: itself, and what a list that grows has to spare.
 BYTES_OF_A_BYTE = 1.5

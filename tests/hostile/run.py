@@ -80,7 +80,7 @@ def trickling_logins_keep_nobody_out(program):
         time.sleep(3)
         for place in range(4):
             _, seconds = log_in(router)
-            check(f"login {place} beside 32 that trickle, {seconds:.1f} seconds", seconds < 20)
+            check(f"login {place} while 32 trickle, {seconds:.1f} seconds", seconds < 20)
         check("a client that was let in before", first.query(b"SELECT id FROM t WHERE id = 1")[0], b"\x01")
         for each in tricklers:
             each.is_over.set()
