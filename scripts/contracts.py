@@ -13,12 +13,12 @@ TYPE = re.compile(r"pub(?:\(\w+\))? (?:struct|enum|trait|type) (\w+)")
 BLOCK = re.compile(r"(?:pub(?:\(\w+\))? )?(?:unsafe )?(?:impl|trait|struct|enum)\b")
 GHOST = re.compile(r"    (?:pub )?ghost (\w+)\s*([:=]) *(.*)")
 CLAUSE = re.compile(r"\s*(ensures|requires) ?(\w*) ?\{")
-DIRECTIVE = re.compile(r"(Promise|With|Clauses|Refuses): (.+)|(Headline)\.$")
+DIRECTIVE = re.compile(r"(Promise|With|Clauses): (.+)|(Headline)\.$")
 OWN = re.compile(r"Rattle\.\w+\.specs\.(?!declared\b|contracts\b)")
 
 
 class Promise:
-    """A promise as its comment has it: the words, further calls, the clauses that carry it, and edits that it refuses."""
+    """A promise as its comment has it: the words, further calls, and the clauses that carry it."""
 
     def __init__(self, words):
         self.said, self.last = {"Promise": words}, "Promise"

@@ -224,7 +224,6 @@ fn run_in<T: Send + Drop, R: Threads + Wait + Sync, F: Fn(T) + Sync, E: Entrance
 
 // Promise: Workers are run until the entrance has no more connections: each that it gives is put into the queue, once and in order, and after
 // them a stop for each worker; a worker serves each connection that it takes, and ends only if it takes a stop
-// Refuses: vtgate_serve::serve_lets_in_one_too_few
 /// Starts so many workers, then lets in the connections of the entrance, in order, and has `serve` serve each, in one of the workers. Each
 /// waits in a queue of this capacity for a worker that is free; if it is full, the next one is let in once a worker took one. Returns
 /// once the entrance has no more and all are served. Refuses, and serves none, if there is no memory for the queue and if not all

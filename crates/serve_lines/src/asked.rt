@@ -103,7 +103,6 @@ fn is_serve(text: &str) -> bool
 // Promise: Words ask `serve` for something exactly when they write it; what `serve` reads and prints; wrong words touch neither
 // With: vtgate_main::run, vtgate_serve::run_serve
 // Clauses: found, none, serve, unserved, wrong
-// Refuses: vtgate_serve::wrong_words_succeed, vtgate_main::another_word_is_taken, vtgate_serve::serve_says_nothing
 /// What the words ask for, if they are the words of `serve`.
 pub fn read_words(words: &[Word]) -> Option<Asked<'_>>
     ensures found { IfSome result (λ a. Asks words.now a) }

@@ -221,8 +221,6 @@ fn begin<W: World, J: Naming>(
 // Promise: The bytes that a connection's sink takes are the conversation over the bytes that its source gave, and the session ends as it
 // says
 // Clauses: talk, at_end, session
-// Refuses: serve_closes_a_truncated_input, serve_answers_only_half_a_piece, session_replies::chunk_is_not_written,
-// session_replies::buffer_is_written_for_rows, session_replies::rows_are_given_up, session_replies::session_greets_for_ever
 // Headline.
 // Promise: With no other session's commit between (shards may copy, follow and change places), the bytes are a conversation with one
 // database that knows no shards: each query's rows are an answer over what the commands before it left, each write makes and counts its

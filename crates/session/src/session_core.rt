@@ -257,30 +257,12 @@ impl<W: World + Send + Sync, J: Naming + Send + Sync> Core<W, J> {
     // With: Core::{new, commands, standing, end_of_input}
     // Clauses: begins, hello, standing, limit, none_open, err, talk, tx, begun, ended, by_command, fault, cause, again, next, session,
     // whole, id
-    // Refuses: session_replies::each_statement_by_itself, session_replies::transaction_is_forgotten,
-    // session_replies::open_transaction_is_not_told, session_replies::ping_tells_no_transaction,
-    // session_replies::keyspace_tells_no_transaction, session_replies::status_before_the_statement,
-    // session_replies::answers_before_the_handshake, session_replies::another_user_is_taken, session_replies::salt_is_forgotten,
-    // session_replies::unknown_keyspace_is_used, feed_forgets_the_end, id_is_another, session_replies::reply_number_by_the_first_packet,
-    // session_replies::ping_tells_a_row, session_replies::query_is_refused_for_syntax, session_replies::query_gives_no_rows,
-    // session_replies::count_is_told_halved, session_replies::fault_has_the_refused_number, session_replies::fault_is_not_told,
-    // session_replies::key_columns_may_be_null, session_replies::second_tables_columns_come_first,
-    // session_replies::keyspace_in_use_is_the_first, session_replies::reset_forgets_the_keyspace, session_replies::reset_keeps_the_settings,
-    // session_replies::reset_keeps_the_transaction, session_replies::several_statements_are_taken_on,
-    // session_replies::what_is_not_supported_asks_nothing, session_replies::use_keeps_the_keyspace,
-    // session_replies::setting_is_told_and_not_done, session_replies::autocommit_off_commits_each,
-    // session_replies::turning_it_on_forgets_the_writes, session_replies::refused_commit_turns_it_on,
-    // session_replies::status_tells_autocommit_while_off, session_replies::user_has_no_host, session_replies::start_transaction_commits,
-    // session_replies::unknown_variable_is_not_supported, session_replies::told_texts_are_characters,
-    // session_replies::unread_text_is_a_syntax_error
     // Headline.
     // Promise: After a fault: without memory for a piece, it counts as not fed, and pass and sink are as before it; where the sink failed,
     // a front of the payloads is answered, each once, and the sink took a front of the replies; where the source failed, each payload that
     // was read whole is answered, and nothing else was written. A device's failure is told exactly where it failed in the call
     // With: serve
     // Clauses: memory, write, count, fault, read, source_count, sink_count
-    // Refuses: session_replies::answer_runs_the_command_again, piece_without_memory_is_written_raw, read_fault_is_told_at_the_end,
-    // write_fault_is_told_for_memory
     /// Takes the next piece of the input, and writes the replies to the payloads that it completes, each once it is known
     /// whole; the first piece, also an empty one, writes the greeting of a session that is new. `None` says that the session goes on. A session that has ended takes nothing and writes nothing, and tells
     /// again how it ended: after a fault as `End::Broken`.

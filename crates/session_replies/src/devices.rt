@@ -104,7 +104,6 @@ impl<R: io::Read> Source for Reader<R> {
 
     // Promise: A wrapped reader gives its reader's bytes, and an interrupted read ends nothing; a wrapped writer writes its bytes
     // With: Writer::write
-    // Refuses: interrupted_read_is_the_end
     fn read(&mut self, buffer: &mut [u8]) -> Result<usize, DeviceFailed> {
         match read_some(&mut self.reader, buffer) {
             Ok(n) => Ok(n),

@@ -96,7 +96,6 @@ pub fn read_schema_or_text<I: Source>(
 }
 
 // Promise: A VSchema is read from the whole input, and fits the ranges; the cause of a wrong call is the word of the shards or the input
-// Refuses: plan_under_half_the_input
 /// The VSchema that the whole input declares, whose statements hash groups by the key, and which fits the ranges.
 pub fn read_schema<I: Source>(
     alloc: Global,

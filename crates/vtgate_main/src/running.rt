@@ -57,24 +57,18 @@ fn script_words(words: &[Word]) -> Option<&str>
 
 // Promise: `vtgate plan` reads its whole input and writes exactly that line; wrong ranges are refused before anything is read
 // Clauses: plan, untouched, wrong
-// Refuses: plan_of_the_shards, vtgate_input::plan_under_half_the_input, vtgate_script::refused_plan_succeeds
 // Promise: `vtgate script` reads its whole input; its first line is the VSchema, and for each line behind it exactly what it gives is
 // written, in order: for a statement what its text may give its session, behind all that the lines before it have seen and in its open
 // transaction; for an admin line what it did to the workflow of the sharded keyspace, by the controller's pass, which has seen what all
 // lines before it have; `unknown` for any other line
 // Clauses: script, unread, wrong
-// Refuses: vtgate_script::script_runs_empty_lines, vtgate_script::admin_line_is_ok, vtgate_script::script_halves_counts,
-// vtgate_script::names_of_one_length_are_one, vtgate_script::sessions_meet_too_late, vtgate_script::script_forgets_transactions,
-// vtgate_input::sixty_four_ranges_beside_another_shard, vtgate_script::vschema_line_is_run, vtgate_script::unwritten_script_succeeds
 // Promise: A script's lines are over one database, from the opening rows on: what a statement prints is what its text gives over the
 // database that the lines before it left, in its session's open transaction if one is; nobody but a line's session commits in it, and an
 // admin line commits nothing
 // Clauses: script
-// Refuses: vtgate_script::script_forgets_a_line, vtgate_script::first_session_confirms_nothing
 // Promise: The status is 0, 1 or 2; 2 has its cause: words that run nothing, a word that tells no ranges, an input that declares no VSchema, or
 // more than 63 ranges beside an unsharded keyspace
 // Clauses: wrong, plan_cause, script_cause, serve_cause, status
-// Refuses: vtgate_script::refused_plan_is_a_wrong_call, vtgate_script::script_without_memory_is_a_wrong_call, vtgate_serve::right_words_are_wrong
 /// Runs the program with the words of its command line, and gives its exit status. `plan`, with the word of the shards and a statement,
 /// prints the line of the statement's plan under the VSchema that the whole input declares: 0, or 1 where the statement is refused, whose
 /// line is printed, where a device fails or there is no memory. `script`, with the word of the shards, runs the lines behind the first,

@@ -19,7 +19,6 @@ pub struct Admission<'w> {
 
 // Promise: The server lets in the user and the password that its words tell, and greets by their nonce
 // With: serve_connection
-// Refuses: another_user_is_let_in, no_password_is_wanted
 /// The admission that the words ask for. Refuses only for want of memory.
 pub fn admission_of<'w>(alloc: Global, asked: &'w Asked<'w>) -> Result<Admission<'w>, Fault>
     ensures asked { IfOk result (λ a. a.asked.now ≡ asked.now) }

@@ -60,7 +60,6 @@ impl<W: World, J: Naming> Connection<W, J> {
 // Promise: A connection is greeted by the salt of its number and of the nonce that the words tell, lets in the user and the password that
 // they tell and nobody else, and its bytes are then the conversation, over any device
 // Clauses: talk, alone, read, memory, write
-// Refuses: password_is_not_asked, user_is_not_asked, nonce_is_not_used, each_connection_has_one_salt
 /// Serves the connection with the number over these devices until it ends: greets its client by the salt that the nonce of the words and the
 /// number make, and lets in whom the words tell.
 pub fn serve_connection<

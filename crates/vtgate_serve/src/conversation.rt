@@ -230,8 +230,6 @@ fn answer_all<W: World + Send + Sync, J: Naming + Send + Sync, G: Gate, I: Sourc
 // device failed, a line is too long, or there is no memory for one) it does so after a line that was told, or one that was answered and of
 // which a front was written, and nothing more is done. No line of more than 8192 bytes is done, nor one with a byte outside 20 to 7E: that is
 // answered `unknown`, and the conversation breaks off
-// Refuses: unended_line_is_given_up, conversation_ends_unread, each_line_is_told_ok, line_is_kept_for_the_next, longest_line_has_no_limit,
-// line_with_a_return_is_done, next_line_is_done_after_a_bad_one
 /// Answers the lines of a client, each over what the lines before it left, until its input ends. The administrator is that of the engine's
 /// sharded keyspace. It breaks off where a device fails, where a line has more than `LONGEST_LINE` bytes, and where there is no memory for one;
 /// nothing more is done then. What the line before that asked for is done, even where its reply couldn't be written. It also breaks off

@@ -30,7 +30,6 @@ pub struct Acceptor<'l, W: World, J: Naming> {
     last: u32,
     full_since: Option<Instant>,
     // Promise: The server has opened at most as many sessions as it has accepted connections, from none on
-    // Refuses: connection_opens_two_sessions, serve_opens_a_session_of_its_own
     ghost opened: { opener ≤ accepted },
 }
 
@@ -100,7 +99,6 @@ impl<'l, W: World, J: Naming, R: Wait + Clock + Log> Entrance<Connection<W, J>, 
 
     // Promise: Connections are numbered in the order in which they are accepted, each with a number of its own, up to the one that the words
     // tell
-    // Refuses: each_connection_is_the_first, serve_lets_in_one_too_few, one_connection_is_enough
     ghost gives = { λ a c b. Accepts a.accepted a.last c.number b.accepted b.last };
 
     ghost ends = { λ a b. AcceptsNoMore a.accepted a.last b.accepted b.last };
