@@ -92,7 +92,7 @@ impl Incoming {
         self.texts.take()
     }
 
-    /// By what the client logged in, where that can be read.
+    /// By what the client logged in, if that can be read.
     pub fn response(&self) -> Option<Response<'_>> {
         self.login.response()
     }

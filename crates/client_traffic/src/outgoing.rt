@@ -159,7 +159,7 @@ impl<'r> Outgoing<'r> {
         self.sent
     }
 
-    /// The error code that ended the login, 0 where none did.
+    /// The error code that ended the login, 0 if none did.
     pub fn denied(&self) -> u64 {
         self.denied
     }

@@ -16,7 +16,7 @@ pub(crate) struct Part<'b> {
 }
 
 impl<'b> Part<'b> {
-    /// The first byte of the part; 0 where it has none.
+    /// The first byte of the part; 0 if it has none.
     pub fn first(&self) -> u8 {
         self.bytes.first().copied().unwrap_or(0)
     }

@@ -14,7 +14,7 @@ const CODE: usize = 5;
 
 const MESSAGE: usize = 13;
 
-/// The error code that a packet tells, where it tells one.
+/// The error code that a packet tells, if it tells one.
 pub(crate) fn error_code(packet: &[u8]) -> Option<u64> {
     if packet.get(PAYLOAD) != Some(&0xFF) {
         return None;
@@ -29,7 +29,7 @@ fn tells(refusal: Refusal, code: u64, message: &[u8]) -> bool {
     u64::from(refusal.code()) == code && refusal.message().as_bytes() == message
 }
 
-/// The refusal that a packet tells, where it tells one.
+/// The refusal that a packet tells, if it tells one.
 pub(crate) fn told_refusal(packet: &[u8]) -> Option<Refusal> {
     let code = error_code(packet)?;
     let message = packet.get(MESSAGE..)?;
@@ -41,7 +41,7 @@ pub(crate) fn told_refusal(packet: &[u8]) -> Option<Refusal> {
     None
 }
 
-/// How many refusals there were, by number. Shown as `F12:2,F24:1`, and as `none` where there were none.
+/// How many refusals there were, by number. Shown as `F12:2,F24:1`, and as `none` if there were none.
 #[derive(Drop)]
 pub struct Refused {
     counts: [u64; NUMBERS],

@@ -2,7 +2,7 @@
 
 use std::cell::Cell;
 
-/// What answered statements: how many rows they gave or changed, and the number of the last refusal, 0 where there was none.
+/// What answered statements: how many rows they gave or changed, and the number of the last refusal, 0 if there was none.
 #[derive(Clone, Copy, Debug, PartialEq, Eq)]
 pub struct Answered {
     pub rows: u64,

@@ -108,7 +108,7 @@ const ONE_ROW: &[u8] = b"\x02\x00\x00\x04\x011\x05\x00\x00\x05\xfe\x00\x00\x02\x
 const TWO_ROWS: &[u8] =
     b"\x02\x00\x00\x04\x011\x02\x00\x00\x05\x012\x05\x00\x00\x06\xfe\x00\x00\x02\x00";
 
-// Reads these bytes. `None` where others came.
+// Reads these bytes. `None` if others came.
 pub(crate) fn expect(mut stream: &TcpStream, bytes: &[u8]) -> Option<()> {
     for byte in bytes {
         let mut read = [0u8; 1];
@@ -395,7 +395,7 @@ fn new_setting<'s, R: Net<Listener = TcpListener, Stream = TcpStream>>(
     }
 }
 
-// Whether a scene goes as it is to go, where the server is asked for this.
+// Whether a scene goes as it is to go, if the server is asked for this.
 fn is_played<R: Threads + Wait + Sync + Clock + Net<Listener = TcpListener, Stream = TcpStream>>(
     rt: &R,
     alloc: Global,

@@ -21,7 +21,7 @@ fn push_words(alloc: Global, words: &mut Vec<Word>, field: &str) -> Result<(), U
     Ok(())
 }
 
-// The words of a run, with tabs between them; none where there is no field.
+// The words of a run, with tabs between them; none if there is no field.
 fn words_of(alloc: Global, field: Option<&str>) -> Result<Vec<Word>, Unanswered> {
     let mut words = Vec::new(alloc);
     let done = match field {
@@ -34,7 +34,7 @@ fn words_of(alloc: Global, field: Option<&str>) -> Result<Vec<Word>, Unanswered>
     }
 }
 
-// The input, and the field of the words behind it.
+// The input, and the field of the words after it.
 fn parts(case: &str) -> (&str, Option<&str>) {
     match case.split_once('\t') {
         Some((input, words)) => (input, Some(words)),
@@ -42,7 +42,7 @@ fn parts(case: &str) -> (&str, Option<&str>) {
     }
 }
 
-// The word of the shards and the statement, where these are words of `plan`.
+// The word of the shards and the statement, if these are words of `plan`.
 fn plan_words(words: &[Word]) -> Option<(&str, &[u8])> {
     match words {
         [word, shards, sql] if word.as_bytes() == b"plan".as_slice() => Some((
@@ -53,7 +53,7 @@ fn plan_words(words: &[Word]) -> Option<(&str, &[u8])> {
     }
 }
 
-// The word of the shards, where these are words of `script`.
+// The word of the shards, if these are words of `script`.
 fn script_words(words: &[Word]) -> Option<&str> {
     match words {
         [word, shards] if word.as_bytes() == b"script".as_slice() => shards.text(),
@@ -102,7 +102,7 @@ fn put_run<R: Threads + Wait + Sync + Clock + Net<Listener = TcpListener, Stream
     put_bracketed(told, &errors.writer);
 }
 
-/// What a run with these words leaves where it reads this input.
+/// What a run with these words leaves if it reads this input.
 pub(crate) fn whole<
     R: Threads + Wait + Sync + Clock + Net<Listener = TcpListener, Stream = TcpStream>,
 >(rt: &R, alloc: Global, case: &str, told: &mut Told) -> Result<(), Unanswered> {
@@ -113,7 +113,7 @@ pub(crate) fn whole<
     Ok(())
 }
 
-// Tells the status of a run whose output fails behind so many writes, what is told of it, and how many writes are left.
+// Tells the status of a run whose output fails after so many writes, what is told of it, and how many writes are left.
 fn put_failing<
     R: Threads + Wait + Sync + Clock + Net<Listener = TcpListener, Stream = TcpStream>,
     I: Source,
@@ -150,7 +150,7 @@ fn put_failed<R: Threads + Wait + Sync + Clock + Net<Listener = TcpListener, Str
     Ok(())
 }
 
-/// What a run with these words leaves of which a device fails: the source behind this input, or the sink behind two writes.
+/// What a run with these words leaves of which a device fails: the source after this input, or the sink after two writes.
 pub(crate) fn failing<
     R: Threads + Wait + Sync + Clock + Net<Listener = TcpListener, Stream = TcpStream>,
 >(rt: &R, alloc: Global, case: &str, told: &mut Told) -> Result<(), Unanswered> {

@@ -1,4 +1,4 @@
-//! Sessions over one unsharded table of six rows, of which another session deletes the first behind them.
+//! Sessions over one unsharded table of six rows, of which another session deletes the first meanwhile.
 ghost use Rattle.std.specs.Prelude.{◌≡◌, None, IsSome, IsTrue, IfOk};
 ghost use Rattle.keyrange.specs.Names.{IsNamed};
 ghost use Rattle.vschema.specs.WellFormed.{is_vschema};
@@ -59,7 +59,7 @@ pub(crate) struct Fed<'a> {
 pub(crate) enum Device {
     /// The source fails once its bytes are read.
     FailingSource,
-    /// The sink fails behind so many writes.
+    /// The sink fails after so many writes.
     FailingSink(u32),
     /// The source is interrupted before each byte.
     InterruptedSource,

@@ -63,7 +63,7 @@ fn put_talk<R: Threads + Wait + Sync>(
     put_all(told, ended, &sink, &reply, is_served)
 }
 
-// Tells a conversation, and where another came byte by byte that one too.
+// Tells a conversation, and if another came byte by byte that one too.
 fn put_both<R: Threads + Wait + Sync>(
     rt: &R,
     alloc: Global,

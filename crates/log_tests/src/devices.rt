@@ -2,7 +2,7 @@
 use std::io;
 use std::io::{ErrorKind, Write};
 
-/// Takes at most so many bytes of the next writes, in turn, and fails where that is none; then it takes all. Keeps what it took.
+/// Takes at most so many bytes of the next writes, in turn, and fails if that is none; then it takes all. Keeps what it took.
 #[derive(Drop)]
 pub struct Narrow {
     pub taken: Vec<u8>,

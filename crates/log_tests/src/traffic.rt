@@ -1,4 +1,4 @@
-//! What the bytes of a connection tell, and where a VSchema's fault lies.
+//! What the bytes of a connection tell, and if a VSchema's fault lies.
 use client_traffic::{Answered, Detail, Incoming, Outgoing, Replied};
 use schema_place::place_of;
 use std::alloc::Global;

@@ -48,7 +48,7 @@ fn unknown_member<'v>(value: &'v Value, known: &[&str]) -> Option<&'v str> {
     None
 }
 
-/// The text of a member; an empty array where there is none.
+/// The text of a member; an empty array if there is none.
 fn member_text(alloc: Global, value: &Value, name: &str) -> Result<String, AllocError> {
     match value.get(name) {
         Some(member) => member.to_string(alloc),
@@ -148,7 +148,7 @@ fn find_in_keyspace(
     Ok(())
 }
 
-/// Where the text is no JSON.
+/// If the text is no JSON.
 fn find_end(alloc: Global, text: &str, place: &mut Place) -> Option<Value> {
     match Value::from_str(alloc, text) {
         Ok(value) => Some(value),
@@ -160,7 +160,7 @@ fn find_end(alloc: Global, text: &str, place: &mut Place) -> Option<Value> {
     }
 }
 
-/// Where the fault with this number lies in a VSchema's text: in the first keyspace that has it alone, and there in the first table; else in no
+/// If the fault with this number lies in a VSchema's text: in the first keyspace that has it alone, and there in the first table; else in no
 /// keyspace, as that of two keyspaces with a table of one name.
 pub fn place_of(alloc: Global, text: &str, number: u8) -> Result<Place, AllocError> {
     let mut place = Place::whole(alloc);

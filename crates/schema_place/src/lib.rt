@@ -1,4 +1,4 @@
-//! Where the fault of a VSchema lies: which keyspace, table and member have it, or where the text is no JSON.
+//! If the fault of a VSchema lies: which keyspace, table and member have it, or if the text is no JSON.
 #![tactic(auto)]
 
 mod finding;

@@ -4,7 +4,7 @@ use serde_json::Value;
 use std::alloc::{AllocError, Global};
 use vschema_document::{first_fault, parse, read_document};
 
-/// The number of the fault of a text; none where it has none, or there is no memory.
+/// The number of the fault of a text; none if it has none, or there is no memory.
 pub(crate) fn fault_of(alloc: Global, text: &str) -> Option<u8> {
     let value = parse(alloc, text).ok()?;
     match read_document(alloc, &value) {

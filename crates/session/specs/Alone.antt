@@ -1,4 +1,4 @@
--- What the text of a statement may tell its client where no other session comes between: what one database tells.
+-- What the text of a statement may tell its client if no other session comes between: what one database tells.
 use Rattle.std.specs.Prelude.{◌≡◌, ℕ, List, [], ◌∷◌, ◌++◌, map, Option, Some, None, Ok, refl, is_some}
 use Rattle.std.specs.List.{AllByRecursion}
 use Rattle.vt_value.specs.declared.refusal.Refusal.{Refusal}
@@ -42,7 +42,7 @@ pub data InTurn (schema : VSchema) (db : Database) : List Told → Database → 
   next : {told : List Told} {mid after : Database} (t : Told) → InTurn schema db told mid → GivesOver schema mid t.typed t.answer after
       → InTurn schema db (told ++ t ∷ []) after
 
--- What a statement gives, and the state after it. In a transaction it gives what it means behind the transaction's statements so far, which
+-- What a statement gives, and the state after it. In a transaction it gives what it means after the transaction's statements so far, which
 -- COMMIT does all at once, and ROLLBACK never.
 pub data GivesNext (schema : VSchema) (db : Database) : Option (List Told) → Typed → Answer → OneState → Type 0 where
   by_itself : {t : Typed} {answer : Answer} {after : Database} → GivesOver schema db t answer after
@@ -76,7 +76,7 @@ IsEnding ShardFull = Unit {0}
 IsEnding _ = ⊥
 
 -- What the text of a statement may tell, and the state after it, which a refusal leaves as it was, or without its transaction. BEGIN in a
--- transaction is refused. Where there is no memory to tell the rows of an answer, that is told in their place.
+-- transaction is refused. If there is no memory to tell the rows of an answer, that is told in their place.
 pub data MeansOver (schema : VSchema) (s : OneState) (text : List ℕ) : Outcome → OneState → Type 0 where
   answered : {outcome : Outcome} {now : OneState} (answer : Answer) → AnswersNext schema s text answer now → Shows schema answer outcome
       → MeansOver schema s text outcome now

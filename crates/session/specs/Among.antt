@@ -25,7 +25,7 @@ abbrev pub IsEverywhere : Opening → Told → Type 0
 IsEverywhere o t = (run : Run) → IsLegal (MayFollow o) run → GivesOver o.schema (one o run) t.typed t.answer (one o run)
 
 -- What a statement gives over the database that there is now, the database after it, and the answered statements of the transaction that is open
--- then. Without one it gives what it means by itself. In one it gives what it means behind the transaction's statements so far, all over the
+-- then. Without one it gives what it means by itself. In one it gives what it means after the transaction's statements so far, all over the
 -- database that there is now; or the same over every one. COMMIT does them all at once to the database that there is now, and ROLLBACK never.
 pub data GivesAmong (o : Opening) (db : Database) : Option (List Told) → Typed → Answer → Database → Option (List Told) → Type 0 where
   by_itself : {t : Typed} {answer : Answer} {after : Database} → GivesOver o.schema db t answer after → GivesAmong o db None t answer after None

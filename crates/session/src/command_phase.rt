@@ -1,3 +1,4 @@
+//! The loop of a connection: reads pieces from a source, feeds them to a core, and stops at its end.
 ghost use Rattle.std.specs.Prelude.{◌≡◌, ℕ, ◌<◌, List, [], ◌++◌, None, Err, IsSome, IfOk, IfErr, IfSome, length, vec_len};
 ghost use Rattle.std.specs.Io.{ReadsAtMost};
 ghost use Rattle.std.specs.Io.KnownBytes.{Appends, Consumes, IsAtEnd, Keeps, ReadConsumes};
@@ -25,7 +26,7 @@ use std::thread::Threads;
 /// How many bytes are asked of a source at once.
 const PIECE: usize = 1 << 16;
 
-/// A buffer for the pieces of the input. Refuses only where there is no memory.
+/// A buffer for the pieces of the input. Refuses only if there is no memory.
 fn piece_buffer(alloc: Global) -> Result<Vec<u8>, SessionFault>
     ensures room { IfOk result (λ bytes. 0 < vec_len bytes) }
     ensures err { IfErr result (λ e. e ≡ SessionFault.Memory) }
@@ -151,7 +152,7 @@ fn serve_on<W: World + Send + Sync, J: Naming + Send + Sync, G: Gate, R: Source,
     unreachable!()
 }
 
-/// The same, and drops the session.
+/// Serves the connection, and drops the session.
 fn serve_whole<W: World + Send + Sync, J: Naming + Send + Sync, G: Gate, R: Source, S: Sink>(
     rt: &(impl Threads + Wait + Sync),
     alloc: Global,
@@ -197,7 +198,7 @@ fn serve_whole<W: World + Send + Sync, J: Naming + Send + Sync, G: Gate, R: Sour
     serve_on(rt, alloc, engine, pass, &mut core, buffer, source, sink)
 }
 
-/// A session that is new. Refuses only where there is no memory.
+/// A session that is new. Refuses only if there is no memory.
 fn begin<W: World, J: Naming>(
     alloc: Global,
     access: &Access,
@@ -224,7 +225,7 @@ fn begin<W: World, J: Naming>(
 // Headline.
 // Promise: With no other session's commit between (shards may copy, follow and change places), the bytes are a conversation with one
 // database that knows no shards: each query's rows are an answer over what the commands before it left, each write makes and counts its
-// changes of that, and a refusal leaves it; in a transaction each statement gives what it means behind those before it, which COMMIT does
+// changes of that, and a refusal leaves it; in a transaction each statement gives what it means after those before it, which COMMIT does
 // all at once, and nothing else does
 // With: Core::feed
 // Clauses: alone
@@ -242,13 +243,13 @@ pub fn serve<W: World + Send + Sync, J: Naming + Send + Sync, G: Gate, R: Source
     sink: &mut S,
 ) -> Result<End, SessionFault>
     requires session { IsSome pass.old.session }
-    // Exactly the conversation over the bytes that were read is written, where each query has an outcome that its text may have
-    // over what the run leaves at a look of the pass, each behind the one before.
+    // Exactly the conversation over the bytes that were read is written, if each query has an outcome that its text may have
+    // over what the run leaves at a look of the pass, each after the one before.
     ensures talk { IfOk result (λ end. (read : List ℕ) × (written : List ℕ)
         × Consumes (R.unread source.old) (R.unread source.new) read × Appends (S.taken sink.old) (S.taken sink.new) written
         × ((now : PassAndTransaction) × (now.pass ≡ pass.new)
         × Talk COMMAND_LIMIT (terms_of W.opening (record { access = access.now; salt = salt.now; id = id })) (Means W.opening W.limits) Standing.New (none_open pass.old) read written end now)) }
-    // Where no other session came between, it is one over one database, which knows no shards: each outcome is one that its text has
+    // If no other session came between, it is one over one database, which knows no shards: each outcome is one that its text has
     // over the rows that the commands before it left.
     ensures alone { IfOk result (λ end. NoOthers pass.old pass.new → (read : List ℕ) × (written : List ℕ)
         × Consumes (R.unread source.old) (R.unread source.new) read × Appends (S.taken sink.old) (S.taken sink.new) written
@@ -256,7 +257,7 @@ pub fn serve<W: World + Send + Sync, J: Naming + Send + Sync, G: Gate, R: Source
         × Talk COMMAND_LIMIT (alone_terms W.opening (record { access = access.now; salt = salt.now; id = id })) (MeansAlone W.opening W.limits) Standing.New (alone_first W.opening pass.old) read written end now)) }
     // It ends before the end of the input only by a command or a fault.
     ensures at_end { IfOk result (λ end. IsByInput end → IsAtEnd (R.unread source.new)) }
-    // Where the source failed, each payload that was read whole is answered, and nothing else was written.
+    // If the source failed, each payload that was read whole is answered, and nothing else was written.
     ensures read { result ≡ Err SessionFault.Read → (read : List ℕ) × (written : List ℕ)
         × Consumes (R.unread source.old) (R.unread source.new) read × Appends (S.taken sink.old) (S.taken sink.new) written
         × ((now : PassAndTransaction) × (now.pass ≡ pass.new)
@@ -266,12 +267,12 @@ pub fn serve<W: World + Send + Sync, J: Naming + Send + Sync, G: Gate, R: Source
         × Consumes (R.unread source.old) (R.unread source.new) (read ++ piece) × Appends (S.taken sink.old) (S.taken sink.new) written
         × ((now : PassAndTransaction) × (now.pass ≡ pass.new)
         × IsUnfinished COMMAND_LIMIT (terms_of W.opening (record { access = access.now; salt = salt.now; id = id })) (Means W.opening W.limits) Standing.New (none_open pass.old) read written now) }
-    // Where the sink failed, a front of the payloads is answered, each once, and the sink took a front of the replies.
+    // If the sink failed, a front of the payloads is answered, each once, and the sink took a front of the replies.
     ensures write { result ≡ Err SessionFault.Write → (read : List ℕ) × (written : List ℕ)
         × Consumes (R.unread source.old) (R.unread source.new) read × Appends (S.taken sink.old) (S.taken sink.new) written
         × ((now : PassAndTransaction) × (now.pass ≡ pass.new)
         × HasBrokenOff COMMAND_LIMIT (terms_of W.opening (record { access = access.now; salt = salt.now; id = id })) (Means W.opening W.limits) Standing.New (none_open pass.old) read written now) }
-    // That a device failed is told exactly where it did, in this call.
+    // That a device failed is told exactly when it did, in this call.
     ensures source_count { R.failures source.new ≡ read_failures_after result (R.failures source.old) }
     ensures sink_count { S.failures sink.new ≡ write_failures_after result (S.failures sink.old) }
     // Whatever happened, the pass is still its session's.

@@ -1,3 +1,4 @@
+//! A session without its devices: what it knows, and what it writes for a piece of the input. The loop above it only moves bytes.
 ghost use Rattle.std.specs.Prelude.{◌≡◌, ℕ, ◌+◌, ◌≤◌, true, false, List, None, length, Err, IsSome, IfOk, IfErr, ◌⊎◌};
 ghost use Rattle.std.specs.Io.KnownBytes.{Appends};
 ghost use Rattle.mysql_packet.specs.declared.framer.Fed.{Fed};
@@ -136,7 +137,7 @@ impl<W: World, J: Naming> Core<W, J> {
     ghost use Rattle.session_replies.specs.Sessions.{HasTalked};
 
     /// A session that is new: of the connection with this id. It greets its client by the salt, and lets in whom `access` tells.
-    /// Makes room for the greeting and for a refusal, and refuses only where it can't.
+    /// Makes room for the greeting and for a refusal, and refuses only if it can't.
     pub fn new(
         alloc: Global,
         access: &Access,
@@ -172,7 +173,7 @@ impl<W: World, J: Naming> Core<W, J> {
     }
 
     /// A session that begins in the command phase, without a handshake: of the connection with this id, and with the
-    /// capabilities that both sides set. Makes room for the refusal of a command, and refuses only where it can't.
+    /// capabilities that both sides set. Makes room for the refusal of a command, and refuses only if it can't.
     pub fn commands(alloc: Global, id: u32, capabilities: u32) -> Result<Core<W, J>, Refusal>
         // Nothing has been read or written.
         ensures begins { IfOk result (λ core. (o : Opening) (l : Limits) (s : PassAndTransaction)
@@ -214,11 +215,11 @@ impl<W: World, J: Naming> Core<W, J> {
         self.standing
     }
 
-    /// How the session ends where its input ends here, unless it has ended before: closed between two payloads, once the client was let in;
+    /// How the session ends if its input ends here, unless it has ended before: closed between two payloads, once the client was let in;
     /// else truncated.
     pub fn end_of_input(&self) -> End
         ensures ended { IfSome (end_of self.now.standing) (λ end. result ≡ end) }
-        // The conversation is then whole, where the client has been greeted.
+        // The conversation is then whole, if the client has been greeted.
         ensures whole { HasGreeted self.now.standing → (o : Opening) (l : Limits) (begin : Standing) (first now : PassAndTransaction) (bytes out : List ℕ)
             → HasTalked (terms_of o self.now.hello) (Means o l) begin self.now first bytes out now
             → Talk self.now.framing.limit (terms_of o self.now.hello) (Means o l) begin first bytes out result now }
@@ -249,7 +250,7 @@ impl<W: World + Send + Sync, J: Naming + Send + Sync> Core<W, J> {
     // Promise: However a client's bytes are cut, exactly the conversation over them is written, from the greeting on: a client is let in by
     // its user and its answer to the salt, and then by its database, or told why not; each statement has an outcome that its text may have,
     // in the session's open transaction if one is, each from what the session had seen to what it then has seen; a reply's status tells
-    // whether autocommit is on and a transaction is open then; with autocommit off a statement over rows gives, where none is open, what it
+    // whether autocommit is on and a transaction is open then; with autocommit off a statement over rows gives, if none is open, what it
     // gives after BEGIN, and turning it on commits an open one as COMMIT does, or is refused as that is and leaves it off; a text that isn't
     // run, and asks something of a server, is answered that by the VSchema and by what the session knows of itself; a client may name each
     // keyspace, and one that begins anew has no transaction and autocommit on, and keeps its keyspace; result sets end as the client's
@@ -258,9 +259,9 @@ impl<W: World + Send + Sync, J: Naming + Send + Sync> Core<W, J> {
     // Clauses: begins, hello, standing, limit, none_open, err, talk, tx, begun, ended, by_command, fault, cause, again, next, session,
     // whole, id
     // Headline.
-    // Promise: After a fault: without memory for a piece, it counts as not fed, and pass and sink are as before it; where the sink failed,
-    // a front of the payloads is answered, each once, and the sink took a front of the replies; where the source failed, each payload that
-    // was read whole is answered, and nothing else was written. A device's failure is told exactly where it failed in the call
+    // Promise: After a fault: without memory for a piece, it counts as not fed, and pass and sink are as before it; if the sink failed,
+    // a front of the payloads is answered, each once, and the sink took a front of the replies; if the source failed, each payload that
+    // was read whole is answered, and nothing else was written. A device's failure is told exactly when it failed in the call
     // With: serve
     // Clauses: memory, write, count, fault, read, source_count, sink_count
     /// Takes the next piece of the input, and writes the replies to the payloads that it completes, each once it is known
@@ -277,14 +278,14 @@ impl<W: World + Send + Sync, J: Naming + Send + Sync> Core<W, J> {
     ) -> Result<Option<End>, SessionFault>
         requires session { IsSome pass.old.session }
         requires tx { IsOf W.opening self.old.tx pass.old }
-        // However the input was cut before: of the bytes so far exactly the conversation over them has been written, where each
-        // query has an outcome that its text may have over what the run leaves at a look of the pass, each behind the one before,
+        // However the input was cut before: of the bytes so far exactly the conversation over them has been written, if each
+        // query has an outcome that its text may have over what the run leaves at a look of the pass, each after the one before,
         // and in the open transaction, if one is. That is kept from piece to piece.
         ensures talk { IfOk result (λ end. (begin : Standing) (first s : PassAndTransaction) (bytes out : List ℕ) → IsKept W.opening pass.old self.old.tx s
             → HasTalked (terms_of W.opening self.old.hello) (Means W.opening W.limits) begin self.old first bytes out s →
             (written : List ℕ) × Appends (S.taken sink.old) (S.taken sink.new) written × ((now : PassAndTransaction) × IsKept W.opening pass.new self.new.tx now
             × HasTalkedOn (terms_of W.opening self.old.hello) (Means W.opening W.limits) begin self.new first (bytes ++ piece.now) (out ++ written) end now)) }
-        // Where no other session comes between, a conversation over one database goes on over it.
+        // If no other session comes between, a conversation over one database goes on over it.
         ensures alone { IfOk result (λ end. (begin : Standing) (first s : Alone W.opening) (bytes out : List ℕ) → IsKept W.opening pass.old self.old.tx s.kept
             → HasTalked (alone_terms W.opening self.old.hello) (MeansAlone W.opening W.limits) begin self.old first bytes out s →
             NoOthers pass.old pass.new → (written : List ℕ) × Appends (S.taken sink.old) (S.taken sink.new) written
@@ -300,12 +301,12 @@ impl<W: World + Send + Sync, J: Naming + Send + Sync> Core<W, J> {
         ensures cause { IfErr result (λ e. (e ≡ SessionFault.Memory) ⊎ (e ≡ SessionFault.Write)) }
         // A piece for which there is no memory counts as not fed.
         ensures memory { result ≡ Err SessionFault.Memory → (pass.new ≡ pass.old) × (self.new.tx ≡ self.old.tx) × (sink.new ≡ sink.old) × (self.new.framing ≡ self.old.framing) }
-        // Where the sink failed, a front of the payloads is answered, each once, and the sink took a front of the replies.
+        // If the sink failed, a front of the payloads is answered, each once, and the sink took a front of the replies.
         ensures write { result ≡ Err SessionFault.Write → (begin : Standing) (first s : PassAndTransaction) (bytes out : List ℕ) → IsKept W.opening pass.old self.old.tx s
             → HasTalked (terms_of W.opening self.old.hello) (Means W.opening W.limits) begin self.old first bytes out s →
             (written : List ℕ) × Appends (S.taken sink.old) (S.taken sink.new) written × ((now : PassAndTransaction) × IsKept W.opening pass.new self.new.tx now
             × HasBrokenOff self.old.framing.limit (terms_of W.opening self.old.hello) (Means W.opening W.limits) begin first (bytes ++ piece.now) (out ++ written) now) }
-        // That the sink failed is told exactly where it did, in this call.
+        // That the sink failed is told exactly when it did, in this call.
         ensures count { S.failures sink.new ≡ write_failures_after result (S.failures sink.old) }
         ensures again { IfSome (end_of self.old.standing) (λ end. (result ≡ Ok (Some end)) × (self.new ≡ self.old) × (sink.new ≡ sink.old) × (pass.new ≡ pass.old)) }
         ensures next { IsStateAfter self.old self.new }

@@ -56,7 +56,7 @@ column_at t place = slice_index_or t.columns place no_column
 abbrev pub DefinesAt : VSchema → Table → ℕ → R.Column → Type 0
 DefinesAt schema t place defined = Defines schema t place (column_at t place) defined
 
--- the name of a column, with its table's where it was written so
+-- the name of a column, with its table's if it was written so
 abbrev pub name_at : Table → Bool → ℕ → ColumnName
 name_at t qualified n = record { table = if qualified then Some t.name else None; name = (column_at t n).name }
 

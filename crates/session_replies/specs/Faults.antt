@@ -1,4 +1,4 @@
--- How far a conversation has come where a device failed, or there was no memory to take its input.
+-- How far a conversation has come if a device failed, or there was no memory to take its input.
 use Rattle.std.specs.Prelude.{◌≡◌, ℕ, List, Some, None}
 use mathlib.Core.List.{IsPrefix}
 use Rattle.mysql_packet.specs.declared.framer.Payload.{Payload}
@@ -11,12 +11,12 @@ use Rattle.session_replies.specs.Talk.{Terms, Conversation}
 use Rattle.session_replies.specs.Standings.{end_of}
 use Rattle.session_replies.specs.Sessions.{AnswersFed}
 
--- a front of the payloads, or all of them and the fault behind them
+-- a front of the payloads, or all of them and the fault after them
 pub data IsFrontOf : Fed → Fed → Type 0 where
   some : {part whole : Fed} → part.fault ≡ None → IsPrefix part.payloads whole.payloads → IsFrontOf part whole
   all : {fed : Fed} → IsFrontOf fed fed
 
--- The sink failed: a front of the payloads and of the fault behind them is answered, which led from what the session had seen at first to
+-- The sink failed: a front of the payloads and of the fault after them is answered, which led from what the session had seen at first to
 -- what it has seen now, and the sink took a front of what is written for that.
 pub record IsCutOff {S : Type 0} (terms : Terms S) (May : S → List ℕ → Outcome → S → Type 0) (begin : Standing) (first : S) (fed : Fed) (written : List ℕ) (now : S) : Type 0 where
   pub part : Fed
@@ -26,7 +26,7 @@ pub record IsCutOff {S : Type 0} (terms : Terms S) (May : S → List ℕ → Out
   pub answers : AnswersFed terms May begin first part told standing now
   pub taken : IsPrefix written told
 
--- the payloads that the bytes hold, and the header behind them that is refused, if one is
+-- the payloads that the bytes hold, and the header after them that is refused, if one is
 pub record HoldsPayloads (limit : ℕ) (bytes : List ℕ) (fed : Fed) : Type 0 where
   pub whole : fed.fault ≡ None → (rest : List ℕ) × Splits limit bytes fed.payloads rest
   pub refused : (fault : Fault) → fed.fault ≡ Some fault → IsRefusedAfter limit bytes fed.payloads fault

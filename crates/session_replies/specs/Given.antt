@@ -1,4 +1,4 @@
--- What a text gives its client: what it means over the tables, in a transaction that is opened first where autocommit is off; or, where it is
+-- What a text gives its client: what it means over the tables, in a transaction that is opened first if autocommit is off; or, if it is
 -- no SQL that is run, what the session answers by itself to what the text asks of a server.
 use Rattle.std.specs.Prelude.{◌≡◌, ℕ, Bool, true, false, List, [], ◌∷◌, ◌++◌, codes, Some, None}
 use Rattle.vt_value.specs.declared.refusal.Refusal.{Refusal}
@@ -44,7 +44,7 @@ AllTexts (n ∷ names) (d ∷ defined) = DefinesText n d × AllTexts names defin
 abbrev pub facts_of : Hello → Settings → Facts
 facts_of hello set = record { keyspace = set.keyspace; connection = hello.id; user = hello.access.user ++ codes "@%"; autocommit = set.autocommit }
 
--- How an answer is told: rows under definitions of texts, or its refusal. Where there is no memory to tell rows, that is told in their place.
+-- How an answer is told: rows under definitions of texts, or its refusal. If there is no memory to tell rows, that is told in their place.
 pub data TellsAnswer : ClientAnswer → Outcome → Type 0 where
   rows : {names : List (List ℕ)} {rows : List Row} {columns : List R.Column} → AllTexts names columns
       → TellsAnswer (a.Rows names rows) (Rows (record { columns = columns; rows = rows }))
@@ -68,7 +68,7 @@ pub data TellsClient (schema : VSchema) (hello : Hello) (set : Settings) : Clien
   no_memory : {statement : ClientStatement} → has_client_answer statement ≡ true → TellsClient schema hello set statement (Refused r.OutOfMemory) set
 
 -- What a statement gives that asks something of the server. START TRANSACTION with what each transaction here has is BEGIN. Autocommit that is
--- turned on commits an open transaction as COMMIT does; where that is refused it stays off.
+-- turned on commits an open transaction as COMMIT does; if that is refused it stays off.
 pub data AnswersClient {S : Type 0} (terms : Terms S) (May : S → List ℕ → Outcome → S → Type 0) (set : Settings) (s : S) : ClientStatement → Outcome → Settings → S → Type 0 where
   begun : {outcome : Outcome} {now : S} → May s (codes "BEGIN") outcome now → AnswersClient terms May set s Begin outcome set now
   turned_on : set.autocommit ≡ false → terms.is_open s ≡ false
@@ -82,7 +82,7 @@ pub data AnswersClient {S : Type 0} (terms : Terms S) (May : S → List ℕ → 
 
 -- ---- texts over the tables
 
--- a statement that opens a transaction, where autocommit is off and none is open
+-- a statement that opens a transaction, if autocommit is off and none is open
 abbrev pub opens_one : Statement → Bool
 opens_one (Select q) = true
 opens_one (Insert w) = true
@@ -99,7 +99,7 @@ abbrev pub NeedsOne : {S : Type 0} → Terms S → Settings → S → Type 0
 NeedsOne terms set s = (set.autocommit ≡ false) × (terms.is_open s ≡ false)
 
 -- What a text gives that is run over the tables, and what the session has then seen. With autocommit off one that opens a transaction gives,
--- where none is open, what it gives after BEGIN, or BEGIN's refusal. It may be that there is no memory to read whether it opens one.
+-- if none is open, what it gives after BEGIN, or BEGIN's refusal. It may be that there is no memory to read whether it opens one.
 pub data RunsText {S : Type 0} (terms : Terms S) (May : S → List ℕ → Outcome → S → Type 0) (set : Settings) (s : S) (text : List ℕ) : Outcome → S → Type 0 where
   alone : {outcome : Outcome} {now : S} → (NeedsOne terms set s → OpensOne text → ⊥) → May s text outcome now → RunsText terms May set s text outcome now
   after_begin : {outcome : Outcome} {mid now : S} → NeedsOne terms set s → OpensOne text → May s (codes "BEGIN") (Count 0) mid → May mid text outcome now
@@ -115,7 +115,7 @@ is_not_run (Refused r.NotSupported) = true
 is_not_run _ = false
 
 -- What a text gives, what holds for commands then, and what the session has then seen. A text that isn't run and asks something of the
--- server is answered that. Where there is no memory to read what it asks, that is told.
+-- server is answered that. If there is no memory to read what it asks, that is told.
 pub data GivesText {S : Type 0} (terms : Terms S) (May : S → List ℕ → Outcome → S → Type 0) (set : Settings) (s : S) (text : List ℕ) : Outcome → Settings → S → Type 0 where
   run : {outcome : Outcome} {now : S} → RunsText terms May set s text outcome now → (is_not_run outcome ≡ true → (statement : ClientStatement) → Asks text statement → ⊥)
       → GivesText terms May set s text outcome set now

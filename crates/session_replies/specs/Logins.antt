@@ -55,7 +55,7 @@ pub data Admits (status number : ℕ) (login : Login) (right : Bool) : List ℕ 
   admitted : (login.is_user && right) ≡ true → login.is_database ≡ true
       → Admits status number login right (frame number (ok_payload 0 status)) (At (Commands (settings_at_first login.capabilities login.keyspace)))
 
--- What is written for a payload of the connection phase: the client's response to the greeting, which is numbered 1, and, where that came
+-- What is written for a payload of the connection phase: the client's response to the greeting, which is numbered 1, and, if that came
 -- by another plugin, its answer to the request to switch, numbered 3.
 pub data LogsIn (hello : Hello) (keyspaces : List Keyspace) (status : ℕ) : Phase → Payload → List ℕ → Standing → Type 0 where
   unreadable : {p : Payload} → p.first == 1 ≡ true → ((r : Answered) → IsResponse p.bytes r → ⊥)

@@ -44,7 +44,7 @@ HasRows (a.Rows selected) = Unit {0}
 HasRows (a.Count n) = ⊥
 
 -- What the text of a statement may give its client: an answer that it may have, or a refusal for its cause; and how it leaves the pass and the
--- transaction. Where there is no memory to tell the rows of an answer, that is told in their place: it leaves them as the answer does.
+-- transaction. If there is no memory to tell the rows of an answer, that is told in their place: it leaves them as the answer does.
 pub data Means (o : Opening) (limits : Limits) (s : PassAndTransaction) (text : List ℕ) : Outcome → PassAndTransaction → Type 0 where
   answered : {outcome : Outcome} {now : PassAndTransaction} (reply : Reply) → IsReplyTo o limits s text reply now → Shows o.schema reply.answer outcome
       → Means o limits s text outcome now

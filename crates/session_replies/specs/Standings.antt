@@ -34,7 +34,7 @@ end_of New = None
 end_of (At phase) = None
 end_of (Ended end) = Some end
 
--- the greeting is written, where the session has one
+-- the greeting is written, if the session has one
 abbrev pub HasGreeted : Standing → Type 0
 HasGreeted New = ⊥
 HasGreeted (At phase) = Unit {0}

@@ -62,7 +62,7 @@ pub data AnswersPayload {S : Type 0} (terms : Terms S) (May : S → List ℕ →
       → AnswersPayload terms May (Commands set) s p (frame (reply_number p) (ok_payload 0 (status_flags true false)))
       (At (Commands (settings_at_first set.capabilities set.keyspace))) (terms.dropped s)
 
--- What is written for payloads, one after another, from a phase on. Payloads behind the end are not answered.
+-- What is written for payloads, one after another, from a phase on. Payloads after the end are not answered.
 pub data Replies {S : Type 0} (terms : Terms S) (May : S → List ℕ → Outcome → S → Type 0) : Phase → S → List Payload → List ℕ → Standing → S → Type 0 where
   none : {at : Phase} {s : S} → Replies terms May at s [] [] (At at) s
   goes : {at next : Phase} {s mid t : S} {p : Payload} {more : List Payload} {out rest : List ℕ} {standing : Standing}
@@ -82,8 +82,8 @@ pub data Conversation {S : Type 0} (terms : Terms S) (May : S → List ℕ → O
   begun : {begin standing : Standing} {at : Phase} {s t : S} {ps : List Payload} {front out : List ℕ} → Greets terms.hello begin front at
       → Replies terms May at s ps out standing t → Conversation terms May begin s ps (front ++ out) standing t
 
--- The whole conversation over the bytes that were read, from some standing on, and its end. A header that is refused has its ERR packet behind
--- the replies, and ends it. Where nothing ends it before, the end of the input does: in the command phase between two payloads; else the input is
+-- The whole conversation over the bytes that were read, from some standing on, and its end. A header that is refused has its ERR packet after
+-- the replies, and ends it. If nothing ends it before, the end of the input does: in the command phase between two payloads; else the input is
 -- truncated, within a payload or in the connection phase.
 pub data Talk (limit : ℕ) {S : Type 0} (terms : Terms S) (May : S → List ℕ → Outcome → S → Type 0) (begin : Standing) (s : S) : List ℕ → List ℕ → End → S → Type 0 where
   ended : {bytes out : List ℕ} {end : End} {t : S} (payloads : List Payload) (rest : List ℕ)

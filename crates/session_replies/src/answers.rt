@@ -1,3 +1,4 @@
+//! Writes what a piece of the input is answered: the greeting, a reply for each payload, and the refusal of a fault.
 ghost use Rattle.std.specs.Prelude.{◌≡◌, ◌+◌, ◌≤◌, ℕ, List, [], None, length, IsSome, IfOk, OnOk, OnErr};
 ghost use Rattle.std.specs.Io.KnownBytes.{Appends};
 ghost use Rattle.std.specs.List.{concat};
@@ -164,7 +165,7 @@ fn answer_fault<S: Sink>(
     sink.write(reply.as_slice())
 }
 
-/// Writes the greeting, where the session is new, and tells what the session awaits then.
+/// Writes the greeting, if the session is new, and tells what the session awaits then.
 fn greet<S: Sink>(
     hello: &Hello,
     begin: Standing,
@@ -193,8 +194,8 @@ fn greet<S: Sink>(
     }
 }
 
-/// Writes what is written for the payloads that a piece gave, and the refusal of its fault behind them; in a session that is new,
-/// behind the greeting.
+/// Writes what is written for the payloads that a piece gave, and the refusal of its fault after them; in a session that is new,
+/// after the greeting.
 pub fn answer_fed<W: World + Send + Sync, J: Naming + Send + Sync, G: Gate, S: Sink>(
     rt: &(impl Threads + Wait + Sync),
     alloc: Global,

@@ -1,3 +1,4 @@
+//! The only devices of a session, over std's Read and Write. Each counts its failures, so that a contract can say which call failed.
 ghost use Rattle.std.specs.Prelude.{◌≡◌, ◌≤◌, ℕ, List, Option, OnOk, OnErr, drop, length};
 ghost use Rattle.std.specs.Io.{ReadsAtMost, WritesAtMost};
 ghost use Rattle.std.specs.Io.KnownBytes.{Appends, ReadConsumes, WriteAppends};
@@ -12,13 +13,13 @@ pub struct DeviceFailed;
 
 /// Where a session's bytes come from.
 pub trait Source {
-    // The bytes that reads will give from here on, where they are known.
+    // The bytes that reads will give from here on, if they are known.
     ghost unread: { Self → Option (List ℕ) };
 
     // How often it has failed, modulo 2^64.
     ghost failures: { Self → ℕ };
 
-    /// Reads some of the next bytes to the front of the buffer, and tells how many: none only at the end of the input. Where it
+    /// Reads some of the next bytes to the front of the buffer, and tells how many: none only at the end of the input. If it
     /// fails it has read none.
     fn read(&mut self, buffer: &mut [u8]) -> Result<usize, DeviceFailed>
         ensures bound { ReadsAtMost result buffer.new }
@@ -28,7 +29,7 @@ pub trait Source {
 
 /// Where a session's replies go.
 pub trait Sink {
-    // The bytes that it has taken, where they are known.
+    // The bytes that it has taken, if they are known.
     ghost taken: { Self → Option (List ℕ) };
 
     // How often it has failed, modulo 2^64.
@@ -41,7 +42,7 @@ pub trait Sink {
         ensures count { failures self.new ≡ failures_after result (failures self.old) };
 }
 
-/// A `Source` that reads from a `Read`, again where it is interrupted, and counts its failures.
+/// A `Source` that reads from a `Read`, again if it is interrupted, and counts its failures.
 #[derive(Drop)]
 pub struct Reader<R: io::Read> {
     pub reader: R,
@@ -115,7 +116,7 @@ impl<R: io::Read> Source for Reader<R> {
     }
 }
 
-/// Writes some of the bytes, or none where the write was interrupted, and tells how many.
+/// Writes some of the bytes, or none if the write was interrupted, and tells how many.
 #[tactic(auto, using(crate::proofs::Written::none_appended, crate::proofs::Written::none_kept))]
 fn write_some<W: io::Write>(writer: &mut W, bytes: &[u8]) -> Result<usize, DeviceFailed>
     ensures bound { WritesAtMost result bytes.now }

@@ -1,3 +1,5 @@
+//! How a session ends, and why it can't go on.
+
 /// How a session ended.
 #[derive(Clone, Copy, Debug, PartialEq, Eq)]
 pub enum End {

@@ -1,3 +1,4 @@
+//! The reply to a statement: what its text gives its client, and the packets that tell it.
 ghost use Rattle.std.specs.Prelude.{◌≡◌, ℕ, ◌+◌, ◌≤◌, ◌⊎◌, true, false, [], length, Some, None, is_some, IsSome, IfOk, IfErr, Option};
 ghost use Rattle.std.specs.List.{concat};
 ghost use Rattle.shard_calls.specs.Pendings.{IsOf};
@@ -122,7 +123,7 @@ fn chunks_of(
     Ok(chunks)
 }
 
-/// The reply of a result set, or, where there is no memory for it, the refusal that says so.
+/// The reply of a result set, or, if there is no memory for it, the refusal that says so.
 fn put_rows(
     alloc: Global,
     set: ShownSet,
@@ -146,7 +147,7 @@ fn put_rows(
     }
 }
 
-/// The reply to a statement, in chunks where it has rows. Where there is no memory for them, it is the refusal that says so; a count always
+/// The reply to a statement, in chunks if it has rows. If there is no memory for them, it is the refusal that says so; a count always
 /// has room.
 fn put_outcome(
     alloc: Global,

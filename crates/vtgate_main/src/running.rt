@@ -57,8 +57,8 @@ fn script_words(words: &[Word]) -> Option<&str>
 
 // Promise: `vtgate plan` reads its whole input and writes exactly that line; wrong ranges are refused before anything is read
 // Clauses: plan, untouched, wrong
-// Promise: `vtgate script` reads its whole input; its first line is the VSchema, and for each line behind it exactly what it gives is
-// written, in order: for a statement what its text may give its session, behind all that the lines before it have seen and in its open
+// Promise: `vtgate script` reads its whole input; its first line is the VSchema, and for each line after it exactly what it gives is
+// written, in order: for a statement what its text may give its session, after all that the lines before it have seen and in its open
 // transaction; for an admin line what it did to the workflow of the sharded keyspace, by the controller's pass, which has seen what all
 // lines before it have; `unknown` for any other line
 // Clauses: script, unread, wrong
@@ -67,13 +67,13 @@ fn script_words(words: &[Word]) -> Option<&str>
 // admin line commits nothing
 // Clauses: script
 // Promise: The status is 0, 1 or 2; 2 has its cause: words that run nothing, a word that tells no ranges, an input that declares no VSchema, or
-// more than 63 ranges beside an unsharded keyspace
+// more than 63 ranges with an unsharded keyspace
 // Clauses: wrong, plan_cause, script_cause, serve_cause, status
 /// Runs the program with the words of its command line, and gives its exit status. `plan`, with the word of the shards and a statement,
-/// prints the line of the statement's plan under the VSchema that the whole input declares: 0, or 1 where the statement is refused, whose
-/// line is printed, where a device fails or there is no memory. `script`, with the word of the shards, runs the lines behind the first,
-/// which declares the VSchema: 0, or 1 where a device fails or there is no memory. `serve`, with the words that `read_words` reads, serves
-/// connections under the VSchema that the whole input declares: 0 after the last one, or 1 where a port can't be bound, no thread can be
+/// prints the line of the statement's plan under the VSchema that the whole input declares: 0, or 1 if the statement is refused, whose
+/// line is printed, if a device fails or there is no memory. `script`, with the word of the shards, runs the lines after the first,
+/// which declares the VSchema: 0, or 1 if a device fails or there is no memory. `serve`, with the words that `read_words` reads, serves
+/// connections under the VSchema that the whole input declares: 0 after the last one, or 1 if a port can't be bound, no thread can be
 /// started, a device fails or there is no memory. Any other words are wrong: the usage is told, and the status is 2. A word that isn't UTF-8
 /// is wrong, but for the statement of `plan`. A VSchema's fault is told too, and the status is 2. Groups are hashed by the key.
 pub fn run<

@@ -13,7 +13,7 @@ use Rattle.administration.specs.declared.reply.AdminReply.{AdminReply}
 use Rattle.administration.specs.Told.{AdministratorView, IsTold}
 use Rattle.administration.specs.Words.{reply_text}
 
--- what the controller has: its pass, and the workflow of the sharded keyspace, where there is one
+-- what the controller has: its pass, and the workflow of the sharded keyspace, if there is one
 pub record Controller : Type 0 where
   pub pass : PassView Entry
   pub workflow : AdministratorView
@@ -52,7 +52,7 @@ pub record HasAnsweredAll (o : Opening) (most : Limits) (from now : Controller) 
   pub told : AllTold o most from came rest taken then now
 
 -- A conversation that broke off: after a line that was told, after one that was answered and not told whole, or at one that has another byte,
--- which was answered `unknown`. Nothing behind that was done.
+-- which was answered `unknown`. Nothing after that was done.
 pub data BreaksOff (o : Opening) (most : Limits) (from : Controller) (came : List ℕ) (taken then : Option (List ℕ)) (now : Controller) : Type 0 where
   unasked : (lines told rest : List ℕ) → came ≡ lines ++ rest → AreAnswered o most from lines told now → Appends taken then told
       → BreaksOff o most from came taken then now

@@ -1,4 +1,4 @@
--- What `vtgate serve` reads and prints, beside the conversations of its connections.
+-- What `vtgate serve` reads and prints, with the conversations of its connections.
 use Rattle.std.specs.Prelude.{ℕ, List, codes}
 use Rattle.std.specs.Io.KnownBytes.{Appends}
 use Rattle.keyrange.specs.declared.KeyRange.{KeyRange}

@@ -37,7 +37,7 @@ fn hundredths(count: u64, limit: u64) -> u64 {
     }
 }
 
-// The mark that is reached, 0 where none is.
+// The mark that is reached, 0 if none is.
 fn mark_of(held: &Held<'_>) -> u64 {
     let limits = widest_limits();
     let full = hundredths(held.rows, limits.rows).max(hundredths(held.entries, limits.stored));

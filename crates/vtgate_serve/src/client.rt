@@ -49,7 +49,7 @@ pub struct Requests<'s, W: World, J: Naming, R: Clock> {
     pub failures: u64,
     pub incoming: Incoming,
     pub statements: StatementLog<'s, W, J>,
-    /// How long the client had said nothing where that ended it.
+    /// How long the client had said nothing if that ended it.
     pub silence: Option<Duration>,
 }
 

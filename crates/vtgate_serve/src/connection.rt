@@ -89,7 +89,7 @@ pub fn serve_connection<
         × ((now : Alone W.opening) × (now.kept.pass ≡ pass.new)
         × Talk (2 ^ 20) (alone_terms W.opening (hello_of admission.now.asked.now number)) (MeansAlone W.opening W.limits) Standing.New (alone_first W.opening pass.old) read written end now)) }
     ensures at_end { IfOk result (λ end. IsByInput end → IsAtEnd (I.unread source.new)) }
-    // Where the source failed, each payload that was read whole is answered, and nothing else was written.
+    // If the source failed, each payload that was read whole is answered, and nothing else was written.
     ensures read { result ≡ Err SessionFault.Read → (read : List ℕ) × (written : List ℕ)
         × Consumes (I.unread source.old) (I.unread source.new) read × Appends (O.taken sink.old) (O.taken sink.new) written
         × ((now : PassAndTransaction) × (now.pass ≡ pass.new)
@@ -99,7 +99,7 @@ pub fn serve_connection<
         × Consumes (I.unread source.old) (I.unread source.new) (read ++ piece) × Appends (O.taken sink.old) (O.taken sink.new) written
         × ((now : PassAndTransaction) × (now.pass ≡ pass.new)
         × IsUnfinished (2 ^ 20) (terms_of W.opening (hello_of admission.now.asked.now number)) (Means W.opening W.limits) Standing.New (none_open pass.old) read written now) }
-    // Where the sink failed, a front of the payloads is answered, each once, and the sink took a front of the replies.
+    // If the sink failed, a front of the payloads is answered, each once, and the sink took a front of the replies.
     ensures write { result ≡ Err SessionFault.Write → (read : List ℕ) × (written : List ℕ)
         × Consumes (I.unread source.old) (I.unread source.new) read × Appends (O.taken sink.old) (O.taken sink.new) written
         × ((now : PassAndTransaction) × (now.pass ≡ pass.new)

@@ -40,7 +40,7 @@ const STATUS: &[u8] = b"status";
 #[derive(Clone, Copy, Debug, PartialEq, Eq)]
 pub struct BrokenOff;
 
-// Puts more of a line behind what came before.
+// Puts more of a line after what came before.
 fn put(line: &mut Vec<u8>, more: &[u8]) -> Result<(), BrokenOff>
     ensures put { OnOk result (line.new.items ≡ line.old.items ++ more.now) }
     ensures few { OnOk result (length line.new.items ≤ LONGEST_LINE) }
@@ -113,7 +113,7 @@ fn answer<W: World + Send + Sync, J: Naming + Send + Sync, G: Gate, O: Sink>(
     }
 }
 
-// Answers the lines that a piece ends behind the front of a line. What stands behind them waits for its end.
+// Answers the lines that a piece ends after the front of a line. What comes after them waits for its end.
 fn answer_piece<W: World + Send + Sync, J: Naming + Send + Sync, G: Gate, O: Sink>(
     rt: &(impl Wait + Clock + Log),
     alloc: Global,
@@ -226,13 +226,13 @@ fn answer_all<W: World + Send + Sync, J: Naming + Send + Sync, G: Gate, I: Sourc
 }
 
 // Promise: Of the bytes that a client of the admin port sends, each line that has ended is answered, over what the lines before it left,
-// and that is written, in order; a rest that hasn't ended is no line. The conversation ends where its input does. Where it breaks off (a
+// and that is written, in order; a rest that hasn't ended is no line. The conversation ends if its input does. If it breaks off (a
 // device failed, a line is too long, or there is no memory for one) it does so after a line that was told, or one that was answered and of
 // which a front was written, and nothing more is done. No line of more than 8192 bytes is done, nor one with a byte outside 20 to 7E: that is
 // answered `unknown`, and the conversation breaks off
 /// Answers the lines of a client, each over what the lines before it left, until its input ends. The administrator is that of the engine's
-/// sharded keyspace. It breaks off where a device fails, where a line has more than `LONGEST_LINE` bytes, and where there is no memory for one;
-/// nothing more is done then. What the line before that asked for is done, even where its reply couldn't be written. It also breaks off
+/// sharded keyspace. It breaks off if a device fails, if a line has more than `LONGEST_LINE` bytes, and if there is no memory for one;
+/// nothing more is done then. What the line before that asked for is done, even if its reply couldn't be written. It also breaks off
 /// at a line with a byte outside 20 to 7E, which it answers `unknown`: what a browser sends has such a byte in each line.
 pub fn talk<W: World + Send + Sync, J: Naming + Send + Sync, G: Gate, I: Source, O: Sink>(
     rt: &(impl Wait + Clock + Log),

@@ -76,7 +76,7 @@ impl<'l, W: World, J: Naming> Acceptor<'l, W, J> {
     }
 }
 
-/// Tells that the queue of connections is full, where it has become so.
+/// Tells that the queue of connections is full, if it has become so.
 fn tell_full<R: Clock + Log>(rt: &R, logins: &Logins, full_since: &mut Option<Instant>) {
     let waiting = logins.waiting();
     if full_since.is_none() && waiting > QUEUED as u64 {
@@ -85,7 +85,7 @@ fn tell_full<R: Clock + Log>(rt: &R, logins: &Logins, full_since: &mut Option<In
     }
 }
 
-/// Tells that the queue has places again, where it was full.
+/// Tells that the queue has places again, if it was full.
 fn tell_free<R: Clock + Log>(rt: &R, logins: &Logins, full_since: &mut Option<Instant>) {
     if full_since.is_some() && logins.waiting() <= QUEUED as u64 / 2 {
         events::queue_free(rt, events::since(rt, *full_since));

@@ -40,7 +40,7 @@ impl Seconds {
     }
 }
 
-/// How long ago that was; no time where the clock can't be read.
+/// How long ago that was; no time if the clock can't be read.
 pub fn time_since<R: Clock>(rt: &R, start: Option<Instant>) -> Duration {
     match start {
         Some(start) => start.elapsed(rt).unwrap_or(Duration::ZERO),
@@ -55,7 +55,7 @@ pub fn since<R: Clock>(rt: &R, start: Option<Instant>) -> Seconds {
     }
 }
 
-/// Shows a time in seconds, with microseconds; `none` where there is no time.
+/// Shows a time in seconds, with microseconds; `none` if there is no time.
 #[derive(Clone, Copy)]
 struct Moment {
     time: Option<Duration>,
@@ -72,7 +72,7 @@ impl Display for Moment {
     }
 }
 
-/// Shows a refusal by its number, as `F12`; `none` where there is none.
+/// Shows a refusal by its number, as `F12`; `none` if there is none.
 #[derive(Clone, Copy)]
 struct RefusalName {
     number: u8,
@@ -104,7 +104,7 @@ fn put_shown<V: VisitSource, D: Display>(
     visitor.visit_pair(key, Value::Display(shown))
 }
 
-// Tells an event that has these fields, where that is asked for.
+// Tells an event that has these fields, if that is asked for.
 fn tell<R: Log, K: Source>(rt: &R, level: Level, event: &str, fields: &K) {
     let metadata = Metadata::new(level, "");
     if rt.enabled(&metadata) {
@@ -156,7 +156,7 @@ pub fn not_run<R: Log>(rt: &R, why: &NotRun) {
     error!(rt; by = why, connections = 0u32; "end");
 }
 
-/// Which fault a VSchema has, and where it lies.
+/// Which fault a VSchema has, and if it lies.
 #[derive(Clone, Copy)]
 struct FaultPlace<'p> {
     number: u8,
@@ -303,12 +303,12 @@ pub struct Passed<'p> {
     pub served: &'p Result<End, SessionFault>,
     pub incoming: &'p Incoming,
     pub outgoing: &'p Outgoing<'p>,
-    /// How long the client had said nothing where that ended it.
+    /// How long the client had said nothing if that ended it.
     pub silence: Option<Duration>,
     pub time: Seconds,
 }
 
-// Puts a client's bytes; where they aren't UTF-8, that they can't be told.
+// Puts a client's bytes; if they aren't UTF-8, that they can't be told.
 fn put_bytes<V: VisitSource>(visitor: &mut V, key: &str, bytes: &[u8]) -> Result<(), kv::Error> {
     put_text(visitor, key, str::from_utf8(bytes).unwrap_or("?"))
 }

@@ -24,7 +24,7 @@ fn set(socket: RawFd, level: i32, name: i32, value: u32)
     let _ = unsafe { c::setsockopt(socket, level, name, &bytes, 4) };
 }
 
-/// Has the system find out that a client has vanished without a word, as where its line is cut: reads and writes of the stream fail then, two
+/// Has the system find out that a client has vanished without a word, as when its line is cut: reads and writes of the stream fail then, two
 /// minutes later.
 pub fn probe(stream: &TcpStream) {
     let socket = stream.as_raw_fd();

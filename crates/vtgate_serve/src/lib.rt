@@ -1,4 +1,4 @@
-//! `vtgate serve`: connections over TCP, and beside them the admin port.
+//! `vtgate serve`: connections over TCP, and with them the admin port.
 #![tactic(auto)]
 
 mod admin_port;

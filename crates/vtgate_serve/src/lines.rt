@@ -5,7 +5,7 @@ ghost use Rattle.vtgate_lines.specs.Printed.{line};
 
 use vtgate_lines::next_line;
 
-/// The first line that a piece ends, without the byte 0A that ends it, and what follows it. `None` where the piece ends none.
+/// The first line that a piece ends, without the byte 0A that ends it, and what follows it. `None` if the piece ends none.
 pub(crate) fn ended_line(piece: &[u8]) -> Option<(&[u8], &[u8])>
     ensures inner { IfSome result (λ x. HasNoEnd x.0.now) }
     ensures found { IfSome result (λ x. piece.now ≡ line x.0.now ++ x.1.now) }

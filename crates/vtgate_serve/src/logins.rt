@@ -53,7 +53,7 @@ impl Logins {
         self.under_way.fetch_sub(1, Ordering::SeqCst);
     }
 
-    // Ends a login where connections wait and more than half of the workers have one. Tells whether it did.
+    // Ends a login if connections wait and more than half of the workers have one. Tells whether it did.
     fn gives_way(&self) -> bool {
         for _ in 0..TRIES {
             let under_way = self.under_way.load(Ordering::SeqCst);
@@ -102,7 +102,7 @@ impl<'s> Login<'s> {
         }
     }
 
-    /// Whether it may take longer. After 30 seconds it may not; nor after one where connections wait and more than half of the workers have
+    /// Whether it may take longer. After 30 seconds it may not; nor after one if connections wait and more than half of the workers have
     /// a login under way.
     pub fn may_go_on<R: Clock>(&self, rt: &R) -> bool {
         let Some(start) = self.start else {

@@ -150,7 +150,7 @@ fn serve_operators<W: World + Send + Sync, J: Naming + Send + Sync, G: Gate, R: 
     }
 }
 
-// Serves the connections, and beside them the admin port.
+// Serves the connections, and with them the admin port.
 fn serve_both<
     W: World + Send + Sync,
     J: Naming + Send + Sync,
@@ -217,7 +217,7 @@ fn wait_for_others<R: Wait + Clock>(rt: &R, begun: &AtomicU64) {
     }
 }
 
-// Whether so many threads can be started beside one another: they are, and then end.
+// Whether so many threads can be started at once: they are, and then end.
 fn can_start<R: Threads + Wait + Sync + Clock>(rt: &R, threads: u32) -> bool {
     let begun = AtomicU64::new(0);
     let begun = &begun;
@@ -249,7 +249,7 @@ fn threads_beside<R: Log>(rt: &R, workers: u32) -> u32 {
     workers.saturating_add(1).saturating_add(watching)
 }
 
-// Serves the connections of a listener, and beside them the admin port.
+// Serves the connections of a listener, and with them the admin port.
 fn serve_opened_ports<
     'p,
     W: World + Send + Sync,
@@ -304,7 +304,7 @@ fn tell_started<W: World + Send + Sync, J: Naming + Send + Sync, G: Gate, R: Log
     events::started(rt, start);
 }
 
-/// Serves the connections that clients open, in threads of their own, and beside them the admin port, until the last connection is served. The
+/// Serves the connections that clients open, in threads of their own, and with them the admin port, until the last connection is served. The
 /// administrator is that of the engine's sharded keyspace. No session was opened before, and nobody has committed.
 pub fn serve_ports<
     W: World + Send + Sync,

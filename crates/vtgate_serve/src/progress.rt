@@ -33,7 +33,7 @@ pub struct Progress {
     stage: AtomicU64,
     /// Whether a line that asks for a cutover is being answered, and whether its shards are looked at meanwhile.
     switching: AtomicU64,
-    /// 1 where a thread looks at cutovers.
+    /// 1 if a thread looks at cutovers.
     has_watcher: AtomicU64,
     pub logins: Logins,
 }

@@ -140,7 +140,7 @@ pub fn serve_opened<
     }
 }
 
-// The same in the world that begins with this VSchema and these ranges, and no rows.
+// Serves over a router of this VSchema and these ranges, whose tables are empty.
 fn serve_in_world<W: World + Send + Sync, R: Threads + Wait + Sync + Clock + Log, O: Sink>(
     rt: &R,
     alloc: Global,
@@ -258,9 +258,9 @@ fn run_asked<
 }
 
 /// Serves connections as the words of the command line ask, under the VSchema that the whole input declares, and gives the status 0 after the
-/// last one. The status is 1 where a port can't be bound, which is told, where no thread could be started, where a device fails and where
-/// there is no memory for what it runs over; and 2 where the word of the shards tells no ranges, or more than 63 beside an unsharded
-/// keyspace, and where the input declares no VSchema. Words that aren't those of `serve` are wrong: the usage is told, and the status is 2.
+/// last one. The status is 1 if a port can't be bound, which is told, if no thread could be started, if a device fails and if
+/// there is no memory for what it runs over; and 2 if the word of the shards tells no ranges, or more than 63 with an unsharded
+/// keyspace, and if the input declares no VSchema. Words that aren't those of `serve` are wrong: the usage is told, and the status is 2.
 /// Groups are hashed by the key.
 pub fn run_serve<
     R: Threads + Wait + Sync + Clock + Log + Net<Listener = TcpListener, Stream = TcpStream>,
@@ -280,7 +280,7 @@ pub fn run_serve<
         → HasServed asking.shards (I.unread input.old) (I.unread input.new) (O.taken output.old) (O.taken output.new) }
     // A wrong word is refused before anything is read.
     ensures unserved { (asking : Asking) → Asks words.now asking → TellsNone asking.shards → (result ≢ SUCCESS) × (input.new ≡ input.old) }
-    // The status 2 has its cause, where the words are those of `serve` too.
+    // The status 2 has its cause, if the words are those of `serve` too.
     ensures cause { (asking : Asking) → Asks words.now asking → result ≡ WRONG_WORDS
         → IsWrong asking.shards (I.unread input.old) (I.unread input.new) }
     ensures status { result ≤ 2 }

@@ -68,7 +68,7 @@ impl<W: World, J: Naming> StatementLog<'_, W, J> {
         Ok(ranges)
     }
 
-    // The line of a statement's plan over the partition that serves now; empty where it has none.
+    // The line of a statement's plan over the partition that serves now; empty if it has none.
     fn plan(&self, ranges: &[KeyRange], text: &[u8]) -> Vec<u8> {
         match plan_line(self.alloc, self.schema, ranges, text) {
             Ok(line) => line,

@@ -24,7 +24,7 @@ IsRows (Rows set) = Unit {0}
 IsRows (Count n) = ⊥
 IsRows (Refused r) = ⊥
 
--- BEGIN where none is open, or COMMIT
+-- BEGIN if none is open, or COMMIT
 abbrev pub GivesNoRows : List ℕ → Option OpenView → Type 0
 GivesNoRows text kept = ((text ≡ codes "BEGIN") × (kept ≡ None)) ⊎ (text ≡ codes "COMMIT")
 

@@ -6,7 +6,7 @@ use Rattle.mysql_packet.specs.declared.framer.Fed.{Fed}
 use Rattle.mysql_packet.specs.Frames.{IsRefusedAfter}
 use Rattle.mysql_packet.specs.Framing.{Framing, HasFramed}
 
--- What its framer says of a piece: these payloads and the fault behind them, however the stream was cut before.
+-- What its framer says of a piece: these payloads and the fault after them, however the stream was cut before.
 pub record FedBy (old new : Framing) (piece : List ℕ) (fed : Fed) : Type 0 where
   pub payloads : fed.fault ≡ None → (stream : List ℕ) (before : List Payload) → HasFramed old stream before → HasFramed new (stream ++ piece) (before ++ fed.payloads)
   pub fault : (f : Fault) → fed.fault ≡ Some f → (stream : List ℕ) (before : List Payload) → HasFramed old stream before
