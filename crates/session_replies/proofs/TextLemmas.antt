@@ -1,7 +1,10 @@
 -- What a text gives, by its parts.
-use Rattle.std.proofs.Common.{◌≡◌, ℕ, Bool, true, false, List, Option, Some, None, refl, sym, subst, ◌∙◌}
-use Rattle.std.specs.Prelude.{◌↔◌, IsTrue, IsSome, IsNone, is_some, not}
+use Rattle.std.proofs.Common.{◌≡◌, ℕ, Bool, true, false, List, Option, Some, None, refl, sym, ap, subst, ◌∙◌}
+use Rattle.std.specs.Prelude.{◌↔◌, IsTrue, IsSome, IsNone, is_some, not, Result, Ok, Err, IfOk, IfErr, MatchResult}
 use Rattle.vt_value.specs.declared.refusal.Refusal.{Refusal}
+use Rattle.vt_value.specs.declared.refusal.Refusal.TheVariants.{OutOfMemory}
+use Rattle.sql_tree.specs.declared.Statement.{Statement}
+use Rattle.sql_parser.specs.Grammar.{Reads}
 use Rattle.resultset.specs.declared.Outcome.{Outcome}
 use Rattle.resultset.specs.declared.Outcome.TheVariants.{Refused}
 use Rattle.client_statements.specs.declared.statement.ClientStatement.{ClientStatement}
@@ -13,9 +16,9 @@ use Rattle.shard_calls.specs.Pendings.{OpenView}
 use Rattle.session_replies.specs.declared.standing.Settings.{Settings}
 use Rattle.session_replies.specs.Terms.{Terms}
 use Rattle.session_replies.specs.Outcomes.{PassAndTransaction, IsKept}
-use Rattle.session_replies.specs.Given.{RunsText, GivesText, is_not_run}
+use Rattle.session_replies.specs.Given.{opens_one, OpensOne, RunsText, GivesText, is_not_run}
 use Rattle.session_replies.specs.Given as g
-use Rattle.session_replies.specs.inner.Outcomes.{AnswersAsked}
+use Rattle.session_replies.specs.inner.Outcomes.{AnswersAsked, opens_read}
 use Rattle.session_replies.specs.inner.Outcomes as inner
 use Rattle.session_replies.specs.inner.Tellings.{turns_on}
 use Rattle.session_replies.proofs.RepliesLemmas.{kept_status}
@@ -40,6 +43,23 @@ no_view (Some v) none = absurd (cc)
 
 pub none_kept : (o : Opening) (p : PassView Entry) (kept : Option OpenView) (s : PassAndTransaction) → IsKept o p kept s → is_some s.tx ≡ false → kept ≡ None
 none_kept o p kept s held none = no_view kept (kept_status o p kept s held ∙ none)
+
+-- ---- a text that was read
+
+module _ (text : List ℕ) where
+  -- opens one if it has such a tree
+  pub read_opens : (read : Result Statement Refusal) → IfOk read (λ tree. Reads text tree)
+      → ((tree : Statement) → Reads text tree → MatchResult read (λ t. t ≡ tree) (λ e. e ≡ OutOfMemory))
+      → IfOk (opens_read read) (λ opens. opens ≡ true ↔ OpensOne text)
+  read_opens (Ok tree) found only =
+      (λ is. (tree, found, is), λ opens. ap (λ (t : Statement). opens_one t) (only opens.0 opens.1) ∙ opens.2)
+  read_opens (Err OutOfMemory) found only = tt
+  read_opens (Err _) found only = (λ is. absurd (cc), λ opens. let full = only opens.0 opens.1 in absurd (cc))
+
+pub read_full : (read : Result Statement Refusal) → IfErr (opens_read read) (λ why. why ≡ OutOfMemory)
+read_full (Ok tree) = tt
+read_full (Err OutOfMemory) = refl
+read_full (Err _) = tt
 
 -- ---- statements
 

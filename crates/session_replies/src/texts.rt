@@ -1,5 +1,5 @@
-//! What a text gives its client: over the tables, in a transaction that is opened first if autocommit is off; or what it asks of the server.
-ghost use Rattle.std.specs.Prelude.{◌≡◌, ◌↔◌, ◌⊎◌, ℕ, true, false, Some, None, is_some, IsSome, IsNone, IfOk, IfErr, IfSome, Option, codes};
+//! What a text gives its client: over the tables, in a transaction that is opened first where autocommit is off; or what it asks of the server.
+ghost use Rattle.std.specs.Prelude.{List, ◌≡◌, ◌↔◌, ◌⊎◌, ℕ, true, false, Some, None, is_some, IsSome, IsNone, IfOk, IfErr, IfSome, Option, codes};
 ghost use Rattle.shard_calls.specs.Pendings.{IsOf};
 ghost use Rattle.sql_tree.specs.declared.Statement.{Statement};
 ghost use Rattle.resultset.specs.declared.Outcome.{Outcome};
@@ -9,7 +9,7 @@ ghost use Rattle.session_replies.specs.declared.standing.Settings.{Settings};
 ghost use Rattle.session_replies.specs.Columns.{AreColumns};
 ghost use Rattle.session_replies.specs.Outcomes.{Means, Shows, HasRows, terms_of};
 ghost use Rattle.session_replies.specs.Given.{opens_one, OpensOne, RunsText, AnswersClient, GivesText};
-ghost use Rattle.session_replies.specs.inner.Outcomes.{LeadsKept, GivesNoRows, AnswersAsked};
+ghost use Rattle.session_replies.specs.inner.Outcomes.{LeadsKept, GivesNoRows, IsReading, AnswersAsked, opens_read};
 ghost use Rattle.session_replies.specs.inner.Tellings.{turns_on};
 
 use crate::columns::columns_of;
@@ -48,7 +48,7 @@ fn result_set(alloc: Global, schema: &VSchema, selected: Selected) -> Result<Sho
     })
 }
 
-/// An answer as its client is told it, or, if there is no memory for rows, the refusal that says so.
+/// An answer as its client is told it, or, where there is no memory for rows, the refusal that says so.
 fn shown(alloc: Global, schema: &VSchema, answer: Answer) -> Told
     ensures { Shows schema.now answer result ⊎ (HasRows answer × (result ≡ Outcome.Refused Refusal.OutOfMemory)) }
 {
@@ -90,7 +90,7 @@ fn outcome_of<W: World + Send + Sync, J: Naming + Send + Sync, G: Gate>(
     }
 }
 
-/// Runs BEGIN if none is open, or COMMIT, which give no rows.
+/// Runs BEGIN where none is open, or COMMIT, which give no rows.
 fn run_command<W: World + Send + Sync, J: Naming + Send + Sync, G: Gate>(
     rt: &(impl Threads + Wait + Sync),
     alloc: Global,
@@ -139,7 +139,7 @@ fn after_begin<W: World + Send + Sync, J: Naming + Send + Sync, G: Gate>(
     }
 }
 
-/// Whether a statement opens a transaction, if autocommit is off and none is open.
+/// Whether a statement opens a transaction, where autocommit is off and none is open.
 fn opens_one(statement: &Statement) -> bool
     ensures { result ≡ opens_one statement.now }
 {
@@ -149,16 +149,26 @@ fn opens_one(statement: &Statement) -> bool
     )
 }
 
+/// The same of a text that was read; one without a tree opens none.
+fn opens_read(parsed: &Result<Statement, Refusal>) -> Result<bool, Refusal>
+    ensures { result ≡ opens_read parsed.now }
+{
+    match parsed {
+        Ok(statement) => Ok(opens_one(statement)),
+        Err(Refusal::OutOfMemory) => Err(Refusal::OutOfMemory),
+        Err(_) => Ok(false),
+    }
+}
+
 /// Whether a text is such a statement. It is read again to be run.
 fn text_opens_one(alloc: Global, text: &[u8]) -> Result<bool, Refusal>
     ensures opens { IfOk result (λ opens. opens ≡ true ↔ OpensOne text.now) }
     ensures err { IfErr result (λ why. why ≡ Refusal.OutOfMemory) }
 {
-    match parse(alloc, text) {
-        Ok(statement) => Ok(opens_one(&statement)),
-        Err(Refusal::OutOfMemory) => Err(Refusal::OutOfMemory),
-        Err(_) => Ok(false),
-    }
+    let parsed = parse(alloc, text);
+    let opens = opens_read(&parsed);
+    drop(parsed);
+    opens
 }
 
 /// Whether a transaction is opened before the text is run.
@@ -201,7 +211,7 @@ fn run_text<W: World + Send + Sync, J: Naming + Send + Sync, G: Gate>(
     }
 }
 
-/// What turning autocommit on gives, and what then holds for commands. It commits an open transaction, and stays off if that is refused.
+/// What turning autocommit on gives, and what then holds for commands. It commits an open transaction, and stays off where that is refused.
 fn turned_on<W: World + Send + Sync, J: Naming + Send + Sync, G: Gate>(
     rt: &(impl Threads + Wait + Sync),
     alloc: Global,
@@ -257,6 +267,33 @@ fn statement_outcome<W: World + Send + Sync, J: Naming + Send + Sync, G: Gate>(
     }
 }
 
+/// What is given by what a text asks of the server, and what then holds for commands; if that is nothing, it is refused for why it wasn't run.
+fn answer_read<W: World + Send + Sync, J: Naming + Send + Sync, G: Gate>(
+    rt: &(impl Threads + Wait + Sync),
+    alloc: Global,
+    engine: &Engine<W, J, G>,
+    pass: &mut Pass<ShardLaw<W>, J>,
+    tx: &mut Tx<W, J>,
+    hello: &Hello,
+    settings: Settings,
+    why: Refusal,
+    asks: &Option<ClientStatement>,
+) -> (Told, Settings)
+    requires session { IsSome pass.old.session }
+    requires tx { IsOf W.opening tx.old pass.old }
+    ensures gives { (text : List ℕ) → IsReading text asks.now → LeadsKept W.opening pass.old tx.old pass.new tx.new
+        (λ s now. AnswersAsked (terms_of W.opening hello.now) (Means W.opening W.limits) settings s text (Outcome.Refused why) result.0 result.1 now) }
+    ensures tx { IsOf W.opening tx.new pass.new }
+    ensures session { pass.new.session ≡ pass.old.session }
+{
+    match asks {
+        Some(statement) => {
+            statement_outcome(rt, alloc, engine, pass, tx, hello, settings, statement)
+        }
+        None => (refused(why), settings),
+    }
+}
+
 /// What a text gives that isn't run, and what then holds for commands: what it asks of the server, or its refusal.
 fn asked<W: World + Send + Sync, J: Naming + Send + Sync, G: Gate>(
     rt: &(impl Threads + Wait + Sync),
@@ -277,10 +314,11 @@ fn asked<W: World + Send + Sync, J: Naming + Send + Sync, G: Gate>(
     ensures session { pass.new.session ≡ pass.old.session }
 {
     match read(alloc, text) {
-        Ok(Some(statement)) => {
-            statement_outcome(rt, alloc, engine, pass, tx, hello, settings, &statement)
+        Ok(asks) => {
+            let answered = answer_read(rt, alloc, engine, pass, tx, hello, settings, why, &asks);
+            drop(asks);
+            answered
         }
-        Ok(None) => (refused(why), settings),
         Err(_) => (refused(Refusal::OutOfMemory), settings),
     }
 }

@@ -1,6 +1,8 @@
 -- Steps from what a session keeps to what it keeps then.
-use Rattle.std.specs.Prelude.{◌≡◌, ◌⊎◌, ℕ, List, Option, None, codes}
+use Rattle.std.specs.Prelude.{◌≡◌, ◌⊎◌, ℕ, Bool, false, List, Option, Some, None, Result, Ok, Err, IfSome, codes}
+use Rattle.vt_value.specs.declared.refusal.Refusal.{Refusal}
 use Rattle.vt_value.specs.declared.refusal.Refusal.TheVariants.{OutOfMemory}
+use Rattle.sql_tree.specs.declared.Statement.{Statement}
 use Rattle.resultset.specs.declared.Outcome.{Outcome}
 use Rattle.resultset.specs.declared.Outcome.TheVariants.{Rows, Count, Refused}
 use Rattle.journal.specs.Views.{PassView}
@@ -11,7 +13,7 @@ use Rattle.client_statements.specs.declared.statement.ClientStatement.{ClientSta
 use Rattle.client_statements.specs.Asks.{Asks}
 use Rattle.session_replies.specs.declared.standing.Settings.{Settings}
 use Rattle.session_replies.specs.Terms.{Terms}
-use Rattle.session_replies.specs.Given.{AnswersClient}
+use Rattle.session_replies.specs.Given.{opens_one, AnswersClient}
 use Rattle.session_replies.specs.Outcomes.{PassAndTransaction, IsKept}
 
 -- From whatever pass and transaction were kept, this leads to some that are kept then.
@@ -28,9 +30,20 @@ IsRows (Refused r) = ⊥
 abbrev pub GivesNoRows : List ℕ → Option OpenView → Type 0
 GivesNoRows text kept = ((text ≡ codes "BEGIN") × (kept ≡ None)) ⊎ (text ≡ codes "COMMIT")
 
+-- what was read of what a text asks
+pub record IsReading (text : List ℕ) (asks : Option ClientStatement) : Type 0 where
+  pub asked : IfSome asks (λ s. Asks text s)
+  pub only : (s : ClientStatement) → Asks text s → asks ≡ Some s
+
 -- What a text that isn't run gives by what it asks of the server; if that is nothing, the outcome that it had.
 pub data AnswersAsked {S : Type 0} (terms : Terms S) (May : S → List ℕ → Outcome → S → Type 0) (set : Settings) (s : S) (text : List ℕ) (outcome : Outcome) : Outcome → Settings → S → Type 0 where
   asked : {reply : Outcome} {then : Settings} {now : S} (statement : ClientStatement) → Asks text statement → AnswersClient terms May set s statement reply then now
       → AnswersAsked terms May set s text outcome reply then now
   nothing : ((statement : ClientStatement) → Asks text statement → ⊥) → AnswersAsked terms May set s text outcome outcome set s
   unread : AnswersAsked terms May set s text outcome (Refused OutOfMemory) set s
+
+-- whether a text that was read opens a transaction; one without a tree opens none
+abbrev pub opens_read : Result Statement Refusal → Result Bool Refusal
+opens_read (Ok statement) = Ok (opens_one statement)
+opens_read (Err OutOfMemory) = Err OutOfMemory
+opens_read (Err _) = Ok false
