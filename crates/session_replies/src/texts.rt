@@ -1,4 +1,4 @@
-//! What a text gives its client: over the tables, in a transaction that is opened first where autocommit is off; or what it asks of the server.
+//! What a text gives its client: over the tables, in a transaction that is opened first if autocommit is off; or what it asks of the server.
 ghost use Rattle.std.specs.Prelude.{List, ◌≡◌, ◌↔◌, ◌⊎◌, ℕ, true, false, Some, None, is_some, IsSome, IsNone, IfOk, IfErr, IfSome, Option, codes};
 ghost use Rattle.shard_calls.specs.Pendings.{IsOf};
 ghost use Rattle.sql_tree.specs.declared.Statement.{Statement};
@@ -48,7 +48,7 @@ fn result_set(alloc: Global, schema: &VSchema, selected: Selected) -> Result<Sho
     })
 }
 
-/// An answer as its client is told it, or, where there is no memory for rows, the refusal that says so.
+/// An answer as its client is told it, or, if there is no memory for rows, the refusal that says so.
 fn shown(alloc: Global, schema: &VSchema, answer: Answer) -> Told
     ensures { Shows schema.now answer result ⊎ (HasRows answer × (result ≡ Outcome.Refused Refusal.OutOfMemory)) }
 {
@@ -90,7 +90,7 @@ fn outcome_of<W: World + Send + Sync, J: Naming + Send + Sync, G: Gate>(
     }
 }
 
-/// Runs BEGIN where none is open, or COMMIT, which give no rows.
+/// Runs BEGIN if none is open, or COMMIT, which give no rows.
 fn run_command<W: World + Send + Sync, J: Naming + Send + Sync, G: Gate>(
     rt: &(impl Threads + Wait + Sync),
     alloc: Global,
@@ -139,7 +139,7 @@ fn after_begin<W: World + Send + Sync, J: Naming + Send + Sync, G: Gate>(
     }
 }
 
-/// Whether a statement opens a transaction, where autocommit is off and none is open.
+/// Whether a statement opens a transaction, if autocommit is off and none is open.
 fn opens_one(statement: &Statement) -> bool
     ensures { result ≡ opens_one statement.now }
 {
@@ -211,7 +211,7 @@ fn run_text<W: World + Send + Sync, J: Naming + Send + Sync, G: Gate>(
     }
 }
 
-/// What turning autocommit on gives, and what then holds for commands. It commits an open transaction, and stays off where that is refused.
+/// What turning autocommit on gives, and what then holds for commands. It commits an open transaction, and stays off if that is refused.
 fn turned_on<W: World + Send + Sync, J: Naming + Send + Sync, G: Gate>(
     rt: &(impl Threads + Wait + Sync),
     alloc: Global,
