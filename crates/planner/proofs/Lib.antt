@@ -16,3 +16,4 @@ pub mod RowRights
 pub mod GroupRights
 pub mod PieceSums
 pub mod IdsKept
+pub mod Between

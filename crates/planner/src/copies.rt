@@ -78,7 +78,7 @@ fn copy_members(
     ensures ok { IfOk result (λ list. list ≡ members.now) }
     ensures err { IfErr result (λ e. e ≡ Refusal.OutOfMemory) }
 {
-    let mut copied = Items::new(alloc);
+    let mut copied = Items::from_vec(Vec::with_capacity(alloc, members.len())?);
     for member in members {
         let member = copy_condition(alloc, member)?;
         copied.push(member)?;
@@ -90,7 +90,7 @@ pub fn copy_items(alloc: Global, items: &[Item<usize>]) -> Result<Items<Item<usi
     ensures ok { IfOk result (λ list. list ≡ items.now) }
     ensures err { IfErr result (λ e. e ≡ Refusal.OutOfMemory) }
 {
-    let mut copied = Items::new(alloc);
+    let mut copied = Items::from_vec(Vec::with_capacity(alloc, items.len())?);
     for item in items {
         copied.push(copy_item(item))?;
     }
@@ -101,7 +101,7 @@ pub fn copy_keys(alloc: Global, keys: &[Key<usize>]) -> Result<Items<Key<usize>>
     ensures ok { IfOk result (λ list. list ≡ keys.now) }
     ensures err { IfErr result (λ e. e ≡ Refusal.OutOfMemory) }
 {
-    let mut copied = Items::new(alloc);
+    let mut copied = Items::from_vec(Vec::with_capacity(alloc, keys.len())?);
     for key in keys {
         copied.push(Key {
             column: key.column,
@@ -115,7 +115,7 @@ pub fn copy_places(alloc: Global, places: &[usize]) -> Result<Items<usize>, Refu
     ensures ok { IfOk result (λ list. list ≡ places.now) }
     ensures err { IfErr result (λ e. e ≡ Refusal.OutOfMemory) }
 {
-    let mut copied = Items::new(alloc);
+    let mut copied = Items::from_vec(Vec::with_capacity(alloc, places.len())?);
     for place in places {
         copied.push(*place)?;
     }

@@ -10,6 +10,7 @@ mod pieces;
 mod planning;
 mod plans;
 mod routes;
+mod spans;
 mod taking;
 
 pub use keys::{KeyColumn, Keys};

@@ -1,7 +1,9 @@
 //! The values of an IN, each with its keyspace id, which is made once for all ranges.
-ghost use Rattle.std.specs.Prelude.{◌≡◌, ◌++◌, ◌∷◌, [], ◌↔◌, map, IsTrue, OnOk};
+ghost use Rattle.std.specs.Prelude.{◌≡◌, ◌++◌, ◌∷◌, [], ◌↔◌, map, IsTrue, IfSome, OnOk};
+ghost use Rattle.planner.specs.inner.Spans.{AllIn};
 ghost use Rattle.planner.specs.KnownIds.{IsIdOf};
 
+use crate::spans::{Span, span_with};
 use std::alloc::{AllocError, Global};
 use std::marker::Model;
 use vindex::{AnyVindex, Ksid};
@@ -39,10 +41,13 @@ fn known_id(vindex: AnyVindex, value: &Value) -> KnownId
 #[derive(Drop)]
 pub struct Members {
     list: Vec<Member>,
+    /// Where all their ids lie, if this is known.
+    span: Option<Span>,
 }
 
 impl Model for Members {
-    ghost use Rattle.std.specs.Prelude.{List, map};
+    ghost use Rattle.std.specs.Prelude.{List, map, IfSome};
+    ghost use Rattle.planner.specs.inner.Spans.{AllIn};
     ghost use Rattle.std.specs.Coded.{coded_list};
     ghost use Rattle.vt_value.specs.declared.value.Value.{Value as V};
     ghost use Rattle.vt_value.specs.contracts.value.Value as value;
@@ -52,6 +57,8 @@ impl Model for Members {
     ghost coded = { coded_list value.the_row.coded };
 
     ghost view = { λ m. map (λ x. x.value) m.list.items };
+
+    ghost invariant = { λ m. IfSome m.span (AllIn (map (λ x. x.value) m.list.items)) };
 }
 
 impl Members {
@@ -61,6 +68,7 @@ impl Members {
     {
         Members {
             list: Vec::new(alloc),
+            span: None,
         }
     }
 
@@ -69,7 +77,9 @@ impl Members {
         ensures { OnOk result (self.new ≡ self.old ++ value ∷ []) }
     {
         let id = known_id(vindex, &value);
+        let span = span_with(self.span, self.list.is_empty(), vindex, id);
         self.list.push(Member { value, vindex, id })?;
+        self.span = span;
         Ok(())
     }
 
@@ -77,6 +87,13 @@ impl Members {
         ensures { IsTrue result ↔ (self.now ≡ []) }
     {
         self.list.is_empty()
+    }
+
+    /// Where all their ids lie, if this is known.
+    pub(crate) fn span(&self) -> Option<Span>
+        ensures { IfSome result (AllIn self.now) }
+    {
+        self.span
     }
 
     /// The values with their ids.

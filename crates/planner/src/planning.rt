@@ -147,7 +147,7 @@ fn first_places(alloc: Global, items: &[Item<usize>]) -> Result<Items<usize>, Re
     ensures ok { IfOk result (λ places. places ≡ places_from 0 items.now) }
     ensures err { IfErr result (λ e. e ≡ Refusal.OutOfMemory) }
 {
-    let mut places = Items::new(alloc);
+    let mut places = Items::from_vec(Vec::with_capacity(alloc, items.len())?);
     for (place, _) in items.iter().enumerate() {
         places.push(place)?;
     }

@@ -1,15 +1,16 @@
-//! Which ranges a route takes. Keyspace ids are made once for a statement, not once for each shard.
-ghost use Rattle.std.specs.Prelude.{◌≡◌, ◌&&◌, [], IfOk, IfErr, IfNone, IfSome};
+ghost use Rattle.std.specs.Prelude.{◌≡◌, ◌&&◌, [], List, IsTrue, false, IfOk, IfErr, IfNone, IfSome};
 ghost use Rattle.std.specs.List.{list_any};
 ghost use Rattle.keyrange.specs.declared.KeyRange.{KeyRange};
 ghost use Rattle.keyrange.specs.Ranges.{has_id};
 ghost use Rattle.vindex.specs.Ksids.{ksid_bytes};
 ghost use Rattle.vt_value.specs.declared.value.Value.{Value};
+ghost use Rattle.planner.specs.inner.Spans.{AllIn};
 ghost use Rattle.planner.specs.declared.routes.Route.{Route};
 ghost use Rattle.planner.specs.Routes.{id_of, is_sharded, takes, taken_places};
 
-use crate::members::{KnownId, Member};
+use crate::members::{KnownId, Member, Members};
 use crate::routes::Route;
+use crate::spans::{Span, misses};
 use keyrange::KeyRange;
 use std::alloc::Global;
 use vindex::Ksid;
@@ -50,6 +51,25 @@ fn has_one_of(table: &Table, range: &KeyRange, members: &[Member]) -> bool
         .any(|member| has_member(table, range, member))
 }
 
+// Whether a range holds no id of the span by the table's vindex.
+fn lies_outside(table: &Table, range: &KeyRange, span: Option<Span>) -> bool
+    ensures { IsTrue result → (values : List Value) → IfSome span (AllIn values) → list_any (λ v. has_id range.now (id_of table.now v)) values ≡ false }
+{
+    match (table.vindex, &span) {
+        (Some(vindex), Some(span)) if vindex.vindex == span.vindex => misses(span, range),
+        _ => false,
+    }
+}
+
+fn has_one_among(table: &Table, range: &KeyRange, values: &Members) -> bool
+    ensures { result ≡ list_any (λ v. has_id range.now (id_of table.now v)) values.now }
+{
+    if lies_outside(table, range, values.span()) {
+        return false;
+    }
+    has_one_of(table, range, values.as_slice())
+}
+
 /// Whether the route of a statement on the table takes the shard of a range.
 pub fn takes(table: &Table, route: &Route, range: &KeyRange) -> bool
     ensures { result ≡ takes table.now route.now range.now }
@@ -59,7 +79,7 @@ pub fn takes(table: &Table, route: &Route, range: &KeyRange) -> bool
         Route::None => false,
         Route::Scatter => true,
         Route::EqualUnique(value) => has_value(table, range, value),
-        Route::In(values) => has_one_of(table, range, values.as_slice()),
+        Route::In(values) => has_one_among(table, range, values),
     }
 }
 

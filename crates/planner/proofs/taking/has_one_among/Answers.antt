@@ -5,11 +5,10 @@ use Rattle.keyrange.specs.Ranges.{has_id}
 use Rattle.vschema_document.proofs.Lists.{list_any_map}
 use Rattle.planner.specs.declared.members.Member.{Member}
 use Rattle.planner.specs.Routes.{id_of}
-use Rattle.planner.proofs.taking.takes.Goals as goal
+use Rattle.planner.proofs.taking.has_one_among.Goals as goal
 
-pub returns-in-In : goal.returns-in-In
-returns-in-In c =
+pub returns : goal.returns
+returns c =
     let lies = λ (v : Value). has_id c.args.range.now (id_of c.args.table.now v) in
     let value = λ (m : Member). m.value in
-    rw (c.in-In.is)
-    (c.has_one_of.ensures ∙ sym (list_any_map lies value c.as_slice.result.now) ∙ ap (list_any lies) c.as_slice.ensures)
+    c.has_one_of.ensures ∙ sym (list_any_map lies value c.as_slice.result.now) ∙ ap (list_any lies) c.as_slice.ensures
