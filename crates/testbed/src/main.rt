@@ -36,7 +36,7 @@ fn answer<
         "scene" => router_tests::answer(rt, alloc, case, told),
         "soak" => soak::answer(rt, alloc, case, told),
         "measure" => bench::answer(rt, alloc, case, told),
-        "talk" | "served" | "run" | "failing_run" | "loopback" => {
+        "talk" | "around" | "served" | "run" | "failing_run" | "loopback" => {
             connection_tests::answer(rt, alloc, area, case, told)
         }
         _ => cases::answer(alloc, area, case, told),
