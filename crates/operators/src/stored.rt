@@ -9,7 +9,7 @@ use vt_value::{Items, Refusal, Row};
 #[derive(Drop)]
 pub struct Rows {
     /// The rows that are still to come, the last one first.
-    reversed: Vec<Row>,
+    reversed: Items<Row>,
 }
 
 impl Rows {
@@ -19,7 +19,9 @@ impl Rows {
     {
         let mut reversed = rows;
         reversed.reverse();
-        Rows { reversed }
+        Rows {
+            reversed: Items::from_vec(reversed),
+        }
     }
 
     // Promise: What each operator gives is what its inputs have: one input after the other, an arrangement that the keys allow, the slice
@@ -31,8 +33,12 @@ impl Rows {
         ensures ok { IfOk result (λ made. ⟦<Rows as Operator>⟧.to_come made ≡ rows) }
         ensures err { IfErr result (λ e. e ≡ Refusal.OutOfMemory) }
     {
+        // one row is its own reverse
+        if rows.len() < 2 {
+            return Ok(Rows { reversed: rows });
+        }
         Ok(Rows {
-            reversed: reversed(alloc, rows)?,
+            reversed: Items::from_vec(reversed(alloc, rows)?),
         })
     }
 }
@@ -63,7 +69,7 @@ pub fn into_vec(alloc: Global, rows: Items<Row>) -> Result<Vec<Row>, Refusal>
 impl Operator for Rows {
     ghost use Rattle.std.specs.Prelude.{reverse, false};
 
-    ghost to_come = { λ rows. reverse rows.reversed.items };
+    ghost to_come = { λ rows. reverse rows.reversed };
 
     ghost has_failed = { λ rows. false };
 
