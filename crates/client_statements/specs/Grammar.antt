@@ -236,9 +236,10 @@ unfoldable pub second_mode_at : Bool → Lexemes → Read ClientStatement
 second_mode_at can (mark Comma ∷ rest) = mode_at rest >>= λ x. Some (begin_statement (if can then x.0 else false), x.1)
 second_mode_at can ts = Some (begin_statement can, ts)
 
--- mode [, mode], after START TRANSACTION
+-- [mode [, mode]], after START TRANSACTION: with nothing more it is here since SQL has no comments
 unfoldable pub begin_at : Lexemes → Read ClientStatement
-begin_at ts = mode_at ts >>= λ x. second_mode_at x.0 x.1
+begin_at [] = Some (Begin, [])
+begin_at (t ∷ ts) = mode_at (t ∷ ts) >>= λ x. second_mode_at x.0 x.1
 
 -- ---- SHOW and DESCRIBE
 

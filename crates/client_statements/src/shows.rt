@@ -69,13 +69,18 @@ fn second_mode(can: bool, tokens: &[Token]) -> Result<(ClientStatement, &[Token]
     }
 }
 
-/// mode [, mode], after START TRANSACTION.
+/// [mode [, mode]], after START TRANSACTION.
 #[tactic(auto, unfolding(crate::specs::Grammar::begin_at))]
 pub fn begin(tokens: &[Token]) -> Result<(ClientStatement, &[Token]), Refusal>
     ensures { (text : List ℕ) → AgreesWith (λ x. (x.0, lexemes_of text x.1.now)) result (begin_at (lexemes_of text tokens.now)) }
 {
-    let (can, rest) = mode(tokens)?;
-    second_mode(can, rest)
+    match tokens {
+        [] => Ok((ClientStatement::Begin, tokens)),
+        _ => {
+            let (can, rest) = mode(tokens)?;
+            second_mode(can, rest)
+        }
+    }
 }
 
 /// [FROM name | IN name]
