@@ -38,10 +38,10 @@ at_place f [] i k d at = cc
 at_place f (x ∷ keys) zero k d at = let same : x ≡ k = cc in ap f same
 at_place f (x ∷ keys) (suc i) k d at = at_place f keys i k d at
 
-pub within_place : {A : Type 0} (keys : List A) (i : ℕ) (k : A) → slice_get keys i ≡ Some k → i < length keys
-within_place [] i k at = cc
-within_place (x ∷ keys) zero k at = omega arith
-within_place (x ∷ keys) (suc i) k at = omega (arith, within_place keys i k at)
+pub within_ordinal : {A : Type 0} (keys : List A) (i : ℕ) (k : A) → slice_get keys i ≡ Some k → i < length keys
+within_ordinal [] i k at = cc
+within_ordinal (x ∷ keys) zero k at = omega arith
+within_ordinal (x ∷ keys) (suc i) k at = omega (arith, within_ordinal keys i k at)
 
 -- the row's values fit to the parts of its group
 pub can_add : (aggregates : List (Item ℕ)) (width : ℕ) (rows : List Row) (row : Row) → AreSummable width (rows ++ row ∷ []) →
@@ -94,22 +94,22 @@ module _ (aggregates : List (Item ℕ)) (width : ℕ) (rows : List Row) (row k :
       kept ∙ (λ i. if has_row (same i) keys then groups.1 i else groups.1 i ++ map (λ a. column_part a []) aggregates ∷ []) ∙ opened aggregates width rows row keys groups.0
       ∙ ap (λ q. map (parts_of aggregates width rows) (insert_key same_row keys q)) (sym same) ∙ ap (map (parts_of aggregates width rows)) (sym made)
 
-  module _ (keys : List Row) (lists : List (List ColumnPart)) (all : lists ≡ map (parts_of aggregates width rows) keys) (place : ℕ) (at : slice_get keys place ≡ Some k)
-      (vs : Row) (behind : vs ≡ drop width row) where
-    here : get_or lists place [] ≡ parts_of aggregates width rows (take width row)
-    here = ap (λ l. get_or l place []) all ∙ at_place (parts_of aggregates width rows) keys place k [] at ∙ ap (parts_of aggregates width rows) same
+  module _ (keys : List Row) (lists : List (List ColumnPart)) (all : lists ≡ map (parts_of aggregates width rows) keys) (ordinal : ℕ) (at : slice_get keys ordinal ≡ Some k)
+      (vs : Row) (trailing : vs ≡ drop width row) where
+    here : get_or lists ordinal [] ≡ parts_of aggregates width rows (take width row)
+    here = ap (λ l. get_or l ordinal []) all ∙ at_place (parts_of aggregates width rows) keys ordinal k [] at ∙ ap (parts_of aggregates width rows) same
 
-    pub within_lists : place < length lists
-    within_lists = omega (arith, within_place keys place k at, ap length all, length-map keys (parts_of aggregates width rows))
+    pub within_lists : ordinal < length lists
+    within_lists = omega (arith, within_ordinal keys ordinal k at, ap length all, length-map keys (parts_of aggregates width rows))
 
-    pub can_add_at : AreSummable width (rows ++ row ∷ []) → CanHoldAll (with_values (get_or lists place []) vs)
-    can_add_at summable = subst CanHoldAll (λ i. with_values (sym here i) (sym behind i)) (can_add aggregates width rows row summable)
+    pub can_add_at : AreSummable width (rows ++ row ∷ []) → CanHoldAll (with_values (get_or lists ordinal []) vs)
+    can_add_at summable = subst CanHoldAll (λ i. with_values (sym here i) (sym trailing i)) (can_add aggregates width rows row summable)
 
     pub grown_at : (old new : List Row) (more : List (List ColumnPart)) → old ≡ group_keys width rows → keys ≡ insert_key same_row old k → IsDistinct same_row keys → new ≡ keys →
-        more ≡ set lists place (with_values (get_or lists place []) vs) → AreGroups aggregates width (rows ++ row ∷ []) new more
+        more ≡ set lists ordinal (with_values (get_or lists ordinal []) vs) → AreGroups aggregates width (rows ++ row ∷ []) new more
     grown_at old new more first made distinct stay kept = (
       stay ∙ made ∙ (λ i. insert_key same_row (first i) (same i)) ∙ sym (group_keys_more width rows row),
-      kept ∙ (λ i. set (all i) place (with_values (here i) (behind i))) ∙ grown aggregates width rows row keys place (at ∙ ap Some same) distinct
+      kept ∙ (λ i. set (all i) ordinal (with_values (here i) (trailing i))) ∙ grown aggregates width rows row keys ordinal (at ∙ ap Some same) distinct
           ∙ ap (map (parts_of aggregates width (rows ++ row ∷ []))) (sym stay),
     )
 

@@ -23,15 +23,15 @@ column_more (Sum c) vs v = ap Total (sym (sum_laws.splits vs (v ∷ [])))
 column_more (Min c) vs v = ap Least (sym (min_laws.splits vs (v ∷ [])))
 column_more (Max c) vs v = ap Greatest (sym (max_laws.splits vs (v ∷ [])))
 
-pub first_behind : (n : ℕ) (row : Row) → value_at (drop n row) 0 ≡ value_at row n
-first_behind n [] = ap (λ r. value_at r 0) (drop-nil {A = Value} n)
-first_behind zero (v ∷ row) = refl
-first_behind (suc n) (v ∷ row) = first_behind n row
+pub first_past : (n : ℕ) (row : Row) → value_at (drop n row) 0 ≡ value_at row n
+first_past n [] = ap (λ r. value_at r 0) (drop-nil {A = Value} n)
+first_past zero (v ∷ row) = refl
+first_past (suc n) (v ∷ row) = first_past n row
 
-rest_behind : (n : ℕ) (row : Row) → drop 1 (drop n row) ≡ drop (suc n) row
-rest_behind n [] = ap (drop 1) (drop-nil {A = Value} n)
-rest_behind zero (v ∷ row) = refl
-rest_behind (suc n) (v ∷ row) = rest_behind n row
+rest_after : (n : ℕ) (row : Row) → drop 1 (drop n row) ≡ drop (suc n) row
+rest_after n [] = ap (drop 1) (drop-nil {A = Value} n)
+rest_after zero (v ∷ row) = refl
+rest_after (suc n) (v ∷ row) = rest_after n row
 
 column_push : (n : ℕ) (rows : List Row) (row : Row) → map (λ r. value_at r n) rows ++ value_at row n ∷ [] ≡ map (λ r. value_at r n) (rows ++ row ∷ [])
 column_push n rows row = sym (map-append (λ (r : Row). value_at r n) rows (row ∷ []))
@@ -42,10 +42,10 @@ parts_more [] n rows row = refl
 parts_more (a ∷ aggregates) n rows row =
     let vs = map (λ (r : Row). value_at r n) rows in
     let head : with_value (column_part a vs) (value_at (drop n row) 0) ≡ column_part a (map (λ (r : Row). value_at r n) (rows ++ row ∷ [])) =
-    ap (with_value (column_part a vs)) (first_behind n row) ∙ column_more a vs (value_at row n) ∙ ap (column_part a) (column_push n rows row) in
-    let behind : drop 1 (drop n row) ≡ drop (n + 1) row = rw add-one (rest_behind n row) in
+    ap (with_value (column_part a vs)) (first_past n row) ∙ column_more a vs (value_at row n) ∙ ap (column_part a) (column_push n rows row) in
+    let trailing : drop 1 (drop n row) ≡ drop (n + 1) row = rw add-one (rest_after n row) in
     let tail : with_values (group_parts aggregates (n + 1) rows) (drop 1 (drop n row)) ≡ group_parts aggregates (n + 1) (rows ++ row ∷ []) =
-    ap (with_values (group_parts aggregates (n + 1) rows)) behind ∙ parts_more aggregates (n + 1) rows row in
+    ap (with_values (group_parts aggregates (n + 1) rows)) trailing ∙ parts_more aggregates (n + 1) rows row in
     (λ i. head i ∷ tail i)
 
 -- the parts of no rows, wherever they stand

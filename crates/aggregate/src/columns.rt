@@ -78,12 +78,12 @@ impl ColumnPart {
     }
 
     /// Joins the part that stands in a place of these values, NULL after the last.
-    fn add_at(&mut self, alloc: Global, values: &[Value], place: usize) -> Result<(), Refusal>
-        requires { CanHold (with_value self.old (value_at values.now place)) }
-        ensures ok { OnOk result (self.new ≡ with_value self.old (value_at values.now place)) }
+    fn add_at(&mut self, alloc: Global, values: &[Value], ordinal: usize) -> Result<(), Refusal>
+        requires { CanHold (with_value self.old (value_at values.now ordinal)) }
+        ensures ok { OnOk result (self.new ≡ with_value self.old (value_at values.now ordinal)) }
         ensures err { IfErr result (λ e. e ≡ Refusal.OutOfMemory) }
     {
-        match values.get(place) {
+        match values.get(ordinal) {
             Some(value) => self.add(alloc, value),
             None => self.add(alloc, &Value::Null),
         }

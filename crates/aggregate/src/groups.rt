@@ -72,27 +72,27 @@ impl Groups {
         ensures keys { OnOk result (key_values self.new ≡ insert_key same_row (key_values self.old) values) }
         ensures parts { OnOk result (part_lists self.new ≡ (if has_row values (key_values self.old) then part_lists self.old
             else part_lists self.old ++ map (λ a. column_part a []) aggregates.now ∷ [])) }
-        ensures place { IfOk result (λ place. slice_get (key_values self.new) place ≡ Some values) }
+        ensures ordinal { IfOk result (λ ordinal. slice_get (key_values self.new) ordinal ≡ Some values) }
         ensures distinct { OnOk result (IsDistinct same_row (key_values self.new)) }
         ensures err { IfErr result (λ e. e ≡ Refusal.OutOfMemory) }
     {
-        let (place, added) = self.keys.insert_full(GroupKey { values })?;
+        let (ordinal, added) = self.keys.insert_full(GroupKey { values })?;
         if added {
             self.parts.push(empty_parts(alloc, aggregates)?)?;
         }
-        Ok(place)
+        Ok(ordinal)
     }
 
     /// Joins values to the parts of the group in a place.
-    fn add_at(&mut self, alloc: Global, place: usize, values: &[Value]) -> Result<(), Refusal>
-        requires within { place < length (part_lists self.old) }
-        requires holds { CanHoldAll (with_values (slice_index_or (part_lists self.old) place []) values.now) }
+    fn add_at(&mut self, alloc: Global, ordinal: usize, values: &[Value]) -> Result<(), Refusal>
+        requires within { ordinal < length (part_lists self.old) }
+        requires holds { CanHoldAll (with_values (slice_index_or (part_lists self.old) ordinal []) values.now) }
         ensures keys { OnOk result (key_values self.new ≡ key_values self.old) }
         ensures parts { OnOk result (part_lists self.new
-            ≡ slice_set (part_lists self.old) place (with_values (slice_index_or (part_lists self.old) place []) values.now)) }
+            ≡ slice_set (part_lists self.old) ordinal (with_values (slice_index_or (part_lists self.old) ordinal []) values.now)) }
         ensures err { IfErr result (λ e. e ≡ Refusal.OutOfMemory) }
     {
-        add_values(alloc, &mut self.parts[place], values)?;
+        add_values(alloc, &mut self.parts[ordinal], values)?;
         Ok(())
     }
 
@@ -112,8 +112,8 @@ impl Groups {
     {
         let mut values = row;
         move_parts(&mut values, width, parts)?;
-        let place = self.open(alloc, aggregates, values)?;
-        self.add_at(alloc, place, parts)?;
+        let ordinal = self.open(alloc, aggregates, values)?;
+        self.add_at(alloc, ordinal, parts)?;
         Ok(())
     }
 

@@ -3,10 +3,10 @@
 
 mod entries;
 mod line;
-mod opening;
-mod router;
+mod routers;
+mod running;
 mod sessions;
 mod statement;
 mod texts;
 
-pub use opening::answer;
+pub use routers::answer;

@@ -9,19 +9,19 @@ struct Number<'t> {
     step: u64,
     first: u64,
     bound: u64,
-    behind: &'t str,
+    trailing: &'t str,
 }
 
 impl<'t> Number<'t> {
     fn read(text: &'t str) -> Option<Number<'t>> {
-        let (numbers, behind) = text.split_once('}')?;
+        let (numbers, trailing) = text.split_once('}')?;
         let (step, numbers) = numbers.split_once(' ')?;
         let (first, bound) = numbers.split_once(' ')?;
         Some(Number {
             step: step.parse::<u64>().ok()?,
             first: first.parse::<u64>().ok()?,
             bound: bound.parse::<u64>().ok()?,
-            behind,
+            trailing,
         })
     }
 
@@ -56,7 +56,7 @@ impl<'t> Statement<'t> {
         for number in &self.numbers {
             let mut buffer = Buffer::new();
             text.extend_from_slice(buffer.format(number.at(round)).as_bytes())?;
-            text.extend_from_slice(number.behind.as_bytes())?;
+            text.extend_from_slice(number.trailing.as_bytes())?;
         }
         Ok(())
     }

@@ -23,10 +23,10 @@ fn needed(
     alloc: Global,
     schema: &VSchema,
     ranges: &[KeyRange],
-    place: usize,
+    ordinal: usize,
     plan: &Plan,
 ) -> Result<u64, Refusal> {
-    match schema.tables.as_slice().get(place) {
+    match schema.tables.as_slice().get(ordinal) {
         Some(table) => Ok(shards(alloc, table, &plan.route, ranges)?.len() as u64),
         None => Ok(0),
     }
@@ -39,9 +39,9 @@ fn plan_query(
     ranges: &[KeyRange],
     query: Query,
 ) -> Result<u64, Refusal> {
-    let place = query.table;
+    let ordinal = query.table;
     match plan(alloc, schema, query) {
-        Ok(plan) => needed(alloc, schema, ranges, place, &plan),
+        Ok(plan) => needed(alloc, schema, ranges, ordinal, &plan),
         Err(refusal) => Err(refusal),
     }
 }

@@ -13,7 +13,7 @@ use Rattle.std.proofs.lemmas.List.MinMax.{ranks_by}
 use denote.Param.Members.{Mut}
 use denote.Ref.{Bor}
 use Rattle.vt_value.specs.Values.{Row}
-use Rattle.vschema_document.specs.declared.column.Column.{Column}
+use Rattle.vschema_json.specs.declared.column.Column.{Column}
 use Rattle.vschema.specs.declared.schema.Keyspace.{Keyspace}
 use Rattle.vschema.specs.declared.schema.Table.{Table}
 use Rattle.client_statements.specs.declared.variable.Variable.{Variable}
@@ -64,23 +64,23 @@ module _ (like : Option (List ℕ)) where
   one_more_keyspace = one_more (λ (n : ℕ) (ks : List Keyspace). filter (fits_pattern like) (map (λ k. k.name) ks))
       (λ (n : ℕ) (k : Keyspace) (ks : List Keyspace). filter_cut (fits_pattern like) k.name (map (λ k. k.name) ks))
 
-  module _ (place : ℕ) where
-    tables_cut : (t : Table) (rest : List Table) → filter (fits_pattern like) (names_in place (t ∷ rest))
-        ≡ filter (fits_pattern like) (names_in place (t ∷ [])) ++ filter (fits_pattern like) (names_in place rest)
-    tables_cut t rest = go (t.keyspace == place)
+  module _ (ordinal : ℕ) where
+    tables_cut : (t : Table) (rest : List Table) → filter (fits_pattern like) (names_in ordinal (t ∷ rest))
+        ≡ filter (fits_pattern like) (names_in ordinal (t ∷ [])) ++ filter (fits_pattern like) (names_in ordinal rest)
+    tables_cut t rest = go (t.keyspace == ordinal)
       where
         names : List Table → List (List ℕ)
         names ts = map (λ t. t.name) ts
 
-        go : (b : Bool) → filter (fits_pattern like) (names (cond b (t ∷ filter (λ t. t.keyspace == place) rest) (filter (λ t. t.keyspace == place) rest)))
-            ≡ filter (fits_pattern like) (names (cond b (t ∷ []) [])) ++ filter (fits_pattern like) (names_in place rest)
-        go true = filter_cut (fits_pattern like) t.name (names_in place rest)
+        go : (b : Bool) → filter (fits_pattern like) (names (cond b (t ∷ filter (λ t. t.keyspace == ordinal) rest) (filter (λ t. t.keyspace == ordinal) rest)))
+            ≡ filter (fits_pattern like) (names (cond b (t ∷ []) [])) ++ filter (fits_pattern like) (names_in ordinal rest)
+        go true = filter_cut (fits_pattern like) t.name (names_in ordinal rest)
         go false = refl
 
     pub one_more_table : (xs : List Table) (i : ℕ) (x : Table) (out new whole : List (List ℕ)) → i < length xs → x ≡ get_or xs i x
-        → out ++ filter (fits_pattern like) (names_in place (drop i xs)) ≡ whole → new ≡ out ++ filter (fits_pattern like) (names_in place (x ∷ []))
-        → new ++ filter (fits_pattern like) (names_in place (drop (i + 1) xs)) ≡ whole
-    one_more_table = one_more (λ (n : ℕ) (ts : List Table). filter (fits_pattern like) (names_in place ts)) (λ (n : ℕ). tables_cut)
+        → out ++ filter (fits_pattern like) (names_in ordinal (drop i xs)) ≡ whole → new ≡ out ++ filter (fits_pattern like) (names_in ordinal (x ∷ []))
+        → new ++ filter (fits_pattern like) (names_in ordinal (drop (i + 1) xs)) ≡ whole
+    one_more_table = one_more (λ (n : ℕ) (ts : List Table). filter (fits_pattern like) (names_in ordinal ts)) (λ (n : ℕ). tables_cut)
 
   module _ (full : Bool) (t : Table) where
     columns_cut : (n : ℕ) (c : Column) (rest : List Column) → column_rows full like t n (c ∷ rest) ≡ column_rows full like t n (c ∷ []) ++ column_rows full like t (suc n) rest

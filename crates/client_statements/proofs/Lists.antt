@@ -5,10 +5,10 @@ use Rattle.vt_value.specs.declared.refusal.Refusal.TheVariants as R
 use Rattle.sql_lexer.specs.inner.Results.{Fails}
 use Rattle.client_tokens.specs.declared.token.Token.{Token}
 use Rattle.client_tokens.specs.Pieces.{Lexeme, lexemes_of}
-use Rattle.client_statements.specs.declared.statement.Item.{Item}
+use Rattle.client_statements.specs.declared.statement.SelectItem.{SelectItem}
 use Rattle.client_statements.specs.Grammar.{Lexemes, comma_at, setting_at, settings_at, later, item_at, ends_select, begins_with_comma, items_at}
 
-module _ (whole : List ℕ) (front : List Item) (tokens : List Token) where
+module _ (whole : List ℕ) (front : List SelectItem) (tokens : List Token) where
   pub no_item : (n : ℕ) → item_at whole tokens ≡ None → items_at n whole front tokens ≡ None
   unfolding items_at
   no_item zero none = refl
@@ -19,7 +19,7 @@ module _ (whole : List ℕ) (front : List Item) (tokens : List Token) where
   item_fails n R.SyntaxError h = no_item n h
   item_fails n _ h = absurd h
 
-  module _ (x : Item) (rest : List Token) (read : item_at whole tokens ≡ Some (x, rest)) where
+  module _ (x : SelectItem) (rest : List Token) (read : item_at whole tokens ≡ Some (x, rest)) where
     pub last_item : (n : ℕ) → 0 < n → ends_select (lexemes_of whole rest) ≡ true → items_at n whole front tokens ≡ Some (front ++ x ∷ [])
     unfolding items_at
     last_item zero some ends = absurd (omega arith)
@@ -40,7 +40,7 @@ module _ (whole : List ℕ) (front : List Item) (tokens : List Token) where
         → items_at n whole front tokens ≡ items_at m whole (front ++ x ∷ []) (drop 1 rest)
     more_items n m e ends comma = ap (λ (k : ℕ). items_at k whole front tokens) e ∙ one_more_item m ends comma
 
-pub no_items : (whole : List ℕ) (front : List Item) (tokens : List Token) → items_at 0 whole front tokens ≡ None
+pub no_items : (whole : List ℕ) (front : List SelectItem) (tokens : List Token) → items_at 0 whole front tokens ≡ None
 unfolding items_at
 no_items whole front tokens = refl
 

@@ -2,18 +2,18 @@
 use Rattle.std.proofs.Common.{◌≡◌, ℕ, suc, ◌+◌, ◌<◌, Bool, true, false, List, [], ◌∷◌, ◌++◌, length, drop, get_or, refl, sym, ap, ◌∙◌, arith, add-one, drop-cons}
 use Rattle.std.specs.Prelude.{replicate}
 use Rattle.client_statements.specs.declared.likes.Piece.{Piece}
-use Rattle.client_statements.specs.Likes.{fits_step, fits}
+use Rattle.client_statements.specs.Likes.{fits_step, like_fits}
 use Rattle.client_statements.specs.inner.Rows.{row_of, onto_row, next_row}
 
 -- the row of one more piece, whatever is next
 onto_rows : (p : Piece) (c : ℕ) (x : Bool) (ps : List Piece) (text : List ℕ)
-    → onto_row p c x (row_of ps text) (row_of (p ∷ ps) text) ≡ fits_step p c x (fits (p ∷ ps) text) (fits ps text) ∷ row_of (p ∷ ps) text
+    → onto_row p c x (row_of ps text) (row_of (p ∷ ps) text) ≡ fits_step p c x (like_fits (p ∷ ps) text) (like_fits ps text) ∷ row_of (p ∷ ps) text
 onto_rows p c x ps [] = refl
 onto_rows p c x ps (d ∷ text) = refl
 
 pub row_next : (p : Piece) (ps : List Piece) (text : List ℕ) → next_row p text (row_of ps text) ≡ row_of (p ∷ ps) text
 row_next p ps [] = refl
-row_next p ps (c ∷ text) = ap (onto_row p c (fits ps (c ∷ text)) (row_of ps text)) (row_next p ps text) ∙ onto_rows p c (fits ps (c ∷ text)) ps text
+row_next p ps (c ∷ text) = ap (onto_row p c (like_fits ps (c ∷ text)) (row_of ps text)) (row_next p ps text) ∙ onto_rows p c (like_fits ps (c ∷ text)) ps text
 
 pub row_size : (ps : List Piece) (text : List ℕ) → length (row_of ps text) ≡ suc (length text)
 row_size ps [] = refl
@@ -23,7 +23,7 @@ pub row_last : (text : List ℕ) → replicate (length text) false ++ true ∷ [
 row_last [] = refl
 row_last (c ∷ text) = ap (λ (xs : List Bool). false ∷ xs) (row_last text)
 
-pub row_first : (ps : List Piece) (text : List ℕ) → get_or (row_of ps text) 0 false ≡ fits ps text
+pub row_first : (ps : List Piece) (text : List ℕ) → get_or (row_of ps text) 0 false ≡ like_fits ps text
 row_first ps [] = refl
 row_first ps (c ∷ text) = refl
 

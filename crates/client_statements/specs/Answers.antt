@@ -9,24 +9,24 @@ use Rattle.vt_value.specs.declared.refusal.Refusal.TheVariants.{NoKeyspace, Unkn
 use Rattle.vt_value.specs.declared.value.Value.{Value}
 use Rattle.vt_value.specs.declared.value.Value.TheVariants.{Null, Bytes}
 use Rattle.vt_value.specs.Values.{Row}
-use Rattle.vschema_document.specs.declared.column.Column.{Column}
-use Rattle.vschema_document.specs.declared.column.ColumnType.{ColumnType}
-use Rattle.vschema_document.specs.declared.column.ColumnType.TheVariants.{BigInt, BigIntUnsigned, VarBinary}
+use Rattle.vschema_json.specs.declared.column.Column.{Column}
+use Rattle.vschema_json.specs.declared.column.ColumnType.{ColumnType}
+use Rattle.vschema_json.specs.declared.column.ColumnType.TheVariants.{BigInt, BigIntUnsigned, VarBinary}
 use Rattle.vschema.specs.declared.schema.Table.{Table}
 use Rattle.vschema.specs.declared.schema.VSchema.{VSchema}
 use Rattle.client_statements.specs.declared.answers.Facts.{Facts}
 use Rattle.client_statements.specs.declared.answers.ClientAnswer.{ClientAnswer}
 use Rattle.client_statements.specs.declared.answers.ClientAnswer.TheVariants.{Rows, Refused}
-use Rattle.client_statements.specs.declared.statement.Asked.{Asked}
-use Rattle.client_statements.specs.declared.statement.Asked.TheVariants as asked
+use Rattle.client_statements.specs.declared.statement.NamedValue.{NamedValue}
+use Rattle.client_statements.specs.declared.statement.NamedValue.TheVariants as asked
 use Rattle.client_statements.specs.declared.statement.ClientStatement.{ClientStatement}
 use Rattle.client_statements.specs.declared.statement.ClientStatement.TheVariants.{Set, Begin, NotSupported, Select, Use, ShowDatabases, ShowTables, ShowColumns, ShowVariables, ShowWarnings}
-use Rattle.client_statements.specs.declared.statement.Item.{Item}
+use Rattle.client_statements.specs.declared.statement.SelectItem.{SelectItem}
 use Rattle.client_statements.specs.declared.statement.TableName.{TableName}
 use Rattle.client_statements.specs.declared.variable.Variable.{Variable}
 use Rattle.client_statements.specs.declared.variable.Variable.TheVariants as variable
 use Rattle.client_statements.specs.Likes.{is_like}
-use Rattle.client_statements.specs.Variables.{variables, variable_name, variable_value, shown_value}
+use Rattle.client_statements.specs.Variables.{variables, variable_name, variable_value, shown_variable}
 
 -- a text, or NULL
 abbrev pub cell : Option (List ℕ) → Value
@@ -48,16 +48,16 @@ headed head (Some pattern) = head ++ codes " (" ++ pattern ++ codes ")"
 
 -- ---- keyspaces
 
-abbrev pub keyspace_place : VSchema → List ℕ → Option ℕ
-keyspace_place schema name = position (λ k. bytes_eq k.name name) schema.keyspaces
+abbrev pub keyspace_ordinal : VSchema → List ℕ → Option ℕ
+keyspace_ordinal schema name = position (λ k. bytes_eq k.name name) schema.keyspaces
 
 abbrev pub keyspace_name : VSchema → ℕ → Option (List ℕ)
-keyspace_name schema place = option_map (λ k. k.name) (slice_get schema.keyspaces place)
+keyspace_name schema ordinal = option_map (λ k. k.name) (slice_get schema.keyspaces ordinal)
 
 -- the keyspace in use, by its name
 abbrev pub name_in_use : VSchema → Option ℕ → Option (List ℕ)
 name_in_use schema None = None
-name_in_use schema (Some place) = keyspace_name schema place
+name_in_use schema (Some ordinal) = keyspace_name schema ordinal
 
 -- ---- SHOW DATABASES and SHOW TABLES
 
@@ -74,16 +74,16 @@ pub record AreListed (full : Bool) (names : List (List ℕ)) (rows : List Row) :
 
 -- the names of the tables of a keyspace
 abbrev pub names_in : ℕ → List Table → List (List ℕ)
-names_in place tables = map (λ t. t.name) (filter (λ t. t.keyspace == place) tables)
+names_in ordinal tables = map (λ t. t.name) (filter (λ t. t.keyspace == ordinal) tables)
 
 abbrev pub table_heads : VSchema → ℕ → Bool → Option (List ℕ) → List (List ℕ)
-table_heads schema place full like =
-    headed (codes "Tables_in_" ++ unwrap_or (keyspace_name schema place) []) like ∷ (if full then codes "Table_type" ∷ [] else [])
+table_heads schema ordinal full like =
+    headed (codes "Tables_in_" ++ unwrap_or (keyspace_name schema ordinal) []) like ∷ (if full then codes "Table_type" ∷ [] else [])
 
 -- the keyspace that is named, or else the one in use
 abbrev pub listed_keyspace : VSchema → Facts → Option (List ℕ) → Option ℕ
 listed_keyspace schema facts None = facts.keyspace
-listed_keyspace schema facts (Some name) = keyspace_place schema name
+listed_keyspace schema facts (Some name) = keyspace_ordinal schema name
 
 -- why tables are not listed if there is none
 abbrev pub without_keyspace : Option (List ℕ) → Refusal
@@ -102,7 +102,7 @@ null_text nullable = if nullable then codes "YES" else codes "NO"
 
 -- whether the column at a place is one of the primary key
 abbrev pub key_part_text : Table → ℕ → List ℕ
-key_part_text t place = if list_any (λ key. key == place) t.primary_key then codes "PRI" else []
+key_part_text t ordinal = if list_any (λ key. key == ordinal) t.primary_key then codes "PRI" else []
 
 abbrev pub column_heads : Bool → List (List ℕ)
 column_heads full =
@@ -119,28 +119,28 @@ column_texts full name kind null key =
 
 -- the column at a place of a table
 abbrev pub column_row : Bool → Table → ℕ → Column → Row
-column_row full t place c = column_texts full c.name (type_text c.kind) (null_text c.nullable) (key_part_text t place)
+column_row full t ordinal c = column_texts full c.name (type_text c.kind) (null_text c.nullable) (key_part_text t ordinal)
 
 -- a row of each column whose name fits, in the table's order, from the column at this place on
 abbrev pub column_rows : Bool → Option (List ℕ) → Table → ℕ → List Column → List Row
-column_rows full like t place [] = []
-column_rows full like t place (c ∷ columns) =
-    if fits_pattern like c.name then column_row full t place c ∷ column_rows full like t (suc place) columns
-    else column_rows full like t (suc place) columns
+column_rows full like t ordinal [] = []
+column_rows full like t ordinal (c ∷ columns) =
+    if fits_pattern like c.name then column_row full t ordinal c ∷ column_rows full like t (suc ordinal) columns
+    else column_rows full like t (suc ordinal) columns
 
-abbrev pub is_place : Option ℕ → ℕ → Bool
-is_place None place = false
-is_place (Some found) place = found == place
+abbrev pub is_ordinal : Option ℕ → ℕ → Bool
+is_ordinal None ordinal = false
+is_ordinal (Some found) ordinal = found == ordinal
 
 -- a keyspace that is named is there
 abbrev pub is_keyspace : VSchema → Option (List ℕ) → Bool
 is_keyspace schema None = true
-is_keyspace schema (Some name) = is_some (keyspace_place schema name)
+is_keyspace schema (Some name) = is_some (keyspace_ordinal schema name)
 
 -- a table lies in the keyspace that is named, if one is
 abbrev pub is_of_keyspace : VSchema → Option (List ℕ) → ℕ → Bool
-is_of_keyspace schema None place = true
-is_of_keyspace schema (Some name) place = is_place (keyspace_place schema name) place
+is_of_keyspace schema None ordinal = true
+is_of_keyspace schema (Some name) ordinal = is_ordinal (keyspace_ordinal schema name) ordinal
 
 -- the table that is named
 abbrev pub is_described : VSchema → TableName → Table → Bool
@@ -149,7 +149,7 @@ is_described schema name t = bytes_eq t.name name.table && is_of_keyspace schema
 -- ---- SHOW VARIABLES
 
 abbrev pub variable_row : Bool → Variable → Row
-variable_row on v = texts (Some (variable_name v) ∷ Some (shown_value v on) ∷ [])
+variable_row on v = texts (Some (variable_name v) ∷ Some (shown_variable v on) ∷ [])
 
 -- a row of each variable whose name fits
 unfoldable pub variable_rows : Bool → Option (List ℕ) → List Variable → List Row
@@ -158,17 +158,17 @@ variable_rows on like vs = map (variable_row on) (filter (λ v. fits_pattern lik
 -- ---- SELECT of values
 
 -- the server has what is asked for
-abbrev pub is_told : Asked → Bool
-is_told (asked.Unknown name) = false
-is_told _ = true
+abbrev pub is_known_name : NamedValue → Bool
+is_known_name (asked.Unknown name) = false
+is_known_name _ = true
 
-abbrev pub told_value : VSchema → Facts → Asked → Value
-told_value schema facts (asked.Variable v) = Bytes (variable_value v facts.autocommit)
-told_value schema facts (asked.Unknown name) = Null
-told_value schema facts asked.Version = Bytes (variable_value variable.Version facts.autocommit)
-told_value schema facts asked.Database = cell (name_in_use schema facts.keyspace)
-told_value schema facts asked.ConnectionId = Bytes (decimal facts.connection)
-told_value schema facts asked.User = Bytes facts.user
+abbrev pub value_named : VSchema → Facts → NamedValue → Value
+value_named schema facts (asked.Variable v) = Bytes (variable_value v facts.autocommit)
+value_named schema facts (asked.Unknown name) = Null
+value_named schema facts asked.Version = Bytes (variable_value variable.Version facts.autocommit)
+value_named schema facts asked.Database = cell (name_in_use schema facts.keyspace)
+value_named schema facts asked.ConnectionId = Bytes (decimal facts.connection)
+value_named schema facts asked.User = Bytes facts.user
 
 -- ---- answers
 
@@ -185,9 +185,9 @@ has_client_answer _ = true
 pub data IsClientAnswer (schema : VSchema) (facts : Facts) : ClientStatement → ClientAnswer → Type 0 where
   databases : {like : Option (List ℕ)} {rows : List Row} → AreListed false (filter (fits_pattern like) (map (λ k. k.name) schema.keyspaces)) rows
       → IsClientAnswer schema facts (ShowDatabases like) (Rows (headed (codes "Database") like ∷ []) rows)
-  tables : {full : Bool} {named like : Option (List ℕ)} {place : ℕ} {rows : List Row} → listed_keyspace schema facts named ≡ Some place
-      → AreListed full (filter (fits_pattern like) (names_in place schema.tables)) rows
-      → IsClientAnswer schema facts (ShowTables full named like) (Rows (table_heads schema place full like) rows)
+  tables : {full : Bool} {named like : Option (List ℕ)} {ordinal : ℕ} {rows : List Row} → listed_keyspace schema facts named ≡ Some ordinal
+      → AreListed full (filter (fits_pattern like) (names_in ordinal schema.tables)) rows
+      → IsClientAnswer schema facts (ShowTables full named like) (Rows (table_heads schema ordinal full like) rows)
   without_tables : {full : Bool} {named like : Option (List ℕ)} → listed_keyspace schema facts named ≡ None
       → IsClientAnswer schema facts (ShowTables full named like) (Refused (without_keyspace named))
   columns : {full : Bool} {name : TableName} {like : Option (List ℕ)} {t : Table} → is_keyspace schema name.keyspace ≡ true
@@ -200,6 +200,6 @@ pub data IsClientAnswer (schema : VSchema) (facts : Facts) : ClientStatement →
   shown : {like : Option (List ℕ)}
       → IsClientAnswer schema facts (ShowVariables like) (Rows (codes "Variable_name" ∷ codes "Value" ∷ []) (variable_rows facts.autocommit like variables))
   no_warnings : IsClientAnswer schema facts ShowWarnings (Rows (codes "Level" ∷ codes "Code" ∷ codes "Message" ∷ []) [])
-  selected : {items : List Item} → list_all (λ i. is_told i.asked) items ≡ true
-      → IsClientAnswer schema facts (Select items) (Rows (map (λ i. i.name) items) (map (λ i. told_value schema facts i.asked) items ∷ []))
-  unknown : {items : List Item} → list_all (λ i. is_told i.asked) items ≡ false → IsClientAnswer schema facts (Select items) (Refused UnknownVariable)
+  selected : {items : List SelectItem} → list_all (λ i. is_known_name i.asked) items ≡ true
+      → IsClientAnswer schema facts (Select items) (Rows (map (λ i. i.name) items) (map (λ i. value_named schema facts i.asked) items ∷ []))
+  unknown : {items : List SelectItem} → list_all (λ i. is_known_name i.asked) items ≡ false → IsClientAnswer schema facts (Select items) (Refused UnknownVariable)

@@ -12,32 +12,32 @@ use Rattle.client_tokens.specs.Keywords.{same_in_any_case}
 use Rattle.client_tokens.specs.Pieces.{Lexeme, bare, named, system, digits, quoted, mark, lexemes_of}
 use Rattle.client_statements.specs.declared.rule.Rule.{Rule}
 use Rattle.client_statements.specs.declared.rule.Rule.TheVariants.{Switch, Modes, AnyValue, ItsValue}
-use Rattle.client_statements.specs.declared.statement.Asked.{Asked}
-use Rattle.client_statements.specs.declared.statement.Asked.TheVariants as asked
+use Rattle.client_statements.specs.declared.statement.NamedValue.{NamedValue}
+use Rattle.client_statements.specs.declared.statement.NamedValue.TheVariants as asked
 use Rattle.client_statements.specs.declared.statement.ClientStatement.{ClientStatement}
 use Rattle.client_statements.specs.declared.statement.ClientStatement.TheVariants.{Set, Begin, NotSupported, Select, Use, ShowDatabases, ShowTables, ShowColumns, ShowVariables, ShowWarnings}
-use Rattle.client_statements.specs.declared.statement.Item.{Item}
+use Rattle.client_statements.specs.declared.statement.SelectItem.{SelectItem}
 use Rattle.client_statements.specs.declared.statement.TableName.{TableName}
 use Rattle.client_statements.specs.declared.variable.Variable.{Variable}
 use Rattle.client_statements.specs.Settings.{are_held_modes, rule_of}
-use Rattle.client_statements.specs.Variables.{variable_value, shown_value, variable_of}
+use Rattle.client_statements.specs.Variables.{variable_value, shown_variable, variable_of}
 
 abbrev pub Lexemes : Type 0
 Lexemes = List Lexeme
 
-abbrev pub Read : Type 0 → Type 0
-Read A = Option (A × Lexemes)
+abbrev pub ReadOf : Type 0 → Type 0
+ReadOf A = Option (A × Lexemes)
 
 -- ---- names, texts and signs
 
 -- name = word | `name`
-unfoldable pub identifier_at : Lexemes → Read (List ℕ)
+unfoldable pub identifier_at : Lexemes → ReadOf (List ℕ)
 identifier_at (bare k bytes ∷ rest) = Some (bytes, rest)
 identifier_at (named bytes ∷ rest) = Some (bytes, rest)
 identifier_at _ = None
 
 -- text = '..' | ".."
-unfoldable pub string_at : Lexemes → Read (List ℕ)
+unfoldable pub string_at : Lexemes → ReadOf (List ℕ)
 string_at (quoted bytes ∷ rest) = Some (bytes, rest)
 string_at _ = None
 
@@ -66,7 +66,7 @@ close_at (mark RightParenthesis ∷ rest) = Some rest
 close_at _ = None
 
 -- [LIKE text]
-unfoldable pub like_at : Lexemes → Read (Option (List ℕ))
+unfoldable pub like_at : Lexemes → ReadOf (Option (List ℕ))
 like_at (bare (Some k.Like) w ∷ rest) = string_at rest >>= λ x. Some (Some x.0, x.1)
 like_at ts = Some (None, ts)
 
@@ -79,7 +79,7 @@ switch_of (bare (Some k.Off) w) = Some false
 switch_of (digits bytes) = if bytes_eq bytes (codes "1") then Some true else if bytes_eq bytes (codes "0") then Some false else None
 switch_of _ = None
 
-unfoldable pub switch_at : Lexemes → Read (Option Bool)
+unfoldable pub switch_at : Lexemes → ReadOf (Option Bool)
 switch_at [] = None
 switch_at (t ∷ rest) = switch_of t >>= λ on. Some (Some on, rest)
 
@@ -91,12 +91,12 @@ abbrev pub is_session : List ℕ → Bool
 is_session name = same_in_any_case name (codes "session") || same_in_any_case name (codes "local")
 
 -- the variable after its scope, if what stands before a dot is one
-unfoldable pub scoped_at : List ℕ → Lexemes → Read (List ℕ)
+unfoldable pub scoped_at : List ℕ → Lexemes → ReadOf (List ℕ)
 scoped_at first (mark Dot ∷ rest) = if is_session first then identifier_at rest else None
 scoped_at first ts = Some (first, ts)
 
 -- @@name | @@SESSION.name | @@LOCAL.name
-unfoldable pub system_at : Lexemes → Read (List ℕ)
+unfoldable pub system_at : Lexemes → ReadOf (List ℕ)
 system_at (system name ∷ rest) = scoped_at name rest
 system_at _ = None
 
@@ -118,7 +118,7 @@ modes_at (bare (Some k.Concat) w ∷ rest) = open_at rest >>= λ inside. inner_c
 modes_at ts = modes_text_at ts
 
 -- what a word, a number or a text says
-unfoldable pub said_at : Lexemes → Read (List ℕ)
+unfoldable pub said_at : Lexemes → ReadOf (List ℕ)
 said_at (bare k bytes ∷ rest) = Some (bytes, rest)
 said_at (digits bytes ∷ rest) = Some (bytes, rest)
 said_at (quoted bytes ∷ rest) = Some (bytes, rest)
@@ -127,29 +127,29 @@ said_at _ = None
 -- the value that a variable has, as SELECT or as SHOW tells it
 unfoldable pub its_value_at : Variable → Lexemes → Option Lexemes
 its_value_at v ts =
-    said_at ts >>= λ x. if same_in_any_case x.0 (variable_value v true) || same_in_any_case x.0 (shown_value v true) then Some x.1 else None
+    said_at ts >>= λ x. if same_in_any_case x.0 (variable_value v true) || same_in_any_case x.0 (shown_variable v true) then Some x.1 else None
 
 -- The value of a setting that holds, and what autocommit is set to. The server can't be set to any other value.
-unfoldable pub value_at : Rule → Lexemes → Read (Option Bool)
-value_at Switch ts = switch_at ts
-value_at Modes ts = modes_at ts >>= λ rest. Some (None, rest)
-value_at AnyValue ts = any_at ts >>= λ rest. Some (None, rest)
-value_at (ItsValue v) ts = its_value_at v ts >>= λ rest. Some (None, rest)
+unfoldable pub setting_value_at : Rule → Lexemes → ReadOf (Option Bool)
+setting_value_at Switch ts = switch_at ts
+setting_value_at Modes ts = modes_at ts >>= λ rest. Some (None, rest)
+setting_value_at AnyValue ts = any_at ts >>= λ rest. Some (None, rest)
+setting_value_at (ItsValue v) ts = its_value_at v ts >>= λ rest. Some (None, rest)
 
 -- [SESSION | LOCAL] name, or the variable with @@
-unfoldable pub target_at : Lexemes → Read (List ℕ)
+unfoldable pub target_at : Lexemes → ReadOf (List ℕ)
 target_at (bare (Some k.Session) w ∷ rest) = identifier_at rest
 target_at (bare (Some k.Local) w ∷ rest) = identifier_at rest
 target_at (system name ∷ rest) = system_at (system name ∷ rest)
 target_at ts = identifier_at ts
 
 -- target = value
-unfoldable pub setting_at : Lexemes → Read (Option Bool)
+unfoldable pub setting_at : Lexemes → ReadOf (Option Bool)
 setting_at ts = do
   target ← target_at ts
   rule ← rule_of target.0
   rest ← equals_at target.1
-  value_at rule rest
+  setting_value_at rule rest
 
 -- the later one of two settings of autocommit, if there are any
 abbrev pub later : Option Bool → Option Bool → Option Bool
@@ -221,7 +221,7 @@ set_statement None = NotSupported
 -- ---- transactions
 
 -- READ WRITE | READ ONLY | WITH CONSISTENT SNAPSHOT, and whether a transaction here is so
-unfoldable pub mode_at : Lexemes → Read Bool
+unfoldable pub mode_at : Lexemes → ReadOf Bool
 mode_at (bare (Some k.Read) w ∷ bare (Some k.Write) v ∷ rest) = Some (true, rest)
 mode_at (bare (Some k.Read) w ∷ bare (Some k.Only) v ∷ rest) = Some (false, rest)
 mode_at (bare (Some k.With) w ∷ bare (Some k.Consistent) v ∷ bare (Some k.Snapshot) u ∷ rest) = Some (true, rest)
@@ -232,31 +232,31 @@ begin_statement true = Begin
 begin_statement false = NotSupported
 
 -- [, mode]
-unfoldable pub second_mode_at : Bool → Lexemes → Read ClientStatement
+unfoldable pub second_mode_at : Bool → Lexemes → ReadOf ClientStatement
 second_mode_at can (mark Comma ∷ rest) = mode_at rest >>= λ x. Some (begin_statement (if can then x.0 else false), x.1)
 second_mode_at can ts = Some (begin_statement can, ts)
 
 -- [mode [, mode]], after START TRANSACTION: with nothing more it is here since SQL has no comments
-unfoldable pub begin_at : Lexemes → Read ClientStatement
+unfoldable pub begin_at : Lexemes → ReadOf ClientStatement
 begin_at [] = Some (Begin, [])
 begin_at (t ∷ ts) = mode_at (t ∷ ts) >>= λ x. second_mode_at x.0 x.1
 
 -- ---- SHOW and DESCRIBE
 
 -- [FROM name | IN name]
-unfoldable pub from_at : Lexemes → Read (Option (List ℕ))
+unfoldable pub from_at : Lexemes → ReadOf (Option (List ℕ))
 from_at (bare (Some k.From) w ∷ rest) = identifier_at rest >>= λ x. Some (Some x.0, x.1)
 from_at (bare (Some k.In) w ∷ rest) = identifier_at rest >>= λ x. Some (Some x.0, x.1)
 from_at ts = Some (None, ts)
 
 -- what stands after a name: the table, if the name is its keyspace's
-unfoldable pub qualified_at : List ℕ → Lexemes → Read TableName
+unfoldable pub qualified_at : List ℕ → Lexemes → ReadOf TableName
 qualified_at first (mark Dot ∷ rest) = identifier_at rest >>= λ x. Some (record { keyspace = Some first; table = x.0 }, x.1)
 qualified_at first ts = Some (record { keyspace = None; table = first }, ts)
 
 -- name | name . name
-unfoldable pub table_at : Lexemes → Read TableName
-table_at ts = identifier_at ts >>= λ x. qualified_at x.0 x.1
+unfoldable pub table_name_at : Lexemes → ReadOf TableName
+table_name_at ts = identifier_at ts >>= λ x. qualified_at x.0 x.1
 
 -- what FROM told, or else what stood before it
 abbrev pub or_before : Option (List ℕ) → Option (List ℕ) → Option (List ℕ)
@@ -264,40 +264,40 @@ or_before before None = before
 or_before before (Some name) = Some name
 
 -- table [FROM name] [LIKE text], after FROM
-unfoldable pub columns_of_at : Bool → Lexemes → Read ClientStatement
+unfoldable pub columns_of_at : Bool → Lexemes → ReadOf ClientStatement
 columns_of_at full ts = do
-  table ← table_at ts
+  table ← table_name_at ts
   keyspace ← from_at table.1
   like ← like_at keyspace.1
   Some (ShowColumns full (record { keyspace = or_before table.0.keyspace keyspace.0; table = table.0.table }) like.0, like.1)
 
-unfoldable pub columns_at : Bool → Lexemes → Read ClientStatement
+unfoldable pub columns_at : Bool → Lexemes → ReadOf ClientStatement
 columns_at full (bare (Some k.From) w ∷ rest) = columns_of_at full rest
 columns_at full (bare (Some k.In) w ∷ rest) = columns_of_at full rest
 columns_at full _ = None
 
-unfoldable pub tables_at : Bool → Lexemes → Read ClientStatement
+unfoldable pub tables_at : Bool → Lexemes → ReadOf ClientStatement
 tables_at full ts = do
   keyspace ← from_at ts
   like ← like_at keyspace.1
   Some (ShowTables full keyspace.0 like.0, like.1)
 
 -- TABLES [FROM name] [LIKE text] | COLUMNS FROM table [FROM name] [LIKE text]
-unfoldable pub listing_at : Bool → Lexemes → Read ClientStatement
+unfoldable pub listing_at : Bool → Lexemes → ReadOf ClientStatement
 listing_at full (bare (Some k.Tables) w ∷ rest) = tables_at full rest
 listing_at full (bare (Some k.Columns) w ∷ rest) = columns_at full rest
 listing_at full (bare (Some k.Fields) w ∷ rest) = columns_at full rest
 listing_at full _ = None
 
-unfoldable pub databases_at : Lexemes → Read ClientStatement
+unfoldable pub databases_at : Lexemes → ReadOf ClientStatement
 databases_at ts = like_at ts >>= λ x. Some (ShowDatabases x.0, x.1)
 
-unfoldable pub variables_at : Lexemes → Read ClientStatement
+unfoldable pub variables_at : Lexemes → ReadOf ClientStatement
 variables_at (bare (Some k.Variables) w ∷ rest) = like_at rest >>= λ x. Some (ShowVariables x.0, x.1)
 variables_at _ = None
 
 -- after SHOW
-unfoldable pub show_at : Lexemes → Read ClientStatement
+unfoldable pub show_at : Lexemes → ReadOf ClientStatement
 show_at (bare (Some k.Databases) w ∷ rest) = databases_at rest
 show_at (bare (Some k.Schemas) w ∷ rest) = databases_at rest
 show_at (bare (Some k.Warnings) w ∷ rest) = Some (ShowWarnings, rest)
@@ -309,26 +309,26 @@ show_at (bare (Some k.Variables) w ∷ rest) = variables_at (bare (Some k.Variab
 show_at ts = listing_at false ts
 
 -- table, after DESCRIBE
-unfoldable pub describe_at : Lexemes → Read ClientStatement
-describe_at ts = table_at ts >>= λ x. Some (ShowColumns false x.0 None, x.1)
+unfoldable pub describe_at : Lexemes → ReadOf ClientStatement
+describe_at ts = table_name_at ts >>= λ x. Some (ShowColumns false x.0 None, x.1)
 
-unfoldable pub use_at : Lexemes → Read ClientStatement
+unfoldable pub use_at : Lexemes → ReadOf ClientStatement
 use_at ts = identifier_at ts >>= λ x. Some (Use x.0, x.1)
 
 -- ---- SELECT
 
 -- the variable of this name
-unfoldable pub asked_variable : List ℕ → Asked
+unfoldable pub asked_variable : List ℕ → NamedValue
 asked_variable name = elim (variable_of name) [ Some v ↦ asked.Variable v | None ↦ asked.Unknown name ]
 
 abbrev pub is_scope : List ℕ → Bool
 is_scope name = is_session name || same_in_any_case name (codes "global")
 
-abbrev pub scoped_variable : List ℕ → List ℕ → Option (Asked × ℕ)
+abbrev pub scoped_variable : List ℕ → List ℕ → Option (NamedValue × ℕ)
 scoped_variable scope name = if is_scope scope then Some (asked_variable name, 3) else None
 
 -- what a call without arguments asks for
-unfoldable pub called : Option Keyword → Option Asked
+unfoldable pub called : Option Keyword → Option NamedValue
 called (Some k.Version) = Some asked.Version
 called (Some k.Database) = Some asked.Database
 called (Some k.Schema) = Some asked.Database
@@ -341,7 +341,7 @@ called _ = None
 
 -- @@name | @@SESSION.name | @@LOCAL.name | @@GLOBAL.name | VERSION() | DATABASE() | SCHEMA() | CONNECTION_ID() | USER() | CURRENT_USER()
 -- | SESSION_USER() | SYSTEM_USER(), and how many tokens that is
-unfoldable pub asked_at : Lexemes → Option (Asked × ℕ)
+unfoldable pub asked_at : Lexemes → Option (NamedValue × ℕ)
 asked_at (system scope ∷ mark Dot ∷ bare k name ∷ rest) = scoped_variable scope name
 asked_at (system name ∷ rest) = Some (asked_variable name, 1)
 asked_at (bare k w ∷ mark LeftParenthesis ∷ mark RightParenthesis ∷ rest) = called k >>= λ x. Some (x, 3)
@@ -364,16 +364,16 @@ abbrev pub start_of : Option Token → ℕ
 start_of None = 0
 start_of (Some t) = t.start
 
-abbrev pub end_of : Option Token → ℕ
-end_of None = 0
-end_of (Some t) = t.end
+abbrev pub token_end : Option Token → ℕ
+token_end None = 0
+token_end (Some t) = t.end
 
 -- the text of the first tokens, so many, as it stands
 unfoldable pub text_of_first : List ℕ → List Token → ℕ → List ℕ
-text_of_first whole tokens n = slice_range whole (start_of (slice_get tokens 0)) (end_of (slice_get tokens (n - 1)))
+text_of_first whole tokens n = slice_range whole (start_of (slice_get tokens 0)) (token_end (slice_get tokens (n - 1)))
 
 -- A value with its column's name, which is the alias or else the value's text, and the tokens after it.
-unfoldable pub item_at : List ℕ → List Token → Option (Item × List Token)
+unfoldable pub item_at : List ℕ → List Token → Option (SelectItem × List Token)
 item_at whole tokens = do
   value ← asked_at (lexemes_of whole tokens)
   alias ← alias_at (lexemes_of whole (drop value.1 tokens))
@@ -390,7 +390,7 @@ begins_with_comma (mark Comma ∷ rest) = true
 begins_with_comma _ = false
 
 -- item,.. [LIMIT 1] up to the end, after these items; n is at least their count
-unfoldable pub items_at : ℕ → List ℕ → List Item → List Token → Option (List Item)
+unfoldable pub items_at : ℕ → List ℕ → List SelectItem → List Token → Option (List SelectItem)
 items_at zero whole front tokens = None
 items_at (suc n) whole front tokens = elim (item_at whole tokens) [
   | None ↦ None
@@ -402,11 +402,11 @@ items_at (suc n) whole front tokens = elim (item_at whole tokens) [
 -- ---- statements
 
 -- what was read, if nothing stands after it
-unfoldable pub finished : Read ClientStatement → Option ClientStatement
+unfoldable pub finished : ReadOf ClientStatement → Option ClientStatement
 finished None = None
 finished (Some x) = elim x.1 [ [] ↦ Some x.0 | t ∷ ts ↦ None ]
 
-abbrev pub selected : Option (List Item) → Option ClientStatement
+abbrev pub selected : Option (List SelectItem) → Option ClientStatement
 selected None = None
 selected (Some items) = Some (Select items)
 

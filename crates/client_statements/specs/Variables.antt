@@ -89,16 +89,16 @@ variable_value VersionComment on = codes "Peamslik"
 variable_value WaitTimeout on = codes "28800"
 
 -- what SHOW VARIABLES tells, a switch as ON or OFF
-abbrev pub shown_value : Variable → Bool → List ℕ
-shown_value Autocommit on = if on then codes "ON" else codes "OFF"
-shown_value PerformanceSchema on = codes "OFF"
-shown_value ReadOnly on = codes "OFF"
-shown_value SqlAutoIsNull on = codes "OFF"
-shown_value SqlSafeUpdates on = codes "OFF"
-shown_value TransactionReadOnly on = codes "OFF"
-shown_value TxReadOnly on = codes "OFF"
-shown_value UniqueChecks on = codes "ON"
-shown_value v on = variable_value v on
+abbrev pub shown_variable : Variable → Bool → List ℕ
+shown_variable Autocommit on = if on then codes "ON" else codes "OFF"
+shown_variable PerformanceSchema on = codes "OFF"
+shown_variable ReadOnly on = codes "OFF"
+shown_variable SqlAutoIsNull on = codes "OFF"
+shown_variable SqlSafeUpdates on = codes "OFF"
+shown_variable TransactionReadOnly on = codes "OFF"
+shown_variable TxReadOnly on = codes "OFF"
+shown_variable UniqueChecks on = codes "ON"
+shown_variable v on = variable_value v on
 
 -- the variable that has this name, in any case
 unfoldable pub variable_of : List ℕ → Option Variable

@@ -3,12 +3,12 @@ ghost use Rattle.std.specs.Prelude.{◌≡◌, ◌∷◌, [], map, Some, option_
 ghost use Rattle.std.specs.List.{list_all};
 ghost use Rattle.vschema.specs.declared.schema.VSchema.{VSchema};
 ghost use Rattle.client_statements.specs.declared.answers.Facts.{Facts};
-ghost use Rattle.client_statements.specs.Answers.{name_in_use, is_told, told_value, has_client_answer, IsClientAnswer};
+ghost use Rattle.client_statements.specs.Answers.{name_in_use, is_known_name, value_named, has_client_answer, IsClientAnswer};
 
 use crate::columns::described;
 use crate::keyspaces::{databases, keyspace_name, tables};
 use crate::listings::{cell, heads, push_text, texts};
-use crate::statement::{Asked, ClientStatement, Item};
+use crate::statement::{ClientStatement, NamedValue, SelectItem};
 use crate::variable::{Variable, variable_value};
 use crate::variables::shown;
 use itoa::Buffer;
@@ -42,67 +42,67 @@ pub enum ClientAnswer {
     Refused(Refusal),
 }
 
-fn is_told(asked: &Asked) -> bool
-    ensures { result ≡ is_told asked.now }
+fn is_known_name(asked: &NamedValue) -> bool
+    ensures { result ≡ is_known_name asked.now }
 {
-    !matches!(asked, Asked::Unknown(_))
+    !matches!(asked, NamedValue::Unknown(_))
 }
 
-fn name_in_use(schema: &VSchema, place: Option<usize>) -> Option<&[u8]>
-    ensures { option_map (λ t. t.now) result ≡ name_in_use schema.now place }
+fn name_in_use(schema: &VSchema, ordinal: Option<usize>) -> Option<&[u8]>
+    ensures { option_map (λ t. t.now) result ≡ name_in_use schema.now ordinal }
 {
-    match place {
-        Some(place) => keyspace_name(schema, place),
+    match ordinal {
+        Some(ordinal) => keyspace_name(schema, ordinal),
         None => None,
     }
 }
 
 /// The value that is asked for: NULL, if the server doesn't have it.
-fn told_value(
+fn value_named(
     alloc: Global,
     schema: &VSchema,
     facts: &Facts,
-    asked: &Asked,
+    asked: &NamedValue,
 ) -> Result<Value, AllocError>
-    ensures { IfOk result (λ v. v ≡ told_value schema.now facts.now asked.now) }
+    ensures { IfOk result (λ v. v ≡ value_named schema.now facts.now asked.now) }
 {
     match asked {
-        Asked::Variable(variable) => {
+        NamedValue::Variable(variable) => {
             let value = variable_value(*variable, facts.autocommit);
             cell(alloc, Some(value.as_bytes()))
         }
-        Asked::Unknown(_) => Ok(Value::Null),
-        Asked::Version => {
+        NamedValue::Unknown(_) => Ok(Value::Null),
+        NamedValue::Version => {
             let value = variable_value(Variable::Version, facts.autocommit);
             cell(alloc, Some(value.as_bytes()))
         }
-        Asked::Database => cell(alloc, name_in_use(schema, facts.keyspace)),
-        Asked::ConnectionId => {
+        NamedValue::Database => cell(alloc, name_in_use(schema, facts.keyspace)),
+        NamedValue::ConnectionId => {
             let mut buffer = Buffer::new();
             cell(alloc, Some(buffer.format(facts.connection).as_bytes()))
         }
-        Asked::User => cell(alloc, Some(facts.user.as_slice())),
+        NamedValue::User => cell(alloc, Some(facts.user.as_slice())),
     }
 }
 
 /// The row of the values that are asked for.
-fn told_values(
+fn values_named(
     alloc: Global,
     schema: &VSchema,
     facts: &Facts,
-    items: &[Item],
+    items: &[SelectItem],
 ) -> Result<Row, AllocError>
-    ensures { IfOk result (λ row. row ≡ map (λ i. told_value schema.now facts.now i.asked) items.now) }
+    ensures { IfOk result (λ row. row ≡ map (λ i. value_named schema.now facts.now i.asked) items.now) }
 {
     let mut row = Items::new(alloc);
     for item in items {
-        row.push(told_value(alloc, schema, facts, &item.asked)?)?;
+        row.push(value_named(alloc, schema, facts, &item.asked)?)?;
     }
     Ok(row)
 }
 
 /// The names of the columns of the values that are asked for.
-fn item_names(alloc: Global, items: &[Item]) -> Result<Items<Name>, AllocError>
+fn item_names(alloc: Global, items: &[SelectItem]) -> Result<Items<Name>, AllocError>
     ensures { IfOk result (λ names. names ≡ map (λ i. i.name) items.now) }
 {
     let mut names = Items::new(alloc);
@@ -116,21 +116,21 @@ fn told_rows(
     alloc: Global,
     schema: &VSchema,
     facts: &Facts,
-    items: &[Item],
+    items: &[SelectItem],
 ) -> Result<Items<Row>, AllocError>
-    ensures { IfOk result (λ rows. rows ≡ map (λ i. told_value schema.now facts.now i.asked) items.now ∷ []) }
+    ensures { IfOk result (λ rows. rows ≡ map (λ i. value_named schema.now facts.now i.asked) items.now ∷ []) }
 {
-    let row = told_values(alloc, schema, facts, items)?;
+    let row = values_named(alloc, schema, facts, items)?;
     let mut rows = Items::new(alloc);
     rows.push(row)?;
     Ok(rows)
 }
 
 /// Whether the server has all that is asked for.
-fn are_told(items: &[Item]) -> bool
-    ensures { result ≡ list_all (λ i. is_told i.asked) items.now }
+fn are_known_names(items: &[SelectItem]) -> bool
+    ensures { result ≡ list_all (λ i. is_known_name i.asked) items.now }
 {
-    items.iter().all(|item| is_told(&item.asked))
+    items.iter().all(|item| is_known_name(&item.asked))
 }
 
 /// SELECT of values by name.
@@ -138,11 +138,11 @@ fn selected(
     alloc: Global,
     schema: &VSchema,
     facts: &Facts,
-    items: &[Item],
+    items: &[SelectItem],
 ) -> Result<ClientAnswer, AllocError>
     ensures { IfOk result (IsClientAnswer schema.now facts.now (ClientStatement.Select items.now)) }
 {
-    if !are_told(items) {
+    if !are_known_names(items) {
         return Ok(ClientAnswer::Refused(Refusal::UnknownVariable));
     }
     let columns = item_names(alloc, items)?;
@@ -163,7 +163,7 @@ fn no_warnings(alloc: Global) -> Result<ClientAnswer, AllocError>
 
 // Promise: A client statement that has rows is answered by them, names in the order of their bytes, or by why there are none; only memory
 // refuses it
-// With: keyspace_place, keyspace_name
+// With: keyspace_ordinal, keyspace_name
 /// What a client statement is answered, if it has rows: no settings, transactions or keyspaces to use. Takes memory for the rows.
 pub fn answer(
     alloc: Global,

@@ -7,7 +7,7 @@ ghost use Rattle.client_statements.specs.declared.statement.ClientStatement.{Cli
 ghost use Rattle.client_statements.specs.Answers.{type_text, null_text, key_part_text, column_heads, column_texts, column_row, column_rows, is_keyspace, is_of_keyspace, is_described, IsClientAnswer};
 
 use crate::answers::ClientAnswer;
-use crate::keyspaces::keyspace_place;
+use crate::keyspaces::keyspace_ordinal;
 use crate::likes::Pattern;
 use crate::listings::{fits_pattern, heads, pattern, texts};
 use crate::statement::TableName;
@@ -44,16 +44,16 @@ fn null_text(nullable: bool) -> &'static str
     if nullable { "YES" } else { "NO" }
 }
 
-fn has_place(places: &[usize], place: usize) -> bool
-    ensures { result ≡ list_any (λ key. key == place) places.now }
+fn has_ordinal(places: &[usize], ordinal: usize) -> bool
+    ensures { result ≡ list_any (λ key. key == ordinal) places.now }
 {
-    places.iter().any(|key| *key == place)
+    places.iter().any(|key| *key == ordinal)
 }
 
-fn key_part_text(table: &Table, place: usize) -> &'static str
-    ensures { result.now ≡ key_part_text table.now place }
+fn key_part_text(table: &Table, ordinal: usize) -> &'static str
+    ensures { result.now ≡ key_part_text table.now ordinal }
 {
-    if has_place(table.primary_key.as_slice(), place) {
+    if has_ordinal(table.primary_key.as_slice(), ordinal) {
         "PRI"
     } else {
         ""
@@ -129,14 +129,14 @@ fn column_row(
     alloc: Global,
     full: bool,
     table: &Table,
-    place: usize,
+    ordinal: usize,
     column: &Column,
 ) -> Result<Row, AllocError>
-    ensures { IfOk result (λ row. row ≡ column_row full table.now place column.now) }
+    ensures { IfOk result (λ row. row ≡ column_row full table.now ordinal column.now) }
 {
     let kind = type_text(alloc, column.kind)?;
     let null = null_text(column.nullable).as_bytes();
-    let key = key_part_text(table, place).as_bytes();
+    let key = key_part_text(table, ordinal).as_bytes();
     column_texts(
         alloc,
         full,
@@ -153,14 +153,14 @@ fn push_column(
     full: bool,
     like: &Option<Pattern>,
     table: &Table,
-    place: usize,
+    ordinal: usize,
     column: &Column,
     rows: &mut Items<Row>,
 ) -> Result<(), AllocError>
-    ensures { OnOk result (rows.new ≡ rows.old ++ column_rows full like.now table.now place (column.now ∷ [])) }
+    ensures { OnOk result (rows.new ≡ rows.old ++ column_rows full like.now table.now ordinal (column.now ∷ [])) }
 {
     if fits_pattern(alloc, like, column.name.as_slice())? {
-        rows.push(column_row(alloc, full, table, place, column)?)?;
+        rows.push(column_row(alloc, full, table, ordinal, column)?)?;
     }
     Ok(())
 }
@@ -176,8 +176,8 @@ fn column_rows(
     ensures { IfOk result (λ rows. rows ≡ column_rows full like.now table.now 0 table.now.columns) }
 {
     let mut rows = Items::new(alloc);
-    for (place, column) in table.columns.as_slice().iter().enumerate() {
-        push_column(alloc, full, like, table, place, column, &mut rows)?;
+    for (ordinal, column) in table.columns.as_slice().iter().enumerate() {
+        push_column(alloc, full, like, table, ordinal, column, &mut rows)?;
     }
     Ok(rows)
 }
@@ -187,18 +187,18 @@ fn is_keyspace(schema: &VSchema, named: &Option<Name>) -> bool
     ensures { result ≡ is_keyspace schema.now named.now }
 {
     match named {
-        Some(name) => keyspace_place(schema, name.as_slice()).is_some(),
+        Some(name) => keyspace_ordinal(schema, name.as_slice()).is_some(),
         None => true,
     }
 }
 
 /// Whether a table lies in the keyspace that is named, if one is.
-fn is_of_keyspace(schema: &VSchema, named: &Option<Name>, place: usize) -> bool
-    ensures { result ≡ is_of_keyspace schema.now named.now place }
+fn is_of_keyspace(schema: &VSchema, named: &Option<Name>, ordinal: usize) -> bool
+    ensures { result ≡ is_of_keyspace schema.now named.now ordinal }
 {
     match named {
-        Some(name) => match keyspace_place(schema, name.as_slice()) {
-            Some(found) => found == place,
+        Some(name) => match keyspace_ordinal(schema, name.as_slice()) {
+            Some(found) => found == ordinal,
             None => false,
         },
         None => true,

@@ -4,7 +4,7 @@ ghost use Rattle.std.specs.Ordering.{nat_cmp};
 ghost use Rattle.std.specs.Cmp.Lexicographic.{slice_cmp};
 ghost use Rattle.client_statements.specs.declared.answers.Facts.{Facts};
 ghost use Rattle.client_statements.specs.declared.statement.ClientStatement.{ClientStatement};
-ghost use Rattle.client_statements.specs.Answers.{keyspace_place, keyspace_name, fits_pattern, headed, listed_row, AreListed, names_in, table_heads, listed_keyspace, without_keyspace, IsClientAnswer};
+ghost use Rattle.client_statements.specs.Answers.{keyspace_ordinal, keyspace_name, fits_pattern, headed, listed_row, AreListed, names_in, table_heads, listed_keyspace, without_keyspace, IsClientAnswer};
 
 use crate::answers::{ClientAnswer, Facts};
 use crate::likes::Pattern;
@@ -21,8 +21,8 @@ fn is_named(keyspace: &Keyspace, name: &[u8]) -> bool
 }
 
 /// The place of the keyspace of this name.
-pub fn keyspace_place(schema: &VSchema, name: &[u8]) -> Option<usize>
-    ensures { result ≡ keyspace_place schema.now name.now }
+pub fn keyspace_ordinal(schema: &VSchema, name: &[u8]) -> Option<usize>
+    ensures { result ≡ keyspace_ordinal schema.now name.now }
 {
     schema
         .keyspaces
@@ -32,10 +32,10 @@ pub fn keyspace_place(schema: &VSchema, name: &[u8]) -> Option<usize>
 }
 
 /// The name of the keyspace at a place.
-pub fn keyspace_name(schema: &VSchema, place: usize) -> Option<&[u8]>
-    ensures { option_map (λ t. t.now) result ≡ keyspace_name schema.now place }
+pub fn keyspace_name(schema: &VSchema, ordinal: usize) -> Option<&[u8]>
+    ensures { option_map (λ t. t.now) result ≡ keyspace_name schema.now ordinal }
 {
-    match schema.keyspaces.as_slice().get(place) {
+    match schema.keyspaces.as_slice().get(ordinal) {
         Some(keyspace) => Some(keyspace.name.as_slice()),
         None => None,
     }
@@ -76,13 +76,13 @@ fn keyspace_names(
 fn push_table(
     alloc: Global,
     table: &Table,
-    place: usize,
+    ordinal: usize,
     like: &Option<Pattern>,
     names: &mut Vec<Name>,
 ) -> Result<(), AllocError>
-    ensures { OnOk result (names.new.items ≡ names.old.items ++ filter (fits_pattern like.now) (names_in place (table.now ∷ []))) }
+    ensures { OnOk result (names.new.items ≡ names.old.items ++ filter (fits_pattern like.now) (names_in ordinal (table.now ∷ []))) }
 {
-    if table.keyspace == place {
+    if table.keyspace == ordinal {
         push_fitting(alloc, like, table.name.as_slice(), names)?;
     }
     Ok(())
@@ -93,14 +93,14 @@ fn push_table(
 fn table_names(
     alloc: Global,
     tables: &[Table],
-    place: usize,
+    ordinal: usize,
     like: &Option<Pattern>,
 ) -> Result<Vec<Name>, AllocError>
-    ensures { IfOk result (λ v. v.items ≡ filter (fits_pattern like.now) (names_in place tables.now)) }
+    ensures { IfOk result (λ v. v.items ≡ filter (fits_pattern like.now) (names_in ordinal tables.now)) }
 {
     let mut names = Vec::new(alloc);
     for table in tables {
-        push_table(alloc, table, place, like, &mut names)?;
+        push_table(alloc, table, ordinal, like, &mut names)?;
     }
     Ok(names)
 }
@@ -181,10 +181,10 @@ pub fn databases(
     Ok(ClientAnswer::Rows { columns, rows })
 }
 
-fn name_or_none(schema: &VSchema, place: usize) -> &[u8]
-    ensures { result.now ≡ unwrap_or (keyspace_name schema.now place) [] }
+fn name_or_none(schema: &VSchema, ordinal: usize) -> &[u8]
+    ensures { result.now ≡ unwrap_or (keyspace_name schema.now ordinal) [] }
 {
-    match keyspace_name(schema, place) {
+    match keyspace_name(schema, ordinal) {
         Some(name) => name,
         None => &[],
     }
@@ -194,26 +194,26 @@ fn name_or_none(schema: &VSchema, place: usize) -> &[u8]
 fn table_head(
     alloc: Global,
     schema: &VSchema,
-    place: usize,
+    ordinal: usize,
     like: &Option<Pattern>,
 ) -> Result<Name, AllocError>
-    ensures { IfOk result (λ n. n ≡ headed (codes "Tables_in_" ++ unwrap_or (keyspace_name schema.now place) []) like.now) }
+    ensures { IfOk result (λ n. n ≡ headed (codes "Tables_in_" ++ unwrap_or (keyspace_name schema.now ordinal) []) like.now) }
 {
     let mut head = Vec::from_slice(alloc, b"Tables_in_")?;
-    head.extend_from_slice(name_or_none(schema, place))?;
+    head.extend_from_slice(name_or_none(schema, ordinal))?;
     headed(alloc, head.as_slice(), like)
 }
 
 fn table_heads(
     alloc: Global,
     schema: &VSchema,
-    place: usize,
+    ordinal: usize,
     full: bool,
     like: &Option<Pattern>,
 ) -> Result<Items<Name>, AllocError>
-    ensures { IfOk result (λ heads. heads ≡ table_heads schema.now place full like.now) }
+    ensures { IfOk result (λ heads. heads ≡ table_heads schema.now ordinal full like.now) }
 {
-    let mut heads = one_head(alloc, table_head(alloc, schema, place, like)?)?;
+    let mut heads = one_head(alloc, table_head(alloc, schema, ordinal, like)?)?;
     if full {
         push_text(alloc, &mut heads, b"Table_type")?;
     }
@@ -225,7 +225,7 @@ fn listed_keyspace(schema: &VSchema, facts: &Facts, named: &Option<Name>) -> Opt
     ensures { result ≡ listed_keyspace schema.now facts.now named.now }
 {
     match named {
-        Some(name) => keyspace_place(schema, name.as_slice()),
+        Some(name) => keyspace_ordinal(schema, name.as_slice()),
         None => facts.keyspace,
     }
 }
@@ -242,13 +242,13 @@ fn without_keyspace(named: &Option<Name>) -> Refusal
 fn table_rows(
     alloc: Global,
     schema: &VSchema,
-    place: usize,
+    ordinal: usize,
     full: bool,
     like: &Option<Pattern>,
 ) -> Result<Items<Row>, AllocError>
-    ensures { IfOk result (AreListed full (filter (fits_pattern like.now) (names_in place schema.now.tables))) }
+    ensures { IfOk result (AreListed full (filter (fits_pattern like.now) (names_in ordinal schema.now.tables))) }
 {
-    let names = table_names(alloc, schema.tables.as_slice(), place, like)?;
+    let names = table_names(alloc, schema.tables.as_slice(), ordinal, like)?;
     listed(alloc, full, names)
 }
 
@@ -263,11 +263,11 @@ pub fn tables(
 ) -> Result<ClientAnswer, AllocError>
     ensures { IfOk result (IsClientAnswer schema.now facts.now (ClientStatement.ShowTables full named.now like.now)) }
 {
-    let Some(place) = listed_keyspace(schema, facts, named) else {
+    let Some(ordinal) = listed_keyspace(schema, facts, named) else {
         return Ok(ClientAnswer::Refused(without_keyspace(named)));
     };
     let like = pattern(alloc, like)?;
-    let columns = table_heads(alloc, schema, place, full, &like)?;
-    let rows = table_rows(alloc, schema, place, full, &like)?;
+    let columns = table_heads(alloc, schema, ordinal, full, &like)?;
+    let rows = table_rows(alloc, schema, ordinal, full, &like)?;
     Ok(ClientAnswer::Rows { columns, rows })
 }

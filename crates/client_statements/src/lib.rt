@@ -18,8 +18,8 @@ mod variable;
 mod variables;
 
 pub use answers::{ClientAnswer, Facts, answer};
-pub use keyspaces::{keyspace_name, keyspace_place};
+pub use keyspaces::{keyspace_name, keyspace_ordinal};
 pub use likes::is_like;
 pub use reading::read;
-pub use statement::{Asked, ClientStatement, Item, TableName};
+pub use statement::{ClientStatement, NamedValue, SelectItem, TableName};
 pub use variable::Variable;

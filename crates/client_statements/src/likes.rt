@@ -1,6 +1,6 @@
 //! Names that a pattern of LIKE fits.
 ghost use Rattle.std.specs.Prelude.{◌≡◌, ◌++◌, ◌<◌, suc, [], false, length, nat_lt, slice_index_or, ◌∷◌, IfOk, OnOk};
-ghost use Rattle.client_statements.specs.Likes.{pieces, piece_of, is_any, fits_step, fits, is_like};
+ghost use Rattle.client_statements.specs.Likes.{pieces, pattern_piece, is_any, fits_step, like_fits, is_like};
 ghost use Rattle.client_statements.specs.inner.Patterns.{FitSame, IsReadAs, is_left_out, needed, needed_by};
 ghost use Rattle.client_statements.specs.inner.Rows.{next_row, row_of};
 
@@ -20,8 +20,8 @@ pub enum Piece {
     Byte(u8),
 }
 
-fn piece_of(byte: u8) -> Piece
-    ensures { result ≡ piece_of byte }
+fn pattern_piece(byte: u8) -> Piece
+    ensures { result ≡ pattern_piece byte }
 {
     match byte {
         b'%' => Piece::Any,
@@ -40,10 +40,10 @@ fn is_left_out(byte: u8, rest: &[u8]) -> bool
 /// Puts the piece of a byte that stands for itself, unless it is left out.
 #[tactic(auto, using(crate::proofs::Patterns::fit_pushed))]
 fn push_byte(found: &mut Vec<Piece>, byte: u8, rest: &[u8]) -> Result<(), AllocError>
-    ensures { OnOk result (FitSame (found.new.items ++ pieces rest.now) (found.old.items ++ piece_of byte ∷ pieces rest.now)) }
+    ensures { OnOk result (FitSame (found.new.items ++ pieces rest.now) (found.old.items ++ pattern_piece byte ∷ pieces rest.now)) }
 {
     if !is_left_out(byte, rest) {
-        found.push(piece_of(byte))?;
+        found.push(pattern_piece(byte))?;
     }
     Ok(())
 }
@@ -158,7 +158,7 @@ fn need_more(pieces: &[Piece], bytes: usize) -> bool
 /// Whether pieces fit a name. If no `%` stands right after another, that takes time by the name's length alone: those that need more
 /// bytes than it has don't fit, and the others are few.
 fn fits(alloc: Global, pieces: &[Piece], name: &[u8]) -> Result<bool, AllocError>
-    ensures { IfOk result (λ b. b ≡ fits pieces.now name.now) }
+    ensures { IfOk result (λ b. b ≡ like_fits pieces.now name.now) }
 {
     if need_more(pieces, name.len()) {
         return Ok(false);

@@ -77,7 +77,7 @@ fn part_len(text: &[u8]) -> usize
 }
 
 /// The bytes after the one at a place.
-fn behind(text: &[u8], at: usize) -> &[u8]
+fn text_after(text: &[u8], at: usize) -> &[u8]
     requires { at < length text.now }
     ensures { result.now ≡ drop (at + 1) text.now }
 {
@@ -97,7 +97,7 @@ pub fn are_held_modes(text: &[u8]) -> bool
         if count >= rest.len() {
             return true;
         }
-        rest = behind(rest, count);
+        rest = text_after(rest, count);
     }
 }
 

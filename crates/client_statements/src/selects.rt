@@ -7,7 +7,7 @@ ghost use Rattle.client_statements.specs.Grammar.{ends_select, begins_with_comma
 
 use crate::kinds::{AS, CLOSE, COMMA, DOT, LIMIT, OPEN};
 use crate::settings::is_session;
-use crate::statement::{Asked, Item};
+use crate::statement::{NamedValue, SelectItem};
 use crate::variable::variable_of;
 use client_tokens::{Keyword, Token, TokenKind, bytes_of, said, same_in_any_case};
 use sql_tree::Name;
@@ -16,12 +16,12 @@ use vt_value::{Items, Refusal};
 
 /// The variable of this name.
 #[tactic(auto, unfolding(crate::specs::Grammar::asked_variable))]
-fn asked_variable(name: Name) -> Asked
+fn asked_variable(name: Name) -> NamedValue
     ensures { result ≡ asked_variable name }
 {
     match variable_of(name.as_slice()) {
-        Some(variable) => Asked::Variable(variable),
-        None => Asked::Unknown(name),
+        Some(variable) => NamedValue::Variable(variable),
+        None => NamedValue::Unknown(name),
     }
 }
 
@@ -34,21 +34,21 @@ fn is_scope(name: &[u8]) -> bool
 
 /// What a call without arguments asks for.
 #[tactic(auto, unfolding(crate::specs::Grammar::called))]
-fn called(keyword: Option<Keyword>) -> Result<Asked, Refusal>
+fn called(keyword: Option<Keyword>) -> Result<NamedValue, Refusal>
     ensures { AgreesWith (λ x. x) result (called keyword) }
 {
     match keyword {
-        Some(Keyword::Version) => Ok(Asked::Version),
-        Some(Keyword::Database | Keyword::Schema) => Ok(Asked::Database),
-        Some(Keyword::ConnectionId) => Ok(Asked::ConnectionId),
+        Some(Keyword::Version) => Ok(NamedValue::Version),
+        Some(Keyword::Database | Keyword::Schema) => Ok(NamedValue::Database),
+        Some(Keyword::ConnectionId) => Ok(NamedValue::ConnectionId),
         Some(Keyword::User | Keyword::CurrentUser | Keyword::SessionUser | Keyword::SystemUser) =>
-            Ok(Asked::User),
+            Ok(NamedValue::User),
         _ => Err(Refusal::SyntaxError),
     }
 }
 
 /// A variable after its scope, which is told with three tokens.
-fn scoped(scope: Name, name: Name) -> Result<(Asked, usize), Refusal>
+fn scoped(scope: Name, name: Name) -> Result<(NamedValue, usize), Refusal>
     ensures { AgreesWith (λ x. x) result (scoped_variable scope name) }
 {
     if is_scope(scope.as_slice()) {
@@ -60,7 +60,7 @@ fn scoped(scope: Name, name: Name) -> Result<(Asked, usize), Refusal>
 
 /// A value that is asked for, and how many tokens tell it.
 #[tactic(auto, unfolding(crate::specs::Grammar::asked_at))]
-fn asked(alloc: Global, text: &[u8], tokens: &[Token]) -> Result<(Asked, usize), Refusal>
+fn asked(alloc: Global, text: &[u8], tokens: &[Token]) -> Result<(NamedValue, usize), Refusal>
     ensures { AgreesWith (λ x. x) result (asked_at (lexemes_of text.now tokens.now)) }
 {
     match tokens {
@@ -155,7 +155,11 @@ fn text_of_first<'s>(text: &'s [u8], tokens: &[Token], count: usize) -> &'s [u8]
 
 /// A value with its column's name, and the tokens after it.
 #[tactic(auto, unfolding(crate::specs::Grammar::item_at))]
-fn item<'s>(alloc: Global, text: &[u8], tokens: &'s [Token]) -> Result<(Item, &'s [Token]), Refusal>
+fn item<'s>(
+    alloc: Global,
+    text: &[u8],
+    tokens: &'s [Token],
+) -> Result<(SelectItem, &'s [Token]), Refusal>
     ensures { AgreesWith (λ x. (x.0, x.1.now)) result (item_at text.now tokens.now) }
 {
     let (value, count) = asked(alloc, text, tokens)?;
@@ -165,7 +169,7 @@ fn item<'s>(alloc: Global, text: &[u8], tokens: &'s [Token]) -> Result<(Item, &'
         Some(alias) => alias,
         None => Items::from_slice(alloc, text_of_first(text, tokens, count))?,
     };
-    Ok((Item { asked: value, name }, after(rest, more)))
+    Ok((SelectItem { asked: value, name }, after(rest, more)))
 }
 
 /// Whether nothing follows the items but LIMIT 1.
@@ -198,21 +202,21 @@ fn begins_with_comma(tokens: &[Token]) -> bool
 }
 
 /// item,.. [LIMIT 1] up to the end.
-pub fn items(alloc: Global, text: &[u8], tokens: &[Token]) -> Result<Items<Item>, Refusal>
+pub fn items(alloc: Global, text: &[u8], tokens: &[Token]) -> Result<Items<SelectItem>, Refusal>
     ensures { AgreesWith (λ x. x) result (items_at (length tokens.now) text.now [] tokens.now) }
 {
     let mut items = Items::new(alloc);
     let mut rest = tokens;
     for _ in 0..tokens.len() {
-        let (item, behind) = item(alloc, text, rest)?;
+        let (item, trailing) = item(alloc, text, rest)?;
         items.push(item)?;
-        if ends_select(text, behind) {
+        if ends_select(text, trailing) {
             return Ok(items);
         }
-        if !begins_with_comma(behind) {
+        if !begins_with_comma(trailing) {
             return Err(Refusal::SyntaxError);
         }
-        rest = after(behind, 1);
+        rest = after(trailing, 1);
     }
     Err(Refusal::SyntaxError)
 }

@@ -3,7 +3,7 @@ ghost use Rattle.std.specs.Prelude.{◌≡◌, ℕ, List, length, Some, None};
 ghost use Rattle.sql_lexer.specs.inner.Results.{AgreesWith};
 ghost use Rattle.client_tokens.specs.Pieces.{lexeme_of, lexemes_of};
 ghost use Rattle.client_statements.specs.Grammar.{switch_of, switch_at, modes_text_at, is_session, system_at, scoped_at, mode_variable_at, added_at};
-ghost use Rattle.client_statements.specs.Grammar.{inner_concat_at, modes_at, said_at, its_value_at, value_at, target_at, setting_at, settings_at};
+ghost use Rattle.client_statements.specs.Grammar.{inner_concat_at, modes_at, said_at, its_value_at, setting_value_at, target_at, setting_at, settings_at};
 ghost use Rattle.client_statements.specs.Grammar.{collation_at, names_at, level_at, characteristic_at, end_at, character_set_at, session_at, set_at, set_statement};
 
 use crate::kinds::{
@@ -13,7 +13,7 @@ use crate::kinds::{
 use crate::names::{any, close, comma, equals, identifier, open, string};
 use crate::rule::{Rule, are_held_modes, rule_of};
 use crate::statement::ClientStatement;
-use crate::variable::{Variable, shown_value, variable_value};
+use crate::variable::{Variable, shown_variable, variable_value};
 use client_tokens::{Token, TokenKind, said, same_in_any_case};
 use sql_tree::Name;
 use std::alloc::Global;
@@ -203,7 +203,7 @@ fn its_value<'s>(
 {
     let (value, rest) = said_first(alloc, text, tokens)?;
     if same_in_any_case(value.as_slice(), variable_value(variable, true).as_bytes())
-        || same_in_any_case(value.as_slice(), shown_value(variable, true).as_bytes())
+        || same_in_any_case(value.as_slice(), shown_variable(variable, true).as_bytes())
     {
         Ok(rest)
     } else {
@@ -212,14 +212,14 @@ fn its_value<'s>(
 }
 
 /// A value that holds.
-#[tactic(auto, unfolding(crate::specs::Grammar::value_at))]
+#[tactic(auto, unfolding(crate::specs::Grammar::setting_value_at))]
 fn value<'s>(
     alloc: Global,
     text: &[u8],
     rule: Rule,
     tokens: &'s [Token],
 ) -> Result<(Option<bool>, &'s [Token]), Refusal>
-    ensures { AgreesWith (λ x. (x.0, lexemes_of text.now x.1.now)) result (value_at rule (lexemes_of text.now tokens.now)) }
+    ensures { AgreesWith (λ x. (x.0, lexemes_of text.now x.1.now)) result (setting_value_at rule (lexemes_of text.now tokens.now)) }
 {
     match rule {
         Rule::Switch => switch(alloc, text, tokens),

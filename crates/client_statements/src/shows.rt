@@ -2,7 +2,7 @@
 ghost use Rattle.std.specs.Prelude.{◌≡◌, ℕ, List};
 ghost use Rattle.sql_lexer.specs.inner.Results.{AgreesWith};
 ghost use Rattle.client_tokens.specs.Pieces.{lexemes_of};
-ghost use Rattle.client_statements.specs.Grammar.{mode_at, begin_at, second_mode_at, from_at, qualified_at, table_at, columns_of_at, columns_at};
+ghost use Rattle.client_statements.specs.Grammar.{mode_at, begin_at, second_mode_at, from_at, qualified_at, table_name_at, columns_of_at, columns_at};
 ghost use Rattle.client_statements.specs.Grammar.{tables_at, listing_at, databases_at, variables_at, show_at, describe_at, use_at, begin_statement};
 
 use crate::kinds::{
@@ -134,13 +134,13 @@ fn qualified<'s>(
 }
 
 /// name | name . name
-#[tactic(auto, unfolding(crate::specs::Grammar::table_at))]
+#[tactic(auto, unfolding(crate::specs::Grammar::table_name_at))]
 fn table<'s>(
     alloc: Global,
     text: &[u8],
     tokens: &'s [Token],
 ) -> Result<(TableName, &'s [Token]), Refusal>
-    ensures { AgreesWith (λ x. (x.0, lexemes_of text.now x.1.now)) result (table_at (lexemes_of text.now tokens.now)) }
+    ensures { AgreesWith (λ x. (x.0, lexemes_of text.now x.1.now)) result (table_name_at (lexemes_of text.now tokens.now)) }
 {
     let (first, rest) = identifier(alloc, text, tokens)?;
     qualified(alloc, text, first, rest)

@@ -5,7 +5,7 @@ use vt_value::Items;
 
 /// A value that a client asks for by name.
 #[derive(Debug, Drop)]
-pub enum Asked {
+pub enum NamedValue {
     /// `@@name`, of a variable that the server has.
     Variable(Variable),
     /// `@@name`, of one that it hasn't.
@@ -22,8 +22,8 @@ pub enum Asked {
 
 /// A value that a SELECT asks for, and the name of its column.
 #[derive(Debug, Drop)]
-pub struct Item {
-    pub asked: Asked,
+pub struct SelectItem {
+    pub asked: NamedValue,
     pub name: Name,
 }
 
@@ -45,7 +45,7 @@ pub enum ClientStatement {
     Begin,
     /// What the server can't do or be set to.
     NotSupported,
-    Select(Items<Item>),
+    Select(Items<SelectItem>),
     Use(Name),
     ShowDatabases {
         like: Option<Name>,

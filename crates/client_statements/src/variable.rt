@@ -1,6 +1,6 @@
 //! The variables that the server has.
 ghost use Rattle.std.specs.Prelude.{◌≡◌};
-ghost use Rattle.client_statements.specs.Variables.{variable_name, variable_value, shown_value, variable_of};
+ghost use Rattle.client_statements.specs.Variables.{variable_name, variable_value, shown_variable, variable_of};
 
 use client_tokens::same_in_any_case;
 
@@ -170,8 +170,8 @@ pub fn variable_value(variable: Variable, autocommit: bool) -> &'static str
 }
 
 /// What SHOW VARIABLES tells of a variable: a switch as ON or OFF.
-pub fn shown_value(variable: Variable, autocommit: bool) -> &'static str
-    ensures { result.now ≡ shown_value variable autocommit }
+pub fn shown_variable(variable: Variable, autocommit: bool) -> &'static str
+    ensures { result.now ≡ shown_variable variable autocommit }
 {
     match variable {
         Variable::Autocommit => { if autocommit { "ON" } else { "OFF" } }

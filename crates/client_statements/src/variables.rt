@@ -7,7 +7,7 @@ ghost use Rattle.client_statements.specs.Answers.{variable_row, variable_rows, I
 use crate::answers::{ClientAnswer, Facts};
 use crate::likes::Pattern;
 use crate::listings::{fits_pattern, heads, pattern, texts};
-use crate::variable::{VARIABLES, Variable, shown_value, variable_name};
+use crate::variable::{VARIABLES, Variable, shown_variable, variable_name};
 use sql_tree::Name;
 use std::alloc::{AllocError, Global};
 use vt_value::{Items, Row};
@@ -16,7 +16,7 @@ fn variable_row(alloc: Global, autocommit: bool, variable: Variable) -> Result<R
     ensures { IfOk result (λ row. row ≡ variable_row autocommit variable) }
 {
     let name = variable_name(variable).as_bytes();
-    let value = shown_value(variable, autocommit).as_bytes();
+    let value = shown_variable(variable, autocommit).as_bytes();
     texts(alloc, &[Some(name), Some(value)])
 }
 

@@ -9,13 +9,13 @@ use Rattle.sql_lexer.specs.Lexemes.{is_blank, is_letter, is_digit, is_word_byte}
 use Rattle.sql_lexer.specs.inner.Scanning.{run, first_passes}
 use Rattle.sql_lexer.proofs.Options.{some_is, guard_some, unless_some}
 use Rattle.sql_lexer.proofs.Runs.{run_within, run_passes, run_stops, run_exact}
-use Rattle.client_tokens.specs.declared.body.Place.TheVariants.{Inside}
+use Rattle.client_tokens.specs.declared.body.TextState.TheVariants.{Inside}
 use Rattle.client_tokens.specs.declared.token.Sign as S
 use Rattle.client_tokens.specs.declared.token.Sign.TheVariants.{Equal, Comma, Dot, LeftParenthesis, RightParenthesis, Semicolon}
 use Rattle.client_tokens.specs.declared.token.TokenKind.{TokenKind}
 use Rattle.client_tokens.specs.declared.token.TokenKind.TheVariants.{Word, Name, Variable, Number, Text, Sign}
 use Rattle.client_tokens.specs.Keywords.{keyword_of}
-use Rattle.client_tokens.specs.Pieces.{in_line, in_name, is_quote, has_close, IsQuoted, Stands}
+use Rattle.client_tokens.specs.Pieces.{in_line, in_name, is_quote, has_close, IsQuoted, IsPiece}
 use Rattle.client_tokens.specs.Pieces as s
 use Rattle.client_tokens.specs.inner.Scanning.{Front, remark_len, text_len, number_at, text_at, word_at, is_name_before, name_at, variable_at, dashes_at, remark_at, assigns_at, sign_at, mark_at, piece_at}
 use Rattle.client_tokens.proofs.Remarks.{first_is, remark_sound, remark_again}
@@ -71,7 +71,7 @@ pub record Found (bs : List ℕ) (x : Front) : Type 0 where
   pub rest : List ℕ
   pub parts : bs ≡ front ++ rest
   pub size : x.1 ≡ length front
-  pub stands : Stands front rest x.0
+  pub stands : IsPiece front rest x.0
 
 run_size : (p : ℕ → Bool) (bs : List ℕ) → run p bs ≡ length (take (run p bs) bs)
 run_size p bs = let within = run_within p bs in omega (arith, length-take (run p bs) bs)
@@ -136,9 +136,9 @@ name_sound bs x e =
     go (b ∷ rest) is before stop =
         let quote : b ≡ 0x60 = eqb-true b 0x60 (passes_not (eqb b 0x60) stop) in
         let word = take (run in_name bs) bs in
-        let behind : drop (run in_name bs) bs ≡ 0x60 ∷ rest = is ∙ ap (λ (c : ℕ). c ∷ rest) quote in
+        let trailing : drop (run in_name bs) bs ≡ 0x60 ∷ rest = is ∙ ap (λ (c : ℕ). c ∷ rest) quote in
         let parts : bs ≡ (word ++ 0x60 ∷ []) ++ rest =
-        run_parts in_name bs ∙ ap (λ (cs : List ℕ). word ++ cs) behind ∙ sym (append_assoc word (0x60 ∷ []) rest) in
+        run_parts in_name bs ∙ ap (λ (cs : List ℕ). word ++ cs) trailing ∙ sym (append_assoc word (0x60 ∷ []) rest) in
         record {
           front = 0x60 ∷ word ++ 0x60 ∷ [];
           rest = rest;
@@ -263,7 +263,7 @@ sign_sound b bs x e =
       rest = bs;
       parts = refl;
       size = refl;
-      stands = subst (λ (cs : List ℕ). Stands cs bs (Some (Sign m.0))) (sym (sign_is b m.0 m.1)) (s.sign m.0);
+      stands = subst (λ (cs : List ℕ). IsPiece cs bs (Some (Sign m.0))) (sym (sign_is b m.0 m.1)) (s.sign m.0);
     })
 
 mark_sound : (b : ℕ) (bs : List ℕ) (x : Front) → mark_at b bs ≡ Some x → Found (b ∷ bs) x
@@ -413,7 +413,7 @@ assigns_read rest = refl
 sized : (what : Option TokenKind) (m n : ℕ) → m ≡ n → ◌≡◌ {A = Option Front} (Some (what, m)) (Some (what, n))
 sized what m n e = ap (λ (k : ℕ). Some (what, k)) e
 
-pub piece_again : {bytes rest : List ℕ} {what : Option TokenKind} → Stands bytes rest what → piece_at (bytes ++ rest) ≡ Some (what, length bytes)
+pub piece_again : {bytes rest : List ℕ} {what : Option TokenKind} → IsPiece bytes rest what → piece_at (bytes ++ rest) ≡ Some (what, length bytes)
 piece_again (s.blank {b} {rest} is) = front_blank b rest is
 piece_again (s.hash {bytes} {rest} h stop) = mark_hash (bytes ++ rest) ∙ sized None _ _ (ap suc (run_exact in_line bytes h rest stop))
 piece_again (s.dashes {bytes} {rest} h stop blank) =
@@ -441,7 +441,7 @@ piece_again (s.sign {rest} sign) = sign_read sign rest
 piece_again (s.assigns {rest}) = assigns_read rest
 
 -- a piece has a byte
-pub some_bytes : {bytes rest : List ℕ} {what : Option TokenKind} → Stands bytes rest what → 0 < length bytes
+pub some_bytes : {bytes rest : List ℕ} {what : Option TokenKind} → IsPiece bytes rest what → 0 < length bytes
 some_bytes (s.blank is) = omega arith
 some_bytes (s.hash h stop) = omega arith
 some_bytes (s.dashes h stop blank) = omega arith

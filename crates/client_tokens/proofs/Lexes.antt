@@ -10,8 +10,8 @@ use Rattle.client_tokens.specs.Tokens as t
 use Rattle.client_tokens.specs.inner.Scanning.{Front, piece_at, tokens_at}
 use Rattle.client_tokens.proofs.Fronts.{Found, piece_sound, piece_again, some_bytes, map_some}
 
-pub behind_front : (bs : List ℕ) (x : Front) (f : Found bs x) → drop x.1 bs ≡ f.rest
-behind_front bs x f = rw (f.size) (subst (λ (cs : List ℕ). drop (length f.front) cs ≡ f.rest) (sym f.parts) (drop-append_seam f.front f.rest))
+pub past_front : (bs : List ℕ) (x : Front) (f : Found bs x) → drop x.1 bs ≡ f.rest
+past_front bs x f = rw (f.size) (subst (λ (cs : List ℕ). drop (length f.front) cs ≡ f.rest) (sym f.parts) (drop-append_seam f.front f.rest))
 
 -- a piece has a byte, and stands within the text
 pub piece_within : (bs : List ℕ) (x : Front) → piece_at bs ≡ Some x → (0 < x.1) × (x.1 ≤ length bs)
@@ -53,7 +53,7 @@ lex_sound (suc n) at (b ∷ bs) tokens le e = go (piece_at (b ∷ bs)) refl (sym
         let shorter : length (drop x.1 (b ∷ bs)) ≤ n = omega (arith, within.0, within.1, length-drop x.1 (b ∷ bs)) in
         let later : HasTokensFrom (at + x.1) (drop x.1 (b ∷ bs)) m.0 = rec (at + x.1) (drop x.1 (b ∷ bs)) m.0 shorter m.1 in
         let there : HasTokensFrom (at + length f.front) f.rest m.0 =
-        subst (λ (cs : List ℕ). HasTokensFrom (at + length f.front) cs m.0) (behind_front (b ∷ bs) x f)
+        subst (λ (cs : List ℕ). HasTokensFrom (at + length f.front) cs m.0) (past_front (b ∷ bs) x f)
         (subst (λ (k : ℕ). HasTokensFrom (at + k) (drop x.1 (b ∷ bs)) m.0) f.size later) in
         let r : HasTokensFrom at (f.front ++ f.rest) (onto_tokens x.0 at (at + length f.front) m.0) = t.piece f.stands there in
         let whole : HasTokensFrom at (b ∷ bs) (onto_tokens x.0 at (at + x.1) m.0) =
@@ -67,8 +67,8 @@ read_piece : (n at : ℕ) (bs rest : List ℕ) (x : Front) (tokens : List Token)
     → tokens_at (suc n) at (bs ++ rest) ≡ Some (onto_tokens x.0 at (at + length bs) tokens)
 read_piece n at [] rest x tokens some le size is tail = absurd (omega arith)
 read_piece n at (b ∷ bs) rest x tokens some le size is tail =
-    let behind : tokens_at n (at + x.1) (drop x.1 ((b ∷ bs) ++ rest)) ≡ Some tokens = rw (size, drop-append_seam (b ∷ bs) rest) tail in
-    one_piece n at b (bs ++ rest) ∙ ap (after_piece n at ((b ∷ bs) ++ rest)) is ∙ ap (option_map (onto_tokens x.0 at (at + x.1))) behind
+    let trailing : tokens_at n (at + x.1) (drop x.1 ((b ∷ bs) ++ rest)) ≡ Some tokens = rw (size, drop-append_seam (b ∷ bs) rest) tail in
+    one_piece n at b (bs ++ rest) ∙ ap (after_piece n at ((b ∷ bs) ++ rest)) is ∙ ap (option_map (onto_tokens x.0 at (at + x.1))) trailing
     ∙ ap (λ (k : ℕ). Some (onto_tokens x.0 at (at + k) tokens)) size
 
 pub lex_again : {at : ℕ} {bs : List ℕ} {tokens : List Token} → HasTokensFrom at bs tokens → (n : ℕ) → length bs ≤ n → tokens_at n at bs ≡ Some tokens

@@ -42,11 +42,11 @@ remark_sound (b ∷ bs) n e = go (eqb b 0x2A && first_passes is_slash bs) refl e
         let p = and_parts (eqb b 0x2A) (first_passes is_slash bs) is in
         let f = first_is is_slash bs p.1 in
         let slash : f.0 ≡ 0x2F = eqb-true f.0 0x2F f.3 in
-        let behind : bs ≡ 0x2F ∷ f.1 = f.2 ∙ ap (λ (c : ℕ). c ∷ f.1) slash in
+        let trailing : bs ≡ 0x2F ∷ f.1 = f.2 ∙ ap (λ (c : ℕ). c ∷ f.1) slash in
         record {
           inside = [];
           rest = f.1;
-          parts = ap (λ (c : ℕ). c ∷ bs) (eqb-true b 0x2A p.0) ∙ ap (λ (cs : List ℕ). 0x2A ∷ cs) behind;
+          parts = ap (λ (c : ℕ). c ∷ bs) (eqb-true b 0x2A p.0) ∙ ap (λ (cs : List ℕ). 0x2A ∷ cs) trailing;
           size = sym (some_is 2 n e);
           unclosed = refl;
         }

@@ -1,8 +1,8 @@
 -- Texts in quotes: a text is read up to the quote that closes it.
 use Rattle.std.proofs.Common.{◌≡◌, ℕ, ◌+◌, Bool, true, false, cond, eqb, inl, inr, List, [], ◌∷◌, ◌++◌, length, Some, None, refl, sym, ap, subst, ◌∙◌, arith}
 use Rattle.std.proofs.lemmas.Bool.{eqb-true, ne_eqb, or_cases}
-use Rattle.client_tokens.specs.declared.body.Place.{Place}
-use Rattle.client_tokens.specs.declared.body.Place.TheVariants.{Inside, BehindQuote, BehindBackslash}
+use Rattle.client_tokens.specs.declared.body.TextState.{TextState}
+use Rattle.client_tokens.specs.declared.body.TextState.TheVariants.{Inside, AfterQuote, AfterBackslash}
 use Rattle.sql_lexer.specs.inner.Scanning.{first_passes}
 use Rattle.client_tokens.specs.Pieces.{IsQuoted, is_quote}
 use Rattle.client_tokens.specs.Pieces as s
@@ -17,7 +17,7 @@ same_byte b = go (eqb b b) refl
 
 module _ (q : ℕ) (other : eqb 0x5C q ≡ false) where
   -- the step of a text by each place
-  inside_quote : (n : ℕ) (bs : List ℕ) → text_len q n Inside (q ∷ bs) ≡ text_len q (n + 1) BehindQuote bs
+  inside_quote : (n : ℕ) (bs : List ℕ) → text_len q n Inside (q ∷ bs) ≡ text_len q (n + 1) AfterQuote bs
   unfolding text_len
   inside_quote n bs = rw (same_byte q, text_len) refl
 
@@ -29,14 +29,14 @@ module _ (q : ℕ) (other : eqb 0x5C q ≡ false) where
   unfolding text_len
   inside_plain n b bs p r = rw (p, r, text_len) refl
 
-  behind_pair : (n : ℕ) (bs : List ℕ) → text_len q n BehindQuote (q ∷ bs) ≡ text_len q (n + 1) Inside bs
+  after_pair : (n : ℕ) (bs : List ℕ) → text_len q n AfterQuote (q ∷ bs) ≡ text_len q (n + 1) Inside bs
   unfolding text_len
-  behind_pair n bs = rw (same_byte q, text_len) refl
+  after_pair n bs = rw (same_byte q, text_len) refl
 
-  behind_end : (n : ℕ) (rest : List ℕ) → first_passes (λ b. eqb b q) rest ≡ false → text_len q n BehindQuote rest ≡ Some n
+  after_end : (n : ℕ) (rest : List ℕ) → first_passes (λ b. eqb b q) rest ≡ false → text_len q n AfterQuote rest ≡ Some n
   unfolding text_len
-  behind_end n [] h = refl
-  behind_end n (b ∷ rest) h = rw (h, text_len) refl
+  after_end n [] h = refl
+  after_end n (b ∷ rest) h = rw (h, text_len) refl
 
   -- reading goes through what stands between the quotes
   through : {raw : List ℕ} → IsQuoted q raw → (n : ℕ) (bs : List ℕ) → text_len q n Inside (raw ++ bs) ≡ text_len q (n + length raw) Inside bs
@@ -44,20 +44,20 @@ module _ (q : ℕ) (other : eqb 0x5C q ≡ false) where
   through (s.plain {b} {bytes} no_quote no_backslash r) n bs =
       inside_plain n b (bytes ++ bs) no_quote no_backslash ∙ through r (n + 1) bs ∙ ap (λ m. text_len q m Inside bs) (omega arith)
   through (s.pair {bytes} r) n bs =
-      inside_quote n (q ∷ bytes ++ bs) ∙ behind_pair (n + 1) (bytes ++ bs) ∙ through r (n + 1 + 1) bs ∙ ap (λ m. text_len q m Inside bs) (omega arith)
+      inside_quote n (q ∷ bytes ++ bs) ∙ after_pair (n + 1) (bytes ++ bs) ∙ through r (n + 1 + 1) bs ∙ ap (λ m. text_len q m Inside bs) (omega arith)
   through (s.escape {b} {bytes} r) n bs =
       inside_backslash n b (bytes ++ bs) ∙ through r (n + 1 + 1) bs ∙ ap (λ m. text_len q m Inside bs) (omega arith)
 
   pub closes : {raw : List ℕ} → IsQuoted q raw → (rest : List ℕ) → first_passes (λ b. eqb b q) rest ≡ false
       → text_len q 0 Inside (raw ++ q ∷ rest) ≡ Some (length raw + 1)
   closes {raw} r rest h =
-      through r 0 (q ∷ rest) ∙ inside_quote (0 + length raw) rest ∙ behind_end (0 + length raw + 1) rest h ∙ ap (λ (m : ℕ). Some m) (omega arith)
+      through r 0 (q ∷ rest) ∙ inside_quote (0 + length raw) rest ∙ after_end (0 + length raw + 1) rest h ∙ ap (λ (m : ℕ). Some m) (omega arith)
 
 -- what a place has after it
-abbrev before : ℕ → Place → List ℕ
+abbrev before : ℕ → TextState → List ℕ
 before q Inside = []
-before q BehindQuote = q ∷ []
-before q BehindBackslash = 0x5C ∷ []
+before q AfterQuote = q ∷ []
+before q AfterBackslash = 0x5C ∷ []
 
 -- a text whose first quote stands before n bytes, and these ones
 pub record Closed (q : ℕ) (bs : List ℕ) (n : ℕ) : Type 0 where
@@ -69,7 +69,7 @@ pub record Closed (q : ℕ) (bs : List ℕ) (n : ℕ) : Type 0 where
   pub ended : first_passes (λ b. eqb b q) rest ≡ false
 
 -- n bytes were read before what a place has after it
-abbrev Reached : ℕ → Place → List ℕ → ℕ → ℕ → Type 0
+abbrev Reached : ℕ → TextState → List ℕ → ℕ → ℕ → Type 0
 Reached q place bs n m = (k : ℕ) × (m ≡ n + k) × Closed q (before q place ++ bs) k
 
 module _ (q : ℕ) where
@@ -89,7 +89,7 @@ module _ (q : ℕ) where
         },
       )
 
-  pair_more : (n m : ℕ) (bs : List ℕ) → Reached q Inside bs (n + 2) m → Reached q BehindQuote (q ∷ bs) n m
+  pair_more : (n m : ℕ) (bs : List ℕ) → Reached q Inside bs (n + 2) m → Reached q AfterQuote (q ∷ bs) n m
   pair_more n m bs r =
       let c = r.2 in (
         r.0 + 2,
@@ -104,7 +104,7 @@ module _ (q : ℕ) where
         },
       )
 
-  escape_more : (b n m : ℕ) (bs : List ℕ) → Reached q Inside bs (n + 2) m → Reached q BehindBackslash (b ∷ bs) n m
+  escape_more : (b n m : ℕ) (bs : List ℕ) → Reached q Inside bs (n + 2) m → Reached q AfterBackslash (b ∷ bs) n m
   escape_more b n m bs r =
       let c = r.2 in (
         r.0 + 2,
@@ -119,32 +119,32 @@ module _ (q : ℕ) where
         },
       )
 
-  recount : (i j : ℕ) (place : Place) (bs : List ℕ) (m : ℕ) → i ≡ j → text_len q i place bs ≡ Some m → text_len q j place bs ≡ Some m
+  recount : (i j : ℕ) (place : TextState) (bs : List ℕ) (m : ℕ) → i ≡ j → text_len q i place bs ≡ Some m → text_len q j place bs ≡ Some m
   recount i j place bs m e r = subst (λ (x : ℕ). text_len q x place bs ≡ Some m) e r
 
-  text_sound : (bs : List ℕ) (n : ℕ) (place : Place) (m : ℕ) → text_len q (n + length (before q place)) place bs ≡ Some m → Reached q place bs n m
+  text_sound : (bs : List ℕ) (n : ℕ) (place : TextState) (m : ℕ) → text_len q (n + length (before q place)) place bs ≡ Some m → Reached q place bs n m
   unfolding text_len
   text_sound [] n Inside m e = absurd cc
-  text_sound [] n BehindQuote m e = let is : n + 1 ≡ m = cc in (1, sym is, record { raw = []; rest = []; parts = refl; size = refl; body = s.done; ended = refl })
-  text_sound [] n BehindBackslash m e = absurd cc
+  text_sound [] n AfterQuote m e = let is : n + 1 ≡ m = cc in (1, sym is, record { raw = []; rest = []; parts = refl; size = refl; body = s.done; ended = refl })
+  text_sound [] n AfterBackslash m e = absurd cc
   text_sound (b ∷ bs) n Inside m e = go (eqb b q) refl (eqb b 0x5C) refl e (text_sound bs)
     where
       go : (t : Bool) → eqb b q ≡ t → (l : Bool) → eqb b 0x5C ≡ l
-          → (elim (cond t (Some BehindQuote) (cond l (Some BehindBackslash) (Some Inside))) [ Some next ↦ text_len q (n + 0 + 1) next bs | None ↦ Some (n + 0) ]) ≡ Some m
-          → ((n : ℕ) (place : Place) (m : ℕ) → text_len q (n + length (before q place)) place bs ≡ Some m → Reached q place bs n m)
+          → (elim (cond t (Some AfterQuote) (cond l (Some AfterBackslash) (Some Inside))) [ Some next ↦ text_len q (n + 0 + 1) next bs | None ↦ Some (n + 0) ]) ≡ Some m
+          → ((n : ℕ) (place : TextState) (m : ℕ) → text_len q (n + length (before q place)) place bs ≡ Some m → Reached q place bs n m)
           → Reached q Inside (b ∷ bs) n m
       go true is l _ e rec = subst (λ (x : ℕ). Reached q Inside (x ∷ bs) n m) (sym (eqb-true b q is))
-          (rec n BehindQuote m (recount (n + 0 + 1) (n + 1) BehindQuote bs m (omega arith) e))
+          (rec n AfterQuote m (recount (n + 0 + 1) (n + 1) AfterQuote bs m (omega arith) e))
       go false _ true is e rec = subst (λ (x : ℕ). Reached q Inside (x ∷ bs) n m) (sym (eqb-true b 0x5C is))
-          (rec n BehindBackslash m (recount (n + 0 + 1) (n + 1) BehindBackslash bs m (omega arith) e))
+          (rec n AfterBackslash m (recount (n + 0 + 1) (n + 1) AfterBackslash bs m (omega arith) e))
       go false no_quote false no_backslash e rec =
           one_more b n m bs no_quote no_backslash (rec (n + 1) Inside m (recount (n + 0 + 1) (n + 1 + 0) Inside bs m (omega arith) e))
-  text_sound (b ∷ bs) n BehindQuote m e = go (eqb b q) refl e (text_sound bs)
+  text_sound (b ∷ bs) n AfterQuote m e = go (eqb b q) refl e (text_sound bs)
     where
       go : (t : Bool) → eqb b q ≡ t → (elim (cond t (Some Inside) None) [ Some next ↦ text_len q (n + 1 + 1) next bs | None ↦ Some (n + 1) ]) ≡ Some m
-          → ((n : ℕ) (place : Place) (m : ℕ) → text_len q (n + length (before q place)) place bs ≡ Some m → Reached q place bs n m)
-          → Reached q BehindQuote (b ∷ bs) n m
-      go true is e rec = subst (λ (x : ℕ). Reached q BehindQuote (x ∷ bs) n m) (sym (eqb-true b q is))
+          → ((n : ℕ) (place : TextState) (m : ℕ) → text_len q (n + length (before q place)) place bs ≡ Some m → Reached q place bs n m)
+          → Reached q AfterQuote (b ∷ bs) n m
+      go true is e rec = subst (λ (x : ℕ). Reached q AfterQuote (x ∷ bs) n m) (sym (eqb-true b q is))
           (pair_more n m bs (rec (n + 2) Inside m (recount (n + 1 + 1) (n + 2 + 0) Inside bs m (omega arith) e)))
       go false is e rec = let same : n + 1 ≡ m = cc in (
         1,
@@ -158,7 +158,7 @@ module _ (q : ℕ) where
           ended = is;
         },
       )
-  text_sound (b ∷ bs) n BehindBackslash m e = escape_more b n m bs (text_sound bs (n + 2) Inside m (recount (n + 1 + 1) (n + 2 + 0) Inside bs m (omega arith) e))
+  text_sound (b ∷ bs) n AfterBackslash m e = escape_more b n m bs (text_sound bs (n + 2) Inside m (recount (n + 1 + 1) (n + 2 + 0) Inside bs m (omega arith) e))
 
   -- what is read after a first quote
   pub text_closed : (bs : List ℕ) (n : ℕ) → text_len q 0 Inside bs ≡ Some n → Closed q bs n

@@ -46,25 +46,25 @@ sign_text Semicolon = codes ";"
 -- The first bytes are a piece, if the second ones follow it: a token of the kind, or none of a blank and of a comment. A comment is `#`
 -- or `-- ` up to the end of the line, or stands between `/*` and the next `*/`; one that begins with `!` is none. A token is as long as
 -- possible, and no letter stands right after a number.
-pub data Stands : List ℕ → List ℕ → Option TokenKind → Type 0 where
-  blank : {b : ℕ} {rest : List ℕ} → is_blank b ≡ true → Stands (b ∷ []) rest None
-  hash : {bytes rest : List ℕ} → list_all in_line bytes ≡ true → first_passes in_line rest ≡ false → Stands (0x23 ∷ bytes) rest None
+pub data IsPiece : List ℕ → List ℕ → Option TokenKind → Type 0 where
+  blank : {b : ℕ} {rest : List ℕ} → is_blank b ≡ true → IsPiece (b ∷ []) rest None
+  hash : {bytes rest : List ℕ} → list_all in_line bytes ≡ true → first_passes in_line rest ≡ false → IsPiece (0x23 ∷ bytes) rest None
   dashes : {bytes rest : List ℕ} → list_all in_line bytes ≡ true → first_passes in_line rest ≡ false → first_passes (λ b. not (is_blank b)) bytes ≡ false
-      → Stands (0x2D ∷ 0x2D ∷ bytes) rest None
+      → IsPiece (0x2D ∷ 0x2D ∷ bytes) rest None
   remark : (bytes : List ℕ) {rest : List ℕ} → first_passes (λ b. b == 0x21) bytes ≡ false → has_close (bytes ++ 0x2A ∷ []) ≡ false
-      → Stands (0x2F ∷ 0x2A ∷ bytes ++ 0x2A ∷ 0x2F ∷ []) rest None
+      → IsPiece (0x2F ∷ 0x2A ∷ bytes ++ 0x2A ∷ 0x2F ∷ []) rest None
   word : {b : ℕ} {bytes rest : List ℕ} → is_letter b ≡ true → list_all is_word_byte bytes ≡ true → first_passes is_word_byte rest ≡ false
-      → Stands (b ∷ bytes) rest (Some (Word (keyword_of (b ∷ bytes))))
+      → IsPiece (b ∷ bytes) rest (Some (Word (keyword_of (b ∷ bytes))))
   name : (bytes : List ℕ) {rest : List ℕ} → list_all in_name bytes ≡ true → first_passes (λ b. b == 0x60) rest ≡ false
-      → Stands (0x60 ∷ bytes ++ 0x60 ∷ []) rest (Some Name)
+      → IsPiece (0x60 ∷ bytes ++ 0x60 ∷ []) rest (Some Name)
   variable : {b : ℕ} {bytes rest : List ℕ} → is_letter b ≡ true → list_all is_word_byte bytes ≡ true → first_passes is_word_byte rest ≡ false
-      → Stands (0x40 ∷ 0x40 ∷ b ∷ bytes) rest (Some Variable)
+      → IsPiece (0x40 ∷ 0x40 ∷ b ∷ bytes) rest (Some Variable)
   number : {b : ℕ} {bytes rest : List ℕ} → is_digit b ≡ true → list_all is_digit bytes ≡ true → first_passes is_word_byte rest ≡ false
-      → Stands (b ∷ bytes) rest (Some Number)
+      → IsPiece (b ∷ bytes) rest (Some Number)
   text : {quote : ℕ} {bytes rest : List ℕ} → is_quote quote ≡ true → IsQuoted quote bytes → first_passes (λ b. b == quote) rest ≡ false
-      → Stands (quote ∷ bytes ++ quote ∷ []) rest (Some Text)
-  sign : {rest : List ℕ} (s : S.Sign) → Stands (sign_text s) rest (Some (Sign s))
-  assigns : {rest : List ℕ} → Stands (codes ":=") rest (Some (Sign Equal))
+      → IsPiece (quote ∷ bytes ++ quote ∷ []) rest (Some Text)
+  sign : {rest : List ℕ} (s : S.Sign) → IsPiece (sign_text s) rest (Some (Sign s))
+  assigns : {rest : List ℕ} → IsPiece (codes ":=") rest (Some (Sign Equal))
 
 -- what stands between the quotes: a pair of quotes says one
 abbrev pub unquoted : ℕ → List ℕ → List ℕ

@@ -2,7 +2,7 @@
 use Rattle.std.specs.Prelude.{ℕ, ◌+◌, List, [], ◌∷◌, ◌++◌, length, Option, Some, None}
 use Rattle.client_tokens.specs.declared.token.Token.{Token}
 use Rattle.client_tokens.specs.declared.token.TokenKind.{TokenKind}
-use Rattle.client_tokens.specs.Pieces.{Stands}
+use Rattle.client_tokens.specs.Pieces.{IsPiece}
 
 -- a token before others; a blank or a comment is none
 abbrev pub onto_tokens : Option TokenKind → ℕ → ℕ → List Token → List Token
@@ -12,7 +12,7 @@ onto_tokens None start end tokens = tokens
 -- from this place on a text is these bytes, whose tokens these are
 pub data HasTokensFrom : ℕ → List ℕ → List Token → Type 0 where
   end : {at : ℕ} → HasTokensFrom at [] []
-  piece : {at : ℕ} {bytes rest : List ℕ} {what : Option TokenKind} {tokens : List Token} → Stands bytes rest what
+  piece : {at : ℕ} {bytes rest : List ℕ} {what : Option TokenKind} {tokens : List Token} → IsPiece bytes rest what
       → HasTokensFrom (at + length bytes) rest tokens → HasTokensFrom at (bytes ++ rest) (onto_tokens what at (at + length bytes) tokens)
 
 -- the text is these tokens, blanks and comments

@@ -4,8 +4,8 @@ use Rattle.std.proofs.lemmas.List.{append-nil, map-append}
 use Rattle.connection_workers.specs.declared.pool.Job.{Job}
 use Rattle.connection_workers.specs.declared.pool.Job.TheVariants.{Serve, Stop}
 use Rattle.connection_workers.specs.Letting as t
-use Rattle.connection_workers.specs.Letting.{HasGiven, GaveAll}
-use Rattle.connection_workers.specs.inner.Letting.{EachWas, HasLetIn, HasServed}
+use Rattle.connection_workers.specs.Letting.{HasYielded, GaveAll}
+use Rattle.connection_workers.specs.inner.Letting.{EachWas, HasLetIn, HasServedConnections}
 
 module _ {X : Type 0} where
   -- What a worker took so far were connections, each of which was served.
@@ -17,7 +17,7 @@ module _ {X : Type 0} where
   -- What an entrance gave so far was put.
   pub record LetIn {E : Type 0} (gives : E → X → E → Type 0) (from now : E) (before after : List (Job X)) : Type 0 where
     pub given : List X
-    pub gave : HasGiven gives from given now
+    pub gave : HasYielded gives from given now
     pub put : after ≡ before ++ map Serve given
 
   each_more : (P : X → Type 0) (xs : List X) (x : X) → EachWas P xs → P x → EachWas P (xs ++ x ∷ [])
@@ -39,7 +39,7 @@ module _ {X : Type 0} where
     each = each_more P so.taken x so.each last;
   }
 
-  pub all_served : (P : X → Type 0) (before now after : List (Job X)) → Served P before now → after ≡ now ++ Stop ∷ [] → HasServed before after P
+  pub all_served : (P : X → Type 0) (before now after : List (Job X)) → Served P before now → after ≡ now ++ Stop ∷ [] → HasServedConnections before after P
   all_served P before now after so is = record {
     taken = so.taken;
     own = is ∙ ap (λ (l : List (Job X)). l ++ Stop ∷ []) so.own;

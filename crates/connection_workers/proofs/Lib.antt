@@ -1,1 +1,4 @@
 mod Letting
+pub mod Lists
+pub mod Steps
+pub mod Takings

@@ -1,2 +1,3 @@
 pub mod Letting
 pub mod inner
+pub mod Order

@@ -2,19 +2,19 @@
 ghost use denote.Param.Send.{IsSync};
 ghost use Rattle.std.specs.Prelude.{◌≡◌, ◌+◌, ◌<◌, ℕ, List, [], ◌∷◌, ◌++◌, true, replicate, IfSome, IfNone, IfOk};
 ghost use Rattle.crossbeam_queue.specs.Passes.{view, IsPassOf, ruled_capacity};
-ghost use Rattle.connection_queue.specs.Order.{first_hand, Puts, Takes};
+ghost use Rattle.connection_workers.specs.Order.{first_view, Puts, Takes};
 ghost use Rattle.connection_workers.specs.Letting.{GaveAll};
-ghost use Rattle.connection_workers.specs.inner.Letting.{HasLetIn, HasServed};
+ghost use Rattle.connection_workers.specs.inner.Letting.{HasLetIn, HasServedConnections};
 
+use crate::queue::{ConnectionQueue, Known, new_taker, open, put, take};
 use crate::signal::Signal;
-use connection_queue::{ConnectionQueue, Known, new_taker, open, put, take};
 use std::alloc::Global;
 use std::sync::Wait;
 use std::thread;
 use std::thread::Threads;
 
 /// Where connections come from.
-pub trait Entrance<T, R> {
+pub trait ConnectionSource<T, R> {
     // It gives this connection, and is then so.
     ghost gives: { Self → T → Self → Type 0 };
 
@@ -47,17 +47,17 @@ pub(crate) enum Job<T> {
 
 /// The queue, and how its threads wait for one another.
 #[derive(Drop)]
-struct Pool<T> {
+struct WorkerPool<T> {
     queue: ConnectionQueue<Job<T>>,
     came: Signal,
     went: Signal,
 }
 
-impl<T> Pool<T> {
-    fn new(queue: ConnectionQueue<Job<T>>) -> Pool<T>
+impl<T> WorkerPool<T> {
+    fn new(queue: ConnectionQueue<Job<T>>) -> WorkerPool<T>
         ensures { result.queue ≡ queue }
     {
-        Pool {
+        WorkerPool {
             queue,
             came: Signal::new(),
             went: Signal::new(),
@@ -112,14 +112,14 @@ impl<T> Pool<T> {
 // Whoever takes a connection has it served: a `T` can't be let go here.
 fn serve_all<T, R: Wait, F: Fn(T)>(
     rt: &R,
-    pool: &Pool<T>,
+    pool: &WorkerPool<T>,
     serve: &F,
     mut pass: Known<Job<T>>,
 ) -> Known<Job<T>>
     requires callable { F.IsAlwaysCallable serve.now }
     requires of { IsPassOf pool.now.queue pass }
     requires takes { (view pass).takes ≡ true }
-    ensures served { HasServed (view pass).own (view result).own (λ x. F.post serve.now x tt) }
+    ensures served { HasServedConnections (view pass).own (view result).own (λ x. F.post serve.now x tt) }
 {
     for _ in rt.forever() {
         match pool.take(rt, &mut pass) {
@@ -131,7 +131,7 @@ fn serve_all<T, R: Wait, F: Fn(T)>(
 }
 
 // Has so many workers end.
-fn stop<T, R: Wait>(rt: &R, pool: &Pool<T>, workers: u32, pass: &mut Known<Job<T>>)
+fn stop<T, R: Wait>(rt: &R, pool: &WorkerPool<T>, workers: u32, pass: &mut Known<Job<T>>)
     requires of { IsPassOf pool.now.queue pass.old }
     requires puts { (view pass.old).puts ≡ true }
     ensures of { IsPassOf pool.now.queue pass.new }
@@ -144,9 +144,9 @@ fn stop<T, R: Wait>(rt: &R, pool: &Pool<T>, workers: u32, pass: &mut Known<Job<T
 }
 
 // Each connection that comes is put into the queue: a `T` can't be let go here. After the last one a stop is put for each worker.
-fn let_in<T, R: Wait, E: Entrance<T, R>>(
+fn let_in<T, R: Wait, E: ConnectionSource<T, R>>(
     rt: &R,
-    pool: &Pool<T>,
+    pool: &WorkerPool<T>,
     workers: u32,
     entrance: E,
     pass: &mut Known<Job<T>>,
@@ -168,21 +168,29 @@ fn let_in<T, R: Wait, E: Entrance<T, R>>(
 }
 
 // An empty pool with a queue of this capacity, and the pass of the thread that puts.
-fn new_pool<T: Drop>(alloc: Global, capacity: usize) -> Result<(Pool<T>, Known<Job<T>>), NotRun>
+fn new_pool<T: Drop>(
+    alloc: Global,
+    capacity: usize,
+) -> Result<(WorkerPool<T>, Known<Job<T>>), NotRun>
     requires room { 0 < capacity }
     ensures capacity { IfOk result (λ x. ruled_capacity x.0.queue ≡ capacity) }
     ensures of { IfOk result (λ x. IsPassOf x.0.queue x.1) }
-    ensures first { IfOk result (λ x. view x.1 ≡ first_hand) }
+    ensures first { IfOk result (λ x. view x.1 ≡ first_view) }
 {
     match open::<Job<T>>(alloc, capacity) {
-        Ok((queue, pass)) => Ok((Pool::new(queue), pass)),
+        Ok((queue, pass)) => Ok((WorkerPool::new(queue), pass)),
         Err(_) => Err(NotRun::OutOfMemory),
     }
 }
 
-fn run_in<T: Send + Drop, R: Threads + Wait + Sync, F: Fn(T) + Sync, E: Entrance<T, R> + Drop>(
+fn run_in<
+    T: Send + Drop,
+    R: Threads + Wait + Sync,
+    F: Fn(T) + Sync,
+    E: ConnectionSource<T, R> + Drop,
+>(
     rt: &R,
-    pool: &Pool<T>,
+    pool: &WorkerPool<T>,
     workers: u32,
     serve: &F,
     entrance: E,
@@ -190,14 +198,14 @@ fn run_in<T: Send + Drop, R: Threads + Wait + Sync, F: Fn(T) + Sync, E: Entrance
 ) -> Result<E, NotRun>
     requires callable { F.IsAlwaysCallable serve.now }
     requires of { IsPassOf pool.now.queue pass }
-    requires first { view pass ≡ first_hand }
+    requires first { view pass ≡ first_view }
     ensures gave { IfOk result (λ e. (given : List T) × GaveAll E.gives E.ends entrance e given) }
 {
     thread::scope(
         thread::scope_env(),
         rt,
         move |scope| -> Result<E, NotRun>
-            requires { IsSync R.row × F.IsAlwaysCallable serve.now × IsPassOf pool.now.queue pass × (view pass ≡ first_hand) }
+            requires { IsSync R.row × F.IsAlwaysCallable serve.now × IsPassOf pool.now.queue pass × (view pass ≡ first_view) }
             ensures { IfOk result (λ e. (given : List T) × GaveAll E.gives E.ends entrance e given) }
         {
             for started in 0..workers {
@@ -228,14 +236,12 @@ fn run_in<T: Send + Drop, R: Threads + Wait + Sync, F: Fn(T) + Sync, E: Entrance
 /// waits in a queue of this capacity for a worker that is free; if it is full, the next one is let in once a worker took one. Returns
 /// once the entrance has no more and all are served. Refuses, and serves none, if there is no memory for the queue and if not all
 /// workers could be started.
-pub fn run<T: Send + Drop, R: Threads + Wait + Sync, F: Fn(T) + Sync, E: Entrance<T, R> + Drop>(
-    rt: &R,
-    alloc: Global,
-    capacity: usize,
-    workers: u32,
-    serve: &F,
-    entrance: E,
-) -> Result<E, NotRun>
+pub fn run<
+    T: Send + Drop,
+    R: Threads + Wait + Sync,
+    F: Fn(T) + Sync,
+    E: ConnectionSource<T, R> + Drop,
+>(rt: &R, alloc: Global, capacity: usize, workers: u32, serve: &F, entrance: E) -> Result<E, NotRun>
     requires room { 0 < capacity }
     requires callable { F.IsAlwaysCallable serve.now }
     ensures gave { IfOk result (λ e. (given : List T) × GaveAll E.gives E.ends entrance e given) }

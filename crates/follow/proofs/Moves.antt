@@ -11,13 +11,13 @@ use Rattle.vschema.specs.declared.changes.RowChange.{RowChange}
 use Rattle.vschema.specs.Database.{lies_in, rows_of, changed_table, change_lies_in}
 use Rattle.journal.specs.Views.{PassView}
 use Rattle.journal.proofs.Fronts.{prefix_trans, prefix_self}
-use Rattle.shard_run.specs.declared.Shard.{Shard}
+use Rattle.shard_run.specs.declared.ShardRecord.{ShardRecord}
 use Rattle.shard_run.specs.declared.Follow as F
 use Rattle.shard_run.specs.declared.Copied as C
 use Rattle.shard_run.specs.declared.Entry.{Entry}
 use Rattle.shard_run.specs.declared.Event.TheVariants.{Follow, Copy}
-use Rattle.shard_contents.specs.declared.limits.Limits.{Limits}
-use Rattle.shard_run.specs.Runs.{Run, Opening, held, entries_on, stored_on, stored_changes}
+use Rattle.shard_law.specs.declared.limits.Limits.{Limits}
+use Rattle.shard_run.specs.Runs.{Run, Opening, shard_rows, entries_on, stored_on, stored_changes}
 use Rattle.shard_run.specs.Copies.{position, table_at, is_copied, change_is_copied}
 use Rattle.shard_law.specs.Legal.{Legal, Had, is_left}
 use Rattle.shard_run.specs.Openings.{IsOpening}
@@ -25,15 +25,16 @@ use Rattle.shard_law.proofs.Law.{beginnings}
 use Rattle.shard_law.proofs.Lists.{all-filter, all-weaker, AllByRecursion-push}
 use Rattle.shard_contents.specs.declared.copying.NextTable.{NextTable}
 use Rattle.shard_contents.specs.declared.copying.SourceProgress.{SourceProgress}
-use Rattle.shard_contents.specs.Shards.{MayFollow, IsNext, ShardView}
-use Rattle.shard_contents.specs.Copying.{PassesLimit, IsProgress, IsEntryFor, IsCopyFor, IsNextTable, IsNextCopy, HasCopiedAll, is_reached, is_wanted}
+use Rattle.shard_law.specs.Entries.{MayFollow, ShardView}
+use Rattle.shard_contents.specs.Shards.{IsNext}
+use Rattle.shard_contents.specs.Copying.{PassesLimit, IsProgress, IsEntryFor, IsCopyFor, IsNextTable, IsNextCopy, HasCopiedAll, is_reached, is_left_to_copy}
 use Rattle.shard_contents.proofs.Follows.{none_left}
 use Rattle.shard_contents.proofs.CopySteps.{stored_there_now}
-use Rattle.follow.specs.declared.steps.Given.{Given}
-use Rattle.follow.specs.declared.steps.Given.TheVariants as givens
+use Rattle.follow.specs.declared.steps.NextEntry.{NextEntry}
+use Rattle.follow.specs.declared.steps.NextEntry.TheVariants as givens
 use Rattle.follow.specs.declared.steps.Step.{Step}
-use Rattle.follow.specs.inner.Given.{IsGiven, NoneLeft, IsNextEntry, IsTakeable, HasTaken, entry, rows, nothing}
-use Rattle.follow.specs.inner.Given as given
+use Rattle.follow.specs.inner.NextEntries.{IsNextForTarget, NoneLeft, IsNextEntry, IsTakeable, HasTaken, entry, rows, nothing}
+use Rattle.follow.specs.inner.NextEntries as given
 use Rattle.follow.specs.Steps.{IsOnward, IsRunBetween, IsLevel, HasMoved, copied, followed, level, HasMovedWith, one, all_level, IsFull}
 use Rattle.follow.specs.Steps as full
 use Rattle.follow.specs.declared.steps.Step.TheVariants.{Level}
@@ -51,7 +52,7 @@ legal_front : (o : Opening) (early run : Run) → IsPrefix early run → Legal o
 legal_front o early run (rest, is) legal = beginnings o early rest (subst (Legal o) (sym is) legal)
 
 -- the table that is next is there
-pub next_there : (o : Opening) (run : Run) (target : Shard) (source : ℕ) (p : SourceProgress) → IsProgress o run target source p
+pub next_there : (o : Opening) (run : Run) (target : ShardRecord) (source : ℕ) (p : SourceProgress) → IsProgress o run target source p
     → IfSome p.next (λ n. n.table < length o.schema.tables)
 next_there o run target source p is = by p.next is.next
   where
@@ -62,24 +63,24 @@ next_there o run target source p is = by p.next is.next
     by (Some n) h = h.0.table.0
 
 -- the target is locked, and the pass has seen `run` by a look at the source
-module _ (o : Opening) (opens : IsOpening o) (run : Run) (legal : Legal o run) (source : Shard) (target : ShardView) (later : IsPrefix target.seen run)
+module _ (o : Opening) (opens : IsOpening o) (run : Run) (legal : Legal o run) (source : ShardRecord) (target : ShardView) (later : IsPrefix target.seen run)
     (of_source : Contains target.shard.sources source.slot) where
   -- where the source has stored no more, the target stands after all that it has
-  level_at : (p : SourceProgress) → IsProgress o target.seen target.shard source.slot p → NoneLeft run source.slot p.behind → (n : ℕ)
+  level_at : (p : SourceProgress) → IsProgress o target.seen target.shard source.slot p → NoneLeft run source.slot p.stands_after → (n : ℕ)
       → position target.seen target.shard.slot source.slot ≡ Some n → n ≡ length (stored_on source.slot run)
   level_at p is none n at =
       none_left o opens target.seen run target.shard.slot source.slot (length (stored_on source.slot run)) n later (legal_front o target.seen run later legal) refl at
-      (none n (is.behind ∙ at))
+      (none n (is.stands_after ∙ at))
 
-  place_at : (p : SourceProgress) → IsProgress o target.seen target.shard source.slot p → (c : C.Copied) → c.place ≡ length (stored_on source.slot run)
-      → NoneLeft run source.slot p.behind → (b : Option ℕ) → p.behind ≡ b
-      → (position target.seen target.shard.slot source.slot ≡ None) ⊎ (position target.seen target.shard.slot source.slot ≡ Some c.place)
-  place_at p is c place none None e = inl (sym is.behind ∙ e)
+  place_at : (p : SourceProgress) → IsProgress o target.seen target.shard source.slot p → (c : C.Copied) → c.log_position ≡ length (stored_on source.slot run)
+      → NoneLeft run source.slot p.stands_after → (b : Option ℕ) → p.stands_after ≡ b
+      → (position target.seen target.shard.slot source.slot ≡ None) ⊎ (position target.seen target.shard.slot source.slot ≡ Some c.log_position)
+  place_at p is c place none None e = inl (sym is.stands_after ∙ e)
   place_at p is c place none (Some m) e =
-      let at = sym is.behind ∙ e in
+      let at = sym is.stands_after ∙ e in
       inr (at ∙ ap Some (level_at p is none m at ∙ sym place))
 
-  had : (c : C.Copied) (after : Option Row) → IsCopyFor o run source target.shard.place after c → Had o run c.source c.place (held o run source)
+  had : (c : C.Copied) (after : Option Row) → IsCopyFor o run source target.shard.place after c → Had o run c.source c.log_position (shard_rows o run source)
   had c after e =
       let whole = prefix_self run in
       record {
@@ -89,8 +90,8 @@ module _ (o : Opening) (opens : IsOpening o) (run : Run) (legal : Legal o run) (
         shard = source;
         of_run = e.of_run;
         on = sym e.of_source;
-        serves = subst (λ s. IsTrue (Rattle.shard_run.specs.Runs.is_serving (Rattle.shard_run.specs.Runs.mode o run s))) (sym e.of_source) e.serves;
-        stored = subst (λ s. length (stored_on s run) ≡ c.place) (sym e.of_source) (sym e.place);
+        serves = subst (λ s. IsTrue (Rattle.shard_run.specs.Runs.answers_queries (Rattle.shard_run.specs.Runs.mode o run s))) (sym e.of_source) e.serves;
+        stored = subst (λ s. length (stored_on s run) ≡ c.log_position) (sym e.of_source) (sym e.place);
         rows = refl;
       }
 
@@ -104,10 +105,10 @@ module _ (o : Opening) (opens : IsOpening o) (run : Run) (legal : Legal o run) (
       (λ n. IsNextTable o target.seen target.shard source.slot n.table
       × ((row : Row) → is_copied o.schema target.seen target.shard.slot source.slot n.table row ≡ is_reached (table_at o.schema n.table) n.after row))) e is.next
 
-  pub takeable : (g : Given) → IsGiven o run source target g → IsTakeable o run target g
-  takeable _ (entry f behind e) = given.entry (record {
+  pub takeable : (g : NextEntry) → IsNextForTarget o run source target g → IsTakeable o run target g
+  takeable _ (entry f stands_after e) = given.entry (record {
     of_source = subst (Contains target.shard.sources) (sym e.of_source) of_source;
-    next = subst (λ s. position target.seen target.shard.slot s ≡ Some f.place) (sym e.of_source) behind;
+    next = subst (λ s. position target.seen target.shard.slot s ≡ Some f.log_position) (sym e.of_source) stands_after;
     given = subst (λ s. IsEntryFor o run s target.shard.place f) (sym e.of_source) e;
   })
   takeable _ (rows p c n is none next table e) =
@@ -119,25 +120,25 @@ module _ (o : Opening) (opens : IsOpening o) (run : Run) (legal : Legal o run) (
         of_source = subst (Contains target.shard.sources) from of_source;
         next = subst (λ s. IsNextTable o target.seen target.shard s c.table) from (subst (IsNextTable o target.seen target.shard source.slot) (sym table) at.0);
         place =
-            subst (λ s. (position target.seen target.shard.slot s ≡ None) ⊎ (position target.seen target.shard.slot s ≡ Some c.place)) from
-            (place_at p is c e.place none p.behind refl);
-        db = held o run source;
+            subst (λ s. (position target.seen target.shard.slot s ≡ None) ⊎ (position target.seen target.shard.slot s ≡ Some c.log_position)) from
+            (place_at p is c e.place none p.stands_after refl);
+        db = shard_rows o run source;
         had = had c n.after e;
         arranged = e.arranged;
         all =
             subst (λ (l : List Row). IsPermutation l e.arranged)
-            (filter_agree (is_wanted target.shard.place (table_at o.schema c.table) n.after) (is_left o target.seen target.shard c.source c.table)
-            (λ row. ap (λ b. lies_in target.shard.place (table_at o.schema c.table) row && not b) (sym (reached row))) (rows_of (held o run source) c.table)) e.all;
+            (filter_agree (is_left_to_copy target.shard.place (table_at o.schema c.table) n.after) (is_left o target.seen target.shard c.source c.table)
+            (λ row. ap (λ b. lies_in target.shard.place (table_at o.schema c.table) row && not b) (sym (reached row))) (rows_of (shard_rows o run source) c.table)) e.all;
         in_order = e.in_order;
         rows = e.rows;
       })
   takeable _ (nothing p is none next) = given.nothing
 
   -- what was taken over of what was given is what the step did
-  pub moved : (before q now : PassView Entry) (g : Given) (s : Step) → q.seen ≡ run → IsOnward o before q → IsPrefix before.seen target.seen
-      → IsPrefix q.seen now.seen → IsOnward o before now → IsGiven o run source target g → HasTaken o target.shard g q now s
+  pub moved : (before q now : PassView Entry) (g : NextEntry) (s : Step) → q.seen ≡ run → IsOnward o before q → IsPrefix before.seen target.seen
+      → IsPrefix q.seen now.seen → IsOnward o before now → IsNextForTarget o run source target g → HasTaken o target.shard g q now s
       → HasMoved o source target.shard before now s
-  moved before q now _ _ seen on since until whole (entry f behind e) (given.entry taken same stepped at) =
+  moved before q now _ _ seen on since until whole (entry f stands_after e) (given.entry taken same stepped at) =
       followed taken (same ∙ e.of_source) (stepped_after o before q now target.shard _ on stepped)
   moved before q now _ _ seen on since until whole (rows p c n is none next table e) (given.rows stepped at) =
       copied c e.of_source run
@@ -159,7 +160,7 @@ module _ (o : Opening) (run : Run) (legal : Legal o run) (target : ShardView) (f
   entry_there =
       subst (AllByRecursion (λ (c : RowChange). changed_table c < length o.schema.tables)) (sym is.given.changes)
       (all-filter (λ (c : RowChange). changed_table c < length o.schema.tables) (change_lies_in o.schema target.shard.place) (stored_changes is.given.entry.event)
-      (stored_there_now o run legal f.source f.place is.given.entry is.given.stored))
+      (stored_there_now o run legal f.source f.log_position is.given.entry is.given.stored))
 
   pub follow_next : (taken : F.Follow) → taken ≡ record f { changes = filter (change_is_copied o.schema target.seen target.shard.slot f.source) f.changes }
       → IsNext o run target taken
@@ -173,7 +174,7 @@ module _ (o : Opening) (run : Run) (legal : Legal o run) (target : ShardView) (f
 
 -- ---- why a step is refused
 
-module _ (o : Opening) (most : Limits) (run : Run) (s : Shard) where
+module _ (o : Opening) (most : Limits) (run : Run) (s : ShardRecord) where
   pub full_follow : (f : F.Follow) (e : Refusal) → MayFollow o run (record { shard = s; event = Follow f })
       → (e ≡ OutOfMemory) ⊎ ((e ≡ ShardFull) × PassesLimit o most run s (Follow f)) → (e ≡ OutOfMemory) ⊎ ((e ≡ ShardFull) × IsFull o most s run)
   full_follow f e may (inl h) = inl h
@@ -186,7 +187,7 @@ module _ (o : Opening) (most : Limits) (run : Run) (s : Shard) where
 
 -- ---- steps before
 
-module _ (o : Opening) (source target : Shard) (p q now : PassView Entry) (on : IsOnward o p q) where
+module _ (o : Opening) (source target : ShardRecord) (p q now : PassView Entry) (on : IsOnward o p q) where
   widen : (run : Run) → IsRunBetween q now run → IsRunBetween p now run
   widen run b = record { since = prefix_trans p.seen q.seen run on.later b.since; until = b.until }
 
@@ -251,13 +252,13 @@ split_at (y ∷ xs) (suc n) x l at =
     ap (λ l. y ∷ l) (split_at xs n x (omega (arith, l)) at ∙ ap (λ l. take n xs ++ x ∷ l) (sym h))
 
 -- what was level stays so in what the pass sees later
-pub level_later : (o : Opening) (source target : Shard) (p q now : PassView Entry) → IsOnward o q now → HasMoved o source target p q Level
+pub level_later : (o : Opening) (source target : ShardRecord) (p q now : PassView Entry) → IsOnward o q now → HasMoved o source target p q Level
     → HasMoved o source target p now Level
 level_later o source target p q now on (level whole run looked a b is) =
     level (onward_trans o p q now whole on) run looked (record { since = a.since; until = prefix_trans run q.seen now.seen a.until on.later })
     (record { since = b.since; until = prefix_trans looked q.seen now.seen b.until on.later }) is
 
-module _ {M : Type 0} (which : M → Shard) (o : Opening) (target : Shard) (p : PassView Entry) where
+module _ {M : Type 0} (which : M → ShardRecord) (o : Opening) (target : ShardRecord) (p : PassView Entry) where
   all_later : (q now : PassView Entry) → IsOnward o q now → (sources : List M) → AllByRecursion (λ m. HasMoved o (which m) target p q Level) sources
       → AllByRecursion (λ m. HasMoved o (which m) target p now Level) sources
   all_later q now on sources h =

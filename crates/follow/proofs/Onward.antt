@@ -4,11 +4,11 @@ use mathlib.Core.List.{IsPrefix}
 use Rattle.journal.specs.Runs.{IsLegal}
 use Rattle.journal.specs.Views.{SeatView, PassView, IsLater}
 use Rattle.journal.proofs.Fronts.{prefix_trans, prefix_self}
-use Rattle.shard_run.specs.declared.Shard.{Shard}
+use Rattle.shard_run.specs.declared.ShardRecord.{ShardRecord}
 use Rattle.shard_run.specs.declared.Event.{Event}
 use Rattle.shard_run.specs.declared.Entry.{Entry}
 use Rattle.shard_run.specs.Runs.{Run, Opening}
-use Rattle.shard_contents.specs.Shards.{slot_of, commit_of, MayFollow, HasLooked, HasAppended, ShardView}
+use Rattle.shard_law.specs.Entries.{slot_of, commit_of, MayFollow, HasLooked, HasAppended, ShardView}
 use Rattle.follow.specs.Steps.{IsOnward, HasStepped}
 
 pub still : (o : Opening) (p : PassView Entry) → IsLegal (MayFollow o) p.seen → IsOnward o p p
@@ -37,7 +37,7 @@ has_looked o p q now slot on is = record {
   session = ap (λ (x : PassView Entry). x.session) is.pass ∙ on.session;
 }
 
-pub stepped : (o : Opening) (p q now : PassView Entry) (v : ShardView) (which : Shard) (ev : Event) → IsOnward o p q → HasAppended o v ev q now
+pub stepped : (o : Opening) (p q now : PassView Entry) (v : ShardView) (which : ShardRecord) (ev : Event) → IsOnward o p q → HasAppended o v ev q now
     → v.shard ≡ which → HasStepped o which ev p now
 stepped o p q now v which ev on is same = record {
   onward = record {
@@ -47,10 +47,10 @@ stepped o p q now v which ev on is same = record {
   };
   before = is.before;
   since = prefix_trans p.seen q.seen is.before on.later is.later.pass;
-  seen = is.seen ∙ ap (λ (s : Shard). is.before ++ record { shard = s; event = ev } ∷ []) same;
+  seen = is.seen ∙ ap (λ (s : ShardRecord). is.before ++ record { shard = s; event = ev } ∷ []) same;
 }
 
-pub stepped_after : (o : Opening) (p q now : PassView Entry) (which : Shard) (ev : Event) → IsOnward o p q → HasStepped o which ev q now → HasStepped o which ev p now
+pub stepped_after : (o : Opening) (p q now : PassView Entry) (which : ShardRecord) (ev : Event) → IsOnward o p q → HasStepped o which ev q now → HasStepped o which ev p now
 stepped_after o p q now which ev on is = record {
   onward = onward_trans o p q now on is.onward;
   before = is.before;

@@ -3,19 +3,19 @@ use Rattle.std.proofs.Common.{◌≡◌, ◌⊎◌, inl, inr, ℕ, ◌+◌, ◌<
 use Rattle.std.proofs.lemmas.List.{append-nil, map-append, take_more}
 use Rattle.journal.specs.Runs.{IsLegal}
 use Rattle.journal.specs.Views.{PassView}
-use Rattle.shard_run.specs.declared.Shard.{Shard}
+use Rattle.shard_run.specs.declared.ShardRecord.{ShardRecord}
 use Rattle.shard_run.specs.declared.Entry.{Entry}
 use Rattle.shard_run.specs.declared.Event.{Event}
 use Rattle.shard_run.specs.Runs.{Run, Opening}
-use Rattle.shard_contents.specs.Shards.{ShardView, MayFollow, HasLooked, HasAppended}
+use Rattle.shard_law.specs.Entries.{ShardView, MayFollow, HasLooked, HasAppended}
 use Rattle.shard_contents.proofs.Progress.{take_whole}
 use Rattle.follow.specs.declared.steps.Step.{Step}
 use Rattle.follow.specs.declared.steps.Step.TheVariants.{Level}
 use Rattle.follow.specs.Turns.{HasLookedAt, EndsInLook, IsOneStep, IsNoStep, EachInTurn, FirstInTurn, RefusedInTurn}
 use Rattle.follow.specs.Turns as turns
-use Rattle.follow.specs.declared.steps.Given.{Given}
-use Rattle.follow.specs.inner.Given.{IsOneLook, HasTaken}
-use Rattle.follow.specs.inner.Given as taken
+use Rattle.follow.specs.declared.steps.NextEntry.{NextEntry}
+use Rattle.follow.specs.inner.NextEntries.{IsOneLook, HasTaken}
+use Rattle.follow.specs.inner.NextEntries as taken
 use Rattle.follow.specs.Steps.{HasStepped}
 use Rattle.follow.proofs.Onward.{still, has_looked, stepped}
 use Rattle.follow.proofs.Moves.{split_at}
@@ -44,7 +44,7 @@ look_and_append o v ev here slot p looked now same look append =
     (looked_then (here ∷ []) [] p looked now (looked_at p looked here looked.seen (length looked.seen) look.pass) (appended_since looked now now.seen append.pass))
 
 -- the step of a shard by a look and an entry
-pub took : (o : Opening) (s : Shard) (ev : Event) (p now : PassView Entry) → IsLegal (MayFollow o) p.seen
+pub took : (o : Opening) (s : ShardRecord) (ev : Event) (p now : PassView Entry) → IsLegal (MayFollow o) p.seen
     → (looked : PassView Entry) × HasLooked o s.slot p looked × HasAppended o (record { seen = looked.seen; shard = s }) ev looked now
     → HasStepped o s ev p now × HasLookedAt (s.slot ∷ []) p now
 took o s ev p now legal w = (
@@ -73,12 +73,12 @@ ends p now slot is = record { slot = slot; before = p.looks; last = is }
 
 -- ---- one step
 
-module _ (source target : Shard) (p q : PassView Entry) (first : IsOneLook target.slot p q) where
+module _ (source target : ShardRecord) (p q : PassView Entry) (first : IsOneLook target.slot p q) where
   both : (r : PassView Entry) → IsOneLook source.slot q r → HasLookedAt (target.slot ∷ source.slot ∷ []) p r
   both r second = looked_then (target.slot ∷ []) (source.slot ∷ []) p q r (at_look p q target.slot first) (at_look q r source.slot second)
 
   -- what was taken over after a look at each is one step
-  pub one_step : (o : Opening) (r now : PassView Entry) (g : Given) (s : Step) → IsOneLook source.slot q r → HasTaken o target g r now s
+  pub one_step : (o : Opening) (r now : PassView Entry) (g : NextEntry) (s : Step) → IsOneLook source.slot q r → HasTaken o target g r now s
       → IsOneStep source target p now s
   one_step o r now _ _ second (taken.entry f same stepped at) = record {
     looked = looked_then (target.slot ∷ source.slot ∷ []) (target.slot ∷ []) p r now (both r second) at;

@@ -4,7 +4,7 @@ use Rattle.std.specs.List.{AllByRecursion}
 use mathlib.Core.List.{IsPrefix}
 use Rattle.journal.specs.Runs.{IsLegal}
 use Rattle.journal.specs.Views.{PassView}
-use Rattle.shard_run.specs.declared.Shard.{Shard}
+use Rattle.shard_run.specs.declared.ShardRecord.{ShardRecord}
 use Rattle.shard_run.specs.declared.Event.{Event}
 use Rattle.shard_run.specs.declared.Event.TheVariants as events
 use Rattle.shard_run.specs.declared.Copied as C
@@ -12,8 +12,8 @@ use Rattle.shard_run.specs.declared.Follow as F
 use Rattle.shard_run.specs.declared.Entry.{Entry}
 use Rattle.shard_run.specs.Runs.{Run, Opening, stored_on}
 use Rattle.shard_run.specs.Copies.{position}
-use Rattle.shard_contents.specs.Shards.{MayFollow}
-use Rattle.shard_contents.specs.declared.limits.Limits.{Limits}
+use Rattle.shard_law.specs.Entries.{MayFollow}
+use Rattle.shard_law.specs.declared.limits.Limits.{Limits}
 use Rattle.shard_contents.specs.Copying.{HasCopiedAll, PassesLimit}
 use Rattle.follow.specs.declared.steps.Step.{Step}
 use Rattle.follow.specs.declared.steps.Step.TheVariants.{Copied, Followed, Level}
@@ -25,7 +25,7 @@ pub record IsOnward (o : Opening) (p now : PassView Entry) : Type 0 where
   pub session : now.session ≡ p.session
 
 -- the same, and its run ends with this entry of the shard
-pub record HasStepped (o : Opening) (s : Shard) (event : Event) (p now : PassView Entry) : Type 0 where
+pub record HasStepped (o : Opening) (s : ShardRecord) (event : Event) (p now : PassView Entry) : Type 0 where
   pub onward : IsOnward o p now
   pub before : Run
   pub since : IsPrefix p.seen before
@@ -38,12 +38,12 @@ pub record IsRunBetween (p now : PassView Entry) (run : Run) : Type 0 where
 
 -- After a run the target has copied each table of its keyspace from the source, and stands after as many entries as the source has stored
 -- after another.
-pub record IsLevel (o : Opening) (source target : Shard) (run looked : Run) : Type 0 where
+pub record IsLevel (o : Opening) (source target : ShardRecord) (run looked : Run) : Type 0 where
   pub copied : HasCopiedAll o run target source.slot
   pub level : (n : ℕ) → position run target.slot source.slot ≡ Some n → n ≡ length (stored_on source.slot looked)
 
 -- A Copy or a Follow of the target that may come next passes a limit of it.
-pub data IsFull (o : Opening) (most : Limits) (target : Shard) (run : Run) : Type 0 where
+pub data IsFull (o : Opening) (most : Limits) (target : ShardRecord) (run : Run) : Type 0 where
   copy : (c : C.Copied) → MayFollow o run (record { shard = target; event = events.Copy c }) → PassesLimit o most run target (events.Copy c)
       → IsFull o most target run
   follow : (f : F.Follow) → MayFollow o run (record { shard = target; event = events.Follow f }) → PassesLimit o most run target (events.Follow f)
@@ -51,8 +51,8 @@ pub data IsFull (o : Opening) (most : Limits) (target : Shard) (run : Run) : Typ
 
 -- What a step of a target with a source does. Either its one entry ends what the pass has seen: a Copy, after all entries that the source had
 -- stored at a look since the step began, or a Follow. Or there is none, and the target was level with what the source had stored at a look.
-pub data HasMoved (o : Opening) (source target : Shard) (p now : PassView Entry) : Step → Type 0 where
-  copied : (c : C.Copied) → c.source ≡ source.slot → (looked : Run) → IsRunBetween p now looked → c.place ≡ length (stored_on source.slot looked)
+pub data HasMoved (o : Opening) (source target : ShardRecord) (p now : PassView Entry) : Step → Type 0 where
+  copied : (c : C.Copied) → c.source ≡ source.slot → (looked : Run) → IsRunBetween p now looked → c.log_position ≡ length (stored_on source.slot looked)
       → HasStepped o target (events.Copy c) p now → HasMoved o source target p now Copied
   followed : (f : F.Follow) → f.source ≡ source.slot → HasStepped o target (events.Follow f) p now → HasMoved o source target p now Followed
   level : IsOnward o p now → (run looked : Run) → IsRunBetween p now run → IsRunBetween p now looked → IsLevel o source target run looked
@@ -60,7 +60,7 @@ pub data HasMoved (o : Opening) (source target : Shard) (p now : PassView Entry)
 
 -- What a step with several sources does, in their order: what one with the first of them that the target isn't level with does, or none is
 -- left.
-pub data HasMovedWith (o : Opening) (sources : List Shard) (target : Shard) (p now : PassView Entry) : Step → Type 0 where
-  one : {step : Step} (before after : List Shard) (source : Shard) → sources ≡ before ++ source ∷ after
+pub data HasMovedWith (o : Opening) (sources : List ShardRecord) (target : ShardRecord) (p now : PassView Entry) : Step → Type 0 where
+  one : {step : Step} (before after : List ShardRecord) (source : ShardRecord) → sources ≡ before ++ source ∷ after
       → AllByRecursion (λ s. HasMoved o s target p now Level) before → HasMoved o source target p now step → HasMovedWith o sources target p now step
   all_level : IsOnward o p now → AllByRecursion (λ s. HasMoved o s target p now Level) sources → HasMovedWith o sources target p now Level

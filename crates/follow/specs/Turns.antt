@@ -2,7 +2,7 @@
 use Rattle.std.specs.Prelude.{◌≡◌, ℕ, List, [], ◌∷◌, ◌++◌, map, length}
 use mathlib.Core.List.{IsPrefix}
 use Rattle.journal.specs.Views.{PassView}
-use Rattle.shard_run.specs.declared.Shard.{Shard}
+use Rattle.shard_run.specs.declared.ShardRecord.{ShardRecord}
 use Rattle.shard_run.specs.declared.Entry.{Entry}
 use Rattle.follow.specs.declared.steps.Step.{Step}
 use Rattle.follow.specs.declared.steps.Step.TheVariants.{Level}
@@ -32,13 +32,13 @@ looks_of target _ = target ∷ []
 -- The looks of one step of a target with a source: one at the target, one at the source, and one more at the target for an entry. If there
 -- is none, nothing was appended after the last look. No two in a row are at one shard, as they are before each change of a shard's mode
 -- (HasChangedMode), so there is none of these.
-pub record IsOneStep (source target : Shard) (p now : PassView Entry) (step : Step) : Type 0 where
+pub record IsOneStep (source target : ShardRecord) (p now : PassView Entry) (step : Step) : Type 0 where
   pub looked : HasLookedAt (target.slot ∷ source.slot ∷ looks_of target.slot step) p now
   pub still : step ≡ Level → EndsInLook now
 
 -- The looks of a step of a target with a source that is refused: the first of those of a step with an entry, and nothing was appended after
 -- the last.
-abbrev pub IsNoStep : Shard → Shard → PassView Entry → PassView Entry → Type 0
+abbrev pub IsNoStep : ShardRecord → ShardRecord → PassView Entry → PassView Entry → Type 0
 IsNoStep source target p now = IsCutShort (target.slot ∷ source.slot ∷ target.slot ∷ []) p now
 
 module _ {X : Type 0} where
@@ -65,9 +65,9 @@ module _ {X : Type 0} where
     pub refused : No x levelled now
 
 -- one step of a target with the first of several sources that it isn't level with
-abbrev pub IsOneStepWith : List Shard → Shard → PassView Entry → PassView Entry → Step → Type 0
+abbrev pub IsOneStepWith : List ShardRecord → ShardRecord → PassView Entry → PassView Entry → Step → Type 0
 IsOneStepWith sources target p now step = FirstInTurn (λ s. IsOneStep s target) sources p now step
 
 -- a step of a target with several sources that is refused: with those before it was level, and the step with one of them is refused
-abbrev pub IsNoStepWith : List Shard → Shard → PassView Entry → PassView Entry → Type 0
+abbrev pub IsNoStepWith : List ShardRecord → ShardRecord → PassView Entry → PassView Entry → Type 0
 IsNoStepWith sources target p now = RefusedInTurn (λ s. IsOneStep s target) (λ s. IsNoStep s target) sources p now

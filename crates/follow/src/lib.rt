@@ -1,8 +1,8 @@
 //! How a target comes forward with a source: it follows the entry that is next, else copies more rows, else it is level.
 #![tactic(auto)]
 
-mod member;
 mod steps;
+mod workflow_shard;
 
-pub use member::Member;
 pub use steps::{Step, bring_forward, bring_forward_with};
+pub use workflow_shard::WorkflowShard;

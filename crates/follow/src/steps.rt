@@ -9,19 +9,19 @@ ghost use Rattle.vschema.specs.WellFormed.{is_vschema};
 ghost use Rattle.journal.specs.Runs.{IsLegal};
 ghost use Rattle.shard_run.specs.declared.Entry.{Entry};
 ghost use Rattle.shard_run.specs.declared.Follow as follow;
-ghost use Rattle.shard_run.specs.Runs.{mode, is_serving, held};
+ghost use Rattle.shard_run.specs.Runs.{mode, answers_queries, shard_rows};
 ghost use Rattle.shard_run.specs.Openings.{IsOpening, row_count};
 ghost use Rattle.shard_law.specs.Law.{SourcesApart};
-ghost use Rattle.shard_contents.specs.Shards.{MayFollow};
+ghost use Rattle.shard_law.specs.Entries.{MayFollow};
 ghost use Rattle.shard_contents.specs.Copying.{IsEntryFor, IsNextCopy};
 ghost use Rattle.follow.specs.Steps.{IsOnward, HasMoved, HasMovedWith, IsFull};
 ghost use Rattle.follow.specs.Turns.{IsOneStep, IsOneStepWith, IsNoStep, IsNoStepWith};
-ghost use Rattle.follow.specs.inner.Given.{IsGiven, IsOneLook, NoneLeft, IsNextEntry, IsTakeable, HasTaken};
+ghost use Rattle.follow.specs.inner.NextEntries.{IsNextForTarget, IsOneLook, NoneLeft, IsNextEntry, IsTakeable, HasTaken};
 
-use crate::member::Member;
+use crate::workflow_shard::WorkflowShard;
 use journal::{Naming, Pass};
 use shard::{ShardLaw, ShardState, World};
-use shard_run::{Copied, Follow, Mode, Shard};
+use shard_run::{Copied, Follow, Mode, ShardRecord};
 use std::alloc::Global;
 use std::sync::Wait;
 use vschema::{Place, VSchema};
@@ -40,21 +40,21 @@ pub enum Step {
 
 // What a source has for a target.
 #[derive(Drop)]
-enum Given {
+enum NextEntry {
     Entry(Follow),
     Rows(Copied),
     Nothing,
 }
 
 // Whether the state is the target's, and it follows.
-fn follows<W: World, J: Naming>(state: &ShardState<W, J>, target: &Shard) -> bool
+fn follows<W: World, J: Naming>(state: &ShardState<W, J>, target: &ShardRecord) -> bool
     ensures { result ≡ true → (state.now.shard ≡ target.now) × (mode W.opening state.now.seen state.now.shard.slot ≡ Mode.Following) }
 {
     state.is(target) && state.mode() == Mode::Following
 }
 
 fn serves<W: World, J: Naming>(state: &ShardState<W, J>) -> bool
-    ensures { result ≡ true → is_serving (mode W.opening state.now.seen state.now.shard.slot) ≡ true }
+    ensures { result ≡ true → answers_queries (mode W.opening state.now.seen state.now.shard.slot) ≡ true }
 {
     matches!(state.mode(), Mode::Serving | Mode::Frozen)
 }
@@ -65,70 +65,70 @@ fn next_entry<W: World, J: Naming>(
     alloc: Global,
     schema: &VSchema,
     place: &Place,
-    behind: Option<u128>,
+    stands_after: Option<u128>,
 ) -> Result<Option<Follow>, Refusal>
     requires schema { schema.now ≡ W.opening.schema }
-    requires serves { is_serving (mode W.opening state.now.seen state.now.shard.slot) ≡ true }
+    requires serves { answers_queries (mode W.opening state.now.seen state.now.shard.slot) ≡ true }
     requires legal { IsLegal (MayFollow W.opening) state.now.seen }
-    ensures entry { IfOk result (λ r. MatchOption r (NoneLeft state.now.seen state.now.shard.slot behind)
-        (λ f. (behind ≡ Some f.place) × IsEntryFor W.opening state.now.seen state.now.shard.slot place.now f)) }
+    ensures entry { IfOk result (λ r. MatchOption r (NoneLeft state.now.seen state.now.shard.slot stands_after)
+        (λ f. (stands_after ≡ Some f.log_position) × IsEntryFor W.opening state.now.seen state.now.shard.slot place.now f)) }
     ensures err { IfErr result (λ e. e ≡ Refusal.OutOfMemory) }
 {
-    let Some(behind) = behind else {
+    let Some(stands_after) = stands_after else {
         return Ok(None);
     };
-    if behind >= u128::from(state.stored()) {
+    if stands_after >= u128::from(state.stored()) {
         return Ok(None);
     }
-    state.entry_for(alloc, schema, place, behind as u64)
+    state.entry_for(alloc, schema, place, stands_after as u64)
 }
 
 // What a source that serves has for a target that follows. How far the target has copied it is asked only once no entry is left.
-fn give<W: World, J: Naming>(
+fn next_for<W: World, J: Naming>(
     state: &mut ShardState<W, J>,
     alloc: Global,
     schema: &VSchema,
     target: &ShardState<W, J>,
-) -> Result<Given, Refusal>
+) -> Result<NextEntry, Refusal>
     requires schema { schema.now ≡ W.opening.schema }
     requires formed { IsTrue (is_vschema W.opening.schema) }
-    requires serves { is_serving (mode W.opening state.old.seen state.old.shard.slot) ≡ true }
+    requires serves { answers_queries (mode W.opening state.old.seen state.old.shard.slot) ≡ true }
     requires legal { IsLegal (MayFollow W.opening) state.old.seen }
     requires follows { mode W.opening target.now.seen target.now.shard.slot ≡ Mode.Following }
     requires came { IsLegal (MayFollow W.opening) target.now.seen }
-    ensures given { IfOk result (IsGiven W.opening state.old.seen state.old.shard target.now) }
+    ensures given { IfOk result (IsNextForTarget W.opening state.old.seen state.old.shard target.now) }
     ensures err { IfErr result (λ e. e ≡ Refusal.OutOfMemory) }
 {
     let source = state.slot();
     let place = &target.shard().place;
-    if let Some(entry) = next_entry(state, alloc, schema, place, target.behind(source))? {
-        return Ok(Given::Entry(entry));
+    if let Some(entry) = next_entry(state, alloc, schema, place, target.position_in(source))? {
+        return Ok(NextEntry::Entry(entry));
     }
     let progress = target.progress(alloc, schema, source)?;
     match &progress.next {
         Some(next) => {
             let rows = state.rows_to_copy(alloc, schema, place, next)?;
-            Ok(Given::Rows(rows))
+            Ok(NextEntry::Rows(rows))
         }
-        None => Ok(Given::Nothing),
+        None => Ok(NextEntry::Nothing),
     }
 }
 
 // What the source has for the target, if the state is the source's and it serves.
-fn try_give<W: World, J: Naming>(
+fn try_next_for<W: World, J: Naming>(
     state: &mut ShardState<W, J>,
     alloc: Global,
     pass: &mut Pass<ShardLaw<W>, J>,
     schema: &VSchema,
-    source: &Shard,
+    source: &ShardRecord,
     target: &ShardState<W, J>,
-) -> Result<Option<Given>, Refusal>
+) -> Result<Option<NextEntry>, Refusal>
     requires schema { schema.now ≡ W.opening.schema }
     requires formed { IsTrue (is_vschema W.opening.schema) }
     requires legal { IsLegal (MayFollow W.opening) pass.old.seen }
     requires follows { mode W.opening target.now.seen target.now.shard.slot ≡ Mode.Following }
     requires came { IsLegal (MayFollow W.opening) target.now.seen }
-    ensures given { IfOk result (λ r. IfSome r (IsGiven W.opening pass.new.seen source.now target.now)) }
+    ensures given { IfOk result (λ r. IfSome r (IsNextForTarget W.opening pass.new.seen source.now target.now)) }
     ensures looked { IfOk result (λ r. MatchOption r (pass.new ≡ pass.old) (λ _. IsOneLook source.now.slot pass.old pass.new)) }
     ensures refused { OnErr result (IsOneLook source.now.slot pass.old pass.new) }
     ensures onward { IsOnward W.opening pass.old pass.new }
@@ -138,31 +138,31 @@ fn try_give<W: World, J: Naming>(
         return Ok(None);
     }
     let _ = state.look(pass);
-    let given = give(state, alloc, schema, target)?;
+    let given = next_for(state, alloc, schema, target)?;
     Ok(Some(given))
 }
 
 // What the source gives, asked under its lock; it tries until the source serves.
-fn given_by<W: World, J: Naming>(
+fn next_from<W: World, J: Naming>(
     rt: &impl Wait,
     alloc: Global,
     pass: &mut Pass<ShardLaw<W>, J>,
     schema: &VSchema,
-    source: &Member<W, J>,
+    source: &WorkflowShard<W, J>,
     target: &ShardState<W, J>,
-) -> Result<Given, Refusal>
+) -> Result<NextEntry, Refusal>
     requires schema { schema.now ≡ W.opening.schema }
     requires formed { IsTrue (is_vschema W.opening.schema) }
     requires legal { IsLegal (MayFollow W.opening) pass.old.seen }
     requires follows { mode W.opening target.now.seen target.now.shard.slot ≡ Mode.Following }
     requires came { IsLegal (MayFollow W.opening) target.now.seen }
-    ensures given { IfOk result (IsGiven W.opening pass.new.seen source.now.which target.now) }
+    ensures given { IfOk result (IsNextForTarget W.opening pass.new.seen source.now.which target.now) }
     ensures looked { IsOneLook source.now.which.slot pass.old pass.new }
     ensures onward { IsOnward W.opening pass.old pass.new }
     ensures err { IfErr result (λ e. e ≡ Refusal.OutOfMemory) }
 {
     for _ in rt.forever() {
-        let given = try_give(
+        let given = try_next_for(
             &mut source.shard.lock(rt),
             alloc,
             pass,
@@ -190,8 +190,8 @@ fn follow_entry<W: World, J: Naming>(
     requires mine { IsLegal (MayFollow W.opening) state.old.seen }
     requires legal { IsLegal (MayFollow W.opening) pass.old.seen }
     requires next { IsNextEntry W.opening pass.old.seen state.old entry.now }
-    ensures taken { OnOk result (HasTaken W.opening state.old.shard (Given.Entry entry.now) pass.old pass.new Step.Followed) }
-    ensures within { OnOk result (SourcesApart W.opening pass.new.seen state.old.shard → row_count (held W.opening pass.new.seen state.old.shard) ≤ W.limits.rows) }
+    ensures taken { OnOk result (HasTaken W.opening state.old.shard (NextEntry.Entry entry.now) pass.old pass.new Step.Followed) }
+    ensures within { OnOk result (SourcesApart W.opening pass.new.seen state.old.shard → row_count (shard_rows W.opening pass.new.seen state.old.shard) ≤ W.limits.rows) }
     ensures refused { OnErr result ((pass.new ≡ pass.old) ⊎ IsOneLook state.old.shard.slot pass.old pass.new) }
     ensures onward { IsOnward W.opening pass.old pass.new }
     ensures err { IfErr result (λ e. (e ≡ Refusal.OutOfMemory) ⊎ ((e ≡ Refusal.ShardFull) × IsFull W.opening W.limits state.old.shard pass.new.seen)) }
@@ -210,8 +210,8 @@ fn copy_rows<W: World, J: Naming>(
     requires following { mode W.opening state.old.seen state.old.shard.slot ≡ Mode.Following }
     requires legal { IsLegal (MayFollow W.opening) pass.old.seen }
     requires next { IsNextCopy W.opening pass.old.seen state.old rows }
-    ensures taken { OnOk result (HasTaken W.opening state.old.shard (Given.Rows rows) pass.old pass.new Step.Copied) }
-    ensures within { OnOk result (row_count (held W.opening pass.new.seen state.old.shard) ≤ W.limits.rows) }
+    ensures taken { OnOk result (HasTaken W.opening state.old.shard (NextEntry.Rows rows) pass.old pass.new Step.Copied) }
+    ensures within { OnOk result (row_count (shard_rows W.opening pass.new.seen state.old.shard) ≤ W.limits.rows) }
     ensures refused { OnErr result ((pass.new ≡ pass.old) ⊎ IsOneLook state.old.shard.slot pass.old pass.new) }
     ensures onward { IsOnward W.opening pass.old pass.new }
     ensures err { IfErr result (λ e. (e ≡ Refusal.OutOfMemory) ⊎ ((e ≡ Refusal.ShardFull) × IsFull W.opening W.limits state.old.shard pass.new.seen)) }
@@ -225,7 +225,7 @@ fn take<W: World, J: Naming>(
     alloc: Global,
     pass: &mut Pass<ShardLaw<W>, J>,
     schema: &VSchema,
-    given: Given,
+    given: NextEntry,
 ) -> Result<Step, Refusal>
     requires schema { schema.now ≡ W.opening.schema }
     requires following { mode W.opening state.old.seen state.old.shard.slot ≡ Mode.Following }
@@ -233,22 +233,22 @@ fn take<W: World, J: Naming>(
     requires legal { IsLegal (MayFollow W.opening) pass.old.seen }
     requires given { IsTakeable W.opening pass.old.seen state.old given }
     ensures taken { IfOk result (HasTaken W.opening state.old.shard given pass.old pass.new) }
-    ensures copied_within { IfOk result (λ step. step ≡ Step.Copied → row_count (held W.opening pass.new.seen state.old.shard) ≤ W.limits.rows) }
-    ensures followed_within { IfOk result (λ step. step ≡ Step.Followed → SourcesApart W.opening pass.new.seen state.old.shard → row_count (held W.opening pass.new.seen state.old.shard) ≤ W.limits.rows) }
+    ensures copied_within { IfOk result (λ step. step ≡ Step.Copied → row_count (shard_rows W.opening pass.new.seen state.old.shard) ≤ W.limits.rows) }
+    ensures followed_within { IfOk result (λ step. step ≡ Step.Followed → SourcesApart W.opening pass.new.seen state.old.shard → row_count (shard_rows W.opening pass.new.seen state.old.shard) ≤ W.limits.rows) }
     ensures refused { OnErr result ((pass.new ≡ pass.old) ⊎ IsOneLook state.old.shard.slot pass.old pass.new) }
     ensures onward { IsOnward W.opening pass.old pass.new }
     ensures err { IfErr result (λ e. (e ≡ Refusal.OutOfMemory) ⊎ ((e ≡ Refusal.ShardFull) × IsFull W.opening W.limits state.old.shard pass.new.seen)) }
 {
     match given {
-        Given::Entry(entry) => {
+        NextEntry::Entry(entry) => {
             follow_entry(state, alloc, pass, schema, &entry)?;
             Ok(Step::Followed)
         }
-        Given::Rows(rows) => {
+        NextEntry::Rows(rows) => {
             copy_rows(state, alloc, pass, rows)?;
             Ok(Step::Copied)
         }
-        Given::Nothing => Ok(Step::Level),
+        NextEntry::Nothing => Ok(Step::Level),
     }
 }
 
@@ -258,7 +258,7 @@ fn come_forward<W: World, J: Naming>(
     alloc: Global,
     pass: &mut Pass<ShardLaw<W>, J>,
     schema: &VSchema,
-    source: &Member<W, J>,
+    source: &WorkflowShard<W, J>,
     state: &mut ShardState<W, J>,
 ) -> Result<Step, Refusal>
     requires opens { IsOpening W.opening }
@@ -269,14 +269,14 @@ fn come_forward<W: World, J: Naming>(
     requires legal { IsLegal (MayFollow W.opening) pass.old.seen }
     ensures moved { IfOk result (HasMoved W.opening source.now.which state.old.shard pass.old pass.new) }
     ensures once { IfOk result (IsOneStep source.now.which state.old.shard pass.old pass.new) }
-    ensures copied_within { IfOk result (λ step. step ≡ Step.Copied → row_count (held W.opening pass.new.seen state.old.shard) ≤ W.limits.rows) }
-    ensures followed_within { IfOk result (λ step. step ≡ Step.Followed → SourcesApart W.opening pass.new.seen state.old.shard → row_count (held W.opening pass.new.seen state.old.shard) ≤ W.limits.rows) }
+    ensures copied_within { IfOk result (λ step. step ≡ Step.Copied → row_count (shard_rows W.opening pass.new.seen state.old.shard) ≤ W.limits.rows) }
+    ensures followed_within { IfOk result (λ step. step ≡ Step.Followed → SourcesApart W.opening pass.new.seen state.old.shard → row_count (shard_rows W.opening pass.new.seen state.old.shard) ≤ W.limits.rows) }
     ensures nothing { OnErr result (IsNoStep source.now.which state.old.shard pass.old pass.new) }
     ensures onward { IsOnward W.opening pass.old pass.new }
     ensures err { IfErr result (λ e. (e ≡ Refusal.OutOfMemory) ⊎ ((e ≡ Refusal.ShardFull) × IsFull W.opening W.limits state.old.shard pass.new.seen)) }
 {
     let _ = state.look(pass);
-    let given = given_by(rt, alloc, pass, schema, source, state)?;
+    let given = next_from(rt, alloc, pass, schema, source, state)?;
     take(state, alloc, pass, schema, given)
 }
 
@@ -286,8 +286,8 @@ fn try_step<W: World, J: Naming>(
     alloc: Global,
     pass: &mut Pass<ShardLaw<W>, J>,
     schema: &VSchema,
-    source: &Member<W, J>,
-    target: &Shard,
+    source: &WorkflowShard<W, J>,
+    target: &ShardRecord,
     state: &mut ShardState<W, J>,
 ) -> Result<Option<Step>, Refusal>
     requires opens { IsOpening W.opening }
@@ -297,8 +297,8 @@ fn try_step<W: World, J: Naming>(
     requires legal { IsLegal (MayFollow W.opening) pass.old.seen }
     ensures moved { IfOk result (λ r. IfSome r (HasMoved W.opening source.now.which target.now pass.old pass.new)) }
     ensures once { IfOk result (λ r. MatchOption r (pass.new ≡ pass.old) (IsOneStep source.now.which target.now pass.old pass.new)) }
-    ensures copied_within { IfOk result (λ r. r ≡ Some Step.Copied → row_count (held W.opening pass.new.seen target.now) ≤ W.limits.rows) }
-    ensures followed_within { IfOk result (λ r. r ≡ Some Step.Followed → SourcesApart W.opening pass.new.seen target.now → row_count (held W.opening pass.new.seen target.now) ≤ W.limits.rows) }
+    ensures copied_within { IfOk result (λ r. r ≡ Some Step.Copied → row_count (shard_rows W.opening pass.new.seen target.now) ≤ W.limits.rows) }
+    ensures followed_within { IfOk result (λ r. r ≡ Some Step.Followed → SourcesApart W.opening pass.new.seen target.now → row_count (shard_rows W.opening pass.new.seen target.now) ≤ W.limits.rows) }
     ensures nothing { OnErr result (IsNoStep source.now.which target.now pass.old pass.new) }
     ensures onward { IsOnward W.opening pass.old pass.new }
     ensures err { IfErr result (λ e. (e ≡ Refusal.OutOfMemory) ⊎ ((e ≡ Refusal.ShardFull) × IsFull W.opening W.limits target.now pass.new.seen)) }
@@ -332,8 +332,8 @@ pub fn bring_forward<W: World, J: Naming>(
     alloc: Global,
     pass: &mut Pass<ShardLaw<W>, J>,
     schema: &VSchema,
-    source: &Member<W, J>,
-    target: &Member<W, J>,
+    source: &WorkflowShard<W, J>,
+    target: &WorkflowShard<W, J>,
 ) -> Result<Step, Refusal>
     requires opens { IsOpening W.opening }
     requires schema { schema.now ≡ W.opening.schema }
@@ -342,8 +342,8 @@ pub fn bring_forward<W: World, J: Naming>(
     requires legal { IsLegal (MayFollow W.opening) pass.old.seen }
     ensures moved { IfOk result (HasMoved W.opening source.now.which target.now.which pass.old pass.new) }
     ensures once { IfOk result (IsOneStep source.now.which target.now.which pass.old pass.new) }
-    ensures copied_within { IfOk result (λ step. step ≡ Step.Copied → row_count (held W.opening pass.new.seen target.now.which) ≤ W.limits.rows) }
-    ensures followed_within { IfOk result (λ step. step ≡ Step.Followed → SourcesApart W.opening pass.new.seen target.now.which → row_count (held W.opening pass.new.seen target.now.which) ≤ W.limits.rows) }
+    ensures copied_within { IfOk result (λ step. step ≡ Step.Copied → row_count (shard_rows W.opening pass.new.seen target.now.which) ≤ W.limits.rows) }
+    ensures followed_within { IfOk result (λ step. step ≡ Step.Followed → SourcesApart W.opening pass.new.seen target.now.which → row_count (shard_rows W.opening pass.new.seen target.now.which) ≤ W.limits.rows) }
     ensures nothing { OnErr result (IsNoStep source.now.which target.now.which pass.old pass.new) }
     ensures onward { IsOnward W.opening pass.old pass.new }
     ensures err { IfErr result (λ e. (e ≡ Refusal.OutOfMemory) ⊎ ((e ≡ Refusal.ShardFull) × IsFull W.opening W.limits target.now.which pass.new.seen)) }
@@ -371,8 +371,8 @@ pub fn bring_forward_with<W: World, J: Naming>(
     alloc: Global,
     pass: &mut Pass<ShardLaw<W>, J>,
     schema: &VSchema,
-    sources: &[Member<W, J>],
-    target: &Member<W, J>,
+    sources: &[WorkflowShard<W, J>],
+    target: &WorkflowShard<W, J>,
 ) -> Result<Step, Refusal>
     requires opens { IsOpening W.opening }
     requires schema { schema.now ≡ W.opening.schema }
@@ -381,8 +381,8 @@ pub fn bring_forward_with<W: World, J: Naming>(
     requires legal { IsLegal (MayFollow W.opening) pass.old.seen }
     ensures moved { IfOk result (HasMovedWith W.opening (map (λ s. s.which) sources.now) target.now.which pass.old pass.new) }
     ensures once { IfOk result (IsOneStepWith (map (λ s. s.which) sources.now) target.now.which pass.old pass.new) }
-    ensures copied_within { IfOk result (λ step. step ≡ Step.Copied → row_count (held W.opening pass.new.seen target.now.which) ≤ W.limits.rows) }
-    ensures followed_within { IfOk result (λ step. step ≡ Step.Followed → SourcesApart W.opening pass.new.seen target.now.which → row_count (held W.opening pass.new.seen target.now.which) ≤ W.limits.rows) }
+    ensures copied_within { IfOk result (λ step. step ≡ Step.Copied → row_count (shard_rows W.opening pass.new.seen target.now.which) ≤ W.limits.rows) }
+    ensures followed_within { IfOk result (λ step. step ≡ Step.Followed → SourcesApart W.opening pass.new.seen target.now.which → row_count (shard_rows W.opening pass.new.seen target.now.which) ≤ W.limits.rows) }
     ensures nothing { OnErr result (IsNoStepWith (map (λ s. s.which) sources.now) target.now.which pass.old pass.new) }
     ensures onward { IsOnward W.opening pass.old pass.new }
     ensures err { IfErr result (λ e. (e ≡ Refusal.OutOfMemory) ⊎ ((e ≡ Refusal.ShardFull) × IsFull W.opening W.limits target.now.which pass.new.seen)) }

@@ -195,9 +195,9 @@ module _ {E : Type 0} (slot_of : E → ℕ) (commit_of : E → Option (ℕ × �
       (subst (λ (r : List E). n ≡ (seeing (first_session v) r, [])) same h.1, subst (λ (r : List E). G (first_session v) r) same (heard (first_session v) (noted p) run h.2))
 
   -- a seat that was lent another's sessions was told that they aren't its own
-  pub beside : (i found : ℕ) (a b a1 a2 : Me E (View E)) → a1 ≡ (holding a.0 (sessions_of b.0), a.1) → S i a1 found a2
+  pub alongside : (i found : ℕ) (a b a1 a2 : Me E (View E)) → a1 ≡ (holding a.0 (sessions_of b.0), a.1) → S i a1 found a2
       → (a2 ≡ (holding a.0 (sessions_of b.0), a.1)) × NoneLentIsOwn (holding a.0 (sessions_of b.0))
-  beside i found a b a1 a2 is x =
+  alongside i found a b a1 a2 is x =
       let h = subst (λ (z : Me E (View E)). S i z found a2) is x in
       let run = h.0 in
       let same : run ≡ a.0.seen = ⊎_elim
@@ -206,12 +206,12 @@ module _ {E : Type 0} (slot_of : E → ℕ) (commit_of : E → Option (ℕ × �
       (subst (λ (r : List E). a2 ≡ (seeing (holding a.0 (sessions_of b.0)) r, a.1)) same h.1, h.5)
 
   pub lets_go_after : (i found : ℕ) (a b a1 a2 : Me E (View E)) → a1 ≡ (holding a.0 (sessions_of b.0), a.1) → S i a1 found a2 → NoneLentIsOwn a2.0
-  lets_go_after i found a b a1 a2 is x = let h = beside i found a b a1 a2 is x in subst (λ (z : Me E (View E)). NoneLentIsOwn z.0) (sym h.0) h.1
+  lets_go_after i found a b a1 a2 is x = let h = alongside i found a b a1 a2 is x in subst (λ (z : Me E (View E)). NoneLentIsOwn z.0) (sym h.0) h.1
 
   pub let_go_seen : (i found : ℕ) (a b a1 a2 b1 r : Me E (View E)) → b.0.seen ≡ a.0.seen → b1 ≡ (without_sessions b.0, b.1)
       → a1 ≡ (holding a.0 (sessions_of b.0), a.1) → S i a1 found a2 → r ≡ (held_of a2.0, []) → IsPrefix b1.0.seen r.0.seen
   let_go_seen i found a b a1 a2 b1 r same b1_is is x r_is =
-      let h = beside i found a b a1 a2 is x in
+      let h = alongside i found a b a1 a2 is x in
       let seen : Me E (View E) → List E = λ z. z.0.seen in
       let all : b1.0.seen ≡ r.0.seen = ap seen b1_is ∙ same ∙ sym (ap seen r_is ∙ ap seen h.0) in
       subst (λ (l : List E). IsPrefix b1.0.seen l) all (prefix_self b1.0.seen)
@@ -221,7 +221,7 @@ module _ {E : Type 0} (slot_of : E → ℕ) (commit_of : E → Option (ℕ × �
       → a3 ≡ (without_held a2.0, a2.1) → b2 ≡ (returns b1.0 r.0, b1.1) → (a3 ≡ a) × (b2 ≡ b) × NoCommon a.0 b.0
   parted i found a b a1 a2 a3 b1 b2 r pa pb same b1_is a1_is x r_is a3_is b2_is =
       let W : Type 0 = Me E (View E) in
-      let h = beside i found a b a1 a2 a1_is x in
+      let h = alongside i found a b a1 a2 a1_is x in
       let a3_now : a3 ≡ (without_held (holding a.0 (sessions_of b.0)), a.1) = a3_is ∙ ap (λ (z : W). let m : W = (without_held z.0, z.1) in m) h.0 in
       let r_now : r ≡ (held_of (holding a.0 (sessions_of b.0)), []) = r_is ∙ ap (λ (z : W). let m : W = (held_of z.0, []) in m) h.0 in
       let b2_now : b2 ≡ (returns (without_sessions b.0) (held_of (holding a.0 (sessions_of b.0))), b.1) =

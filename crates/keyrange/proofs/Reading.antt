@@ -34,7 +34,7 @@ pub record IsEnd (r : KeyRange) (digits e : List ℕ) : Type 0 where
   pub is : r.end ≡ Some e
   pub edge : IsEdge e
   pub spelled : hex e ≡ digits
-  pub behind : is_before r.begin e ≡ true
+  pub trailing : is_before r.begin e ≡ true
 
 pub some_end : (r : KeyRange) (digits : List ℕ) → IsNamed r → digits ≡ end_text r.end → 0 < length digits → (e : List ℕ) × IsEnd r digits e
 some_end r digits n d l = by r.end refl n.1 d
@@ -42,7 +42,7 @@ some_end r digits n d l = by r.end refl n.1 d
     by : (end : Option (List ℕ)) → r.end ≡ end → IfSome end (λ e. IsEdge e × (e ≢ []) × IsTrue (is_before r.begin e)) → digits ≡ end_text end
         → (e : List ℕ) × IsEnd r digits e
     by None i h e = absurd (omega (arith, ap length e))
-    by (Some end) i h e = (end, record { is = i; edge = h.0; spelled = sym e; behind = h.2 })
+    by (Some end) i h e = (end, record { is = i; edge = h.0; spelled = sym e; trailing = h.2 })
 
 pub some_left : (n : ℕ) → (n == 0) ≡ false → 0 < n
 some_left n h = grind (arith, nat_tests)

@@ -1,16 +1,16 @@
 //! The answer of a case.
 use crate::{lines, losses, traffic};
-use case_fields::{Told, Unanswered};
 use std::alloc::Global;
 use std::sync::Wait;
 use std::time::Clock;
+use test_fields::{CaseAnswer, Unanswered};
 
 /// Plays the scene of this name, and tells whether it went as it is to go.
 pub fn answer<R: Wait + Clock>(
     rt: &R,
     alloc: Global,
     name: &str,
-    told: &mut Told,
+    told: &mut CaseAnswer,
 ) -> Result<(), Unanswered> {
     match name {
         "line_tells_its_fields" => told.put_went(lines::line_tells_its_fields(alloc)),

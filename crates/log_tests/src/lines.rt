@@ -2,7 +2,7 @@
 use jiff::Timestamp;
 use log::kv::With;
 use log::{Level, LevelFilter, Metadata, Record};
-use server_log::{Line, asked_level, line_of};
+use server_log::{LogLine, asked_level, line_of};
 use std::alloc::Global;
 use vt_value::Refusal;
 
@@ -15,7 +15,7 @@ pub(crate) fn moment() -> Timestamp {
 }
 
 /// The line of a login by this user.
-pub(crate) fn login(alloc: Global, user: &str) -> Result<Line, Refusal> {
+pub(crate) fn login(alloc: Global, user: &str) -> Result<LogLine, Refusal> {
     let number = With {
         before: (),
         key: "number",
@@ -30,7 +30,7 @@ pub(crate) fn login(alloc: Global, user: &str) -> Result<Line, Refusal> {
     Ok(line_of(alloc, moment(), &told)?)
 }
 
-fn is_line(line: &Line, wanted: &str) -> bool {
+fn is_line(line: &LogLine, wanted: &str) -> bool {
     line.as_bytes() == wanted.as_bytes()
 }
 

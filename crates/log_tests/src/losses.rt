@@ -2,13 +2,13 @@
 use crate::devices::Narrow;
 use crate::lines::{login, moment};
 use log::{LevelFilter, Logged, debug, info};
-use server_log::{Line, LineQueue, LineSink, LineWriter, QUEUED_LINES, write_lines};
+use server_log::{LineQueue, LineSink, LineWriter, LogLine, QUEUED_LINES, write_lines};
 use std::alloc::Global;
 use std::sync::Wait;
 use std::time::Clock;
 use vt_value::Refusal;
 
-fn ends_with(line: &Line, end: &str) -> bool {
+fn ends_with(line: &LogLine, end: &str) -> bool {
     line.as_bytes().ends_with(end.as_bytes())
 }
 

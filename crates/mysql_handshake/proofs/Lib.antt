@@ -4,3 +4,4 @@ mod Greetings
 mod Responses
 mod Zeros
 mod Examples
+pub mod Printables

@@ -1,8 +1,9 @@
-//! The messages of the connection phase of the MySQL client/server protocol, and the test of a native password.
+//! The messages of the connection phase of the MySQL client/server protocol, the test of a native password, and the salts of connections.
 #![tactic(auto)]
 
 mod native;
 mod response;
+mod salt;
 mod written;
 
 pub use native::verify_native;
@@ -10,4 +11,5 @@ pub use response::{
     CONNECT_WITH_DB, DEPRECATE_EOF, PLUGIN_AUTH, PROTOCOL_41, Response, SECURE_CONNECTION, is_set,
     read_response,
 };
+pub use salt::salt_of;
 pub use written::{HANDSHAKE_ROOM, put_auth_switch, put_greeting};

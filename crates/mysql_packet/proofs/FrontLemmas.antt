@@ -182,11 +182,11 @@ module _ {limit : ℕ} {bytes rest body : List ℕ} {first come len number : ℕ
         let front : bytes ≡ (packets first parts ++ packet next last) ++ more = split ∙ sym (append_assoc (packets first parts) (packet next last) more) in
         let size : length (packets first parts ++ packet next last) ≡ size_of come len =
         omega (arith, length-append (packets first parts) (packet next last), length-packets first parts s.all, part_is, s.come_is) in
-        let behind : drop (size_of come len) bytes ≡ more = ap (drop (size_of come len)) front ∙ drop_seam (size_of come len) (packets first parts ++ packet next last) more size in
+        let trailing : drop (size_of come len) bytes ≡ more = ap (drop (size_of come len)) front ∙ drop_seam (size_of come len) (packets first parts ++ packet next last) more size in
         let framed : frame first (payload_at come len bytes) ≡ packets first parts ++ packet next last =
         ap (frame first) payload ∙ frame-whole first parts last s.small s.all (omega (arith, part_is, short)) in
         record {
-          whole = front ∙ ap (λ (l : List ℕ). l ++ more) (sym framed) ∙ ap (λ (l : List ℕ). frame first (payload_at come len bytes) ++ l) (sym behind);
+          whole = front ∙ ap (λ (l : List ℕ). l ++ more) (sym framed) ∙ ap (λ (l : List ℕ). frame first (payload_at come len bytes) ++ l) (sym trailing);
           length_is = omega (arith, ap length payload, length-append (whole parts) last, length-whole parts s.all, part_is, s.come_is);
           fits = omega (arith, ap length front, length-append (packets first parts ++ packet next last) more, size);
           within = omega (arith, ok.1);

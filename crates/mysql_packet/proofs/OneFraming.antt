@@ -7,7 +7,7 @@ use Rattle.std.proofs.lemmas.List.{append-nil, length-append, length-drop, lengt
 use Rattle.vt_value.specs.declared.refusal.Refusal.{Refusal}
 use Rattle.vt_value.specs.declared.refusal.Refusal.TheVariants.{PacketTooLarge, PacketsOutOfOrder}
 use Rattle.mysql_packet.specs.declared.framer.Payload.{Payload}
-use Rattle.mysql_packet.specs.declared.framer.Fault.{Fault}
+use Rattle.mysql_packet.specs.declared.framer.HeaderFault.{HeaderFault}
 use Rattle.mysql_packet.specs.Frames.{full, split_off, packet, packets, frame, header, header_fault, stream_of, AreBegun, IsPartial, IsTaken, Splits, IsRefusedAfter}
 use Rattle.mysql_packet.proofs.PartsLemmas.{whole}
 use Rattle.mysql_packet.proofs.FrontLemmas.{AreFull, length-whole, take_seam, drop_seam, length-packets, packets-snoc}
@@ -15,7 +15,7 @@ use Rattle.mysql_packet.proofs.FrontLemmas.{AreFull, length-whole, take_seam, dr
 -- what stands at the front: less than a payload, a header that is refused, or a payload and the rest
 data Front : Type 0 where
   waits : Front
-  refuses : Fault → Front
+  refuses : HeaderFault → Front
   takes : Payload → List ℕ → Front
 
 abbrev decide : Option Refusal → Bool → Bool → ℕ → Front → Front → Front
@@ -138,8 +138,8 @@ at-parts limit first n parts tail small begun is fuel =
     ∙ scan-parts limit first parts (length (packets first parts ++ tail)) n 0 (length parts) first [] tail begun.0 fuel (omega arith) (omega (arith, small)) (omega (arith, begun.1))
 
 -- how many steps are left after the full parts
-size-behind : (first : ℕ) (parts : List (List ℕ)) (tail : List ℕ) → AreFull parts → length parts + length tail ≤ length (packets first parts ++ tail)
-size-behind first parts tail all = omega (arith, length-append (packets first parts) tail, length-packets first parts all)
+size-trailing : (first : ℕ) (parts : List (List ℕ)) (tail : List ℕ) → AreFull parts → length parts + length tail ≤ length (packets first parts ++ tail)
+size-trailing first parts tail all = omega (arith, length-append (packets first parts) tail, length-packets first parts all)
 
 abbrev IsWaiting : ℕ → ℕ → ℕ → List ℕ → Type 0
 IsWaiting limit first come tail =
@@ -153,7 +153,7 @@ at-partial limit bytes h = ap (at limit) h.5 ∙ go h.1 h.4 h.6
     go [] begun ends = waits-at limit (fourth h.2) (length h.2) 0 [] h.2 ends
     go (p ∷ parts) begun ends =
         let n : ℕ = length (packets h.0 (p ∷ parts) ++ h.2) - length (p ∷ parts) in
-        at-parts limit h.0 n (p ∷ parts) h.2 h.3 begun refl (omega (arith, size-behind h.0 (p ∷ parts) h.2 begun.0))
+        at-parts limit h.0 n (p ∷ parts) h.2 h.3 begun refl (omega (arith, size-trailing h.0 (p ∷ parts) h.2 begun.0))
         ∙ waits-at limit h.0 n (length (p ∷ parts)) (whole (p ∷ parts)) h.2 ends
 
 at-refused : (limit first len number : ℕ) (parts : List (List ℕ)) (more : List ℕ) (refusal : Refusal) → first < 256 → len < 2 ^ 24 → AreBegun limit parts
@@ -164,7 +164,7 @@ at-refused limit first len number [] more refusal small bound begun e = refuses-
 at-refused limit first len number (p ∷ parts) more refusal small bound begun e =
     let tail : List ℕ = header len number ++ more in
     let n : ℕ = length (packets first (p ∷ parts) ++ tail) - suc (length (p ∷ parts)) in
-    at-parts limit first (suc n) (p ∷ parts) tail small begun refl (omega (arith, size-behind first (p ∷ parts) tail begun.0))
+    at-parts limit first (suc n) (p ∷ parts) tail small begun refl (omega (arith, size-trailing first (p ∷ parts) tail begun.0))
     ∙ refuses-at limit first n (length (p ∷ parts)) (whole (p ∷ parts)) more len number refusal bound e
 
 -- a payload as full parts and a shorter one
@@ -216,7 +216,7 @@ at-whole limit p rest t = let r = last_part (length p.bytes / full) p.bytes (ome
         ap (λ (l : List (List ℕ)). at limit (packets p.first l ++ rest)) are
         ∙ ap (λ (l : List ℕ). at limit (l ++ rest)) (packets-snoc p.first parts last t.0.0)
         ∙ ap (at limit) (append_assoc (packets p.first parts) (packet number last) rest)
-        ∙ at-last limit p.first n number parts last rest t.0.0 all refl short (omega (arith, size, t.1)) (omega (arith, size-behind p.first parts (packet number last ++ rest) all))
+        ∙ at-last limit p.first n number parts last rest t.0.0 all refl short (omega (arith, size, t.1)) (omega (arith, size-trailing p.first parts (packet number last ++ rest) all))
         ∙ ap (λ (l : List ℕ). takes (record { first = p.first; last = number; bytes = l }) rest) joined
         ∙ ap (λ m. takes (record { first = p.first; last = m; bytes = p.bytes }) rest) (ap (λ m. (p.first + m) % 256) (count ∙ sym e) ∙ sym t.0.1)
 
@@ -242,17 +242,17 @@ one_end limit (p ∷ ps) (q ∷ qs) r s a b m n e =
 waits-end : (limit : ℕ) (r : List ℕ) → at limit r ≡ waits → IsEnd limit r
 waits-end limit r e p rest f = let g : waits ≡ takes p rest = sym e ∙ f in absurd (cc g)
 
-refuses-end : (limit : ℕ) (r : List ℕ) (fault : Fault) → at limit r ≡ refuses fault → IsEnd limit r
+refuses-end : (limit : ℕ) (r : List ℕ) (fault : HeaderFault) → at limit r ≡ refuses fault → IsEnd limit r
 refuses-end limit r fault e p rest f = let g : refuses fault ≡ takes p rest = sym e ∙ f in absurd (cc g)
 
 -- the refused header and what is before it in its payload, and what is after
-record RefusedEnd (limit : ℕ) (bytes : List ℕ) (ps : List Payload) (fault : Fault) : Type 0 where
+record RefusedEnd (limit : ℕ) (bytes : List ℕ) (ps : List Payload) (fault : HeaderFault) : Type 0 where
   rest : List ℕ
   whole_is : bytes ≡ stream_of ps ++ rest
   each : AllByRecursion (IsTaken limit) ps
   read : at limit rest ≡ refuses fault
 
-refused_end : (limit : ℕ) (bytes : List ℕ) (ps : List Payload) (fault : Fault) → IsRefusedAfter limit bytes ps fault → RefusedEnd limit bytes ps fault
+refused_end : (limit : ℕ) (bytes : List ℕ) (ps : List Payload) (fault : HeaderFault) → IsRefusedAfter limit bytes ps fault → RefusedEnd limit bytes ps fault
 refused_end limit bytes ps fault h = record {
   rest = packets h.first h.parts ++ (header h.len fault.number ++ h.more);
   whole_is = h.whole ∙ ap (λ (l : List ℕ). l ++ h.more) (append_assoc (stream_of ps) (packets h.first h.parts) (header h.len fault.number))
@@ -266,7 +266,7 @@ pub one_split : (limit : ℕ) (bytes : List ℕ) (ps qs : List Payload) (r s : L
 one_split limit bytes ps qs r s a b =
     one_end limit ps qs r s a.each b.each (waits-end limit r (at-partial limit r a.partial)) (waits-end limit s (at-partial limit s b.partial)) (sym a.whole ∙ b.whole)
 
-pub one_refused : (limit : ℕ) (bytes : List ℕ) (ps qs : List Payload) (f g : Fault) → IsRefusedAfter limit bytes ps f → IsRefusedAfter limit bytes qs g → (ps ≡ qs) × (f ≡ g)
+pub one_refused : (limit : ℕ) (bytes : List ℕ) (ps qs : List Payload) (f g : HeaderFault) → IsRefusedAfter limit bytes ps f → IsRefusedAfter limit bytes qs g → (ps ≡ qs) × (f ≡ g)
 one_refused limit bytes ps qs f g a b =
     let x = refused_end limit bytes ps f a in
     let y = refused_end limit bytes qs g b in
@@ -274,7 +274,7 @@ one_refused limit bytes ps qs f g a b =
     let h : refuses f ≡ refuses g = sym x.read ∙ ap (at limit) e.1 ∙ y.read in
     (e.0, cc h)
 
-pub split_or_refused : (limit : ℕ) (bytes : List ℕ) (ps qs : List Payload) (r : List ℕ) (f : Fault) → Splits limit bytes ps r → IsRefusedAfter limit bytes qs f → ⊥
+pub split_or_refused : (limit : ℕ) (bytes : List ℕ) (ps qs : List Payload) (r : List ℕ) (f : HeaderFault) → Splits limit bytes ps r → IsRefusedAfter limit bytes qs f → ⊥
 split_or_refused limit bytes ps qs r f a b =
     let y = refused_end limit bytes qs f b in
     let w = at-partial limit r a.partial in

@@ -4,7 +4,7 @@ use Rattle.std.specs.Prelude.{◌⊎◌, IsNone, MatchOption}
 use Rattle.std.specs.List.{AllByRecursion}
 use Rattle.std.proofs.lemmas.Grind.{flat_map-append}
 use Rattle.mysql_packet.specs.declared.framer.Payload.{Payload}
-use Rattle.mysql_packet.specs.declared.framer.Fault.{Fault}
+use Rattle.mysql_packet.specs.declared.framer.HeaderFault.{HeaderFault}
 use Rattle.mysql_packet.specs.Frames.{full, packets, frame, header, header_fault, stream_of, IsPartial, IsTaken, Splits, IsRefusedAfter}
 use Rattle.mysql_packet.specs.Framing.{Framing, HasFramed}
 use Rattle.mysql_packet.proofs.FrontLemmas.{length-packets, not_refused}
@@ -33,7 +33,7 @@ module _ (limit : ℕ) (stream : List ℕ) (before : List Payload) (rest piece :
   splits_on more rest' t = record { whole = joined_stream more rest' t.whole; each = all-append (IsTaken limit) before more s.each t.each; partial = t.partial }
 
 -- what a framer has read, once the payloads were taken off the bytes it held and the piece
-pub reads_on : (old : Framing) (piece bytes rest : List ℕ) (used : ℕ) (payloads : List Payload) (fault : Option Fault) → bytes ≡ old.rest ++ piece → rest ≡ drop used bytes
+pub reads_on : (old : Framing) (piece bytes rest : List ℕ) (used : ℕ) (payloads : List Payload) (fault : Option HeaderFault) → bytes ≡ old.rest ++ piece → rest ≡ drop used bytes
     → MatchOption fault (Splits old.limit bytes payloads (drop used bytes)) (IsRefusedAfter old.limit bytes payloads) → IsNone fault
     → (stream : List ℕ) (before : List Payload) → HasFramed old stream before
     → HasFramed (record { limit = old.limit; rest = rest; fault = fault }) (stream ++ piece) (before ++ payloads)

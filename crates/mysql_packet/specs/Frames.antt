@@ -5,7 +5,7 @@ use Rattle.std.specs.List.{AllByRecursion}
 use Rattle.vt_value.specs.declared.refusal.Refusal.{Refusal}
 use Rattle.vt_value.specs.declared.refusal.Refusal.TheVariants.{PacketTooLarge, PacketsOutOfOrder}
 use Rattle.mysql_packet.specs.declared.framer.Payload.{Payload}
-use Rattle.mysql_packet.specs.declared.framer.Fault.{Fault}
+use Rattle.mysql_packet.specs.declared.framer.HeaderFault.{HeaderFault}
 use Rattle.mysql_packet.specs.Numbers.{little_endian}
 
 abbrev pub full : ℕ
@@ -92,7 +92,7 @@ pub record Splits (limit : ℕ) (bytes : List ℕ) (payloads : List Payload) (re
   pub partial : IsPartial limit rest
 
 -- the stream begins with these payloads, and then full parts of one more, and a header that is refused
-pub record IsRefusedAfter (limit : ℕ) (bytes : List ℕ) (payloads : List Payload) (fault : Fault) : Type 0 where
+pub record IsRefusedAfter (limit : ℕ) (bytes : List ℕ) (payloads : List Payload) (fault : HeaderFault) : Type 0 where
   pub first : ℕ
   pub parts : List (List ℕ)
   pub len : ℕ

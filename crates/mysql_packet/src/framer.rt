@@ -20,7 +20,7 @@ pub struct Payload {
 
 /// The header that a framer refuses: why, and its sequence number.
 #[derive(Clone, Copy, Debug, PartialEq, Eq)]
-pub struct Fault {
+pub struct HeaderFault {
     pub refusal: Refusal,
     pub number: u8,
 }
@@ -29,7 +29,7 @@ pub struct Fault {
 #[derive(Debug, Drop)]
 pub struct Fed {
     pub payloads: Items<Payload>,
-    pub fault: Option<Fault>,
+    pub fault: Option<HeaderFault>,
 }
 
 /// Reads the payloads of a stream of packets that comes in pieces.
@@ -37,7 +37,7 @@ pub struct Fed {
 pub struct Framer {
     limit: usize,
     pending: Vec<u8>,
-    fault: Option<Fault>,
+    fault: Option<HeaderFault>,
 }
 
 impl Model for Framer {

@@ -6,7 +6,7 @@ ghost use Rattle.mysql_packet.specs.Frames.{full, header_fault};
 ghost use Rattle.mysql_packet.specs.Numbers.{little_endian};
 ghost use Rattle.mysql_packet.specs.inner.Reading.{size_of, payload_at, IsNextHeader, IsFront, TakesPayloads};
 
-use crate::framer::{Fault, Payload};
+use crate::framer::{HeaderFault, Payload};
 use crate::payload::{FULL_PART, HEADER_LEN};
 use std::alloc::{AllocError, Global};
 use vt_value::{Items, Refusal};
@@ -17,7 +17,7 @@ pub(crate) enum Front {
     /// Less than a payload.
     Waits,
     /// A header that is refused.
-    Refused(Fault),
+    Refused(HeaderFault),
     /// A payload: its first sequence number, how many full parts it has, and the length of the last part.
     Whole(u8, usize, usize),
 }
@@ -27,7 +27,7 @@ pub(crate) enum Front {
 pub(crate) struct Taken {
     pub(crate) payloads: Items<Payload>,
     pub(crate) used: usize,
-    pub(crate) fault: Option<Fault>,
+    pub(crate) fault: Option<HeaderFault>,
 }
 
 fn part_len(low: u8, middle: u8, high: u8) -> usize
@@ -87,7 +87,7 @@ fn read_front(limit: usize, bytes: &[u8]) -> Front
         let (len, number) = read_header(rest);
         first = first_number(first, come, number);
         if let Some(refusal) = header_fault(limit, first, come, len, number) {
-            return Front::Refused(Fault { refusal, number });
+            return Front::Refused(HeaderFault { refusal, number });
         }
         if rest.len() - HEADER_LEN < len {
             return Front::Waits;

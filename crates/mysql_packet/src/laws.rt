@@ -2,7 +2,7 @@
 ghost use Rattle.std.specs.List.{AllByRecursion};
 ghost use Rattle.std.specs.Prelude.{◌≡◌, ◌+◌, ◌*◌, ◌/◌, ◌<◌, ℕ, List, [], length};
 ghost use Rattle.mysql_packet.specs.Frames.{full, stream_of, IsRefusedAfter, IsTaken, Splits};
-ghost use Rattle.mysql_packet.specs.declared.framer.Fault.{Fault};
+ghost use Rattle.mysql_packet.specs.declared.framer.HeaderFault.{HeaderFault};
 ghost use Rattle.mysql_packet.specs.declared.framer.Payload.{Payload};
 
 // Promise: A stream has these payloads and no others, and less than a payload is bounded by the limit
@@ -11,9 +11,9 @@ ghost use Rattle.mysql_packet.specs.declared.framer.Payload.{Payload};
 pub fn one_framing()
     ensures split { (limit : ℕ) (bytes : List ℕ) (ps qs : List Payload) (r s : List ℕ) →
         Splits limit bytes ps r → Splits limit bytes qs s → (ps ≡ qs) × (r ≡ s) }
-    ensures refused { (limit : ℕ) (bytes : List ℕ) (ps qs : List Payload) (f g : Fault) →
+    ensures refused { (limit : ℕ) (bytes : List ℕ) (ps qs : List Payload) (f g : HeaderFault) →
         IsRefusedAfter limit bytes ps f → IsRefusedAfter limit bytes qs g → (ps ≡ qs) × (f ≡ g) }
-    ensures apart { (limit : ℕ) (bytes : List ℕ) (ps qs : List Payload) (r : List ℕ) (f : Fault) →
+    ensures apart { (limit : ℕ) (bytes : List ℕ) (ps qs : List Payload) (r : List ℕ) (f : HeaderFault) →
         Splits limit bytes ps r → IsRefusedAfter limit bytes qs f → ⊥ }
 {}
 

@@ -6,6 +6,6 @@ mod front;
 mod laws;
 mod payload;
 
-pub use framer::{Fault, Fed, Framer, Payload};
+pub use framer::{Fed, Framer, HeaderFault, Payload};
 pub use laws::{bounded_rest, one_framing, read_back};
 pub use payload::put_payload;

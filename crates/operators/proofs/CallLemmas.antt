@@ -4,7 +4,7 @@ use Rattle.std.proofs.lemmas.Bool.{ne_eqb}
 use Rattle.std.specs.Prelude.{OnErr}
 use Rattle.std.specs.declared.result.Result.{Result}
 use Rattle.std.specs.declared.result.Result.TheVariants.{Ok, Err}
-use Rattle.sql_tree.specs.declared.Limit as sql
+use Rattle.sql_tree.specs.declared.LimitClause as sql
 use Rattle.operators.specs.Calls.{Calls, CallsAtMost, most_calls}
 use Rattle.operators.specs.declared.slicing.Limit.{Limit}
 use Rattle.operators.specs.inner.Limits.{calls_left, Spends, LimitCall}
@@ -30,7 +30,7 @@ pub at_error : {T E P : Type 0} (r : Result T E) → P → OnErr r P
 at_error (Ok x) p = tt
 at_error (Err e) p = p
 
-at_most_all : (l : sql.Limit) (none : Bool) → (if none then 0 else l.offset + l.count) ≤ l.offset + l.count
+at_most_all : (l : sql.LimitClause) (none : Bool) → (if none then 0 else l.offset + l.count) ≤ l.offset + l.count
 at_most_all l true = omega arith
 at_most_all l false = omega arith
 
@@ -38,20 +38,20 @@ some_rows : (n : ℕ) → 0 < n → (n == 0) ≡ false
 some_rows n h = ne_eqb n 0 (λ e. absurd (omega (arith, e)))
 
 -- a limit passes over its offset's rows and then pulls one, or fails before
-pub spends_row : (failed : Bool) (l : sql.Limit) (count : ℕ) → failed ≡ false → 0 < l.count → count + 1 ≤ l.count →
+pub spends_row : (failed : Bool) (l : sql.LimitClause) (count : ℕ) → failed ≡ false → 0 < l.count → count + 1 ≤ l.count →
     Spends failed (Some l) (l.offset + 1) failed (Some (record { count = count; offset = 0 }))
 spends_row failed l count stands some less = rw (stands, some_rows l.count some) (omega (arith, at_most_all (record { count = count; offset = 0 }) (count == 0), less))
 
-pub spends_failing : (failed : Bool) (l : sql.Limit) (n : ℕ) → failed ≡ false → 0 < l.count → n ≤ l.offset + l.count → Spends failed (Some l) n true (Some l)
+pub spends_failing : (failed : Bool) (l : sql.LimitClause) (n : ℕ) → failed ≡ false → 0 < l.count → n ≤ l.offset + l.count → Spends failed (Some l) n true (Some l)
 spends_failing failed l n stands some h = rw (stands, some_rows l.count some) (omega (arith, h))
 
-pub fresh_calls : (rest : Option sql.Limit) (calls : ℕ) → calls_left false rest calls ≡ most_calls rest calls
+pub fresh_calls : (rest : Option sql.LimitClause) (calls : ℕ) → calls_left false rest calls ≡ most_calls rest calls
 fresh_calls None calls = refl
 fresh_calls (Some l) calls = refl
 
 -- however often a limit is called
 module _ {O : Type 0} (call : O → O → Type 0) where
-  left_then : (failed failed' : Bool) (rest rest' : Option sql.Limit) (n calls : ℕ) → Spends failed rest n failed' rest' →
+  left_then : (failed failed' : Bool) (rest rest' : Option sql.LimitClause) (n calls : ℕ) → Spends failed rest n failed' rest' →
       n + calls_left failed' rest' calls ≤ calls_left failed rest (suc calls)
   left_then failed failed' None None n calls spends = omega (arith, spends)
   left_then failed failed' None (Some l) n calls spends = absurd spends

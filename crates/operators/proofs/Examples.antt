@@ -24,7 +24,7 @@ all_left : sliced (Some (record { count = 9; offset = 4 })) all ≡ n 7 ∷ n 9 
 all_left = refl
 
 abbrev key : ℕ → Bool → Key ℕ
-key place down = record { column = place; descending = down }
+key ordinal down = record { column = ordinal; descending = down }
 
 -- NULL first ascending, last descending
 null_first : row_cmp (key 0 false ∷ []) (Null ∷ []) (n 0 ∷ []) ≡ Less
@@ -37,8 +37,8 @@ null_last = refl
 second_key : row_cmp (key 1 false ∷ key 0 true ∷ []) (n 1 ∷ n 5 ∷ []) (n 2 ∷ n 5 ∷ []) ≡ Greater
 second_key = refl
 
-behind_the_end : row_cmp (key 3 false ∷ []) (n 1 ∷ []) (n 2 ∷ n 5 ∷ []) ≡ Equal
-behind_the_end = refl
+after_the_end : row_cmp (key 3 false ∷ []) (n 1 ∷ []) (n 2 ∷ n 5 ∷ []) ≡ Equal
+after_the_end = refl
 
 lists_of_values : keys_cmp (key 7 false ∷ key 9 false ∷ []) (n 1 ∷ n 2 ∷ []) (n 1 ∷ n 3 ∷ []) ≡ Less
 lists_of_values = refl

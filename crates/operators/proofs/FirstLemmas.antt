@@ -22,74 +22,74 @@ begins (Some x) rows = refl
 
 module _ {O : Type 0} where
   -- the row of a head that was read
-  pub row_read : (heads : List (Head O)) (place : ℕ) (head : Head O) → place < length heads → head_row heads place ≡ (get_or heads place head).row
-  row_read heads place head within = get_or-map (λ h. h.row) heads place head None within
+  pub row_read : (heads : List (Head O)) (ordinal : ℕ) (head : Head O) → ordinal < length heads → head_row heads ordinal ≡ (get_or heads ordinal head).row
+  row_read heads ordinal head within = get_or-map (λ h. h.row) heads ordinal head None within
 
   -- what the rows of a head begin with
-  pub rows_begin : (to_come : O → List Row) (heads : List (Head O)) (place : ℕ) → first_of (get_or (map (head_rows to_come) heads) place []) ≡ head_row heads place
-  rows_begin to_come [] place = refl
+  pub rows_begin : (to_come : O → List Row) (heads : List (Head O)) (ordinal : ℕ) → first_of (get_or (map (head_rows to_come) heads) ordinal []) ≡ head_row heads ordinal
+  rows_begin to_come [] ordinal = refl
   rows_begin to_come (head ∷ heads) zero = begins head.row (to_come head.input)
-  rows_begin to_come (head ∷ heads) (suc place) = rows_begin to_come heads place
+  rows_begin to_come (head ∷ heads) (suc ordinal) = rows_begin to_come heads ordinal
 
 module _ {O : Type 0} (keys : List (Key ℕ)) (heads : List (Head O)) where
   abbrev pub FirstSoFar : ℕ → ℕ → Type 0
-  FirstSoFar least place =
-      (least < place)
+  FirstSoFar least ordinal =
+      (least < ordinal)
       × ((j : ℕ) → j < least → earlier (row_lt keys) (head_row heads least) (head_row heads j) ≡ true)
-      × ((j : ℕ) → least < j → j < place → earlier (row_lt keys) (head_row heads j) (head_row heads least) ≡ false)
+      × ((j : ℕ) → least < j → j < ordinal → earlier (row_lt keys) (head_row heads j) (head_row heads least) ≡ false)
 
-  pub stays : (least place : ℕ) → FirstSoFar least place → earlier (row_lt keys) (head_row heads place) (head_row heads least) ≡ false → FirstSoFar least (place + 1)
-  stays least place (less, before, behind) later = (
+  pub stays : (least ordinal : ℕ) → FirstSoFar least ordinal → earlier (row_lt keys) (head_row heads ordinal) (head_row heads least) ≡ false → FirstSoFar least (ordinal + 1)
+  stays least ordinal (less, before, trailing) later = (
     omega (arith, less),
     before,
     λ j more within. ⊎_elim
         (λ e. subst (λ (i : ℕ). earlier (row_lt keys) (head_row heads i) (head_row heads least) ≡ false) (sym e) later)
-        (⊎_elim (behind j more) (λ beyond. absurd (omega (arith, beyond, within))))
-        (cases_order j place),
+        (⊎_elim (trailing j more) (λ beyond. absurd (omega (arith, beyond, within))))
+        (cases_order j ordinal),
   )
 
-  pub turns : (least place : ℕ) → FirstSoFar least place → earlier (row_lt keys) (head_row heads place) (head_row heads least) ≡ true → FirstSoFar place (place + 1)
-  turns least place (less, before, behind) sooner = (
+  pub turns : (least ordinal : ℕ) → FirstSoFar least ordinal → earlier (row_lt keys) (head_row heads ordinal) (head_row heads least) ≡ true → FirstSoFar ordinal (ordinal + 1)
+  turns least ordinal (less, before, trailing) sooner = (
     omega arith,
     λ j below. ⊎_elim
-        (λ e. subst (λ (i : ℕ). earlier (row_lt keys) (head_row heads place) (head_row heads i) ≡ true) (sym e) sooner)
+        (λ e. subst (λ (i : ℕ). earlier (row_lt keys) (head_row heads ordinal) (head_row heads i) ≡ true) (sym e) sooner)
         (⊎_elim
-        (λ lower. earlier_then (row_lt keys) (row_lt-order keys) (head_row heads place) (head_row heads least) (head_row heads j) sooner (before j lower))
-        (λ higher. earlier_than (row_lt keys) (row_lt-order keys) (head_row heads place) (head_row heads least) (head_row heads j) sooner (behind j higher below)))
+        (λ lower. earlier_then (row_lt keys) (row_lt-order keys) (head_row heads ordinal) (head_row heads least) (head_row heads j) sooner (before j lower))
+        (λ higher. earlier_than (row_lt keys) (row_lt-order keys) (head_row heads ordinal) (head_row heads least) (head_row heads j) sooner (trailing j higher below)))
         (cases_order j least),
     λ j more within. absurd (omega (arith, more, within)),
   )
 
 -- what a call makes of a merge
-module _ {O : Type 0} (keys : List (Key ℕ)) (to_come : O → List Row) (heads : List (Head O)) (place : ℕ) (first : IsFirst (row_lt keys) heads place) where
+module _ {O : Type 0} (keys : List (Key ℕ)) (to_come : O → List Row) (heads : List (Head O)) (ordinal : ℕ) (first : IsFirst (row_lt keys) heads ordinal) where
   abbrev rows : List (List Row)
   rows = map (head_rows to_come) heads
 
-  at_place : (head : Head O) → head ≡ get_or heads place head → (list : List Row) → head_rows to_come head ≡ list → get_or rows place [] ≡ list
-  at_place head is list same = get_or-map (head_rows to_come) heads place head [] first.within ∙ ap (head_rows to_come) (sym is) ∙ same
+  at_place : (head : Head O) → head ≡ get_or heads ordinal head → (list : List Row) → head_rows to_come head ≡ list → get_or rows ordinal [] ≡ list
+  at_place head is list same = get_or-map (head_rows to_come) heads ordinal head [] first.within ∙ ap (head_rows to_come) (sym is) ∙ same
 
-  pub row_taken : (head head' : Head O) → head ≡ get_or heads place head → (row : Row) → head_rows to_come head ≡ row ∷ head_rows to_come head'
-      → all_merged (row_lt keys) rows ≡ row ∷ all_merged (row_lt keys) (map (head_rows to_come) (set heads place head'))
+  pub row_taken : (head head' : Head O) → head ≡ get_or heads ordinal head → (row : Row) → head_rows to_come head ≡ row ∷ head_rows to_come head'
+      → all_merged (row_lt keys) rows ≡ row ∷ all_merged (row_lt keys) (map (head_rows to_come) (set heads ordinal head'))
   row_taken head head' is row same =
       let here = at_place head is (row ∷ head_rows to_come head') same in
-      let begin : Some row ≡ head_row heads place = ap first_of (sym here) ∙ rows_begin to_come heads place in
-      all_taken (row_lt keys) rows place row (head_rows to_come head') here
+      let begin : Some row ≡ head_row heads ordinal = ap first_of (sym here) ∙ rows_begin to_come heads ordinal in
+      all_taken (row_lt keys) rows ordinal row (head_rows to_come head') here
       (λ j less. rw (begin, rows_begin to_come heads j) (first.before j less))
-      (λ j more within. rw (begin, rows_begin to_come heads j) (first.behind j more (omega (arith, within, length-map heads (head_rows to_come)))))
-      ∙ ap (λ (lists : List (List Row)). row ∷ all_merged (row_lt keys) lists) (sym (map-set (head_rows to_come) heads place head'))
+      (λ j more within. rw (begin, rows_begin to_come heads j) (first.trailing j more (omega (arith, within, length-map heads (head_rows to_come)))))
+      ∙ ap (λ (lists : List (List Row)). row ∷ all_merged (row_lt keys) lists) (sym (map-set (head_rows to_come) heads ordinal head'))
 
-  pub none_taken : (head head' : Head O) → head ≡ get_or heads place head → head_rows to_come head ≡ [] → head_rows to_come head' ≡ []
-      → (all_merged (row_lt keys) rows ≡ []) × (all_merged (row_lt keys) (map (head_rows to_come) (set heads place head')) ≡ [])
+  pub none_taken : (head head' : Head O) → head ≡ get_or heads ordinal head → head_rows to_come head ≡ [] → head_rows to_come head' ≡ []
+      → (all_merged (row_lt keys) rows ≡ []) × (all_merged (row_lt keys) (map (head_rows to_come) (set heads ordinal head')) ≡ [])
   none_taken head head' is none still =
       let here = at_place head is [] none in
-      let begin : None ≡ head_row heads place = ap first_of (sym here) ∙ rows_begin to_come heads place in
+      let begin : None ≡ head_row heads ordinal = ap first_of (sym here) ∙ rows_begin to_come heads ordinal in
       let ended : all_merged (row_lt keys) rows ≡ [] =
-      all_ended (row_lt keys) rows place here
+      all_ended (row_lt keys) rows ordinal here
       (λ j less. subst (λ (b : Option Row). earlier (row_lt keys) b (first_of (get_or rows j [])) ≡ true) (sym begin) (rw (rows_begin to_come heads j) (first.before j less)))
-      (λ j more within. subst (λ (b : Option Row). earlier (row_lt keys) (first_of (get_or rows j [])) b ≡ false) (sym begin) (rw (rows_begin to_come heads j) (first.behind j more (omega (arith, within, length-map heads (head_rows to_come))))))
+      (λ j more within. subst (λ (b : Option Row). earlier (row_lt keys) (first_of (get_or rows j [])) b ≡ false) (sym begin) (rw (rows_begin to_come heads j) (first.trailing j more (omega (arith, within, length-map heads (head_rows to_come))))))
       in
-      let same : map (head_rows to_come) (set heads place head') ≡ rows =
-      map-set (head_rows to_come) heads place head' ∙ ap (set rows place) (still ∙ sym here) ∙ set-get_or rows place []
+      let same : map (head_rows to_come) (set heads ordinal head') ≡ rows =
+      map-set (head_rows to_come) heads ordinal head' ∙ ap (set rows ordinal) (still ∙ sym here) ∙ set-get_or rows ordinal []
       in
       (ended, ap (all_merged (row_lt keys)) same ∙ ended)
 

@@ -45,40 +45,40 @@ module _ {X : Type 0} (lt : X → X → Bool) where
   taken_here x xs [] p = ap (λ (l : List X). x ∷ l) (sym (merged_none xs))
   taken_here x xs (y ∷ ys) p = from_second x y xs ys (merged lt xs) p
 
-  taken_behind : (x : X) (list other : List X) → earlier lt (Some x) (first_of list) ≡ true → merged lt list (x ∷ other) ≡ x ∷ merged lt list other
-  taken_behind x [] other p = refl
-  taken_behind x (y ∷ ys) other p = from_first y x ys other (merged lt ys) p
+  taken_after : (x : X) (list other : List X) → earlier lt (Some x) (first_of list) ≡ true → merged lt list (x ∷ other) ≡ x ∷ merged lt list other
+  taken_after x [] other p = refl
+  taken_after x (y ∷ ys) other p = from_first y x ys other (merged lt ys) p
 
   -- the first of the least is what a merge gives first
-  pub all_taken : (lists : List (List X)) (place : ℕ) (x : X) (xs : List X) → get_or lists place [] ≡ x ∷ xs
-      → ((j : ℕ) → j < place → earlier lt (Some x) (first_of (get_or lists j [])) ≡ true)
-      → ((j : ℕ) → place < j → j < length lists → AtLeast x (get_or lists j []))
-      → all_merged lt lists ≡ x ∷ all_merged lt (set lists place xs)
-  all_taken [] place x xs here before behind = cc
-  all_taken (list ∷ lists) zero x xs here before behind =
+  pub all_taken : (lists : List (List X)) (ordinal : ℕ) (x : X) (xs : List X) → get_or lists ordinal [] ≡ x ∷ xs
+      → ((j : ℕ) → j < ordinal → earlier lt (Some x) (first_of (get_or lists j [])) ≡ true)
+      → ((j : ℕ) → ordinal < j → j < length lists → AtLeast x (get_or lists j []))
+      → all_merged lt lists ≡ x ∷ all_merged lt (set lists ordinal xs)
+  all_taken [] ordinal x xs here before trailing = cc
+  all_taken (list ∷ lists) zero x xs here before trailing =
       ap (λ (l : List X). merged lt l (all_merged lt lists)) here
-      ∙ taken_here x xs (all_merged lt lists) (all_least x lists (λ j less. behind (suc j) (omega arith) (omega (arith, less))))
-  all_taken (list ∷ lists) (suc place) x xs here before behind =
-      ap (merged lt list) (all_taken lists place x xs here (λ j less. before (suc j) (omega (arith, less))) (λ j more less. behind (suc j) (omega (arith, more)) (omega (arith, less))))
-      ∙ taken_behind x list (all_merged lt (set lists place xs)) (before 0 (omega arith))
+      ∙ taken_here x xs (all_merged lt lists) (all_least x lists (λ j less. trailing (suc j) (omega arith) (omega (arith, less))))
+  all_taken (list ∷ lists) (suc ordinal) x xs here before trailing =
+      ap (merged lt list) (all_taken lists ordinal x xs here (λ j less. before (suc j) (omega (arith, less))) (λ j more less. trailing (suc j) (omega (arith, more)) (omega (arith, less))))
+      ∙ taken_after x list (all_merged lt (set lists ordinal xs)) (before 0 (omega arith))
 
   -- where the first of the least is none, nothing is left
-  none_behind : (b : Option X) → earlier lt b None ≡ false → (list : List X) → b ≡ first_of list → list ≡ []
-  none_behind b e [] same = refl
-  none_behind None e (y ∷ ys) same = cc
-  none_behind (Some x) e (y ∷ ys) same = absurd (true≢false e)
+  none_after : (b : Option X) → earlier lt b None ≡ false → (list : List X) → b ≡ first_of list → list ≡ []
+  none_after b e [] same = refl
+  none_after None e (y ∷ ys) same = cc
+  none_after (Some x) e (y ∷ ys) same = absurd (true≢false e)
 
-  pub all_ended : (lists : List (List X)) (place : ℕ) → get_or lists place [] ≡ []
-      → ((j : ℕ) → j < place → earlier lt None (first_of (get_or lists j [])) ≡ true)
-      → ((j : ℕ) → place < j → j < length lists → earlier lt (first_of (get_or lists j [])) None ≡ false)
+  pub all_ended : (lists : List (List X)) (ordinal : ℕ) → get_or lists ordinal [] ≡ []
+      → ((j : ℕ) → j < ordinal → earlier lt None (first_of (get_or lists j [])) ≡ true)
+      → ((j : ℕ) → ordinal < j → j < length lists → earlier lt (first_of (get_or lists j [])) None ≡ false)
       → all_merged lt lists ≡ []
-  all_ended [] place here before behind = refl
-  all_ended (list ∷ lists) (suc place) here before behind = absurd (true≢false (sym (before 0 (omega arith))))
-  all_ended (list ∷ []) zero here before behind = ap (λ (l : List X). merged lt l []) here
-  all_ended (list ∷ next ∷ lists) zero here before behind =
+  all_ended [] ordinal here before trailing = refl
+  all_ended (list ∷ lists) (suc ordinal) here before trailing = absurd (true≢false (sym (before 0 (omega arith))))
+  all_ended (list ∷ []) zero here before trailing = ap (λ (l : List X). merged lt l []) here
+  all_ended (list ∷ next ∷ lists) zero here before trailing =
       ap (λ (l : List X). merged lt l (all_merged lt (next ∷ lists))) here
-      ∙ all_ended (next ∷ lists) zero (none_behind (first_of next) (behind 1 (omega arith) (omega arith)) next refl) (λ j less. absurd (omega (arith, less)))
-      (λ j more less. behind (suc j) (omega arith) (omega (arith, less)))
+      ∙ all_ended (next ∷ lists) zero (none_after (first_of next) (trailing 1 (omega arith) (omega arith)) next refl) (λ j less. absurd (omega (arith, less)))
+      (λ j more less. trailing (suc j) (omega arith) (omega (arith, less)))
 
   -- the merge has the elements of both lists
   from_both : (x : X) (xs : List X) (rest : List X → List X) → ((ys : List X) → IsPermutation (xs ++ ys) (rest ys)) → (ys : List X) → IsPermutation ((x ∷ xs) ++ ys) (merged_from lt x xs rest ys)

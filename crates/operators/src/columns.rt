@@ -8,34 +8,34 @@ use crate::pulling::Operator;
 use std::alloc::Global;
 use vt_value::{Items, Refusal, Row, Value, copy};
 
-fn copy_at(alloc: Global, row: &Row, place: usize) -> Result<Value, Refusal>
-    ensures ok { IfOk result (λ v. v ≡ value_at row.now place) }
+fn copy_at(alloc: Global, row: &Row, ordinal: usize) -> Result<Value, Refusal>
+    ensures ok { IfOk result (λ v. v ≡ value_at row.now ordinal) }
     ensures err { IfErr result (λ e. e ≡ Refusal.OutOfMemory) }
 {
-    match row.as_slice().get(place) {
+    match row.as_slice().get(ordinal) {
         Some(value) => copy(alloc, value),
         None => Ok(Value::Null),
     }
 }
 
 /// The values of a row in these places, NULL after its end. Refuses only for want of memory.
-pub fn project_row(alloc: Global, places: &[usize], row: &Row) -> Result<Row, Refusal>
-    ensures ok { IfOk result (λ shown. shown ≡ columns_of places.now row.now) }
+pub fn project_row(alloc: Global, ordinals: &[usize], row: &Row) -> Result<Row, Refusal>
+    ensures ok { IfOk result (λ shown. shown ≡ columns_of ordinals.now row.now) }
     ensures err { IfErr result (λ e. e ≡ Refusal.OutOfMemory) }
 {
-    let mut values = Items::from_vec(Vec::with_capacity(alloc, places.len())?);
-    for place in places {
-        values.push(copy_at(alloc, row, *place)?)?;
+    let mut values = Items::from_vec(Vec::with_capacity(alloc, ordinals.len())?);
+    for ordinal in ordinals {
+        values.push(copy_at(alloc, row, *ordinal)?)?;
     }
     Ok(values)
 }
 
 // Whether these are the first places, each in its turn.
-fn are_in_turn(places: &[usize]) -> bool
-    ensures { result ≡ true → places.now ≡ range_with_len 0 (length places.now) }
+fn are_in_turn(ordinals: &[usize]) -> bool
+    ensures { result ≡ true → ordinals.now ≡ range_with_len 0 (length ordinals.now) }
 {
-    for n in 0..places.len() {
-        if places[n] != n {
+    for n in 0..ordinals.len() {
+        if ordinals[n] != n {
             return false;
         }
     }
@@ -43,29 +43,29 @@ fn are_in_turn(places: &[usize]) -> bool
 }
 
 // Whether all values of a row are in these places, in their order.
-fn shows_whole(places: &[usize], row: &Row) -> bool
-    ensures { result ≡ true → columns_of places.now row.now ≡ row.now }
+fn shows_whole(ordinals: &[usize], row: &Row) -> bool
+    ensures { result ≡ true → columns_of ordinals.now row.now ≡ row.now }
 {
-    places.len() == row.len() && are_in_turn(places)
+    ordinals.len() == row.len() && are_in_turn(ordinals)
 }
 
 /// The columns of an input's rows in given places. A row of which all are shown, in their order, is passed on as it is.
 #[derive(Drop)]
 pub struct Project<O> {
     input: O,
-    places: Items<usize>,
+    ordinals: Items<usize>,
     failed: bool,
 }
 
 impl<O: Operator> Project<O> {
     /// Of each row of the input the values in these places, NULL after its end.
-    pub fn new(input: O, places: Items<usize>) -> Project<O>
-        ensures rows { ⟦<Project<O> as Operator>⟧.to_come result ≡ map (columns_of places) (O.to_come input) }
+    pub fn new(input: O, ordinals: Items<usize>) -> Project<O>
+        ensures rows { ⟦<Project<O> as Operator>⟧.to_come result ≡ map (columns_of ordinals) (O.to_come input) }
         ensures fresh { ⟦<Project<O> as Operator>⟧.has_failed result ≡ O.has_failed input }
     {
         Project {
             input,
-            places,
+            ordinals,
             failed: false,
         }
     }
@@ -75,7 +75,7 @@ impl<O: Operator> Operator for Project<O> {
     ghost use Rattle.std.specs.Prelude.{◌||◌, map};
     ghost use Rattle.operators.specs.Slices.{columns_of};
 
-    ghost to_come = { λ project. map (columns_of project.places) (O.to_come project.input) };
+    ghost to_come = { λ project. map (columns_of project.ordinals) (O.to_come project.input) };
 
     ghost has_failed = { λ project. project.failed || O.has_failed project.input };
 
@@ -86,10 +86,10 @@ impl<O: Operator> Operator for Project<O> {
         let Some(row) = self.input.next(alloc)? else {
             return Ok(None);
         };
-        if shows_whole(self.places.as_slice(), &row) {
+        if shows_whole(self.ordinals.as_slice(), &row) {
             return Ok(Some(row));
         }
-        let shown = project_row(alloc, self.places.as_slice(), &row);
+        let shown = project_row(alloc, self.ordinals.as_slice(), &row);
         self.failed = shown.is_err();
         Ok(Some(shown?))
     }

@@ -70,9 +70,9 @@ fn first<O>(keys: &[Key<usize>], heads: &[Head<O>]) -> usize
     ensures { IsFirst (row_lt keys.now) heads.now result }
 {
     let mut least = 0;
-    for place in 1..heads.len() {
-        if comes_before(keys, &heads[place].row, &heads[least].row) {
-            least = place;
+    for ordinal in 1..heads.len() {
+        if comes_before(keys, &heads[ordinal].row, &heads[least].row) {
+            least = ordinal;
         }
     }
     least
@@ -123,8 +123,8 @@ impl<O: Operator> Operator for MergeSort<'_, O> {
         if self.heads.is_empty() {
             return Ok(None);
         }
-        let place = first(self.keys, &self.heads);
-        let taken = self.heads[place].take(alloc);
+        let ordinal = first(self.keys, &self.heads);
+        let taken = self.heads[ordinal].take(alloc);
         self.failed = taken.is_err();
         taken
     }

@@ -14,7 +14,7 @@ use vt_value::{Items, Refusal, Row};
 #[derive(Drop)]
 pub struct ShownRows {
     rows: Items<Row>,
-    places: Option<Items<usize>>,
+    ordinals: Option<Items<usize>>,
 }
 
 impl Model for ShownRows {
@@ -24,17 +24,17 @@ impl Model for ShownRows {
 
     ghost Value = { List (List V) };
 
-    ghost view = { λ s. shown_at s.places s.rows };
+    ghost view = { λ s. shown_at s.ordinals s.rows };
 }
 
 impl ShownRows {
     // Promise: Of rows the columns in given places are shown, each row as it is pulled; what is held are the rows as they were read
     // With: ShownRows::len, ShownRows::whole, ShownRows::pulled, ShownRows::into_rows, PulledRows::next
     /// Of each of these rows the values in these places, NULL after its end, or the row as it is if there are no places. Takes no memory.
-    pub fn new(rows: Items<Row>, places: Option<Items<usize>>) -> ShownRows
-        ensures { result ≡ shown_at places rows }
+    pub fn new(rows: Items<Row>, ordinals: Option<Items<usize>>) -> ShownRows
+        ensures { result ≡ shown_at ordinals rows }
     {
-        ShownRows { rows, places }
+        ShownRows { rows, ordinals }
     }
 
     /// How many rows there are.
@@ -48,7 +48,7 @@ impl ShownRows {
     pub fn whole(&self) -> Option<&[Row]>
         ensures { IfSome result (λ rows. rows.now ≡ self.now) }
     {
-        match self.places {
+        match self.ordinals {
             None => Some(self.rows.as_slice()),
             Some(_) => None,
         }
@@ -60,15 +60,15 @@ impl ShownRows {
         ensures fresh { IfOk result (λ made. ⟦<PulledRows as Operator>⟧.has_failed made ≡ false) }
         ensures err { IfErr result (λ e. e ≡ Refusal.OutOfMemory) }
     {
-        let ShownRows { rows, places } = self;
+        let ShownRows { rows, ordinals } = self;
         match Rows::new(alloc, rows) {
             Ok(rows) => Ok(PulledRows {
                 rows,
-                places,
+                ordinals,
                 failed: false,
             }),
             Err(refusal) => {
-                drop(places);
+                drop(ordinals);
                 Err(refusal)
             }
         }
@@ -88,25 +88,25 @@ impl ShownRows {
 #[derive(Drop)]
 pub struct PulledRows {
     rows: Rows,
-    places: Option<Items<usize>>,
+    ordinals: Option<Items<usize>>,
     failed: bool,
 }
 
 /// A row as it is shown.
-fn shown(alloc: Global, places: &Option<Items<usize>>, row: Row) -> Result<Row, Refusal>
-    ensures ok { IfOk result (λ made. shown_at places.now (row ∷ []) ≡ made ∷ []) }
+fn shown(alloc: Global, ordinals: &Option<Items<usize>>, row: Row) -> Result<Row, Refusal>
+    ensures ok { IfOk result (λ made. shown_at ordinals.now (row ∷ []) ≡ made ∷ []) }
     ensures err { IfErr result (λ e. e ≡ Refusal.OutOfMemory) }
 {
-    match places {
+    match ordinals {
         None => Ok(row),
-        Some(places) => project_row(alloc, places.as_slice(), &row),
+        Some(ordinals) => project_row(alloc, ordinals.as_slice(), &row),
     }
 }
 
 impl Operator for PulledRows {
     ghost use Rattle.operators.specs.Slices.{shown_at};
 
-    ghost to_come = { λ pulled. shown_at pulled.places (⟦<Rows as Operator>⟧.to_come pulled.rows) };
+    ghost to_come = { λ pulled. shown_at pulled.ordinals (⟦<Rows as Operator>⟧.to_come pulled.rows) };
 
     ghost has_failed = { λ pulled. pulled.failed };
 
@@ -117,7 +117,7 @@ impl Operator for PulledRows {
         let Some(row) = self.rows.next(alloc)? else {
             return Ok(None);
         };
-        let made = shown(alloc, &self.places, row);
+        let made = shown(alloc, &self.ordinals, row);
         self.failed = made.is_err();
         Ok(Some(made?))
     }

@@ -13,7 +13,7 @@ use vt_value::{Refusal, Row};
 pub struct Limit<O> {
     input: O,
     /// What LIMIT still leaves of the rows that the input has.
-    rest: Option<sql_tree::Limit>,
+    rest: Option<sql_tree::LimitClause>,
     failed: bool,
 }
 
@@ -40,7 +40,7 @@ impl<O: Operator> Limit<O> {
     // With: Limit::next
     // Clauses: calls, call
     /// What `limit` leaves of the input's rows, all of them if it is `None`.
-    pub fn new(input: O, limit: Option<sql_tree::Limit>) -> Limit<O>
+    pub fn new(input: O, limit: Option<sql_tree::LimitClause>) -> Limit<O>
         ensures rows { ⟦<Limit<O> as Operator>⟧.to_come result ≡ sliced limit (O.to_come input) }
         ensures fresh { IsTrue (⟦<Limit<O> as Operator>⟧.has_failed result) → IsTrue (O.has_failed input) }
 
@@ -74,13 +74,13 @@ impl<O: Operator> Limit<O> {
         }
         pass_over(alloc, &mut self.input, limit.offset)?;
         let Some(row) = self.input.next(alloc)? else {
-            self.rest = Some(sql_tree::Limit {
+            self.rest = Some(sql_tree::LimitClause {
                 count: 0,
                 offset: 0,
             });
             return Ok(None);
         };
-        self.rest = Some(sql_tree::Limit {
+        self.rest = Some(sql_tree::LimitClause {
             count: limit.count - 1,
             offset: 0,
         });

@@ -9,11 +9,11 @@ use std::alloc::Global;
 use std::cmp::Ordering;
 use vt_value::{Items, Refusal, Row, Value, sort_order};
 
-fn at<'a>(row: &'a Row, place: usize, null: &'a Value) -> &'a Value
+fn at<'a>(row: &'a Row, ordinal: usize, null: &'a Value) -> &'a Value
     requires { null.now ≡ Value.Null }
-    ensures { result.now ≡ value_at row.now place }
+    ensures { result.now ≡ value_at row.now ordinal }
 {
-    match row.as_slice().get(place) {
+    match row.as_slice().get(ordinal) {
         Some(value) => value,
         None => null,
     }

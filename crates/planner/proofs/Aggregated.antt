@@ -5,7 +5,7 @@ use Rattle.std.specs.List.{list_any}
 use Rattle.sql_tree.specs.declared.Condition.{Condition}
 use Rattle.sql_tree.specs.declared.Item.{Item}
 use Rattle.sql_tree.specs.declared.Key.{Key}
-use Rattle.sql_tree.specs.declared.Limit.{Limit}
+use Rattle.sql_tree.specs.declared.LimitClause.{LimitClause}
 use Rattle.vschema.specs.declared.schema.Join.{Join}
 use Rattle.vschema.specs.declared.schema.Query.{Query}
 use Rattle.vschema.specs.declared.schema.Table.{Table}
@@ -18,7 +18,7 @@ has_any : List ℕ → Bool
 has_any [] = false
 has_any (n ∷ ns) = true
 
-by_fields : (table : ℕ) (join : Option Join) (items : List (Item ℕ)) (qualified : List Bool) (filter' : Option (Condition ℕ)) (group_by : List ℕ) (order_by : List (Key ℕ)) (limit : Option Limit)
+by_fields : (table : ℕ) (join : Option Join) (items : List (Item ℕ)) (qualified : List Bool) (filter' : Option (Condition ℕ)) (group_by : List ℕ) (order_by : List (Key ℕ)) (limit : Option LimitClause)
     → is_aggregated (record { table = table; join = join; items = items; qualified = qualified; filter = filter'; group_by = group_by; order_by = order_by; limit = limit })
     ≡ (list_any is_aggregate items || has_any group_by)
 unfolding has_any

@@ -10,15 +10,15 @@ use Rattle.sql_tree.specs.declared.Condition.{Condition, Compare, In, Not, And, 
 use Rattle.sql_tree.specs.declared.Item.{Item}
 use Rattle.sql_tree.specs.declared.Item.TheVariants as item
 use Rattle.sql_tree.specs.declared.Key.{Key}
-use Rattle.sql_tree.specs.declared.Limit.{Limit}
-use Rattle.vschema_document.specs.declared.column.ColumnType.TheVariants.{VarBinary}
+use Rattle.sql_tree.specs.declared.LimitClause.{LimitClause}
+use Rattle.vschema_json.specs.declared.column.ColumnType.TheVariants.{VarBinary}
 use Rattle.vschema.specs.declared.schema.Join.{Join}
 use Rattle.vschema.specs.declared.schema.Query.{Query}
 use Rattle.vschema.specs.declared.changes.Write.TheVariants.{Insert, Update, Delete}
 use Rattle.vschema.proofs.Example.{schema, t, u}
 use Rattle.planner.specs.declared.routes.Route.TheVariants as route
 use Rattle.planner.specs.Plans.{pushed, finish_of}
-use Rattle.planner.specs.Routes.{route_of, write_route, taken_places}
+use Rattle.planner.specs.Routes.{route_of, write_route, taken_ordinals}
 
 abbrev n : ℕ → Value
 n k = Int (pos k)
@@ -92,22 +92,22 @@ abbrev high : KeyRange
 high = record { begin = 0x80 ∷ []; end = None }
 
 -- odd ids lie in the high half, even ids in the low one
-five : taken_places t (route.EqualUnique (n 5)) (low ∷ high ∷ []) ≡ 1 ∷ []
+five : taken_ordinals t (route.EqualUnique (n 5)) (low ∷ high ∷ []) ≡ 1 ∷ []
 unfolding reverse_bits_onto
 five = refl
 
-odd_members : taken_places t (route.In (n 1 ∷ n 3 ∷ [])) (low ∷ high ∷ []) ≡ 1 ∷ []
+odd_members : taken_ordinals t (route.In (n 1 ∷ n 3 ∷ [])) (low ∷ high ∷ []) ≡ 1 ∷ []
 unfolding reverse_bits_onto
 odd_members = refl
 
-each : taken_places t route.Scatter (low ∷ high ∷ []) ≡ 0 ∷ 1 ∷ []
+each : taken_ordinals t route.Scatter (low ∷ high ∷ []) ≡ 0 ∷ 1 ∷ []
 each = refl
 
-no_shard : taken_places t route.None (low ∷ high ∷ []) ≡ []
+no_shard : taken_ordinals t route.None (low ∷ high ∷ []) ≡ []
 no_shard = refl
 
 -- SELECT c, COUNT(*) FROM t GROUP BY c ORDER BY c LIMIT 1: each shard gives all its groups, and the limit is the finish's
-abbrev counts : List (Item ℕ) → List (Key ℕ) → Option Limit → Query
+abbrev counts : List (Item ℕ) → List (Key ℕ) → Option LimitClause → Query
 counts items order_by limit = record { table = 0; join = None; items = items; qualified = []; filter = None; group_by = 1 ∷ []; order_by = order_by; limit = limit }
 
 abbrev by_c : Query
@@ -126,7 +126,7 @@ joined_counts : finish_of by_c
 joined_counts = refl
 
 -- the unsharded keyspace's own shard is none of these
-apart : taken_places t route.Unsharded (low ∷ high ∷ []) ≡ []
+apart : taken_ordinals t route.Unsharded (low ∷ high ∷ []) ≡ []
 apart = refl
 
 -- a join of t with a table whose key column, of texts of at most 2 bytes, is the third of a pair

@@ -26,7 +26,7 @@ use Rattle.sql_eval.proofs.AnswerLemmas.{kept_grouped, group_answer}
 use Rattle.sql_eval.proofs.GroupLemmas.{map_both, shares, IsKey, all_keys, group_row, grouped_is}
 use Rattle.planner.specs.declared.plans.Plan.{Plan}
 use Rattle.planner.specs.Routes.{takes, keys_of, route_of, table_at}
-use Rattle.planner.specs.Plans.{pushed_groups, piece_of, Shard, Pieces, routed}
+use Rattle.planner.specs.Plans.{pushed_groups, piece_of, ShardRows, Pieces, routed}
 use Rattle.planner.specs.Right.{rows_of_shards, LiesInPlace, IsRightPlan}
 use Rattle.planner.proofs.Aggregated.{groups_plan, same_aggregated}
 use Rattle.planner.proofs.KeptRows.{piece_kept, same_filter, no_filter, all_rows_are}
@@ -85,7 +85,7 @@ module _ (schema : VSchema) (q : Query) (joins : JoinsInPlace schema q) (aggrega
   abbrev p : Plan
   p = groups_plan t q
 
-  abbrev rows_on : Shard → List Row
+  abbrev rows_on : ShardRows → List Row
   rows_on s = source_rows q s.1
 
   abbrev kept_of : List Row → List Row
@@ -97,7 +97,7 @@ module _ (schema : VSchema) (q : Query) (joins : JoinsInPlace schema q) (aggrega
   abbrev joined : List Row → List Row
   joined rows = joined_rows (aggregates_of q.items) (length q.group_by) rows
 
-  aggregated_piece : (shard : Shard) → is_aggregated (piece_of t p shard.0) ≡ true
+  aggregated_piece : (shard : ShardRows) → is_aggregated (piece_of t p shard.0) ≡ true
   aggregated_piece shard =
       same_aggregated (piece_of t p shard.0) q (no_columns q.group_by (aggregates_of q.items) ∙ some_aggregate q.items) refl ∙ aggregated
 
@@ -118,7 +118,7 @@ module _ (schema : VSchema) (q : Query) (joins : JoinsInPlace schema q) (aggrega
   shown_groups rows = shown_each rows (group_values q.group_by rows) (all_keys q.group_by rows) ∙ sym (grouped_is q.group_by q.items rows)
 
   -- a shard's list has the groups of what the query keeps there
-  pub first : (shard : Shard) → LiesInPlace schema t.keyspace (source_tables q) shard → (list : List Row) → Allowed (piece_of t p shard.0) shard.1 list
+  pub first : (shard : ShardRows) → LiesInPlace schema t.keyspace (source_tables q) shard → (list : List Row) → Allowed (piece_of t p shard.0) shard.1 list
       → IsPermutation (joined (map part (kept_of (rows_on shard)))) list
   first shard placed list (arranged, permuted, ascending, is) =
       let pq = piece_of t p shard.0 in
@@ -135,12 +135,12 @@ module _ (schema : VSchema) (q : Query) (joins : JoinsInPlace schema q) (aggrega
       (subst (IsPermutation (map (λ (r : Keyed). r.0) (kept_rows pq (rows_on shard)))) (sym is) shown)
 
   -- the lists of the shards that the route has
-  record Lists (shards : List Shard) (lists : List (List Row)) : Type 0 where
+  record Lists (shards : List ShardRows) (lists : List (List Row)) : Type 0 where
     kept : List (List Row)
     all : flat_map (λ rows. rows) kept ≡ kept_of (flat_map rows_on shards)
     groups : IsPermutation (flat_map (λ rows. joined (map part rows)) kept) (flat_map (λ l. l) lists)
 
-  skip_one : (s : Shard) (shards : List Shard) (lists : List (List Row)) → AllByRecursion (λ row. is_kept q.filter row ≡ false) (rows_on s)
+  skip_one : (s : ShardRows) (shards : List ShardRows) (lists : List (List Row)) → AllByRecursion (λ row. is_kept q.filter row ≡ false) (rows_on s)
       → Lists shards lists → Lists (s ∷ shards) lists
   skip_one s shards lists none rest = record {
     kept = rest.kept;
@@ -150,7 +150,7 @@ module _ (schema : VSchema) (q : Query) (joins : JoinsInPlace schema q) (aggrega
     groups = rest.groups;
   }
 
-  add_one : (s : Shard) (shards : List Shard) (list : List Row) (lists : List (List Row)) → IsPermutation (joined (map part (kept_of (rows_on s)))) list
+  add_one : (s : ShardRows) (shards : List ShardRows) (list : List Row) (lists : List (List Row)) → IsPermutation (joined (map part (kept_of (rows_on s)))) list
       → Lists shards lists → Lists (s ∷ shards) (list ∷ lists)
   add_one s shards list lists f rest = record {
     kept = kept_of (rows_on s) ∷ rest.kept;
@@ -160,7 +160,7 @@ module _ (schema : VSchema) (q : Query) (joins : JoinsInPlace schema q) (aggrega
         IsPermutation-append (joined (map part (kept_of (rows_on s)))) list (flat_map (λ rows. joined (map part rows)) rest.kept) (flat_map (λ l. l) lists) f rest.groups;
   }
 
-  lists_of : (shards : List Shard) → AllByRecursion (LiesInPlace schema t.keyspace (source_tables q)) shards → (lists : List (List Row))
+  lists_of : (shards : List ShardRows) → AllByRecursion (LiesInPlace schema t.keyspace (source_tables q)) shards → (lists : List (List Row))
       → Pieces t p (routed t p shards) lists → Lists shards lists
   lists_of [] placed [] pieces = record { kept = []; all = refl; groups = IsPermutation-refl [] }
   lists_of [] placed (list ∷ lists) pieces = absurd pieces

@@ -6,7 +6,7 @@ use Rattle.std.proofs.lemmas.List.{append-nil}
 use Rattle.vt_value.specs.Values.{Row, value_at, is_null}
 use Rattle.keyrange.specs.Ranges.{has_id}
 use Rattle.sql_tree.specs.declared.Condition.{Condition}
-use Rattle.vschema_document.specs.declared.column.ColumnType.{ColumnType}
+use Rattle.vschema_json.specs.declared.column.ColumnType.{ColumnType}
 use Rattle.vschema.specs.declared.schema.Join.{Join}
 use Rattle.vschema.specs.declared.schema.Table.{Table}
 use Rattle.vschema.specs.Database.{Database, rows_of, union}
@@ -15,7 +15,7 @@ use Rattle.planner.specs.declared.routes.Route.{Route}
 use Rattle.planner.specs.declared.routes.Route.TheVariants as route
 use Rattle.planner.specs.declared.keys.Keys.{Keys}
 use Rattle.planner.specs.Routes.{kind_in, keys_of, is_held, id_of}
-use Rattle.planner.specs.Plans.{is_member_of, cut_through, shard_filter, Shard}
+use Rattle.planner.specs.Plans.{is_member_of, cut_through, shard_filter, ShardRows}
 use Rattle.planner.specs.Right.{rows_of_shards}
 use Rattle.planner.proofs.Placed.{AreKeysHome, IsHome, key_home}
 use Rattle.planner.proofs.CutTruth.{keeps}
@@ -29,13 +29,13 @@ rows-union (xs ∷ a) [] (suc n) = sym (append-nil (rows_of a n))
 rows-union (xs ∷ a) (ys ∷ b) zero = refl
 rows-union (xs ∷ a) (ys ∷ b) (suc n) = rows-union a b n
 
-pub rows-all : (shards : List Shard) (n : ℕ) → rows_of (rows_of_shards shards) n ≡ flat_map (λ s. rows_of s.1 n) shards
+pub rows-all : (shards : List ShardRows) (n : ℕ) → rows_of (rows_of_shards shards) n ≡ flat_map (λ s. rows_of s.1 n) shards
 rows-all [] zero = refl
 rows-all [] (suc n) = refl
 rows-all (s ∷ shards) n = rows-union s.1 (rows_of_shards shards) n ∙ ap (λ l. rows_of s.1 n ++ l) (rows-all shards n)
 
 -- what a shard keeps by its piece's condition
-member_kept : (t : Table) (shard : Shard) (row : Row) (keys : Keys) → AreKeysHome t shard row keys → (c : ℕ) (kind : ColumnType) → kind_in keys c ≡ Some kind
+member_kept : (t : Table) (shard : ShardRows) (row : Row) (keys : Keys) → AreKeysHome t shard row keys → (c : ℕ) (kind : ColumnType) → kind_in keys c ≡ Some kind
     → is_null (value_at row c) ≡ false → is_member_of t shard.0 kind (value_at row c) ≡ true
 member_kept t shard row keys home c kind is h =
     let key = key_home t shard row keys home c kind is in
@@ -43,13 +43,13 @@ member_kept t shard row keys home c kind is h =
     let inside : has_id shard.0 (id_of t (value_at row c)) ≡ true = key.lies in
     rw (held, inside) refl
 
-cut_kept : (t : Table) (shard : Shard) (row : Row) (keys : Option Keys) → IsHome t keys shard row → (filter' : Option (Condition ℕ))
+cut_kept : (t : Table) (shard : ShardRows) (row : Row) (keys : Option Keys) → IsHome t keys shard row → (filter' : Option (Condition ℕ))
     → is_kept (option_map (cut_through t keys shard.0) filter') row ≡ is_kept filter' row
 cut_kept t shard row keys home None = refl
 cut_kept t shard row None home (Some c) = refl
 cut_kept t shard row (Some keys) home (Some c) = keeps row keys (is_member_of t shard.0) (member_kept t shard row keys home) c
 
-pub piece_kept : (t : Table) (join : Option Join) (shard : Shard) (row : Row) → IsHome t (keys_of t join) shard row → (r : Route) (filter' : Option (Condition ℕ))
+pub piece_kept : (t : Table) (join : Option Join) (shard : ShardRows) (row : Row) → IsHome t (keys_of t join) shard row → (r : Route) (filter' : Option (Condition ℕ))
     → is_kept (shard_filter t join r shard.0 filter') row ≡ is_kept filter' row
 piece_kept t join shard row home route.Unsharded filter' = refl
 piece_kept t join shard row home route.None filter' = refl

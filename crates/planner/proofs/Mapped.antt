@@ -5,7 +5,7 @@ use Rattle.std.specs.List.Sorted.{IsSortedBy}
 use Rattle.std.proofs.Math.ListN.{get_or-map}
 use Rattle.std.proofs.lemmas.List.{map-set, length-map, take-map, drop-map}
 use Rattle.std.proofs.lemmas.List.Sorted.{IsPermutation-refl, IsPermutation-trans, IsPermutation-swap, IsPermutation-keeps}
-use Rattle.sql_tree.specs.declared.Limit.{Limit}
+use Rattle.sql_tree.specs.declared.LimitClause.{LimitClause}
 use Rattle.operators.specs.Slices.{sliced}
 
 pub map_both : {X Y Z : Type 0} (f : Y → Z) (g : X → Y) (h : X → Z) → ((x : X) → f (g x) ≡ h x) → (xs : List X) → map f (map g xs) ≡ map h xs
@@ -13,7 +13,7 @@ map_both f g h same [] = refl
 map_both f g h same (x ∷ xs) = λ i. same x i ∷ map_both f g h same xs i
 
 module _ {X Y : Type 0} (f : X → Y) where
-  pub sliced-map : (limit : Option Limit) (xs : List X) → sliced limit (map f xs) ≡ map f (sliced limit xs)
+  pub sliced-map : (limit : Option LimitClause) (xs : List X) → sliced limit (map f xs) ≡ map f (sliced limit xs)
   sliced-map None xs = refl
   sliced-map (Some l) xs = ap (take l.count) (drop-map f l.offset xs) ∙ take-map f l.count (drop l.offset xs)
 

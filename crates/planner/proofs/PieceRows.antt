@@ -9,14 +9,14 @@ use Rattle.sql_tree.specs.declared.Key.{Key}
 use Rattle.operators.specs.Orders.{value_order, keys_cmp, sort_values, row_cmp}
 use Rattle.operators.specs.Slices.{columns_of}
 use Rattle.operators.proofs.SliceLemmas.{drop_next}
-use Rattle.vschema.specs.Resolved.{places_from}
+use Rattle.vschema.specs.Resolved.{ordinals_from}
 use Rattle.sql_eval.specs.Queries.{shown_value}
 use Rattle.planner.specs.Plans.{key_item, keys_from}
 
-pub places_from-next : {X : Type 0} (xs : List X) (k n : ℕ) → n < length xs → places_from k (drop n xs) ≡ k ∷ places_from (k + 1) (drop (n + 1) xs)
-places_from-next [] k n h = absurd (omega (arith, h))
-places_from-next (x ∷ xs) k zero h = refl
-places_from-next (x ∷ xs) k (suc n) h = let e : suc n + 1 ≡ suc (n + 1) = omega arith in rw e (places_from-next xs k n (omega (arith, h)))
+pub ordinals_from-next : {X : Type 0} (xs : List X) (k n : ℕ) → n < length xs → ordinals_from k (drop n xs) ≡ k ∷ ordinals_from (k + 1) (drop (n + 1) xs)
+ordinals_from-next [] k n h = absurd (omega (arith, h))
+ordinals_from-next (x ∷ xs) k zero h = refl
+ordinals_from-next (x ∷ xs) k (suc n) h = let e : suc n + 1 ≡ suc (n + 1) = omega arith in rw e (ordinals_from-next xs k n (omega (arith, h)))
 
 at_drop : (row : Row) (n : ℕ) (v : Value) (rest : Row) → drop n row ≡ v ∷ rest → value_at row n ≡ v
 at_drop [] zero v rest e = cc
@@ -28,16 +28,16 @@ join_map : {X Y : Type 0} (f : X → Y) (xs ys : List X) → map f (xs ++ ys) �
 join_map f [] ys = refl
 join_map f (x ∷ xs) ys = ap (λ l. f x ∷ l) (join_map f xs ys)
 
-behind_map : {X Y : Type 0} (f : X → Y) (xs : List X) (ys : List Y) → drop (length xs) (map f xs ++ ys) ≡ ys
-behind_map f [] ys = refl
-behind_map f (x ∷ xs) ys = behind_map f xs ys
+after_map : {X Y : Type 0} (f : X → Y) (xs : List X) (ys : List Y) → drop (length xs) (map f xs ++ ys) ≡ ys
+after_map f [] ys = refl
+after_map f (x ∷ xs) ys = after_map f xs ys
 
 -- a row of a piece
 abbrev pub wide : List (Item ℕ) → List (Key ℕ) → Row → Row
 wide items keys row = map (shown_value row) (items ++ map key_item keys)
 
 columns_at : (w : Row) (g : Item ℕ → Value) (items : List (Item ℕ)) (n : ℕ) (rest : Row) → drop n w ≡ map g items ++ rest
-    → map (value_at w) (places_from n items) ≡ map g items
+    → map (value_at w) (ordinals_from n items) ≡ map g items
 columns_at w g [] n rest e = refl
 columns_at w g (i ∷ items) n rest e =
     let first = at_drop w n (g i) (map g items ++ rest) e in
@@ -45,7 +45,7 @@ columns_at w g (i ∷ items) n rest e =
     λ k. first k ∷ others k
 
 -- the first columns are those that the query shows
-pub columns_wide : (items : List (Item ℕ)) (keys : List (Key ℕ)) (row : Row) → columns_of (places_from 0 items) (wide items keys row) ≡ map (shown_value row) items
+pub columns_wide : (items : List (Item ℕ)) (keys : List (Key ℕ)) (row : Row) → columns_of (ordinals_from 0 items) (wide items keys row) ≡ map (shown_value row) items
 columns_wide items keys row =
     columns_at (wide items keys row) (shown_value row) items 0 (map (shown_value row) (map key_item keys)) (join_map (shown_value row) items (map key_item keys))
 
@@ -59,7 +59,7 @@ keys_at w row (k ∷ keys) n e =
 keys_wide : (items : List (Item ℕ)) (keys : List (Key ℕ)) (row : Row) → sort_values (keys_from (length items) keys) (wide items keys row) ≡ sort_values keys row
 keys_wide items keys row =
     keys_at (wide items keys row) row keys (length items)
-    (ap (drop (length items)) (join_map (shown_value row) items (map key_item keys)) ∙ behind_map (shown_value row) items (map (shown_value row) (map key_item keys)))
+    (ap (drop (length items)) (join_map (shown_value row) items (map key_item keys)) ∙ after_map (shown_value row) items (map (shown_value row) (map key_item keys)))
 
 same_keys : (n : ℕ) (keys : List (Key ℕ)) (as' bs : List Value) → keys_cmp (keys_from n keys) as' bs ≡ keys_cmp keys as' bs
 same_keys n [] as' bs = refl

@@ -30,7 +30,7 @@ use Rattle.sql_eval.proofs.GroupLemmas.{filter_short}
 use Rattle.sql_eval.proofs.Sums.{storable_summed, filter_summed, sizes_small, small_at, all_small}
 use Rattle.planner.specs.declared.plans.Plan.{Plan}
 use Rattle.planner.specs.Routes.{takes, table_at}
-use Rattle.planner.specs.Plans.{planned, Shard, Pieces, routed, CanJoin}
+use Rattle.planner.specs.Plans.{planned, ShardRows, Pieces, routed, CanJoin}
 use Rattle.planner.specs.Right.{LiesInPlace}
 use Rattle.planner.proofs.Aggregated.{groups_plan, planned_rows, planned_groups}
 use Rattle.planner.proofs.GroupRights.{first, wide_parts, no_join}
@@ -82,10 +82,10 @@ below_at [] (suc n) all = omega arith
 below_at (v ∷ row) zero all = all.0
 below_at (v ∷ row) (suc n) all = below_at row n all.1
 
-behind_below : (xs ys : Row) (n : ℕ) → length xs ≤ n → AllByRecursion IsBelow ys → IsBelow (value_at (xs ++ ys) n)
-behind_below [] ys n h all = below_at ys n all
-behind_below (x ∷ xs) ys zero h all = absurd (omega (arith, h))
-behind_below (x ∷ xs) ys (suc n) h all = behind_below xs ys n (omega (arith, h)) all
+after_below : (xs ys : Row) (n : ℕ) → length xs ≤ n → AllByRecursion IsBelow ys → IsBelow (value_at (xs ++ ys) n)
+after_below [] ys n h all = below_at ys n all
+after_below (x ∷ xs) ys zero h all = absurd (omega (arith, h))
+after_below (x ∷ xs) ys (suc n) h all = after_below xs ys n (omega (arith, h)) all
 
 distinct_short : (keys : List Row) → length (distinct keys) ≤ length keys
 distinct_short [] = omega arith
@@ -95,10 +95,10 @@ few_keys : (w : ℕ) (rows : List Row) → length (group_keys w rows) ≤ length
 few_keys zero rows = omega arith
 few_keys (suc w) rows = omega (arith, ap length (some_keys w rows), distinct_short (map (take (suc w)) rows), length-map rows (take (suc w)))
 
-module _ (aggregates : List (Item ℕ)) (w : ℕ) (rows : List Row) (small : (m : ℕ) → column_size m rows ≤ 2 ^ 84) (n : ℕ) (behind : w ≤ n) where
+module _ (aggregates : List (Item ℕ)) (w : ℕ) (rows : List Row) (small : (m : ℕ) → column_size m rows ≤ 2 ^ 84) (n : ℕ) (trailing : w ≤ n) where
   one_below : (key : Row) → length key ≡ w → IsBelow (value_at (one aggregates w rows key) n)
   one_below key long =
-      behind_below key (joined_parts aggregates w (of_group w key rows)) n (omega (arith, long, behind))
+      after_below key (joined_parts aggregates w (of_group w key rows)) n (omega (arith, long, trailing))
       (parts_below aggregates w (of_group w key rows) (λ m. omega (arith, group_size w m key rows, small m)))
 
   keys_below : (keys : List Row) → AllByRecursion (λ k. length k ≡ w) keys → column_size n (map (one aggregates w rows) keys) ≤ length keys * 2 ^ 84
@@ -119,13 +119,13 @@ module _ (schema : VSchema) (q : Query) (joins : JoinsInPlace schema q) (aggrega
   p = groups_plan t q
 
   -- a shard has at most 2^20 rows
-  abbrev IsSmallShard : Shard → Type 0
+  abbrev IsSmallShard : ShardRows → Type 0
   IsSmallShard shard = length (rows_of shard.1 q.table) ≤ 2 ^ 20
 
-  list_below : (shard : Shard) → LiesInPlace schema t.keyspace (source_tables q) shard → IsSmallShard shard → (list : List Row)
+  list_below : (shard : ShardRows) → LiesInPlace schema t.keyspace (source_tables q) shard → IsSmallShard shard → (list : List Row)
       → IsPermutation (joined_rows (aggregates_of q.items) (length q.group_by) (map (part_row q.group_by (aggregates_of q.items)) (filter (is_kept q.filter) (source_rows q shard.1)))) list
       → (n : ℕ) → length q.group_by ≤ n → column_size n list ≤ 2 ^ 105
-  list_below shard placed few list permuted n behind =
+  list_below shard placed few list permuted n trailing =
       let rows = source_rows q shard.1 in
       let plain : rows_of shard.1 q.table ≡ rows = sym (ap (λ join. with_pairs join (rows_of shard.1 q.table) shard.1) (no_join schema q joins aggregated)) in
       let fits : AllByRecursion (λ row. is_storable t row ≡ true) rows = subst (AllByRecursion (λ row. is_storable t row ≡ true)) plain placed.storable.0 in
@@ -135,34 +135,34 @@ module _ (schema : VSchema) (q : Query) (joins : JoinsInPlace schema q) (aggrega
       let summed = filter_summed (is_kept q.filter) rows (storable_summed t rows fits (omega (arith, few'))) in
       let short : length kept ≤ 2 ^ 20 = omega (arith, filter_short (is_kept q.filter) rows, few') in
       let small : (m : ℕ) → column_size m parts ≤ 2 ^ 84 = λ m. omega (arith, sizes_small q.group_by (aggregates_of q.items) kept m summed.1, short) in
-      let below = groups_below (aggregates_of q.items) (length q.group_by) parts small n behind (wide_parts schema q joins aggregated kept) (omega (arith, length-map kept (part_row q.group_by (aggregates_of q.items)), short)) in
+      let below = groups_below (aggregates_of q.items) (length q.group_by) parts small n trailing (wide_parts schema q joins aggregated kept) (omega (arith, length-map kept (part_row q.group_by (aggregates_of q.items)), short)) in
       omega (arith, below, sum_by-IsPermutation (λ r. size (value_at r n)) (joined_rows (aggregates_of q.items) (length q.group_by) parts) list permuted)
 
-  lists_below : (shards : List Shard) → AllByRecursion (LiesInPlace schema t.keyspace (source_tables q)) shards → AllByRecursion IsSmallShard shards → (lists : List (List Row))
+  lists_below : (shards : List ShardRows) → AllByRecursion (LiesInPlace schema t.keyspace (source_tables q)) shards → AllByRecursion IsSmallShard shards → (lists : List (List Row))
       → Pieces t p (routed t p shards) lists → (n : ℕ) → length q.group_by ≤ n → column_size n (flat_map (λ l. l) lists) ≤ length shards * 2 ^ 105
-  lists_below [] placed few [] pieces n behind = omega arith
-  lists_below [] placed few (list ∷ lists) pieces n behind = absurd pieces
-  lists_below (s ∷ shards) placed few lists pieces n behind = by (takes t p.route s.0) lists pieces (λ ls ps. lists_below shards placed.1 few.1 ls ps n behind)
+  lists_below [] placed few [] pieces n trailing = omega arith
+  lists_below [] placed few (list ∷ lists) pieces n trailing = absurd pieces
+  lists_below (s ∷ shards) placed few lists pieces n trailing = by (takes t p.route s.0) lists pieces (λ ls ps. lists_below shards placed.1 few.1 ls ps n trailing)
     where
       by : (b : Bool) → (lists : List (List Row)) → Pieces t p (cond b (s ∷ routed t p shards) (routed t p shards)) lists
           → ((lists : List (List Row)) → Pieces t p (routed t p shards) lists → column_size n (flat_map (λ l. l) lists) ≤ length shards * 2 ^ 105)
           → column_size n (flat_map (λ l. l) lists) ≤ length (s ∷ shards) * 2 ^ 105
       by true [] pieces rest = absurd pieces
       by true (list ∷ lists) pieces rest =
-          let here = list_below s placed.0 few.0 list (first schema q joins aggregated s placed.0 list pieces.0) n behind in
+          let here = list_below s placed.0 few.0 list (first schema q joins aggregated s placed.0 list pieces.0) n trailing in
           let others = rest lists pieces.1 in
           omega (arith, here, others, sum_by-append (λ r. size (value_at r n)) list (flat_map (λ l. l) lists))
       by false lists pieces rest = omega (arith, rest lists pieces)
 
-  groups_fit : (shards : List Shard) → AllByRecursion (LiesInPlace schema t.keyspace (source_tables q)) shards → AllByRecursion IsSmallShard shards → length shards ≤ 64
+  groups_fit : (shards : List ShardRows) → AllByRecursion (LiesInPlace schema t.keyspace (source_tables q)) shards → AllByRecursion IsSmallShard shards → length shards ≤ 64
       → (lists : List (List Row)) → Pieces t p (routed t p shards) lists → AreSummable (length q.group_by) (flat_map (λ l. l) lists)
-  groups_fit shards placed few most lists pieces = λ n behind. (let below = lists_below shards placed few lists pieces n behind in omega (arith, below, most))
+  groups_fit shards placed few most lists pieces = λ n trailing. (let below = lists_below shards placed few lists pieces n trailing in omega (arith, below, most))
 
-abbrev Fits : Table → List Shard → List (List Row) → Plan → Type 0
+abbrev Fits : Table → List ShardRows → List (List Row) → Plan → Type 0
 Fits t shards lists p = Pieces t p (routed t p shards) lists → CanJoin p.finish.grouping (flat_map (λ l. l) lists)
 
 -- What the shards of a plan give may be joined, where they are at most 64 and each has at most 2^20 rows.
-pub pieces_fit : (schema : VSchema) (q : Query) (p : Plan) → p ≡ planned (table_at schema q.table) q → JoinsInPlace schema q → (shards : List Shard)
+pub pieces_fit : (schema : VSchema) (q : Query) (p : Plan) → p ≡ planned (table_at schema q.table) q → JoinsInPlace schema q → (shards : List ShardRows)
     → AllByRecursion (LiesInPlace schema (table_at schema q.table).keyspace (source_tables q)) shards → AllByRecursion (λ shard. length (rows_of shard.1 q.table) ≤ 2 ^ 20) shards
     → length shards ≤ 64 → (lists : List (List Row)) → Pieces (table_at schema q.table) p (routed (table_at schema q.table) p shards) lists
     → CanJoin p.finish.grouping (flat_map (λ l. l) lists)

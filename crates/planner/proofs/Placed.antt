@@ -10,9 +10,9 @@ use Rattle.keyrange.specs.Ranges.{has_id}
 use Rattle.vindex.specs.declared.AnyVindex.{AnyVindex}
 use Rattle.vindex.specs.declared.AnyVindex.TheVariants.{Numeric, ReverseBits, Binary, BinaryMd5}
 use Rattle.vindex.specs.KeyspaceIds.{keyspace_id, is_key}
-use Rattle.vschema_document.specs.declared.column.Column.{Column}
-use Rattle.vschema_document.specs.declared.column.ColumnType.{ColumnType}
-use Rattle.vschema_document.specs.declared.column.ColumnType.TheVariants.{BigInt, BigIntUnsigned, VarBinary}
+use Rattle.vschema_json.specs.declared.column.Column.{Column}
+use Rattle.vschema_json.specs.declared.column.ColumnType.{ColumnType}
+use Rattle.vschema_json.specs.declared.column.ColumnType.TheVariants.{BigInt, BigIntUnsigned, VarBinary}
 use Rattle.vschema.specs.declared.schema.ColumnVindex.{ColumnVindex}
 use Rattle.vschema.specs.declared.schema.Place.{Place}
 use Rattle.vschema.specs.declared.schema.Table.{Table}
@@ -30,7 +30,7 @@ use Rattle.sql_eval.proofs.Pairs.{all_join}
 use Rattle.planner.specs.declared.keys.KeyColumn.{KeyColumn}
 use Rattle.planner.specs.declared.keys.Keys.{Keys}
 use Rattle.planner.proofs.TrueConditions.{same_values}
-use Rattle.planner.specs.Plans.{Shard}
+use Rattle.planner.specs.Plans.{ShardRows}
 use Rattle.planner.specs.Right.{LiesInPlace}
 use Rattle.planner.specs.Routes.{type_at, kind_in, second_kind, keys_on, keys_of, is_held, id_by, id_of, table_at}
 
@@ -157,24 +157,24 @@ id_stored t row v fits e =
     ∙ stored_key v.vindex (slice_get t.columns v.column) (value_at row v.column) (stored_at t.columns row v.column fits) ∙ sym (id-row t row v e)
 
 -- what is known of each row of a table on a shard
-pub record IsStored (t : Table) (shard : Shard) (row : Row) : Type 0 where
+pub record IsStored (t : Table) (shard : ShardRows) (row : Row) : Type 0 where
   pub lies : has_id shard.0 (row_id t row) ≡ true
   pub fits : is_storable t row ≡ true
 
 -- what is known of a row's value that decides the shard
-pub record IsKeyHome (t : Table) (shard : Shard) (row : Row) (k : KeyColumn) : Type 0 where
+pub record IsKeyHome (t : Table) (shard : ShardRows) (row : Row) (k : KeyColumn) : Type 0 where
   pub holds : is_null (value_at row k.column) ≡ false → is_held k.kind (value_at row k.column) ≡ true
   pub lies : has_id shard.0 (id_of t (value_at row k.column)) ≡ true
 
-abbrev pub IsSecondHome : Table → Shard → Row → Option KeyColumn → Type 0
+abbrev pub IsSecondHome : Table → ShardRows → Row → Option KeyColumn → Type 0
 IsSecondHome t shard row None = Unit {0}
 IsSecondHome t shard row (Some k) = IsKeyHome t shard row k
 
-abbrev pub AreKeysHome : Table → Shard → Row → Keys → Type 0
+abbrev pub AreKeysHome : Table → ShardRows → Row → Keys → Type 0
 AreKeysHome t shard row keys = IsKeyHome t shard row keys.first × IsSecondHome t shard row keys.second
 
 -- what is known of each row that a query is over on a shard
-abbrev pub IsHome : Table → Option Keys → Shard → Row → Type 0
+abbrev pub IsHome : Table → Option Keys → ShardRows → Row → Type 0
 IsHome t None shard row = has_id shard.0 [] ≡ true
 IsHome t (Some keys) shard row = AreKeysHome t shard row keys
 
@@ -182,7 +182,7 @@ same_kind : (a b : ColumnType) → Some a ≡ Some b → a ≡ b
 same_kind a b e = cc
 
 -- each column that decides the shard is home
-pub key_home : (t : Table) (shard : Shard) (row : Row) (keys : Keys) → AreKeysHome t shard row keys → (n : ℕ) (kind : ColumnType) → kind_in keys n ≡ Some kind
+pub key_home : (t : Table) (shard : ShardRows) (row : Row) (keys : Keys) → AreKeysHome t shard row keys → (n : ℕ) (kind : ColumnType) → kind_in keys n ≡ Some kind
     → IsKeyHome t shard row (record { column = n; kind = kind })
 key_home t shard row keys home n kind e = by_first (keys.first.column == n) refl e
   where
@@ -209,7 +209,7 @@ held_at : (t : Table) (row : Row) (n : ℕ) → is_storable t row ≡ true → i
 held_at t row n fits h = held (slice_get t.columns n) (value_at row n) (stored_at t.columns row n fits) h
 
 -- the vindex column of a stored row
-vindex_home : (t : Table) (shard : Shard) (row : Row) (v : ColumnVindex) → t.vindex ≡ Some v → IsStored t shard row
+vindex_home : (t : Table) (shard : ShardRows) (row : Row) (v : ColumnVindex) → t.vindex ≡ Some v → IsStored t shard row
     → IsKeyHome t shard row (record { column = v.column; kind = type_at t v.column })
 vindex_home t shard row v is stored = record {
   holds = λ h. held_at t row v.column stored.fits h;
@@ -217,18 +217,18 @@ vindex_home t shard row v is stored = record {
 }
 
 -- a stored row, in a query over its table
-row_home : (t : Table) (shard : Shard) (row : Row) → IsStored t shard row → IsHome t (keys_of t None) shard row
+row_home : (t : Table) (shard : ShardRows) (row : Row) → IsStored t shard row → IsHome t (keys_of t None) shard row
 row_home t shard row stored = by t.vindex refl
   where
     by : (vindex : Option ColumnVindex) → t.vindex ≡ vindex → IsHome t (option_map (λ v. keys_on t v None) vindex) shard row
     by None is = subst (λ id. has_id shard.0 id ≡ true) (id_none t row is) stored.lies
     by (Some v) is = (vindex_home t shard row v is stored, tt)
 
-pub rows_are_home : (t : Table) (shard : Shard) (rows : List Row) → AllByRecursion (IsStored t shard) rows → AllByRecursion (IsHome t (keys_of t None) shard) rows
+pub rows_are_home : (t : Table) (shard : ShardRows) (rows : List Row) → AllByRecursion (IsStored t shard) rows → AllByRecursion (IsHome t (keys_of t None) shard) rows
 rows_are_home t shard [] all = tt
 rows_are_home t shard (row ∷ rows) all = (row_home t shard row all.0, rows_are_home t shard rows all.1)
 
-stored_rows : (t : Table) (shard : Shard) (keyspace : ℕ) (rows : List Row)
+stored_rows : (t : Table) (shard : ShardRows) (keyspace : ℕ) (rows : List Row)
     → AllByRecursion (λ row. lies_in (record { keyspace = keyspace; range = shard.0 }) t row ≡ true) rows
     → AllByRecursion (λ row. is_storable t row ≡ true) rows → AllByRecursion (IsStored t shard) rows
 stored_rows t shard keyspace [] lies fits = tt
@@ -236,14 +236,14 @@ stored_rows t shard keyspace (row ∷ rows) lies fits =
     (record { lies = and_right _ _ lies.0; fits = fits.0 }, stored_rows t shard keyspace rows lies.1 fits.1)
 
 -- the rows of a table on a shard
-pub rows_stored : (schema : VSchema) (keyspace n : ℕ) (shard : Shard) → restrict schema (record { keyspace = keyspace; range = shard.0 }) shard.1 ≡ shard.1
+pub rows_stored : (schema : VSchema) (keyspace n : ℕ) (shard : ShardRows) → restrict schema (record { keyspace = keyspace; range = shard.0 }) shard.1 ≡ shard.1
     → AllByRecursion (λ row. is_storable (table_at schema n) row ≡ true) (rows_of shard.1 n) → AllByRecursion (IsStored (table_at schema n) shard) (rows_of shard.1 n)
 rows_stored schema keyspace n shard placed fits =
     stored_rows (table_at schema n) shard keyspace (rows_of shard.1 n)
     (lying schema.tables (record { keyspace = keyspace; range = shard.0 }) shard.1 n placed) fits
 
 -- the rows of a table, for a write
-pub rows_home : (schema : VSchema) (n : ℕ) (shard : Shard) → LiesInPlace schema (table_at schema n).keyspace (n ∷ []) shard
+pub rows_home : (schema : VSchema) (n : ℕ) (shard : ShardRows) → LiesInPlace schema (table_at schema n).keyspace (n ∷ []) shard
     → AllByRecursion (IsHome (table_at schema n) (keys_of (table_at schema n) None) shard) (rows_of shard.1 n)
 rows_home schema n shard is =
     rows_are_home (table_at schema n) shard (rows_of shard.1 n) (rows_stored schema (table_at schema n).keyspace n shard is.placed is.storable.0)
@@ -274,7 +274,7 @@ module _ (t u : Table) (j : Join) (second : ℕ) (first : j.first < j.width) (pl
           ∙ ap (λ x. keyspace_id x (value_at b second)) h.0 ∙ ap (λ c. keyspace_id w.vindex (value_at b c)) (sym h.2) ∙ sym (id-row u b w q)
 
   -- a pair of stored rows
-  pair_home : j.kind ≡ type_at u second → HaveOneId j.first second t.vindex u.vindex → (shard : Shard) (a b : Row) → IsStored t shard a → IsStored u shard b
+  pair_home : j.kind ≡ type_at u second → HaveOneId j.first second t.vindex u.vindex → (shard : ShardRows) (a b : Row) → IsStored t shard a → IsStored u shard b
       → IsHome t (keys_of t (Some j)) shard (paired j a b)
   pair_home kind ids shard a b here there = by t.vindex u.vindex refl refl ids
     where
@@ -305,7 +305,7 @@ module _ (t u : Table) (j : Join) (second : ℕ) (first : j.first < j.width) (pl
             },
           )
 
-  pub pairs_home : j.kind ≡ type_at u second → HaveOneId j.first second t.vindex u.vindex → (shard : Shard) (xs ys : List Row)
+  pub pairs_home : j.kind ≡ type_at u second → HaveOneId j.first second t.vindex u.vindex → (shard : ShardRows) (xs ys : List Row)
       → AllByRecursion (IsStored t shard) xs → AllByRecursion (IsStored u shard) ys → AllByRecursion (IsHome t (keys_of t (Some j)) shard) (pairs_of j xs ys)
   pairs_home kind ids shard [] ys here there = tt
   pairs_home kind ids shard (a ∷ xs) ys here there =
@@ -321,7 +321,7 @@ module _ (t u : Table) (j : Join) (second : ℕ) (first : j.first < j.width) (pl
           by false rest = rest
 
 -- the rows that a query is over on a shard
-pub sources_home : (schema : VSchema) (q : Query) → JoinsInPlace schema q → (shard : Shard) → LiesInPlace schema (table_at schema q.table).keyspace (source_tables q) shard
+pub sources_home : (schema : VSchema) (q : Query) → JoinsInPlace schema q → (shard : ShardRows) → LiesInPlace schema (table_at schema q.table).keyspace (source_tables q) shard
     → AllByRecursion (IsHome (table_at schema q.table) (keys_of (table_at schema q.table) q.join) shard) (source_rows q shard.1)
 sources_home schema q joins shard is = by q.join refl is.storable.1
   where
@@ -334,6 +334,6 @@ sources_home schema q joins shard is = by q.join refl is.storable.1
     by None e fits = rows_are_home (table_at schema q.table) shard (rows_of shard.1 q.table) here
     by (Some j) e fits =
         let in_place = joins j e in
-        pairs_home (table_at schema q.table) (table_at schema j.table) j in_place.second in_place.first in_place.place in_place.kind in_place.ids shard
+        pairs_home (table_at schema q.table) (table_at schema j.table) j in_place.second in_place.first in_place.ordinal in_place.kind in_place.ids shard
         (rows_of shard.1 q.table) (rows_of shard.1 j.table) here
         (rows_stored schema (table_at schema q.table).keyspace j.table shard is.placed fits.0)

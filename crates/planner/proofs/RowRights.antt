@@ -12,14 +12,14 @@ use Rattle.std.proofs.lemmas.List.Sorted.{ranks_by, length_permutation, IsPermut
 use Rattle.vt_value.specs.Values.{Row}
 use Rattle.sql_tree.specs.declared.Item.{Item}
 use Rattle.sql_tree.specs.declared.Key.{Key}
-use Rattle.sql_tree.specs.declared.Limit.{Limit}
+use Rattle.sql_tree.specs.declared.LimitClause.{LimitClause}
 use Rattle.operators.specs.Orders.{keys_cmp, sort_values, row_cmp}
 use Rattle.operators.specs.Slices.{sliced, columns_of}
 use Rattle.operators.proofs.OrderLemmas.{keys_cmp-total}
 use Rattle.vschema.specs.declared.schema.Query.{Query}
 use Rattle.vschema.specs.declared.schema.Table.{Table}
 use Rattle.vschema.specs.declared.schema.VSchema.{VSchema}
-use Rattle.vschema.specs.Resolved.{places_from}
+use Rattle.vschema.specs.Resolved.{ordinals_from}
 use Rattle.vschema.specs.Sources.{source_rows, source_tables, JoinsInPlace}
 use Rattle.vschema.specs.Checks.{is_aggregate, is_aggregated}
 use Rattle.sql_eval.specs.Conditions.{is_kept}
@@ -27,7 +27,7 @@ use Rattle.sql_eval.proofs.AnswerLemmas.{kept_plain}
 use Rattle.sql_eval.specs.Queries.{Keyed, shown, keyed_row, Allowed}
 use Rattle.planner.specs.declared.plans.Plan.{Plan}
 use Rattle.planner.specs.Routes.{takes, keys_of, route_of, table_at}
-use Rattle.planner.specs.Plans.{pushed_limit, key_item, keys_from, piece_of, Shard, Pieces, routed}
+use Rattle.planner.specs.Plans.{pushed_limit, key_item, keys_from, piece_of, ShardRows, Pieces, routed}
 use Rattle.planner.specs.Right.{rows_of_shards, LiesInPlace, HasFewRows, IsRightPlan}
 use Rattle.planner.proofs.KeptRows.{piece_kept, same_filter, no_filter, all_rows_are}
 use Rattle.planner.proofs.Placed.{IsHome, sources_home}
@@ -51,7 +51,7 @@ module _ (schema : VSchema) (q : Query) (joins : JoinsInPlace schema q) (plain :
   abbrev p : Plan
   p = rows_plan t q
 
-  plain_piece : (shard : Shard) → is_aggregated (piece_of t p shard.0) ≡ false
+  plain_piece : (shard : ShardRows) → is_aggregated (piece_of t p shard.0) ≡ false
   plain_piece shard = same_aggregated (piece_of t p shard.0) q (plain_items q.items q.order_by) refl ∙ plain
 
   abbrev lt : Row → Row → Bool
@@ -60,7 +60,7 @@ module _ (schema : VSchema) (q : Query) (joins : JoinsInPlace schema q) (plain :
   o : IsStrictWeakOrder lt
   o = ranks_by (keys_cmp-total q.order_by) (sort_values q.order_by)
 
-  abbrev rows_on : Shard → List Row
+  abbrev rows_on : ShardRows → List Row
   rows_on s = source_rows q s.1
 
   abbrev pushed_rows : List Row → List Row
@@ -70,14 +70,14 @@ module _ (schema : VSchema) (q : Query) (joins : JoinsInPlace schema q) (plain :
   row_wide row = wide q.items q.order_by row
 
   -- a shard's list: the first rows of what the query keeps there
-  record First (shard : Shard) (list : List Row) : Type 0 where
+  record First (shard : ShardRows) (list : List Row) : Type 0 where
     rows : List Row
     all : IsPermutation (filter (is_kept q.filter) (rows_on shard)) rows
     sorted : Up lt o rows
     few : length rows < 2 ^ 64
     is : list ≡ map row_wide (pushed_rows rows)
 
-  first : (shard : Shard) → LiesInPlace schema t.keyspace (source_tables q) shard → length (rows_on shard) < 2 ^ 64 → (list : List Row) → Allowed (piece_of t p shard.0) shard.1 list → First shard list
+  first : (shard : ShardRows) → LiesInPlace schema t.keyspace (source_tables q) shard → length (rows_on shard) < 2 ^ 64 → (list : List Row) → Allowed (piece_of t p shard.0) shard.1 list → First shard list
   first shard placed few list (arranged, permuted, ascending, is) =
       let pq = piece_of t p shard.0 in
       let a = arranged_map (keyed_row pq) (filter (is_kept pq.filter) (rows_on shard)) arranged
@@ -106,14 +106,14 @@ module _ (schema : VSchema) (q : Query) (joins : JoinsInPlace schema q) (plain :
       }
 
   -- the lists of the shards that the route has
-  record Lists (shards : List Shard) (lists : List (List Row)) : Type 0 where
+  record Lists (shards : List ShardRows) (lists : List (List Row)) : Type 0 where
     rows : List (List Row)
     all : IsPermutation (filter (is_kept q.filter) (flat_map rows_on shards)) (flat_map (λ r. r) rows)
     sorted : AllByRecursion (Up lt o) rows
     few : AllByRecursion (λ r. length r < 2 ^ 64) rows
     is : flat_map (λ l. l) lists ≡ map row_wide (flat_map pushed_rows rows)
 
-  skip_one : (s : Shard) (shards : List Shard) (lists : List (List Row)) → AllByRecursion (λ row. is_kept q.filter row ≡ false) (rows_on s)
+  skip_one : (s : ShardRows) (shards : List ShardRows) (lists : List (List Row)) → AllByRecursion (λ row. is_kept q.filter row ≡ false) (rows_on s)
       → Lists shards lists → Lists (s ∷ shards) lists
   skip_one s shards lists none rest = record {
     rows = rest.rows;
@@ -126,7 +126,7 @@ module _ (schema : VSchema) (q : Query) (joins : JoinsInPlace schema q) (plain :
     is = rest.is;
   }
 
-  add_one : (s : Shard) (shards : List Shard) (list : List Row) (lists : List (List Row)) → First s list → Lists shards lists → Lists (s ∷ shards) (list ∷ lists)
+  add_one : (s : ShardRows) (shards : List ShardRows) (list : List Row) (lists : List (List Row)) → First s list → Lists shards lists → Lists (s ∷ shards) (list ∷ lists)
   add_one s shards list lists f rest = record {
     rows = f.rows ∷ rest.rows;
     all =
@@ -137,7 +137,7 @@ module _ (schema : VSchema) (q : Query) (joins : JoinsInPlace schema q) (plain :
     is = (λ i. f.is i ++ rest.is i) ∙ sym (map-append row_wide (pushed_rows f.rows) (flat_map pushed_rows rest.rows));
   }
 
-  lists_of : (shards : List Shard) → AllByRecursion (LiesInPlace schema t.keyspace (source_tables q)) shards → AllByRecursion (HasFewRows t p q) shards
+  lists_of : (shards : List ShardRows) → AllByRecursion (LiesInPlace schema t.keyspace (source_tables q)) shards → AllByRecursion (HasFewRows t p q) shards
       → (lists : List (List Row)) → Pieces t p (routed t p shards) lists → Lists shards lists
   lists_of [] placed few [] pieces = record { rows = []; all = IsPermutation-refl []; sorted = tt; few = tt; is = refl }
   lists_of [] placed few (list ∷ lists) pieces = absurd pieces
@@ -153,7 +153,7 @@ module _ (schema : VSchema) (q : Query) (joins : JoinsInPlace schema q) (plain :
           (rest lists pieces)
 
   -- an arrangement of all rows, of which the limit leaves what it leaves of the first ones
-  record Sliced (limit : Option Limit) (rows : List (List Row)) (some : List Row) : Type 0 where
+  record Sliced (limit : Option LimitClause) (rows : List (List Row)) (some : List Row) : Type 0 where
     arranged : List Row
     all : IsPermutation (flat_map (λ r. r) rows) arranged
     sorted : Up lt o arranged
@@ -163,7 +163,7 @@ module _ (schema : VSchema) (q : Query) (joins : JoinsInPlace schema q) (plain :
   all_short n [] h few = refl
   all_short n (r ∷ rows) h few = let short = few.0 in λ i. take_all n r (omega (arith, h, short)) i ++ all_short n rows h few.1 i
 
-  with_limit : (limit : Option Limit) (rows : List (List Row)) (some : List Row) → AllByRecursion (Up lt o) rows → AllByRecursion (λ r. length r < 2 ^ 64) rows
+  with_limit : (limit : Option LimitClause) (rows : List (List Row)) (some : List Row) → AllByRecursion (Up lt o) rows → AllByRecursion (λ r. length r < 2 ^ 64) rows
       → IsPermutation (flat_map (sliced (option_map pushed_limit limit)) rows) some → Up lt o some → Sliced limit rows some
   with_limit None rows some ups few permuted up = record { arranged = some; all = permuted; sorted = up; same = refl }
   with_limit (Some l) rows some ups few permuted up = by (nat_lt (l.offset + l.count) (2 ^ 64)) refl
@@ -207,9 +207,9 @@ module _ (schema : VSchema) (q : Query) (joins : JoinsInPlace schema q) (plain :
             (IsPermutation-map (keyed_row q) (filter (is_kept q.filter) (source_rows q (rows_of_shards shards))) s.arranged
             (IsPermutation-trans _ _ _ all_kept (IsPermutation-trans _ _ _ a.all s.all))),
         sorted_mapped (keyed_row q) lt (λ (x : Keyed) (y : Keyed). is_lt (keys_cmp q.order_by x.1 y.1)) (λ x y. refl) s.arranged (sorted_from_up lt o s.arranged s.sorted),
-        is ∙ ap (λ l. map (columns_of (places_from 0 q.items)) (sliced q.limit l)) m.is
-            ∙ ap (map (columns_of (places_from 0 q.items))) (sliced-map row_wide q.limit m.arranged)
-            ∙ map_both (columns_of (places_from 0 q.items)) row_wide (shown q) (λ row. columns_wide q.items q.order_by row) (sliced q.limit m.arranged)
+        is ∙ ap (λ l. map (columns_of (ordinals_from 0 q.items)) (sliced q.limit l)) m.is
+            ∙ ap (map (columns_of (ordinals_from 0 q.items))) (sliced-map row_wide q.limit m.arranged)
+            ∙ map_both (columns_of (ordinals_from 0 q.items)) row_wide (shown q) (λ row. columns_wide q.items q.order_by row) (sliced q.limit m.arranged)
             ∙ ap (map (shown q)) (sym s.same)
             ∙ sym (map_both (λ (r : Keyed). r.0) (keyed_row q) (shown q) (λ row. refl) (sliced q.limit s.arranged))
             ∙ ap (map (λ (r : Keyed). r.0)) (sym (sliced-map (keyed_row q) q.limit s.arranged)),

@@ -9,7 +9,7 @@ use Rattle.vt_value.specs.Values.{Row, value_at, is_null, is_true, compare}
 use Rattle.keyrange.specs.declared.KeyRange.{KeyRange}
 use Rattle.keyrange.specs.Ranges.{has_id}
 use Rattle.sql_tree.specs.declared.Condition.{Condition}
-use Rattle.vschema_document.specs.declared.column.ColumnType.{ColumnType}
+use Rattle.vschema_json.specs.declared.column.ColumnType.{ColumnType}
 use Rattle.vschema.specs.declared.schema.Join.{Join}
 use Rattle.vschema.specs.declared.schema.Query.{Query}
 use Rattle.vschema.specs.declared.schema.Table.{Table}
@@ -19,7 +19,7 @@ use Rattle.sql_eval.specs.Conditions.{truth_at, is_kept}
 use Rattle.planner.specs.declared.plans.Plan.{Plan}
 use Rattle.planner.specs.declared.keys.Keys.{Keys}
 use Rattle.planner.specs.Routes.{equals, among, first_of, is_held, route_among, route_by, filter_route, keys_of, route_through, route_of, id_of, takes, table_at}
-use Rattle.planner.specs.Plans.{Shard}
+use Rattle.planner.specs.Plans.{ShardRows}
 use Rattle.planner.specs.Right.{SkipsNothing}
 use Rattle.planner.proofs.TrueConditions.{equals_one, IsSaid, IsSaidAmong, says, same_values}
 use Rattle.planner.proofs.Placed.{at_contains, AreKeysHome, IsHome, key_home, sources_home}
@@ -66,7 +66,7 @@ takes_some : (t : Table) (range : KeyRange) (values : List Value) → list_any (
 takes_some t range [] e = cc
 takes_some t range (v ∷ values) e = e
 
-module _ (t : Table) (shard : Shard) (row : Row) (keys : Keys) (home : AreKeysHome t shard row keys) where
+module _ (t : Table) (shard : ShardRows) (row : Row) (keys : Keys) (home : AreKeysHome t shard row keys) where
   by_literal : (p : ColumnType × Value) (lists : Option (ColumnType × List Value)) → IsSaid row keys p → takes t (route_by (Some p) lists) shard.0 ≡ true
   by_literal p lists said =
       let key = key_home t shard row keys home said.column p.0 said.is in
@@ -100,7 +100,7 @@ module _ (t : Table) (shard : Shard) (row : Row) (keys : Keys) (home : AreKeysHo
   by_filter (Some c) e = by_condition c e
 
 -- a shard with a row that is kept is taken
-taken : (t : Table) (keys : Option Keys) (shard : Shard) (row : Row) → IsHome t keys shard row → (filter' : Option (Condition ℕ)) → is_kept filter' row ≡ true
+taken : (t : Table) (keys : Option Keys) (shard : ShardRows) (row : Row) → IsHome t keys shard row → (filter' : Option (Condition ℕ)) → is_kept filter' row ≡ true
     → takes t (route_through keys filter') shard.0 ≡ true
 taken t None shard row home filter' e = home
 taken t (Some keys) shard row home filter' e = by_filter t shard row keys home filter' e
@@ -109,7 +109,7 @@ none_kept : (kept taken : Bool) → (kept ≡ true → taken ≡ true) → taken
 none_kept true taken h e = sym (h refl) ∙ e
 none_kept false taken h e = refl
 
-pub skipped : (t : Table) (join : Option Join) (shard : Shard) (filter' : Option (Condition ℕ)) (row : Row) → IsHome t (keys_of t join) shard row
+pub skipped : (t : Table) (join : Option Join) (shard : ShardRows) (filter' : Option (Condition ℕ)) (row : Row) → IsHome t (keys_of t join) shard row
     → takes t (route_of t join filter') shard.0 ≡ false → is_kept filter' row ≡ false
 skipped t join shard filter' row home e =
     none_kept (is_kept filter' row) (takes t (route_of t join filter') shard.0) (taken t (keys_of t join) shard row home filter') e

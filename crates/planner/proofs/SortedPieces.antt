@@ -7,7 +7,7 @@ use Rattle.std.specs.List.{AllByRecursion}
 use Rattle.std.specs.List.Sorted.{IsSortedBy}
 use Rattle.std.proofs.lemmas.List.Sorted.{ranks_by}
 use Rattle.vt_value.specs.Values.{Row}
-use Rattle.sql_tree.specs.declared.Limit.{Limit}
+use Rattle.sql_tree.specs.declared.LimitClause.{LimitClause}
 use Rattle.operators.specs.Orders.{keys_cmp, sort_values, row_cmp}
 use Rattle.operators.specs.Slices.{sliced}
 use Rattle.operators.proofs.OrderLemmas.{keys_cmp-total}
@@ -19,7 +19,7 @@ use Rattle.sql_eval.specs.Conditions.{is_kept}
 use Rattle.sql_eval.proofs.AnswerLemmas.{kept_plain}
 use Rattle.sql_eval.specs.Queries.{Keyed, keyed_row, Allowed}
 use Rattle.planner.specs.declared.plans.Plan.{Plan}
-use Rattle.planner.specs.Plans.{planned, keys_from, piece_of, Shard}
+use Rattle.planner.specs.Plans.{planned, keys_from, piece_of, ShardRows}
 use Rattle.planner.specs.Right.{GivesInOrder}
 use Rattle.planner.proofs.Aggregated.{rows_plan, planned_rows, planned_groups, same_aggregated}
 use Rattle.planner.proofs.PieceRows.{wide, cmp_wide}
@@ -38,16 +38,16 @@ module _ {X : Type 0} (lt : X → X → Bool) (o : IsStrictWeakOrder lt) where
   up_first (suc n) [] up = tt
   up_first (suc n) (x ∷ xs) up = (all_first (λ y. lt y x ≡ false) n xs up.0, up_first n xs up.1)
 
-  up_behind : (n : ℕ) (xs : List X) → Up lt o xs → Up lt o (drop n xs)
-  up_behind zero xs up = up
-  up_behind (suc n) [] up = tt
-  up_behind (suc n) (x ∷ xs) up = up_behind n xs up.1
+  up_after : (n : ℕ) (xs : List X) → Up lt o xs → Up lt o (drop n xs)
+  up_after zero xs up = up
+  up_after (suc n) [] up = tt
+  up_after (suc n) (x ∷ xs) up = up_after n xs up.1
 
   -- a slice of a sorted list is sorted
-  sorted_slice : (limit : Option Limit) (xs : List X) → IsSortedBy lt xs → IsSortedBy lt (sliced limit xs)
+  sorted_slice : (limit : Option LimitClause) (xs : List X) → IsSortedBy lt xs → IsSortedBy lt (sliced limit xs)
   sorted_slice None xs sorted = sorted
   sorted_slice (Some l) xs sorted =
-      sorted_from_up lt o (take l.count (drop l.offset xs)) (up_first l.count (drop l.offset xs) (up_behind l.offset xs (up_from_sorted lt o xs sorted)))
+      sorted_from_up lt o (take l.count (drop l.offset xs)) (up_first l.count (drop l.offset xs) (up_after l.offset xs (up_from_sorted lt o xs sorted)))
 
 module _ (t : Table) (q : Query) (plain : is_aggregated q ≡ false) where
   abbrev lt : Row → Row → Bool
@@ -59,7 +59,7 @@ module _ (t : Table) (q : Query) (plain : is_aggregated q ≡ false) where
   abbrev row_wide : Row → Row
   row_wide row = wide q.items q.order_by row
 
-  piece_in_order : (shard : Shard) (list : List Row) → Allowed (piece_of t (rows_plan t q) shard.0) shard.1 list → IsSorted (row_cmp (keys_from (length q.items) q.order_by)) list
+  piece_in_order : (shard : ShardRows) (list : List Row) → Allowed (piece_of t (rows_plan t q) shard.0) shard.1 list → IsSorted (row_cmp (keys_from (length q.items) q.order_by)) list
   piece_in_order shard list (arranged, permuted, ascending, is) =
       let pq = piece_of t (rows_plan t q) shard.0 in
       let rows = source_rows q shard.1 in

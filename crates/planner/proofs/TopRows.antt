@@ -164,21 +164,21 @@ module _ {X : Type 0} (lt : X → X → Bool) (o : IsStrictWeakOrder lt) where
       }
 
   -- what a sorted list has after its first n isn't below them
-  behind : (n : ℕ) (xs : List X) → Up xs → AllByRecursion (λ r. n ≤ up_to r (take n xs)) (drop n xs)
-  behind zero xs up = all_any (λ r. zero ≤ up_to r (take zero xs)) (λ r. omega arith) xs
-  behind (suc n) [] up = tt
-  behind (suc n) (x ∷ xs) up =
+  trailing : (n : ℕ) (xs : List X) → Up xs → AllByRecursion (λ r. n ≤ up_to r (take n xs)) (drop n xs)
+  trailing zero xs up = all_any (λ r. zero ≤ up_to r (take zero xs)) (λ r. omega arith) xs
+  trailing (suc n) [] up = tt
+  trailing (suc n) (x ∷ xs) up =
       all_both (λ r. lt r x ≡ false) (λ r. n ≤ up_to r (take n xs)) (λ r. suc n ≤ up_to r (x ∷ take n xs))
-      (λ r e h. subst (λ k. suc n ≤ k) (sym (up_to-cons r x (take n xs))) (rw e (omega (arith, h)))) (drop n xs) (all_dropped (λ r. lt r x ≡ false) n xs up.0) (behind n xs up.1)
+      (λ r e h. subst (λ k. suc n ≤ k) (sym (up_to-cons r x (take n xs))) (rw e (omega (arith, h)))) (drop n xs) (all_dropped (λ r. lt r x ≡ false) n xs up.0) (trailing n xs up.1)
 
-  all_behind : (n : ℕ) (ws : List (List X)) → AllByRecursion Up ws → AllByRecursion (λ r. n ≤ up_to r (flat_map (take n) ws)) (flat_map (drop n) ws)
-  all_behind n [] ups = tt
-  all_behind n (w ∷ ws) ups =
+  all_past : (n : ℕ) (ws : List (List X)) → AllByRecursion Up ws → AllByRecursion (λ r. n ≤ up_to r (flat_map (take n) ws)) (flat_map (drop n) ws)
+  all_past n [] ups = tt
+  all_past n (w ∷ ws) ups =
       all_join (λ r. n ≤ up_to r (take n w ++ flat_map (take n) ws)) (drop n w) (flat_map (drop n) ws)
       (all_more (λ r. n ≤ up_to r (take n w)) (λ r. n ≤ up_to r (take n w ++ flat_map (take n) ws))
-      (λ r h. let e = sum_by-append (λ x. cond (not (lt r x)) 1 0) (take n w) (flat_map (take n) ws) in omega (arith, e, h)) (drop n w) (behind n w ups.0))
+      (λ r h. let e = sum_by-append (λ x. cond (not (lt r x)) 1 0) (take n w) (flat_map (take n) ws) in omega (arith, e, h)) (drop n w) (trailing n w ups.0))
       (all_more (λ r. n ≤ up_to r (flat_map (take n) ws)) (λ r. n ≤ up_to r (take n w ++ flat_map (take n) ws))
-      (λ r h. let e = sum_by-append (λ x. cond (not (lt r x)) 1 0) (take n w) (flat_map (take n) ws) in omega (arith, e, h)) (flat_map (drop n) ws) (all_behind n ws ups.1))
+      (λ r h. let e = sum_by-append (λ x. cond (not (lt r x)) 1 0) (take n w) (flat_map (take n) ws) in omega (arith, e, h)) (flat_map (drop n) ws) (all_past n ws ups.1))
 
   -- an arrangement of all, which begins as that of the first n of each list
   pub record Whole (n : ℕ) (ws : List (List X)) (first : List X) : Type 0 where
@@ -192,7 +192,7 @@ module _ {X : Type 0} (lt : X → X → Bool) (o : IsStrictWeakOrder lt) where
       let enough : AllByRecursion (λ r. n ≤ up_to r first) (flat_map (drop n) ws) =
       all_more (λ r. n ≤ up_to r (flat_map (take n) ws)) (λ r. n ≤ up_to r first)
       (λ r h. let e = sum_by-IsPermutation (λ x. cond (not (lt r x)) 1 0) (flat_map (take n) ws) first permuted in omega (arith, e, h))
-      (flat_map (drop n) ws) (all_behind n ws ups)
+      (flat_map (drop n) ws) (all_past n ws ups)
       in
       let f = fill n (flat_map (drop n) ws) first up enough in
       record {

@@ -20,9 +20,9 @@ use Rattle.sql_tree.specs.declared.Condition.TheOpen.{Compare, In, IsNull, Not, 
 use Rattle.sql_tree.specs.declared.Condition.TheFolds.{ind-Condition}
 use Rattle.operators.proofs.OrderLemmas.{value_cmp-same}
 use Rattle.sql_eval.specs.Conditions.{truth_at, node_truth, operand_value}
-use Rattle.vschema_document.specs.declared.column.ColumnType.{ColumnType}
+use Rattle.vschema_json.specs.declared.column.ColumnType.{ColumnType}
 use Rattle.planner.specs.declared.keys.Keys.{Keys}
-use Rattle.planner.specs.Routes.{is_null_literal, node_never, is_never, is_equality, kind_in, of_kind, literal_beside, node_equals, equals, members_beside, node_among, among}
+use Rattle.planner.specs.Routes.{is_null_literal, node_never, is_never, is_equality, kind_in, of_kind, literal_with, node_equals, equals, members_with, node_among, among}
 
 abbrev pub equals_one : Value → List Value → Bool
 equals_one v members = list_any (λ m. is_true (compare Eq v m)) members
@@ -93,22 +93,22 @@ neither true b e f = e
 neither false b e f = f
 
 -- one literal, where the column decides
-beside : (row : Row) (c : ℕ) (keys : Keys) (x : Value) → is_true (compare Eq (value_at row c) x) ≡ true → AllByRecursion (IsSaid row keys) (of_kind (kind_in keys c) x)
-beside row c keys x e = by (kind_in keys c) refl
+alongside : (row : Row) (c : ℕ) (keys : Keys) (x : Value) → is_true (compare Eq (value_at row c) x) ≡ true → AllByRecursion (IsSaid row keys) (of_kind (kind_in keys c) x)
+alongside row c keys x e = by (kind_in keys c) refl
   where
     by : (kind : Option ColumnType) → kind_in keys c ≡ kind → AllByRecursion (IsSaid row keys) (of_kind kind x)
     by None is = tt
     by (Some kind) is = (record { column = c; is = is; equal = e }, tt)
 
 literals : (row : Row) (a b : Operand ℕ) (keys : Keys) → is_true (compare Eq (operand_value row a) (operand_value row b)) ≡ true
-    → AllByRecursion (IsSaid row keys) (literal_beside keys a b)
+    → AllByRecursion (IsSaid row keys) (literal_with keys a b)
 literals row (Column c) (Column d) keys e = tt
-literals row (Column c) (Literal x) keys e = beside row c keys x e
-literals row (Literal x) (Column c) keys e = beside row c keys x (turned x (value_at row c) e)
+literals row (Column c) (Literal x) keys e = alongside row c keys x e
+literals row (Literal x) (Column c) keys e = alongside row c keys x (turned x (value_at row c) e)
 literals row (Literal x) (Literal y) keys e = tt
 
 by_operator : (row : Row) (op : Comparison) (a b : Operand ℕ) (keys : Keys) → is_true (compare op (operand_value row a) (operand_value row b)) ≡ true
-    → AllByRecursion (IsSaid row keys) (cond (is_equality op) (literal_beside keys a b) [])
+    → AllByRecursion (IsSaid row keys) (cond (is_equality op) (literal_with keys a b) [])
 by_operator row Eq a b keys e = literals row a b keys e
 by_operator row Ne a b keys e = tt
 by_operator row Lt a b keys e = tt
@@ -135,7 +135,7 @@ nulls v (Int n ∷ members) e = refl
 nulls v (Bytes t ∷ members) e = refl
 
 lists : (row : Row) (a : Operand ℕ) (members : List Value) (keys : Keys) → equals_one (operand_value row a) members ≡ true
-    → AllByRecursion (IsSaidAmong row keys) (members_beside keys a members)
+    → AllByRecursion (IsSaidAmong row keys) (members_with keys a members)
 lists row (Literal x) members keys e = tt
 lists row (Column c) members keys e = by (kind_in keys c) refl
   where

@@ -6,7 +6,7 @@ use Rattle.vt_value.specs.Values.{Row}
 use Rattle.sql_tree.specs.declared.Item.{Item}
 use Rattle.sql_tree.specs.declared.Item.TheVariants as item
 use Rattle.sql_tree.specs.declared.Key.{Key}
-use Rattle.sql_tree.specs.declared.Limit.{Limit}
+use Rattle.sql_tree.specs.declared.LimitClause.{LimitClause}
 use Rattle.sql_tree.specs.declared.Operand.{Operand}
 use Rattle.sql_tree.specs.declared.Operand.TheVariants.{Column, Literal}
 use Rattle.sql_tree.specs.declared.Condition as N
@@ -14,11 +14,11 @@ use Rattle.sql_tree.specs.declared.Condition.{Condition, Condition-F, fold-Condi
 use Rattle.sql_tree.specs.declared.Condition.TheOpen.{Compare, In, IsNull, Not, And, Or}
 use Rattle.keyrange.specs.declared.KeyRange.{KeyRange}
 use Rattle.keyrange.specs.Ranges.{has_id}
-use Rattle.vschema_document.specs.declared.column.ColumnType.{ColumnType}
+use Rattle.vschema_json.specs.declared.column.ColumnType.{ColumnType}
 use Rattle.vschema.specs.declared.schema.Join.{Join}
 use Rattle.vschema.specs.declared.schema.Query.{Query}
 use Rattle.vschema.specs.declared.schema.Table.{Table}
-use Rattle.vschema.specs.Resolved.{places_from}
+use Rattle.vschema.specs.Resolved.{ordinals_from}
 use Rattle.vschema.specs.Database.{Database}
 use Rattle.aggregate.specs.Groups.{AreSummable}
 use Rattle.vschema.specs.Checks.{is_aggregated}
@@ -33,7 +33,7 @@ use Rattle.planner.specs.declared.plans.Plan.{Plan}
 use Rattle.planner.specs.Routes.{kind_in, among, first_of, keys_of, route_of, is_held, id_of, takes}
 
 -- a limit as each shard gets it: as many rows as the whole answer may need, the offset's too, at most 2^64 - 1
-abbrev pub pushed_limit : Limit → Limit
+abbrev pub pushed_limit : LimitClause → LimitClause
 pushed_limit l = record { count = min (l.offset + l.count) (2 ^ 64 - 1); offset = 0 }
 
 abbrev pub key_item : Key ℕ → Item ℕ
@@ -59,7 +59,7 @@ keys_from n (k ∷ keys) = record { column = n; descending = k.descending } ∷ 
 abbrev pub rows_finish : Query → Finish
 rows_finish q = record {
   grouping = None;
-  columns = places_from 0 q.items;
+  columns = ordinals_from 0 q.items;
   order_by = keys_from (length q.items) q.order_by;
   limit = q.limit;
 }
@@ -150,21 +150,21 @@ CanJoin None rows = ⊤
 CanJoin (Some g) rows = AreSummable g.width rows
 
 -- a shard: its range, and the database of its rows
-abbrev pub Shard : Type 0
-Shard = KeyRange × Database
+abbrev pub ShardRows : Type 0
+ShardRows = KeyRange × Database
 
 -- a list for each shard, which its own rows allow its piece
-abbrev pub Pieces : Table → Plan → List Shard → List (List Row) → Type 0
+abbrev pub Pieces : Table → Plan → List ShardRows → List (List Row) → Type 0
 Pieces t p [] [] = Unit {0}
 Pieces t p [] (list ∷ lists) = ⊥
 Pieces t p (shard ∷ shards) [] = ⊥
 Pieces t p (shard ∷ shards) (list ∷ lists) = Allowed (piece_of t p shard.0) shard.1 list × Pieces t p shards lists
 
 -- the shards that the route has
-abbrev pub routed : Table → Plan → List Shard → List Shard
+abbrev pub routed : Table → Plan → List ShardRows → List ShardRows
 routed t p shards = filter (λ shard. takes t p.route shard.0) shards
 
 -- what the plan may give over these shards
-abbrev pub PlanGives : Table → Plan → List Shard → List Row → Type 0
+abbrev pub PlanGives : Table → Plan → List ShardRows → List Row → Type 0
 PlanGives t p shards list =
     (lists : List (List Row)) × Pieces t p (routed t p shards) lists × Finishes p.finish (flat_map (λ l. l) lists) list

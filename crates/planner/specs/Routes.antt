@@ -15,14 +15,14 @@ use Rattle.sql_tree.specs.declared.Condition.{Condition, Condition-F, fold-Condi
 use Rattle.sql_tree.specs.declared.Condition.TheOpen.{Compare, In, IsNull, Not, And, Or}
 use Rattle.vschema.specs.declared.schema.Table.{Table}
 use Rattle.vschema.specs.declared.schema.VSchema.{VSchema}
-use Rattle.vschema_document.specs.declared.column.ColumnType.{ColumnType}
+use Rattle.vschema_json.specs.declared.column.ColumnType.{ColumnType}
 use Rattle.vschema.specs.declared.schema.ColumnVindex.{ColumnVindex}
 use Rattle.vschema.specs.declared.schema.Join.{Join}
 use Rattle.vschema.specs.declared.changes.Write.{Write}
 use Rattle.vschema.specs.declared.changes.Write.TheVariants.{Insert, Update, Delete}
 pub use Rattle.vschema.specs.Schema.{table_at}
 pub use Rattle.vschema.specs.Sources.{type_at}
-use Rattle.vschema.specs.Resolved.{places_from}
+use Rattle.vschema.specs.Resolved.{ordinals_from}
 use Rattle.vschema.specs.WriteChecks.{is_out_of_range, is_too_long}
 use Rattle.planner.specs.declared.keys.KeyColumn.{KeyColumn}
 use Rattle.planner.specs.declared.keys.Keys.{Keys}
@@ -62,15 +62,15 @@ of_kind None x = []
 of_kind (Some kind) x = (kind, x) ∷ []
 
 -- the literal that is compared with a deciding column, with the column's type
-abbrev pub literal_beside : Keys → Operand ℕ → Operand ℕ → List (ColumnType × Value)
-literal_beside keys (Column c) (Literal x) = of_kind (kind_in keys c) x
-literal_beside keys (Literal x) (Column c) = of_kind (kind_in keys c) x
-literal_beside keys (Column c) (Column d) = []
-literal_beside keys (Literal x) (Literal y) = []
+abbrev pub literal_with : Keys → Operand ℕ → Operand ℕ → List (ColumnType × Value)
+literal_with keys (Column c) (Literal x) = of_kind (kind_in keys c) x
+literal_with keys (Literal x) (Column c) = of_kind (kind_in keys c) x
+literal_with keys (Column c) (Column d) = []
+literal_with keys (Literal x) (Literal y) = []
 
 -- the literals of the conjuncts `column = literal` and `literal = column`
 abbrev pub node_equals : Keys → Condition-F ℕ (List (ColumnType × Value)) → List (ColumnType × Value)
-node_equals keys (Compare op a b) = if is_equality op then literal_beside keys a b else []
+node_equals keys (Compare op a b) = if is_equality op then literal_with keys a b else []
 node_equals keys (In a members) = []
 node_equals keys (IsNull a) = []
 node_equals keys (Not literals) = []
@@ -80,14 +80,14 @@ node_equals keys (Or literals) = []
 abbrev pub equals : Keys → Condition ℕ → List (ColumnType × Value)
 equals keys c = fold-Condition ℕ (List (ColumnType × Value)) (node_equals keys) c
 
-abbrev pub members_beside : Keys → Operand ℕ → List Value → List (ColumnType × List Value)
-members_beside keys (Column c) members = of_kind (kind_in keys c) members
-members_beside keys (Literal x) members = []
+abbrev pub members_with : Keys → Operand ℕ → List Value → List (ColumnType × List Value)
+members_with keys (Column c) members = of_kind (kind_in keys c) members
+members_with keys (Literal x) members = []
 
 -- the members of the conjuncts `column IN (..)`
 abbrev pub node_among : Keys → Condition-F ℕ (List (ColumnType × List Value)) → List (ColumnType × List Value)
 node_among keys (Compare op a b) = []
-node_among keys (In a members) = members_beside keys a members
+node_among keys (In a members) = members_with keys a members
 node_among keys (IsNull a) = []
 node_among keys (Not lists) = []
 node_among keys (And lists) = flat_map (λ l. l) lists
@@ -179,6 +179,6 @@ is_sharded (route.In values) = true
 is_sharded route.Scatter = true
 
 -- The places of the sharded keyspace's ranges that the route takes, in their order. The shard of the unsharded keyspace is none of them.
-abbrev pub taken_places : Table → Route → List KeyRange → List ℕ
-taken_places t r ranges =
-    map (λ p. p.0) (filter (λ p. is_sharded r && takes t r p.1) (zip (places_from 0 ranges) ranges))
+abbrev pub taken_ordinals : Table → Route → List KeyRange → List ℕ
+taken_ordinals t r ranges =
+    map (λ p. p.0) (filter (λ p. is_sharded r && takes t r p.1) (zip (ordinals_from 0 ranges) ranges))

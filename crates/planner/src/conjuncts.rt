@@ -2,7 +2,7 @@
 ghost use Rattle.std.specs.Prelude.{◌≡◌, IfOk, IfErr, map, flat_map};
 ghost use Rattle.std.specs.List.{list_any, list_all};
 ghost use Rattle.vt_value.specs.Values.{is_null};
-ghost use Rattle.planner.specs.Routes.{is_null_literal, is_never, of_kind, literal_beside, equals, members_beside, among, first_of};
+ghost use Rattle.planner.specs.Routes.{is_null_literal, is_never, of_kind, literal_with, equals, members_with, among, first_of};
 
 use crate::keys::{Keys, kind_in};
 use sql_tree::{Condition, Operand};
@@ -67,7 +67,7 @@ pub fn first_equal(
     ensures err { IfErr result (λ e. e ≡ Refusal.OutOfMemory) }
 {
     match condition {
-        Condition::Compare(Comparison::Eq, a, b) => literal_beside(alloc, keys, a, b),
+        Condition::Compare(Comparison::Eq, a, b) => literal_with(alloc, keys, a, b),
         Condition::And(members) => first_equal_of(alloc, keys, members.as_slice()),
         _ => Ok(None),
     }
@@ -91,19 +91,19 @@ fn first_equal_of(
     Ok(None)
 }
 
-fn literal_beside(
+fn literal_with(
     alloc: Global,
     keys: Keys,
     a: &Operand<usize>,
     b: &Operand<usize>,
 ) -> Result<Option<(ColumnType, Value)>, Refusal>
-    ensures ok { IfOk result (λ found. found ≡ first_of (literal_beside keys a.now b.now)) }
+    ensures ok { IfOk result (λ found. found ≡ first_of (literal_with keys a.now b.now)) }
     ensures err { IfErr result (λ e. e ≡ Refusal.OutOfMemory) }
 {
     match (a, b) {
-        (Operand::Column(place), Operand::Literal(value))
-        | (Operand::Literal(value), Operand::Column(place)) => {
-            copy_where(alloc, kind_in(keys, *place), value)
+        (Operand::Column(ordinal), Operand::Literal(value))
+        | (Operand::Literal(value), Operand::Column(ordinal)) => {
+            copy_where(alloc, kind_in(keys, *ordinal), value)
         }
         _ => Ok(None),
     }
@@ -143,17 +143,17 @@ fn copy_members_where(
     }
 }
 
-fn members_beside(
+fn members_with(
     alloc: Global,
     keys: Keys,
     operand: &Operand<usize>,
     members: &Items<Value>,
 ) -> Result<Option<(ColumnType, Items<Value>)>, Refusal>
-    ensures ok { IfOk result (λ found. found ≡ first_of (members_beside keys operand.now members.now)) }
+    ensures ok { IfOk result (λ found. found ≡ first_of (members_with keys operand.now members.now)) }
     ensures err { IfErr result (λ e. e ≡ Refusal.OutOfMemory) }
 {
     match operand {
-        Operand::Column(place) => copy_members_where(alloc, kind_in(keys, *place), members),
+        Operand::Column(ordinal) => copy_members_where(alloc, kind_in(keys, *ordinal), members),
         Operand::Literal(_) => Ok(None),
     }
 }
@@ -169,7 +169,7 @@ pub fn first_among(
     ensures err { IfErr result (λ e. e ≡ Refusal.OutOfMemory) }
 {
     match condition {
-        Condition::In(operand, members) => members_beside(alloc, keys, operand, members),
+        Condition::In(operand, members) => members_with(alloc, keys, operand, members),
         Condition::And(members) => first_among_of(alloc, keys, members.as_slice()),
         _ => Ok(None),
     }

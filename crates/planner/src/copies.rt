@@ -11,7 +11,7 @@ pub fn copy_operand(alloc: Global, operand: &Operand<usize>) -> Result<Operand<u
     ensures err { IfErr result (λ e. e ≡ Refusal.OutOfMemory) }
 {
     match operand {
-        Operand::Column(place) => Ok(Operand::Column(*place)),
+        Operand::Column(ordinal) => Ok(Operand::Column(*ordinal)),
         Operand::Literal(value) => {
             let value = copy(alloc, value)?;
             Ok(Operand::Literal(value))
@@ -111,13 +111,13 @@ pub fn copy_keys(alloc: Global, keys: &[Key<usize>]) -> Result<Items<Key<usize>>
     Ok(copied)
 }
 
-pub fn copy_places(alloc: Global, places: &[usize]) -> Result<Items<usize>, Refusal>
-    ensures ok { IfOk result (λ list. list ≡ places.now) }
+pub fn copy_ordinals(alloc: Global, ordinals: &[usize]) -> Result<Items<usize>, Refusal>
+    ensures ok { IfOk result (λ list. list ≡ ordinals.now) }
     ensures err { IfErr result (λ e. e ≡ Refusal.OutOfMemory) }
 {
-    let mut copied = Items::from_vec(Vec::with_capacity(alloc, places.len())?);
-    for place in places {
-        copied.push(*place)?;
+    let mut copied = Items::from_vec(Vec::with_capacity(alloc, ordinals.len())?);
+    for ordinal in ordinals {
+        copied.push(*ordinal)?;
     }
     Ok(copied)
 }

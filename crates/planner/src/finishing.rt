@@ -4,7 +4,7 @@ ghost use Rattle.operators.specs.Orders.{row_cmp};
 ghost use Rattle.operators.specs.Slices.{sliced, columns_of};
 ghost use Rattle.planner.specs.Plans.{joined_by, CanJoin, Finishes};
 
-use crate::copies::copy_places;
+use crate::copies::copy_ordinals;
 use crate::plans::Finish;
 use operators::{Concat, Limit, MergeSort, Operator, Project, collect};
 use sql_eval::show;
@@ -15,13 +15,13 @@ use vt_value::{Items, Refusal, Row};
 fn slice<O: Operator>(
     alloc: Global,
     rows: O,
-    limit: Option<sql_tree::Limit>,
-    places: Items<usize>,
+    limit: Option<sql_tree::LimitClause>,
+    ordinals: Items<usize>,
 ) -> Result<Items<Row>, Refusal>
-    ensures ok { IfOk result (λ list. list ≡ map (columns_of places) (sliced limit (O.to_come rows))) }
+    ensures ok { IfOk result (λ list. list ≡ map (columns_of ordinals) (sliced limit (O.to_come rows))) }
     ensures err { IfErr result (λ e. e ≡ Refusal.OutOfMemory) }
 {
-    let mut shown = Project::new(Limit::new(rows, limit), places);
+    let mut shown = Project::new(Limit::new(rows, limit), ordinals);
     collect(alloc, &mut shown)
 }
 
@@ -33,7 +33,7 @@ impl Finish {
         ensures ok { IfOk result (Finishes self.now (flat_map O.to_come pieces.items)) }
         ensures err { IfErr result (λ e. e ≡ Refusal.OutOfMemory) }
     {
-        let columns = copy_places(alloc, self.columns.as_slice())?;
+        let columns = copy_ordinals(alloc, self.columns.as_slice())?;
         let pieces = Concat::new(pieces);
         if self.grouping.is_none() && self.order_by.is_empty() {
             return slice(alloc, pieces, self.limit, columns);
@@ -57,7 +57,7 @@ impl Finish {
         if self.grouping.is_some() || self.order_by.is_empty() {
             return self.answer(alloc, pieces);
         }
-        let columns = copy_places(alloc, self.columns.as_slice())?;
+        let columns = copy_ordinals(alloc, self.columns.as_slice())?;
         let merge = MergeSort::new(alloc, pieces, self.order_by.as_slice())?;
         slice(alloc, merge, self.limit, columns)
     }

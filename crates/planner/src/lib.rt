@@ -14,7 +14,7 @@ mod spans;
 mod taking;
 
 pub use keys::{KeyColumn, Keys};
-pub use members::{KnownId, Member, Members};
+pub use members::{InValue, InValues, KnownId};
 pub use planning::{plan, query_route};
 pub use plans::{Finish, Plan};
 pub use routes::{Route, route_of, write_route};

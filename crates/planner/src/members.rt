@@ -20,7 +20,7 @@ pub enum KnownId {
 
 /// A value of the vindex column, with its keyspace id by a vindex.
 #[derive(Drop)]
-pub struct Member {
+pub struct InValue {
     pub(crate) value: Value,
     pub(crate) vindex: AnyVindex,
     pub(crate) id: KnownId,
@@ -39,13 +39,13 @@ fn known_id(vindex: AnyVindex, value: &Value) -> KnownId
 
 /// The values of an IN on the vindex column. Contracts see the list of the values.
 #[derive(Drop)]
-pub struct Members {
-    list: Vec<Member>,
+pub struct InValues {
+    list: Vec<InValue>,
     /// Where all their ids lie, if this is known.
     span: Option<Span>,
 }
 
-impl Model for Members {
+impl Model for InValues {
     ghost use Rattle.std.specs.Prelude.{List, map, IfSome};
     ghost use Rattle.planner.specs.inner.Spans.{AllIn};
     ghost use Rattle.std.specs.Coded.{coded_list};
@@ -61,12 +61,12 @@ impl Model for Members {
     ghost invariant = { λ m. IfSome m.span (AllIn (map (λ x. x.value) m.list.items)) };
 }
 
-impl Members {
+impl InValues {
     /// No values.
-    pub fn new(alloc: Global) -> Members
+    pub fn new(alloc: Global) -> InValues
         ensures { result ≡ [] }
     {
-        Members {
+        InValues {
             list: Vec::new(alloc),
             span: None,
         }
@@ -78,7 +78,7 @@ impl Members {
     {
         let id = known_id(vindex, &value);
         let span = span_with(self.span, self.list.is_empty(), vindex, id);
-        self.list.push(Member { value, vindex, id })?;
+        self.list.push(InValue { value, vindex, id })?;
         self.span = span;
         Ok(())
     }
@@ -97,7 +97,7 @@ impl Members {
     }
 
     /// The values with their ids.
-    pub(crate) fn as_slice(&self) -> &[Member]
+    pub(crate) fn as_slice(&self) -> &[InValue]
         ensures { map (λ m. m.value) result.now ≡ self.now }
     {
         self.list.as_slice()

@@ -3,12 +3,12 @@ ghost use Rattle.std.specs.Prelude.{◌≡◌, ◌&&◌, IsTrue, IfSome, IfOk, I
 ghost use Rattle.std.specs.List.{list_any};
 ghost use Rattle.vt_value.specs.declared.value.Value.{Value as V};
 ghost use Rattle.keyrange.specs.Ranges.{has_id};
-ghost use Rattle.planner.specs.Routes.{members_beside, first_of, is_held, id_of};
+ghost use Rattle.planner.specs.Routes.{members_with, first_of, is_held, id_of};
 ghost use Rattle.planner.specs.Plans.{has_among, first_cut, cut_members, cut_in, cut_by, cut_of, is_member_of, shard_filter, piece_of};
 
 use crate::copies::{copy_condition, copy_items, copy_keys, copy_operand};
 use crate::keys::{Keys, keys_on, kind_in};
-use crate::members::Member;
+use crate::members::InValue;
 use crate::plans::Plan;
 use crate::routes::{Route, is_held};
 use crate::taking::{has_member, has_value};
@@ -19,10 +19,10 @@ use vschema::{ColumnType, Join, Query, Table};
 use vt_value::{Items, Refusal, Value, copy, copy_row};
 
 fn is_key(keys: Keys, operand: &Operand<usize>) -> bool
-    ensures { (members : List V) → result ≡ is_some (first_of (members_beside keys operand.now members)) }
+    ensures { (members : List V) → result ≡ is_some (first_of (members_with keys operand.now members)) }
 {
     match operand {
-        Operand::Column(place) => kind_in(keys, *place).is_some(),
+        Operand::Column(ordinal) => kind_in(keys, *ordinal).is_some(),
         Operand::Literal(_) => false,
     }
 }
@@ -58,7 +58,7 @@ struct Home<'h> {
     keys: Keys,
     range: &'h KeyRange,
     /// The values of the route, in the order in which the members come.
-    known: &'h [Member],
+    known: &'h [InValue],
 }
 
 // Whether both are the same number or text.
@@ -73,7 +73,7 @@ fn is_same_value(a: &Value, b: &Value) -> bool
 }
 
 // What is known of a value: the member at a place, where it has this value.
-fn known_at<'k>(known: &'k [Member], at: usize, value: &Value) -> Option<&'k Member>
+fn known_at<'k>(known: &'k [InValue], at: usize, value: &Value) -> Option<&'k InValue>
     ensures { IfSome result (λ member. member.now.value ≡ value.now) }
 {
     match known.get(at) {
@@ -82,7 +82,7 @@ fn known_at<'k>(known: &'k [Member], at: usize, value: &Value) -> Option<&'k Mem
     }
 }
 
-fn is_in_range(home: &Home, value: &Value, known: Option<&Member>) -> bool
+fn is_in_range(home: &Home, value: &Value, known: Option<&InValue>) -> bool
     requires { IfSome known (λ member. member.now.value ≡ value.now) }
     ensures { result ≡ has_id home.now.range.now (id_of home.now.table.now value.now) }
 {
@@ -92,7 +92,7 @@ fn is_in_range(home: &Home, value: &Value, known: Option<&Member>) -> bool
     }
 }
 
-fn is_own(home: &Home, kind: ColumnType, value: &Value, known: Option<&Member>) -> bool
+fn is_own(home: &Home, kind: ColumnType, value: &Value, known: Option<&InValue>) -> bool
     requires { IfSome known (λ member. member.now.value ≡ value.now) }
     ensures { result ≡ is_member_of home.now.table.now home.now.range.now kind value.now }
 {
@@ -147,8 +147,8 @@ fn cut_in(
     ensures err { IfErr result (λ e. e ≡ Refusal.OutOfMemory) }
 {
     let members = match operand {
-        Operand::Column(place) => {
-            cut_members_of(alloc, home, kind_in(home.keys, *place), members)?
+        Operand::Column(ordinal) => {
+            cut_members_of(alloc, home, kind_in(home.keys, *ordinal), members)?
         }
         Operand::Literal(_) => copy_row(alloc, members)?,
     };

@@ -1,7 +1,7 @@
 //! From a query to its plan.
 ghost use Rattle.std.specs.Prelude.{◌≡◌, ◌++◌, IfOk, IfErr, map, length};
 ghost use Rattle.sql_tree.specs.declared.Item.TheVariants as item;
-ghost use Rattle.vschema.specs.Resolved.{places_from};
+ghost use Rattle.vschema.specs.Resolved.{ordinals_from};
 ghost use Rattle.planner.specs.Routes.{table_at, route_of};
 ghost use Rattle.planner.specs.Plans.{pushed_limit, key_item, pushed_rows, pushed_groups, pushed, keys_from, rows_finish, groups_finish, finish_of, planned};
 ghost use Rattle.planner.specs.Right.{IsRightPlan, SkipsNothing, GivesInOrder};
@@ -10,16 +10,16 @@ use crate::copies::copy_items;
 use crate::plans::{Finish, Plan};
 use crate::routes::{Route, route_of};
 use sql_eval::{Grouping, copy_item, group_columns, group_order};
-use sql_tree::{Item, Key, Limit};
+use sql_tree::{Item, Key, LimitClause};
 use std::alloc::Global;
 use vschema::{Query, VSchema};
 use vt_value::{Items, Refusal};
 
 // As many rows as the whole answer may need from one shard.
-fn pushed_limit(limit: Limit) -> Limit
+fn pushed_limit(limit: LimitClause) -> LimitClause
     ensures { result ≡ pushed_limit limit }
 {
-    Limit {
+    LimitClause {
         count: limit.offset.saturating_add(limit.count),
         offset: 0,
     }
@@ -143,19 +143,19 @@ fn pushed(alloc: Global, query: Query) -> Result<Query, Refusal>
     }
 }
 
-fn first_places(alloc: Global, items: &[Item<usize>]) -> Result<Items<usize>, Refusal>
-    ensures ok { IfOk result (λ places. places ≡ places_from 0 items.now) }
+fn first_ordinals(alloc: Global, items: &[Item<usize>]) -> Result<Items<usize>, Refusal>
+    ensures ok { IfOk result (λ ordinals. ordinals ≡ ordinals_from 0 items.now) }
     ensures err { IfErr result (λ e. e ≡ Refusal.OutOfMemory) }
 {
-    let mut places = Items::from_vec(Vec::with_capacity(alloc, items.len())?);
-    for (place, _) in items.iter().enumerate() {
-        places.push(place)?;
+    let mut ordinals = Items::from_vec(Vec::with_capacity(alloc, items.len())?);
+    for (ordinal, _) in items.iter().enumerate() {
+        ordinals.push(ordinal)?;
     }
-    Ok(places)
+    Ok(ordinals)
 }
 
 // The keys, by places that follow those of the items.
-fn keys_behind(
+fn keys_after(
     alloc: Global,
     items: &[Item<usize>],
     keys: &[Key<usize>],
@@ -164,9 +164,9 @@ fn keys_behind(
     ensures err { IfErr result (λ e. e ≡ Refusal.OutOfMemory) }
 {
     let mut moved = Items::new(alloc);
-    for (place, key) in keys.iter().enumerate() {
+    for (ordinal, key) in keys.iter().enumerate() {
         moved.push(Key {
-            column: items.len() + place,
+            column: items.len() + ordinal,
             descending: key.descending,
         })?;
     }
@@ -178,8 +178,8 @@ fn rows_finish(alloc: Global, query: &Query) -> Result<Finish, Refusal>
     ensures err { IfErr result (λ e. e ≡ Refusal.OutOfMemory) }
 {
     let items = query.items.as_slice();
-    let columns = first_places(alloc, items)?;
-    let order_by = keys_behind(alloc, items, query.order_by.as_slice())?;
+    let columns = first_ordinals(alloc, items)?;
+    let order_by = keys_after(alloc, items, query.order_by.as_slice())?;
     Ok(Finish {
         grouping: None,
         columns,

@@ -1,7 +1,7 @@
 //! What a plan is made of: the route, the query for each shard, and what is made of the answers.
 use crate::routes::Route;
 use sql_eval::Grouping;
-use sql_tree::{Item, Key, Limit};
+use sql_tree::{Item, Key, LimitClause};
 use vschema::Query;
 use vt_value::Items;
 
@@ -16,7 +16,7 @@ pub struct Finish {
     /// The sort keys, by the places of their columns in these rows.
     pub order_by: Items<Key<usize>>,
     /// What is left of the sorted rows, all of them without one.
-    pub limit: Option<Limit>,
+    pub limit: Option<LimitClause>,
 }
 
 /// A query on shards: its route, the query that each shard answers, and the finish.

@@ -5,7 +5,7 @@ ghost use Rattle.planner.specs.Routes.{type_at, is_held, route_among, route_by, 
 
 use crate::conjuncts::{first_among, first_equal, is_never, is_null};
 use crate::keys::{Keys, keys_on};
-use crate::members::Members;
+use crate::members::InValues;
 use sql_tree::Condition;
 use std::alloc::Global;
 use vindex::AnyVindex;
@@ -24,16 +24,16 @@ pub enum Route {
     /// The shard of this value of the vindex column.
     EqualUnique(Value),
     /// The shards of these values of the vindex column.
-    In(Members),
+    In(InValues),
     /// Every shard.
     Scatter,
 }
 
 /// The type of the column at a place, BIGINT if the table has no such column.
-pub fn type_at(table: &Table, place: usize) -> ColumnType
-    ensures { result ≡ type_at table.now place }
+pub fn type_at(table: &Table, ordinal: usize) -> ColumnType
+    ensures { result ≡ type_at table.now ordinal }
 {
-    match table.columns.as_slice().get(place) {
+    match table.columns.as_slice().get(ordinal) {
         Some(column) => column.kind,
         None => ColumnType::BigInt,
     }
@@ -52,11 +52,11 @@ fn held(
     vindex: AnyVindex,
     kind: ColumnType,
     values: &[Value],
-) -> Result<Members, Refusal>
+) -> Result<InValues, Refusal>
     ensures ok { IfOk result (λ list. list ≡ filter (is_held kind) values.now) }
     ensures err { IfErr result (λ e. e ≡ Refusal.OutOfMemory) }
 {
-    let mut list = Members::new(alloc);
+    let mut list = InValues::new(alloc);
     for value in values {
         if is_held(kind, value) {
             list.push(vindex, copy(alloc, value)?)?;
@@ -128,21 +128,21 @@ pub fn route_of(
     }
 }
 
-fn value_at(alloc: Global, row: &Row, place: usize) -> Result<Value, Refusal>
-    ensures ok { IfOk result (λ v. v ≡ value_at row.now place) }
+fn value_at(alloc: Global, row: &Row, ordinal: usize) -> Result<Value, Refusal>
+    ensures ok { IfOk result (λ v. v ≡ value_at row.now ordinal) }
     ensures err { IfErr result (λ e. e ≡ Refusal.OutOfMemory) }
 {
-    match row.as_slice().get(place) {
+    match row.as_slice().get(ordinal) {
         Some(value) => copy(alloc, value),
         None => Ok(Value::Null),
     }
 }
 
-fn values_at(alloc: Global, rows: &[Row], vindex: ColumnVindex) -> Result<Members, Refusal>
+fn values_at(alloc: Global, rows: &[Row], vindex: ColumnVindex) -> Result<InValues, Refusal>
     ensures ok { IfOk result (λ list. list ≡ map (λ row. value_at row vindex.column) rows.now) }
     ensures err { IfErr result (λ e. e ≡ Refusal.OutOfMemory) }
 {
-    let mut list = Members::new(alloc);
+    let mut list = InValues::new(alloc);
     for row in rows {
         list.push(vindex.vindex, value_at(alloc, row, vindex.column)?)?;
     }
@@ -168,8 +168,9 @@ pub fn write_route(alloc: Global, schema: &VSchema, write: &Write) -> Result<Rou
     ensures ok { IfOk result (λ route. route ≡ write_route schema.now write.now) }
     ensures err { IfErr result (λ e. e ≡ Refusal.OutOfMemory) }
 {
-    let (Write::Insert(place, _) | Write::Update(place, _, _) | Write::Delete(place, _)) = write;
-    let Some(table) = schema.tables.as_slice().get(*place) else {
+    let (Write::Insert(ordinal, _) | Write::Update(ordinal, _, _) | Write::Delete(ordinal, _)) =
+        write;
+    let Some(table) = schema.tables.as_slice().get(*ordinal) else {
         return Ok(Route::Unsharded);
     };
     match write {

@@ -6,9 +6,9 @@ ghost use Rattle.vindex.specs.Ksids.{ksid_bytes};
 ghost use Rattle.vt_value.specs.declared.value.Value.{Value};
 ghost use Rattle.planner.specs.inner.Spans.{AllIn};
 ghost use Rattle.planner.specs.declared.routes.Route.{Route};
-ghost use Rattle.planner.specs.Routes.{id_of, is_sharded, takes, taken_places};
+ghost use Rattle.planner.specs.Routes.{id_of, is_sharded, takes, taken_ordinals};
 
-use crate::members::{KnownId, Member, Members};
+use crate::members::{InValue, InValues, KnownId};
 use crate::routes::Route;
 use crate::spans::{Span, misses};
 use keyrange::KeyRange;
@@ -31,7 +31,7 @@ pub fn has_value(table: &Table, range: &KeyRange, value: &Value) -> bool
 }
 
 /// Whether the keyspace id of a member of IN, which may be known already, lies in the range.
-pub fn has_member(table: &Table, range: &KeyRange, member: &Member) -> bool
+pub fn has_member(table: &Table, range: &KeyRange, member: &InValue) -> bool
     ensures { result ≡ has_id range.now (id_of table.now member.now.value) }
 {
     match (table.vindex, &member.id) {
@@ -43,7 +43,7 @@ pub fn has_member(table: &Table, range: &KeyRange, member: &Member) -> bool
     }
 }
 
-fn has_one_of(table: &Table, range: &KeyRange, members: &[Member]) -> bool
+fn has_one_of(table: &Table, range: &KeyRange, members: &[InValue]) -> bool
     ensures { result ≡ list_any (λ m. has_id range.now (id_of table.now m.value)) members.now }
 {
     members
@@ -61,7 +61,7 @@ fn lies_outside(table: &Table, range: &KeyRange, span: Option<Span>) -> bool
     }
 }
 
-fn has_one_among(table: &Table, range: &KeyRange, values: &Members) -> bool
+fn has_one_among(table: &Table, range: &KeyRange, values: &InValues) -> bool
     ensures { result ≡ list_any (λ v. has_id range.now (id_of table.now v)) values.now }
 {
     if lies_outside(table, range, values.span()) {
@@ -123,15 +123,15 @@ pub fn shards(
     route: &Route,
     ranges: &[KeyRange],
 ) -> Result<Vec<usize>, Refusal>
-    ensures ok { IfOk result (λ places. places.items ≡ taken_places table.now route.now ranges.now) }
-    ensures unsharded { IfOk result (λ places. route.now ≡ Route.Unsharded → places.items ≡ []) }
+    ensures ok { IfOk result (λ ordinals. ordinals.items ≡ taken_ordinals table.now route.now ranges.now) }
+    ensures unsharded { IfOk result (λ ordinals. route.now ≡ Route.Unsharded → ordinals.items ≡ []) }
     ensures err { IfErr result (λ e. e ≡ Refusal.OutOfMemory) }
 {
-    let mut places = Vec::new(alloc);
-    for (place, range) in ranges.iter().enumerate() {
+    let mut ordinals = Vec::new(alloc);
+    for (ordinal, range) in ranges.iter().enumerate() {
         if takes_sharded(table, route, range) {
-            places.push(place)?;
+            ordinals.push(ordinal)?;
         }
     }
-    Ok(places)
+    Ok(ordinals)
 }

@@ -7,34 +7,35 @@ use Rattle.std.proofs.lemmas.Option.{slice_get-get_or}
 use mathlib.Core.List.{IsPrefix}
 use Rattle.journal.specs.Views.{PassView}
 use Rattle.journal.proofs.Fronts.{prefix_trans, prefix_self}
-use Rattle.shard_run.specs.declared.Shard.{Shard}
+use Rattle.shard_run.specs.declared.ShardRecord.{ShardRecord}
 use Rattle.shard_run.specs.declared.Entry.{Entry}
 use Rattle.shard_run.specs.Runs.{Opening, Run, entries_on}
 use Rattle.std.proofs.lemmas.List.{length-map}
-use Rattle.shard_contents.specs.declared.limits.Limits.{Limits}
+use Rattle.shard_law.specs.declared.limits.Limits.{Limits}
 use Rattle.follow.specs.Steps.{IsOnward, IsRunBetween}
-use Rattle.reshard_beginning.specs.declared.fault.ReshardFault.{ReshardFault}
-use Rattle.cutover_steps.specs.Steps.{named_for}
-use Rattle.cutover_steps.specs.Takings.{Taking, shards_of}
+use Rattle.reshard_cutover.specs.declared.fault.ReshardFault.{ReshardFault}
+use Rattle.reshard_cutover.specs.Steps.{named_for}
+use Rattle.reshard_cutover.specs.TargetSources.{TargetWithSources, shards_of}
 use Rattle.reshard.specs.inner.Workflows.{IsPrepared}
-use Rattle.reshard_beginning.specs.Begun.{IsMoveRefusal}
-use Rattle.reshard_beginning.specs.Begun as begun
+use Rattle.reshard_cutover.specs.FirstMoves.{IsMoveRefusal}
+use Rattle.reshard_create.specs.Begun as begun
+use Rattle.reshard_cutover.specs.FirstMoves as firstmoves_of
 use Rattle.reshard.specs.Cutover.{IsSwitchRefusal, no_memory, no_room, stuck, overfull, HasNoRoom}
-use Rattle.cutover_steps.specs.Looks.{IsServingAgain}
-use Rattle.reshard_beginning.proofs.Begins.{map_twice}
-use Rattle.cutover_steps.proofs.Retiring.{map_at}
+use Rattle.reshard_cutover.specs.Looks.{IsServingAgain}
+use Rattle.reshard_create.proofs.Begins.{map_twice}
+use Rattle.reshard_cutover.proofs.Retiring.{map_at}
 
 -- ---- the memory of a cutover
 
-module _ {S T : Type 0} (which : S → Shard) (f : T → Taking) (sources : List S) (targets : List T) where
-  pub lists_first : (retired : ℕ) (named : List (List Shard)) → retired ≡ 0 → named ≡ map (λ s. named_for (which s) (map (λ t. (f t).0) targets)) sources
+module _ {S T : Type 0} (which : S → ShardRecord) (f : T → TargetWithSources) (sources : List S) (targets : List T) where
+  pub lists_first : (retired : ℕ) (named : List (List ShardRecord)) → retired ≡ 0 → named ≡ map (λ s. named_for (which s) (map (λ t. (f t).0) targets)) sources
       → named ≡ map (λ s. named_for s (shards_of (map f targets))) (drop retired (map which sources))
   lists_first retired named none is =
-      is ∙ ap (λ (l : List Shard). map (λ s. named_for (which s) l) sources) (sym (map_twice (λ (t : Taking). t.0) f targets))
-      ∙ sym (map_twice (λ (s : Shard). named_for s (shards_of (map f targets))) which sources)
-      ∙ ap (λ (n : ℕ). map (λ (s : Shard). named_for s (shards_of (map f targets))) (drop n (map which sources))) (sym none)
+      is ∙ ap (λ (l : List ShardRecord). map (λ s. named_for (which s) l) sources) (sym (map_twice (λ (t : TargetWithSources). t.0) f targets))
+      ∙ sym (map_twice (λ (s : ShardRecord). named_for s (shards_of (map f targets))) which sources)
+      ∙ ap (λ (n : ℕ). map (λ (s : ShardRecord). named_for s (shards_of (map f targets))) (drop n (map which sources))) (sym none)
 
-  pub prepared_now : (retired : ℕ) (named : List (List Shard)) → retired ≡ 0 → named ≡ map (λ s. named_for (which s) (map (λ t. (f t).0) targets)) sources
+  pub prepared_now : (retired : ℕ) (named : List (List ShardRecord)) → retired ≡ 0 → named ≡ map (λ s. named_for (which s) (map (λ t. (f t).0) targets)) sources
       → IsPrepared (map which sources) (map f targets) retired true named
   prepared_now retired named none is = record {
     before = λ e. absurd (false≢true (sym e));
@@ -71,7 +72,7 @@ between_within p p' now now' run early late is = record {
   until = prefix_trans run now.seen now'.seen is.until late;
 }
 
-module _ (o : Opening) (most : Limits) (sources : List Shard) (targets : List Taking) (p p' now now' : PassView Entry) (early : IsPrefix p'.seen p.seen)
+module _ (o : Opening) (most : Limits) (sources : List ShardRecord) (targets : List TargetWithSources) (p p' now now' : PassView Entry) (early : IsPrefix p'.seen p.seen)
     (late : IsPrefix now.seen now'.seen) where
   pub refusal_within : (e : ReshardFault) → IsSwitchRefusal o most sources targets p now e → IsSwitchRefusal o most sources targets p' now' e
   refusal_within _ no_memory = no_memory
@@ -82,13 +83,13 @@ module _ (o : Opening) (most : Limits) (sources : List Shard) (targets : List Ta
   refusal_within _ (overfull t among is) =
       overfull t among (record { run = is.run; between = between_within p p' now now' is.run early late is.between; many = is.many })
 
-module _ (o : Opening) (most : Limits) (sources : List Shard) (targets : List Taking) (p now : PassView Entry) where
+module _ (o : Opening) (most : Limits) (sources : List ShardRecord) (targets : List TargetWithSources) (p now : PassView Entry) where
   pub from_move : (e : ReshardFault) → IsPrefix p.seen now.seen → IsMoveRefusal o most targets now e → IsSwitchRefusal o most sources targets p now e
   from_move _ later begun.no_memory = no_memory
-  from_move _ later (begun.full t among is) =
+  from_move _ later (firstmoves_of.full t among is) =
       stuck t among (record { run = now.seen; between = record { since = later; until = prefix_self now.seen }; full = is })
 
-pub serving_within : (o : Opening) (p p' now now' : PassView Entry) (sources : List Shard) → IsPrefix p'.seen p.seen → IsPrefix now.seen now'.seen
+pub serving_within : (o : Opening) (p p' now now' : PassView Entry) (sources : List ShardRecord) → IsPrefix p'.seen p.seen → IsPrefix now.seen now'.seen
     → AllByRecursion (λ s. IsServingAgain o s p now) sources → AllByRecursion (λ s. IsServingAgain o s p' now') sources
 serving_within o p p' now now' sources early late all =
     Rattle.shard_law.proofs.Lists.all-weaker (λ s. IsServingAgain o s p now) (λ s. IsServingAgain o s p' now')
@@ -110,5 +111,5 @@ module _ {X Y : Type 0} (f : X → Y) (all : List Y) (n : ℕ) (xs : List X) (i 
   pub view_among : Contains all (f x)
   view_among = subst (λ (l : List Y). Contains l (f x)) (sym view) (next_among f xs i x view_within is)
 
-pub no_room_at : (o : Opening) (s : Shard) (p now : PassView Entry) → IsOnward o p now → 2 ^ 40 ≤ length (entries_on s.slot now.seen) → HasNoRoom s p now
+pub no_room_at : (o : Opening) (s : ShardRecord) (p now : PassView Entry) → IsOnward o p now → 2 ^ 40 ≤ length (entries_on s.slot now.seen) → HasNoRoom s p now
 no_room_at o s p now on h = record { run = now.seen; between = record { since = on.later; until = prefix_self now.seen }; full = h }

@@ -5,45 +5,45 @@ use Rattle.std.specs.List.{AllByRecursion}
 use Rattle.journal.specs.Views.{PassView}
 use Rattle.vt_value.specs.declared.refusal.Refusal.{Refusal}
 use Rattle.vt_value.specs.declared.refusal.Refusal.TheVariants.{OutOfMemory, ShardFull}
-use Rattle.shard_run.specs.declared.Shard.{Shard}
+use Rattle.shard_run.specs.declared.ShardRecord.{ShardRecord}
 use Rattle.shard_run.specs.declared.Entry.{Entry}
 use Rattle.shard_run.specs.declared.Event.TheVariants as events
 use Rattle.shard_run.specs.Runs.{Opening, stored_on}
 use Rattle.shard_law.proofs.Lists.{all-weaker}
-use Rattle.shard_contents.specs.declared.limits.Limits.{Limits}
+use Rattle.shard_law.specs.declared.limits.Limits.{Limits}
 use Rattle.follow.specs.Steps.{IsOnward, HasStepped, HasMovedWith}
 use Rattle.follow.specs.declared.steps.Step.{Step}
 use Rattle.follow.specs.declared.steps.Step.TheVariants.{Copied, Followed, Level}
-use Rattle.reshard_beginning.specs.declared.fault.ReshardFault.{ReshardFault}
-use Rattle.reshard_beginning.specs.declared.fault.ReshardFault.TheVariants.{Refused}
+use Rattle.reshard_cutover.specs.declared.fault.ReshardFault.{ReshardFault}
+use Rattle.reshard_cutover.specs.declared.fault.ReshardFault.TheVariants.{Refused}
 use Rattle.reshard.specs.declared.workflow.Stage.TheVariants.{Following, Switching}
 use Rattle.reshard.specs.declared.cutover.CutoverStep.{CutoverStep}
 use Rattle.reshard.specs.declared.cutover.CutoverStep.TheVariants as steps
-use Rattle.reshard_beginning.specs.Begun.{HasMovedFirst}
-use Rattle.reshard_beginning.specs.Begun as begun
-use Rattle.cutover_steps.specs.Steps.{named_for}
+use Rattle.reshard_cutover.specs.FirstMoves.{HasMovedFirst}
+use Rattle.reshard_cutover.specs.FirstMoves as firstmoves_of
+use Rattle.reshard_cutover.specs.Steps.{named_for}
 use Rattle.reshard.specs.Workflows.{WorkflowView}
-use Rattle.cutover_steps.specs.Takings.{Taking, shards_of}
+use Rattle.reshard_cutover.specs.TargetSources.{TargetWithSources, shards_of}
 use Rattle.reshard.specs.Cutover.{HasSwitched, HasStopped, HasNoRoom, HasFoundReady, EndsAlone, DoesNoMore, IsSwitchRefusal, MayRetireFirst}
 use Rattle.follow.specs.Turns.{EachInTurn}
-use Rattle.cutover_steps.specs.Looks.{HasLookedForOneChange, HasThawed, IsServingAgain, IsWithinRows}
+use Rattle.reshard_cutover.specs.Looks.{HasLookedForOneChange, HasThawed, IsServingAgain, IsWithinRows}
 use Rattle.reshard.specs.Cutover as cut
-use Rattle.cutover_steps.proofs.Onward.{stepped_after}
-use Rattle.reshard_beginning.proofs.Moving.{with_after, with_later}
+use Rattle.reshard_cutover.proofs.Onward.{stepped_after}
+use Rattle.reshard_cutover.proofs.Moving.{with_after, with_later}
 use mathlib.Core.List.{IsPrefix}
 use Rattle.journal.proofs.Fronts.{prefix_trans, prefix_self}
 
-module _ (o : Opening) (targets : List Taking) (p q now : PassView Entry) (on : IsOnward o p q) where
-  levels : (ts : List Taking) → AllByRecursion (λ t. HasMovedWith o t.1 t.0 q now Level) ts → AllByRecursion (λ t. HasMovedWith o t.1 t.0 p now Level) ts
+module _ (o : Opening) (targets : List TargetWithSources) (p q now : PassView Entry) (on : IsOnward o p q) where
+  levels : (ts : List TargetWithSources) → AllByRecursion (λ t. HasMovedWith o t.1 t.0 q now Level) ts → AllByRecursion (λ t. HasMovedWith o t.1 t.0 p now Level) ts
   levels ts h =
-      all-weaker (λ (t : Taking). HasMovedWith o t.1 t.0 q now Level) (λ (t : Taking). HasMovedWith o t.1 t.0 p now Level)
+      all-weaker (λ (t : TargetWithSources). HasMovedWith o t.1 t.0 q now Level) (λ (t : TargetWithSources). HasMovedWith o t.1 t.0 p now Level)
       (λ t k. with_after o t.1 t.0 p q now on Level k) ts h
 
   -- a step of the targets counts from any time before it
   pub first_after : (step : Step) → HasMovedFirst o targets q now step → HasMovedFirst o targets p now step
-  first_after step (begun.one before after t is all moved) =
-      begun.one before after t is (levels before all) (with_after o t.1 t.0 p q now on step moved)
-  first_after _ (begun.all_level all) = begun.all_level (levels targets all)
+  first_after step (firstmoves_of.one before after t is all moved) =
+      firstmoves_of.one before after t is (levels before all) (with_after o t.1 t.0 p q now on step moved)
+  first_after _ (firstmoves_of.all_level all) = firstmoves_of.all_level (levels targets all)
 
 module _ (o : Opening) (w now : WorkflowView) (p q r : PassView Entry) (on : IsOnward o p q) where
   since : (step : CutoverStep) → HasSwitched o (record w { prepared = true }) now q r step → HasSwitched o w now p r step
@@ -61,7 +61,7 @@ module _ (o : Opening) (w now : WorkflowView) (p q r : PassView Entry) (on : IsO
   switched_since mid made step h = since step (subst (λ (v : WorkflowView). HasSwitched o v now q r step) made h)
 
 module _ (o : Opening) (w w1 now : WorkflowView) (p q : PassView Entry) (made : w1 ≡ record w { prepared = true }) where
-  pub froze_after : ((s : Shard) × (slice_get w1.sources w1.frozen ≡ Some s) × HasStepped o s events.Freeze p q × HasLookedForOneChange s.slot p q
+  pub froze_after : ((s : ShardRecord) × (slice_get w1.sources w1.frozen ≡ Some s) × HasStepped o s events.Freeze p q × HasLookedForOneChange s.slot p q
       × (now.stored ≡ slice_set w1.stored w1.frozen (length (stored_on s.slot q.seen)))) → now ≡ record w1 { stage = Switching; frozen = w1.frozen + 1; stored = now.stored }
       → HasSwitched o w now p q steps.Freeze
   froze_after h is =
@@ -106,11 +106,11 @@ same_alone w m q steps.Release h = h
 pub alone_of : (w w1 : WorkflowView) (m q : PassView Entry) (step : CutoverStep) → w1 ≡ record w { prepared = true } → EndsAlone w1 m q step → EndsAlone w m q step
 alone_of w w1 m q step made h = same_alone w m q step (subst (λ (v : WorkflowView). EndsAlone v m q step) made h)
 
-module _ (o : Opening) (most : Limits) (sources : List Shard) (targets : List Taking) (p now : PassView Entry) (e : Refusal) where
+module _ (o : Opening) (most : Limits) (sources : List ShardRecord) (targets : List TargetWithSources) (p now : PassView Entry) (e : Refusal) where
   pub memory_refused : e ≡ OutOfMemory → IsSwitchRefusal o most sources targets p now (Refused e)
   memory_refused is = subst (λ (x : Refusal). IsSwitchRefusal o most sources targets p now (Refused x)) (sym is) cut.no_memory
 
-  pub room_refused : (e ≡ ShardFull) × ((s : Shard) × Contains sources s × HasNoRoom s p now) → IsSwitchRefusal o most sources targets p now (Refused e)
+  pub room_refused : (e ≡ ShardFull) × ((s : ShardRecord) × Contains sources s × HasNoRoom s p now) → IsSwitchRefusal o most sources targets p now (Refused e)
   room_refused h =
       subst (λ (x : Refusal). IsSwitchRefusal o most sources targets p now (Refused x)) (sym h.0) (cut.no_room h.1.0 h.1.1 h.1.2)
 
@@ -136,8 +136,8 @@ stopped o most w mid now p at q e on cause none same is again thawed = record {
     at =
         is ∙ ap (λ (v : WorkflowView). record v { stage = Following; frozen = 0 }) same
         ∙ ap (λ (b : Bool). record w { stage = Following; frozen = 0; prepared = b }) (sym (ap (λ (v : WorkflowView). v.prepared) is));
-    serve = subst (λ (l : List Shard). AllByRecursion (λ s. IsServingAgain o s at q) l) (ap (λ (v : WorkflowView). v.sources) same) again;
-    thawed = subst (λ (l : List Shard). EachInTurn (HasThawed o) l at q) (ap (λ (v : WorkflowView). v.sources) same) thawed;
+    serve = subst (λ (l : List ShardRecord). AllByRecursion (λ s. IsServingAgain o s at q) l) (ap (λ (v : WorkflowView). v.sources) same) again;
+    thawed = subst (λ (l : List ShardRecord). EachInTurn (HasThawed o) l at q) (ap (λ (v : WorkflowView). v.sources) same) thawed;
   };
 }
 
@@ -152,22 +152,22 @@ given_up o w now p q none is again thawed = record {
 
 -- ---- the first source may retire
 
-module _ (o : Opening) (targets : List Taking) (p q now : PassView Entry) (on : IsOnward o q now) where
-  levels_later : (ts : List Taking) → AllByRecursion (λ t. HasMovedWith o t.1 t.0 p q Level) ts → AllByRecursion (λ t. HasMovedWith o t.1 t.0 p now Level) ts
+module _ (o : Opening) (targets : List TargetWithSources) (p q now : PassView Entry) (on : IsOnward o q now) where
+  levels_later : (ts : List TargetWithSources) → AllByRecursion (λ t. HasMovedWith o t.1 t.0 p q Level) ts → AllByRecursion (λ t. HasMovedWith o t.1 t.0 p now Level) ts
   levels_later ts h =
-      all-weaker (λ (t : Taking). HasMovedWith o t.1 t.0 p q Level) (λ (t : Taking). HasMovedWith o t.1 t.0 p now Level)
+      all-weaker (λ (t : TargetWithSources). HasMovedWith o t.1 t.0 p q Level) (λ (t : TargetWithSources). HasMovedWith o t.1 t.0 p now Level)
       (λ t k. with_later o t.1 t.0 p q now on k) ts h
 
   -- what was level stays so in what the pass sees later
   pub level_later : HasMovedFirst o targets p q Level → HasMovedFirst o targets p now Level
-  level_later (begun.one before after t is all moved) =
-      begun.one before after t is (levels_later before all) (with_later o t.1 t.0 p q now on moved)
-  level_later (begun.all_level all) = begun.all_level (levels_later targets all)
+  level_later (firstmoves_of.one before after t is all moved) =
+      firstmoves_of.one before after t is (levels_later before all) (with_later o t.1 t.0 p q now on moved)
+  level_later (firstmoves_of.all_level all) = firstmoves_of.all_level (levels_later targets all)
 
-pub within_between : (o : Opening) (most : Limits) (targets : List Taking) (p p' now now' : PassView Entry) → IsPrefix p'.seen p.seen → IsPrefix now.seen now'.seen
+pub within_between : (o : Opening) (most : Limits) (targets : List TargetWithSources) (p p' now now' : PassView Entry) → IsPrefix p'.seen p.seen → IsPrefix now.seen now'.seen
     → AllByRecursion (λ t. IsWithinRows o most t.0 p now) targets → AllByRecursion (λ t. IsWithinRows o most t.0 p' now') targets
 within_between o most targets p p' now now' early late all =
-    all-weaker (λ (t : Taking). IsWithinRows o most t.0 p now) (λ (t : Taking). IsWithinRows o most t.0 p' now')
+    all-weaker (λ (t : TargetWithSources). IsWithinRows o most t.0 p now) (λ (t : TargetWithSources). IsWithinRows o most t.0 p' now')
     (λ t h. record {
       run = h.run;
       between = record {

@@ -2,22 +2,22 @@
 use Rattle.std.proofs.Common.{◌≡◌, ◌⊎◌, inl, inr, ◌+◌, Bool, true, List, refl, sym, ap, ◌∙◌, subst}
 use Rattle.std.specs.Prelude.{IfErr, Result, Ok, Err}
 use Rattle.journal.specs.Views.{PassView}
-use Rattle.shard_run.specs.declared.Shard.{Shard}
+use Rattle.shard_run.specs.declared.ShardRecord.{ShardRecord}
 use Rattle.shard_run.specs.declared.Entry.{Entry}
 use Rattle.shard_run.specs.Runs.{Opening}
-use Rattle.shard_contents.specs.declared.limits.Limits.{Limits}
+use Rattle.shard_law.specs.declared.limits.Limits.{Limits}
 use Rattle.follow.specs.Steps.{IsOnward}
-use Rattle.reshard_beginning.specs.declared.fault.ReshardFault.{ReshardFault}
-use Rattle.reshard_beginning.specs.declared.fault.ReshardFault.TheVariants.{WrongState}
+use Rattle.reshard_cutover.specs.declared.fault.ReshardFault.{ReshardFault}
+use Rattle.reshard_cutover.specs.declared.fault.ReshardFault.TheVariants.{WrongState}
 use Rattle.reshard.specs.declared.workflow.Stage.{Stage}
 use Rattle.reshard.specs.declared.workflow.Stage.TheVariants.{None, Switching, Switched}
 use Rattle.reshard.specs.declared.cutover.CutoverStep.{CutoverStep}
 use Rattle.reshard.specs.declared.cutover.CutoverStep.TheVariants.{Release}
 use Rattle.reshard.specs.Workflows.{WorkflowView}
-use Rattle.cutover_steps.specs.Takings.{Taking}
+use Rattle.reshard_cutover.specs.TargetSources.{TargetWithSources}
 use Rattle.reshard.specs.Cutover.{IsFurther, HasFinished, HasSwitched, HasStopped, HasStoppedLater, MaySwitch}
-use Rattle.cutover_steps.specs.Looks.{IsCutOver}
-use Rattle.cutover_steps.proofs.Onward.{onward_trans}
+use Rattle.reshard_cutover.specs.Looks.{IsCutOver}
+use Rattle.reshard_cutover.proofs.Onward.{onward_trans}
 use Rattle.reshard.specs.Cutover as cut
 
 pub further_still : (w : WorkflowView) → IsFurther w w
@@ -84,12 +84,12 @@ module _ (o : Opening) (w now : WorkflowView) (p q : PassView Entry) where
   may_still _ (cut.published u a b e) r m = kept (record w { prepared = true; published = true }) e refl m
   may_still _ (cut.released u a b e) r m = absurd (r refl)
 
-pub finished : (w now : WorkflowView) (q : PassView Entry) → IsFurther w now → now.stage ≡ Switched → now.published ≡ true → (sources : List Shard) (targets : List Taking)
+pub finished : (w now : WorkflowView) (q : PassView Entry) → IsFurther w now → now.stage ≡ Switched → now.published ≡ true → (sources : List ShardRecord) (targets : List TargetWithSources)
     → sources ≡ now.sources → targets ≡ now.targets → IsCutOver q.seen sources targets → HasFinished w now q
 finished w now q far end out sources targets s t through = record {
   through =
-      subst (λ (l : List Taking). IsCutOver q.seen w.sources l) (t ∙ ap (λ (v : WorkflowView). v.targets) far)
-      (subst (λ (l : List Shard). IsCutOver q.seen l targets) (s ∙ ap (λ (v : WorkflowView). v.sources) far) through);
+      subst (λ (l : List TargetWithSources). IsCutOver q.seen w.sources l) (t ∙ ap (λ (v : WorkflowView). v.targets) far)
+      (subst (λ (l : List ShardRecord). IsCutOver q.seen l targets) (s ∙ ap (λ (v : WorkflowView). v.sources) far) through);
   at =
       far
       ∙ ap (λ (x : Stage). record w { stage = x; frozen = now.frozen; retired = now.retired; served = now.served; stored = now.stored; prepared = now.prepared; published = now.published }) end

@@ -3,26 +3,26 @@ use Rattle.std.specs.Prelude.{◌≡◌, ◌⊎◌, ◌≤◌, ◌+◌, ◌^◌,
 use Rattle.std.specs.List.{AllByRecursion}
 use Rattle.vt_value.specs.declared.refusal.Refusal.TheVariants.{OutOfMemory, ShardFull}
 use Rattle.journal.specs.Views.{PassView}
-use Rattle.shard_run.specs.declared.Shard.{Shard}
+use Rattle.shard_run.specs.declared.ShardRecord.{ShardRecord}
 use Rattle.shard_run.specs.declared.Entry.{Entry}
 use Rattle.shard_run.specs.declared.Event.TheVariants as events
 use Rattle.shard_run.specs.Runs.{Opening, Run, entries_on, stored_on}
-use Rattle.shard_contents.specs.declared.limits.Limits.{Limits}
+use Rattle.shard_law.specs.declared.limits.Limits.{Limits}
 use Rattle.follow.specs.Steps.{IsOnward, IsRunBetween, HasStepped, IsFull}
 use Rattle.follow.specs.Turns.{EachInTurn}
 use Rattle.follow.specs.declared.steps.Step.TheVariants as moves
-use Rattle.reshard_beginning.specs.declared.fault.ReshardFault.{ReshardFault}
-use Rattle.reshard_beginning.specs.declared.fault.ReshardFault.TheVariants.{Refused}
+use Rattle.reshard_cutover.specs.declared.fault.ReshardFault.{ReshardFault}
+use Rattle.reshard_cutover.specs.declared.fault.ReshardFault.TheVariants.{Refused}
 use Rattle.reshard.specs.declared.workflow.Stage.TheVariants as stages
 use Rattle.reshard.specs.declared.cutover.CutoverStep.{CutoverStep}
 use Rattle.reshard.specs.declared.finishing.Resumed.{Resumed}
 use Rattle.reshard.specs.declared.finishing.Resumed.TheVariants.{Thawed, Finished}
 use Rattle.reshard.specs.declared.cutover.CutoverStep.TheVariants.{Freeze, Copy, Follow, Retire, Serve, Publish, Release}
-use Rattle.cutover_steps.specs.Steps.{named_for}
-use Rattle.cutover_steps.specs.Looks.{HasLookedOnlyAt, HasLookedForOneChange, HasThawed, IsServingAgain, IsCutOver, IsOverfull, IsWithinRows}
+use Rattle.reshard_cutover.specs.Steps.{named_for}
+use Rattle.reshard_cutover.specs.Looks.{HasLookedOnlyAt, HasLookedForOneChange, HasThawed, IsServingAgain, IsCutOver, IsOverfull, IsWithinRows}
 use Rattle.reshard.specs.Workflows.{WorkflowView}
-use Rattle.cutover_steps.specs.Takings.{Taking, shards_of}
-use Rattle.reshard_beginning.specs.Begun.{HasMovedFirst, IsOneStepFirst}
+use Rattle.reshard_cutover.specs.TargetSources.{TargetWithSources, shards_of}
+use Rattle.reshard_cutover.specs.FirstMoves.{HasMovedFirst, IsOneStepFirst}
 
 -- a cutover goes on while targets follow, or it has begun
 abbrev pub MaySwitch : WorkflowView → Type 0
@@ -33,36 +33,36 @@ abbrev pub MayCancel : WorkflowView → Type 0
 MayCancel w = (w.stage ≡ stages.Following) ⊎ ((w.stage ≡ stages.Switching) × (w.retired ≡ 0))
 
 -- at a run that the pass came by a source had as many entries as a shard may have that is to be frozen
-pub record HasNoRoom (s : Shard) (p now : PassView Entry) : Type 0 where
+pub record HasNoRoom (s : ShardRecord) (p now : PassView Entry) : Type 0 where
   pub run : Run
   pub between : IsRunBetween p now run
   pub full : 2 ^ 40 ≤ length (entries_on s.slot run)
 
 -- at a run that the pass came by a step of a target that might come next passed a limit of it
-pub record IsStuck (o : Opening) (most : Limits) (t : Shard) (p now : PassView Entry) : Type 0 where
+pub record IsStuck (o : Opening) (most : Limits) (t : ShardRecord) (p now : PassView Entry) : Type 0 where
   pub run : Run
   pub between : IsRunBetween p now run
   pub full : IsFull o most t run
 
 -- Why a cutover gives up that hasn't retired a source: want of memory, or a limit of a shard would be passed.
-pub data IsSwitchRefusal (o : Opening) (most : Limits) (sources : List Shard) (targets : List Taking) (p now : PassView Entry) : ReshardFault → Type 0 where
+pub data IsSwitchRefusal (o : Opening) (most : Limits) (sources : List ShardRecord) (targets : List TargetWithSources) (p now : PassView Entry) : ReshardFault → Type 0 where
   no_memory : IsSwitchRefusal o most sources targets p now (Refused OutOfMemory)
-  no_room : (s : Shard) → Contains sources s → HasNoRoom s p now → IsSwitchRefusal o most sources targets p now (Refused ShardFull)
-  stuck : (t : Taking) → Contains targets t → IsStuck o most t.0 p now → IsSwitchRefusal o most sources targets p now (Refused ShardFull)
-  overfull : (t : Taking) → Contains targets t → IsOverfull o most t.0 p now → IsSwitchRefusal o most sources targets p now (Refused ShardFull)
+  no_room : (s : ShardRecord) → Contains sources s → HasNoRoom s p now → IsSwitchRefusal o most sources targets p now (Refused ShardFull)
+  stuck : (t : TargetWithSources) → Contains targets t → IsStuck o most t.0 p now → IsSwitchRefusal o most sources targets p now (Refused ShardFull)
+  overfull : (t : TargetWithSources) → Contains targets t → IsOverfull o most t.0 p now → IsSwitchRefusal o most sources targets p now (Refused ShardFull)
 
 -- What a step of the cutover does: the next source is frozen, and it is noted how many entries it has stored; once all are, the first target that isn't level moves, else the next source
 -- is retired for those of the targets that take from it; once all are, the next target serves; once all do, the next partition is published
 -- that wasn't, and once it was, the workflow's statements are released.
 pub data HasSwitched (o : Opening) (w : WorkflowView) (now : WorkflowView) (p q : PassView Entry) : CutoverStep → Type 0 where
-  froze : (s : Shard) → slice_get w.sources w.frozen ≡ Some s → HasStepped o s events.Freeze p q
+  froze : (s : ShardRecord) → slice_get w.sources w.frozen ≡ Some s → HasStepped o s events.Freeze p q
       → now.stored ≡ slice_set w.stored w.frozen (length (stored_on s.slot q.seen))
       → now ≡ record w { stage = stages.Switching; frozen = w.frozen + 1; stored = now.stored; prepared = true } → HasSwitched o w now p q Freeze
   copied : length w.sources ≤ w.frozen → HasMovedFirst o w.targets p q moves.Copied → now ≡ record w { prepared = true } → HasSwitched o w now p q Copy
   followed : length w.sources ≤ w.frozen → HasMovedFirst o w.targets p q moves.Followed → now ≡ record w { prepared = true } → HasSwitched o w now p q Follow
-  retired : (s : Shard) → slice_get w.sources w.retired ≡ Some s → HasStepped o s (events.Retire (named_for s (shards_of w.targets))) p q
+  retired : (s : ShardRecord) → slice_get w.sources w.retired ≡ Some s → HasStepped o s (events.Retire (named_for s (shards_of w.targets))) p q
       → now ≡ record w { retired = w.retired + 1; prepared = true } → HasSwitched o w now p q Retire
-  served : (t : Taking) → slice_get w.targets w.served ≡ Some t → length w.sources ≤ w.retired → HasStepped o t.0 events.Serve p q
+  served : (t : TargetWithSources) → slice_get w.targets w.served ≡ Some t → length w.sources ≤ w.retired → HasStepped o t.0 events.Serve p q
       → now ≡ record w { served = w.served + 1; prepared = true } → HasSwitched o w now p q Serve
   published : w.published ≡ false → length w.sources ≤ w.retired → length w.targets ≤ w.served → now ≡ record w { prepared = true; published = true }
       → HasSwitched o w now p q Publish
@@ -72,7 +72,7 @@ pub data HasSwitched (o : Opening) (w : WorkflowView) (now : WorkflowView) (p q 
 -- before the first retirement the pass looks at targets and their sources, as a step does that finds all level, and once more at each target
 abbrev pub HasFoundReady : WorkflowView → PassView Entry → PassView Entry → Type 0
 HasFoundReady w p m =
-    (l : PassView Entry) × IsOneStepFirst w.targets p l moves.Level × EachInTurn (λ (t : Taking). HasLookedOnlyAt t.0.slot) w.targets l m
+    (l : PassView Entry) × IsOneStepFirst w.targets p l moves.Level × EachInTurn (λ (t : TargetWithSources). HasLookedOnlyAt t.0.slot) w.targets l m
 
 -- The steps from the first retirement on: the pass looks at the source that retires alone; or at the sources, one after the other, and then at the
 -- target alone that serves; or nowhere.
@@ -80,9 +80,9 @@ abbrev pub EndsAlone : WorkflowView → PassView Entry → PassView Entry → Cu
 EndsAlone w m q Freeze = ⊥
 EndsAlone w m q Copy = ⊥
 EndsAlone w m q Follow = ⊥
-EndsAlone w m q Retire = (s : Shard) × (slice_get w.sources w.retired ≡ Some s) × HasLookedOnlyAt s.slot m q
+EndsAlone w m q Retire = (s : ShardRecord) × (slice_get w.sources w.retired ≡ Some s) × HasLookedOnlyAt s.slot m q
 EndsAlone w m q Serve =
-    (t : Taking) × (slice_get w.targets w.served ≡ Some t) × (n : PassView Entry) × EachInTurn (λ s. HasLookedOnlyAt s.slot) w.sources m n
+    (t : TargetWithSources) × (slice_get w.targets w.served ≡ Some t) × (n : PassView Entry) × EachInTurn (λ s. HasLookedOnlyAt s.slot) w.sources m n
     × HasLookedOnlyAt t.0.slot n q
 EndsAlone w m q Publish = q ≡ m
 EndsAlone w m q Release = q ≡ m
@@ -90,7 +90,7 @@ EndsAlone w m q Release = q ≡ m
 -- A step of a cutover does no more than it tells. One that freezes the next source looks there alone, and changes its mode once; one that moves a target
 -- is one step of the first that isn't level. So is what comes before the first retirement, which finds all level.
 abbrev pub DoesNoMore : WorkflowView → PassView Entry → PassView Entry → CutoverStep → Type 0
-DoesNoMore w p q Freeze = (s : Shard) × (slice_get w.sources w.frozen ≡ Some s) × HasLookedForOneChange s.slot p q
+DoesNoMore w p q Freeze = (s : ShardRecord) × (slice_get w.sources w.frozen ≡ Some s) × HasLookedForOneChange s.slot p q
 DoesNoMore w p q Copy = IsOneStepFirst w.targets p q moves.Copied
 DoesNoMore w p q Follow = IsOneStepFirst w.targets p q moves.Followed
 DoesNoMore w p q step = (m : PassView Entry) × ((m ≡ p) ⊎ ((w.retired ≡ 0) × HasFoundReady w p m)) × EndsAlone w m q step

@@ -3,7 +3,7 @@ use Rattle.std.specs.Prelude.{◌≡◌, List, ◌++◌, map, take, drop}
 use Rattle.keyrange.specs.declared.KeyRange.{KeyRange}
 use Rattle.serving.specs.Partitions.{Seat, IsPartition, AreOf, ranges}
 use Rattle.reshard.specs.declared.workflow.Stage.TheVariants as stages
-use Rattle.reshard_beginning.specs.Splits.{target_seats}
+use Rattle.reshard_create.specs.Splits.{target_seats}
 use Rattle.reshard.specs.Workflows.{WorkflowView}
 
 -- The ranges of the parts that stay, which with the targets make a partition of the keyspace, of the sources that aren't retired, and of the targets

@@ -3,17 +3,17 @@ use Rattle.std.specs.Prelude.{◌≡◌, ℕ, ◌++◌, Bool, List}
 use Rattle.std.specs.List.{AllByRecursion}
 use Rattle.journal.specs.Views.{SeatView}
 use Rattle.serving.specs.Partitions.{Seat, IsPartition, AreOf}
-use Rattle.shard_run.specs.declared.Shard.{Shard}
+use Rattle.shard_run.specs.declared.ShardRecord.{ShardRecord}
 use Rattle.shard_run.specs.declared.Entry.{Entry}
 use Rattle.shard_run.specs.Runs.{Opening}
 use Rattle.shard_run.specs.Openings.{IsOpening}
-use Rattle.shard_contents.specs.declared.limits.Limits.{Limits}
-use Rattle.reshard_beginning.specs.declared.ground.Ground.{Ground}
+use Rattle.shard_law.specs.declared.limits.Limits.{Limits}
+use Rattle.reshard_create.specs.declared.config.ReshardConfig.{ReshardConfig}
 use Rattle.reshard.specs.declared.workflow.Stage.{Stage}
 use Rattle.reshard.specs.declared.workflow.Stage.TheVariants as stages
-use Rattle.cutover_steps.specs.Takings.{Taking}
-use Rattle.reshard_beginning.specs.Grounds.{IsGround, IsFree}
-use Rattle.reshard_beginning.specs.Splits.{IsSplit, target_seats}
+use Rattle.reshard_cutover.specs.TargetSources.{TargetWithSources}
+use Rattle.reshard_create.specs.Configs.{IsReshardConfig, IsFree}
+use Rattle.reshard_create.specs.Splits.{IsSplit, target_seats}
 
 -- How far it is, in which keyspace, the slots that no shard ever stood on, and the shards that it replaces, and by which; how many of the
 -- first of these are frozen or retired, and how many of those serve; how many entries each source is noted to have stored, since it was frozen; whether
@@ -22,8 +22,8 @@ pub record WorkflowView : Type 0 where
   pub stage : Stage
   pub keyspace : ℕ
   pub free : List ℕ
-  pub sources : List Shard
-  pub targets : List Taking
+  pub sources : List ShardRecord
+  pub targets : List TargetWithSources
   pub frozen : ℕ
   pub retired : ℕ
   pub served : ℕ
@@ -33,10 +33,10 @@ pub record WorkflowView : Type 0 where
 
 -- What it keeps: the targets may take the sources' place, and with the parts that stay they make a partition of the keyspace. The seats are
 -- those of the targets' shards.
-pub record IsWorkflow (o : Opening) (most : Limits) (g : Ground) (stage : Stage) (free : List (SeatView Entry)) (sources : List Shard)
-    (targets : List Taking) (seats rest : List Seat) : Type 0 where
+pub record IsWorkflow (o : Opening) (most : Limits) (g : ReshardConfig) (stage : Stage) (free : List (SeatView Entry)) (sources : List ShardRecord)
+    (targets : List TargetWithSources) (seats rest : List Seat) : Type 0 where
   pub opens : IsOpening o
-  pub ground : IsGround o most g
+  pub config : IsReshardConfig o most g
   pub seats_free : AllByRecursion (IsFree o) free
   pub split : IsSplit sources targets
   pub seated : seats ≡ target_seats targets

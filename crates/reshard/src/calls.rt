@@ -5,16 +5,18 @@ ghost use Rattle.vschema.specs.WellFormed.{is_vschema};
 ghost use Rattle.keyrange.specs.Names.{IsNamed};
 ghost use Rattle.journal.specs.Runs.{IsLegal};
 ghost use Rattle.shard_run.specs.Openings.{IsOpening};
-ghost use Rattle.shard_contents.specs.Shards.{MayFollow};
+ghost use Rattle.shard_law.specs.Entries.{MayFollow};
 ghost use Rattle.follow.specs.Steps.{IsOnward};
-ghost use Rattle.reshard_beginning.specs.Grounds.{IsFree, IsGround};
-ghost use Rattle.reshard_beginning.specs.Begun.{HasBegun, IsCreateRefusal, HasMovedFirst, IsMoveRefusal, IsOneStepFirst, IsNoStepFirst};
+ghost use Rattle.reshard_create.specs.Configs.{IsFree, IsReshardConfig};
+ghost use Rattle.reshard_cutover.specs.FirstMoves.{HasMovedFirst, IsMoveRefusal, IsOneStepFirst, IsNoStepFirst};
+ghost use Rattle.reshard_create.specs.Begun.{HasBegun, IsCreateRefusal};
 
 use crate::workflow::{Stage, Workflow};
 use follow::Step;
 use journal::{Naming, Pass, ShardSeat};
 use keyrange::KeyRange;
-use reshard_beginning::{Ground, ReshardFault, begin, move_first};
+use reshard_create::{ReshardConfig, begin};
+use reshard_cutover::{ReshardFault, move_first};
 use serving::Serving;
 use shard::{Shard, ShardLaw, World};
 use std::alloc::Global;
@@ -34,15 +36,15 @@ impl<W: World, J: Naming> Workflow<W, J> {
     /// A controller of a keyspace and these free slots, which has no workflow.
     pub fn new(
         alloc: Global,
-        ground: Ground,
+        config: ReshardConfig,
         free: Vec<ShardSeat<ShardLaw<W>, J>>,
     ) -> Workflow<W, J>
         requires opens { IsOpening W.opening }
-        requires ground { IsGround W.opening W.limits ground }
+        requires config { IsReshardConfig W.opening W.limits config }
         requires free { AllByRecursion (IsFree W.opening) free.items }
         ensures { result ≡ record {
           stage = Stage.None;
-          keyspace = ground.keyspace;
+          keyspace = config.keyspace;
           free = map (λ s. s.slot) free.items;
           sources = [];
           targets = [];
@@ -55,7 +57,7 @@ impl<W: World, J: Naming> Workflow<W, J> {
         } }
     {
         Workflow {
-            ground,
+            config,
             stage: Stage::None,
             free,
             sources: Vec::new(alloc),
@@ -114,7 +116,7 @@ impl<W: World, J: Naming> Workflow<W, J> {
             pass,
             schema,
             &mut self.free,
-            self.ground,
+            self.config,
             serving.current(),
             sources,
             targets,

@@ -2,14 +2,13 @@
 ghost use Rattle.std.specs.Prelude.{◌≡◌, true, false, [], OnOk, IfErr};
 ghost use Rattle.std.specs.List.{AllByRecursion};
 ghost use Rattle.journal.specs.Runs.{IsLegal};
-ghost use Rattle.shard_contents.specs.Shards.{MayFollow};
+ghost use Rattle.shard_law.specs.Entries.{MayFollow};
 ghost use Rattle.follow.specs.Steps.{IsOnward};
-ghost use Rattle.cutover_steps.specs.Looks.{IsOutOfUse};
+ghost use Rattle.reshard_cutover.specs.Looks.{IsOutOfUse};
 
 use crate::workflow::{Stage, Workflow};
-use cutover_steps::drop_all;
 use journal::{Naming, Pass};
-use reshard_beginning::ReshardFault;
+use reshard_cutover::{ReshardFault, drop_all};
 use shard::{ShardLaw, World};
 use std::sync::Wait;
 

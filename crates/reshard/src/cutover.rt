@@ -1,6 +1,6 @@
 //! The cutover, step by step: the sources freeze, the targets come level, the sources retire, the targets serve, and the next partition is
 //! published.
-ghost use Rattle.shard_run.specs.declared.Shard as which;
+ghost use Rattle.shard_run.specs.declared.ShardRecord as which;
 ghost use Rattle.shard_run.specs.declared.Event.{Event};
 ghost use Rattle.std.specs.Prelude.{◌≡◌, ◌+◌, ◌<◌, true, false, Some, IfErr, OnOk, OnErr, Contains, length, slice_get, slice_set};
 ghost use Rattle.std.specs.List.{AllByRecursion};
@@ -8,19 +8,20 @@ ghost use Rattle.journal.specs.Runs.{IsLegal};
 ghost use Rattle.journal.specs.Views.{PassView};
 ghost use Rattle.shard_run.specs.declared.Entry.{Entry};
 ghost use Rattle.shard_run.specs.Runs.{stored_on};
-ghost use Rattle.shard_contents.specs.Shards.{MayFollow};
+ghost use Rattle.shard_law.specs.Entries.{MayFollow};
 ghost use Rattle.follow.specs.Steps.{IsOnward, HasStepped};
-ghost use Rattle.cutover_steps.specs.Steps.{named_for};
-ghost use Rattle.cutover_steps.specs.Takings.{Taking, shards_of};
+ghost use Rattle.reshard_cutover.specs.Steps.{named_for};
+ghost use Rattle.reshard_cutover.specs.TargetSources.{TargetWithSources, shards_of};
 ghost use Rattle.reshard.specs.Cutover.{HasNoRoom};
 ghost use Rattle.follow.specs.Turns.{EachInTurn};
-ghost use Rattle.cutover_steps.specs.Looks.{HasLookedOnlyAt, HasLookedForOneChange, HasThawed, IsServingAgain};
+ghost use Rattle.reshard_cutover.specs.Looks.{HasLookedOnlyAt, HasLookedForOneChange, HasThawed, IsServingAgain};
 
 use crate::workflow::{Stage, Workflow};
 use buffer::Buffer;
-use cutover_steps::{confirm_retired, freeze, note_stored, retire, serve, unfreeze_all};
 use journal::{Naming, Pass};
-use reshard_reopening::{named_of_all, next_partition};
+use reshard_cutover::{
+    confirm_retired, freeze, named_of_all, next_partition, note_stored, retire, serve, unfreeze_all,
+};
 use serving::Serving;
 use shard::{Shard, ShardLaw, World};
 use std::alloc::Global;
@@ -60,7 +61,7 @@ impl<W: World, J: Naming> Workflow<W, J> {
         }
         let next = next_partition(
             alloc,
-            self.ground.keyspace,
+            self.config.keyspace,
             self.rest.as_slice(),
             self.targets.as_slice(),
         )?;
@@ -80,12 +81,12 @@ impl<W: World, J: Naming> Workflow<W, J> {
         requires begun { self.old.stage ≡ Stage.None → ⊥ }
         requires legal { IsLegal (MayFollow W.opening) pass.old.seen }
         requires some { self.old.frozen < length self.old.sources }
-        ensures froze { OnOk result ((s : which.Shard) × (slice_get self.old.sources self.old.frozen ≡ Some s) × HasStepped W.opening s Event.Freeze pass.old pass.new
+        ensures froze { OnOk result ((s : which.ShardRecord) × (slice_get self.old.sources self.old.frozen ≡ Some s) × HasStepped W.opening s Event.Freeze pass.old pass.new
             × HasLookedForOneChange s.slot pass.old pass.new
             × (self.new.stored ≡ slice_set self.old.stored self.old.frozen (length (stored_on s.slot pass.new.seen)))) }
         ensures now { OnOk result (self.new ≡ record self.old { stage = Stage.Switching; frozen = self.old.frozen + 1; stored = self.new.stored }) }
         ensures same { OnErr result (self.new ≡ self.old) }
-        ensures err { IfErr result (λ e. (e ≡ Refusal.ShardFull) × ((s : which.Shard) × Contains self.old.sources s × HasNoRoom s pass.old pass.new)) }
+        ensures err { IfErr result (λ e. (e ≡ Refusal.ShardFull) × ((s : which.ShardRecord) × Contains self.old.sources s × HasNoRoom s pass.old pass.new)) }
         ensures onward { IsOnward W.opening pass.old pass.new }
     {
         let at = self.frozen;
@@ -102,7 +103,7 @@ impl<W: World, J: Naming> Workflow<W, J> {
         requires legal { IsLegal (MayFollow W.opening) pass.old.seen }
         requires some { self.old.retired < length self.old.sources }
         requires prepared { self.old.prepared ≡ true }
-        ensures retired { (s : which.Shard) × (slice_get self.old.sources self.old.retired ≡ Some s)
+        ensures retired { (s : which.ShardRecord) × (slice_get self.old.sources self.old.retired ≡ Some s)
             × HasStepped W.opening s (Event.Retire (named_for s (shards_of self.old.targets))) pass.old pass.new
             × HasLookedOnlyAt s.slot pass.old pass.new }
         ensures now { self.new ≡ record self.old { retired = self.old.retired + 1 } }
@@ -130,7 +131,7 @@ impl<W: World, J: Naming> Workflow<W, J> {
         requires schema { schema.now ≡ W.opening.schema }
         requires legal { IsLegal (MayFollow W.opening) pass.old.seen }
         requires some { self.old.served < length self.old.targets }
-        ensures served { (t : Taking) × (slice_get self.old.targets self.old.served ≡ Some t) × HasStepped W.opening t.0 Event.Serve pass.old pass.new
+        ensures served { (t : TargetWithSources) × (slice_get self.old.targets self.old.served ≡ Some t) × HasStepped W.opening t.0 Event.Serve pass.old pass.new
             × (n : PassView Entry) × EachInTurn (λ s. HasLookedOnlyAt s.slot) self.old.sources pass.old n × HasLookedOnlyAt t.0.slot n pass.new }
         ensures now { self.new ≡ record self.old { served = self.old.served + 1 } }
     {

@@ -2,22 +2,21 @@
 ghost use Rattle.std.specs.Prelude.{◌≡◌, true, false, [], OnOk, IfErr};
 ghost use Rattle.std.specs.List.{AllByRecursion};
 ghost use Rattle.journal.specs.Runs.{IsLegal};
-ghost use Rattle.shard_contents.specs.Shards.{MayFollow};
+ghost use Rattle.shard_law.specs.Entries.{MayFollow};
 ghost use Rattle.follow.specs.Steps.{IsOnward};
 ghost use Rattle.reshard.specs.Cutover.{MayCancel};
 ghost use Rattle.follow.specs.Turns.{EachInTurn};
-ghost use Rattle.cutover_steps.specs.Looks.{HasThawed, IsServingAgain};
+ghost use Rattle.reshard_cutover.specs.Looks.{HasThawed, IsServingAgain};
 
 use crate::workflow::{Stage, Workflow};
 use buffer::Buffer;
-use cutover_steps::{Target, unfreeze_all};
 use journal::{Naming, Pass};
-use reshard_beginning::ReshardFault;
+use reshard_cutover::{ReshardFault, TargetShard, unfreeze_all};
 use shard::{ShardLaw, World};
 use std::sync::Wait;
 
 // Marks each target, so that no controller takes it up again.
-fn mark_given_up<W: World, J: Naming>(rt: &impl Wait, targets: &[Target<W, J>]) {
+fn mark_given_up<W: World, J: Naming>(rt: &impl Wait, targets: &[TargetShard<W, J>]) {
     for target in targets {
         target.member.shard.lock(rt).give_up();
     }

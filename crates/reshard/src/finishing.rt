@@ -2,16 +2,15 @@
 ghost use Rattle.std.specs.Prelude.{◌≡◌, ◌⊎◌, true, false, IfOk, IfErr, OnOk, IsTrue};
 ghost use Rattle.vschema.specs.WellFormed.{is_vschema};
 ghost use Rattle.journal.specs.Runs.{IsLegal};
-ghost use Rattle.shard_contents.specs.Shards.{MayFollow};
+ghost use Rattle.shard_law.specs.Entries.{MayFollow};
 ghost use Rattle.follow.specs.Steps.{IsOnward};
 ghost use Rattle.reshard.specs.Cutover.{HasFinished, IsResumed, HasStoppedLater, MaySwitch};
 
 use crate::cutover::CutoverStep;
 use crate::workflow::{Stage, Workflow};
 use buffer::Buffer;
-use cutover_steps::confirm_cutover;
 use journal::{Naming, Pass};
-use reshard_beginning::ReshardFault;
+use reshard_cutover::{ReshardFault, confirm_cutover};
 use serving::Serving;
 use shard::{Shard, ShardLaw, World};
 use std::alloc::Global;

@@ -3,18 +3,17 @@ ghost use Rattle.std.specs.Prelude.{◌≡◌, IfErr, IsTrue, OnOk, map};
 ghost use Rattle.vschema.specs.WellFormed.{is_vschema};
 ghost use Rattle.journal.specs.Runs.{IsLegal};
 ghost use Rattle.shard_run.specs.Openings.{IsOpening};
-ghost use Rattle.shard_contents.specs.Shards.{MayFollow};
+ghost use Rattle.shard_law.specs.Entries.{MayFollow};
 ghost use Rattle.follow.specs.Steps.{IsOnward};
-ghost use Rattle.reshard_beginning.specs.Splits.{TakeFromOwn};
-ghost use Rattle.reshard_beginning.specs.Begun.{IsMoveRefusal};
+ghost use Rattle.reshard_cutover.specs.Overlapping.{TakeFromOwn};
+ghost use Rattle.reshard_cutover.specs.FirstMoves.{IsMoveRefusal};
 ghost use Rattle.reshard.specs.Cutover.{HasStopped};
 
 use crate::workflow::{Stage, Workflow};
 use buffer::Buffer;
-use cutover_steps::Target;
 use follow::Step;
 use journal::{Naming, Pass};
-use reshard_beginning::{ReshardFault, move_first};
+use reshard_cutover::{ReshardFault, TargetShard, move_first};
 use shard::{ShardLaw, ShardState, World};
 use shard_run::Mode;
 use std::alloc::Global;
@@ -32,7 +31,7 @@ fn stored_in<W: World, J: Naming>(state: &ShardState<W, J>) -> u64 {
 }
 
 // How many its sources have stored together.
-fn stored_for<W: World, J: Naming>(rt: &impl Wait, target: &Target<W, J>) -> u64 {
+fn stored_for<W: World, J: Naming>(rt: &impl Wait, target: &TargetShard<W, J>) -> u64 {
     let mut stored = 0u64;
     for source in target.sources.as_slice() {
         stored = stored.saturating_add(stored_in(&source.shard.lock(rt)));
@@ -41,7 +40,7 @@ fn stored_for<W: World, J: Naming>(rt: &impl Wait, target: &Target<W, J>) -> u64
 }
 
 // Twice as many as the targets' sources have stored, each counted for each target that takes from it.
-fn most_followed<W: World, J: Naming>(rt: &impl Wait, targets: &[Target<W, J>]) -> u64 {
+fn most_followed<W: World, J: Naming>(rt: &impl Wait, targets: &[TargetShard<W, J>]) -> u64 {
     let mut stored = 0u64;
     for target in targets {
         stored = stored.saturating_add(stored_for(rt, target));
@@ -55,7 +54,7 @@ fn come_level<W: World, J: Naming>(
     alloc: Global,
     pass: &mut Pass<ShardLaw<W>, J>,
     schema: &VSchema,
-    targets: &[Target<W, J>],
+    targets: &[TargetShard<W, J>],
     most: u64,
 ) -> Result<(), Refusal>
     requires opens { IsOpening W.opening }

@@ -14,8 +14,8 @@ mod switching;
 mod workflow;
 
 pub use cutover::CutoverStep;
-pub use cutover_steps::{Source, Target, freeze, retire, serve, thaw};
 pub use finishing::Resumed;
-pub use reshard_beginning::{Ground, ReshardFault};
+pub use reshard_create::ReshardConfig;
+pub use reshard_cutover::{ReshardFault, SourceShard, TargetShard, freeze, retire, serve, thaw};
 pub use stopping::Stopped;
 pub use workflow::{Stage, Workflow};

@@ -3,16 +3,19 @@ ghost use Rattle.std.specs.Prelude.{◌≡◌, ◌++◌, IfOk, IfErr, OnOk, drop
 ghost use Rattle.reshard.specs.Served.{AreServed};
 
 use crate::workflow::Workflow;
-use cutover_steps::{Source, Target};
 use journal::Naming;
 use keyrange::KeyRange;
-use reshard_beginning::next_ranges;
+use reshard_create::next_ranges;
+use reshard_cutover::{SourceShard, TargetShard};
 use shard::World;
 use std::alloc::Global;
 use vt_value::Refusal;
 
 // The sources after the first so many.
-fn behind_first<W: World, J: Naming>(sources: &[Source<W, J>], n: usize) -> &[Source<W, J>]
+fn without_first<W: World, J: Naming>(
+    sources: &[SourceShard<W, J>],
+    n: usize,
+) -> &[SourceShard<W, J>]
     ensures { result.now ≡ drop n sources.now }
 {
     if n < sources.len() {
@@ -23,7 +26,7 @@ fn behind_first<W: World, J: Naming>(sources: &[Source<W, J>], n: usize) -> &[So
 }
 
 // The first so many targets.
-fn first<W: World, J: Naming>(targets: &[Target<W, J>], n: usize) -> &[Target<W, J>]
+fn first<W: World, J: Naming>(targets: &[TargetShard<W, J>], n: usize) -> &[TargetShard<W, J>]
     ensures { result.now ≡ take n targets.now }
 {
     if n < targets.len() {
@@ -35,7 +38,7 @@ fn first<W: World, J: Naming>(targets: &[Target<W, J>], n: usize) -> &[Target<W,
 
 fn ranges_of_sources<W: World, J: Naming>(
     alloc: Global,
-    sources: &[Source<W, J>],
+    sources: &[SourceShard<W, J>],
 ) -> Result<Vec<KeyRange>, Refusal>
     ensures ok { IfOk result (λ ranges. ranges.items ≡ map (λ s. s.member.which.place.range) sources.now) }
     ensures err { IfErr result (λ e. e ≡ Refusal.OutOfMemory) }
@@ -49,7 +52,7 @@ fn ranges_of_sources<W: World, J: Naming>(
 
 fn put_targets<W: World, J: Naming>(
     ranges: &mut Vec<KeyRange>,
-    targets: &[Target<W, J>],
+    targets: &[TargetShard<W, J>],
 ) -> Result<(), Refusal>
     ensures ok { OnOk result (ranges.new.items ≡ ranges.old.items ++ map (λ t. t.member.which.place.range) targets.now) }
     ensures err { IfErr result (λ e. e ≡ Refusal.OutOfMemory) }
@@ -62,8 +65,8 @@ fn put_targets<W: World, J: Naming>(
 
 fn ranges_of_both<W: World, J: Naming>(
     alloc: Global,
-    sources: &[Source<W, J>],
-    targets: &[Target<W, J>],
+    sources: &[SourceShard<W, J>],
+    targets: &[TargetShard<W, J>],
 ) -> Result<Vec<KeyRange>, Refusal>
     ensures ok { IfOk result (λ ranges. ranges.items ≡ map (λ s. s.member.which.place.range) sources.now ++ map (λ t. t.member.which.place.range) targets.now) }
     ensures err { IfErr result (λ e. e ≡ Refusal.OutOfMemory) }
@@ -84,7 +87,7 @@ impl<W: World, J: Naming> Workflow<W, J> {
     {
         let own = ranges_of_both(
             alloc,
-            behind_first(self.sources.as_slice(), self.retired),
+            without_first(self.sources.as_slice(), self.retired),
             first(self.targets.as_slice(), self.served),
         )?;
         next_ranges(alloc, self.rest.as_slice(), own.as_slice())

@@ -1,16 +1,16 @@
 //! A workflow whose controller stopped is made again from its shards.
 ghost use Rattle.std.specs.Prelude.{◌≡◌, ◌⊎◌, false, IfErr, IfSome, IsSome, OnOk, OnErr};
 ghost use Rattle.journal.specs.Runs.{IsLegal};
-ghost use Rattle.shard_contents.specs.Shards.{MayFollow};
+ghost use Rattle.shard_law.specs.Entries.{MayFollow};
 ghost use Rattle.follow.specs.Steps.{IsOnward};
 ghost use Rattle.reshard.specs.Reopened.{IsReopened, has_any, stage_at};
-ghost use Rattle.reshard_reopening.specs.MadeAgain.{IsReopenRefusal};
+ghost use Rattle.reshard_reopen.specs.Rebuilt.{IsReopenRefusal};
 
 use crate::workflow::{Stage, Workflow};
 use journal::{Naming, Pass};
-use reshard_beginning::ReshardFault;
-use reshard_reopening::{stands_on, take_up};
-use serving::{Part, Partition, Serving};
+use reshard_cutover::ReshardFault;
+use reshard_reopen::{reopen_workflow, stands_on};
+use serving::{Partition, Serving, ShardReference};
 use shard::{Shard, ShardLaw, World};
 use std::alloc::Global;
 use std::sync::Wait;
@@ -26,7 +26,10 @@ fn stage_of(frozen: usize) -> Stage
 }
 
 // Whether the partition has one of the shards.
-fn has_any<W: World, J: Naming>(parts: &[Part<Shard<W, J>>], into: &[Part<Shard<W, J>>]) -> bool
+fn has_any<W: World, J: Naming>(
+    parts: &[ShardReference<Shard<W, J>>],
+    into: &[ShardReference<Shard<W, J>>],
+) -> bool
     ensures { result ≡ has_any parts.now into.now }
 {
     into.iter().any(|part| stands_on(part.slot(), parts))
@@ -63,8 +66,8 @@ impl<W: World, J: Naming> Workflow<W, J> {
         alloc: Global,
         pass: &mut Pass<ShardLaw<W>, J>,
         serving: &Serving<Shard<W, J>>,
-        sources: &[Part<Shard<W, J>>],
-        targets: &[Part<Shard<W, J>>],
+        sources: &[ShardReference<Shard<W, J>>],
+        targets: &[ShardReference<Shard<W, J>>],
     ) -> Result<(), ReshardFault>
         requires legal { IsLegal (MayFollow W.opening) pass.old.seen }
         requires home { serving.now ≡ self.old.keyspace }
@@ -79,20 +82,20 @@ impl<W: World, J: Naming> Workflow<W, J> {
             return Err(ReshardFault::WrongState);
         }
         let parts = serving.current().parts();
-        let keyspace = self.ground.keyspace;
-        let taken = take_up(rt, alloc, pass, keyspace, parts, sources, targets)?;
-        let course = taken.again.course;
+        let keyspace = self.config.keyspace;
+        let taken = reopen_workflow(rt, alloc, pass, keyspace, parts, sources, targets)?;
+        let progress = taken.again.progress;
         self.sources = taken.again.sources;
         self.targets = taken.again.targets;
         self.rest = taken.again.rest;
-        self.frozen = course.frozen;
-        self.retired = course.retired;
-        self.served = course.served;
+        self.frozen = progress.frozen;
+        self.retired = progress.retired;
+        self.served = progress.served;
         self.named = taken.memory.named.into_iter();
         self.published = has_any(parts, targets);
         self.next = unless_published(self.published, taken.memory.next);
         self.prepared = true;
-        self.stage = stage_of(course.frozen);
+        self.stage = stage_of(progress.frozen);
         Ok(())
     }
 }

@@ -2,23 +2,23 @@
 ghost use Rattle.std.specs.Prelude.{◌≡◌, map};
 ghost use Rattle.std.specs.List.{AllByRecursion};
 ghost use Rattle.shard_run.specs.Openings.{IsOpening};
-ghost use Rattle.reshard_beginning.specs.Grounds.{IsFree, IsGround};
-ghost use Rattle.reshard_beginning.specs.Splits.{target_seats};
+ghost use Rattle.reshard_create.specs.Configs.{IsFree, IsReshardConfig};
+ghost use Rattle.reshard_create.specs.Splits.{target_seats};
 
 use crate::workflow::Workflow;
-use cutover_steps::{Source, Target};
 use journal::{Naming, ShardSeat};
-use reshard_beginning::Ground;
+use reshard_create::ReshardConfig;
+use reshard_cutover::{SourceShard, TargetShard};
 use shard::{ShardLaw, World};
 
 /// What is left of a controller that stopped: the seats of the slots that no shard ever stood on, and the shards of its workflow. How far
 /// that was is forgotten.
 #[derive(Drop)]
 pub struct Stopped<W: World, J: Naming> {
-    pub ground: Ground,
+    pub config: ReshardConfig,
     pub free: Vec<ShardSeat<ShardLaw<W>, J>>,
-    pub sources: Vec<Source<W, J>>,
-    pub targets: Vec<Target<W, J>>,
+    pub sources: Vec<SourceShard<W, J>>,
+    pub targets: Vec<TargetShard<W, J>>,
 }
 
 impl<W: World, J: Naming> Workflow<W, J> {
@@ -26,8 +26,8 @@ impl<W: World, J: Naming> Workflow<W, J> {
     /// Stops the controller. A new one over its free slots can take its workflow up from the shards. Takes no memory.
     pub fn stop(self) -> Stopped<W, J>
         ensures opens { IsOpening W.opening }
-        ensures ground { IsGround W.opening W.limits result.ground }
-        ensures keyspace { result.ground.keyspace ≡ self.keyspace }
+        ensures config { IsReshardConfig W.opening W.limits result.config }
+        ensures keyspace { result.config.keyspace ≡ self.keyspace }
         ensures free { AllByRecursion (IsFree W.opening) result.free.items }
         ensures slots { map (λ s. s.slot) result.free.items ≡ self.free }
         ensures sources { map (λ s. s.member.which) result.sources.items ≡ self.sources }
@@ -35,7 +35,7 @@ impl<W: World, J: Naming> Workflow<W, J> {
         ensures seats { map (λ t. t.member.shard.value) result.targets.items ≡ target_seats self.targets }
     {
         let Workflow {
-            ground,
+            config,
             stage: _,
             free,
             sources,
@@ -50,7 +50,7 @@ impl<W: World, J: Naming> Workflow<W, J> {
             next: _,
         } = self;
         Stopped {
-            ground,
+            config,
             free,
             sources,
             targets,

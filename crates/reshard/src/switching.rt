@@ -2,17 +2,16 @@
 ghost use Rattle.std.specs.Prelude.{◌≡◌, ◌⊎◌, ◌≤◌, true, false, Some, IfOk, IfErr, OnOk, OnErr, MatchOption, IsTrue};
 ghost use Rattle.vschema.specs.WellFormed.{is_vschema};
 ghost use Rattle.journal.specs.Runs.{IsLegal};
-ghost use Rattle.shard_contents.specs.Shards.{MayFollow};
+ghost use Rattle.shard_law.specs.Entries.{MayFollow};
 ghost use Rattle.follow.specs.Steps.{IsOnward};
 ghost use Rattle.reshard.specs.Cutover.{HasSwitched, HasFoundReady, EndsAlone, DoesNoMore, HasStopped, IsSwitchRefusal, MayRetireFirst, MaySwitch};
 
 use crate::cutover::CutoverStep;
 use crate::workflow::{Stage, Workflow};
 use buffer::Buffer;
-use cutover_steps::all_fit;
 use follow::Step;
 use journal::{Naming, Pass};
-use reshard_beginning::{ReshardFault, move_first};
+use reshard_cutover::{ReshardFault, all_fit, move_first};
 use serving::Serving;
 use shard::{Shard, ShardLaw, World};
 use std::alloc::Global;

@@ -1,8 +1,8 @@
 //! A workflow that replaces some shards of a keyspace by others, which hold the same ids.
-use cutover_steps::{Source, Target};
 use journal::{Naming, ShardSeat};
-use reshard_beginning::Ground;
-use serving::{Part, Partition};
+use reshard_create::ReshardConfig;
+use reshard_cutover::{SourceShard, TargetShard};
+use serving::{Partition, ShardReference};
 use shard::{Shard, ShardLaw, World};
 use std::marker::Model;
 use std::vec::IntoIter;
@@ -25,13 +25,13 @@ pub enum Stage {
 /// a `WorkflowView`.
 #[derive(Drop)]
 pub struct Workflow<W: World, J: Naming> {
-    pub(crate) ground: Ground,
+    pub(crate) config: ReshardConfig,
     pub(crate) stage: Stage,
     pub(crate) free: Vec<ShardSeat<ShardLaw<W>, J>>,
-    pub(crate) sources: Vec<Source<W, J>>,
-    pub(crate) targets: Vec<Target<W, J>>,
+    pub(crate) sources: Vec<SourceShard<W, J>>,
+    pub(crate) targets: Vec<TargetShard<W, J>>,
     // the parts of the partition that stay
-    pub(crate) rest: Vec<Part<Shard<W, J>>>,
+    pub(crate) rest: Vec<ShardReference<Shard<W, J>>>,
     // so many of the first sources are frozen or retired, and so many of the first targets serve
     pub(crate) frozen: usize,
     pub(crate) retired: usize,
@@ -40,7 +40,7 @@ pub struct Workflow<W: World, J: Naming> {
     // published
     pub(crate) prepared: bool,
     pub(crate) published: bool,
-    pub(crate) named: IntoIter<Items<shard_run::Shard>>,
+    pub(crate) named: IntoIter<Items<shard_run::ShardRecord>>,
     pub(crate) next: Option<Box<Partition<Shard<W, J>>>>,
 }
 
@@ -55,7 +55,7 @@ impl<W: World, J: Naming> Model for Workflow<W, J> {
 
     ghost view = { λ w. record {
       stage = w.stage;
-      keyspace = w.ground.keyspace;
+      keyspace = w.config.keyspace;
       free = map (λ s. s.slot) w.free.items;
       sources = map (λ s. s.member.which) w.sources.items;
       targets = map (λ t. (t.member.which, map (λ s. s.which) t.sources.items)) w.targets.items;
@@ -67,10 +67,10 @@ impl<W: World, J: Naming> Model for Workflow<W, J> {
       published = w.published;
     } };
 
-    ghost invariant = { λ w. IsWorkflow W.opening W.limits w.ground w.stage w.free.items (map (λ s. s.member.which) w.sources.items)
+    ghost invariant = { λ w. IsWorkflow W.opening W.limits w.config w.stage w.free.items (map (λ s. s.member.which) w.sources.items)
         (map (λ t. (t.member.which, map (λ s. s.which) t.sources.items)) w.targets.items) (map (λ t. t.member.shard.value) w.targets.items) w.rest.items
         × IsPrepared (map (λ s. s.member.which) w.sources.items) (map (λ t. (t.member.which, map (λ s. s.which) t.sources.items)) w.targets.items) w.retired w.prepared
         (into_iter_items w.named)
-        × IfSome w.next (λ next. AreOf w.ground.keyspace next.value)
+        × IfSome w.next (λ next. AreOf w.config.keyspace next.value)
         × (w.prepared ≡ true → w.published ≡ false → IsSome w.next) };
 }

@@ -8,7 +8,7 @@ use Rattle.mysql_packet.specs.Numbers.{length_encoded}
 use Rattle.mysql_packet.specs.Frames.{frame, frames_from, number_after, number_after_all}
 use Rattle.resultset.specs.declared.Column.{Column}
 use Rattle.resultset.specs.declared.SetEnd.{SetEnd}
-use Rattle.resultset.specs.Encoding.{row_payload, definition_payload, behind_definitions, behind_rows, set_payloads}
+use Rattle.resultset.specs.Encoding.{row_payload, definition_payload, after_definitions, after_rows, set_payloads}
 use Rattle.resultset.specs.inner.Heads.{head_payloads}
 
 pub frames_from-append : (first : ℕ) (ps qs : List (List ℕ)) → frames_from first (ps ++ qs) ≡ frames_from first ps ++ frames_from (number_after_all first ps) qs
@@ -104,18 +104,18 @@ on_err (Err e) p = p
 
 -- what stands in front of the rows, as it is written
 pub head_shape : (end : SetEnd) (status : ℕ) (columns : List Column) (p : List ℕ) → p ≡ length_encoded (length columns)
-    → (p ∷ map definition_payload columns) ++ behind_definitions end status ≡ head_payloads end columns status
-head_shape end status columns p e = ap (λ (q : List ℕ). (q ∷ map definition_payload columns) ++ behind_definitions end status) e
+    → (p ∷ map definition_payload columns) ++ after_definitions end status ≡ head_payloads end columns status
+head_shape end status columns p e = ap (λ (q : List ℕ). (q ∷ map definition_payload columns) ++ after_definitions end status) e
 
 -- the payloads of a result set, as they are written
 pub set_shape : (end : SetEnd) (status : ℕ) (columns' columns : List Column) (rows' rows : List Row) → columns' ≡ columns → rows' ≡ rows
-    → (head_payloads end columns' status ++ map row_payload rows') ++ behind_rows end status ∷ []
+    → (head_payloads end columns' status ++ map row_payload rows') ++ after_rows end status ∷ []
     ≡ set_payloads end (record { columns = columns; rows = rows }) status
 set_shape end status columns' columns rows' rows e1 e2 =
-    ap (λ (cs : List Column). (head_payloads end cs status ++ map row_payload rows') ++ behind_rows end status ∷ []) e1
-    ∙ ap (λ (rs : List Row). (head_payloads end columns status ++ map row_payload rs) ++ behind_rows end status ∷ []) e2
-    ∙ ap (λ (l : List (List ℕ)). l ++ behind_rows end status ∷ [])
-    (append_assoc (length_encoded (length columns) ∷ map definition_payload columns) (behind_definitions end status) (map row_payload rows))
+    ap (λ (cs : List Column). (head_payloads end cs status ++ map row_payload rows') ++ after_rows end status ∷ []) e1
+    ∙ ap (λ (rs : List Row). (head_payloads end columns status ++ map row_payload rs) ++ after_rows end status ∷ []) e2
+    ∙ ap (λ (l : List (List ℕ)). l ++ after_rows end status ∷ [])
+    (append_assoc (length_encoded (length columns) ∷ map definition_payload columns) (after_definitions end status) (map row_payload rows))
 
 -- What the result for the last of them says of all of them.
 module _ {E : Type 0} {start : List ℕ} {first size : ℕ} where

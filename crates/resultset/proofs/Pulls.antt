@@ -9,8 +9,8 @@ use Rattle.resultset.proofs.Payloads.{HasPut, whole_more, next_more, whole_one, 
 abbrev pub bytes_of : List ℕ → ℕ → List Row → List ℕ
 bytes_of bytes next rows = bytes ++ frames_from next (map row_payload rows)
 
-abbrev pub number_behind : ℕ → List Row → ℕ
-number_behind next rows = number_after_all next (map row_payload rows)
+abbrev pub number_past : ℕ → List Row → ℕ
+number_past next rows = number_after_all next (map row_payload rows)
 
 pub pulled_bytes : (rows more : List Row) (row : Row) (bytes bytes' payload : List ℕ) (next next' : ℕ) → rows ≡ row ∷ more → payload ≡ row_payload row
     → bytes' ≡ bytes ++ frame next payload → next' ≡ number_after next payload → bytes_of bytes' next' more ≡ bytes_of bytes next rows
@@ -21,16 +21,16 @@ pulled_bytes rows more row bytes bytes' payload next next' is e is_new is_next =
     ∙ ap (bytes_of bytes next) (sym is)
 
 pub pulled_number : (rows more : List Row) (row : Row) (payload : List ℕ) (next next' : ℕ) → rows ≡ row ∷ more → payload ≡ row_payload row
-    → next' ≡ number_after next payload → number_behind next' more ≡ number_behind next rows
+    → next' ≡ number_after next payload → number_past next' more ≡ number_past next rows
 pulled_number rows more row payload next next' is e is_next =
-    ap (λ (n : ℕ). number_behind n more) (is_next ∙ ap (number_after next) e) ∙ ap (number_behind next) (sym is)
+    ap (λ (n : ℕ). number_past n more) (is_next ∙ ap (number_after next) e) ∙ ap (number_past next) (sym is)
 
 -- Where no row is left, all of it stands there.
 pub none_left : (rows : List Row) (bytes : List ℕ) (next : ℕ) → rows ≡ [] → bytes_of bytes next rows ≡ bytes
 none_left rows bytes next is = ap (bytes_of bytes next) is ∙ append-nil bytes
 
-pub last_number : (rows : List Row) (next : ℕ) → rows ≡ [] → number_behind next rows ≡ next
-last_number rows next is = ap (number_behind next) is
+pub last_number : (rows : List Row) (next : ℕ) → rows ≡ [] → number_past next rows ≡ next
+last_number rows next is = ap (number_past next) is
 
 -- Three parts of a stream, the last of which is one packet.
 pub three_bytes : (start first second third : List ℕ) (n n' n'' : ℕ) (ps qs : List (List ℕ)) (last : List ℕ) (all : List (List ℕ))

@@ -9,7 +9,7 @@ use Rattle.resultset.specs.declared.Column.{Column}
 use Rattle.resultset.specs.declared.ResultSet.{ResultSet}
 use Rattle.resultset.specs.declared.SetEnd.{SetEnd}
 use Rattle.resultset.specs.declared.SetEnd.TheVariants.{EofPackets, OkPacket}
-use Rattle.resultset.specs.Encoding.{RowFits, definition_payload, row_payload, behind_definitions, behind_rows, set_payloads}
+use Rattle.resultset.specs.Encoding.{RowFits, definition_payload, row_payload, after_definitions, after_rows, set_payloads}
 
 -- the payloads that stand between two others
 between : (front middle back : List (List ℕ)) (i n : ℕ) → i ≡ length front → n ≡ length middle → take n (drop i (front ++ (middle ++ back))) ≡ middle
@@ -18,13 +18,13 @@ between front middle back i n e f =
     ∙ ap (λ (k : ℕ). take k (middle ++ back)) f ∙ take-append_seam middle back
 
 -- the status of the packets after the definitions doesn't tell how many they are
-behind_length : (end : SetEnd) (status other : ℕ) → length (behind_definitions end status) ≡ length (behind_definitions end other)
-behind_length EofPackets status other = refl
-behind_length OkPacket status other = refl
+after_length : (end : SetEnd) (status other : ℕ) → length (after_definitions end status) ≡ length (after_definitions end other)
+after_length EofPackets status other = refl
+after_length OkPacket status other = refl
 
 module _ (end : SetEnd) (set : ResultSet) (status : ℕ) (head : List ℕ) (payloads : List (List ℕ)) (is_head : head ≡ length_encoded (length set.columns)) (e : payloads ≡ set_payloads end set status) where
-  set_length : length payloads ≡ length set.columns + length set.rows + length (behind_definitions end 0) + 2
-  set_length = ap length e ∙ simp (length-append, length-map) (omega (arith, behind_length end status 0))
+  set_length : length payloads ≡ length set.columns + length set.rows + length (after_definitions end 0) + 2
+  set_length = ap length e ∙ simp (length-append, length-map) (omega (arith, after_length end status 0))
 
   pub head_again : head ≡ length_encoded (length set.columns) ++ []
   head_again = is_head ∙ sym (append-nil (length_encoded (length set.columns)))
@@ -37,22 +37,22 @@ module _ (end : SetEnd) (set : ResultSet) (status : ℕ) (head : List ℕ) (payl
     pub definitions_stand : take (count + 1 - 1) (drop 1 payloads) ≡ map definition_payload set.columns
     definitions_stand =
         ap (λ (l : List (List ℕ)). take (count + 1 - 1) (drop 1 l))
-        (e ∙ append_assoc (length_encoded (length set.columns) ∷ map definition_payload set.columns) (behind_definitions end status ++ map row_payload set.rows) (behind_rows end status ∷ []))
+        (e ∙ append_assoc (length_encoded (length set.columns) ∷ map definition_payload set.columns) (after_definitions end status ++ map row_payload set.rows) (after_rows end status ∷ []))
         ∙ between (length_encoded (length set.columns) ∷ []) (map definition_payload set.columns) _ 1 (count + 1 - 1) refl (omega (arith, counted, length-map set.columns definition_payload))
 
-    pub rows_stand : (behind : ℕ) → behind ≡ length (behind_definitions end 0)
-        → take (length payloads - 1 - (count + 1 + behind)) (drop (count + 1 + behind) payloads) ≡ map row_payload set.rows
-    rows_stand behind is =
-        let front : List (List ℕ) = (length_encoded (length set.columns) ∷ map definition_payload set.columns) ++ behind_definitions end status in
-        let back : List (List ℕ) = behind_rows end status ∷ [] in
+    pub rows_stand : (trailing : ℕ) → trailing ≡ length (after_definitions end 0)
+        → take (length payloads - 1 - (count + 1 + trailing)) (drop (count + 1 + trailing) payloads) ≡ map row_payload set.rows
+    rows_stand trailing is =
+        let front : List (List ℕ) = (length_encoded (length set.columns) ∷ map definition_payload set.columns) ++ after_definitions end status in
+        let back : List (List ℕ) = after_rows end status ∷ [] in
         let shape : set_payloads end set status ≡ front ++ (map row_payload set.rows ++ back) =
-        append_assoc (length_encoded (length set.columns) ∷ map definition_payload set.columns) (behind_definitions end status ++ map row_payload set.rows) back
-        ∙ ap (λ (l : List (List ℕ)). (length_encoded (length set.columns) ∷ map definition_payload set.columns) ++ l) (append_assoc (behind_definitions end status) (map row_payload set.rows) back)
-        ∙ sym (append_assoc (length_encoded (length set.columns) ∷ map definition_payload set.columns) (behind_definitions end status) (map row_payload set.rows ++ back))
+        append_assoc (length_encoded (length set.columns) ∷ map definition_payload set.columns) (after_definitions end status ++ map row_payload set.rows) back
+        ∙ ap (λ (l : List (List ℕ)). (length_encoded (length set.columns) ∷ map definition_payload set.columns) ++ l) (append_assoc (after_definitions end status) (map row_payload set.rows) back)
+        ∙ sym (append_assoc (length_encoded (length set.columns) ∷ map definition_payload set.columns) (after_definitions end status) (map row_payload set.rows ++ back))
         in
-        ap (λ (l : List (List ℕ)). take (length payloads - 1 - (count + 1 + behind)) (drop (count + 1 + behind) l)) (e ∙ shape)
-        ∙ between front (map row_payload set.rows) back (count + 1 + behind) (length payloads - 1 - (count + 1 + behind))
-        (simp (length-append, length-map) (omega (arith, counted, is, behind_length end status 0)))
+        ap (λ (l : List (List ℕ)). take (length payloads - 1 - (count + 1 + trailing)) (drop (count + 1 + trailing) l)) (e ∙ shape)
+        ∙ between front (map row_payload set.rows) back (count + 1 + trailing) (length payloads - 1 - (count + 1 + trailing))
+        (simp (length-append, length-map) (omega (arith, counted, is, after_length end status 0)))
         (omega (arith, counted, is, set_length, length-map set.rows row_payload))
 
     pub rows_fit : (columns : List Column) → columns ≡ set.columns → AllByRecursion (RowFits set.columns) set.rows → AllByRecursion (RowFits columns) set.rows

@@ -47,19 +47,19 @@ abbrev pub definition_payload : Column → List ℕ
 definition_payload c = name_fields c ++ fixed_fields c.kind c.flags
 
 -- what comes after the definitions of a result set, and what after its rows
-abbrev pub behind_definitions : SetEnd → ℕ → List (List ℕ)
-behind_definitions EofPackets status = eof_payload status ∷ []
-behind_definitions OkPacket status = []
+abbrev pub after_definitions : SetEnd → ℕ → List (List ℕ)
+after_definitions EofPackets status = eof_payload status ∷ []
+after_definitions OkPacket status = []
 
-abbrev pub behind_rows : SetEnd → ℕ → List ℕ
-behind_rows EofPackets status = eof_payload status
-behind_rows OkPacket status = set_end_payload status
+abbrev pub after_rows : SetEnd → ℕ → List ℕ
+after_rows EofPackets status = eof_payload status
+after_rows OkPacket status = set_end_payload status
 
 -- a result set: the number of columns, each definition and what comes after them, each row and what comes after them
 abbrev pub set_payloads : SetEnd → ResultSet → ℕ → List (List ℕ)
 set_payloads end set status =
     (length_encoded (length set.columns) ∷ map definition_payload set.columns)
-    ++ (behind_definitions end status ++ map row_payload set.rows) ++ behind_rows end status ∷ []
+    ++ (after_definitions end status ++ map row_payload set.rows) ++ after_rows end status ∷ []
 
 abbrev pub payloads_of : SetEnd → Outcome → ℕ → List (List ℕ)
 payloads_of end (Rows set) status = set_payloads end set status

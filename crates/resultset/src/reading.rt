@@ -8,7 +8,7 @@ ghost use Rattle.mysql_packet.specs.Numbers.{length_encoded};
 ghost use Rattle.resultset.specs.declared.Column.{Column};
 ghost use Rattle.resultset.specs.declared.Outcome.{Outcome};
 ghost use Rattle.resultset.specs.declared.ResultSet.{ResultSet};
-ghost use Rattle.resultset.specs.Encoding.{RowFits, IsResult, Encodes, IsTyped, row_payload, behind_definitions, set_payloads};
+ghost use Rattle.resultset.specs.Encoding.{RowFits, IsResult, Encodes, IsTyped, row_payload, after_definitions, set_payloads};
 ghost use Rattle.resultset.specs.inner.Reading.{OnceRead};
 
 use crate::columns::columns;
@@ -107,22 +107,22 @@ fn read_set(
         return Err(Unread::Malformed);
     };
     let count = count as usize;
-    let behind = packets_behind_definitions(end);
-    if count == 0 || len < behind + 2 || len - (behind + 2) < count {
+    let trailing = packets_after_definitions(end);
+    if count == 0 || len < trailing + 2 || len - (trailing + 2) < count {
         return Err(Unread::Malformed);
     }
     let columns = columns(alloc, &payloads[1..count + 1])?;
     let rows = rows(
         alloc,
         columns.as_slice(),
-        &payloads[count + 1 + behind..len - 1],
+        &payloads[count + 1 + trailing..len - 1],
     )?;
     Ok(ResultSet { columns, rows })
 }
 
 /// How many packets stand after the definitions of a result set.
-fn packets_behind_definitions(end: SetEnd) -> usize
-    ensures { result ≡ length (behind_definitions end 0) }
+fn packets_after_definitions(end: SetEnd) -> usize
+    ensures { result ≡ length (after_definitions end 0) }
 {
     match end {
         SetEnd::EofPackets => 1,

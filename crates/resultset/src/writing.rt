@@ -4,7 +4,7 @@ ghost use Rattle.mysql_packet.specs.Numbers.{little_endian, length_encoded};
 ghost use Rattle.mysql_packet.specs.Frames.{frame, frames_from, number_after, number_after_all};
 ghost use Rattle.resultset.specs.Flags.{type_of, length_of};
 ghost use Rattle.resultset.specs.Encoding.{value_bytes, row_payload, definition_payload, name_fields};
-ghost use Rattle.resultset.specs.Encoding.{fixed_fields, behind_definitions, behind_rows, set_payloads, payloads_of, encoded, IsSmall};
+ghost use Rattle.resultset.specs.Encoding.{fixed_fields, after_definitions, after_rows, set_payloads, payloads_of, encoded, IsSmall};
 ghost use Rattle.resultset.specs.inner.Heads.{head_payloads};
 
 use crate::{Column, Kind, Outcome, ResultSet, SetEnd};
@@ -121,8 +121,8 @@ fn put_definitions_end(
     end: SetEnd,
     out: &mut BytesMut,
 ) -> Result<u8, Refusal>
-    ensures ok { OnOk result (out.new.items ≡ out.old.items ++ frames_from number (behind_definitions end status)) }
-    ensures next { IfOk result (λ n. n ≡ number_after_all number (behind_definitions end status)) }
+    ensures ok { OnOk result (out.new.items ≡ out.old.items ++ frames_from number (after_definitions end status)) }
+    ensures next { IfOk result (λ n. n ≡ number_after_all number (after_definitions end status)) }
     ensures err { OnErr result (out.new.items ≡ out.old.items) }
     ensures memory { IfErr result (λ e. e ≡ Refusal.OutOfMemory) }
     ensures capacity { length out.old.items + out.old.spare ≤ length out.new.items + out.new.spare }
@@ -140,8 +140,8 @@ pub(crate) fn put_rows_end(
     end: SetEnd,
     out: &mut BytesMut,
 ) -> Result<u8, Refusal>
-    ensures ok { OnOk result (out.new.items ≡ out.old.items ++ frame number (behind_rows end status)) }
-    ensures next { IfOk result (λ n. n ≡ number_after number (behind_rows end status)) }
+    ensures ok { OnOk result (out.new.items ≡ out.old.items ++ frame number (after_rows end status)) }
+    ensures next { IfOk result (λ n. n ≡ number_after number (after_rows end status)) }
     ensures err { OnErr result (out.new.items ≡ out.old.items) }
     ensures memory { IfErr result (λ e. e ≡ Refusal.OutOfMemory) }
     ensures capacity { length out.old.items + out.old.spare ≤ length out.new.items + out.new.spare }

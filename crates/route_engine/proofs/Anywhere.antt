@@ -18,12 +18,12 @@ use Rattle.journal.specs.Views.{PassView}
 use Rattle.journal.proofs.Fronts.{prefix_trans}
 use Rattle.serving.specs.Partitions.{Seat, IsPartition}
 use Rattle.shard_run.specs.declared.Mode.TheVariants.{Serving}
-use Rattle.shard_run.specs.declared.Shard.{Shard}
+use Rattle.shard_run.specs.declared.ShardRecord.{ShardRecord}
 use Rattle.shard_run.specs.declared.Entry.{Entry}
-use Rattle.shard_run.specs.Runs.{Run, Opening, one, held, mode, is_serving}
+use Rattle.shard_run.specs.Runs.{Run, Opening, database, shard_rows, mode, answers_queries}
 use Rattle.shard_law.specs.Legal.{IsOnItsSlot}
 use Rattle.shard_run.specs.Openings.{IsOpening}
-use Rattle.shard_contents.specs.Shards.{MayFollow, commit_of}
+use Rattle.shard_law.specs.Entries.{MayFollow, commit_of}
 use Rattle.shard_contents.specs.Transactions.{PendingView, entry_of}
 use Rattle.shard_contents.proofs.Legality.{legal_is, part_held}
 use Rattle.shard.proofs.Moves.{pending_may}
@@ -32,9 +32,9 @@ use Rattle.shard_calls.specs.declared.reply.Selected.{Selected}
 use Rattle.shard_calls.specs.declared.reply.Answer.TheVariants.{Rows, Count}
 use Rattle.shard_calls.specs.Answers.{NeedsAlone, needed_by}
 use Rattle.shard_calls.specs.Alone as over
-use Rattle.shard_calls.specs.Transactions.{Step, Transaction, needed_for}
+use Rattle.shard_calls.specs.Transactions.{TransactionStatement, Transaction, needed_for}
 use Rattle.shard_calls.specs.Pendings as stands
-use Rattle.shard_calls.specs.Pendings.{OpenView, Stands, IsAnywhere}
+use Rattle.shard_calls.specs.Pendings.{OpenView, Represents, IsAnywhere}
 use Rattle.route_engine.proofs.Going as g
 use Rattle.route_engine.proofs.Over.{nowhere_over}
 use Rattle.route_engine.proofs.SeatRows.{answers_kept_of, kept_nowhere}
@@ -42,7 +42,7 @@ use Rattle.route_engine.proofs.WholeWrites.{whole_changes}
 
 -- a pass that has seen more, and no more commits of its session
 pub stands_met : (o : Opening) (p q : PassView Entry) (v : Option OpenView) (t : Option Transaction) → IsPrefix p.seen q.seen → q.session ≡ p.session
-    → ((n : ℕ) → p.session ≡ Some n → filter (by_session commit_of n) q.seen ≡ filter (by_session commit_of n) p.seen) → Stands o p v t → Stands o q v t
+    → ((n : ℕ) → p.session ≡ Some n → filter (by_session commit_of n) q.seen ≡ filter (by_session commit_of n) p.seen) → Represents o p v t → Represents o q v t
 stands_met o p q _ _ more same own stands.closed = stands.closed
 stands_met o p q _ _ more same own (stands.unbound {t} legal all none) = stands.unbound legal all none
 stands_met o p q _ _ more same own (stands.bound {v} {t} is) = stands.bound (record {
@@ -60,7 +60,7 @@ stands_met o p q _ _ more same own (stands.bound {v} {t} is) = stands.bound (rec
   touches =
       subst (λ (i : Option ℕ). Rattle.std.specs.List.AllByRecursion (Rattle.shard_calls.specs.Pendings.IsTouchOf o is.shard i t.at t.steps) v.pending.touched) (sym same)
       is.touches;
-  behind = is.behind;
+  trailing = is.trailing;
   seen = prefix_trans t.at p.seen q.seen is.seen more;
   own = λ n mine. let m = sym same ∙ mine in own n m ∙ is.own n m;
 })
@@ -75,7 +75,7 @@ module _ (o : Opening) (opens : IsOpening o) (formed : is_vschema o.schema ≡ t
     on = refl;
     same = λ run legal.
         over.selects table join items qualified
-        (answers_kept_of q [] (source_rows q (one o run)) selected.rows
+        (answers_kept_of q [] (source_rows q (database o run)) selected.rows
         (kept_nowhere o opens run (legal_is o run legal) q there joins seats partition none) answer);
   }
 
@@ -92,21 +92,21 @@ module _ (o : Opening) (opens : IsOpening o) (formed : is_vschema o.schema ≡ t
   names_anywhere seen = record { none = tt; on = refl; same = λ run legal. over.sets_names }
 
   -- a primary key that is there already on the one shard is there in the one database
-  pub duplicate_over : (s : Shard) (run : Run) → IsOnItsSlot o run s → IsLegal (MayFollow o) run → mode o run s.slot ≡ Serving → (w : Write)
-      → IsTypedWrite o.schema w → NeedsAlone o w s → changes_of o.schema w (held o run s) ≡ Err DuplicateKey
-      → changes_of o.schema w (one o run) ≡ Err DuplicateKey
+  pub duplicate_over : (s : ShardRecord) (run : Run) → IsOnItsSlot o run s → IsLegal (MayFollow o) run → mode o run s.slot ≡ Serving → (w : Write)
+      → IsTypedWrite o.schema w → NeedsAlone o w s → changes_of o.schema w (shard_rows o run s) ≡ Err DuplicateKey
+      → changes_of o.schema w (database o run) ≡ Err DuplicateKey
   duplicate_over s run stands legal serves w is alone refused =
       let n = written_table w in
-      let here : Database = restrict o.schema s.place (one o run) in
-      let part : SameRows (held o run s) here = part_held o opens run s stands (ap is_serving serves) legal in
-      let same = same_changes (get_or o.schema.tables n no_table) w (rows_of (held o run s) n) (rows_of here n) (rows-same (held o run s) here part n) in
+      let here : Database = restrict o.schema s.place (database o run) in
+      let part : SameRows (shard_rows o run s) here = part_held o opens run s stands (ap answers_queries serves) legal in
+      let same = same_changes (get_or o.schema.tables n no_table) w (rows_of (shard_rows o run s) n) (rows_of here n) (rows-same (shard_rows o run s) here part n) in
       sym (whole_changes o opens formed run (legal_is o run legal) w is s alone) ∙ same.refused refused
 
   -- and so it is with the transaction's own writes
-  pub duplicate_in : (s : Shard) (run : Run) (tx : PendingView) (steps : List Step) → g.IsAt o s run tx steps → IsOnItsSlot o run s
+  pub duplicate_in : (s : ShardRecord) (run : Run) (tx : PendingView) (steps : List TransactionStatement) → g.IsAt o s run tx steps → IsOnItsSlot o run s
       → mode o run s.slot ≡ Serving → (session number : ℕ) → NumbersBelow commit_of session number run → (w : Write)
-      → IsTypedWrite o.schema w → NeedsAlone o w s → changes_of o.schema w (all_applied tx.changes (held o run s)) ≡ Err DuplicateKey
-      → changes_of o.schema w (all_applied tx.changes (one o run)) ≡ Err DuplicateKey
+      → IsTypedWrite o.schema w → NeedsAlone o w s → changes_of o.schema w (all_applied tx.changes (shard_rows o run s)) ≡ Err DuplicateKey
+      → changes_of o.schema w (all_applied tx.changes (database o run)) ≡ Err DuplicateKey
   duplicate_in s run tx steps at stands serves session number low w is alone refused =
       let may = pending_may o s opens run tx at.pending stands serves session number low in
       let e : Entry = entry_of s session number tx.writes tx.changes in

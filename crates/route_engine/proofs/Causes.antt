@@ -13,26 +13,26 @@ use Rattle.shard_law.proofs.Law.{slots, legal_back}
 use Rattle.shard_law.proofs.Lists.{In, In-all, In-right, In-filter, In-from_filter, Contains-from_In}
 use Rattle.shard_law.proofs.Since.{not_again}
 use Rattle.shard_run.specs.declared.Mode.TheVariants.{Following, Serving}
-use Rattle.shard_run.specs.declared.Shard.{Shard}
+use Rattle.shard_run.specs.declared.ShardRecord.{ShardRecord}
 use Rattle.shard_run.specs.declared.Entry.{Entry}
 use Rattle.shard_run.specs.declared.Event.{Event}
 use Rattle.shard_run.specs.declared.Event.TheVariants.{Commit, Follow, Copy, Freeze, Thaw, Retire, Serve}
-use Rattle.shard_run.specs.Runs.{Run, Opening, mode, is_serving, is_on, is_stored, stored_on}
+use Rattle.shard_run.specs.Runs.{Run, Opening, mode, answers_queries, is_on, is_stored, stored_on}
 use Rattle.shard_law.specs.Legal.{LegalFrom, May, IsOnItsSlot}
 use Rattle.shard_run.specs.Openings.{IsOpening}
-use Rattle.shard_contents.specs.declared.touch.Touch.{Touch}
-use Rattle.shard_contents.specs.Shards.{MayFollow, commit_of}
+use Rattle.shard_contents.specs.declared.touched_table.Touch.{Touch}
+use Rattle.shard_law.specs.Entries.{MayFollow, commit_of}
 use Rattle.shard_contents.specs.Transactions.{changes_table, is_changed, is_conflict}
 use Rattle.shard.proofs.Conflicts.{stored_is}
 use Rattle.shard_contents.proofs.Legality.{legal_is, of_run}
-use Rattle.shard_calls.specs.Transactions.{Step, IsConflict}
+use Rattle.shard_calls.specs.Transactions.{TransactionStatement, IsConflict}
 use Rattle.shard_calls.specs.Pendings.{IsTouchOf}
 use Rattle.route_engine.proofs.NoOthers.{all_front}
 
 -- ---- one shard on a slot
 
 -- what stands on its slot stood there before
-pub stands_early : (o : Opening) (old new : Run) (s : Shard) → IsPrefix old new → IsOnItsSlot o new s → IsOnItsSlot o old s
+pub stands_early : (o : Opening) (old new : Run) (s : ShardRecord) → IsPrefix old new → IsOnItsSlot o new s → IsOnItsSlot o old s
 stands_early o old new s later is = record {
   slot = is.slot;
   range = is.range;
@@ -43,11 +43,11 @@ stands_early o old new s later is = record {
   target = is.target;
 }
 
-pub one_on_slot : (o : Opening) → IsOpening o → (run : Run) → IsLegal (MayFollow o) run → (a b : Shard) → IsOnItsSlot o run a → IsOnItsSlot o run b
+pub one_on_slot : (o : Opening) → IsOpening o → (run : Run) → IsLegal (MayFollow o) run → (a b : ShardRecord) → IsOnItsSlot o run a → IsOnItsSlot o run b
     → mode o run a.slot ≡ Serving → a.slot ≡ b.slot → a ≡ b
 one_on_slot o opens run legal a b on_a on_b serves same =
-    (slots o opens run (legal_is o run legal)).unique a b (of_shard o run a (of_run o opens run a on_a (ap is_serving serves)))
-    (of_shard o run b (of_run o opens run b on_b (ap is_serving (subst (λ n. mode o run n ≡ Serving) same serves)))) same
+    (slots o opens run (legal_is o run legal)).unique a b (of_shard o run a (of_run o opens run a on_a (ap answers_queries serves)))
+    (of_shard o run b (of_run o opens run b on_b (ap answers_queries (subst (λ n. mode o run n ≡ Serving) same serves)))) same
 
 -- ---- what comes after a run at which a shard served
 
@@ -75,15 +75,15 @@ abbrev own : ℕ → Run → Run
 own n run = filter (by_session commit_of n) run
 
 -- a session without a commit after a run has none there
-none_own : (n : ℕ) (front behind now : Run) → now ≡ front ++ behind → own n now ≡ own n front → (e : Entry) → In e behind → by_session commit_of n e ≡ true → ⊥
-none_own n front behind now is same e h of =
-    let none : own n behind ≡ [] =
-    append_cancel_left (own n front) (own n behind) []
-    (sym (filter-append (by_session commit_of n) front behind) ∙ ap (own n) (sym is) ∙ same ∙ sym (append-nil (own n front))) in
-    subst (In e) none (In-filter (by_session commit_of n) e of behind h)
+none_own : (n : ℕ) (front trailing now : Run) → now ≡ front ++ trailing → own n now ≡ own n front → (e : Entry) → In e trailing → by_session commit_of n e ≡ true → ⊥
+none_own n front trailing now is same e h of =
+    let none : own n trailing ≡ [] =
+    append_cancel_left (own n front) (own n trailing) []
+    (sym (filter-append (by_session commit_of n) front trailing) ∙ ap (own n) (sym is) ∙ same ∙ sym (append-nil (own n front))) in
+    subst (In e) none (In-filter (by_session commit_of n) e of trailing h)
 
-module _ (o : Opening) (s : Shard) (at now : Run) (later : IsPrefix at now) (legal : IsLegal (MayFollow o) now) (stands : IsOnItsSlot o now s)
-    (session : Option ℕ) (mine : (n : ℕ) → session ≡ Some n → own n now ≡ own n at) (steps : List Step) (touched : List Touch)
+module _ (o : Opening) (s : ShardRecord) (at now : Run) (later : IsPrefix at now) (legal : IsLegal (MayFollow o) now) (stands : IsOnItsSlot o now s)
+    (session : Option ℕ) (mine : (n : ℕ) → session ≡ Some n → own n now ≡ own n at) (steps : List TransactionStatement) (touched : List Touch)
     (touches : AllByRecursion (IsTouchOf o s session at steps) touched) where
   -- The cause of a conflict.
   pub cause : is_conflict (stored_on s.slot now) touched ≡ true → IsConflict o s session now steps
@@ -104,23 +104,23 @@ module _ (o : Opening) (s : Shard) (at now : Run) (later : IsPrefix at now) (leg
       let past : mode o of.step.seen s.slot ≡ Following → ⊥ = λ f. let i = of.serves in absurd (cc (i, f)) in
       by t.0 of front e.0.shard e.0.event same is.1 on kept.0 (stood o s.slot of.step.seen front.0 e.0 back past kept.0) e.2
     where
-      by : (x : Touch) (of : IsTouchOf o s session at steps x) (front : IsPrefix of.step.seen now) (sh : Shard) (ev : Event) → sh ≡ s → is_stored ev ≡ true
+      by : (x : Touch) (of : IsTouchOf o s session at steps x) (front : IsPrefix of.step.seen now) (sh : ShardRecord) (ev : Event) → sh ≡ s → is_stored ev ≡ true
           → sh.slot ≡ s.slot → In (record { shard = sh; event = ev }) front.0 → Stood o s.slot (record { shard = sh; event = ev })
           → changes_table x.table (record { shard = sh; event = ev }) ≡ true → IsConflict o s session now steps
       by x of front sh (Commit c) same stored on there stood changed =
-          let behind : In (record { shard = s; event = Commit c }) front.0 = subst (λ (u : Shard). In (record { shard = u; event = Commit c }) front.0) same there in
+          let trailing : In (record { shard = s; event = Commit c }) front.0 = subst (λ (u : ShardRecord). In (record { shard = u; event = Commit c }) front.0) same there in
           record {
             step = of.step;
             is = of.is;
             on = of.on;
             table = x.table;
             touched = of.table;
-            behind = front.0;
+            trailing = front.0;
             since = sym front.1;
             commit = c;
-            there = Contains-from_In (record { shard = s; event = Commit c }) front.0 behind;
+            there = Contains-from_In (record { shard = s; event = Commit c }) front.0 trailing;
             other = λ e.
-                none_own c.session of.step.seen front.0 now (sym front.1) (mine c.session e ∙ of.own c.session e) (record { shard = s; event = Commit c }) behind
+                none_own c.session of.step.seen front.0 now (sym front.1) (mine c.session e ∙ of.own c.session e) (record { shard = s; event = Commit c }) trailing
                 (eq-eqb c.session c.session refl);
             changed = changed;
           }

@@ -5,14 +5,14 @@ use Rattle.std.specs.List.{AllByRecursion, list_any}
 use Rattle.std.proofs.lemmas.Bool.{false≢true, and_from, eqb-true, eq-eqb}
 use Rattle.shard_law.proofs.Lists.{In, In-left, In-right, In-last, In-all, In-filter, In-from_Contains, Contains-from_In, AllByRecursion-push, all-weaker}
 use Rattle.shard_run.specs.declared.Event.TheVariants.{Commit}
-use Rattle.shard_run.specs.declared.Shard.{Shard}
+use Rattle.shard_run.specs.declared.ShardRecord.{ShardRecord}
 use Rattle.shard_run.specs.declared.Entry.{Entry}
 use Rattle.shard_run.specs.Runs.{Run, Opening, is_on, is_stored, stored_on}
-use Rattle.shard_contents.specs.declared.touch.Touch.{Touch}
+use Rattle.shard_contents.specs.declared.touched_table.Touch.{Touch}
 use Rattle.shard_contents.specs.Transactions.{changes_table, is_changed, is_conflict, is_touched, touched_with, touched_all}
 use Rattle.shard.proofs.Conflicts.{stored_is}
 use Rattle.shard.proofs.Moves.{touch_of, all_touched}
-use Rattle.shard_calls.specs.Transactions.{Step, IsConflict, tables_of}
+use Rattle.shard_calls.specs.Transactions.{TransactionStatement, IsConflict, tables_of}
 use Rattle.shard_calls.specs.Pendings.{HasTouched}
 use Rattle.route_engine.proofs.Causes.{found}
 
@@ -30,19 +30,19 @@ in_dropped x zero xs ys l h = In-right x xs ys h
 in_dropped x (suc k) [] ys l h = absurd (omega (arith, l))
 in_dropped x (suc k) (y ∷ xs) ys l h = in_dropped x k xs ys (omega (arith, l)) h
 
-module _ (o : Opening) (s : Shard) (run : Run) (session : Option ℕ) (steps : List Step) (touched : List Touch)
-    (behind : AllByRecursion (HasTouched s touched) steps) where
+module _ (o : Opening) (s : ShardRecord) (run : Run) (session : Option ℕ) (steps : List TransactionStatement) (touched : List Touch)
+    (trailing : AllByRecursion (HasTouched s touched) steps) where
   pub no_conflict : is_conflict (stored_on s.slot run) touched ≡ false → IsConflict o s session run steps → ⊥
   no_conflict clear is =
-      let was = In-all (HasTouched s touched) is.step steps behind (In-from_Contains is.step steps is.is) is.table is.on is.touched in
+      let was = In-all (HasTouched s touched) is.step steps trailing (In-from_Contains is.step steps is.is) is.table is.on is.touched in
       let e : Entry = record { shard = s; event = Commit is.commit } in
-      let here : In e (stored_on s.slot is.behind) =
-      In-filter (λ (x : Entry). is_on s.slot x && is_stored x.event) e (and_from (s.slot == s.slot) true (eq-eqb s.slot s.slot refl) refl) is.behind
-      (In-from_Contains e is.behind is.there) in
-      let cut = stored_is o s is.step.seen run (is.behind, sym is.since) in
+      let here : In e (stored_on s.slot is.trailing) =
+      In-filter (λ (x : Entry). is_on s.slot x && is_stored x.event) e (and_from (s.slot == s.slot) true (eq-eqb s.slot s.slot refl) refl) is.trailing
+      (In-from_Contains e is.trailing is.there) in
+      let cut = stored_is o s is.step.seen run (is.trailing, sym is.since) in
       let there : In e (drop was.touch.stored (stored_on s.slot run)) =
       subst (λ (l : List Entry). In e (drop was.touch.stored l)) (sym cut)
-      (in_dropped e was.touch.stored (stored_on s.slot is.step.seen) (stored_on s.slot is.behind) was.stored here) in
+      (in_dropped e was.touch.stored (stored_on s.slot is.step.seen) (stored_on s.slot is.trailing) was.stored here) in
       let one : is_changed (stored_on s.slot run) was.touch ≡ true =
       any_from (changes_table was.touch.table) e (drop was.touch.stored (stored_on s.slot run)) there (ap (λ (n : ℕ). changes_table n e) was.table ∙ is.changed) in
       false≢true
@@ -98,10 +98,10 @@ early_of touched (m ∷ ns) stored n (inr h) all =
     record { touch = f.touch; is = f.is; table = f.table; low = f.low }
 
 -- a statement more, which touches its tables
-pub touched_more : (s : Shard) (touched : List Touch) (ns : List ℕ) (stored : ℕ) (steps : List Step) (last : Step) → AllByRecursion (HasTouched s touched) steps
+pub touched_more : (s : ShardRecord) (touched : List Touch) (ns : List ℕ) (stored : ℕ) (steps : List TransactionStatement) (last : TransactionStatement) → AllByRecursion (HasTouched s touched) steps
     → AllByRecursion (λ x. x.stored ≤ stored) touched → ((n : ℕ) → Contains (tables_of last.typed) n → In n ns) → stored ≤ length (stored_on s.slot last.seen)
     → AllByRecursion (HasTouched s (touched_all touched ns stored)) (steps ++ last ∷ [])
-touched_more s touched ns stored steps last behind low tables before =
+touched_more s touched ns stored steps last trailing low tables before =
     AllByRecursion-push (HasTouched s (touched_all touched ns stored)) steps last
     (all-weaker (HasTouched s touched) (HasTouched s (touched_all touched ns stored))
     (λ step h n on of.
@@ -111,7 +111,7 @@ touched_more s touched ns stored steps last behind low tables before =
       is = Contains-from_In was.touch (touched_all touched ns stored) (kept_all touched ns stored was.touch (In-from_Contains was.touch touched was.is));
       table = was.table;
       stored = was.stored;
-    }) steps behind)
+    }) steps trailing)
     (λ n on of.
     let f = early_of touched ns stored n (tables n of) low in
     let a = f.low in

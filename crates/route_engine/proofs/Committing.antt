@@ -19,17 +19,17 @@ use Rattle.planner.specs.Routes.{table_at, write_route}
 use Rattle.journal.specs.Runs.{IsLegal}
 use Rattle.journal.specs.Views.{PassView}
 use Rattle.journal.proofs.Fronts.{prefix_self, legal_front}
-use Rattle.shard_run.specs.declared.Shard.{Shard}
+use Rattle.shard_run.specs.declared.ShardRecord.{ShardRecord}
 use Rattle.shard_run.specs.declared.Mode.TheVariants.{Following, Serving}
 use Rattle.shard_run.specs.declared.Entry.{Entry}
-use Rattle.shard_run.specs.Runs.{Opening, one, mode}
+use Rattle.shard_run.specs.Runs.{Opening, database, mode}
 use Rattle.shard_run.specs.Openings.{IsOpening}
 use Rattle.shard_law.specs.Legal.{IsOnItsSlot, IsChangeOf}
 use Rattle.shard_law.proofs.Lists.{In, Contains-from_In}
 use Rattle.serving.specs.Partitions.{Seat, IsPartition, AreOf}
-use Rattle.shard_contents.specs.declared.limits.Limits.{Limits}
-use Rattle.shard_contents.specs.declared.outcomes.Committed.{Committed}
-use Rattle.shard_contents.specs.Shards.{MayFollow, HasLooked}
+use Rattle.shard_law.specs.declared.limits.Limits.{Limits}
+use Rattle.shard_contents.specs.declared.outcomes.CommitOutcome.{CommitOutcome}
+use Rattle.shard_law.specs.Entries.{MayFollow, HasLooked}
 use Rattle.shard_contents.specs.Commits as c
 use Rattle.shard_contents.specs.Commits.{IsPlaced, HasCommitted, HasAnswered, IsCommitRefusal, commit_entry}
 use Rattle.shard_contents.proofs.Legality.{legal_is}
@@ -82,7 +82,7 @@ module _ (o : Opening) (opens : IsOpening o) (formed : is_vschema o.schema ≡ t
         (subst (λ (x : Table). IsPlaced o.schema (record { keyspace = x.keyspace; range = range }) w) (sym t_is)
         (placed o w is_typed seats is seat (sym needed_is ∙ one_is)))
 
-    module _ (s : Shard) (on_slot : s.slot ≡ seat.0) (at_place : s.place ≡ place_at seat) (now : PassView Entry) (stands : IsOnItsSlot o now.seen s)
+    module _ (s : ShardRecord) (on_slot : s.slot ≡ seat.0) (at_place : s.place ≡ place_at seat) (now : PassView Entry) (stands : IsOnItsSlot o now.seen s)
         (past : mode o now.seen seat.0 ≡ Following → ⊥) where
       in_place : s.place ≡ place
       in_place = at_place ∙ at_home
@@ -118,23 +118,23 @@ module _ (o : Opening) (opens : IsOpening o) (formed : is_vschema o.schema ≡ t
       }
 
       -- what is committed means that over the one database right before its entry
-      means_over : (count : ℕ) (h : HasCommitted o limits s p w count now) → GivesOver o.schema (one o h.before) (typed.Write w) (Count count) (one o now.seen)
+      means_over : (count : ℕ) (h : HasCommitted o limits s p w count now) → GivesOver o.schema (database o h.before) (typed.Write w) (Count count) (database o now.seen)
       means_over count h =
           let e : Entry = commit_entry s h.session p.statements w h.changes in
           let there : IsLegal (MayFollow o) (h.before ++ e ∷ []) = subst (IsLegal (MayFollow o)) h.seen h.legal in
           let may = (legal_last o [] h.before e there).1 in
-          let part : Database = restrict o.schema s.place (one o h.before) in
+          let part : Database = restrict o.schema s.place (database o h.before) in
           let first = only_changes o.schema w part h.changes may.meant in
           let whole = whole_changes o opens formed h.before (legal_is o h.before (legal_front (MayFollow o) [] h.before (e ∷ []) there)) w is_typed s alone in
           let counts : length h.changes ≡ count =
           length_permutation first.0 h.changes first.2 ∙ count_is o.schema w part h.after first.0 count first.1 h.counted in
-          let left : one o now.seen ≡ all_applied h.changes (one o h.before) = ap (one o) h.seen ∙ one_push o h.before e in
-          let of : IsChangeOf o.schema w (one o h.before) h.changes = (first.0, sym whole ∙ first.1, first.2) in
-          subst (λ (db : Database). GivesOver o.schema (one o h.before) (typed.Write w) (Count count) db) (sym left)
-          (subst (λ (n : ℕ). GivesOver o.schema (one o h.before) (typed.Write w) (Count n) (all_applied h.changes (one o h.before))) counts
+          let left : database o now.seen ≡ all_applied h.changes (database o h.before) = ap (database o) h.seen ∙ one_push o h.before e in
+          let of : IsChangeOf o.schema w (database o h.before) h.changes = (first.0, sym whole ∙ first.1, first.2) in
+          subst (λ (db : Database). GivesOver o.schema (database o h.before) (typed.Write w) (Count count) db) (sym left)
+          (subst (λ (n : ℕ). GivesOver o.schema (database o h.before) (typed.Write w) (Count n) (all_applied h.changes (database o h.before))) counts
           (over.writes h.changes of))
 
-      pub answered : (r : Committed) → HasAnswered o limits s p w r now → IsTried o limits p w (tried r) now
+      pub answered : (r : CommitOutcome) → HasAnswered o limits s p w r now → IsTried o limits p w (tried r) now
       answered _ (c.committed {count} h) = written (a.wrote s alone ([], stays o p legal) h (means_over count h))
       answered _ (c.frozen look m) = again (gone_by o s.slot p now look) (held_up look (ap is_writable m))
       answered _ (c.not_serving look m) = again (gone_by o s.slot p now look) (held_up look (not_writable (mode o now.seen s.slot) m))

@@ -20,12 +20,12 @@ use Rattle.planner.specs.Routes.{table_at, route_of, write_route}
 use Rattle.journal.specs.Runs.{IsLegal, NumbersBelow}
 use Rattle.journal.specs.Views.{PassView}
 use Rattle.serving.specs.Partitions.{Seat, IsPartition, AreOf}
-use Rattle.shard_run.specs.declared.Shard.{Shard}
+use Rattle.shard_run.specs.declared.ShardRecord.{ShardRecord}
 use Rattle.shard_run.specs.declared.Entry.{Entry}
 use Rattle.shard_run.specs.Runs.{Opening}
 use Rattle.shard_run.specs.Openings.{IsOpening}
-use Rattle.shard_contents.specs.declared.limits.Limits.{Limits}
-use Rattle.shard_contents.specs.Shards.{MayFollow, commit_of}
+use Rattle.shard_law.specs.declared.limits.Limits.{Limits}
+use Rattle.shard_law.specs.Entries.{MayFollow, commit_of}
 use Rattle.shard_contents.specs.Transactions.{PendingView, IsPendingOf}
 use Rattle.shard.proofs.LooksIn.{Of, session_of}
 use Rattle.shard_calls.specs.declared.reply.Answer.TheVariants.{Rows, Count}
@@ -33,10 +33,10 @@ use Rattle.shard_calls.specs.declared.reply.Reply.{Reply}
 use Rattle.shard_calls.specs.declared.reply.ShardRead.{ShardRead}
 use Rattle.shard_calls.specs.Answers.{needed, HasGone, WasFound}
 use Rattle.shard_calls.specs.Transactions as t
-use Rattle.shard_calls.specs.Transactions.{Transaction, Standing, GivesIn, IsRefusedIn}
+use Rattle.shard_calls.specs.Transactions.{Transaction, PassAndTx, GivesIn, IsRefusedIn}
 use Rattle.shard_calls.specs.Pendings as stands
-use Rattle.shard_calls.specs.Pendings.{BoundView, OpenView, Stands, IsOf, bound_of}
-use Rattle.shard_calls.specs.inner.Within.{GoesOnIn, IsRefusedStep, IsSeatOf, NeedsNoSeat, NeedsOther, HasReadAt, IsNotReadAt, HasWrittenAt, IsNotWrittenAt, HasCommittedAt, IsNotCommittedAt}
+use Rattle.shard_calls.specs.Pendings.{BoundView, OpenView, Represents, IsOf, bound_of}
+use Rattle.shard_calls.specs.inner.InTransactions.{GoesOnIn, IsRefusedStep, IsSeatOf, NeedsNoSeat, NeedsOther, HasReadAt, IsNotReadAt, HasWrittenAt, IsNotWrittenAt, HasCommittedAt, IsNotCommittedAt}
 use Rattle.route_engine.proofs.Anywhere.{reads_nowhere, writes_nowhere, names_anywhere}
 use Rattle.shard_calls.proofs.Gathers.{stays}
 use Rattle.route_engine.proofs.Stepping as s
@@ -47,7 +47,7 @@ always (Ok t) h = h
 always (Err e) h = tt
 
 -- some transaction stands for what the program keeps
-pub open_one : (o : Opening) (p : PassView Entry) (v : OpenView) → IsOf o (Some v) p → (tr : Transaction) × Stands o p (Some v) (Some tr)
+pub open_one : (o : Opening) (p : PassView Entry) (v : OpenView) → IsOf o (Some v) p → (tr : Transaction) × Represents o p (Some v) (Some tr)
 open_one o p v (_, stands.unbound {t = tr} l all none) = (tr, stands.unbound l all none)
 open_one o p v (_, stands.bound {t = tr} is) = (tr, stands.bound is)
 
@@ -61,7 +61,7 @@ module _ (o : Opening) (opens : IsOpening o) (formed : is_vschema o.schema ≡ t
   below = above mine.session mine.is
 
   -- what the shard's calls ask
-  pub tied_to : IsOf o (Some v) p → (b : BoundView) → Fits v b → (u : Shard) → bound_of u b.seats ≡ b → IsPendingOf o u v.pending p
+  pub tied_to : IsOf o (Some v) p → (b : BoundView) → Fits v b → (u : ShardRecord) → bound_of u b.seats ≡ b → IsPendingOf o u v.pending p
   tied_to of b fits u same =
       let tr = open_one o p v of in s.tied o opens formed limits p legal mine.session mine.is below v tr.0 tr.1 b fits u same
 
@@ -108,7 +108,7 @@ module _ (o : Opening) (opens : IsOpening o) (formed : is_vschema o.schema ≡ t
         → GoesOnIn o limits p v (typed.Select q) (shown rows reads) p (Some v)
     read_nowhere none rows answer reads no_reads = record {
       from = λ tr st.
-          subst (λ (l : List ShardRead). (u : Option Transaction) × GivesIn o limits p tr (typed.Select q) (shown rows l) (record { pass = p; tx = u }) × Stands o p (Some v) u)
+          subst (λ (l : List ShardRead). (u : Option Transaction) × GivesIn o limits p tr (typed.Select q) (shown rows l) (record { pass = p; tx = u }) × Represents o p (Some v) u)
           (sym no_reads)
           (s.goes_anywhere o opens formed limits p legal mine.session mine.is below v tr st (typed.Select q)
           (Rows (record { table = q.table; join = q.join; items = q.items; qualified = q.qualified; rows = rows }))

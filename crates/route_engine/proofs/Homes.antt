@@ -13,7 +13,7 @@ use Rattle.shard_law.proofs.Rows.{head_is}
 use Rattle.serving.specs.Partitions.{Seat, IsPartition, AreOf}
 use Rattle.shard_calls.specs.Answers.{needed}
 use Rattle.shard_calls.specs.Pendings.{BoundView}
-use Rattle.shard_calls.specs.inner.Within.{IsSeatOf, NeedsOther}
+use Rattle.shard_calls.specs.inner.InTransactions.{IsSeatOf, NeedsOther}
 
 -- ---- a part that is needed
 
@@ -65,8 +65,8 @@ module _ (keyspaces : List ℕ) (n k : ℕ) (each : keyspaces ≡ range_with_len
   long : length keyspaces ≡ n
   long = ap length each ∙ length-range_with_len 0 n
 
-  pub at_its_place : k < n → (x : ℕ) → x ≡ get_or keyspaces k x → x ≡ k
-  at_its_place below x is =
+  pub at_its_ordinal : k < n → (x : ℕ) → x ≡ get_or keyspaces k x → x ≡ k
+  at_its_ordinal below x is =
       let e : x ≡ 0 + k = is ∙ ap (λ (l : List ℕ). get_or l k x) each ∙ get_or-range_with_len 0 n k x below in omega (arith, e)
 
   pub is_there : (r : Option (Bor ℕ)) → IsItemAt keyspaces k r → (IsSome r → k < n) × (k < n → IsSome r)
@@ -75,4 +75,4 @@ module _ (keyspaces : List ℕ) (n k : ℕ) (each : keyspaces ≡ range_with_len
 
   pub is_own : (r : Option (Bor ℕ)) → IsItemAt keyspaces k r → IfSome r (λ x. x.now ≡ k)
   is_own None is = tt
-  is_own (Some x) is = at_its_place (let l = long in let b = is.3.0 in omega (arith, b, l)) x.now is.1
+  is_own (Some x) is = at_its_ordinal (let l = long in let b = is.3.0 in omega (arith, b, l)) x.now is.1

@@ -16,28 +16,28 @@ use Rattle.journal.specs.Runs.{IsLegal}
 use Rattle.journal.specs.Views.{PassView}
 use Rattle.shard_run.specs.declared.Entry.{Entry}
 use Rattle.shard_run.specs.Runs.{Opening}
-use Rattle.shard_contents.specs.declared.limits.Limits.{Limits}
-use Rattle.shard_contents.specs.Shards.{MayFollow}
+use Rattle.shard_law.specs.declared.limits.Limits.{Limits}
+use Rattle.shard_law.specs.Entries.{MayFollow}
 use Rattle.shard_contents.specs.Transactions.{PendingView, nothing_done}
 use Rattle.shard_calls.specs.declared.reply.Answer.TheVariants.{Count}
 use Rattle.shard_calls.specs.declared.reply.Reply.{Reply}
 use Rattle.shard_calls.specs.Answers as a
 use Rattle.shard_calls.specs.Answers.{Gives, HasRead, HasWritten, MayReadRefuse, MayWriteRefuse}
 use Rattle.shard_calls.specs.Transactions as t
-use Rattle.shard_calls.specs.Transactions.{Transaction, Standing, GivesAt, IsRefusedBy, IsAnswerNow, IsRefusedNow}
+use Rattle.shard_calls.specs.Transactions.{Transaction, PassAndTx, GivesAt, IsRefusedBy, IsAnswerNow, IsRefusedNow}
 use Rattle.shard_calls.specs.Pendings as stands
-use Rattle.shard_calls.specs.Pendings.{BoundView, OpenView, Stands}
+use Rattle.shard_calls.specs.Pendings.{BoundView, OpenView, Represents}
 use Rattle.route_engine.specs.inner.Pendings.{Leads}
-use Rattle.shard_calls.specs.inner.Within.{ends, closes, left_by, kept_by, stays_open, GoesOnIn, IsRefusedStep}
+use Rattle.shard_calls.specs.inner.InTransactions.{ends, closes, left_by, kept_by, stays_open, GoesOnIn, IsRefusedStep}
 use Rattle.route_engine.proofs.Stepping.{stands_left}
 
 module _ (o : Opening) (limits : Limits) (p now : PassView Entry) where
   -- none is open
-  pub closed_leads : (w : Option OpenView) (u : Option Transaction) (step : Option Transaction → Option Transaction → Type 0) → step None u → Stands o now w u
+  pub closed_leads : (w : Option OpenView) (u : Option Transaction) (step : Option Transaction → Option Transaction → Type 0) → step None u → Represents o now w u
       → Leads o p None now w step
   closed_leads w u step is st = record { from = by }
     where
-      by : (tr : Option Transaction) → Stands o p None tr → (u : Option Transaction) × step tr u × Stands o now w u
+      by : (tr : Option Transaction) → Represents o p None tr → (u : Option Transaction) × step tr u × Represents o now w u
       by _ stands.closed = (u, is, st)
 
   -- one is open, and goes on
@@ -45,8 +45,8 @@ module _ (o : Opening) (limits : Limits) (p now : PassView Entry) where
       → Leads o p (Some v) now w (λ tr u. GivesAt o limits p tr typed reply (record { pass = now; tx = u }))
   goes_leads v typed reply w goes = record { from = by v goes }
     where
-      by : (v : OpenView) → GoesOnIn o limits p v typed reply now w → (tr : Option Transaction) → Stands o p (Some v) tr
-          → (u : Option Transaction) × GivesAt o limits p tr typed reply (record { pass = now; tx = u }) × Stands o now w u
+      by : (v : OpenView) → GoesOnIn o limits p v typed reply now w → (tr : Option Transaction) → Represents o p (Some v) tr
+          → (u : Option Transaction) × GivesAt o limits p tr typed reply (record { pass = now; tx = u }) × Represents o now w u
       by _ goes _ (stands.unbound {t = tr} l all none) = let r = goes.from tr (stands.unbound l all none) in (r.0, t.within r.1, r.2)
       by v goes _ (stands.bound {t = tr} is) = let r = goes.from tr (stands.bound is) in (r.0, t.within r.1, r.2)
 
@@ -55,12 +55,12 @@ module _ (o : Opening) (limits : Limits) (p now : PassView Entry) where
       → Leads o p (Some v) now (cond (ends e) None (Some v)) (λ tr u. IsRefusedBy o limits p tr typed e (record { pass = now; tx = u }))
   refused_leads v typed e step = record { from = by v step }
     where
-      left : (v : OpenView) (tr : Transaction) (b : Bool) → Stands o now (Some v) (Some tr) → Stands o now (cond b None (Some v)) (cond b None (Some tr))
+      left : (v : OpenView) (tr : Transaction) (b : Bool) → Represents o now (Some v) (Some tr) → Represents o now (cond b None (Some v)) (cond b None (Some tr))
       left v tr true st = stands.closed
       left v tr false st = st
 
-      by : (v : OpenView) → IsRefusedStep o limits p v typed e now → (tr : Option Transaction) → Stands o p (Some v) tr
-          → (u : Option Transaction) × IsRefusedBy o limits p tr typed e (record { pass = now; tx = u }) × Stands o now (cond (ends e) None (Some v)) u
+      by : (v : OpenView) → IsRefusedStep o limits p v typed e now → (tr : Option Transaction) → Represents o p (Some v) tr
+          → (u : Option Transaction) × IsRefusedBy o limits p tr typed e (record { pass = now; tx = u }) × Represents o now (cond (ends e) None (Some v)) u
       by _ step _ (stands.unbound {t = tr} l all none) =
           let r = step.from tr (stands.unbound l all none) in
           (left_by e tr, t.within r, left _ tr (ends e) (stands_left o limits p _ tr typed e (record { pass = now; tx = left_by e tr }) r (stands.unbound l all none)))
@@ -74,8 +74,8 @@ module _ (o : Opening) (limits : Limits) (p now : PassView Entry) (w : Option Op
   abbrev AnswersAlone : Typed → Reply → Type 0
   AnswersAlone ty reply = Leads o p None now w (λ tr u. GivesAt o limits p tr ty reply (record { pass = now; tx = u }))
 
-  stands_none : Stands o now w None
-  stands_none = subst (λ (x : Option OpenView). Stands o now x None) (sym none) stands.closed
+  stands_none : Represents o now w None
+  stands_none = subst (λ (x : Option OpenView). Represents o now x None) (sym none) stands.closed
 
   pub gives_alone : (ty : Typed) (reply : Reply) → Gives o limits p ty reply now → AnswersAlone ty reply
   gives_alone ty reply is =
@@ -127,7 +127,7 @@ module _ (o : Opening) (limits : Limits) (p : PassView Entry) (w : Option OpenVi
   begins_alone legal is =
       closed_leads o limits p p w (Some (record { at = p.seen; steps = []; kept = None }))
       (λ tr u. GivesAt o limits p tr typed.Begin (record { answer = Count 0; reads = [] }) (record { pass = p; tx = u })) t.begins
-      (subst (λ (x : Option OpenView). Stands o p x (Some (record { at = p.seen; steps = []; kept = None }))) (sym is) (stands.unbound legal tt refl))
+      (subst (λ (x : Option OpenView). Represents o p x (Some (record { at = p.seen; steps = []; kept = None }))) (sym is) (stands.unbound legal tt refl))
 
 -- ---- what stays open
 

@@ -7,7 +7,7 @@ use Rattle.operators.specs.Slices.{shown_at}
 use Rattle.vschema.specs.declared.schema.Query.{Query}
 use Rattle.vschema.specs.declared.schema.VSchema.{VSchema}
 use Rattle.vschema.specs.Sources.{source_rows, JoinsInPlace}
-use Rattle.sql_eval.specs.Narrowing.{narrowed, whole_items, whole_places, ShowsAt}
+use Rattle.sql_eval.specs.Narrowing.{narrowed, whole_items, whole_ordinals, ShowsAt}
 use Rattle.sql_eval.specs.declared.narrowed.Whole.{Whole}
 use Rattle.sql_eval.proofs.NarrowLemmas.{narrowed_aggregated}
 use Rattle.planner.specs.Routes.{table_at}
@@ -28,16 +28,16 @@ joins_narrowed schema q joins j e = record {
   width = (joins j e).width;
   first = (joins j e).first;
   second = (joins j e).second;
-  place = (joins j e).place;
+  ordinal = (joins j e).ordinal;
   kind = (joins j e).kind;
   ids = (joins j e).ids;
 }
 
-pub read_whole : (o : Opening) (p now : PassView Entry) (q : Query) (places : Option (List ℕ)) → ShowsAt q places
+pub read_whole : (o : Opening) (p now : PassView Entry) (q : Query) (ordinals : Option (List ℕ)) → ShowsAt q ordinals
     → (items : List (Item ℕ)) (qualified : List Bool) (rows : List Row) (reads : List ShardRead)
     → HasRead o p (narrowed q) (record { answer = Rows (record { table = q.table; join = q.join; items = items; qualified = qualified; rows = rows }); reads = reads }) now
-    → HasRead o p q (record { answer = Rows (record { table = q.table; join = q.join; items = q.items; qualified = qualified; rows = shown_at places rows }); reads = reads }) now
-read_whole o p now q places shows items qualified rows reads (a.read is) = a.read (record {
+    → HasRead o p q (record { answer = Rows (record { table = q.table; join = q.join; items = q.items; qualified = qualified; rows = shown_at ordinals rows }); reads = reads }) now
+read_whole o p now q ordinals shows items qualified rows reads (a.read is) = a.read (record {
   table = refl;
   join = refl;
   items = refl;
@@ -66,14 +66,14 @@ module _ (o : Opening) (p now : PassView Entry) (q f n : Query) (same : f ≡ q)
   pub refused : (e : Refusal) → MayReadRefuse o p n e now → MayReadRefuse o p q e now
   refused e is = not_read_whole o p now q e (subst (λ (v : Query). MayReadRefuse o p v e now) narrow_is is)
 
-  pub replied : (w : Option Whole) → whole_items w n.items ≡ f.items → ShowsAt f (whole_places w) → (items : List (Item ℕ)) → items ≡ n.items
+  pub replied : (w : Option Whole) → whole_items w n.items ≡ f.items → ShowsAt f (whole_ordinals w) → (items : List (Item ℕ)) → items ≡ n.items
       → (qualified : List Bool) (rows : List Row) (reads : List ShardRead)
       → HasRead o p n (record { answer = Rows (record { table = n.table; join = n.join; items = items; qualified = qualified; rows = rows }); reads = reads }) now
-      → (told : List (Item ℕ)) → told ≡ whole_items w items → (shown : List Row) → shown ≡ shown_at (whole_places w) rows
+      → (told : List (Item ℕ)) → told ≡ whole_items w items → (shown : List Row) → shown ≡ shown_at (whole_ordinals w) rows
       → HasRead o p q (record { answer = Rows (record { table = q.table; join = q.join; items = told; qualified = qualified; rows = shown }); reads = reads }) now
   replied w whole shows items items_are qualified rows reads read told told_is shown shown_is =
       let all : told ≡ q.items = told_is ∙ ap (whole_items w) items_are ∙ whole ∙ ap (λ (v : Query). v.items) same in
       let here = subst (λ (v : Query). HasRead o p v (record { answer = Rows (record { table = v.table; join = v.join; items = items; qualified = qualified; rows = rows }); reads = reads }) now) narrow_is read in
-      let out = read_whole o p now q (whole_places w) (subst (λ (v : Query). ShowsAt v (whole_places w)) same shows) items qualified rows reads here in
+      let out = read_whole o p now q (whole_ordinals w) (subst (λ (v : Query). ShowsAt v (whole_ordinals w)) same shows) items qualified rows reads here in
       subst (λ (l : List (Item ℕ)). HasRead o p q (record { answer = Rows (record { table = q.table; join = q.join; items = l; qualified = qualified; rows = shown }); reads = reads }) now) (sym all)
       (subst (λ (l : List Row). HasRead o p q (record { answer = Rows (record { table = q.table; join = q.join; items = q.items; qualified = qualified; rows = l }); reads = reads }) now) (sym shown_is) out)

@@ -12,15 +12,15 @@ use Rattle.vschema.specs.Database.{all_applied}
 use Rattle.journal.specs.Runs.{by_session}
 use Rattle.journal.specs.Views.{PassView}
 use Rattle.journal.proofs.Fronts.{prefix_self, prefix_trans}
-use Rattle.shard_run.specs.declared.Shard.{Shard}
+use Rattle.shard_run.specs.declared.ShardRecord.{ShardRecord}
 use Rattle.shard_run.specs.declared.Event.{Event}
 use Rattle.shard_run.specs.declared.Event.TheVariants.{Commit, Follow, Copy, Freeze, Thaw, Retire, Serve}
 use Rattle.shard_run.specs.declared.Entry.{Entry}
-use Rattle.shard_run.specs.Runs.{Run, Opening, opening_rows, one}
+use Rattle.shard_run.specs.Runs.{Run, Opening, opening_rows, database}
 use Rattle.shard_law.proofs.Runs.{commits}
 use Rattle.shard_law.proofs.Lists.{In, In-filter, all-append}
-use Rattle.shard_contents.specs.declared.limits.Limits.{Limits}
-use Rattle.shard_contents.specs.Shards.{commit_of, HasLooked}
+use Rattle.shard_law.specs.declared.limits.Limits.{Limits}
+use Rattle.shard_law.specs.Entries.{commit_of, HasLooked}
 use Rattle.shard_contents.specs.Commits.{HasCommitted}
 use Rattle.shard_calls.specs.Answers.{HasGoneOn, HasGone}
 use Rattle.shard_calls.specs.Alone.{IsNoOthers, NoOthers, NoCommits}
@@ -54,7 +54,7 @@ no_changes (e ∷ run) all = by e.event all.0 (no_changes run all.1)
     by Serve none rest = rest
 
 -- they leave the one database
-pub one_still : (o : Opening) (before now : Run) → NoCommits before now → one o now ≡ one o before
+pub one_still : (o : Opening) (before now : Run) → NoCommits before now → database o now ≡ database o before
 one_still o before now still =
     let all : commits (before ++ still.added) ≡ commits before =
     flat_map-append (λ (e : Entry). Rattle.shard_run.specs.Runs.commit_changes e.event) before still.added
@@ -135,8 +135,8 @@ module _ (p now : PassView Entry) (alone : NoOthers p now) where
     own = all_front (IsNoOthers alone.session) before.0 after.0 (all_own mid.seen before after);
   }
 
-  pub behind : (mid : PassView Entry) → IsPrefix p.seen mid.seen → IsPrefix mid.seen now.seen → mid.session ≡ p.session → NoOthers mid now
-  behind mid before after same = record {
+  pub trailing : (mid : PassView Entry) → IsPrefix p.seen mid.seen → IsPrefix mid.seen now.seen → mid.session ≡ p.session → NoOthers mid now
+  trailing mid before after same = record {
     session = alone.session;
     of_session = same ∙ alone.of_session;
     added = after.0;
@@ -154,6 +154,6 @@ module _ (p now : PassView Entry) (alone : NoOthers p now) where
   looked_unchanged o slot looked = unchanged now.seen looked.later (prefix_self now.seen) (looked.own alone.session alone.of_session)
 
   -- a commit's entry stands after what was seen, and no other commit between
-  pub committed_at : (o : Opening) (l : Limits) (s : Shard) (w : Write) (count : ℕ) (c : HasCommitted o l s p w count now) → NoCommits p.seen c.before
+  pub committed_at : (o : Opening) (l : Limits) (s : ShardRecord) (w : Write) (count : ℕ) (c : HasCommitted o l s p w count now) → NoCommits p.seen c.before
   committed_at o l s w count c =
       unchanged c.before (prefix_trans p.seen c.looked.seen c.before c.look.later c.later) (_, sym c.seen) (c.own alone.session alone.of_session)

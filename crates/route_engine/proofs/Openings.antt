@@ -10,7 +10,7 @@ use Rattle.std.proofs.lemmas.Map.Made.{IsDistinct-from_AllPairs}
 use Rattle.std.proofs.lemmas.Map.Steps.{length-le_from_distinct_below}
 use Rattle.vschema.specs.declared.schema.VSchema.{VSchema}
 use Rattle.vschema.specs.Database.{Database}
-use Rattle.shard_run.specs.declared.Shard.{Shard}
+use Rattle.shard_run.specs.declared.ShardRecord.{ShardRecord}
 use Rattle.shard_run.specs.Runs.{Opening}
 use Rattle.shard_run.specs.Openings.{IsOpening, OpensWith, shards_in}
 use Rattle.keyrange.specs.declared.KeyRange.{KeyRange}
@@ -19,10 +19,10 @@ use Rattle.keyrange.specs.Ranges.{Cover}
 use Rattle.serving.specs.Partitions.{IsPartition, AreOf, ranges}
 use Rattle.shard.specs.Seats.{seat_of}
 use Rattle.route_engine.proofs.Everywhere.{ranges_named}
-use Rattle.shard_contents.specs.Shards.{opening_shards}
+use Rattle.shard_law.specs.Entries.{opening_shards}
 
 -- what differs pair by pair is mapped to numbers that do
-mapped_apart : (f : Shard → ℕ) (ss : List Shard) → AllPairs (λ a b. f a ≢ f b) ss → AllPairs (λ (x : ℕ) (y : ℕ). x ≢ y) (map f ss)
+mapped_apart : (f : ShardRecord → ℕ) (ss : List ShardRecord) → AllPairs (λ a b. f a ≢ f b) ss → AllPairs (λ (x : ℕ) (y : ℕ). x ≢ y) (map f ss)
 mapped_apart f [] apart i j d before within = absurd (omega (arith, within))
 mapped_apart f (s ∷ ss) apart i j d before within =
     let long = length-map (s ∷ ss) f in
@@ -32,7 +32,7 @@ mapped_apart f (s ∷ ss) apart i j d before within =
     let here = get_or-map f (s ∷ ss) j s d last in
     λ same. apart i j s before last (sym there ∙ same ∙ here)
 
-slots_below : (schema : VSchema) (shards : List (Shard × Database)) → AllByRecursion (λ p. OpensWith schema p.0 p.1) shards → (q : ℕ)
+slots_below : (schema : VSchema) (shards : List (ShardRecord × Database)) → AllByRecursion (λ p. OpensWith schema p.0 p.1) shards → (q : ℕ)
     → list_any (λ n. q == n) (map (λ s. s.slot) (map (λ p. p.0) shards)) ≡ true → q < 64
 slots_below schema [] all q e = absurd (false≢true e)
 slots_below schema ((s, db) ∷ shards) all q e = by (q == s.slot) refl e (slots_below schema shards all.1 q)
@@ -44,13 +44,13 @@ slots_below schema ((s, db) ∷ shards) all q e = by (q == s.slot) refl e (slots
 
 pub few_shards : (o : Opening) → IsOpening o → length (opening_shards o) ≤ 64
 few_shards o opens =
-    let slots = map (λ (s : Shard). s.slot) (opening_shards o) in
+    let slots = map (λ (s : ShardRecord). s.slot) (opening_shards o) in
     let apart = IsDistinct-from_AllPairs Decides-eqb slots (mapped_apart (λ s. s.slot) (opening_shards o) opens.slots) in
     let few = length-le_from_distinct_below slots 64 apart (slots_below o.schema o.shards opens.each) in
-    let long = length-map (opening_shards o) (λ (s : Shard). s.slot) in
+    let long = length-map (opening_shards o) (λ (s : ShardRecord). s.slot) in
     omega (arith, few, long)
 
-ranges_of : (ss : List Shard) → ranges (map seat_of ss) ≡ map (λ (s : Shard). s.place.range) ss
+ranges_of : (ss : List ShardRecord) → ranges (map seat_of ss) ≡ map (λ (s : ShardRecord). s.place.range) ss
 ranges_of [] = refl
 ranges_of (s ∷ ss) = ap (λ (l : List KeyRange). s.place.range ∷ l) (ranges_of ss)
 
@@ -61,14 +61,14 @@ partition_at o opens k below = record {
   whole = subst Cover (sym (ranges_of (shards_in o k))) (opens.ranges k below);
   few =
       let in_all = few_shards o opens in
-      let less = count_by-le-length (λ (s : Shard). s.place.keyspace == k) (opening_shards o) in
-      let kept = length-filter (λ (s : Shard). s.place.keyspace == k) (opening_shards o) in
+      let less = count_by-le-length (λ (s : ShardRecord). s.place.keyspace == k) (opening_shards o) in
+      let kept = length-filter (λ (s : ShardRecord). s.place.keyspace == k) (opening_shards o) in
       let long = length-map (shards_in o k) seat_of in
       omega (arith, in_all, less, kept, long);
 }
 
 -- the shards that lie in a keyspace are of it
-pub of_keyspace : (k : ℕ) (ss : List Shard) → AreOf k (map seat_of (filter (λ s. s.place.keyspace == k) ss))
+pub of_keyspace : (k : ℕ) (ss : List ShardRecord) → AreOf k (map seat_of (filter (λ s. s.place.keyspace == k) ss))
 of_keyspace k [] = tt
 of_keyspace k (s ∷ ss) = by (s.place.keyspace == k) refl (of_keyspace k ss)
   where

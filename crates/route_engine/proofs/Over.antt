@@ -24,20 +24,20 @@ use Rattle.planner.specs.Routes.{table_at}
 use Rattle.journal.specs.Runs.{LegalAfter, IsLegal}
 use Rattle.journal.specs.Views.{PassView}
 use Rattle.journal.proofs.Fronts.{prefix_self, prefix_trans, legal_front}
-use Rattle.shard_run.specs.declared.Shard.{Shard}
+use Rattle.shard_run.specs.declared.ShardRecord.{ShardRecord}
 use Rattle.shard_run.specs.declared.Entry.{Entry}
-use Rattle.shard_run.specs.Runs.{Run, Opening, opening_rows, one, commit_changes}
+use Rattle.shard_run.specs.Runs.{Run, Opening, opening_rows, database, commit_changes}
 use Rattle.shard_law.specs.Legal.{Legal, IsChangeOf, AreChangesOf}
 use Rattle.shard_run.specs.Openings.{IsOpening}
 use Rattle.shard_law.proofs.Lists.{all-weaker}
 use Rattle.shard_law.proofs.Runs.{commits, commits-push}
-use Rattle.shard_contents.specs.declared.limits.Limits.{Limits}
-use Rattle.shard_contents.specs.Shards.{MayFollow, HasLooked}
+use Rattle.shard_law.specs.declared.limits.Limits.{Limits}
+use Rattle.shard_law.specs.Entries.{MayFollow, HasLooked}
 use Rattle.shard_contents.specs.Commits.{HasCommitted}
 use Rattle.shard_contents.proofs.Legality.{legal_is}
 use Rattle.shard_calls.specs.declared.reply.Answer.TheVariants.{Rows, Count}
 use Rattle.shard_calls.specs.declared.reply.Reply.{Reply}
-use Rattle.shard_calls.specs.Mix.{Part, LiesBetween, mixed_rows}
+use Rattle.shard_calls.specs.Mix.{MixPart, LiesBetween, mixed_rows}
 use Rattle.shard_calls.specs.Answers as a
 use Rattle.route_engine.specs.inner.Answers as i
 use Rattle.serving.specs.Partitions.{Seat, IsPartition}
@@ -48,7 +48,7 @@ use Rattle.shard_calls.specs.Alone.{NoOthers, NoCommits, GivesOver, IsRefusedOve
 use Rattle.route_engine.specs.inner.Alone.{AnswersOver}
 use Rattle.route_engine.proofs.SeatRows.{mixed_sources}
 use Rattle.sql_eval.proofs.SameAnswers.{same_sources}
-use Rattle.route_engine.proofs.NoOthers.{one_still, still_self, still_trans, still_between, gone_unchanged, gone_same, looked_unchanged, committed_at, up_to, behind}
+use Rattle.route_engine.proofs.NoOthers.{one_still, still_self, still_trans, still_between, gone_unchanged, gone_same, looked_unchanged, committed_at, up_to, trailing}
 use Rattle.route_engine.proofs.Sessions.{is_typed}
 use Rattle.route_engine.proofs.Theirs.{query_there, query_joins}
 use Rattle.route_engine.proofs.Trying.{same_session}
@@ -59,7 +59,7 @@ use Rattle.route_engine.proofs.WholeWrites.{no_changes}
 later_looked : (o : Opening) (slot : ℕ) (p now : PassView Entry) → HasLooked o slot p now → IsPrefix p.seen now.seen
 later_looked o slot p now looked = looked.later
 
-committed_later : (o : Opening) (l : Limits) (s : Shard) (p now : PassView Entry) (w : Write) (count : ℕ) → HasCommitted o l s p w count now → IsPrefix p.seen now.seen
+committed_later : (o : Opening) (l : Limits) (s : ShardRecord) (p now : PassView Entry) (w : Write) (count : ℕ) → HasCommitted o l s p w count now → IsPrefix p.seen now.seen
 committed_later o l s p now w count c =
     prefix_trans p.seen c.before now.seen (prefix_trans p.seen c.looked.seen c.before c.look.later c.later) (_, sym c.seen)
 
@@ -121,7 +121,7 @@ all_applied-append : (xs ys : List RowChange) (db : Database) → all_applied (x
 all_applied-append [] ys db = refl
 all_applied-append (c ∷ xs) ys db = all_applied-append xs ys (applied c db)
 
-pub one_push : (o : Opening) (before : Run) (e : Entry) → one o (before ++ e ∷ []) ≡ all_applied (commit_changes e.event) (one o before)
+pub one_push : (o : Opening) (before : Run) (e : Entry) → database o (before ++ e ∷ []) ≡ all_applied (commit_changes e.event) (database o before)
 one_push o before e =
     ap (λ (l : List RowChange). all_applied l (opening_rows o)) (commits-push before e)
     ∙ all_applied-append (commits before) (commit_changes e.event) (opening_rows o)
@@ -143,58 +143,58 @@ count_is schema w db after exact count is changed =
     ap number_of e
 
 module _ (o : Opening) (opens : IsOpening o) (formed : is_vschema o.schema ≡ true) (l : Limits) (p now : PassView Entry) (alone : NoOthers p now) where
-  same_runs : (parts : List Part) → AllByRecursion (LiesBetween p.seen now.seen) parts → NoCommits p.seen now.seen
-      → AllByRecursion (λ part. one o part.run ≡ one o p.seen) parts
+  same_runs : (parts : List MixPart) → AllByRecursion (LiesBetween p.seen now.seen) parts → NoCommits p.seen now.seen
+      → AllByRecursion (λ part. database o part.run ≡ database o p.seen) parts
   same_runs parts all same =
-      all-weaker (LiesBetween p.seen now.seen) (λ part. one o part.run ≡ one o p.seen)
+      all-weaker (LiesBetween p.seen now.seen) (λ part. database o part.run ≡ database o p.seen)
       (λ part h. one_still o p.seen part.run (still_between p.seen part.run now.seen h.0 h.1 same)) parts all
 
   -- a query
   pub selected_over : (q : Query) (selected : Rattle.shard_calls.specs.declared.reply.Selected.Selected) (reads : List Rattle.shard_calls.specs.declared.reply.ShardRead.ShardRead)
       → SourcesThere (length o.schema.tables) q → JoinsInPlace o.schema q → IsSelected o p (table_at o.schema q.table) q selected reads now
-      → GivesOver o.schema (one o p.seen) (typed.Select q) (Rows selected) (one o now.seen)
+      → GivesOver o.schema (database o p.seen) (typed.Select q) (Rows selected) (database o now.seen)
   selected_over q selected reads there joins is =
       let same = gone_unchanged p now alone o is.added is.gone in
       let rows = mixed_sources o q there joins p.seen is.parts (same_runs is.parts is.mix.between same) is.mix.named is.mix.whole in
-      let answer : Allowed q (one o p.seen) selected.rows =
-      same_sources q (mixed_rows o (table_at o.schema q.table).keyspace is.parts) (one o p.seen) selected.rows rows is.allowed in
-      subst (λ (db : Database). GivesOver o.schema (one o p.seen) (typed.Select q) (Rows selected) db) (sym (one_still o p.seen now.seen same))
+      let answer : Allowed q (database o p.seen) selected.rows =
+      same_sources q (mixed_rows o (table_at o.schema q.table).keyspace is.parts) (database o p.seen) selected.rows rows is.allowed in
+      subst (λ (db : Database). GivesOver o.schema (database o p.seen) (typed.Select q) (Rows selected) db) (sym (one_still o p.seen now.seen same))
       (over.selects is.table is.join is.items is.qualified answer)
 
   -- a write
-  pub committed_over : (w : Write) (s : Shard) (count : ℕ) (c : HasCommitted o l s p w count now)
-      → GivesOver o.schema (one o c.before) (typed.Write w) (Count count) (one o now.seen)
-      → GivesOver o.schema (one o p.seen) (typed.Write w) (Count count) (one o now.seen)
+  pub committed_over : (w : Write) (s : ShardRecord) (count : ℕ) (c : HasCommitted o l s p w count now)
+      → GivesOver o.schema (database o c.before) (typed.Write w) (Count count) (database o now.seen)
+      → GivesOver o.schema (database o p.seen) (typed.Write w) (Count count) (database o now.seen)
   committed_over w s count c means =
-      let there : one o c.before ≡ one o p.seen = one_still o p.seen c.before (committed_at p now alone o l s w count c) in
-      subst (λ (db : Database). GivesOver o.schema db (typed.Write w) (Count count) (one o now.seen)) there means
+      let there : database o c.before ≡ database o p.seen = one_still o p.seen c.before (committed_at p now alone o l s w count c) in
+      subst (λ (db : Database). GivesOver o.schema db (typed.Write w) (Count count) (database o now.seen)) there means
 
 -- a write that needs no shard
 pub nowhere_over : (o : Opening) → IsOpening o → is_vschema o.schema ≡ true → (run : Run) → Legal o run → (w : Write) → IsTypedWrite o.schema w
-    → (seats : List Seat) → IsPartition seats → needed_by o w seats ≡ [] → GivesOver o.schema (one o run) (typed.Write w) (Count 0) (one o run)
+    → (seats : List Seat) → IsPartition seats → needed_by o w seats ≡ [] → GivesOver o.schema (database o run) (typed.Write w) (Count 0) (database o run)
 nowhere_over o opens formed run legal w is seats partition none =
     over.writes [] ([], no_changes o opens formed run legal seats partition w is none, IsPermutation-refl [])
 
 -- a write after looks
 module _ (o : Opening) (opens : IsOpening o) (formed : is_vschema o.schema ≡ true) (l : Limits) (p now : PassView Entry) (alone : NoOthers p now) where
-  wrote_over : (w : Write) (s : Shard) (count : ℕ) (since : PassView Entry) → HasGone o p since → (c : HasCommitted o l s since w count now)
-      → GivesOver o.schema (one o c.before) (typed.Write w) (Count count) (one o now.seen) → GivesOver o.schema (one o p.seen) (typed.Write w) (Count count) (one o now.seen)
+  wrote_over : (w : Write) (s : ShardRecord) (count : ℕ) (since : PassView Entry) → HasGone o p since → (c : HasCommitted o l s since w count now)
+      → GivesOver o.schema (database o c.before) (typed.Write w) (Count count) (database o now.seen) → GivesOver o.schema (database o p.seen) (typed.Write w) (Count count) (database o now.seen)
   wrote_over w s count since gone c means =
       let after = committed_later o l s since now w count c in
       let same : NoCommits p.seen since.seen = gone_same p since (up_to p now alone since gone.1.later after) o gone in
-      let later : NoOthers since now = behind p now alone since gone.1.later after (same_session o p since gone) in
-      subst (λ (db : Database). GivesOver o.schema db (typed.Write w) (Count count) (one o now.seen)) (one_still o p.seen since.seen same)
+      let later : NoOthers since now = trailing p now alone since gone.1.later after (same_session o p since gone) in
+      subst (λ (db : Database). GivesOver o.schema db (typed.Write w) (Count count) (database o now.seen)) (one_still o p.seen since.seen same)
       (committed_over o opens formed l since now later w s count c means)
 
   left_over : (w : Write) → IsTypedWrite o.schema w → IsLegal (MayFollow o) p.seen → (seats : List Seat) → IsPartition seats → needed_by o w seats ≡ [] → HasGone o p now
-      → GivesOver o.schema (one o p.seen) (typed.Write w) (Count 0) (one o now.seen)
+      → GivesOver o.schema (database o p.seen) (typed.Write w) (Count 0) (database o now.seen)
   left_over w is legal seats partition none gone =
-      subst (λ (db : Database). GivesOver o.schema (one o p.seen) (typed.Write w) (Count 0) db) (sym (one_still o p.seen now.seen (gone_same p now alone o gone)))
+      subst (λ (db : Database). GivesOver o.schema (database o p.seen) (typed.Write w) (Count 0) db) (sym (one_still o p.seen now.seen (gone_same p now alone o gone)))
       (nowhere_over o opens formed p.seen (legal_is o p.seen legal) w is seats partition none)
 
 module _ (o : Opening) (opens : IsOpening o) (formed : is_vschema o.schema ≡ true) (l : Limits) (text : List ℕ) (tree : Statement) (reads : Reads text tree) where
   gives_over : (p : PassView Entry) (t : Typed) (reply : Reply) (now : PassView Entry) → Gives o l p t reply now → typed_statement o.schema tree ≡ Ok t
-      → IsLegal (MayFollow o) p.seen → NoOthers p now → GivesOver o.schema (one o p.seen) t reply.answer (one o now.seen)
+      → IsLegal (MayFollow o) p.seen → NoOthers p now → GivesOver o.schema (database o p.seen) t reply.answer (database o now.seen)
   gives_over p _ _ now (a.selects {query} (a.read {selected} {reads} is)) typed_is legal alone =
       selected_over o opens formed l p now alone query selected reads (query_there o.schema tree query typed_is) (query_joins o.schema tree query typed_is) is
   gives_over p _ _ now (a.writes {w} (a.nowhere seats partition none gone means)) typed_is legal alone =
@@ -209,7 +209,7 @@ counted_alone p now h = record { session = h.session; of_session = h.of_session;
 
 module _ (o : Opening) (opens : IsOpening o) (formed : is_vschema o.schema ≡ true) (l : Limits) (text : List ℕ) where
   pub reply_over : (p now : PassView Entry) (reply : Reply) → IsLegal (MayFollow o) p.seen → NoOthers p now → IsReply o l (counted p) text reply now
-      → AnswersOver o.schema (one o p.seen) text reply.answer (one o now.seen)
+      → AnswersOver o.schema (database o p.seen) text reply.answer (database o now.seen)
   reply_over p now reply legal h is = record {
     statement = is.statement;
     typed = is.typed;
@@ -220,22 +220,22 @@ module _ (o : Opening) (opens : IsOpening o) (formed : is_vschema o.schema ≡ t
 
   -- a refusal leaves the database
   pub record Refuses (p : PassView Entry) (e : Refusal) (now : PassView Entry) : Type 0 where
-    pub why : IsRefusedOver o.schema (one o p.seen) text e
+    pub why : IsRefusedOver o.schema (database o p.seen) text e
     pub same : NoCommits p.seen now.seen
 
-  commit_refused : (p now : PassView Entry) (tree : Statement) (w : Write) (s : Shard) (e : Refusal) → Reads text tree → typed_statement o.schema tree ≡ Ok (typed.Write w)
-      → IsShardRefusal o l s now.seen w e → one o now.seen ≡ one o p.seen → IsRefusedOver o.schema (one o p.seen) text e
+  commit_refused : (p now : PassView Entry) (tree : Statement) (w : Write) (s : ShardRecord) (e : Refusal) → Reads text tree → typed_statement o.schema tree ≡ Ok (typed.Write w)
+      → IsShardRefusal o l s now.seen w e → database o now.seen ≡ database o p.seen → IsRefusedOver o.schema (database o p.seen) text e
   commit_refused p now tree w s _ reads is a.no_memory same = over.no_memory
   commit_refused p now tree w s _ reads is (a.full changes of room) same = over.full
   commit_refused p now tree w s _ reads is (a.duplicate twice) same =
       over.duplicate tree w reads is (ap (λ (db : Database). changes_of o.schema w db) (sym same) ∙ twice)
 
-  refused_later : (p now : PassView Entry) → NoOthers p now → (tree : Statement) (w : Write) (s : Shard) (e : Refusal) (since : PassView Entry) → Reads text tree
+  refused_later : (p now : PassView Entry) → NoOthers p now → (tree : Statement) (w : Write) (s : ShardRecord) (e : Refusal) (since : PassView Entry) → Reads text tree
       → typed_statement o.schema tree ≡ Ok (typed.Write w) → HasGone o p since → HasLooked o s.slot since now
       → IsShardRefusal o l s now.seen w e → Refuses p e now
   refused_later p now h tree w s e since reads is gone looked why =
       let same : NoCommits p.seen since.seen = gone_same p since (up_to p now h since gone.1.later looked.later) o gone in
-      let later : NoOthers since now = behind p now h since gone.1.later looked.later (same_session o p since gone) in
+      let later : NoOthers since now = trailing p now h since gone.1.later looked.later (same_session o p since gone) in
       let left : NoCommits p.seen now.seen = still_trans p.seen since.seen now.seen same (looked_unchanged since now later o s.slot looked) in
       record { why = commit_refused p now tree w s e reads is why (one_still o p.seen now.seen left); same = left }
 

@@ -16,7 +16,7 @@ use Rattle.sql_eval.specs.Writes.{changes_of}
 use Rattle.journal.specs.Views.{PassView, new_pass}
 use Rattle.shard_run.specs.declared.Event.TheVariants.{Freeze}
 use Rattle.shard_run.specs.declared.Entry.{Entry}
-use Rattle.shard_run.specs.Runs.{Run, one}
+use Rattle.shard_run.specs.Runs.{Run, database}
 use Rattle.shard_run.proofs.Examples.{n, opening, seven, four}
 use Rattle.shard_calls.specs.declared.reply.Answer.TheVariants.{Rows, Count}
 use Rattle.shard_calls.specs.Alone as over
@@ -45,9 +45,9 @@ alone = record {
 abbrev frozen : Entry
 frozen = record { shard = seven.shard; event = Freeze }
 
-beside : NoOthers (pass 1 []) (pass 1 (seven ∷ frozen ∷ []))
+alongside : NoOthers (pass 1 []) (pass 1 (seven ∷ frozen ∷ []))
 unfolding session_in
-beside = record {
+alongside = record {
   session = 1;
   of_session = refl;
   added = seven ∷ frozen ∷ [];
@@ -72,7 +72,7 @@ others h =
 abbrev db : Database
 db = ((n 2 ∷ Null ∷ []) ∷ (n 1 ∷ Null ∷ []) ∷ []) ∷ [] ∷ [] ∷ []
 
-before : one opening [] ≡ db
+before : database opening [] ≡ db
 before = refl
 
 abbrev insert_seven : Write
@@ -85,7 +85,7 @@ after = ((n 2 ∷ Null ∷ []) ∷ (n 1 ∷ Null ∷ []) ∷ (n 7 ∷ n 1 ∷ []
 inserts : GivesOver schema db (typed.Write insert_seven) (Count 1) after
 inserts = over.writes (Added 0 (n 7 ∷ n 1 ∷ []) ∷ []) (Added 0 (n 7 ∷ n 1 ∷ []) ∷ [], refl, IsPermutation-refl (Added 0 (n 7 ∷ n 1 ∷ []) ∷ []))
 
-left : one opening (seven ∷ []) ≡ after
+left : database opening (seven ∷ []) ≡ after
 left = refl
 
 -- and once more is a primary key twice

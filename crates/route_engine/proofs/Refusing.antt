@@ -12,19 +12,19 @@ use Rattle.vschema.specs.WellFormed.{is_vschema}
 use Rattle.journal.specs.Runs.{NumbersBelow}
 use Rattle.journal.specs.Views.{PassView}
 use Rattle.journal.proofs.Fronts.{prefix_self}
-use Rattle.shard_run.specs.declared.Shard.{Shard}
+use Rattle.shard_run.specs.declared.ShardRecord.{ShardRecord}
 use Rattle.shard_run.specs.declared.Entry.{Entry}
-use Rattle.shard_run.specs.Runs.{Opening, one, held}
+use Rattle.shard_run.specs.Runs.{Opening, database, shard_rows}
 use Rattle.shard_law.specs.Legal.{AreChangesOf}
 use Rattle.shard_run.specs.Openings.{IsOpening}
-use Rattle.shard_contents.specs.declared.limits.Limits.{Limits}
-use Rattle.shard_contents.specs.Shards.{commit_of}
+use Rattle.shard_law.specs.declared.limits.Limits.{Limits}
+use Rattle.shard_law.specs.Entries.{commit_of}
 use Rattle.shard_contents.specs.Transactions as tx
 use Rattle.shard_contents.specs.Transactions.{PendingView, IsClear, IsStopped, IsReadRefusal, IsWriteRefusal, IsCommitAllRefusal}
 use Rattle.shard_calls.specs.Answers.{NeedsAlone, HasServed}
 use Rattle.shard_calls.specs.Transactions as t
-use Rattle.shard_calls.specs.Transactions.{Transaction, Standing, IsFor, IsItsShard, IsUndisturbed, IsRefusedIn, used, writes_in}
-use Rattle.shard_calls.specs.inner.Within.{left_by}
+use Rattle.shard_calls.specs.Transactions.{Transaction, PassAndTx, IsFor, IsItsShard, IsUndisturbed, IsRefusedIn, used, writes_in}
+use Rattle.shard_calls.specs.inner.InTransactions.{left_by}
 use Rattle.route_engine.proofs.Anywhere.{duplicate_in}
 use Rattle.route_engine.proofs.Causes.{cause}
 use Rattle.route_engine.proofs.Clearing.{no_conflict}
@@ -32,9 +32,9 @@ use Rattle.route_engine.proofs.Going as g
 use Rattle.route_engine.proofs.InTransaction.{ReadyOn}
 use Rattle.route_engine.proofs.Trying.{gone_by}
 
-module _ (o : Opening) (limits : Limits) (s : Shard) (p now : PassView Entry) (v : PendingView) (tr : Transaction) (ready : ReadyOn o s p now v tr)
+module _ (o : Opening) (limits : Limits) (s : ShardRecord) (p now : PassView Entry) (v : PendingView) (tr : Transaction) (ready : ReadyOn o s p now v tr)
     (served : HasServed o now.seen s) where
-  abbrev left : Refusal → Standing
+  abbrev left : Refusal → PassAndTx
   left e = record { pass = now; tx = left_by e tr }
 
   its : (typed : Typed) → IsFor o tr typed s → IsItsShard o tr typed now.seen s
@@ -44,7 +44,7 @@ module _ (o : Opening) (limits : Limits) (s : Shard) (p now : PassView Entry) (v
   undisturbed clear = record {
     looked = ready.looked;
     serves = clear.serving;
-    clear = no_conflict o s now.seen p.session tr.steps v.touched ready.behind clear.unchanged;
+    clear = no_conflict o s now.seen p.session tr.steps v.touched ready.trailing clear.unchanged;
   }
 
   stopped : (typed : Typed) → IsFor o tr typed s → (e : Refusal) → IsStopped o s now.seen v e → IsRefusedIn o limits p tr typed e (left e)
@@ -64,7 +64,7 @@ module _ (o : Opening) (limits : Limits) (s : Shard) (p now : PassView Entry) (v
     not_written_in w is for alone e (tx.stopped why) = stopped (typed.Write w) for e why
     not_written_in w is for alone _ (tx.duplicate clear twice) =
         let at = ready.at clear in
-        t.duplicate s (all_applied v.changes (one o now.seen)) (its (typed.Write w) for) (undisturbed clear)
+        t.duplicate s (all_applied v.changes (database o now.seen)) (its (typed.Write w) for) (undisturbed clear)
         (g.at_over o s opens formed now.seen v tr.steps at ready.on_slot clear.serving session number low)
         (duplicate_in o opens formed s now.seen v tr.steps at ready.on_slot clear.serving session number low w is alone twice)
 
@@ -76,5 +76,5 @@ module _ (o : Opening) (limits : Limits) (s : Shard) (p now : PassView Entry) (v
         let at = ready.at clear in
         let own : writes_in tr.steps ≡ v.writes = g.told_writes o s now.seen v.touched tr.steps v.writes v.changes at.told in
         t.full s v.changes (its typed.Commit uses) (undisturbed clear) (λ none. wrote refl (sym own ∙ none))
-        (subst (λ (l : List Write). AreChangesOf o.schema l (held o now.seen s) v.changes) (sym own) at.pending.made)
+        (subst (λ (l : List Write). AreChangesOf o.schema l (shard_rows o now.seen s) v.changes) (sym own) at.pending.made)
         (g.at_over o s opens formed now.seen v tr.steps at ready.on_slot clear.serving session number low) no_room

@@ -17,19 +17,19 @@ use Rattle.sql_eval.specs.Queries.{Keyed, kept_rows, keyed_row, keyed_groups, Is
 use Rattle.sql_eval.proofs.Pairs.{source_permuted}
 use Rattle.sql_eval.proofs.Permutations.{IsPermutation-filter}
 use Rattle.sql_eval.proofs.SameAnswers.{same_answers}
-use Rattle.planner.specs.Plans.{Shard}
+use Rattle.planner.specs.Plans.{ShardRows}
 use Rattle.planner.specs.Right.{LiesInPlace, AreApart, rows_of_shards}
 use Rattle.planner.specs.Routes.{table_at, route_of, takes}
 use Rattle.planner.proofs.Placed.{sources_home}
 use Rattle.planner.proofs.ShardPairs.{sources_all}
 use Rattle.planner.proofs.Skips.{skipped}
 use Rattle.serving.specs.Partitions.{Seat, IsPartition, ranges}
-use Rattle.shard_run.specs.Runs.{Run, Opening, one}
+use Rattle.shard_run.specs.Runs.{Run, Opening, database}
 use Rattle.shard_run.specs.Openings.{IsOpening}
 use Rattle.shard_law.specs.Legal.{Legal}
 use Rattle.shard_law.proofs.Lists.{all-weaker}
 use Rattle.shard_calls.specs.Answers.{needed}
-use Rattle.shard_calls.specs.Mix.{Part, mixed_rows}
+use Rattle.shard_calls.specs.Mix.{MixPart, mixed_rows}
 use Rattle.shard_calls.specs.Transactions.{needed_for}
 use Rattle.route_engine.proofs.Everywhere.{covers_apart, same_moment}
 use Rattle.route_engine.proofs.Moments.{filter-twice, placed_at}
@@ -73,18 +73,18 @@ answers_kept_of q xs ys list same answer =
     (answers_kept q xs (filter (is_kept q.filter) xs) list (sym (filter-twice (is_kept q.filter) xs)) answer))
 
 -- what one moment leaves of the ranges of a partition has the query's rows of the one database
-pub mixed_sources : (o : Opening) (q : Query) → SourcesThere (length o.schema.tables) q → JoinsInPlace o.schema q → (run : Run) (parts : List Part)
-    → AllByRecursion (λ part. one o part.run ≡ one o run) parts → AllByRecursion Rattle.keyrange.specs.Names.IsNamed (map (λ part. part.range) parts)
+pub mixed_sources : (o : Opening) (q : Query) → SourcesThere (length o.schema.tables) q → JoinsInPlace o.schema q → (run : Run) (parts : List MixPart)
+    → AllByRecursion (λ part. database o part.run ≡ database o run) parts → AllByRecursion Rattle.keyrange.specs.Names.IsNamed (map (λ part. part.range) parts)
     → Rattle.keyrange.specs.Ranges.Cover (map (λ part. part.range) parts)
-    → AllByRecursion (λ n. IsPermutation (rows_of (mixed_rows o (table_at o.schema q.table).keyspace parts) n) (rows_of (one o run) n)) (source_tables q)
+    → AllByRecursion (λ n. IsPermutation (rows_of (mixed_rows o (table_at o.schema q.table).keyspace parts) n) (rows_of (database o run) n)) (source_tables q)
 mixed_sources o q there joins run parts moment named whole = each (source_tables q) there (keyspace_of o q joins)
   where
     each : (ns : List ℕ) → AllByRecursion (λ n. n < length o.schema.tables) ns
         → AllByRecursion (λ n. (table_at o.schema n).keyspace ≡ (table_at o.schema q.table).keyspace) ns
-        → AllByRecursion (λ n. IsPermutation (rows_of (mixed_rows o (table_at o.schema q.table).keyspace parts) n) (rows_of (one o run) n)) ns
+        → AllByRecursion (λ n. IsPermutation (rows_of (mixed_rows o (table_at o.schema q.table).keyspace parts) n) (rows_of (database o run) n)) ns
     each [] there one_keyspace = tt
     each (n ∷ ns) there one_keyspace = (
-      subst (λ (k : ℕ). IsPermutation (rows_of (mixed_rows o k parts) n) (rows_of (one o run) n)) one_keyspace.0 (same_moment o n there.0 run parts moment named whole),
+      subst (λ (k : ℕ). IsPermutation (rows_of (mixed_rows o k parts) n) (rows_of (database o run) n)) one_keyspace.0 (same_moment o n there.0 run parts moment named whole),
       each ns there.1 one_keyspace.1,
     )
 
@@ -97,16 +97,16 @@ module _ (o : Opening) (opens : IsOpening o) (run : Run) (legal : Legal o run) (
   kept rows = filter (is_kept q.filter) rows
 
   -- the place of a seat, and the rows that lie there
-  abbrev pub place_of : Seat → Place
-  place_of seat = record { keyspace = t.keyspace; range = seat.1 }
+  abbrev pub ordinal_of : Seat → Place
+  ordinal_of seat = record { keyspace = t.keyspace; range = seat.1 }
 
   abbrev pub rows_at : Seat → Database
-  rows_at seat = restrict o.schema (place_of seat) (one o run)
+  rows_at seat = restrict o.schema (ordinal_of seat) (database o run)
 
-  abbrev part_of : Seat → Part
+  abbrev part_of : Seat → MixPart
   part_of seat = record { range = seat.1; run = run }
 
-  abbrev shard_at : Seat → Shard
+  abbrev shard_at : Seat → ShardRows
   shard_at seat = (seat.1, rows_at seat)
 
   abbrev pub route : Rattle.planner.specs.declared.routes.Route.Route
@@ -116,7 +116,7 @@ module _ (o : Opening) (opens : IsOpening o) (run : Run) (legal : Legal o run) (
   ranges_are [] = refl
   ranges_are (seat ∷ ss) = ap (λ l. seat.1 ∷ l) (ranges_are ss)
 
-  shard_ranges : (ss : List Seat) → map (λ (s : Shard). s.0) (map shard_at ss) ≡ ranges ss
+  shard_ranges : (ss : List Seat) → map (λ (s : ShardRows). s.0) (map shard_at ss) ≡ ranges ss
   shard_ranges [] = refl
   shard_ranges (seat ∷ ss) = ap (λ l. seat.1 ∷ l) (shard_ranges ss)
 
@@ -124,7 +124,7 @@ module _ (o : Opening) (opens : IsOpening o) (run : Run) (legal : Legal o run) (
   mixed_is [] = refl
   mixed_is (seat ∷ ss) = ap (Rattle.vschema.specs.Database.union (rows_at seat)) (mixed_is ss)
 
-  moments : (ss : List Seat) → AllByRecursion (λ part. one o part.run ≡ one o run) (map part_of ss)
+  moments : (ss : List Seat) → AllByRecursion (λ part. database o part.run ≡ database o run) (map part_of ss)
   moments [] = tt
   moments (seat ∷ ss) = (refl, moments ss)
 
@@ -136,17 +136,17 @@ module _ (o : Opening) (opens : IsOpening o) (run : Run) (legal : Legal o run) (
   apart = covers_apart (map shard_at seats) (ranges seats) (shard_ranges seats) partition.named partition.whole
 
   -- all rows are those of the seats
-  all_seats : IsPermutation (source_rows q (one o run)) (flat_map (λ (s : Shard). source_rows q s.1) (map shard_at seats))
+  all_seats : IsPermutation (source_rows q (database o run)) (flat_map (λ (s : ShardRows). source_rows q s.1) (map shard_at seats))
   all_seats =
       let rows =
       mixed_sources o q there joins run (map part_of seats) (moments seats)
       (subst (AllByRecursion Rattle.keyrange.specs.Names.IsNamed) (sym (ranges_are seats)) partition.named)
       (subst Rattle.keyrange.specs.Ranges.Cover (sym (ranges_are seats)) partition.whole) in
-      let same = source_permuted q (mixed_rows o t.keyspace (map part_of seats)) (one o run) rows in
-      let over_shards = subst (λ (db : Database). IsPermutation (source_rows q db) (source_rows q (one o run))) (mixed_is seats) same in
-      IsPermutation-trans (source_rows q (one o run)) (source_rows q (rows_of_shards (map shard_at seats)))
-      (flat_map (λ (s : Shard). source_rows q s.1) (map shard_at seats))
-      (IsPermutation-sym (source_rows q (rows_of_shards (map shard_at seats))) (source_rows q (one o run)) over_shards)
+      let same = source_permuted q (mixed_rows o t.keyspace (map part_of seats)) (database o run) rows in
+      let over_shards = subst (λ (db : Database). IsPermutation (source_rows q db) (source_rows q (database o run))) (mixed_is seats) same in
+      IsPermutation-trans (source_rows q (database o run)) (source_rows q (rows_of_shards (map shard_at seats)))
+      (flat_map (λ (s : ShardRows). source_rows q s.1) (map shard_at seats))
+      (IsPermutation-sym (source_rows q (rows_of_shards (map shard_at seats))) (source_rows q (database o run)) over_shards)
       (sources_all o.schema q joins (map shard_at seats) (placed seats) (λ j e. apart))
 
   -- a seat that the query doesn't need has none that it keeps
@@ -165,10 +165,10 @@ module _ (o : Opening) (opens : IsOpening o) (run : Run) (legal : Legal o run) (
       (sources_home o.schema q joins (shard_at seat) (placed_at o opens t.keyspace (source_tables q) seat.1 run legal)))
 
   -- those that it keeps are those of the seats that it needs
-  kept_seats : (ss : List Seat) → kept (flat_map (λ (s : Shard). source_rows q s.1) (map shard_at ss)) ≡ flat_map (λ (seat : Seat). kept (source_rows q (rows_at seat))) (needed t route ss)
+  kept_seats : (ss : List Seat) → kept (flat_map (λ (s : ShardRows). source_rows q s.1) (map shard_at ss)) ≡ flat_map (λ (seat : Seat). kept (source_rows q (rows_at seat))) (needed t route ss)
   kept_seats [] = refl
   kept_seats (seat ∷ ss) =
-      filter-append (is_kept q.filter) (source_rows q (rows_at seat)) (flat_map (λ (s : Shard). source_rows q s.1) (map shard_at ss))
+      filter-append (is_kept q.filter) (source_rows q (rows_at seat)) (flat_map (λ (s : ShardRows). source_rows q s.1) (map shard_at ss))
       ∙ ap (λ (l : List Row). kept (source_rows q (rows_at seat)) ++ l) (kept_seats ss) ∙ by (takes t route seat.1) refl
     where
       by : (b : Bool) → takes t route seat.1 ≡ b
@@ -177,21 +177,21 @@ module _ (o : Opening) (opens : IsOpening o) (run : Run) (legal : Legal o run) (
       by true e = refl
       by false e = ap (λ (l : List Row). l ++ flat_map (λ (u : Seat). kept (source_rows q (rows_at u))) (needed t route ss)) (skips seat e)
 
-  kept_needed : IsPermutation (kept (source_rows q (one o run))) (flat_map (λ (seat : Seat). kept (source_rows q (rows_at seat))) (needed t route seats))
+  kept_needed : IsPermutation (kept (source_rows q (database o run))) (flat_map (λ (seat : Seat). kept (source_rows q (rows_at seat))) (needed t route seats))
   kept_needed =
-      subst (IsPermutation (kept (source_rows q (one o run)))) (kept_seats seats)
-      (IsPermutation-filter (is_kept q.filter) (source_rows q (one o run)) (flat_map (λ (s : Shard). source_rows q s.1) (map shard_at seats)) all_seats)
+      subst (IsPermutation (kept (source_rows q (database o run)))) (kept_seats seats)
+      (IsPermutation-filter (is_kept q.filter) (source_rows q (database o run)) (flat_map (λ (s : ShardRows). source_rows q s.1) (map shard_at seats)) all_seats)
 
   -- of one seat
-  pub kept_alone : (seat : Seat) → needed_for o q seats ≡ seat ∷ [] → IsPermutation (kept (source_rows q (rows_at seat))) (kept (source_rows q (one o run)))
+  pub kept_alone : (seat : Seat) → needed_for o q seats ≡ seat ∷ [] → IsPermutation (kept (source_rows q (rows_at seat))) (kept (source_rows q (database o run)))
   kept_alone seat alone =
-      IsPermutation-sym (kept (source_rows q (one o run))) (kept (source_rows q (rows_at seat)))
-      (subst (IsPermutation (kept (source_rows q (one o run))))
+      IsPermutation-sym (kept (source_rows q (database o run))) (kept (source_rows q (rows_at seat)))
+      (subst (IsPermutation (kept (source_rows q (database o run))))
       (ap (λ (l : List Seat). flat_map (λ (u : Seat). kept (source_rows q (rows_at u))) l) alone ∙ append-nil (kept (source_rows q (rows_at seat)))) kept_needed)
 
   -- of none
-  pub kept_nowhere : needed_for o q seats ≡ [] → IsPermutation (kept []) (kept (source_rows q (one o run)))
+  pub kept_nowhere : needed_for o q seats ≡ [] → IsPermutation (kept []) (kept (source_rows q (database o run)))
   kept_nowhere none =
-      IsPermutation-sym (kept (source_rows q (one o run))) []
-      (subst (IsPermutation (kept (source_rows q (one o run))))
+      IsPermutation-sym (kept (source_rows q (database o run))) []
+      (subst (IsPermutation (kept (source_rows q (database o run))))
       (ap (λ (l : List Seat). flat_map (λ (u : Seat). kept (source_rows q (rows_at u))) l) none) kept_needed)

@@ -24,13 +24,13 @@ use Rattle.journal.specs.Views.{PassView}
 use Rattle.journal.proofs.Fronts.{prefix_self, prefix_trans}
 use Rattle.serving.specs.Partitions.{Seat, IsPartition}
 use Rattle.shard_law.proofs.Lists.{In, In-left, In-from_Contains, Contains-from_In, all-append, all-weaker}
-use Rattle.shard_run.specs.declared.Shard.{Shard}
+use Rattle.shard_run.specs.declared.ShardRecord.{ShardRecord}
 use Rattle.shard_run.specs.declared.Entry.{Entry}
-use Rattle.shard_run.specs.Runs.{Run, Opening, one}
+use Rattle.shard_run.specs.Runs.{Run, Opening, database}
 use Rattle.shard_law.specs.Legal.{IsOnItsSlot}
 use Rattle.shard_run.specs.Openings.{IsOpening}
-use Rattle.shard_contents.specs.declared.limits.Limits.{Limits}
-use Rattle.shard_contents.specs.Shards.{MayFollow, HasLooked, commit_of}
+use Rattle.shard_law.specs.declared.limits.Limits.{Limits}
+use Rattle.shard_law.specs.Entries.{MayFollow, HasLooked, commit_of}
 use Rattle.shard_contents.specs.Transactions.{PendingView, IsPendingOf}
 use Rattle.shard.proofs.Moves.{pending_nothing, pending_same}
 use Rattle.shard_calls.specs.declared.reply.Answer.{Answer}
@@ -39,11 +39,11 @@ use Rattle.shard_calls.specs.declared.reply.ShardRead.{ShardRead}
 use Rattle.shard.specs.Seats.{seat_of}
 use Rattle.shard_calls.specs.Answers.{HasGone, NeedsAlone}
 use Rattle.shard_calls.specs.Transactions as t
-use Rattle.shard_calls.specs.Transactions.{Step, Kept, Transaction, Standing, IsJudgedBy, NeedsBy, GiveOver, AreOver, GivesIn, IsRefusedIn, ReadsAlone, if_any, used, with_step, seats_for, statement_keyspace}
+use Rattle.shard_calls.specs.Transactions.{TransactionStatement, KeptPartition, Transaction, PassAndTx, IsJudgedBy, NeedsBy, GiveOver, AreOver, GivesIn, IsRefusedIn, ReadsAlone, if_any, used, with_step, seats_for, statement_keyspace}
 use Rattle.shard_calls.specs.Pendings as stands
-use Rattle.shard_calls.specs.Pendings.{BoundView, OpenView, IsBound, IsTouchOf, HasTouched, IsAnywhere, Stands, bound_of}
-use Rattle.shard_calls.specs.inner.Within as w
-use Rattle.shard_calls.specs.inner.Within.{left_by, ends, IsSeatOf, HasReadAt, IsNotReadAt, HasWrittenAt, IsNotWrittenAt, HasCommittedAt, IsNotCommittedAt}
+use Rattle.shard_calls.specs.Pendings.{BoundView, OpenView, IsBound, IsTouchOf, HasTouched, IsAnywhere, Represents, bound_of}
+use Rattle.shard_calls.specs.inner.InTransactions as w
+use Rattle.shard_calls.specs.inner.InTransactions.{left_by, ends, IsSeatOf, HasReadAt, IsNotReadAt, HasWrittenAt, IsNotWrittenAt, HasCommittedAt, IsNotCommittedAt}
 use Rattle.route_engine.proofs.Anywhere.{stands_met}
 use Rattle.shard_calls.proofs.Gathers.{stays}
 use Rattle.route_engine.proofs.Going as g
@@ -64,30 +64,30 @@ some_same {X} x y e = ap (λ (m : Option X). or x m) e
 
 -- ---- statements that need no shard
 
-over_from : (o : Opening) (run : Run) → IsLegal (MayFollow o) run → (front rest : List Step) → GiveOver o.schema (one o run) front (one o run)
-    → AllByRecursion (IsAnywhere o) rest → GiveOver o.schema (one o run) (front ++ rest) (one o run)
-over_from o run legal front [] so_far all = subst (λ (l : List Step). GiveOver o.schema (one o run) l (one o run)) (sym (append-nil front)) so_far
+over_from : (o : Opening) (run : Run) → IsLegal (MayFollow o) run → (front rest : List TransactionStatement) → GiveOver o.schema (database o run) front (database o run)
+    → AllByRecursion (IsAnywhere o) rest → GiveOver o.schema (database o run) (front ++ rest) (database o run)
+over_from o run legal front [] so_far all = subst (λ (l : List TransactionStatement). GiveOver o.schema (database o run) l (database o run)) (sym (append-nil front)) so_far
 over_from o run legal front (step ∷ rest) so_far all =
-    subst (λ (l : List Step). GiveOver o.schema (one o run) l (one o run)) (append_assoc front (step ∷ []) rest)
+    subst (λ (l : List TransactionStatement). GiveOver o.schema (database o run) l (database o run)) (append_assoc front (step ∷ []) rest)
     (over_from o run legal (front ++ step ∷ []) rest (t.next step so_far (all.0.same run legal)) all.1)
 
-none_used : (o : Opening) (steps : List Step) → AllByRecursion (IsAnywhere o) steps → used steps ≡ []
+none_used : (o : Opening) (steps : List TransactionStatement) → AllByRecursion (IsAnywhere o) steps → used steps ≡ []
 none_used o [] all = refl
-none_used o (step ∷ steps) all = ap (λ (l : Option Shard). if_any l ++ used steps) all.0.on ∙ none_used o steps all.1
+none_used o (step ∷ steps) all = ap (λ (l : Option ShardRecord). if_any l ++ used steps) all.0.on ∙ none_used o steps all.1
 
-used_more : (steps : List Step) (step : Step) (s : Shard) → Contains (used steps) s → Contains (used (steps ++ step ∷ [])) s
+used_more : (steps : List TransactionStatement) (step : TransactionStatement) (s : ShardRecord) → Contains (used steps) s → Contains (used (steps ++ step ∷ [])) s
 used_more steps step s h =
     Contains-from_In s (used (steps ++ step ∷ []))
-    (subst (In s) (sym (flat_map-append (λ (x : Step). if_any x.on) steps (step ∷ [])))
+    (subst (In s) (sym (flat_map-append (λ (x : TransactionStatement). if_any x.on) steps (step ∷ [])))
     (In-left s (used steps) (if_any step.on ++ []) (In-from_Contains s (used steps) h)))
 
 -- one that is bound to none has used none
-pub none_used_by : (o : Opening) (p : PassView Entry) (v : OpenView) (tr : Transaction) → Stands o p (Some v) (Some tr) → v.bound ≡ None → used tr.steps ≡ []
+pub none_used_by : (o : Opening) (p : PassView Entry) (v : OpenView) (tr : Transaction) → Represents o p (Some v) (Some tr) → v.bound ≡ None → used tr.steps ≡ []
 none_used_by o p v tr (stands.unbound l all kept) none = none_used o tr.steps all
 none_used_by o p v tr (stands.bound is) none = let e = is.bound in absurd (cc (e, none))
 
 -- the partition that is kept with the shard
-abbrev kept_at : Shard → List Seat → Option Kept
+abbrev kept_at : ShardRecord → List Seat → Option KeptPartition
 kept_at s seats = Some (record { keyspace = s.place.keyspace; seats = seats })
 
 nat_eq : (m n : ℕ) → (m ≡ n) ⊎ (m ≡ n → ⊥)
@@ -106,14 +106,14 @@ module _ (o : Opening) (opens : IsOpening o) (formed : is_vschema o.schema ≡ t
       → NumbersBelow commit_of session p.statements run
   low_at run same = subst (λ (l : List Entry). All (λ x. number_of (commit_of x) < p.statements) l) (sym same) above
 
-  ready_at : (v : OpenView) (tr : Transaction) → Stands o p (Some v) (Some tr) → (s : Shard) (seats : List Seat) (now : PassView Entry)
+  ready_at : (v : OpenView) (tr : Transaction) → Represents o p (Some v) (Some tr) → (s : ShardRecord) (seats : List Seat) (now : PassView Entry)
       → Fits v (bound_of s seats) → IsOnItsSlot o now.seen s → HasLooked o s.slot p now → ReadyOn o s p now v.pending tr
   ready_at v tr (stands.unbound l all none) s seats now fits on looked = ready_first o p now tr all s on looked
   ready_at v tr (stands.bound is) s seats now (inl none) on looked = let e = is.bound in absurd (cc (e, none))
   ready_at v tr (stands.bound is) s seats now (inr same) on looked = ready_bound o opens p now v tr is s seats same on looked
 
   -- what the shard's calls ask
-  pub tied : (v : OpenView) (tr : Transaction) → Stands o p (Some v) (Some tr) → (b : BoundView) → Fits v b → (s : Shard) → bound_of s b.seats ≡ b
+  pub tied : (v : OpenView) (tr : Transaction) → Represents o p (Some v) (Some tr) → (b : BoundView) → Fits v b → (s : ShardRecord) → bound_of s b.seats ≡ b
       → IsPendingOf o s v.pending p
   tied v tr (stands.unbound l all none) b fits s same = (p.seen, prefix_self p.seen, pending_nothing o s p.seen legal)
   tied v tr (stands.bound is) b (inl none) s same = let e = is.bound in absurd (cc (e, none))
@@ -126,23 +126,23 @@ module _ (o : Opening) (opens : IsOpening o) (formed : is_vschema o.schema ≡ t
       )
 
   -- a statement that gives the same everywhere
-  pub goes_anywhere : (v : OpenView) (tr : Transaction) → Stands o p (Some v) (Some tr) → (typed : Typed) (answer : Answer)
+  pub goes_anywhere : (v : OpenView) (tr : Transaction) → Represents o p (Some v) (Some tr) → (typed : Typed) (answer : Answer)
       → IsAnywhere o (record { typed = typed; answer = answer; on = None; seen = p.seen })
-      → (u : Option Transaction) × GivesIn o limits p tr typed (record { answer = answer; reads = [] }) (record { pass = p; tx = u }) × Stands o p (Some v) u
+      → (u : Option Transaction) × GivesIn o limits p tr typed (record { answer = answer; reads = [] }) (record { pass = p; tx = u }) × Represents o p (Some v) u
   goes_anywhere v tr (stands.unbound l all none) typed answer any =
-      let last : Step = record { typed = typed; answer = answer; on = None; seen = p.seen } in (
+      let last : TransactionStatement = record { typed = typed; answer = answer; on = None; seen = p.seen } in (
         Some (record { at = tr.at; steps = tr.steps ++ last ∷ []; kept = tr.kept }),
-        t.nowhere any.none (one o tr.at, over_from o tr.at l [] (tr.steps ++ last ∷ []) t.none (all-append (IsAnywhere o) tr.steps (last ∷ []) all (any, tt))),
+        t.nowhere any.none (database o tr.at, over_from o tr.at l [] (tr.steps ++ last ∷ []) t.none (all-append (IsAnywhere o) tr.steps (last ∷ []) all (any, tt))),
         stands.unbound l (all-append (IsAnywhere o) tr.steps (last ∷ []) all (any, tt)) none,
       )
   goes_anywhere v tr (stands.bound is) typed answer any =
-      let last : Step = record { typed = typed; answer = answer; on = None; seen = p.seen } in
+      let last : TransactionStatement = record { typed = typed; answer = answer; on = None; seen = p.seen } in
       let at : g.IsAt o is.shard tr.at v.pending tr.steps = record { pending = is.pending; told = is.told } in
       let next = g.at_anywhere o is.shard tr.at v.pending tr.steps last at any in
       let over = g.at_over o is.shard opens formed tr.at v.pending (tr.steps ++ last ∷ []) next is.stands is.serves session p.statements
       (low_at tr.at (sym (is.own session mine))) in (
         Some (record { at = tr.at; steps = tr.steps ++ last ∷ []; kept = tr.kept }),
-        t.nowhere any.none (all_applied v.pending.changes (one o tr.at), over),
+        t.nowhere any.none (all_applied v.pending.changes (database o tr.at), over),
         stands.bound (record {
           shard = is.shard;
           stands = is.stands;
@@ -169,14 +169,14 @@ module _ (o : Opening) (opens : IsOpening o) (formed : is_vschema o.schema ≡ t
                 stored = h.stored;
                 own = h.own;
               }) v.pending.touched is.touches;
-          behind =
-              all-append (HasTouched is.shard v.pending.touched) tr.steps (last ∷ []) is.behind ((λ n on of. absurd (cc on)), tt);
+          trailing =
+              all-append (HasTouched is.shard v.pending.touched) tr.steps (last ∷ []) is.trailing ((λ n on of. absurd (cc on)), tt);
           seen = is.seen;
           own = is.own;
         }),
       )
 
-  reads_alone : (q : Query) (b : BoundView) → IsSeatOf (table_at o.schema q.table) (route_of (table_at o.schema q.table) q.join q.filter) b → (s : Shard)
+  reads_alone : (q : Query) (b : BoundView) → IsSeatOf (table_at o.schema q.table) (route_of (table_at o.schema q.table) q.join q.filter) b → (s : ShardRecord)
       → bound_of s b.seats ≡ b → ReadsAlone o q s
   reads_alone q b seat s same = record {
     seats = b.seats;
@@ -185,7 +185,7 @@ module _ (o : Opening) (opens : IsOpening o) (formed : is_vschema o.schema ≡ t
     only = seat.only ∙ ap (λ (x : BoundView). x.seat ∷ []) (sym same);
   }
 
-  writes_alone : (wr : Write) (b : BoundView) → IsSeatOf (table_at o.schema (written_table wr)) (write_route o.schema wr) b → (s : Shard)
+  writes_alone : (wr : Write) (b : BoundView) → IsSeatOf (table_at o.schema (written_table wr)) (write_route o.schema wr) b → (s : ShardRecord)
       → bound_of s b.seats ≡ b → NeedsAlone o wr s
   writes_alone wr b seat s same = record {
     seats = b.seats;
@@ -195,7 +195,7 @@ module _ (o : Opening) (opens : IsOpening o) (formed : is_vschema o.schema ≡ t
   }
 
   -- the partition by which a statement is judged
-  judged : (v : OpenView) (tr : Transaction) → Stands o p (Some v) (Some tr) → (b : BoundView) → Fits v b → IsPartition b.seats → (typed : Typed)
+  judged : (v : OpenView) (tr : Transaction) → Represents o p (Some v) (Some tr) → (b : BoundView) → Fits v b → IsPartition b.seats → (typed : Typed)
       → IsJudgedBy o tr typed b.seats
   judged v tr (stands.unbound l all none) b fits partition typed =
       record { partition = partition; kept = λ k is here. absurd (cc (none, is)) }
@@ -207,11 +207,11 @@ module _ (o : Opening) (opens : IsOpening o) (formed : is_vschema o.schema ≡ t
         kept = λ k kept here.
             let kept_is : record { keyspace = is.shard.place.keyspace; seats = is.seats } ≡ k =
             some_same (record { keyspace = is.shard.place.keyspace; seats = is.seats }) k (sym is.kept ∙ kept) in
-            sym (ap (λ (x : BoundView). x.seats) same) ∙ ap (λ (x : Kept). x.seats) kept_is;
+            sym (ap (λ (x : BoundView). x.seats) same) ∙ ap (λ (x : KeptPartition). x.seats) kept_is;
       }
 
-  reads_by : (v : OpenView) (tr : Transaction) → Stands o p (Some v) (Some tr) → (b : BoundView) → Fits v b → (q : Query)
-      → IsSeatOf (table_at o.schema q.table) (route_of (table_at o.schema q.table) q.join q.filter) b → (s : Shard) → bound_of s b.seats ≡ b
+  reads_by : (v : OpenView) (tr : Transaction) → Represents o p (Some v) (Some tr) → (b : BoundView) → Fits v b → (q : Query)
+      → IsSeatOf (table_at o.schema q.table) (route_of (table_at o.schema q.table) q.join q.filter) b → (s : ShardRecord) → bound_of s b.seats ≡ b
       → NeedsBy o tr (typed.Select q) b.seats s
   reads_by v tr st b fits q seat s same = record {
     judged = judged v tr st b fits seat.partition (typed.Select q);
@@ -219,8 +219,8 @@ module _ (o : Opening) (opens : IsOpening o) (formed : is_vschema o.schema ≡ t
     only = seat.only ∙ ap (λ (x : BoundView). x.seat ∷ []) (sym same);
   }
 
-  writes_by : (v : OpenView) (tr : Transaction) → Stands o p (Some v) (Some tr) → (b : BoundView) → Fits v b → (wr : Write)
-      → IsSeatOf (table_at o.schema (written_table wr)) (write_route o.schema wr) b → (s : Shard) → bound_of s b.seats ≡ b
+  writes_by : (v : OpenView) (tr : Transaction) → Represents o p (Some v) (Some tr) → (b : BoundView) → Fits v b → (wr : Write)
+      → IsSeatOf (table_at o.schema (written_table wr)) (write_route o.schema wr) b → (s : ShardRecord) → bound_of s b.seats ≡ b
       → NeedsBy o tr (typed.Write wr) b.seats s
   writes_by v tr st b fits wr seat s same = record {
     judged = judged v tr st b fits seat.partition (typed.Write wr);
@@ -228,8 +228,8 @@ module _ (o : Opening) (opens : IsOpening o) (formed : is_vschema o.schema ≡ t
     only = seat.only ∙ ap (λ (x : BoundView). x.seat ∷ []) (sym same);
   }
 
-  module _ (v : OpenView) (tr : Transaction) (st : Stands o p (Some v) (Some tr)) (b : BoundView) (fits : Fits v b) where
-    fits_at : (s : Shard) → bound_of s b.seats ≡ b → Fits v (bound_of s b.seats)
+  module _ (v : OpenView) (tr : Transaction) (st : Represents o p (Some v) (Some tr)) (b : BoundView) (fits : Fits v b) where
+    fits_at : (s : ShardRecord) → bound_of s b.seats ≡ b → Fits v (bound_of s b.seats)
     fits_at s same = subst (Fits v) (sym same) fits
 
     -- a query on its shard
@@ -238,7 +238,7 @@ module _ (o : Opening) (opens : IsOpening o) (formed : is_vschema o.schema ≡ t
         (now : PassView Entry) (pending : PendingView) → HasReadAt o b p v.pending q rows reads now pending
         → (u : Option Transaction) × GivesIn o limits p tr (typed.Select q)
         (record { answer = Rows (record { table = q.table; join = q.join; items = q.items; qualified = q.qualified; rows = rows }); reads = reads }) (record { pass = now; tx = u })
-        × Stands o now (Some (record { bound = Some b; pending = pending })) u
+        × Represents o now (Some (record { bound = Some b; pending = pending })) u
     goes_read q there joins seat rows reads now pending has =
         let s = has.shard in
         let ready = ready_at v tr st s b.seats now (fits_at s has.is) has.stands has.looked in
@@ -250,7 +250,7 @@ module _ (o : Opening) (opens : IsOpening o) (formed : is_vschema o.schema ≡ t
               (record { answer = Rows (record { table = q.table; join = q.join; items = q.items; qualified = q.qualified; rows = rows }); reads = l })
               (record { pass = now; tx = Some (record { at = now.seen; steps = with_step tr.steps (typed.Select q) (Rows (record { table = q.table; join = q.join; items = q.items; qualified = q.qualified; rows = rows })) (Some s) now.seen; kept = kept_at s b.seats }) }))
               (sym has.reads_are) done.0,
-          subst (λ (x : BoundView). Stands o now (Some (record { bound = Some x; pending = pending }))
+          subst (λ (x : BoundView). Represents o now (Some (record { bound = Some x; pending = pending }))
               (Some (record { at = now.seen; steps = with_step tr.steps (typed.Select q) (Rows (record { table = q.table; join = q.join; items = q.items; qualified = q.qualified; rows = rows })) (Some s) now.seen; kept = kept_at s b.seats })))
               has.is done.1,
         )
@@ -266,7 +266,7 @@ module _ (o : Opening) (opens : IsOpening o) (formed : is_vschema o.schema ≡ t
     pub goes_written : (wr : Write) → IsTypedWrite o.schema wr → IsSeatOf (table_at o.schema (written_table wr)) (write_route o.schema wr) b
         → (count : ℕ) (now : PassView Entry) (pending : PendingView) → HasWrittenAt o b p v.pending wr count now pending
         → (u : Option Transaction) × GivesIn o limits p tr (typed.Write wr) (record { answer = Count count; reads = [] }) (record { pass = now; tx = u })
-        × Stands o now (Some (record { bound = Some b; pending = pending })) u
+        × Represents o now (Some (record { bound = Some b; pending = pending })) u
     goes_written wr is seat count now pending has =
         let s = has.shard in
         let ready = ready_at v tr st s b.seats now (fits_at s has.is) has.stands has.looked in
@@ -274,7 +274,7 @@ module _ (o : Opening) (opens : IsOpening o) (formed : is_vschema o.schema ≡ t
         wr count pending b.seats (writes_by v tr st b fits wr seat s has.is) (writes_alone wr b seat s has.is) is has.wrote in (
           Some (record { at = now.seen; steps = with_step tr.steps (typed.Write wr) (Count count) (Some s) now.seen; kept = kept_at s b.seats }),
           done.0,
-          subst (λ (x : BoundView). Stands o now (Some (record { bound = Some x; pending = pending }))
+          subst (λ (x : BoundView). Represents o now (Some (record { bound = Some x; pending = pending }))
               (Some (record { at = now.seen; steps = with_step tr.steps (typed.Write wr) (Count count) (Some s) now.seen; kept = kept_at s b.seats }))) has.is done.1,
         )
 
@@ -287,7 +287,7 @@ module _ (o : Opening) (opens : IsOpening o) (formed : is_vschema o.schema ≡ t
         (writes_alone wr b seat fault.shard fault.is) e fault.why
 
   -- a statement that needs another shard than the transaction's
-  pub other_shard : (v : OpenView) (tr : Transaction) → Stands o p (Some v) (Some tr) → (b : BoundView) → v.bound ≡ Some b → (typed : Typed)
+  pub other_shard : (v : OpenView) (tr : Transaction) → Represents o p (Some v) (Some tr) → (b : BoundView) → v.bound ≡ Some b → (typed : Typed)
       (k : ℕ) → statement_keyspace o typed ≡ Some k → (seats : List Seat) → IsPartition seats → (b.keyspace ≡ k → seats ≡ b.seats)
       → (seats_for o typed seats ≡ [] → ⊥) → (b.keyspace ≡ k → seats_for o typed seats ≡ b.seat ∷ [] → ⊥)
       → IsRefusedIn o limits p tr typed SeveralShards (record { pass = p; tx = Some tr })
@@ -309,14 +309,14 @@ module _ (o : Opening) (opens : IsOpening o) (formed : is_vschema o.schema ≡ t
       by (inr away) = t.elsewhere k seats is.shard is.uses of (λ e. away (sym e)) partition some
 
   -- a commit
-  pub commits_unbound : (v : OpenView) (tr : Transaction) → Stands o p (Some v) (Some tr) → v.bound ≡ None
-      → (u : Option Transaction) × GivesIn o limits p tr typed.Commit (record { answer = Count 0; reads = [] }) (record { pass = p; tx = u }) × Stands o p None u
+  pub commits_unbound : (v : OpenView) (tr : Transaction) → Represents o p (Some v) (Some tr) → v.bound ≡ None
+      → (u : Option Transaction) × GivesIn o limits p tr typed.Commit (record { answer = Count 0; reads = [] }) (record { pass = p; tx = u }) × Represents o p None u
   commits_unbound v tr (stands.unbound l all kept) none = (None, t.commits_nothing (none_used o tr.steps all), stands.closed)
   commits_unbound v tr (stands.bound is) none = let e = is.bound in absurd (cc (e, none))
 
-  pub commits_bound : (v : OpenView) (tr : Transaction) → Stands o p (Some v) (Some tr) → (b : BoundView) → v.bound ≡ Some b → (now : PassView Entry)
+  pub commits_bound : (v : OpenView) (tr : Transaction) → Represents o p (Some v) (Some tr) → (b : BoundView) → v.bound ≡ Some b → (now : PassView Entry)
       → HasCommittedAt o limits b p v.pending now
-      → (u : Option Transaction) × GivesIn o limits p tr typed.Commit (record { answer = Count 0; reads = [] }) (record { pass = now; tx = u }) × Stands o now None u
+      → (u : Option Transaction) × GivesIn o limits p tr typed.Commit (record { answer = Count 0; reads = [] }) (record { pass = now; tx = u }) × Represents o now None u
   commits_bound v tr (stands.unbound l all none) b at now done = absurd (cc at)
   commits_bound v tr (stands.bound is) b at now (w.read s same on looked clear none) =
       let e : bound_of is.shard is.seats ≡ bound_of s b.seats = some_same (bound_of is.shard is.seats) b (sym is.bound ∙ at) ∙ sym same in
@@ -340,7 +340,7 @@ module _ (o : Opening) (opens : IsOpening o) (formed : is_vschema o.schema ≡ t
         stands.closed,
       )
 
-  pub not_committed : (v : OpenView) (tr : Transaction) → Stands o p (Some v) (Some tr) → (b : BoundView) → v.bound ≡ Some b → (e : Refusal) (now : PassView Entry)
+  pub not_committed : (v : OpenView) (tr : Transaction) → Represents o p (Some v) (Some tr) → (b : BoundView) → v.bound ≡ Some b → (e : Refusal) (now : PassView Entry)
       → IsNotCommittedAt o limits b p v.pending e now → IsRefusedIn o limits p tr typed.Commit e (record { pass = now; tx = left_by e tr })
   not_committed v tr (stands.unbound l all none) b at e now fault = absurd (cc at)
   not_committed v tr (stands.bound is) b at e now fault =
@@ -369,7 +369,7 @@ by_look o slot p now is = record { later = is.later; session = ap (λ (q : PassV
 by_none : (p : PassView Entry) → HasOnlyLooked p p
 by_none p = record { later = prefix_self p.seen; session = refl; own = λ n mine. refl }
 
-refused_looks : (o : Opening) (limits : Limits) (p : PassView Entry) (tr : Transaction) (typed : Typed) (e : Refusal) (now : Standing)
+refused_looks : (o : Opening) (limits : Limits) (p : PassView Entry) (tr : Transaction) (typed : Typed) (e : Refusal) (now : PassAndTx)
     → IsRefusedIn o limits p tr typed e now → HasOnlyLooked p now.pass
 refused_looks o limits p tr _ _ _ (t.no_memory {now = now} gone) = by_gone o p now gone
 refused_looks o limits p tr _ _ _ t.open_twice = by_none p
@@ -381,13 +381,13 @@ refused_looks o limits p tr _ _ _ (t.conflict {now = now} s its looked serves is
 refused_looks o limits p tr _ _ _ (t.duplicate {now = now} s after its at over twice) = by_look o s.slot p now at.looked
 refused_looks o limits p tr _ _ _ (t.full {now = now} s changes its at wrote made over fault) = by_look o s.slot p now at.looked
 
-pub refused_session : (o : Opening) (limits : Limits) (p : PassView Entry) (tr : Transaction) (typed : Typed) (e : Refusal) (now : Standing)
+pub refused_session : (o : Opening) (limits : Limits) (p : PassView Entry) (tr : Transaction) (typed : Typed) (e : Refusal) (now : PassAndTx)
     → IsRefusedIn o limits p tr typed e now → now.pass.session ≡ p.session
 refused_session o limits p tr typed e now is = (refused_looks o limits p tr typed e now is).session
 
 -- what the program keeps still stands for the transaction
-pub stands_left : (o : Opening) (limits : Limits) (p : PassView Entry) (v : OpenView) (tr : Transaction) (typed : Typed) (e : Refusal) (now : Standing)
-    → IsRefusedIn o limits p tr typed e now → Stands o p (Some v) (Some tr) → Stands o now.pass (Some v) (Some tr)
+pub stands_left : (o : Opening) (limits : Limits) (p : PassView Entry) (v : OpenView) (tr : Transaction) (typed : Typed) (e : Refusal) (now : PassAndTx)
+    → IsRefusedIn o limits p tr typed e now → Represents o p (Some v) (Some tr) → Represents o now.pass (Some v) (Some tr)
 stands_left o limits p v tr typed e now is st =
     let on = refused_looks o limits p tr typed e now is in
     stands_met o p now.pass (Some v) (Some tr) on.later on.session on.own st

@@ -14,13 +14,13 @@ use Rattle.sql_eval.proofs.SameAnswers.{same_allowed}
 use Rattle.planner.specs.Routes.{table_at}
 use Rattle.journal.specs.Runs.{IsLegal, NumbersBelow}
 use Rattle.shard_run.specs.declared.Mode.TheVariants.{Serving}
-use Rattle.shard_run.specs.declared.Shard.{Shard}
+use Rattle.shard_run.specs.declared.ShardRecord.{ShardRecord}
 use Rattle.shard_run.specs.declared.Entry.{Entry}
-use Rattle.shard_run.specs.Runs.{Run, Opening, one, held, mode, is_serving}
+use Rattle.shard_run.specs.Runs.{Run, Opening, database, shard_rows, mode, answers_queries}
 use Rattle.shard_law.specs.Legal.{IsOnItsSlot, IsChangeOf}
 use Rattle.shard_run.specs.Openings.{IsOpening}
-use Rattle.shard_contents.specs.declared.touch.Touch.{Touch}
-use Rattle.shard_contents.specs.Shards.{MayFollow, commit_of}
+use Rattle.shard_contents.specs.declared.touched_table.Touch.{Touch}
+use Rattle.shard_law.specs.Entries.{MayFollow, commit_of}
 use Rattle.shard_contents.specs.Commits.{IsPlaced}
 use Rattle.shard_contents.specs.Transactions.{entry_of}
 use Rattle.shard_contents.proofs.Commits.{applied-append}
@@ -32,53 +32,53 @@ use Rattle.shard.specs.Seats.{seat_of}
 use Rattle.shard_calls.specs.Answers.{NeedsAlone}
 use Rattle.shard_calls.specs.Alone as over
 use Rattle.shard_calls.specs.Alone.{GivesOver}
-use Rattle.shard_calls.specs.Transactions.{Step, GiveOver, none, next, ReadsAlone}
+use Rattle.shard_calls.specs.Transactions.{TransactionStatement, GiveOver, none, next, ReadsAlone}
 use Rattle.shard_calls.specs.Pendings as p
-use Rattle.shard_calls.specs.Pendings.{AreTold, IsAnywhere}
+use Rattle.shard_calls.specs.Pendings.{GaveOnShard, IsAnywhere}
 use Rattle.route_engine.proofs.SeatRows.{answers_kept_of, kept_alone}
 use Rattle.route_engine.proofs.Trying.{placed}
 use Rattle.route_engine.proofs.WholeWrites.{whole_changes}
 
 -- the rows that a write adds lie in the place of the one shard that it needs
-pub placed_on : (o : Opening) (w : Write) → IsTypedWrite o.schema w → (s : Shard) → NeedsAlone o w s → IsPlaced o.schema s.place w
+pub placed_on : (o : Opening) (w : Write) → IsTypedWrite o.schema w → (s : ShardRecord) → NeedsAlone o w s → IsPlaced o.schema s.place w
 placed_on o w is s alone =
     subst (λ (k : ℕ). IsPlaced o.schema (record { keyspace = k; range = s.place.range }) w) (sym alone.keyspace)
     (placed o w is alone.seats alone.partition (seat_of s) alone.only)
 
-module _ (o : Opening) (opens : IsOpening o) (formed : is_vschema o.schema ≡ true) (s : Shard) where
+module _ (o : Opening) (opens : IsOpening o) (formed : is_vschema o.schema ≡ true) (s : ShardRecord) where
   -- a query over the rows of the one shard that it needs
   pub read_over : (run : Run) → IsOnItsSlot o run s → IsLegal (MayFollow o) run → mode o run s.slot ≡ Serving → (q : Query)
-      → SourcesThere (length o.schema.tables) q → JoinsInPlace o.schema q → ReadsAlone o q s → (list : List Row) → Allowed q (held o run s) list
-      → Allowed q (one o run) list
+      → SourcesThere (length o.schema.tables) q → JoinsInPlace o.schema q → ReadsAlone o q s → (list : List Row) → Allowed q (shard_rows o run s) list
+      → Allowed q (database o run) list
   read_over run stands legal serves q there joins alone list allowed =
-      let here : Database = restrict o.schema s.place (one o run) in
-      let part : SameRows (held o run s) here = part_held o opens run s stands (ap is_serving serves) legal in
-      let over_here : Allowed q here list = same_allowed q (held o run s) here list part allowed in
-      let over_place : Allowed q (restrict o.schema (record { keyspace = (table_at o.schema q.table).keyspace; range = s.place.range }) (one o run)) list =
-      subst (λ (k : ℕ). Allowed q (restrict o.schema (record { keyspace = k; range = s.place.range }) (one o run)) list) alone.keyspace over_here in
-      answers_kept_of q (source_rows q (restrict o.schema (record { keyspace = (table_at o.schema q.table).keyspace; range = s.place.range }) (one o run)))
-      (source_rows q (one o run)) list
+      let here : Database = restrict o.schema s.place (database o run) in
+      let part : SameRows (shard_rows o run s) here = part_held o opens run s stands (ap answers_queries serves) legal in
+      let over_here : Allowed q here list = same_allowed q (shard_rows o run s) here list part allowed in
+      let over_place : Allowed q (restrict o.schema (record { keyspace = (table_at o.schema q.table).keyspace; range = s.place.range }) (database o run)) list =
+      subst (λ (k : ℕ). Allowed q (restrict o.schema (record { keyspace = k; range = s.place.range }) (database o run)) list) alone.keyspace over_here in
+      answers_kept_of q (source_rows q (restrict o.schema (record { keyspace = (table_at o.schema q.table).keyspace; range = s.place.range }) (database o run)))
+      (source_rows q (database o run)) list
       (kept_alone o opens run (legal_is o run legal) q there joins alone.seats alone.partition (seat_of s) alone.only) over_place
 
   -- a write over the rows of the one shard that it needs
   pub wrote_over : (run : Run) → IsOnItsSlot o run s → IsLegal (MayFollow o) run → mode o run s.slot ≡ Serving → (w : Write)
-      → IsTypedWrite o.schema w → NeedsAlone o w s → (more : List RowChange) → IsChangeOf o.schema w (held o run s) more
-      → IsChangeOf o.schema w (one o run) more
+      → IsTypedWrite o.schema w → NeedsAlone o w s → (more : List RowChange) → IsChangeOf o.schema w (shard_rows o run s) more
+      → IsChangeOf o.schema w (database o run) more
   wrote_over run stands legal serves w is alone more changed =
-      let here : Database = restrict o.schema s.place (one o run) in
-      let part : SameRows (held o run s) here = part_held o opens run s stands (ap is_serving serves) legal in
-      let of = change_same o.schema w (held o run s) here more part changed in
+      let here : Database = restrict o.schema s.place (database o run) in
+      let part : SameRows (shard_rows o run s) here = part_held o opens run s stands (ap answers_queries serves) legal in
+      let of = change_same o.schema w (shard_rows o run s) here more part changed in
       let whole = whole_changes o opens formed run (legal_is o run legal) w is s alone in
       (of.0, sym whole ∙ of.1, of.2)
 
   module _ (run : Run) (stands : IsOnItsSlot o run s) (legal : IsLegal (MayFollow o) run) (serves : mode o run s.slot ≡ Serving) (session number : ℕ)
       (low : NumbersBelow commit_of session number run) (touched : List Touch) where
     -- the statements over the one database, and the entry that their writes would make
-    pub record Lifted (steps : List Step) (writes : List Write) (changes : List RowChange) : Type 0 where
+    pub record Lifted (steps : List TransactionStatement) (writes : List Write) (changes : List RowChange) : Type 0 where
       pub may : MayFollow o run (entry_of s session number writes changes)
-      pub over : GiveOver o.schema (one o run) steps (all_applied changes (one o run))
+      pub over : GiveOver o.schema (database o run) steps (all_applied changes (database o run))
 
-    pub lifted : (steps : List Step) (writes : List Write) (changes : List RowChange) → AreTold o s run touched steps writes changes
+    pub lifted : (steps : List TransactionStatement) (writes : List Write) (changes : List RowChange) → GaveOnShard o s run touched steps writes changes
         → Lifted steps writes changes
     lifted _ _ _ p.none = record { may = may_nothing o opens s run stands legal serves session number low; over = none }
     lifted _ writes changes (p.anywhere {steps} step told is) =
@@ -122,8 +122,8 @@ module _ (o : Opening) (opens : IsOpening o) (formed : is_vschema o.schema ≡ t
         record {
           may = may_next o opens s run stands legal serves session number low writes changes rest.may w more is (placed_on o w is s alone) changed;
           over =
-              subst (GiveOver o.schema (one o run) (steps ++ record { typed = typed.Write w; answer = Count (length more); on = Some s; seen = seen } ∷ []))
-              (sym (applied-append changes more (one o run)))
+              subst (GiveOver o.schema (database o run) (steps ++ record { typed = typed.Write w; answer = Count (length more); on = Some s; seen = seen } ∷ []))
+              (sym (applied-append changes more (database o run)))
               (next (record { typed = typed.Write w; answer = Count (length more); on = Some s; seen = seen }) rest.over
               (over.writes more (subst (λ (d : Database). IsChangeOf o.schema w d more) one_is of)));
         }

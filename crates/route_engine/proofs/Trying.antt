@@ -21,16 +21,16 @@ use Rattle.planner.specs.Routes.{table_at, write_route, insert_route, takes}
 use Rattle.journal.specs.Runs.{IsLegal, NumbersBelow, number_of}
 use Rattle.journal.specs.Views.{PassView}
 use Rattle.journal.proofs.Fronts.{prefix_self, prefix_trans}
-use Rattle.shard_run.specs.declared.Shard.{Shard}
+use Rattle.shard_run.specs.declared.ShardRecord.{ShardRecord}
 use Rattle.shard_run.specs.declared.Mode.{Mode}
 use Rattle.shard_run.specs.declared.Mode.TheVariants.{Following, Serving, Frozen, Retired, Dropped}
 use Rattle.shard_run.specs.declared.Entry.{Entry}
-use Rattle.shard_run.specs.Runs.{Opening, mode, is_serving}
+use Rattle.shard_run.specs.Runs.{Opening, mode, answers_queries}
 use Rattle.shard_law.specs.Legal.{IsOnItsSlot}
 use Rattle.shard_law.proofs.Lists.{In, In-from_filter, In-filter, In-from_map, Contains-from_In}
 use Rattle.serving.specs.Partitions.{Seat, IsPartition, ranges}
-use Rattle.shard_contents.specs.declared.limits.Limits.{Limits}
-use Rattle.shard_contents.specs.Shards.{MayFollow, HasLooked, commit_of}
+use Rattle.shard_law.specs.declared.limits.Limits.{Limits}
+use Rattle.shard_law.specs.Entries.{MayFollow, HasLooked, commit_of}
 use Rattle.shard_contents.specs.Commits.{IsPlaced}
 use Rattle.shard_calls.specs.Answers as a
 use Rattle.shard_calls.specs.Answers.{needed, needed_by, NeedsAlone, HasGone, HasWritten, IsHeldUp, MayWriteRefuse, is_writable}
@@ -79,7 +79,7 @@ placed o (Delete n condition) typed seats is seat alone = refl
 pub gone_by : (o : Opening) (slot : ℕ) (p now : PassView Entry) → HasLooked o slot p now → HasGone o p now
 gone_by o slot p now is = ((slot, length now.seen) ∷ [], record { legal = is.legal; later = is.later; own = is.own; pass = is.pass })
 
-pub not_writable : (m : Mode) → is_serving m ≡ false → is_writable m ≡ false
+pub not_writable : (m : Mode) → answers_queries m ≡ false → is_writable m ≡ false
 not_writable Following is = refl
 not_writable Serving is = is
 not_writable Frozen is = refl

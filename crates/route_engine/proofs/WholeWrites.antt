@@ -27,8 +27,8 @@ use Rattle.sql_eval.specs.Writes.{written_table, has_duplicate, row_updates, cha
 use Rattle.planner.specs.Routes.{table_at, takes, keys_of, route_of, insert_route}
 use Rattle.planner.proofs.Placed.{IsHome, rows_home}
 use Rattle.planner.proofs.Skips.{skipped}
-use Rattle.shard_run.specs.declared.Shard.{Shard}
-use Rattle.shard_run.specs.Runs.{Run, Opening, one}
+use Rattle.shard_run.specs.declared.ShardRecord.{ShardRecord}
+use Rattle.shard_run.specs.Runs.{Run, Opening, database}
 use Rattle.shard_law.specs.Legal.{Legal}
 use Rattle.shard_run.specs.Openings.{IsOpening}
 use Rattle.shard_law.proofs.Fitting.{fits-from_typed}
@@ -128,37 +128,37 @@ module _ (o : Opening) (opens : IsOpening o) (formed : is_vschema o.schema ≡ t
   t = table_at o.schema n
 
   abbrev pub rows : List Row
-  rows = rows_of (one o run) n
+  rows = rows_of (database o run) n
 
   -- the place of a seat
-  abbrev pub place_of : Seat → Place
-  place_of seat = record { keyspace = t.keyspace; range = seat.1 }
+  abbrev pub ordinal_of : Seat → Place
+  ordinal_of seat = record { keyspace = t.keyspace; range = seat.1 }
 
   -- each row lies in a seat, and one that a condition keeps in one that the condition's route takes
   pub record Home (c : Option (Condition ℕ)) (row : Row) : Type 0 where
     pub seat : Seat
     pub inside : In seat seats
     pub needs : takes t (route_of t None c) seat.1 ≡ true
-    pub lies : lies_in (place_of seat) t row ≡ true
+    pub lies : lies_in (ordinal_of seat) t row ≡ true
 
   kept_home : (c : Option (Condition ℕ)) (row : Row) → In row rows → is_kept c row ≡ true → Home c row
   kept_home c row h kept =
       let w = home_in seats partition (row_id t row) in
-      let place : Place = place_of w.0 in
+      let place : Place = ordinal_of w.0 in
       let lies : lies_in place t row ≡ true = and_from (t.keyspace == t.keyspace) (has_id w.0.1 (row_id t row)) (eq-eqb t.keyspace t.keyspace refl) w.2 in
-      let within : In row (rows_of (restrict o.schema place (one o run)) n) =
-      subst (In row) (sym (rows_restricted o.schema.tables place (one o run) n there)) (In-filter (lies_in place t) row lies rows h) in
-      let home : IsHome t (keys_of t None) (w.0.1, restrict o.schema place (one o run)) row =
-      In-all (IsHome t (keys_of t None) (w.0.1, restrict o.schema place (one o run))) row (rows_of (restrict o.schema place (one o run)) n)
-      (rows_home o.schema n (w.0.1, restrict o.schema place (one o run)) (placed_at o opens t.keyspace (n ∷ []) w.0.1 run legal)) within in
+      let within : In row (rows_of (restrict o.schema place (database o run)) n) =
+      subst (In row) (sym (rows_restricted o.schema.tables place (database o run) n there)) (In-filter (lies_in place t) row lies rows h) in
+      let home : IsHome t (keys_of t None) (w.0.1, restrict o.schema place (database o run)) row =
+      In-all (IsHome t (keys_of t None) (w.0.1, restrict o.schema place (database o run))) row (rows_of (restrict o.schema place (database o run)) n)
+      (rows_home o.schema n (w.0.1, restrict o.schema place (database o run)) (placed_at o opens t.keyspace (n ∷ []) w.0.1 run legal)) within in
       record {
         seat = w.0;
         inside = w.1;
-        needs = taken (w.0.1, restrict o.schema place (one o run)) home (takes t (route_of t None c) w.0.1) refl;
+        needs = taken (w.0.1, restrict o.schema place (database o run)) home (takes t (route_of t None c) w.0.1) refl;
         lies = lies;
       }
     where
-      taken : (shard : Rattle.planner.specs.Plans.Shard) → IsHome t (keys_of t None) shard row → (b : Bool) → takes t (route_of t None c) shard.0 ≡ b → takes t (route_of t None c) shard.0 ≡ true
+      taken : (shard : Rattle.planner.specs.Plans.ShardRows) → IsHome t (keys_of t None) shard row → (b : Bool) → takes t (route_of t None c) shard.0 ≡ b → takes t (route_of t None c) shard.0 ≡ true
       taken shard home true e = e
       taken shard home false e = absurd (false≢true (sym (skipped t None shard c row home e) ∙ kept))
 
@@ -166,11 +166,11 @@ module _ (o : Opening) (opens : IsOpening o) (formed : is_vschema o.schema ≡ t
   Keeps c p = AllByRecursion (λ row. is_kept c row ≡ true → p row ≡ true) rows
 
   -- the rows that a condition keeps lie in the one seat that it needs, and none is kept where it needs none
-  pub kept_here : (c : Option (Condition ℕ)) (seat : Seat) → needed t (route_of t None c) seats ≡ seat ∷ [] → Keeps c (lies_in (place_of seat) t)
+  pub kept_here : (c : Option (Condition ℕ)) (seat : Seat) → needed t (route_of t None c) seats ≡ seat ∷ [] → Keeps c (lies_in (ordinal_of seat) t)
   kept_here c seat alone =
-      all-from_In (λ row. is_kept c row ≡ true → lies_in (place_of seat) t row ≡ true) rows
+      all-from_In (λ row. is_kept c row ≡ true → lies_in (ordinal_of seat) t row ≡ true) rows
       (λ row h kept. let w = kept_home c row h kept in
-      subst (λ (u : Seat). lies_in (place_of u) t row ≡ true)
+      subst (λ (u : Seat). lies_in (ordinal_of u) t row ≡ true)
       (only_one w.seat seat (needed t (route_of t None c) seats) alone (In-filter (λ u. takes t (route_of t None c) u.1) w.seat w.needs seats w.inside)) w.lies)
 
   pub kept_nowhere : (c : Option (Condition ℕ)) → needed t (route_of t None c) seats ≡ [] → Keeps c (λ row. false)
@@ -217,10 +217,10 @@ module _ (o : Opening) (opens : IsOpening o) (formed : is_vschema o.schema ≡ t
 
   module _ (seats : List Seat) (partition : IsPartition seats) where
     over_here : (w : Write) → IsTypedWrite o.schema w → written_table w < length o.schema.tables → (seat : Seat) → needed_by o w seats ≡ seat ∷ []
-        → over w (filter (lies_in (there_at w seat) (table_at o.schema (written_table w))) (rows_of (one o run) (written_table w))) ≡ over w (rows_of (one o run) (written_table w))
+        → over w (filter (lies_in (there_at w seat) (table_at o.schema (written_table w))) (rows_of (database o run) (written_table w))) ≡ over w (rows_of (database o run) (written_table w))
     over_here (Insert n new) typed there seat alone =
         ap (λ b. cond b (Err DuplicateKey) (Ok (map (Added n) new)))
-        (duplicates o opens formed run legal n there seats partition (there_at (Insert n new) seat) (rows_of (one o run) n) new (placed o (Insert n new) typed seats partition seat alone))
+        (duplicates o opens formed run legal n there seats partition (there_at (Insert n new) seat) (rows_of (database o run) n) new (placed o (Insert n new) typed seats partition seat alone))
     over_here (Update n assignments c) typed there seat alone =
         ap (λ (l : List RowChange). Ok l)
         (updates_over o opens formed run legal n there seats partition assignments c (lies_in (there_at (Update n assignments c) seat) (table_at o.schema n))
@@ -238,31 +238,31 @@ module _ (o : Opening) (opens : IsOpening o) (formed : is_vschema o.schema ≡ t
         subst (In w.0) none
         (In-filter (λ u. takes t (insert_route t (x ∷ new)) u.1) w.0 (row_taken t (x ∷ new) x (inl refl) fits w.0.1 w.2) seats w.1)
 
-    none_changed : (w : Write) → IsTypedWrite o.schema w → written_table w < length o.schema.tables → needed_by o w seats ≡ [] → changes_of o.schema w (one o run) ≡ Ok []
+    none_changed : (w : Write) → IsTypedWrite o.schema w → written_table w < length o.schema.tables → needed_by o w seats ≡ [] → changes_of o.schema w (database o run) ≡ Ok []
     none_changed (Insert n []) typed there none = refl
     none_changed (Insert n (x ∷ new)) typed there none = absurd (some_needed n x new (fits-from_typed o.schema (Insert n (x ∷ new)) typed).0 none)
     none_changed (Update n assignments c) typed there none =
         ap (λ (l : List RowChange). Ok l)
         (sym (updates_over o opens formed run legal n there seats partition assignments c (λ row. false) (kept_nowhere o opens formed run legal n there seats partition c none))
-        ∙ ap (flat_map (row_updates n assignments c)) (filter_false o opens formed run legal n there seats partition (rows_of (one o run) n)))
+        ∙ ap (flat_map (row_updates n assignments c)) (filter_false o opens formed run legal n there seats partition (rows_of (database o run) n)))
     none_changed (Delete n c) typed there none =
         ap (λ (l : List Row). Ok (map (Removed n) l))
         (sym (kept_over o opens formed run legal n there seats partition c (λ row. false) (kept_nowhere o opens formed run legal n there seats partition c none))
-        ∙ ap (filter (is_kept c)) (filter_false o opens formed run legal n there seats partition (rows_of (one o run) n)))
+        ∙ ap (filter (is_kept c)) (filter_false o opens formed run legal n there seats partition (rows_of (database o run) n)))
 
     -- a write that needs no shard changes nothing
-    pub no_changes : (w : Write) → IsTypedWrite o.schema w → needed_by o w seats ≡ [] → changes_of o.schema w (one o run) ≡ Ok []
+    pub no_changes : (w : Write) → IsTypedWrite o.schema w → needed_by o w seats ≡ [] → changes_of o.schema w (database o run) ≡ Ok []
     no_changes w typed none = none_changed w typed (table_there o.schema w typed) none
 
   whole_at : (w : Write) → IsTypedWrite o.schema w → (seats : List Seat) → IsPartition seats → (seat : Seat) → needed_by o w seats ≡ seat ∷ []
-      → changes_of o.schema w (restrict o.schema (there_at w seat) (one o run)) ≡ changes_of o.schema w (one o run)
+      → changes_of o.schema w (restrict o.schema (there_at w seat) (database o run)) ≡ changes_of o.schema w (database o run)
   whole_at w typed seats partition seat alone =
-      ap (over w) (rows_restricted o.schema.tables (there_at w seat) (one o run) (written_table w) (table_there o.schema w typed))
+      ap (over w) (rows_restricted o.schema.tables (there_at w seat) (database o run) (written_table w) (table_there o.schema w typed))
       ∙ over_here seats partition w typed (table_there o.schema w typed) seat alone
 
   -- the changes on the one shard are those of the whole database
-  pub whole_changes : (w : Write) → IsTypedWrite o.schema w → (s : Shard) → NeedsAlone o w s
-      → changes_of o.schema w (restrict o.schema s.place (one o run)) ≡ changes_of o.schema w (one o run)
+  pub whole_changes : (w : Write) → IsTypedWrite o.schema w → (s : ShardRecord) → NeedsAlone o w s
+      → changes_of o.schema w (restrict o.schema s.place (database o run)) ≡ changes_of o.schema w (database o run)
   whole_changes w typed s alone =
-      ap (λ (k : ℕ). changes_of o.schema w (restrict o.schema (record { keyspace = k; range = s.place.range }) (one o run))) alone.keyspace
+      ap (λ (k : ℕ). changes_of o.schema w (restrict o.schema (record { keyspace = k; range = s.place.range }) (database o run))) alone.keyspace
       ∙ whole_at w typed alone.seats alone.partition (seat_of s) alone.only

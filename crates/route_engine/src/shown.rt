@@ -1,7 +1,7 @@
 //! What a query shows, and its rows as they are shown.
 ghost use Rattle.std.specs.Prelude.{◌≡◌};
 ghost use Rattle.operators.specs.Slices.{shown_at};
-ghost use Rattle.sql_eval.specs.Narrowing.{whole_items, whole_places};
+ghost use Rattle.sql_eval.specs.Narrowing.{whole_items, whole_ordinals};
 
 use operators::ShownRows;
 use planner::Plan;
@@ -16,13 +16,13 @@ pub(crate) fn shown_whole(
     rows: Items<Row>,
 ) -> (Items<Item<usize>>, ShownRows)
     ensures items { result.0 ≡ whole_items whole items }
-    ensures rows { result.1 ≡ shown_at (whole_places whole) rows }
+    ensures rows { result.1 ≡ shown_at (whole_ordinals whole) rows }
 {
     match whole {
         None => (items, ShownRows::new(rows, None)),
         Some(whole) => {
             drop(items);
-            (whole.items, ShownRows::new(rows, Some(whole.places)))
+            (whole.items, ShownRows::new(rows, Some(whole.ordinals)))
         }
     }
 }

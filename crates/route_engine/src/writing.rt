@@ -5,7 +5,7 @@ ghost use Rattle.vschema.specs.TypedWrites.{IsTypedWrite};
 ghost use Rattle.sql_eval.specs.Writes.{written_table};
 ghost use Rattle.planner.specs.Routes.{table_at, write_route};
 ghost use Rattle.journal.specs.Runs.{IsLegal, NumbersBelow};
-ghost use Rattle.shard_contents.specs.Shards.{MayFollow, commit_of};
+ghost use Rattle.shard_law.specs.Entries.{MayFollow, commit_of};
 ghost use Rattle.shard_calls.specs.Answers.{HasWritten, MayWriteRefuse};
 ghost use Rattle.shard_calls.specs.inner.Scatter.{tried, IsTried};
 
@@ -13,7 +13,7 @@ use crate::engine::Engine;
 use journal::{Naming, Pass};
 use planner::{Route, write_route};
 use serving::Partition;
-use shard::{Committed, Shard, ShardLaw, World, written_table};
+use shard::{CommitOutcome, Shard, ShardLaw, World, written_table};
 use shard_calls::{Answer, Gate, Reply, counted, look_at_each, only_needed, shard_of};
 use std::alloc::Global;
 use std::sync::Wait;
@@ -21,13 +21,13 @@ use vschema::{Table, Write};
 use vt_value::Refusal;
 
 // The count, or the write again if its shard took no commits.
-fn tried(committed: Committed) -> Result<u64, Write>
+fn tried(committed: CommitOutcome) -> Result<u64, Write>
     ensures { result ≡ tried committed }
 {
     match committed {
-        Committed::Count(count) => Ok(count),
-        Committed::Frozen(write) => Err(write),
-        Committed::NotServing(write) => Err(write),
+        CommitOutcome::Count(count) => Ok(count),
+        CommitOutcome::Frozen(write) => Err(write),
+        CommitOutcome::NotServing(write) => Err(write),
     }
 }
 

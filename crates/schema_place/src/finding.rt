@@ -162,7 +162,7 @@ fn find_end(alloc: Global, text: &str, place: &mut Place) -> Option<Value> {
 
 /// If the fault with this number lies in a VSchema's text: in the first keyspace that has it alone, and there in the first table; else in no
 /// keyspace, as that of two keyspaces with a table of one name.
-pub fn place_of(alloc: Global, text: &str, number: u8) -> Result<Place, AllocError> {
+pub fn ordinal_of(alloc: Global, text: &str, number: u8) -> Result<Place, AllocError> {
     let mut place = Place::whole(alloc);
     let Some(value) = find_end(alloc, text, &mut place) else {
         return Ok(place);

@@ -5,5 +5,5 @@ mod finding;
 mod place;
 mod texts;
 
-pub use finding::place_of;
+pub use finding::ordinal_of;
 pub use place::Place;

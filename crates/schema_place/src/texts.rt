@@ -2,7 +2,7 @@
 
 use serde_json::Value;
 use std::alloc::{AllocError, Global};
-use vschema_document::{first_fault, parse, read_document};
+use vschema_json::{first_fault, parse, read_document};
 
 /// The number of the fault of a text; none if it has none, or there is no memory.
 pub(crate) fn fault_of(alloc: Global, text: &str) -> Option<u8> {

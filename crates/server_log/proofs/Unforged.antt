@@ -2,7 +2,7 @@
 use Rattle.std.proofs.Common.{◌≡◌, ◌≢◌, ◌==◌, ◌<◌, ◌⊎◌, ℕ, ◌%◌, ◌/◌, nat_lt, if◌then◌else◌, Bool, true, false, not, List, [], ◌∷◌, ◌++◌, length, refl, sym, ap, ◌∙◌, append_assoc, inl, inr, arith}
 use Rattle.std.specs.Prelude.{flat_map}
 use Rattle.std.specs.List.{AllByRecursion, list_all}
-use borrow.Author.Tests.{ltb-true}
+use borrow.StatementId.Tests.{ltb-true}
 use Rattle.std.proofs.lemmas.Bool.Decides.{nat_tests}
 use Rattle.log.specs.Kv.{Pair}
 use Rattle.log.specs.declared.level.Level.{Level}
@@ -137,7 +137,7 @@ fields_end ((k, v) ∷ fs) ((l, w) ∷ gs) p q e =
     let first : log_word k ++ (0x3D ∷ (log_word v ++ F)) ≡ log_word l ++ (0x3D ∷ (log_word w ++ G)) = cc in
     let key = word_ends k l (0x3D ∷ (log_word v ++ F)) (0x3D ∷ (log_word w ++ G)) p.0.0 q.0.0 refl refl first in
     let key_is : k ≡ l = key.0 in
-    let behind : 0x3D ∷ (log_word v ++ F) ≡ 0x3D ∷ (log_word w ++ G) = key.1 in
+    let trailing : 0x3D ∷ (log_word v ++ F) ≡ 0x3D ∷ (log_word w ++ G) = key.1 in
     let second : log_word v ++ F ≡ log_word w ++ G = cc in
     let value = word_ends v w F G p.0.1 q.0.1 (fields_stop fs) (fields_stop gs) second in
     let value_is : v ≡ w = value.0 in
@@ -187,7 +187,7 @@ told_once t u e f tb ub eb fb same =
     ∙ (sym (append_assoc (log_head t (level_text e.level) e.event) (flat_map log_field e.fields) (0x0A ∷ []))
     ∙ (same ∙ (append_assoc (log_head u (level_text f.level) f.event) (flat_map log_field f.fields) (0x0A ∷ []) ∙ line_split u (level_text f.level) f.event G))) in
     let first = word_ends t u (0x20 ∷ (log_word (level_text e.level) ++ (0x20 ∷ (log_word e.event ++ F)))) (0x20 ∷ (log_word (level_text f.level) ++ (0x20 ∷ (log_word f.event ++ G)))) tb ub refl refl whole in
-    let behind : 0x20 ∷ (log_word (level_text e.level) ++ (0x20 ∷ (log_word e.event ++ F))) ≡ 0x20 ∷ (log_word (level_text f.level) ++ (0x20 ∷ (log_word f.event ++ G))) = first.1 in
+    let trailing : 0x20 ∷ (log_word (level_text e.level) ++ (0x20 ∷ (log_word e.event ++ F))) ≡ 0x20 ∷ (log_word (level_text f.level) ++ (0x20 ∷ (log_word f.event ++ G))) = first.1 in
     let next : log_word (level_text e.level) ++ (0x20 ∷ (log_word e.event ++ F)) ≡ log_word (level_text f.level) ++ (0x20 ∷ (log_word f.event ++ G)) = cc in
     let level = word_ends (level_text e.level) (level_text f.level) (0x20 ∷ (log_word e.event ++ F)) (0x20 ∷ (log_word f.event ++ G)) (level_bytes e.level) (level_bytes f.level) refl refl next in
     let level_is : e.level ≡ f.level = sym (level_back e.level) ∙ (ap level_of_byte level.0 ∙ level_back f.level) in

@@ -31,15 +31,15 @@ mended-append true xs ys = refl
 mended-append false xs ys = refl
 
 -- a break where one was needed, and then a line
-pub line_behind : (torn : Bool) (a b c : Known) (bytes : List ℕ) → Appends a b (mended torn []) → Appends b c bytes → Appends a c (mended torn bytes)
-line_behind torn a b c bytes first then =
+pub line_after : (torn : Bool) (a b c : Known) (bytes : List ℕ) → Appends a b (mended torn []) → Appends b c bytes → Appends a c (mended torn bytes)
+line_after torn a b c bytes first then =
     subst (Appends a c) (mended-append torn [] bytes) (Appends-trans a b c (mended torn []) bytes first then)
 
 -- a break where one was needed, and then less than the whole line
-pub part_behind : (torn after : Bool) (line bytes : List ℕ) (a b c : Known) (n : ℕ) → bytes ≡ line → n ≤ length bytes → nat_eq n (length bytes) ≡ false
+pub part_after : (torn after : Bool) (line bytes : List ℕ) (a b c : Known) (n : ℕ) → bytes ≡ line → n ≤ length bytes → nat_eq n (length bytes) ≡ false
     → after ≡ (nat_lt 0 n && nat_lt n (length bytes)) → Appends a b (mended torn []) → Appends b c (take n bytes)
     → (taken : List ℕ) × TakesPart torn line taken after × Appends a c taken
-part_behind torn after line bytes a b c n same bound differ is first then =
+part_after torn after line bytes a b c n same bound differ is first then =
     let below : n < length bytes = grind (arith, nat_tests) in
     let small : nat_lt n (length bytes) ≡ true = grind (arith, nat_tests) in
     let shorter : n < length line = rw (← same) below in
@@ -50,7 +50,7 @@ part_behind torn after line bytes a b c n same bound differ is first then =
     let taken : Appends b c (take n line) = subst (λ (l : List ℕ). Appends b c (take n l)) same then in (
       mended torn (take n line),
       inr (take n line, (drop n line, take-append-drop n line), less, refl, marked),
-      line_behind torn a b c (take n line) first taken,
+      line_after torn a b c (take n line) first taken,
     )
 
 -- a report, and then a line

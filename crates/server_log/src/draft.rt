@@ -4,7 +4,7 @@ ghost use Rattle.std.specs.List.{list_all};
 ghost use Rattle.log.specs.Kv.{value_text};
 ghost use Rattle.server_log.specs.Lines.{IsTimeText, is_visible, level_text, log_field, log_head, span_pairs};
 
-use crate::line::Line;
+use crate::line::LogLine;
 use crate::text::{field_of, head_of};
 use crate::time::time_text;
 use jiff::Timestamp;
@@ -112,11 +112,11 @@ impl Draft {
     }
 
     /// The line, which has ended.
-    pub fn ended(self) -> Result<Line, AllocError>
+    pub fn ended(self) -> Result<LogLine, AllocError>
         ensures { IfOk result (λ line. line ≡ self ++ 0x0A ∷ []) }
     {
         let Draft { alloc: _, bytes } = self;
-        Line::of(bytes)
+        LogLine::of(bytes)
     }
 }
 

@@ -13,7 +13,7 @@ mod writer;
 
 pub use forging::no_line_is_forged;
 pub use level::{VARIABLE, asked_level, environment_level};
-pub use line::{Line, line_of};
+pub use line::{LogLine, line_of};
 pub use queue::{LineQueue, QUEUED_LINES};
 pub use sink::LineSink;
 pub use time::instant;

@@ -14,11 +14,11 @@ use std::marker::Model;
 
 /// The bytes of one line, with the break that ends it. Contracts see the bytes.
 #[derive(Drop)]
-pub struct Line {
+pub struct LogLine {
     bytes: Vec<u8>,
 }
 
-impl Model for Line {
+impl Model for LogLine {
     ghost use Rattle.std.specs.Prelude.{ℕ, List};
     ghost use Rattle.server_log.specs.Lines.{IsOneLine};
 
@@ -29,15 +29,15 @@ impl Model for Line {
     ghost invariant = { λ l. IsOneLine l.bytes.items };
 }
 
-impl Line {
+impl LogLine {
     /// The line of bytes that are visible.
-    pub(crate) fn of(bytes: Vec<u8>) -> Result<Line, AllocError>
+    pub(crate) fn of(bytes: Vec<u8>) -> Result<LogLine, AllocError>
         requires { list_all is_visible bytes.items ≡ true }
         ensures { IfOk result (λ line. line ≡ bytes.items ++ 0x0A ∷ []) }
     {
         let mut bytes = bytes;
         bytes.push(b'\n')?;
-        Ok(Line { bytes })
+        Ok(LogLine { bytes })
     }
 
     // Promise: Each line of the log has one break, which stands at its end, and otherwise bytes from 20 to 7E alone, whatever a client names itself
@@ -58,7 +58,7 @@ pub fn line_of<D: Display, K: Source, S: Spans>(
     alloc: Global,
     instant: Timestamp,
     told: &Record<'_, D, K, S>,
-) -> Result<Line, AllocError>
+) -> Result<LogLine, AllocError>
     ensures text { IfOk result (λ line. IfSome (recorded_entry D.output K.pairs S.scopes told.now) (λ entry. TellsAt instant entry line)) }
     ensures one { IfOk result (λ line. IsOneLine line) }
 {

@@ -1,6 +1,6 @@
 //! Lines on their way to the thread that writes them.
 
-use crate::line::Line;
+use crate::line::LogLine;
 use crossbeam_queue::ArrayQueue;
 use std::alloc::{AllocError, Global};
 use std::sync::Wait;
@@ -19,7 +19,7 @@ const LOOKS: u32 = 1000;
 /// Lines that wait to be written, in order, and how many were lost since the last report. Who puts a line never waits for the one that writes.
 #[derive(Drop)]
 pub struct LineQueue {
-    lines: ArrayQueue<Line>,
+    lines: ArrayQueue<LogLine>,
     lost: AtomicU64,
     came: AtomicU64,
     closed: AtomicU64,
@@ -56,7 +56,7 @@ impl LineQueue {
     }
 
     /// Puts a line after the others. If the queue is full the line is lost, and counted.
-    pub fn put<R: Wait>(&self, rt: &R, line: Line) {
+    pub fn put<R: Wait>(&self, rt: &R, line: LogLine) {
         match self.lines.push(rt, line) {
             Ok(()) => self.wake(),
             Err(_) => self.lose(1),
@@ -64,7 +64,7 @@ impl LineQueue {
     }
 
     /// The next line; waits for one. None once the queue is closed and has no more.
-    pub fn next<R: Wait>(&self, rt: &R) -> Option<Line> {
+    pub fn next<R: Wait>(&self, rt: &R) -> Option<LogLine> {
         for _ in rt.forever() {
             let seen = self.came.load(Ordering::SeqCst);
             let is_closed = self.closed.load(Ordering::SeqCst) != 0;

@@ -8,7 +8,7 @@ use jiff::fmt::temporal::DateTimePrinter;
 use std::time::Clock;
 
 /// How many places a second's fraction has.
-const PLACES: u8 = 3;
+const FRACTION_DIGITS: u8 = 3;
 
 /// Now; if the clock can't be read, the beginning of 1970.
 pub fn instant<R: Clock>(rt: &R) -> Timestamp {
@@ -23,6 +23,6 @@ pub fn time_text(instant: Timestamp) -> ArrayString<33>
     ensures { IsTimeText instant result.bytes }
 {
     DateTimePrinter::new()
-        .precision(Some(PLACES))
+        .precision(Some(FRACTION_DIGITS))
         .timestamp_text(instant.to_plain())
 }

@@ -3,7 +3,7 @@ ghost use Rattle.std.specs.Prelude.{◌≡◌, ◌≢◌, ◌≤◌, ◌<◌, �
 ghost use Rattle.std.specs.Io.KnownBytes.{Appends};
 ghost use Rattle.server_log.specs.Writing.{IsReport, TakesPart, mended};
 
-use crate::line::{Line, line_of};
+use crate::line::{LogLine, line_of};
 use crate::queue::LineQueue;
 use crate::time::instant;
 use jiff::Timestamp;
@@ -54,7 +54,7 @@ fn is_part(taken: usize, all: usize) -> bool
 
 // Promise: The report of lost lines tells how many there were
 /// The line that tells how many lines were lost.
-pub fn report_of(alloc: Global, instant: Timestamp, lost: u64) -> Result<Line, AllocError>
+pub fn report_of(alloc: Global, instant: Timestamp, lost: u64) -> Result<LogLine, AllocError>
     ensures { IfOk result (λ line. IsReport instant lost line) }
 {
     let pairs = With {
@@ -95,7 +95,7 @@ impl<W: Write> LineWriter<W> {
 
     // Promise: A line is written whole, after the break that ends a part of one before it, or a front of these is; then it counts as lost
     /// Writes a line by one write, and tells whether it was written whole.
-    pub fn put(&mut self, line: &Line) -> bool
+    pub fn put(&mut self, line: &LogLine) -> bool
         ensures whole { result ≡ true → (self.new.is_torn ≡ false) × Appends (W.contents self.old.device) (W.contents self.new.device) (mended self.old.is_torn line.now) }
         ensures part { result ≡ false → (taken : List ℕ) × TakesPart self.old.is_torn line.now taken self.new.is_torn × Appends (W.contents self.old.device) (W.contents self.new.device) taken }
     {
@@ -125,7 +125,7 @@ impl<W: Write> LineWriter<W> {
 
     // Promise: No line is written before the lines that were lost are told; a line that isn't written counts among them
     /// Writes a line, after the report of the lines that were lost before it, if some were. Tells how many lines are lost then, and untold.
-    pub fn tell(&mut self, alloc: Global, instant: Timestamp, line: &Line, lost: u64) -> u64
+    pub fn tell(&mut self, alloc: Global, instant: Timestamp, line: &LogLine, lost: u64) -> u64
         ensures written { result ≡ 0 → lost ≡ 0 → Appends (W.contents self.old.device) (W.contents self.new.device) (mended self.old.is_torn line.now) }
         ensures reported { result ≡ 0 → 0 < lost → (bytes : List ℕ) × IsReport instant lost bytes
             × Appends (W.contents self.old.device) (W.contents self.new.device) (mended self.old.is_torn (bytes ++ line.now)) }

@@ -3,7 +3,7 @@
 use Rattle.std.proofs.Common.{◌≡◌, ℕ, List, [], ◌∷◌, refl, lit<, lit≤, inl, Some, None}
 use Rattle.std.specs.Prelude.{codes, is_some, true, false}
 use Rattle.mysql_packet.specs.declared.framer.Payload.{Payload}
-use Rattle.mysql_packet.specs.declared.framer.Fault.{Fault}
+use Rattle.mysql_packet.specs.declared.framer.HeaderFault.{HeaderFault}
 use Rattle.mysql_packet.specs.Frames.{IsPartial}
 use Rattle.vt_value.specs.declared.refusal.Refusal.TheVariants.{PacketTooLarge}
 use Rattle.resultset.specs.declared.Outcome.{Outcome}
@@ -11,21 +11,21 @@ use Rattle.resultset.specs.declared.Outcome.TheVariants.{Count}
 use Rattle.resultset.specs.declared.SetEnd.TheVariants.{EofPackets}
 use Rattle.resultset.specs.Encoding.{encoded}
 use Rattle.shard_calls.specs.Transactions.{Transaction}
-use Rattle.session_replies.specs.declared.end.End.TheVariants.{Quit, Closed, Broken}
-use Rattle.session_replies.specs.Standings.{settings_at_first}
-use Rattle.session_replies.specs.declared.standing.Settings.{Settings}
-use Rattle.session_replies.specs.declared.standing.Phase.TheVariants.{Commands}
-use Rattle.session_replies.specs.declared.standing.Standing.TheVariants.{At}
+use Rattle.conversation.specs.declared.end.End.TheVariants.{Quit, Closed, Broken}
+use Rattle.conversation.specs.ConnectionStates.{settings_at_first}
+use Rattle.conversation.specs.declared.connection_state.Settings.{Settings}
+use Rattle.conversation.specs.declared.connection_state.Phase.TheVariants.{Commands}
+use Rattle.conversation.specs.declared.connection_state.ConnectionState.TheVariants.{At}
 use Rattle.vschema.specs.declared.schema.VSchema.{VSchema}
-use Rattle.session_replies.specs.Terms.{Terms, status_flags}
-use Rattle.session_replies.specs.Talk.{Talk}
-use Rattle.session_replies.specs.Talk as t
+use Rattle.conversation.specs.SessionContext.{SessionContext, status_flags}
+use Rattle.conversation.specs.Talk.{Talk}
+use Rattle.conversation.specs.Talk as t
 
 abbrev Never : Unit {0} → List ℕ → Outcome → Unit {0} → Type 0
 Never s text outcome now = ⊥
 
-abbrev plain : VSchema → Terms (Unit {0})
-plain v = record { hello = record { access = record { user = []; stage2 = None }; salt = []; id = 0 }; schema = v; is_open = λ s. false; dropped = λ s. s }
+abbrev plain : VSchema → SessionContext (Unit {0})
+plain v = record { handshake = record { access = record { user = []; stage2 = None }; salt = []; id = 0 }; schema = v; is_open = λ s. false; dropped = λ s. s }
 
 abbrev as_let_in : Settings
 as_let_in = settings_at_first 0 None
@@ -53,7 +53,7 @@ wrong_number v =
 too_large : (v : VSchema) → Talk 1048576 (plain v) Never (At (Commands as_let_in)) tt (1 ∷ 0 ∷ 0x10 ∷ 0 ∷ [])
     (0x19 ∷ 0 ∷ 0 ∷ 1 ∷ 0xFF ∷ 0x81 ∷ 0x04 ∷ 0x23 ∷ 0x30 ∷ 0x38 ∷ 0x53 ∷ 0x30 ∷ 0x31 ∷ codes "packet too large") Broken tt
 too_large v =
-    let fault : Fault = record { refusal = PacketTooLarge; number = 0 } in
+    let fault : HeaderFault = record { refusal = PacketTooLarge; number = 0 } in
     t.refused [] fault
     (record {
       first = 0;

@@ -10,16 +10,16 @@ use Rattle.journal.specs.Runs.{IsLegal}
 use Rattle.journal.specs.Views.{PassView}
 use Rattle.journal.proofs.Fronts.{prefix_self, prefix_trans}
 use Rattle.shard_run.specs.declared.Entry.{Entry}
-use Rattle.shard_run.specs.declared.Shard.{Shard}
+use Rattle.shard_run.specs.declared.ShardRecord.{ShardRecord}
 use Rattle.shard_run.specs.Runs.{Opening}
-use Rattle.shard_contents.specs.declared.limits.Limits.{Limits}
-use Rattle.shard_contents.specs.Shards.{MayFollow, HasLooked}
+use Rattle.shard_law.specs.declared.limits.Limits.{Limits}
+use Rattle.shard_law.specs.Entries.{MayFollow, HasLooked}
 use Rattle.shard_calls.specs.declared.reply.Reply.{Reply}
 use Rattle.route_engine.specs.inner.Answers as a
 use Rattle.shard_calls.specs.Answers.{counted, HasGone}
 use Rattle.route_engine.specs.inner.Answers.{IsReply, IsRefused}
 use Rattle.shard_calls.specs.Transactions as x
-use Rattle.shard_calls.specs.Transactions.{Step, Transaction, Standing, IsCommitted, GivesIn, GivesAt, IsReplyTo, IsRefusedIn, IsRefusedBy, IsRefusedNow, IsRefusedAt}
+use Rattle.shard_calls.specs.Transactions.{TransactionStatement, Transaction, PassAndTx, IsCommitted, GivesIn, GivesAt, IsReplyTo, IsRefusedIn, IsRefusedBy, IsRefusedNow, IsRefusedAt}
 use Rattle.route_engine.proofs.Over.{reply_on, refusal_on}
 use Rattle.route_engine.proofs.Sessions.{same_session}
 
@@ -44,17 +44,17 @@ module _ (o : Opening) (l : Limits) where
   gone_on p now gone =
       record { later = gone.1.later; legal = λ h. gone.1.legal; session = ap (λ (q : PassView Entry). q.session) gone.1.pass }
 
-  pub committed_later : (s : Shard) (p : PassView Entry) (steps : List Step) (now : PassView Entry) (c : IsCommitted o l s p steps now) → IsPrefix c.before now.seen
+  pub committed_later : (s : ShardRecord) (p : PassView Entry) (steps : List TransactionStatement) (now : PassView Entry) (c : IsCommitted o l s p steps now) → IsPrefix c.before now.seen
   committed_later s p steps now c = (_, sym c.seen)
 
-  committed_on : (s : Shard) (p : PassView Entry) (steps : List Step) (now : PassView Entry) → IsCommitted o l s p steps now → Follows o p now
+  committed_on : (s : ShardRecord) (p : PassView Entry) (steps : List TransactionStatement) (now : PassView Entry) → IsCommitted o l s p steps now → Follows o p now
   committed_on s p steps now c = record {
     later = prefix_trans p.seen c.before now.seen (prefix_trans p.seen c.looked.seen c.before c.look.later c.later) (committed_later s p steps now c);
     legal = λ h. c.legal;
     session = ap (λ (q : PassView Entry). q.session) c.pass ∙ ap (λ (q : PassView Entry). q.session) c.look.pass;
   }
 
-  gives_in_on : (p : PassView Entry) (tx : Transaction) (t : Typed) (reply : Reply) (now : Standing) → GivesIn o l p tx t reply now → Follows o p now.pass
+  gives_in_on : (p : PassView Entry) (tx : Transaction) (t : Typed) (reply : Reply) (now : PassAndTx) → GivesIn o l p tx t reply now → Follows o p now.pass
   gives_in_on p tx _ _ _ (x.nowhere none over) = stays p
   gives_in_on p tx _ _ _ (x.on_shard {now = now} s seats needs all looked serves clear over) = looked_on s.slot p now looked
   gives_in_on p tx _ _ _ (x.commits_nothing none) = stays p
@@ -73,7 +73,7 @@ module _ (o : Opening) (l : Limits) where
         let on = refusal_on o l p text e now (a.numbered why) in
         record { later = on.later; legal = on.legal; session = same_session o l (counted p) now text (Err e) tt why }
 
-    gives_at_on : (p : PassView Entry) (tx : Option Transaction) (t : Typed) (reply : Reply) (now : Standing) (tree : Statement) → Reads text tree
+    gives_at_on : (p : PassView Entry) (tx : Option Transaction) (t : Typed) (reply : Reply) (now : PassAndTx) (tree : Statement) → Reads text tree
         → typed_statement o.schema tree ≡ Ok t → GivesAt o l (counted p) tx t reply now → Follows o p now.pass
     gives_at_on p _ t reply _ tree reads is (x.alone {now} gives) =
         reply_follows p now reply (record { statement = tree; typed = t; reads = reads; resolved = is; gives = gives })
@@ -82,10 +82,10 @@ module _ (o : Opening) (l : Limits) where
     gives_at_on p _ _ _ _ tree reads is x.rolls_back = numbered p (counted p) (stays (counted p))
     gives_at_on p _ _ _ _ tree reads is (x.within {tx} {t} {reply} {now} gives) = numbered p now.pass (gives_in_on (counted p) tx t reply now gives)
 
-    pub answer_on : (s now : Standing) (reply : Reply) → IsReplyTo o l s text reply now → Follows o s.pass now.pass
+    pub answer_on : (s now : PassAndTx) (reply : Reply) → IsReplyTo o l s text reply now → Follows o s.pass now.pass
     answer_on s now reply is = gives_at_on s.pass s.tx is.typed reply now is.statement is.reads is.resolved is.gives
 
-    refused_in_on : (p : PassView Entry) (tx : Transaction) (t : Typed) (e : Refusal) (now : Standing) → IsRefusedIn o l p tx t e now → Follows o p now.pass
+    refused_in_on : (p : PassView Entry) (tx : Transaction) (t : Typed) (e : Refusal) (now : PassAndTx) → IsRefusedIn o l p tx t e now → Follows o p now.pass
     refused_in_on p tx _ _ _ (x.no_memory {now} gone) = gone_on p now gone
     refused_in_on p tx _ _ _ x.open_twice = stays p
     refused_in_on p tx _ _ _ (x.several {now = now} k seats none of found more gone) = gone_on p now gone
@@ -96,18 +96,18 @@ module _ (o : Opening) (l : Limits) where
     refused_in_on p tx _ _ _ (x.duplicate {now = now} s after its at over twice) = looked_on s.slot p now at.looked
     refused_in_on p tx _ _ _ (x.full {now} s changes its at wrote made over room) = looked_on s.slot p now at.looked
 
-    refused_by_on : (p : PassView Entry) (tx : Option Transaction) (t : Typed) (e : Refusal) (now : Standing) (tree : Statement) → Reads text tree
+    refused_by_on : (p : PassView Entry) (tx : Option Transaction) (t : Typed) (e : Refusal) (now : PassAndTx) (tree : Statement) → Reads text tree
         → typed_statement o.schema tree ≡ Ok t → IsRefusedBy o l (counted p) tx t e now → Follows o p now.pass
     refused_by_on p _ _ e _ tree reads is (x.not_read {q} {now} why) = refused_follows p now e (a.not_read tree q reads is why)
     refused_by_on p _ _ e _ tree reads is (x.not_written {w} {now} why) = refused_follows p now e (a.not_written tree w reads is why)
     refused_by_on p _ t e now tree reads is (x.within {tx} why) = numbered p now.pass (refused_in_on (counted p) tx t e now why)
 
-    refused_now_on : (s now : Standing) (e : Refusal) → IsRefusedNow o l (x.numbered s) text e now → Follows o s.pass now.pass
+    refused_now_on : (s now : PassAndTx) (e : Refusal) → IsRefusedNow o l (x.numbered s) text e now → Follows o s.pass now.pass
     refused_now_on s _ _ x.no_memory = numbered s.pass (counted s.pass) (stays (counted s.pass))
     refused_now_on s _ _ (x.no_tree none) = numbered s.pass (counted s.pass) (stays (counted s.pass))
     refused_now_on s _ _ (x.not_typed tree reads is) = numbered s.pass (counted s.pass) (stays (counted s.pass))
     refused_now_on s now e (x.refused tree t reads is why) = refused_by_on s.pass s.tx t e now tree reads is why
 
-    pub refusal_at_on : (s now : Standing) (e : Refusal) → IsRefusedAt o l s text e now → Follows o s.pass now.pass
+    pub refusal_at_on : (s now : PassAndTx) (e : Refusal) → IsRefusedAt o l s text e now → Follows o s.pass now.pass
     refusal_at_on s _ _ (x.used_up many) = stays s.pass
     refusal_at_on s now e (x.refused why) = refused_now_on s now e why

@@ -14,47 +14,47 @@ use Rattle.vschema.specs.Database.{Database}
 use Rattle.vschema.specs.TypedStatement.{typed_statement}
 use Rattle.journal.specs.Views.{PassView}
 use Rattle.shard_run.specs.declared.Entry.{Entry}
-use Rattle.shard_run.specs.Runs.{Run, Opening, one}
-use Rattle.shard_contents.specs.declared.limits.Limits.{Limits}
+use Rattle.shard_run.specs.Runs.{Run, Opening, database}
+use Rattle.shard_law.specs.declared.limits.Limits.{Limits}
 use Rattle.shard_calls.specs.declared.reply.Answer.{Answer}
 use Rattle.shard_calls.specs.declared.reply.Answer.TheVariants.{Count}
 use Rattle.shard_calls.specs.Alone.{NoCommits, GivesOver, IsRefusedOver}
-use Rattle.shard_calls.specs.Transactions.{Step, Transaction, GiveOver, write_on}
-use Rattle.session_replies.specs.declared.hello.Hello.{Hello}
-use Rattle.session_replies.specs.Terms.{Terms}
-use Rattle.session_replies.specs.Outcomes.{PassAndTransaction, none_open, Shows, HasRows, Means}
+use Rattle.shard_calls.specs.Transactions.{TransactionStatement, Transaction, GiveOver, write_on}
+use Rattle.conversation.specs.declared.access.Handshake.{Handshake}
+use Rattle.conversation.specs.SessionContext.{SessionContext}
+use Rattle.conversation.specs.Means.{PassAndTransaction, none_open, Shows, HasRows, Means}
 
 -- ---- one database
 
 -- a statement and its answer
-pub record Told : Type 0 where
+pub record AnsweredStatement : Type 0 where
   pub typed : Typed
   pub answer : Answer
 
 -- a database, and the answered statements of the transaction that is open on it
 pub record OneState : Type 0 where
   pub db : Database
-  pub open_one : Option (List Told)
+  pub open_one : Option (List AnsweredStatement)
 
 -- The statements gave their answers, one after the other, from the one database to the other.
-pub data InTurn (schema : VSchema) (db : Database) : List Told → Database → Type 0 where
+pub data InTurn (schema : VSchema) (db : Database) : List AnsweredStatement → Database → Type 0 where
   none : InTurn schema db [] db
-  next : {told : List Told} {mid after : Database} (t : Told) → InTurn schema db told mid → GivesOver schema mid t.typed t.answer after
+  next : {told : List AnsweredStatement} {mid after : Database} (t : AnsweredStatement) → InTurn schema db told mid → GivesOver schema mid t.typed t.answer after
       → InTurn schema db (told ++ t ∷ []) after
 
 -- What a statement gives, and the state after it. In a transaction it gives what it means after the transaction's statements so far, which
 -- COMMIT does all at once, and ROLLBACK never.
-pub data GivesNext (schema : VSchema) (db : Database) : Option (List Told) → Typed → Answer → OneState → Type 0 where
+pub data GivesNext (schema : VSchema) (db : Database) : Option (List AnsweredStatement) → Typed → Answer → OneState → Type 0 where
   by_itself : {t : Typed} {answer : Answer} {after : Database} → GivesOver schema db t answer after
       → GivesNext schema db None t answer (record { db = after; open_one = None })
   begins : GivesNext schema db None typed.Begin (Count 0) (record { db = db; open_one = Some [] })
   none_to_commit : GivesNext schema db None typed.Commit (Count 0) (record { db = db; open_one = None })
   none_to_roll_back : GivesNext schema db None typed.Rollback (Count 0) (record { db = db; open_one = None })
-  within : {told : List Told} {after : Database} (t : Told) → InTurn schema db (told ++ t ∷ []) after
+  within : {told : List AnsweredStatement} {after : Database} (t : AnsweredStatement) → InTurn schema db (told ++ t ∷ []) after
       → GivesNext schema db (Some told) t.typed t.answer (record { db = db; open_one = Some (told ++ t ∷ []) })
-  commits : {told : List Told} {after : Database} → InTurn schema db told after
+  commits : {told : List AnsweredStatement} {after : Database} → InTurn schema db told after
       → GivesNext schema db (Some told) typed.Commit (Count 0) (record { db = after; open_one = None })
-  rolls_back : {told : List Told} → GivesNext schema db (Some told) typed.Rollback (Count 0) (record { db = db; open_one = None })
+  rolls_back : {told : List AnsweredStatement} → GivesNext schema db (Some told) typed.Rollback (Count 0) (record { db = db; open_one = None })
 
 -- the text is a statement under the VSchema, and the answer is what it gives
 pub record AnswersNext (schema : VSchema) (s : OneState) (text : List ℕ) (answer : Answer) (now : OneState) : Type 0 where
@@ -65,7 +65,7 @@ pub record AnswersNext (schema : VSchema) (s : OneState) (text : List ℕ) (answ
   pub gives : GivesNext schema s.db s.open_one typed answer now
 
 -- the rows that a statement sees
-abbrev pub Sees : VSchema → Database → Option (List Told) → Database → Type 0
+abbrev pub Sees : VSchema → Database → Option (List AnsweredStatement) → Database → Type 0
 Sees schema db None rows = rows ≡ db
 Sees schema db (Some told) rows = InTurn schema db told rows
 
@@ -82,28 +82,28 @@ pub data MeansOver (schema : VSchema) (s : OneState) (text : List ℕ) : Outcome
       → MeansOver schema s text outcome now
   untold : {now : OneState} (answer : Answer) → AnswersNext schema s text answer now → HasRows answer → MeansOver schema s text (Refused OutOfMemory) now
   refused : {r : Refusal} (rows : Database) → Sees schema s.db s.open_one rows → IsRefusedOver schema rows text r → MeansOver schema s text (Refused r) s
-  begun_twice : {told : List Told} (statement : Statement) → s.open_one ≡ Some told → Reads text statement → typed_statement schema statement ≡ Ok typed.Begin
+  begun_twice : {told : List AnsweredStatement} (statement : Statement) → s.open_one ≡ Some told → Reads text statement → typed_statement schema statement ≡ Ok typed.Begin
       → MeansOver schema s text (Refused NotSupported) s
-  ends : {r : Refusal} {told : List Told} → s.open_one ≡ Some told → IsEnding r → MeansOver schema s text (Refused r) (record { db = s.db; open_one = None })
+  ends : {r : Refusal} {told : List AnsweredStatement} → s.open_one ≡ Some told → IsEnding r → MeansOver schema s text (Refused r) (record { db = s.db; open_one = None })
 
 -- ---- and the run
 
-abbrev pub told_of : Step → Told
+abbrev pub told_of : TransactionStatement → AnsweredStatement
 told_of step = record { typed = step.typed; answer = step.answer }
 
 -- a statement that wrote on no shard leaves the database
-abbrev pub LeavesAll : VSchema → Database → Step → Type 0
+abbrev pub LeavesAll : VSchema → Database → TransactionStatement → Type 0
 LeavesAll schema db step = write_on step.on step.typed ≡ [] → (after : Database) → GivesOver schema db step.typed step.answer after → after ≡ db
 
 -- The transaction's statements were answered one after the other from what the run leaves, and since the first of them nothing was committed.
-pub record IsOpenOver (o : Opening) (run : Run) (t : Transaction) (told : List Told) : Type 0 where
+pub record IsOpenOver (o : Opening) (run : Run) (t : Transaction) (told : List AnsweredStatement) : Type 0 where
   pub at : NoCommits t.at run
   pub same : told ≡ map told_of t.steps
   pub seen : AllByRecursion (λ step. NoCommits step.seen run) t.steps
-  pub over : (after : Database) × GiveOver o.schema (one o run) t.steps after
-  pub idle : AllByRecursion (LeavesAll o.schema (one o run)) t.steps
+  pub over : (after : Database) × GiveOver o.schema (database o run) t.steps after
+  pub idle : AllByRecursion (LeavesAll o.schema (database o run)) t.steps
 
-abbrev pub IsOverAt : Opening → Run → Option Transaction → Option (List Told) → Type 0
+abbrev pub IsOverAt : Opening → Run → Option Transaction → Option (List AnsweredStatement) → Type 0
 IsOverAt o run None None = Unit {0}
 IsOverAt o run (Some t) (Some told) = IsOpenOver o run t told
 IsOverAt o run _ _ = ⊥
@@ -112,7 +112,7 @@ IsOverAt o run _ _ = ⊥
 pub record Alone (o : Opening) : Type 0 where
   pub kept : PassAndTransaction
   pub state : OneState
-  pub rows : state.db ≡ one o kept.pass.seen
+  pub rows : state.db ≡ database o kept.pass.seen
   pub tx : IsOverAt o kept.pass.seen kept.tx state.open_one
 
 -- an outcome that the text may have, and that one database may tell
@@ -125,9 +125,9 @@ abbrev pub without_transaction : {o : Opening} → Alone o → Alone o
 without_transaction s = record { kept = none_open s.kept.pass; state = record { db = s.state.db; open_one = None }; rows = s.rows; tx = tt }
 
 -- the terms of a conversation over it
-abbrev pub alone_terms : (o : Opening) → Hello → Terms (Alone o)
-alone_terms o hello = record { hello = hello; schema = o.schema; is_open = λ s. is_some s.state.open_one; dropped = without_transaction }
+abbrev pub alone_context : (o : Opening) → Handshake → SessionContext (Alone o)
+alone_context o handshake = record { handshake = handshake; schema = o.schema; is_open = λ s. is_some s.state.open_one; dropped = without_transaction }
 
 -- before its first statement
 abbrev pub alone_first : (o : Opening) → PassView Entry → Alone o
-alone_first o p = record { kept = none_open p; state = record { db = one o p.seen; open_one = None }; rows = refl; tx = tt }
+alone_first o p = record { kept = none_open p; state = record { db = database o p.seen; open_one = None }; rows = refl; tx = tt }

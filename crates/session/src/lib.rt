@@ -1,12 +1,12 @@
 //! A session: the bytes that come in, and the bytes that go out.
 #![tactic(auto)]
 
-mod command_phase;
+mod serve_loop;
 mod session_core;
 
-pub use command_phase::serve;
-pub use session_core::{COMMAND_LIMIT, Core};
-pub use session_replies::{
-    Access, DeviceFailed, End, Hello, Login, Phase, Reader, SessionFault, Settings, Sink, Source,
-    Standing, Writer,
+pub use conversation::{
+    Access, ConnectionState, DeviceFailed, End, Handshake, PendingLogin, Phase, Reader,
+    SessionFault, Settings, Sink, Source, Writer,
 };
+pub use serve_loop::serve;
+pub use session_core::{COMMAND_LIMIT, Core};

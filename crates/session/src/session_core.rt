@@ -5,24 +5,24 @@ ghost use Rattle.mysql_packet.specs.declared.framer.Fed.{Fed};
 ghost use Rattle.vschema.specs.WellFormed.{is_vschema};
 ghost use Rattle.journal.specs.Runs.{IsLegal};
 ghost use Rattle.shard_run.specs.Openings.{IsOpening};
-ghost use Rattle.shard_contents.specs.Shards.{MayFollow};
-ghost use Rattle.session_replies.specs.Devices.{write_failures_after};
-ghost use Rattle.session_replies.specs.Faults.{IsCutOff};
+ghost use Rattle.shard_law.specs.Entries.{MayFollow};
+ghost use Rattle.conversation.specs.Devices.{write_failures_after};
+ghost use Rattle.conversation.specs.Faults.{IsCutOff};
 ghost use Rattle.shard_calls.specs.Pendings.{IsOf};
-ghost use Rattle.session_replies.specs.Outcomes.{Means, terms_of};
-ghost use Rattle.session_replies.specs.inner.Outcomes.{LeadsKept};
-ghost use Rattle.session_replies.specs.Standings.{end_of};
-ghost use Rattle.session_replies.specs.Sessions.{AnswersFed};
-ghost use Rattle.session_replies.specs.inner.Sessions.{FedBy};
+ghost use Rattle.conversation.specs.Means.{Means, context_of};
+ghost use Rattle.conversation.specs.inner.Means.{LeadsKept};
+ghost use Rattle.conversation.specs.ConnectionStates.{end_of};
+ghost use Rattle.conversation.specs.Sessions.{AnswersFed};
+ghost use Rattle.conversation.specs.inner.Sessions.{FedBy};
 
 use bytes::BytesMut;
+use conversation::{
+    Access, ConnectionState, End, Handshake, Phase, REPLY_ROOM, SessionFault, Settings, Sink,
+    answer_fed, end_of, is_in_commands,
+};
 use journal::{Naming, Pass};
 use mysql_packet::Framer;
 use route_engine::{Engine, Gate, Tx};
-use session_replies::{
-    Access, End, Hello, Phase, REPLY_ROOM, SessionFault, Settings, Sink, Standing, answer_fed,
-    end_of, is_in_commands,
-};
 use shard::{ShardLaw, World};
 use std::alloc::Global;
 use std::marker::Model;
@@ -53,23 +53,23 @@ fn feed_parts<W: World + Send + Sync, J: Naming + Send + Sync, G: Gate, S: Sink>
     engine: &Engine<W, J, G>,
     pass: &mut Pass<ShardLaw<W>, J>,
     tx: &mut Tx<W, J>,
-    hello: &Hello,
-    begin: Standing,
+    handshake: &Handshake,
+    begin: ConnectionState,
     piece: &[u8],
     framer: &mut Framer,
     reply: &mut BytesMut,
     sink: &mut S,
-) -> Result<Standing, SessionFault>
+) -> Result<ConnectionState, SessionFault>
     requires room { REPLY_ROOM ≤ length reply.old.items + reply.old.spare }
     requires session { IsSome pass.old.session }
     requires tx { IsOf W.opening tx.old pass.old }
     requires open_session { end_of begin ≡ None }
-    ensures answers { IfOk result (λ standing. (fed : Fed) × FedBy framer.old framer.new piece.now fed × ((out : List ℕ)
+    ensures answers { IfOk result (λ connection_state. (fed : Fed) × FedBy framer.old framer.new piece.now fed × ((out : List ℕ)
         × Appends (S.taken sink.old) (S.taken sink.new) out × LeadsKept W.opening pass.old tx.old pass.new tx.new
-        (λ s now. AnswersFed (terms_of W.opening hello.now) (Means W.opening W.limits) begin s fed out standing now))) }
+        (λ s now. AnswersFed (context_of W.opening handshake.now) (Means W.opening W.limits) begin s fed out connection_state now))) }
     ensures write { result ≡ Err SessionFault.Write → (fed : Fed) × FedBy framer.old framer.new piece.now fed × ((written : List ℕ)
         × Appends (S.taken sink.old) (S.taken sink.new) written × LeadsKept W.opening pass.old tx.old pass.new tx.new
-        (λ s now. IsCutOff (terms_of W.opening hello.now) (Means W.opening W.limits) begin s fed written now)) }
+        (λ s now. IsCutOff (context_of W.opening handshake.now) (Means W.opening W.limits) begin s fed written now)) }
     ensures memory { result ≡ Err SessionFault.Memory → (pass.new ≡ pass.old) × (tx.new ≡ tx.old) × (sink.new ≡ sink.old) × (framer.new ≡ framer.old) }
     ensures count { S.failures sink.new ≡ write_failures_after result (S.failures sink.old) }
     ensures limit { framer.new.limit ≡ framer.old.limit }
@@ -81,8 +81,10 @@ fn feed_parts<W: World + Send + Sync, J: Naming + Send + Sync, G: Gate, S: Sink>
     let Ok(fed) = framer.feed(piece) else {
         return Err(SessionFault::Memory);
     };
-    match answer_fed(rt, alloc, engine, pass, tx, hello, begin, &fed, reply, sink) {
-        Ok(standing) => Ok(standing),
+    match answer_fed(
+        rt, alloc, engine, pass, tx, handshake, begin, &fed, reply, sink,
+    ) {
+        Ok(connection_state) => Ok(connection_state),
         Err(_) => Err(SessionFault::Write),
     }
 }
@@ -93,15 +95,15 @@ fn feed_parts<W: World + Send + Sync, J: Naming + Send + Sync, G: Gate, S: Sink>
 pub struct Core<W: World, J: Naming> {
     framer: Framer,
     reply: BytesMut,
-    standing: Standing,
-    hello: Hello,
+    connection_state: ConnectionState,
+    handshake: Handshake,
     tx: Tx<W, J>,
 }
 
 impl<W: World, J: Naming> Model for Core<W, J> {
     ghost use Rattle.std.specs.Prelude.{◌+◌, ◌≤◌, length};
-    ghost use Rattle.session_replies.specs.declared.reply.TheConstants.{REPLY_ROOM};
-    ghost use Rattle.session_replies.specs.Sessions.{SessionState};
+    ghost use Rattle.conversation.specs.declared.reply.TheConstants.{REPLY_ROOM};
+    ghost use Rattle.conversation.specs.Sessions.{SessionState};
     ghost use Rattle.std.specs.Coded.{codes};
     ghost use Rattle.vschema.specs.contracts.changes.Write as write;
 
@@ -109,7 +111,7 @@ impl<W: World, J: Naming> Model for Core<W, J> {
 
     ghost coded = { Prim.hlevel (codes, write.the_row.coded) };
 
-    ghost view = { λ c. record { hello = c.hello; framing = c.framer; standing = c.standing; tx = c.tx } };
+    ghost view = { λ c. record { handshake = c.handshake; framing = c.framer; connection_state = c.connection_state; tx = c.tx } };
 
     // The refusal of a payload always has room.
     ghost invariant = { λ c. REPLY_ROOM ≤ length c.reply.items + c.reply.spare };
@@ -130,11 +132,11 @@ fn end_between(is_between_payloads: bool, is_let_in: bool) -> End
 impl<W: World, J: Naming> Core<W, J> {
     ghost use Rattle.std.specs.Prelude.{◌≡◌, ℕ, List, [], None, IfOk, IfErr, IfSome};
     ghost use Rattle.shard_run.specs.Runs.{Opening};
-    ghost use Rattle.shard_contents.specs.declared.limits.Limits.{Limits};
-    ghost use Rattle.session_replies.specs.Outcomes.{Means, PassAndTransaction, terms_of};
-    ghost use Rattle.session_replies.specs.Standings.{HasGreeted, end_of, settings_at_first};
-    ghost use Rattle.session_replies.specs.Talk.{Talk};
-    ghost use Rattle.session_replies.specs.Sessions.{HasTalked};
+    ghost use Rattle.shard_law.specs.declared.limits.Limits.{Limits};
+    ghost use Rattle.conversation.specs.Means.{Means, PassAndTransaction, context_of};
+    ghost use Rattle.conversation.specs.ConnectionStates.{HasGreeted, end_of, settings_at_first};
+    ghost use Rattle.conversation.specs.Talk.{Talk};
+    ghost use Rattle.conversation.specs.Sessions.{HasTalked};
 
     /// A session that is new: of the connection with this id. It greets its client by the salt, and lets in whom `access` tells.
     /// Makes room for the greeting and for a refusal, and refuses only if it can't.
@@ -146,9 +148,9 @@ impl<W: World, J: Naming> Core<W, J> {
     ) -> Result<Core<W, J>, Refusal>
         // Nothing has been read or written.
         ensures begins { IfOk result (λ core. (o : Opening) (l : Limits) (s : PassAndTransaction)
-            → HasTalked (terms_of o core.hello) (Means o l) Standing.New core s [] [] s) }
-        ensures hello { IfOk result (λ core. core.hello ≡ record { access = access.now; salt = salt.now; id = id }) }
-        ensures standing { IfOk result (λ core. core.standing ≡ Standing.New) }
+            → HasTalked (context_of o core.handshake) (Means o l) ConnectionState.New core s [] [] s) }
+        ensures handshake { IfOk result (λ core. core.handshake ≡ record { access = access.now; salt = salt.now; id = id }) }
+        ensures connection_state { IfOk result (λ core. core.connection_state ≡ ConnectionState.New) }
         ensures limit { IfOk result (λ core. core.framing.limit ≡ COMMAND_LIMIT) }
         ensures none_open { IfOk result (λ core. core.tx ≡ None) }
         ensures err { IfErr result (λ e. e ≡ Refusal.OutOfMemory) }
@@ -162,8 +164,8 @@ impl<W: World, J: Naming> Core<W, J> {
         Ok(Core {
             framer: Framer::new(alloc, COMMAND_LIMIT),
             reply,
-            standing: Standing::New,
-            hello: Hello {
+            connection_state: ConnectionState::New,
+            handshake: Handshake {
                 access,
                 salt: *salt,
                 id,
@@ -177,19 +179,22 @@ impl<W: World, J: Naming> Core<W, J> {
     pub fn commands(alloc: Global, id: u32, capabilities: u32) -> Result<Core<W, J>, Refusal>
         // Nothing has been read or written.
         ensures begins { IfOk result (λ core. (o : Opening) (l : Limits) (s : PassAndTransaction)
-            → HasTalked (terms_of o core.hello) (Means o l) (Standing.At (Phase.Commands (settings_at_first capabilities None))) core s [] [] s) }
-        ensures standing { IfOk result (λ core. core.standing ≡ Standing.At (Phase.Commands (settings_at_first capabilities None))) }
+            → HasTalked (context_of o core.handshake) (Means o l) (ConnectionState.At (Phase.Commands (settings_at_first capabilities None))) core s [] [] s) }
+        ensures connection_state { IfOk result (λ core. core.connection_state ≡ ConnectionState.At (Phase.Commands (settings_at_first capabilities None))) }
         ensures limit { IfOk result (λ core. core.framing.limit ≡ COMMAND_LIMIT) }
         ensures none_open { IfOk result (λ core. core.tx ≡ None) }
-        ensures id { IfOk result (λ core. core.hello.id ≡ id) }
+        ensures id { IfOk result (λ core. core.handshake.id ≡ id) }
         ensures err { IfErr result (λ e. e ≡ Refusal.OutOfMemory) }
     {
         let reply = BytesMut::with_capacity(alloc, REPLY_ROOM)?;
         Ok(Core {
             framer: Framer::new(alloc, COMMAND_LIMIT),
             reply,
-            standing: Standing::At(Phase::Commands(Settings::at_first(capabilities, None))),
-            hello: Hello {
+            connection_state: ConnectionState::At(Phase::Commands(Settings::at_first(
+                capabilities,
+                None,
+            ))),
+            handshake: Handshake {
                 access: Access {
                     user: Items::new(alloc),
                     stage2: None,
@@ -203,31 +208,31 @@ impl<W: World, J: Naming> Core<W, J> {
 
     /// The id of the connection.
     pub fn id(&self) -> u32
-        ensures { result ≡ self.now.hello.id }
+        ensures { result ≡ self.now.handshake.id }
     {
-        self.hello.id
+        self.handshake.id
     }
 
     /// How the session stands.
-    pub fn standing(&self) -> Standing
-        ensures { result ≡ self.now.standing }
+    pub fn connection_state(&self) -> ConnectionState
+        ensures { result ≡ self.now.connection_state }
     {
-        self.standing
+        self.connection_state
     }
 
     /// How the session ends if its input ends here, unless it has ended before: closed between two payloads, once the client was let in;
     /// else truncated.
     pub fn end_of_input(&self) -> End
-        ensures ended { IfSome (end_of self.now.standing) (λ end. result ≡ end) }
+        ensures ended { IfSome (end_of self.now.connection_state) (λ end. result ≡ end) }
         // The conversation is then whole, if the client has been greeted.
-        ensures whole { HasGreeted self.now.standing → (o : Opening) (l : Limits) (begin : Standing) (first now : PassAndTransaction) (bytes out : List ℕ)
-            → HasTalked (terms_of o self.now.hello) (Means o l) begin self.now first bytes out now
-            → Talk self.now.framing.limit (terms_of o self.now.hello) (Means o l) begin first bytes out result now }
+        ensures whole { HasGreeted self.now.connection_state → (o : Opening) (l : Limits) (begin : ConnectionState) (first now : PassAndTransaction) (bytes out : List ℕ)
+            → HasTalked (context_of o self.now.handshake) (Means o l) begin self.now first bytes out now
+            → Talk self.now.framing.limit (context_of o self.now.handshake) (Means o l) begin first bytes out result now }
     {
-        match end_of(self.standing) {
+        match end_of(self.connection_state) {
             Some(end) => end,
             None => {
-                let is_let_in = is_in_commands(self.standing);
+                let is_let_in = is_in_commands(self.connection_state);
                 end_between(self.framer.is_between_payloads(), is_let_in)
             }
         }
@@ -239,13 +244,13 @@ impl<W: World + Send + Sync, J: Naming + Send + Sync> Core<W, J> {
     ghost use Rattle.std.specs.Io.KnownBytes.{Appends};
     ghost use Rattle.shard_calls.specs.Alone.{NoOthers};
     ghost use Rattle.shard_calls.specs.Pendings.{IsOf};
-    ghost use Rattle.session.specs.Alone.{Alone, MeansAlone, alone_terms};
-    ghost use Rattle.session_replies.specs.Devices.{write_failures_after};
-    ghost use Rattle.session_replies.specs.Faults.{HasBrokenOff};
-    ghost use Rattle.session_replies.specs.Outcomes.{IsKept, Means, PassAndTransaction, terms_of};
-    ghost use Rattle.session_replies.specs.Standings.{HasGreeted, end_of};
-    ghost use Rattle.session_replies.specs.Talk.{IsByCommand};
-    ghost use Rattle.session_replies.specs.Sessions.{HasTalked, HasTalkedOn, IsStateAfter};
+    ghost use Rattle.session.specs.Alone.{Alone, MeansAlone, alone_context};
+    ghost use Rattle.conversation.specs.Devices.{write_failures_after};
+    ghost use Rattle.conversation.specs.Faults.{HasBrokenOff};
+    ghost use Rattle.conversation.specs.Means.{IsKept, Means, PassAndTransaction, context_of};
+    ghost use Rattle.conversation.specs.ConnectionStates.{HasGreeted, end_of};
+    ghost use Rattle.conversation.specs.Talk.{IsByCommand};
+    ghost use Rattle.conversation.specs.Sessions.{HasTalked, HasTalkedOn, IsStateAfter};
 
     // Promise: However a client's bytes are cut, exactly the conversation over them is written, from the greeting on: a client is let in by
     // its user and its answer to the salt, and then by its database, or told why not; each statement has an outcome that its text may have,
@@ -255,8 +260,8 @@ impl<W: World + Send + Sync, J: Naming + Send + Sync> Core<W, J> {
     // run, and asks something of a server, is answered that by the VSchema and by what the session knows of itself; a client may name each
     // keyspace, and one that begins anew has no transaction and autocommit on, and keeps its keyspace; result sets end as the client's
     // capabilities ask; the reply to a write always has room
-    // With: Core::{new, commands, standing, end_of_input}
-    // Clauses: begins, hello, standing, limit, none_open, err, talk, tx, begun, ended, by_command, fault, cause, again, next, session,
+    // With: Core::{new, commands, connection_state, end_of_input}
+    // Clauses: begins, handshake, connection_state, limit, none_open, err, talk, tx, begun, ended, by_command, fault, cause, again, next, session,
     // whole, id
     // Headline.
     // Promise: After a fault: without memory for a piece, it counts as not fed, and pass and sink are as before it; if the sink failed,
@@ -281,38 +286,38 @@ impl<W: World + Send + Sync, J: Naming + Send + Sync> Core<W, J> {
         // However the input was cut before: of the bytes so far exactly the conversation over them has been written, if each
         // query has an outcome that its text may have over what the run leaves at a look of the pass, each after the one before,
         // and in the open transaction, if one is. That is kept from piece to piece.
-        ensures talk { IfOk result (λ end. (begin : Standing) (first s : PassAndTransaction) (bytes out : List ℕ) → IsKept W.opening pass.old self.old.tx s
-            → HasTalked (terms_of W.opening self.old.hello) (Means W.opening W.limits) begin self.old first bytes out s →
+        ensures talk { IfOk result (λ end. (begin : ConnectionState) (first s : PassAndTransaction) (bytes out : List ℕ) → IsKept W.opening pass.old self.old.tx s
+            → HasTalked (context_of W.opening self.old.handshake) (Means W.opening W.limits) begin self.old first bytes out s →
             (written : List ℕ) × Appends (S.taken sink.old) (S.taken sink.new) written × ((now : PassAndTransaction) × IsKept W.opening pass.new self.new.tx now
-            × HasTalkedOn (terms_of W.opening self.old.hello) (Means W.opening W.limits) begin self.new first (bytes ++ piece.now) (out ++ written) end now)) }
+            × HasTalkedOn (context_of W.opening self.old.handshake) (Means W.opening W.limits) begin self.new first (bytes ++ piece.now) (out ++ written) end now)) }
         // If no other session comes between, a conversation over one database goes on over it.
-        ensures alone { IfOk result (λ end. (begin : Standing) (first s : Alone W.opening) (bytes out : List ℕ) → IsKept W.opening pass.old self.old.tx s.kept
-            → HasTalked (alone_terms W.opening self.old.hello) (MeansAlone W.opening W.limits) begin self.old first bytes out s →
+        ensures alone { IfOk result (λ end. (begin : ConnectionState) (first s : Alone W.opening) (bytes out : List ℕ) → IsKept W.opening pass.old self.old.tx s.kept
+            → HasTalked (alone_context W.opening self.old.handshake) (MeansAlone W.opening W.limits) begin self.old first bytes out s →
             NoOthers pass.old pass.new → (written : List ℕ) × Appends (S.taken sink.old) (S.taken sink.new) written
             × ((now : Alone W.opening) × IsKept W.opening pass.new self.new.tx now.kept
-            × HasTalkedOn (alone_terms W.opening self.old.hello) (MeansAlone W.opening W.limits) begin self.new first (bytes ++ piece.now) (out ++ written) end now)) }
+            × HasTalkedOn (alone_context W.opening self.old.handshake) (MeansAlone W.opening W.limits) begin self.new first (bytes ++ piece.now) (out ++ written) end now)) }
         ensures tx { IsOf W.opening self.new.tx pass.new }
-        ensures ended { IfOk result (λ end. end_of self.new.standing ≡ end) }
+        ensures ended { IfOk result (λ end. end_of self.new.connection_state ≡ end) }
         // The client has been greeted, also by an empty piece.
-        ensures begun { IfOk result (λ end. HasGreeted self.new.standing) }
+        ensures begun { IfOk result (λ end. HasGreeted self.new.connection_state) }
         // A piece ends no session as the end of the input does.
-        ensures by_command { end_of self.old.standing ≡ None → IfOk result (λ end. IfSome end IsByCommand) }
-        ensures fault { OnErr result (self.new.standing ≡ Standing.Ended End.Broken) }
+        ensures by_command { end_of self.old.connection_state ≡ None → IfOk result (λ end. IfSome end IsByCommand) }
+        ensures fault { OnErr result (self.new.connection_state ≡ ConnectionState.Ended End.Broken) }
         ensures cause { IfErr result (λ e. (e ≡ SessionFault.Memory) ⊎ (e ≡ SessionFault.Write)) }
         // A piece for which there is no memory counts as not fed.
         ensures memory { result ≡ Err SessionFault.Memory → (pass.new ≡ pass.old) × (self.new.tx ≡ self.old.tx) × (sink.new ≡ sink.old) × (self.new.framing ≡ self.old.framing) }
         // If the sink failed, a front of the payloads is answered, each once, and the sink took a front of the replies.
-        ensures write { result ≡ Err SessionFault.Write → (begin : Standing) (first s : PassAndTransaction) (bytes out : List ℕ) → IsKept W.opening pass.old self.old.tx s
-            → HasTalked (terms_of W.opening self.old.hello) (Means W.opening W.limits) begin self.old first bytes out s →
+        ensures write { result ≡ Err SessionFault.Write → (begin : ConnectionState) (first s : PassAndTransaction) (bytes out : List ℕ) → IsKept W.opening pass.old self.old.tx s
+            → HasTalked (context_of W.opening self.old.handshake) (Means W.opening W.limits) begin self.old first bytes out s →
             (written : List ℕ) × Appends (S.taken sink.old) (S.taken sink.new) written × ((now : PassAndTransaction) × IsKept W.opening pass.new self.new.tx now
-            × HasBrokenOff self.old.framing.limit (terms_of W.opening self.old.hello) (Means W.opening W.limits) begin first (bytes ++ piece.now) (out ++ written) now) }
+            × HasBrokenOff self.old.framing.limit (context_of W.opening self.old.handshake) (Means W.opening W.limits) begin first (bytes ++ piece.now) (out ++ written) now) }
         // That the sink failed is told exactly when it did, in this call.
         ensures count { S.failures sink.new ≡ write_failures_after result (S.failures sink.old) }
-        ensures again { IfSome (end_of self.old.standing) (λ end. (result ≡ Ok (Some end)) × (self.new ≡ self.old) × (sink.new ≡ sink.old) × (pass.new ≡ pass.old)) }
+        ensures again { IfSome (end_of self.old.connection_state) (λ end. (result ≡ Ok (Some end)) × (self.new ≡ self.old) × (sink.new ≡ sink.old) × (pass.new ≡ pass.old)) }
         ensures next { IsStateAfter self.old self.new }
         ensures session { pass.new.session ≡ pass.old.session }
     {
-        let begin = self.standing;
+        let begin = self.connection_state;
         if let Some(end) = end_of(begin) {
             return Ok(Some(end));
         }
@@ -323,19 +328,19 @@ impl<W: World + Send + Sync, J: Naming + Send + Sync> Core<W, J> {
             engine,
             pass,
             &mut self.tx,
-            &self.hello,
+            &self.handshake,
             begin,
             piece,
             &mut self.framer,
             &mut self.reply,
             sink,
         ) {
-            Ok(standing) => {
-                self.standing = standing;
-                Ok(end_of(standing))
+            Ok(connection_state) => {
+                self.connection_state = connection_state;
+                Ok(end_of(connection_state))
             }
             Err(fault) => {
-                self.standing = Standing::Ended(End::Broken);
+                self.connection_state = ConnectionState::Ended(End::Broken);
                 Err(fault)
             }
         }

@@ -9,15 +9,16 @@ use Rattle.sql_eval.specs.Writes.{written_table}
 use Rattle.journal.specs.Runs.{IsLegal, NumbersBelow}
 use Rattle.journal.specs.Views.{SeatView, PassView}
 use Rattle.journal.proofs.Fronts.{prefix_trans}
-use Rattle.shard_run.specs.declared.Shard.{Shard}
+use Rattle.shard_run.specs.declared.ShardRecord.{ShardRecord}
 use Rattle.shard_run.specs.declared.Entry.{Entry}
-use Rattle.shard_run.specs.Runs.{Run, Opening, held, entries_on, stored_on}
+use Rattle.shard_run.specs.Runs.{Run, Opening, shard_rows, entries_on, stored_on}
 use Rattle.shard_run.specs.Openings.{row_count}
 use Rattle.shard_law.proofs.Lists.{all-weaker}
 use Rattle.shard_law.proofs.Typed.{table_there}
-use Rattle.shard_contents.specs.declared.limits.Limits.{Limits}
+use Rattle.shard_law.specs.declared.limits.Limits.{Limits}
 use Rattle.shard_contents.specs.declared.contents.Contents.{Contents}
-use Rattle.shard_contents.specs.Shards.{IsAfter, MayFollow, commit_of}
+use Rattle.shard_law.specs.Entries.{MayFollow, commit_of}
+use Rattle.shard_contents.specs.Shards.{IsAfter}
 use Rattle.shard_contents.specs.Commits.{HasRoom}
 use Rattle.shard_contents.specs.Transactions.{PendingView, IsClear, is_conflict, IsPending, IsPendingOf, entry_of, IsCommitAllRefusal}
 use Rattle.shard_contents.specs.inner.Transactions.{has_room_for, IsAllUnprepared}
@@ -32,7 +33,7 @@ use Rattle.shard.proofs.Totals.{room_for, no_room_for}
 
 module _ (o : Opening) (most : Limits) (seat : SeatView Entry) (c : Contents) (is : IsAfter o most seat c) (p : PassView Entry) (tx : PendingView)
     (clear : IsClear o c.shard seat.seen tx) (tied : IsPendingOf o c.shard tx p) (prior : IsPrefix p.seen seat.seen) where
-  abbrev s : Shard
+  abbrev s : ShardRecord
   s = c.shard
 
   -- a run that has no more entries on the slot
@@ -55,23 +56,23 @@ module _ (o : Opening) (most : Limits) (seat : SeatView Entry) (c : Contents) (i
     lawful session number low =
         pending_may o s is.opens run tx pending_here (commits.stands o most seat c is clear.serving run legal alone) clear_here.serving session number low
 
-    tables_held : length (held o run s) ≡ length o.schema.tables
+    tables_held : length (shard_rows o run s) ≡ length o.schema.tables
     tables_held =
-        sym (length-same c.store.rows (held o run s) (commits.rows o most seat c is clear.serving run legal alone))
+        sym (length-same c.store.rows (shard_rows o run s) (commits.rows o most seat c is clear.serving run legal alone))
         ∙ (commits.has o most seat c is clear.serving).tables
 
     -- its writes are on tables of the shard
-    written_there : AllByRecursion (λ w. written_table w < length (held o run s)) tx.writes
+    written_there : AllByRecursion (λ w. written_table w < length (shard_rows o run s)) tx.writes
     written_there =
-        all-weaker (IsTypedWrite o.schema) (λ w. written_table w < length (held o run s))
+        all-weaker (IsTypedWrite o.schema) (λ w. written_table w < length (shard_rows o run s))
         (λ w h. let a = table_there o.schema w h in let k = tables_held in omega (arith, a, k)) tx.writes pending_here.typed
 
     pub changes_there : AllByRecursion (λ c. changed_table c < length o.schema.tables) tx.changes
-    changes_there = all_there o.schema tx.writes (held o run s) tx.changes pending_here.typed pending_here.made
+    changes_there = all_there o.schema tx.writes (shard_rows o run s) tx.changes pending_here.typed pending_here.made
 
     tested : (entries stored' : ℕ) → entries ≡ length (entries_on s.slot seat.seen) → stored' ≡ length c.stored.items
         → has_room_for c.limits entries stored' (row_count c.store.rows) tx.changes
-        ≡ has_room_for most (length (entries_on s.slot run)) (length (stored_on s.slot run)) (row_count (held o run s)) tx.changes
+        ≡ has_room_for most (length (entries_on s.slot run)) (length (stored_on s.slot run)) (row_count (shard_rows o run s)) tx.changes
     tested entries stored' es ss =
         ap (λ (l : Limits). has_room_for l entries stored' (row_count c.store.rows) tx.changes) is.limits
         ∙ ap (λ (n : ℕ). has_room_for most n stored' (row_count c.store.rows) tx.changes) (es ∙ ap length (sym here))

@@ -18,7 +18,7 @@ use Rattle.vschema.specs.Schema.{no_table}
 use Rattle.vschema.specs.Database.{Database, SameRows, rows_of, same_row, without, applied, all_applied, changed_table, changed_row, lies_in, restrict, change_lies_in, restricted_changes}
 use Rattle.sql_eval.specs.Writes.{written_table}
 use Rattle.sql_eval.proofs.ChangeLemmas.{rows-same}
-use Rattle.shard_run.specs.declared.Shard.{Shard}
+use Rattle.shard_run.specs.declared.ShardRecord.{ShardRecord}
 use Rattle.shard_run.specs.declared.Follow as F
 use Rattle.shard_run.specs.declared.Commit as C
 use Rattle.shard_run.specs.declared.Mode.{Mode}
@@ -27,7 +27,7 @@ use Rattle.shard_run.specs.declared.Event.{Event}
 use Rattle.shard_run.specs.declared.Event.TheVariants.{Commit, Follow, Copy, Freeze, Thaw, Retire, Serve}
 use Rattle.shard_run.specs.declared.Entry.{Entry}
 use Rattle.shard_run.specs.Openings.{IsOpening, row_count}
-use Rattle.shard_run.specs.Runs.{Run, Opening, one, held, first_rows, mode, mode_from, mode_after, opening_rows, opening_part, is_opening, is_serving, is_on, is_stored, stored_on, stored_changes, entries_on, IsShardOf}
+use Rattle.shard_run.specs.Runs.{Run, Opening, database, shard_rows, first_rows, mode, mode_from, mode_after, opening_rows, opening_part, is_opening, answers_queries, is_on, is_stored, stored_on, stored_changes, entries_on, IsShardOf}
 use Rattle.shard_run.specs.Copies.{position, position_from, table_at, has_copied, is_copied, change_is_copied}
 use Rattle.shard_law.specs.Legal.{Legal, May, MayCommit, MayFollowSource, Had, AreChangesOf, IsOnItsSlot}
 use Rattle.shard_law.specs.Law.{SourcesApart, IsApartFrom, taken_rows, copied_rows}
@@ -43,7 +43,7 @@ use Rattle.shard_law.proofs.Copying.{copies_its_part, within_parts, held_long}
 use Rattle.shard_law.proofs.Stands.{is_shard, stands_where_it_served}
 use Rattle.shard_law.proofs.Law as law
 use Rattle.shard_law.proofs.Counts.{count, once, effect, tally, tally-cons, tally-append, tally-none, count_at, count-applied, count-all_applied, count-filter_in, count-permuted, Test, Keeps, passes, other_row, effect-away}
-use Rattle.shard_contents.specs.declared.limits.Limits.{Limits}
+use Rattle.shard_law.specs.declared.limits.Limits.{Limits}
 use Rattle.shard_contents.specs.Commits.{is_added, is_removed}
 use Rattle.shard_contents.specs.inner.Stores.{row_after}
 use Rattle.shard_contents.proofs.Bags.{length-same}
@@ -102,26 +102,26 @@ module _ (r : Row) (n : ℕ) where
       let s = sum_by-cons taken_at c changes in
       let t = sum_by-cons (takes r) c changes in
       let rest = takes_here changes m of.1 e in
-      let here = one c of.0 in
+      let here = database c of.0 in
       omega (arith, s, t, rest, here)
     where
-      one : (c : RowChange) → changed_table c ≡ m → taken_at c ≡ takes r c
-      one (Added k row) i = refl
-      one (Replaced k old new) i = ap (λ b. cond b (once r old) 0) (ap (λ z. z == n) i ∙ e)
-      one (Removed k row) i = ap (λ b. cond b (once r row) 0) (ap (λ z. z == n) i ∙ e)
+      database : (c : RowChange) → changed_table c ≡ m → taken_at c ≡ takes r c
+      database (Added k row) i = refl
+      database (Replaced k old new) i = ap (λ b. cond b (once r old) 0) (ap (λ z. z == n) i ∙ e)
+      database (Removed k row) i = ap (λ b. cond b (once r row) 0) (ap (λ z. z == n) i ∙ e)
 
   takes_away : (changes : List RowChange) (m : ℕ) → AreOf m changes → (m == n) ≡ false → sum_by taken_at changes ≡ 0
   takes_away [] m of e = refl
   takes_away (c ∷ changes) m of e =
       let s = sum_by-cons taken_at c changes in
       let rest = takes_away changes m of.1 e in
-      let here = one c of.0 in
+      let here = database c of.0 in
       omega (arith, s, rest, here)
     where
-      one : (c : RowChange) → changed_table c ≡ m → taken_at c ≡ 0
-      one (Added k row) i = refl
-      one (Replaced k old new) i = ap (λ b. cond b (once r old) 0) (ap (λ z. z == n) i ∙ e)
-      one (Removed k row) i = ap (λ b. cond b (once r row) 0) (ap (λ z. z == n) i ∙ e)
+      database : (c : RowChange) → changed_table c ≡ m → taken_at c ≡ 0
+      database (Added k row) i = refl
+      database (Replaced k old new) i = ap (λ b. cond b (once r old) 0) (ap (λ z. z == n) i ∙ e)
+      database (Removed k row) i = ap (λ b. cond b (once r row) 0) (ap (λ z. z == n) i ∙ e)
 
   -- those of writes
   pub written_there : (schema : VSchema) (writes : List Write) (db : Database) (changes : List RowChange) → AreChangesOf schema writes db changes → n < length db
@@ -192,15 +192,15 @@ one_exact (Replaced m old new) db within h =
     let e = ap (λ b. cond b (once old old) 0) (eq-eqb m m refl) in
     let o = once-itself old in
     let t = h old in
-    let one = without-length old (get_or db m []) (omega (arith, e, o, t)) in
+    let database = without-length old (get_or db m []) (omega (arith, e, o, t)) in
     let l = length-append (without old (get_or db m [])) (new ∷ []) in
-    omega (arith, one, l)
+    omega (arith, database, l)
 one_exact (Removed m row) db within h =
     let e = ap (λ b. cond b (once row row) 0) (eq-eqb m m refl) in
     let o = once-itself row in
     let t = h row in
-    let one = without-length row (get_or db m []) (omega (arith, e, o, t)) in
-    omega (arith, one)
+    let database = without-length row (get_or db m []) (omega (arith, e, o, t)) in
+    omega (arith, database)
 
 pub total_there : (changes : List RowChange) (db : Database) → AllByRecursion (λ c. changed_table c < length db) changes → AllThere changes db
     → row_count (all_applied changes db) + count_by is_removed changes ≡ row_count db + count_by is_added changes
@@ -212,12 +212,12 @@ total_there (c ∷ changes) db within h =
     (λ r m l.
     let k : m < length db = omega (arith, l, same) in
     subst (AreThere r m changes) (sym (count-applied r m c db k)) (h r m k).1) in
-    let one = ap row_count (one_applied c db n refl) in
+    let database = ap row_count (one_applied c db n refl) in
     let all = sum_by-set length db n (row_after c (get_or db n [])) [] within.0 in
     let exact = one_exact c db within.0 (λ r. (h r n within.0).0) in
     let a = by-cons is_added c changes (is_added c) refl in
     let d = by-cons is_removed c changes (is_removed c) refl in
-    omega (arith, rest, one, all, exact, a, d)
+    omega (arith, rest, database, all, exact, a, d)
 
 -- ---- the run up to a stored entry
 
@@ -289,25 +289,25 @@ follows_back o a b slot h =
 
 -- ---- a Follow that may come next
 
-module _ (o : Opening) (opens : IsOpening o) (run : Run) (legal : Legal o run) (t : Shard) (stands : IsOnItsSlot o run t) (f : F.Follow)
+module _ (o : Opening) (opens : IsOpening o) (run : Run) (legal : Legal o run) (t : ShardRecord) (stands : IsOnItsSlot o run t) (f : F.Follow)
     (m : MayFollowSource o run t f) (apart : SourcesApart o run t) where
   abbrev stored_there : Entry → Bool
   stored_there x = is_on f.source x && is_stored x.event
 
-  abbrev u : Shard
+  abbrev u : ShardRecord
   u = m.entry.shard
 
   abbrev changes : List RowChange
   changes = stored_changes m.entry.event
 
   in_run : In m.entry run × ((is_on f.source m.entry && is_stored m.entry.event) ≡ true)
-  in_run = In-from_filter (λ e. is_on f.source e && is_stored e.event) m.entry run (slice_get-In (stored_on f.source run) f.place m.entry m.stored)
+  in_run = In-from_filter (λ e. is_on f.source e && is_stored e.event) m.entry run (slice_get-In (stored_on f.source run) f.log_position m.entry m.stored)
 
   z : u.slot ≡ f.source
   z = eqb-true m.entry.shard.slot f.source (and_parts (is_on f.source m.entry) (is_stored m.entry.event) in_run.1).0
 
-  at : Nth (λ x. is_on f.source x && is_stored x.event) run f.place m.entry
-  at = nth_kept (λ x. is_on f.source x && is_stored x.event) run f.place m.entry m.stored
+  at : Nth (λ x. is_on f.source x && is_stored x.event) run f.log_position m.entry
+  at = nth_kept (λ x. is_on f.source x && is_stored x.event) run f.log_position m.entry m.stored
 
   legal_cut : Legal o (at.front ++ m.entry ∷ at.back)
   legal_cut = subst (Legal o) at.is legal
@@ -321,8 +321,8 @@ module _ (o : Opening) (opens : IsOpening o) (run : Run) (legal : Legal o run) (
   slots : Slots o run
   slots = law.slots o opens run legal
 
-  stood : (db : Database) × Had o run f.source f.place db
-  stood = stands_where_it_served o opens run legal t.slot f.source f.place m.next
+  stood : (db : Database) × Had o run f.source f.log_position db
+  stood = stands_where_it_served o opens run legal t.slot f.source f.log_position m.next
 
   earlier : (mid : Run) × (at.front ≡ stood.1.front ++ mid)
   earlier =
@@ -382,31 +382,31 @@ module _ (o : Opening) (opens : IsOpening o) (run : Run) (legal : Legal o run) (
 
   module _ (r : Row) (n : ℕ) where
     keeps_lies : (place : Place) → (l : List RowChange) → AllByRecursion (IsKept o.schema) l → AllByRecursion (Keeps (lies place)) l
-    keeps_lies place l h = all-weaker (IsKept o.schema) (Keeps (lies place)) one l h
+    keeps_lies place l h = all-weaker (IsKept o.schema) (Keeps (lies place)) database l h
       where
-        one : (c : RowChange) → IsKept o.schema c → Keeps (lies place) c
-        one (Added k row) e = tt
-        one (Replaced k old new) e = ap (λ z. ((table_at o.schema k).keyspace == place.keyspace) && has_id place.range z) e.0
-        one (Removed k row) e = tt
+        database : (c : RowChange) → IsKept o.schema c → Keeps (lies place) c
+        database (Added k row) e = tt
+        database (Replaced k old new) e = ap (λ z. ((table_at o.schema k).keyspace == place.keyspace) && has_id place.range z) e.0
+        database (Removed k row) e = tt
 
     keeps_copied : (l : List RowChange) → AllByRecursion (IsKept o.schema) l → AllByRecursion (Keeps copied) l
-    keeps_copied l h = all-weaker (IsKept o.schema) (Keeps copied) one l h
+    keeps_copied l h = all-weaker (IsKept o.schema) (Keeps copied) database l h
       where
-        one : (c : RowChange) → IsKept o.schema c → Keeps copied c
-        one (Added k row) e = tt
-        one (Replaced k old new) e = ap (has_copied o.schema run t.slot f.source k) e.1
-        one (Removed k row) e = tt
+        database : (c : RowChange) → IsKept o.schema c → Keeps copied c
+        database (Added k row) e = tt
+        database (Replaced k old new) e = ap (has_copied o.schema run t.slot f.source k) e.1
+        database (Removed k row) e = tt
 
     abbrev opposite : Test → Test
     opposite p k row = not (p k row)
 
     keeps_opposite : (p : Test) (l : List RowChange) → AllByRecursion (Keeps p) l → AllByRecursion (Keeps (opposite p)) l
-    keeps_opposite p l h = all-weaker (Keeps p) (Keeps (opposite p)) one l h
+    keeps_opposite p l h = all-weaker (Keeps p) (Keeps (opposite p)) database l h
       where
-        one : (c : RowChange) → Keeps p c → Keeps (opposite p) c
-        one (Added k row) e = tt
-        one (Replaced k old new) e = ap not e
-        one (Removed k row) e = tt
+        database : (c : RowChange) → Keeps p c → Keeps (opposite p) c
+        database (Added k row) e = tt
+        database (Replaced k old new) e = ap not e
+        database (Removed k row) e = tt
 
     -- where all changes pass a test that the row doesn't
     none_taken : (p : Test) → p n r ≡ false → (l : List RowChange) → AllByRecursion (Keeps p) l → AllByRecursion (λ c. passes p c ≡ true) l → (v : ℕ)
@@ -439,9 +439,9 @@ module _ (o : Opening) (opens : IsOpening o) (run : Run) (legal : Legal o run) (
       of_u = subst (Of o at.front) same_shard of_front
 
       live : Live o at.front u
-      live = record { of_run = of_u; answers = ap is_serving mc.serving }
+      live = record { of_run = of_u; answers = ap answers_queries mc.serving }
 
-      had : Had o run u.slot f.place (held o at.front u)
+      had : Had o run u.slot f.log_position (shard_rows o at.front u)
       had = record {
         front = at.front;
         back = m.entry ∷ at.back;
@@ -449,50 +449,50 @@ module _ (o : Opening) (opens : IsOpening o) (run : Run) (legal : Legal o run) (
         shard = u;
         of_run = is_shard o at.front u of_u;
         on = refl;
-        serves = ap is_serving mc.serving;
+        serves = ap answers_queries mc.serving;
         stored = ap (λ s. length (stored_on s at.front)) z ∙ at.count;
         rows = refl;
       }
 
-      part : SameRows (held o at.front u) (restrict o.schema u.place (one o at.front))
+      part : SameRows (shard_rows o at.front u) (restrict o.schema u.place (database o at.front))
       part = holds_its_part o opens at.front legal_front u live
 
-      there_before : n < length (held o run t) → AreThere r n (stored_changes m.entry.event) (count_at r n (held o at.front u))
+      there_before : n < length (shard_rows o run t) → AreThere r n (stored_changes m.entry.event) (count_at r n (shard_rows o at.front u))
       there_before l =
           let long = held_long o opens run t in
           let parts = within_here (within_parts o opens n) (omega (arith, l, long)) in
           let here = restricted-longer u.place o.schema.tables (opening_rows o) n parts.0 parts.1 in
           let held_u = held_long o opens at.front u in
-          let same = length-same (held o at.front u) (restrict o.schema u.place (one o at.front)) part in
-          let count_same : count_at r n (restrict o.schema u.place (one o at.front)) ≡ count_at r n (held o at.front u) =
-          count-permuted r (rows_of (held o at.front u) n) (rows_of (restrict o.schema u.place (one o at.front)) n)
-          (rows-same (held o at.front u) (restrict o.schema u.place (one o at.front)) part n) in
+          let same = length-same (shard_rows o at.front u) (restrict o.schema u.place (database o at.front)) part in
+          let count_same : count_at r n (restrict o.schema u.place (database o at.front)) ≡ count_at r n (shard_rows o at.front u) =
+          count-permuted r (rows_of (shard_rows o at.front u) n) (rows_of (restrict o.schema u.place (database o at.front)) n)
+          (rows-same (shard_rows o at.front u) (restrict o.schema u.place (database o at.front)) part n) in
           subst (λ v. AreThere r n (stored_changes m.entry.event) v) count_same
-          (subst (λ l. AreThere r n l (count_at r n (restrict o.schema u.place (one o at.front)))) (sym (ap stored_changes is))
-          (written_there r n o.schema c.statements (restrict o.schema u.place (one o at.front)) c.changes mc.meant (omega (arith, here, held_u, same))))
+          (subst (λ l. AreThere r n l (count_at r n (restrict o.schema u.place (database o at.front)))) (sym (ap stored_changes is))
+          (written_there r n o.schema c.statements (restrict o.schema u.place (database o at.front)) c.changes mc.meant (omega (arith, here, held_u, same))))
         where
-          within_here : ((n < length o.schema.tables) × (n < length (opening_rows o))) ⊎ ((s : Shard) → length (opening_part o s) ≤ n)
+          within_here : ((n < length o.schema.tables) × (n < length (opening_rows o))) ⊎ ((s : ShardRecord) → length (opening_part o s) ≤ n)
               → n < length (opening_part o t) → (n < length o.schema.tables) × (n < length (opening_rows o))
           within_here (inl h) l = h
           within_here (inr g) l = let k = g t in absurd (omega (arith, k, l))
 
-      same_count : lies t.place n r ≡ true → copied n r ≡ true → lies u.place n r ≡ true → count_at r n (held o run t) ≡ count_at r n (held o at.front u)
+      same_count : lies t.place n r ≡ true → copied n r ≡ true → lies u.place n r ≡ true → count_at r n (shard_rows o run t) ≡ count_at r n (shard_rows o at.front u)
       same_count a b d =
-          sym (count-filter_in r (lies_in u.place (table_at o.schema n)) d (rows_of (held o run t) n))
-          ∙ sym (count-permuted r (taken_rows o run t u n) (copied_rows o run t u n (held o at.front u))
-          (copies_its_part o opens run legal t u target_of source_of m.following apart_here f.place
-          (subst (λ s. position run t.slot s ≡ Some f.place) (sym z) m.next) (held o at.front u) had n))
+          sym (count-filter_in r (lies_in u.place (table_at o.schema n)) d (rows_of (shard_rows o run t) n))
+          ∙ sym (count-permuted r (taken_rows o run t u n) (copied_rows o run t u n (shard_rows o at.front u))
+          (copies_its_part o opens run legal t u target_of source_of m.following apart_here f.log_position
+          (subst (λ s. position run t.slot s ≡ Some f.log_position) (sym z) m.next) (shard_rows o at.front u) had n))
           ∙ count-filter_in r (λ row. lies_in t.place (table_at o.schema n) row && is_copied o.schema run t.slot u.slot n row)
           (and_from (lies_in t.place (table_at o.schema n) r) (is_copied o.schema run t.slot u.slot n r) a
-          (ap (λ s. is_copied o.schema run t.slot s n r) z ∙ b)) (rows_of (held o at.front u) n)
+          (ap (λ s. is_copied o.schema run t.slot s n r) z ∙ b)) (rows_of (shard_rows o at.front u) n)
 
-      pub there : n < length (held o run t) → AreThere r n f.changes (count_at r n (held o run t))
-      there l = subst (λ x. AreThere r n x (count_at r n (held o run t))) (sym m.filtered) (by (lies t.place n r) refl (copied n r) refl (lies u.place n r) refl)
+      pub there : n < length (shard_rows o run t) → AreThere r n f.changes (count_at r n (shard_rows o run t))
+      there l = subst (λ x. AreThere r n x (count_at r n (shard_rows o run t))) (sym m.filtered) (by (lies t.place n r) refl (copied n r) refl (lies u.place n r) refl)
         where
           by : (a : Bool) → lies t.place n r ≡ a → (b : Bool) → copied n r ≡ b → (d : Bool) → lies u.place n r ≡ d
-              → AreThere r n (filter (change_is_copied o.schema run t.slot f.source) (restricted_changes o.schema t.place (stored_changes m.entry.event))) (count_at r n (held o run t))
+              → AreThere r n (filter (change_is_copied o.schema run t.slot f.source) (restricted_changes o.schema t.place (stored_changes m.entry.event))) (count_at r n (shard_rows o run t))
           by true i true j true k =
-              let v = count_at r n (held o run t) in
+              let v = count_at r n (shard_rows o run t) in
               let first : AreThere r n (stored_changes m.entry.event) v =
               subst (λ v. AreThere r n (stored_changes m.entry.event) v) (sym (same_count i j k)) (there_before l) in
               there_filter r n copied j in_place (keeps_copied in_place kept_in) v
@@ -500,20 +500,20 @@ module _ (o : Opening) (opens : IsOpening o) (run : Run) (legal : Legal o run) (
           by false i b j d k =
               none_taken (lies t.place) i taken (keeps_lies t.place taken kept_taken)
               (all_taken (λ c. change_lies_in o.schema t.place c ≡ true) (all-passed (change_lies_in o.schema t.place) (stored_changes m.entry.event)))
-              (count_at r n (held o run t))
+              (count_at r n (shard_rows o run t))
           by true i false j d k =
               none_taken copied j taken (keeps_copied taken kept_taken) (all-passed (change_is_copied o.schema run t.slot f.source) in_place)
-              (count_at r n (held o run t))
+              (count_at r n (shard_rows o run t))
           by true i true j false k =
               none_taken (lies u.place) k taken (keeps_lies u.place taken kept_taken)
               (all_taken (λ c. change_lies_in o.schema m.entry.shard.place c ≡ true)
               (all-filter (λ c. change_lies_in o.schema m.entry.shard.place c ≡ true) (change_lies_in o.schema t.place) (stored_changes m.entry.event) inside))
-              (count_at r n (held o run t))
+              (count_at r n (shard_rows o run t))
 
-    there_all : n < length (held o run t) → AreThere r n f.changes (count_at r n (held o run t))
+    there_all : n < length (shard_rows o run t) → AreThere r n f.changes (count_at r n (shard_rows o run t))
     there_all l = by m.entry.event refl
       where
-        by : (ev : Event) → m.entry.event ≡ ev → AreThere r n f.changes (count_at r n (held o run t))
+        by : (ev : Event) → m.entry.event ≡ ev → AreThere r n f.changes (count_at r n (shard_rows o run t))
         by (Commit c) e = there c e l
         by (Follow g) e = absurd (not_followed (subst (May o at.front u) e may).following)
         by (Copy g) e = absurd (false≢true (ap is_stored (sym e) ∙ (and_parts (is_on f.source m.entry) (is_stored m.entry.event) in_run.1).1))
@@ -523,26 +523,26 @@ module _ (o : Opening) (opens : IsOpening o) (run : Run) (legal : Legal o run) (
         by Serve e = absurd (false≢true (ap is_stored (sym e) ∙ (and_parts (is_on f.source m.entry) (is_stored m.entry.event) in_run.1).1))
 
   -- the target's rows after a Follow are just as many as counts tell
-  pub follow_count : AllByRecursion (λ c. changed_table c < length (held o run t)) f.changes
-      → row_count (all_applied f.changes (held o run t)) + count_by is_removed f.changes ≡ row_count (held o run t) + count_by is_added f.changes
-  follow_count within = total_there f.changes (held o run t) within (λ r n l. there_all r n l)
+  pub follow_count : AllByRecursion (λ c. changed_table c < length (shard_rows o run t)) f.changes
+      → row_count (all_applied f.changes (shard_rows o run t)) + count_by is_removed f.changes ≡ row_count (shard_rows o run t) + count_by is_added f.changes
+  follow_count within = total_there f.changes (shard_rows o run t) within (λ r n l. there_all r n l)
 
 -- after a Follow the target has no more rows than it may, where counts tell so
-module _ (o : Opening) (most : Limits) (opens : IsOpening o) (run : Run) (legal : Legal o run) (t : Shard) (f : F.Follow)
+module _ (o : Opening) (most : Limits) (opens : IsOpening o) (run : Run) (legal : Legal o run) (t : ShardRecord) (f : F.Follow)
     (may : IsOnItsSlot o run t × MayFollowSource o run t f) where
   abbrev e : Entry
   e = record { shard = t; event = Follow f }
 
-  pub follow_within : (seen : Run) → seen ≡ run ++ e ∷ [] → SourcesApart o seen t → AllByRecursion (λ c. changed_table c < length (held o run t)) f.changes
-      → row_count (held o run t) + count_by is_added f.changes ≤ most.rows + count_by is_removed f.changes → row_count (held o seen t) ≤ most.rows
+  pub follow_within : (seen : Run) → seen ≡ run ++ e ∷ [] → SourcesApart o seen t → AllByRecursion (λ c. changed_table c < length (shard_rows o run t)) f.changes
+      → row_count (shard_rows o run t) + count_by is_added f.changes ≤ most.rows + count_by is_removed f.changes → row_count (shard_rows o seen t) ≤ most.rows
   follow_within seen is apart within few =
       let on : is_on t.slot e ≡ true = eq-eqb t.slot t.slot refl in
-      let now : held o seen t ≡ all_applied f.changes (held o run t) =
-      ap (λ r. held o r t) is ∙ ap (λ (l : List RowChange). all_applied l (first_rows o t)) (log-on run e t.slot on)
+      let now : shard_rows o seen t ≡ all_applied f.changes (shard_rows o run t) =
+      ap (λ r. shard_rows o r t) is ∙ ap (λ (l : List RowChange). all_applied l (first_rows o t)) (log-on run e t.slot on)
       ∙ applied-append (log t.slot run) f.changes (first_rows o t) in
       let rows = ap row_count now in
       let count = follow_count o opens run legal t may.0 f may.1 (λ a b a_of b_of i j overlap. apart a b (later a a_of) (later b b_of) i j overlap) within in
       omega (arith, few, rows, count)
     where
-      later : (s : Shard) → IsShardOf o run s → IsShardOf o seen s
+      later : (s : ShardRecord) → IsShardOf o run s → IsShardOf o seen s
       later s h = subst (λ r. IsShardOf o r s) (sym is) (is_shard o (run ++ e ∷ []) s (of-later o run e s (of_shard o run s h)))

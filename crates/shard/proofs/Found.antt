@@ -4,18 +4,18 @@ use Rattle.std.specs.Prelude.{Contains}
 use Rattle.std.proofs.lemmas.Bool.{eqb-true}
 use Rattle.std.proofs.lemmas.List.{append-nil, append_assoc}
 use mathlib.Core.List.{IsPrefix}
-use Rattle.shard_run.specs.declared.Shard.{Shard}
+use Rattle.shard_run.specs.declared.ShardRecord.{ShardRecord}
 use Rattle.shard_run.specs.declared.Entry.{Entry}
 use Rattle.shard_run.specs.declared.Mode.{Mode}
 use Rattle.shard_run.specs.declared.Mode.TheVariants.{Following, Serving, Retired, Dropped}
 use Rattle.shard_run.specs.Runs.{Run, Opening, IsShardOf, is_opening, is_on, entries_on, mode, mode_from}
 use Rattle.shard_law.specs.Legal.{IsOnItsSlot}
-use Rattle.shard_contents.specs.Shards.{ShardView}
+use Rattle.shard_law.specs.Entries.{ShardView}
 use Rattle.shard_law.proofs.Lists.{In, Contains-from_In, In-all, In-from_filter, In-map}
 use Rattle.shard_law.proofs.Since.{not_again}
 
 -- on a slot that isn't an opening one the shard has an entry
-entered : (o : Opening) (run : Run) (s : Shard) → IsOnItsSlot o run s → (mode o run s.slot ≡ Following → ⊥) → is_opening o s.slot ≡ false → (own : Run)
+entered : (o : Opening) (run : Run) (s : ShardRecord) → IsOnItsSlot o run s → (mode o run s.slot ≡ Following → ⊥) → is_opening o s.slot ≡ false → (own : Run)
     → entries_on s.slot run ≡ own → Contains (map (λ e. e.shard) run) s
 entered o run s stands lives closed [] none =
     absurd (lives (ap (λ b. mode_from (cond b Serving Following) (entries_on s.slot run)) closed ∙ ap (mode_from Following) none))
@@ -23,9 +23,9 @@ entered o run s stands lives closed (x ∷ own) is =
     let w = In-from_filter (is_on s.slot) x run (subst (In x) (sym is) (inl refl)) in
     let same : x.shard ≡ s = In-all (λ (y : Entry). y.shard.slot ≡ s.slot → y.shard ≡ s) x run stands.same w.0 (eqb-true x.shard.slot s.slot w.1) in
     Contains-from_In s (map (λ (y : Entry). y.shard) run)
-    (subst (λ (y : Shard). In y (map (λ (y : Entry). y.shard) run)) same (In-map (λ (y : Entry). y.shard) x run w.0))
+    (subst (λ (y : ShardRecord). In y (map (λ (y : Entry). y.shard) run)) same (In-map (λ (y : Entry). y.shard) x run w.0))
 
-pub of_run : (o : Opening) (run : Run) (s : Shard) → IsOnItsSlot o run s → (mode o run s.slot ≡ Following → ⊥) → IsShardOf o run s
+pub of_run : (o : Opening) (run : Run) (s : ShardRecord) → IsOnItsSlot o run s → (mode o run s.slot ≡ Following → ⊥) → IsShardOf o run s
 of_run o run s stands lives = by (is_opening o s.slot) refl
   where
     by : (b : Bool) → is_opening o s.slot ≡ b → IsShardOf o run s

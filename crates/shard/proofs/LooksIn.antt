@@ -26,14 +26,15 @@ use Rattle.journal.specs.Views.{SeatView, PassView, IsLater}
 use Rattle.journal.proofs.Fronts.{prefix_self}
 use Rattle.journal.proofs.Public.{numbers_later}
 use Rattle.shard_run.specs.declared.Entry.{Entry}
-use Rattle.shard_run.specs.declared.Shard.{Shard}
-use Rattle.shard_run.specs.Runs.{Run, Opening, held, is_serving, stored_on}
+use Rattle.shard_run.specs.declared.ShardRecord.{ShardRecord}
+use Rattle.shard_run.specs.Runs.{Run, Opening, shard_rows, answers_queries, stored_on}
 use Rattle.shard_run.specs.Openings.{row_count}
 use Rattle.shard_law.specs.Legal.{IsChangeOf}
 use Rattle.shard_law.proofs.Storable.{held_storable}
-use Rattle.shard_contents.specs.declared.limits.Limits.{Limits}
+use Rattle.shard_law.specs.declared.limits.Limits.{Limits}
 use Rattle.shard_contents.specs.declared.contents.Contents.{Contents}
-use Rattle.shard_contents.specs.Shards.{IsAfter, MayFollow, slot_of, commit_of, ShardView}
+use Rattle.shard_law.specs.Entries.{MayFollow, slot_of, commit_of, ShardView}
+use Rattle.shard_contents.specs.Shards.{IsAfter}
 use Rattle.shard_contents.specs.Transactions.{PendingView, IsClear, IsPendingOf, HasWrittenIn, IsWriteRefusal, touched_with, entry_of}
 use Rattle.shard_contents.specs.Transactions as t
 use Rattle.shard_contents.proofs.Bags.{rows_all, all_applied-same}
@@ -76,7 +77,7 @@ added_is tx w n m k l a b tables stored changes =
 
 -- a shard's state after a look, at which the transaction was clear
 module _ (o : Opening) (most : Limits) (seat : SeatView Entry) (c : Contents) (is : IsAfter o most seat c) (v : ShardView)
-    (view_is : record { seen = seat.seen; shard = c.shard } ≡ v) (s : Shard) (shards : v.shard ≡ s) (tx : PendingView) (clear_is : IsClear o s v.seen tx)
+    (view_is : record { seen = seat.seen; shard = c.shard } ≡ v) (s : ShardRecord) (shards : v.shard ≡ s) (tx : PendingView) (clear_is : IsClear o s v.seen tx)
     (legal_is' : IsLegal (MayFollow o) v.seen) where
   shard_is : c.shard ≡ s
   shard_is = ap (λ (x : ShardView). x.shard) view_is ∙ shards
@@ -88,53 +89,53 @@ module _ (o : Opening) (most : Limits) (seat : SeatView Entry) (c : Contents) (i
   legal = subst (IsLegal (MayFollow o)) (sym seen_is) legal_is'
 
   clear : IsClear o c.shard seat.seen tx
-  clear = subst (λ (u : Shard). IsClear o u seat.seen tx) (sym shard_is) (subst (λ (r : Run). IsClear o s r tx) (sym seen_is) clear_is)
+  clear = subst (λ (u : ShardRecord). IsClear o u seat.seen tx) (sym shard_is) (subst (λ (r : Run). IsClear o s r tx) (sym seen_is) clear_is)
 
   -- the rows with the seat with more changes, and those of the run
-  same_behind : (changes : List RowChange) → SameRows (all_applied changes c.store.rows) (all_applied changes (held o seat.seen c.shard))
-  same_behind changes =
-      all_applied-same changes c.store.rows (held o seat.seen c.shard)
+  same_past : (changes : List RowChange) → SameRows (all_applied changes c.store.rows) (all_applied changes (shard_rows o seat.seen c.shard))
+  same_past changes =
+      all_applied-same changes c.store.rows (shard_rows o seat.seen c.shard)
       (commits.rows o most seat c is clear.serving seat.seen legal refl)
 
-  held_is : held o seat.seen c.shard ≡ held o v.seen s
-  held_is = ap (λ (u : Shard). held o seat.seen u) shard_is ∙ ap (λ (r : Run). held o r s) seen_is
+  held_is : shard_rows o seat.seen c.shard ≡ shard_rows o v.seen s
+  held_is = ap (λ (u : ShardRecord). shard_rows o seat.seen u) shard_is ∙ ap (λ (r : Run). shard_rows o r s) seen_is
 
-  same_there : (changes : List RowChange) → SameRows (all_applied changes c.store.rows) (all_applied changes (held o v.seen s))
-  same_there changes = subst (λ (db : Database). SameRows (all_applied changes c.store.rows) (all_applied changes db)) held_is (same_behind changes)
+  same_there : (changes : List RowChange) → SameRows (all_applied changes c.store.rows) (all_applied changes (shard_rows o v.seen s))
+  same_there changes = subst (λ (db : Database). SameRows (all_applied changes c.store.rows) (all_applied changes db)) held_is (same_past changes)
 
   pub tables : length c.store.rows ≡ length o.schema.tables
   tables = (commits.has o most seat c is clear.serving).tables
 
   pub few : row_count c.store.rows ≤ 2 ^ 20
   few =
-      let within = (commits.has o most seat c is clear.serving).within (ap is_serving clear.serving) in
+      let within = (commits.has o most seat c is clear.serving).within (ap answers_queries clear.serving) in
       let most_rows = is.most_rows in
       omega (arith, within, most_rows)
 
   pub stored_is : length c.stored.items ≡ length (stored_on s.slot v.seen)
   stored_is =
-      ap length (commits.has o most seat c is clear.serving).stored ∙ ap (λ (u : Shard). length (stored_on u.slot seat.seen)) shard_is
+      ap length (commits.has o most seat c is clear.serving).stored ∙ ap (λ (u : ShardRecord). length (stored_on u.slot seat.seen)) shard_is
       ∙ ap (λ (r : Run). length (stored_on s.slot r)) seen_is
 
   -- what a query gives over those with the seat it may give over those of the run
   pub allowed : (changes : List RowChange) (q : Query) (rows : List Row) → Allowed q (all_applied changes c.store.rows) rows
-      → Allowed q (all_applied changes (held o v.seen s)) rows
+      → Allowed q (all_applied changes (shard_rows o v.seen s)) rows
   allowed changes q rows answer =
-      same_allowed q (all_applied changes c.store.rows) (all_applied changes (held o v.seen s)) rows (same_there changes) answer
+      same_allowed q (all_applied changes c.store.rows) (all_applied changes (shard_rows o v.seen s)) rows (same_there changes) answer
 
   -- so are the changes of a write, and its refusal
   pub changed : (changes : List RowChange) (schema : VSchema) → schema ≡ o.schema → (w : Write) (more : List RowChange)
-      → changes_of schema w (all_applied changes c.store.rows) ≡ Ok more → IsChangeOf o.schema w (all_applied changes (held o v.seen s)) more
+      → changes_of schema w (all_applied changes c.store.rows) ≡ Ok more → IsChangeOf o.schema w (all_applied changes (shard_rows o v.seen s)) more
   changed changes schema e w more h =
-      change_same o.schema w (all_applied changes c.store.rows) (all_applied changes (held o v.seen s)) more (same_there changes)
+      change_same o.schema w (all_applied changes c.store.rows) (all_applied changes (shard_rows o v.seen s)) more (same_there changes)
       (more, ap (λ (x : VSchema). changes_of x w (all_applied changes c.store.rows)) (sym e) ∙ h, IsPermutation-refl more)
 
   pub duplicate : (changes : List RowChange) (schema : VSchema) → schema ≡ o.schema → (w : Write)
-      → changes_of schema w (all_applied changes c.store.rows) ≡ Err DuplicateKey → changes_of o.schema w (all_applied changes (held o v.seen s)) ≡ Err DuplicateKey
+      → changes_of schema w (all_applied changes c.store.rows) ≡ Err DuplicateKey → changes_of o.schema w (all_applied changes (shard_rows o v.seen s)) ≡ Err DuplicateKey
   duplicate changes schema e w h =
       let n = written_table w in
       let a = all_applied changes c.store.rows in
-      let b = all_applied changes (held o v.seen s) in
+      let b = all_applied changes (shard_rows o v.seen s) in
       (same_changes (get_or o.schema.tables n no_table) w (rows_of a n) (rows_of b n) (rows-same a b (same_there changes) n)).refused
       (ap (λ (x : VSchema). changes_of x w a) (sym e) ∙ h)
 
@@ -173,7 +174,7 @@ module _ (o : Opening) (most : Limits) (seat : SeatView Entry) (c : Contents) (i
         (numbers_later slot_of commit_of (MayFollow o) old p p v.seen of.session p.statements of.is refl (above of.session of.is) later)
 
     tied : IsPendingOf o c.shard tx p
-    tied = subst (λ (u : Shard). IsPendingOf o u tx p) (sym shard_is) tied_is
+    tied = subst (λ (u : ShardRecord). IsPendingOf o u tx p) (sym shard_is) tied_is
 
     may : MayFollow o seat.seen (entry_of c.shard of.session p.statements tx.writes tx.changes)
     may =
@@ -187,7 +188,7 @@ module _ (o : Opening) (most : Limits) (seat : SeatView Entry) (c : Contents) (i
     e = entry_of c.shard of.session p.statements tx.writes tx.changes
 
     storable : (n : ℕ) → AllByRecursion (λ row. is_storable (get_or o.schema.tables n no_table) row ≡ true)
-        (rows_of (all_applied tx.changes (held o seat.seen c.shard)) n)
+        (rows_of (all_applied tx.changes (shard_rows o seat.seen c.shard)) n)
     storable n =
         let serves = clear.serving in
         let l = then.legal_then o is.opens c.shard seat.seen is.stands legal serves of.session p.statements low tx.writes tx.changes may in
@@ -201,5 +202,5 @@ module _ (o : Opening) (most : Limits) (seat : SeatView Entry) (c : Contents) (i
     summed q few =
         sources_summed o.schema q (all_applied tx.changes c.store.rows)
         (λ n. rows_all (λ row. is_storable (get_or o.schema.tables n no_table) row ≡ true) (all_applied tx.changes c.store.rows)
-        (all_applied tx.changes (held o seat.seen c.shard)) (same_behind tx.changes) n (storable n))
+        (all_applied tx.changes (shard_rows o seat.seen c.shard)) (same_past tx.changes) n (storable n))
         few

@@ -18,17 +18,17 @@ use Rattle.sql_eval.specs.Writes.{written_table, changes_over}
 use Rattle.journal.specs.Runs.{IsLegal, NumbersBelow}
 use Rattle.journal.specs.Views.{PassView}
 use Rattle.journal.proofs.Fronts.{prefix_trans}
-use Rattle.shard_run.specs.declared.Shard.{Shard}
+use Rattle.shard_run.specs.declared.ShardRecord.{ShardRecord}
 use Rattle.shard_run.specs.declared.Mode.TheVariants.{Following, Serving}
 use Rattle.shard_run.specs.declared.Entry.{Entry}
-use Rattle.shard_run.specs.Runs.{Run, Opening, held, first_rows, mode, stored_on}
+use Rattle.shard_run.specs.Runs.{Run, Opening, shard_rows, first_rows, mode, stored_on}
 use Rattle.shard_law.specs.Legal.{IsOnItsSlot, IsChangeOf, AreChangesOf}
 use Rattle.shard_run.specs.Openings.{IsOpening}
 use Rattle.shard_law.proofs.Databases.{length-all_applied}
 use Rattle.shard_law.proofs.Lists.{AllByRecursion-push, all-weaker}
 use Rattle.shard_law.proofs.Runs.{log}
-use Rattle.shard_contents.specs.declared.touch.Touch.{Touch}
-use Rattle.shard_contents.specs.Shards.{MayFollow, commit_of}
+use Rattle.shard_contents.specs.declared.touched_table.Touch.{Touch}
+use Rattle.shard_law.specs.Entries.{MayFollow, commit_of}
 use Rattle.shard_contents.specs.Commits.{IsPlaced}
 use Rattle.shard_contents.specs.Transactions.{PendingView, nothing_done, is_changed, is_conflict, is_touched, touched_with, touched_all, IsClear, IsTouchBy, IsPending, IsPendingOf, HasReadIn, HasWrittenIn, entry_of}
 use Rattle.shard.proofs.Conflicts.{same_rows, stored_is}
@@ -106,13 +106,13 @@ changes_agree schema touched a b long same (w ∷ writes) changes on (first, res
     )
 
 -- a touch of a table after which no entry has changed it
-record Touched (o : Opening) (s : Shard) (old : Run) (stored : List Entry) (n : ℕ) : Type 0 where
+record Touched (o : Opening) (s : ShardRecord) (old : Run) (stored : List Entry) (n : ℕ) : Type 0 where
   touch : Touch
   at : touch.table ≡ n
   is : IsTouchBy o s old touch
   clear : is_changed stored touch ≡ false
 
-find : (o : Opening) (s : Shard) (old : Run) (stored : List Entry) (touched : List Touch) → AllByRecursion (IsTouchBy o s old) touched
+find : (o : Opening) (s : ShardRecord) (old : Run) (stored : List Entry) (touched : List Touch) → AllByRecursion (IsTouchBy o s old) touched
     → is_conflict stored touched ≡ false → (n : ℕ) → is_touched touched n ≡ true → Touched o s old stored n
 find o s old stored [] all clear n h = absurd (false≢true h)
 find o s old stored (t ∷ touched) all clear n h =
@@ -125,24 +125,24 @@ find o s old stored (t ∷ touched) all clear n h =
         record { touch = t; at = eqb-true t.table n e; is = all.0; clear = (no_or (is_changed stored t) (is_conflict stored touched) clear).0 }
     by false e h rest = rest h
 
-module _ (o : Opening) (s : Shard) where
+module _ (o : Opening) (s : ShardRecord) where
   -- as many tables after each run
-  pub held-long : (a b : Run) → length (held o a s) ≡ length (held o b s)
+  pub held-long : (a b : Run) → length (shard_rows o a s) ≡ length (shard_rows o b s)
   held-long a b = length-all_applied (log s.slot a) (first_rows o s) ∙ sym (length-all_applied (log s.slot b) (first_rows o s))
 
   module _ (old new : Run) (later : IsPrefix old new) (legal : IsLegal (MayFollow o) new) (touched : List Touch) (touches : AllByRecursion (IsTouchBy o s old) touched)
       (clear : is_conflict (stored_on s.slot new) touched ≡ false) where
     -- the rows of a touched table are those of the earlier run
-    pub rows_stay : (n : ℕ) → is_touched touched n ≡ true → rows_of (held o new s) n ≡ rows_of (held o old s) n
+    pub rows_stay : (n : ℕ) → is_touched touched n ≡ true → rows_of (shard_rows o new s) n ≡ rows_of (shard_rows o old s) n
     rows_stay n h =
         let f = find o s old (stored_on s.slot new) touched touches clear n h in
         let past : mode o old s.slot ≡ Following → ⊥ = λ e. let i = f.is.serving in absurd (cc (i, e)) in
-        subst (λ k. rows_of (held o new s) k ≡ rows_of (held o old s) k) f.at (same_rows o s old new later legal past f.touch f.is.stored f.clear)
+        subst (λ k. rows_of (shard_rows o new s) k ≡ rows_of (shard_rows o old s) k) f.at (same_rows o s old new later legal past f.touch f.is.stored f.clear)
 
     -- and after the transaction's own changes
     pub rows_after_stay : (changes : List RowChange) (n : ℕ) → is_touched touched n ≡ true
-        → rows_of (all_applied changes (held o new s)) n ≡ rows_of (all_applied changes (held o old s)) n
-    rows_after_stay changes n h = same_after changes (held o new s) (held o old s) n (held-long new old) (rows_stay n h)
+        → rows_of (all_applied changes (shard_rows o new s)) n ≡ rows_of (all_applied changes (shard_rows o old s)) n
+    rows_after_stay changes n h = same_after changes (shard_rows o new s) (shard_rows o old s) n (held-long new old) (rows_stay n h)
 
     pub touches_later : mode o new s.slot ≡ Serving → AllByRecursion (IsTouchBy o s new) touched
     touches_later serving =
@@ -163,7 +163,7 @@ module _ (o : Opening) (s : Shard) where
   pending_later old new tx is later legal clear = record {
     legal = legal;
     made =
-        changes_agree o.schema tx.touched (held o old s) (held o new s) (held-long old new)
+        changes_agree o.schema tx.touched (shard_rows o old s) (shard_rows o new s) (held-long old new)
         (λ n h. sym (rows_stay old new later legal tx.touched is.touches clear.unchanged n h)) tx.writes tx.changes is.touched is.made;
     typed = is.typed;
     placed = is.placed;
@@ -192,13 +192,13 @@ module _ (o : Opening) (s : Shard) where
 
   pub pending_writes : (run : Run) (tx : PendingView) (t : Touch) (w : Write) (more : List RowChange) → IsPending o s run tx
       → t.table ≡ written_table w → IsTouchBy o s run t → IsTypedWrite o.schema w → IsPlaced o.schema s.place w
-      → IsChangeOf o.schema w (all_applied tx.changes (held o run s)) more
+      → IsChangeOf o.schema w (all_applied tx.changes (shard_rows o run s)) more
       → IsPending o s run (record { touched = touched_with tx.touched t; writes = tx.writes ++ w ∷ []; changes = tx.changes ++ more })
   pending_writes run tx t w more is at touch typed placed changed =
       let p = pending_touches run tx t is touch in
       record {
         legal = is.legal;
-        made = snoc o.schema tx.writes w (held o run s) tx.changes more is.made changed;
+        made = snoc o.schema tx.writes w (shard_rows o run s) tx.changes more is.made changed;
         typed = AllByRecursion-push (IsTypedWrite o.schema) tx.writes w is.typed typed;
         placed = AllByRecursion-push (IsPlaced o.schema s.place) tx.writes w is.placed placed;
         touched =
@@ -217,7 +217,7 @@ module _ (o : Opening) (s : Shard) where
       may_all o opens s run stands is.legal serves session number low tx.writes tx.changes is.made is.typed is.placed
 
 -- What a transaction is after a query, and after a write.
-module _ (o : Opening) (s : Shard) (p : PassView Entry) (now : Run) (tx new : PendingView) (tied : IsPendingOf o s tx p) (later : IsPrefix p.seen now)
+module _ (o : Opening) (s : ShardRecord) (p : PassView Entry) (now : Run) (tx new : PendingView) (tied : IsPendingOf o s tx p) (later : IsPrefix p.seen now)
     (legal : IsLegal (MayFollow o) now) where
   here : IsClear o s now tx → IsPending o s now tx
   here clear = pending_later o s tied.0 now tx tied.2 (prefix_trans tied.0 p.seen now tied.1 later) legal clear
@@ -243,10 +243,10 @@ module _ (o : Opening) (s : Shard) (p : PassView Entry) (now : Run) (tx new : Pe
       (pending_writes o s now tx (touch_at (written_table w)) w has.changes (here has.clear) refl (is_touch has.clear (written_table w)) typed placed has.changed)
 
 -- slot and place alone matter
-pub pending_same : (o : Opening) (s t : Shard) (run : Run) (tx : PendingView) → s.slot ≡ t.slot → s.place ≡ t.place → IsPending o s run tx → IsPending o t run tx
+pub pending_same : (o : Opening) (s t : ShardRecord) (run : Run) (tx : PendingView) → s.slot ≡ t.slot → s.place ≡ t.place → IsPending o s run tx → IsPending o t run tx
 pending_same o s t run tx slot place is =
-    let rows : held o run s ≡ held o run t =
-    ap (λ (i : ℕ). held o run (record s { slot = i })) slot ∙ ap (λ (p : Place). held o run (record s { slot = t.slot; place = p })) place in
+    let rows : shard_rows o run s ≡ shard_rows o run t =
+    ap (λ (i : ℕ). shard_rows o run (record s { slot = i })) slot ∙ ap (λ (p : Place). shard_rows o run (record s { slot = t.slot; place = p })) place in
     record {
       legal = is.legal;
       made = subst (λ (db : Database). AreChangesOf o.schema tx.writes db tx.changes) rows is.made;

@@ -9,7 +9,7 @@ use Rattle.std.specs.declared.cmp.Ordering.TheVariants.{Less, Equal, Greater}
 use Rattle.std.proofs.lemmas.Bool.{false≢true, eqb-true, eq-eqb, and_parts}
 use Rattle.std.proofs.lemmas.Cmp.{nat_list_cmp_total}
 use Rattle.keyrange.specs.Ranges.{is_before}
-use Rattle.shard_run.specs.declared.Shard.{Shard}
+use Rattle.shard_run.specs.declared.ShardRecord.{ShardRecord}
 use Rattle.shard_run.specs.Runs.{Run, Opening}
 use Rattle.shard_run.specs.Copies.{table_at, has_copied_all}
 use Rattle.shard_law.specs.Legal.{IsTableOf}
@@ -30,7 +30,7 @@ not_before_itself a h =
     let r = nat_list_cmp_total.antisymm a a in
     absurd (cc (e, r ∙ ap Rattle.std.specs.Ordering.ordering_reverse e))
 
-module _ (o : Opening) (run : Run) (t : Shard) (source : ℕ) where
+module _ (o : Opening) (run : Run) (t : ShardRecord) (source : ℕ) where
   -- this is the first so far
   pub record IsFound (n k : ℕ) : Type 0 where
     pub table : IsTableOf o.schema t.place.keyspace k

@@ -7,12 +7,13 @@ use Rattle.shard_run.specs.declared.Event.{Event}
 use Rattle.shard_run.specs.declared.Event.TheVariants.{Commit, Follow, Copy, Freeze, Thaw, Retire, Serve}
 use Rattle.shard_run.specs.declared.Entry.{Entry}
 use Rattle.shard_run.specs.Runs.{Run, Opening, is_on, is_stored, is_opening, entries_on, stored_on, mode, mode_from, mode_after}
-use Rattle.shard_contents.specs.declared.limits.Limits.{Limits}
+use Rattle.shard_law.specs.declared.limits.Limits.{Limits}
 use Rattle.shard_contents.specs.declared.contents.Contents.{Contents}
 use Rattle.shard_contents.specs.Progress.{steps_of, steps_on}
 use Rattle.shard_contents.specs.Kept.{kept_from}
 use Rattle.shard_contents.proofs.Kept.{kept_none}
-use Rattle.shard_contents.specs.Shards.{ShardView, Holds, Keeps, holds, dropped, IsAfter}
+use Rattle.shard_law.specs.Entries.{ShardView}
+use Rattle.shard_contents.specs.Shards.{Holds, Keeps, holds, dropped, IsAfter}
 
 -- what doesn't follow never follows again
 stays : (m : Mode) (event : Event) → (m ≡ Following → ⊥) → mode_after m event ≡ Following → ⊥
@@ -32,9 +33,9 @@ none_before : {X : Type 0} (xs ys : List X) → xs ++ ys ≡ [] → xs ≡ []
 none_before [] ys is = refl
 none_before (x ∷ xs) ys is = absurd (cc is)
 
-none_behind : {X : Type 0} (xs ys : List X) → xs ++ ys ≡ [] → ys ≡ []
-none_behind [] ys is = is
-none_behind (x ∷ xs) ys is = absurd (cc is)
+none_after : {X : Type 0} (xs ys : List X) → xs ++ ys ≡ [] → ys ≡ []
+none_after [] ys is = is
+none_after (x ∷ xs) ys is = absurd (cc is)
 
 -- an entry that isn't stored and is no step takes a shard out of following
 out : (m : Mode) (event : Event) (run : Run) → is_stored event ≡ false → steps_of event ≡ [] → mode_from (mode_after m event) run ≡ Following → ⊥

@@ -17,7 +17,7 @@ use Rattle.vschema.specs.declared.schema.Table.{Table}
 use Rattle.vschema.specs.declared.schema.VSchema.{VSchema}
 use Rattle.vschema.specs.Formed.{is_table}
 use Rattle.vschema.specs.Schema.{no_table}
-use Rattle.shard_run.specs.declared.Shard.{Shard}
+use Rattle.shard_run.specs.declared.ShardRecord.{ShardRecord}
 use Rattle.shard_run.specs.declared.Copied as C
 use Rattle.shard_run.specs.declared.Event.{Event}
 use Rattle.shard_run.specs.declared.Event.TheVariants.{Commit, Follow, Copy, Freeze, Thaw, Retire, Serve}
@@ -28,8 +28,8 @@ use Rattle.shard_run.specs.Openings.{IsOpening}
 use Rattle.shard_law.specs.Legal.{Legal, LegalFrom, IsOnItsSlot, May, IsTableOf}
 use Rattle.shard_law.specs.Law.{rows_copied}
 use Rattle.shard_law.proofs.Runs.{entries-off}
-use Rattle.shard_contents.specs.declared.forward.Step.{Step}
-use Rattle.shard_contents.specs.declared.forward.Step.TheVariants.{Followed, Copied}
+use Rattle.shard_contents.specs.declared.target_steps.TargetStep.{TargetStep}
+use Rattle.shard_contents.specs.declared.target_steps.TargetStep.TheVariants.{Followed, Copied}
 use Rattle.shard_contents.specs.Progress.{last_row, steps_of, steps_on}
 use Rattle.shard_contents.specs.Kept.{is_copy_from}
 use Rattle.shard_contents.specs.inner.Rowed.{row_of}
@@ -116,7 +116,7 @@ module _ (schema : VSchema) where
 -- ---- what it tells
 
 module _ (schema : VSchema) (keyspace source : ℕ) where
-  pub tells-same : (whole whole' : ℕ → Bool) (ends ends' : ℕ → Option Row) → ((m : ℕ) → whole' m ≡ whole m) → ((m : ℕ) → ends' m ≡ ends m) → (step : Option Step)
+  pub tells-same : (whole whole' : ℕ → Bool) (ends ends' : ℕ → Option Row) → ((m : ℕ) → whole' m ≡ whole m) → ((m : ℕ) → ends' m ≡ ends m) → (step : Option TargetStep)
       → Tells schema keyspace source whole ends step → Tells schema keyspace source whole' ends' step
   tells-same whole whole' ends ends' same rows _ (reached.none clear empty) =
       reached.none (λ m. same m ∙ clear m) (λ m. rows m ∙ empty m)
@@ -159,7 +159,7 @@ module _ (schema : VSchema) (keyspace source : ℕ) where
             let away : m ≢ n = λ same. false≢true (sym e ∙ eq-eqb m n same) in
             inr (among m (sym (other m away) ∙ all))
 
-    pub one_copy : (step : Option Step) → Tells schema keyspace source whole ends step → Tells schema keyspace source whole' ends' (Some (Copied source n place last row))
+    pub one_copy : (step : Option TargetStep) → Tells schema keyspace source whole ends step → Tells schema keyspace source whole' ends' (Some (Copied source n place last row))
     one_copy _ (reached.none clear empty) =
         copied-next (λ m all. absurd (false≢true (sym (clear m) ∙ all))) (λ m away e. empty m)
     one_copy _ (reached.copied k at done end is) = copied-next among nothing
@@ -199,20 +199,20 @@ module _ (schema : VSchema) (keyspace source : ℕ) where
 
 -- ---- over the steps of a run
 
-module _ (o : Opening) (target : Shard) (source : ℕ) where
-  abbrev whole_in : List Step → ℕ → Bool
+module _ (o : Opening) (target : ShardRecord) (source : ℕ) where
+  abbrev whole_in : List TargetStep → ℕ → Bool
   whole_in steps m = list_any (is_last_copy_of source m) steps
 
-  abbrev ends_in : List Step → ℕ → Option Row
+  abbrev ends_in : List TargetStep → ℕ → Option Row
   ends_in steps m = row_last source m None steps
 
-  abbrev TellsIn : List Step → Option Step → Type 0
+  abbrev TellsIn : List TargetStep → Option TargetStep → Type 0
   TellsIn steps step = Tells o.schema target.place.keyspace source (whole_in steps) (ends_in steps) step
 
-  Told : List Step → Type 0
+  Told : List TargetStep → Type 0
   Told steps = TellsIn steps (last_copy source None steps)
 
-  or_last : (steps : List Step) (x : Step) (m : ℕ) (b : Bool) → is_last_copy_of source m x ≡ b → whole_in (steps ++ x ∷ []) m ≡ (whole_in steps m || b)
+  or_last : (steps : List TargetStep) (x : TargetStep) (m : ℕ) (b : Bool) → is_last_copy_of source m x ≡ b → whole_in (steps ++ x ∷ []) m ≡ (whole_in steps m || b)
   or_last steps x m b e =
       list_any-append (is_last_copy_of source m) steps (x ∷ [])
       ∙ ap (λ c. whole_in steps m || c) (or_false (is_last_copy_of source m x) ∙ e)
@@ -225,11 +225,11 @@ module _ (o : Opening) (target : Shard) (source : ℕ) where
   or_none true = refl
   or_none false = refl
 
-  row_then : (steps : List Step) (x : Step) (m : ℕ) (r : Option Row) → row_of source m x ≡ r → ends_in (steps ++ x ∷ []) m ≡ later r (ends_in steps m)
+  row_then : (steps : List TargetStep) (x : TargetStep) (m : ℕ) (r : Option Row) → row_of source m x ≡ r → ends_in (steps ++ x ∷ []) m ≡ later r (ends_in steps m)
   row_then steps x m r e = row_last-push source m None steps x ∙ ap (λ q. later q (ends_in steps m)) e
 
   -- a step that copies nothing from there changes nothing
-  another : (steps : List Step) (x : Step) → is_copy_from source x ≡ false → Told steps → Told (steps ++ x ∷ [])
+  another : (steps : List TargetStep) (x : TargetStep) → is_copy_from source x ≡ false → Told steps → Told (steps ++ x ∷ [])
   unfolding Told
   another steps x away told =
       subst (TellsIn (steps ++ x ∷ []))
@@ -238,11 +238,11 @@ module _ (o : Opening) (target : Shard) (source : ℕ) where
       (λ m. or_last steps x m false (not_last x m away) ∙ or_none (whole_in steps m)) (λ m. row_then steps x m None (no_row x m away))
       (last_copy source None steps) told)
     where
-      not_last : (x : Step) (m : ℕ) → is_copy_from source x ≡ false → is_last_copy_of source m x ≡ false
+      not_last : (x : TargetStep) (m : ℕ) → is_copy_from source x ≡ false → is_last_copy_of source m x ≡ false
       not_last (Followed from place) m e = refl
       not_last (Copied from of place last row) m e = ap (λ b. (b && (of == m)) && last) e
 
-      no_row : (x : Step) (m : ℕ) → is_copy_from source x ≡ false → row_of source m x ≡ None
+      no_row : (x : TargetStep) (m : ℕ) → is_copy_from source x ≡ false → row_of source m x ≡ None
       no_row (Followed from place) m e = refl
       no_row (Copied from of place last row) m e = ap (λ b. if b && (of == m) then row else None) e
 
@@ -255,15 +255,15 @@ module _ (o : Opening) (target : Shard) (source : ℕ) where
       by r (s ∷ rows) = by s rows
 
   -- a Copy from there that may come
-  one_more : (steps : List Step) (c : C.Copied) → c.source ≡ source → IsTableOf o.schema target.place.keyspace c.table → whole_in steps c.table ≡ false
+  one_more : (steps : List TargetStep) (c : C.Copied) → c.source ≡ source → IsTableOf o.schema target.place.keyspace c.table → whole_in steps c.table ≡ false
       → ((m : ℕ) → IsTableOf o.schema target.place.keyspace m → is_named_before o.schema m c.table ≡ true → whole_in steps m ≡ true) → Told steps
-      → Told (steps ++ Copied c.source c.table c.place (is_last c) (last_row c.rows) ∷ [])
+      → Told (steps ++ Copied c.source c.table c.log_position (is_last c) (last_row c.rows) ∷ [])
   unfolding Told
   one_more steps c from of_table unfinished first told =
       subst (TellsIn (steps ++ x ∷ []))
       (sym (last_copy-push source None steps x ∙ ap (λ b. if b then Some x else last_copy source None steps) (eq-eqb c.source source from)
-      ∙ ap (λ s. Some (Copied s c.table c.place (is_last c) (last_row c.rows))) from))
-      (one_copy o.schema target.place.keyspace source (whole_in steps) (ends_in steps) c.table c.place (is_last c) (last_row c.rows) of_table unfinished first
+      ∙ ap (λ s. Some (Copied s c.table c.log_position (is_last c) (last_row c.rows))) from))
+      (one_copy o.schema target.place.keyspace source (whole_in steps) (ends_in steps) c.table c.log_position (is_last c) (last_row c.rows) of_table unfinished first
       (some_row c.rows) (whole_in (steps ++ x ∷ [])) (ends_in (steps ++ x ∷ []))
       (or_last steps x c.table (is_last c) (ap (λ b. (b && (c.table == c.table)) && is_last c) is_from ∙ ap (λ b. b && is_last c) (eq-eqb c.table c.table refl))
       ∙ ap (λ b. b || is_last c) unfinished)
@@ -277,8 +277,8 @@ module _ (o : Opening) (target : Shard) (source : ℕ) where
       ∙ ap (λ b. if b then last_row c.rows else None) (ne_eqb c.table m (λ e. away (sym e)))))
       (last_copy source None steps) told)
     where
-      x : Step
-      x = Copied c.source c.table c.place (is_last c) (last_row c.rows)
+      x : TargetStep
+      x = Copied c.source c.table c.log_position (is_last c) (last_row c.rows)
 
       is_from : (c.source == source) ≡ true
       is_from = eq-eqb c.source source from
@@ -299,11 +299,11 @@ module _ (o : Opening) (target : Shard) (source : ℕ) where
 
           this : (ev : Event) → May o run target ev → Told (steps_on target.slot run ++ steps_of ev)
           this (Commit c) is = nothing
-          this (Follow f) is = another (steps_on target.slot run) (Followed f.source f.place) refl told
+          this (Follow f) is = another (steps_on target.slot run) (Followed f.source f.log_position) refl told
           this (Copy c) is = at (c.source == source) refl
             where
               at : (b : Bool) → (c.source == source) ≡ b → Told (steps_on target.slot run ++ steps_of (Copy c))
-              at false away = another (steps_on target.slot run) (Copied c.source c.table c.place (is_last c) (last_row c.rows)) away told
+              at false away = another (steps_on target.slot run) (Copied c.source c.table c.log_position (is_last c) (last_row c.rows)) away told
               at true from =
                   let here = eqb-true c.source source from in
                   one_more (steps_on target.slot run) c here is.table
@@ -380,7 +380,7 @@ module _ (schema : VSchema) (keyspace source : ℕ) (whole : ℕ → Bool) (ends
           is.nothing m (λ same. false≢true (sym e ∙ eq-eqb n m (sym same))) left
           ∙ sym (ap (λ b. if b && (n == m) then row else None) from ∙ ap (λ b. if b then row else None) e)
 
-module _ (o : Opening) (run : Run) (target : Shard) (source : ℕ) where
+module _ (o : Opening) (run : Run) (target : ShardRecord) (source : ℕ) where
   -- a table that was begun comes next
   pub begun_next : (from n place : ℕ) (last : Bool) (row : Option Row) → IsLastCopy o run target source (Some (Copied from n place last row)) → last ≡ false
       → IsNextTable o run target source n
@@ -405,7 +405,7 @@ module _ (o : Opening) (run : Run) (target : Shard) (source : ℕ) where
           ∙ sym (ap (λ b. b || is_reached (table_at o.schema n) end row) e)
       by false e = tells ∙ ap (λ r. has_copied_all run target.slot source n || is_reached (table_at o.schema n) r row) (told e)
 
-  pub end_by : (x : Step) → IsLastCopy o run target source (Some x) → (n : ℕ) → has_copied_all run target.slot source n ≡ false
+  pub end_by : (x : TargetStep) → IsLastCopy o run target source (Some x) → (n : ℕ) → has_copied_all run target.slot source n ≡ false
       → last_row (rows_copied run target.slot source n) ≡ row_of source n x
   end_by _ (reached.copied k place last row is) n left =
       row_told o.schema target.place.keyspace source (has_copied_all run target.slot source) (λ m. last_row (rows_copied run target.slot source m)) k place last
@@ -426,7 +426,7 @@ module _ (o : Opening) (run : Run) (target : Shard) (source : ℕ) where
       m there
 
   -- without one nothing is wholly copied
-  pub none_whole : (step : Option Step) → IsLastCopy o run target source step
+  pub none_whole : (step : Option TargetStep) → IsLastCopy o run target source step
       → ((from n place : ℕ) (last : Bool) (row : Option Row) → step ≡ Some (Copied from n place last row) → ⊥) → (m : ℕ)
       → has_copied_all run target.slot source m ≡ false
   none_whole _ (reached.none clear empty) other m = clear m

@@ -2,14 +2,15 @@
 use Rattle.std.proofs.Common.{◌≡◌, List, length, sym, ap, subst, ◌∙◌}
 use Rattle.std.specs.Prelude.{Contains}
 use Rattle.journal.specs.Views.{SeatView}
-use Rattle.shard_run.specs.declared.Shard.{Shard}
+use Rattle.shard_run.specs.declared.ShardRecord.{ShardRecord}
 use Rattle.shard_run.specs.declared.Entry.{Entry}
 use Rattle.shard_run.specs.declared.Event.TheVariants as events
 use Rattle.shard_run.specs.declared.Mode.TheVariants.{Retired, Dropped}
 use Rattle.shard_run.specs.Runs.{Run, Opening, stored_on}
-use Rattle.shard_contents.specs.declared.limits.Limits.{Limits}
+use Rattle.shard_law.specs.declared.limits.Limits.{Limits}
 use Rattle.shard_contents.specs.declared.contents.Contents.{Contents}
-use Rattle.shard_contents.specs.Shards.{ShardView, Holds, Keeps, holds, dropped, IsAfter, Names}
+use Rattle.shard_law.specs.Entries.{ShardView}
+use Rattle.shard_contents.specs.Shards.{Holds, Keeps, holds, dropped, IsAfter, RetiredFor}
 
 still_holds : (o : Opening) (most : Limits) (run : Run) (c : Contents) → Keeps o most run c → c.mode ≡ Retired → Holds o most run c
 still_holds o most run c (holds h) is = h
@@ -17,7 +18,7 @@ still_holds o most run c (dropped gone m) is = let e : Dropped ≡ Retired = sym
 
 module _ (o : Opening) (most : Limits) (seat : SeatView Entry) (c : Contents) (v : ShardView) (after : IsAfter o most seat c)
     (view : record { seen = seat.seen; shard = c.shard } ≡ v) (is : c.mode ≡ Retired) where
-  pub retired : (targets : List Shard) → Names o seat.seen c.shard targets → Contains v.seen (record { shard = v.shard; event = events.Retire targets })
+  pub retired : (targets : List ShardRecord) → RetiredFor o seat.seen c.shard targets → Contains v.seen (record { shard = v.shard; event = events.Retire targets })
   retired targets names =
       subst (λ (v : ShardView). Contains v.seen (record { shard = v.shard; event = events.Retire targets })) view
       (names (sym (still_holds o most seat.seen c after.keeps is).mode ∙ is))

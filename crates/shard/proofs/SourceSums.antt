@@ -10,7 +10,7 @@ use Rattle.vschema.specs.declared.schema.Table.{Table}
 use Rattle.vschema.specs.declared.schema.VSchema.{VSchema}
 use Rattle.vschema.specs.Database.{Database, rows_of}
 use Rattle.vschema.specs.Schema.{no_table}
-use Rattle.vschema.specs.Sources.{padded, paired, is_pair, pairs_of, with_pairs, source_rows}
+use Rattle.vschema.specs.Sources.{padded_row, paired, is_pair, pairs_of, with_pairs, source_rows}
 use Rattle.vschema.specs.Storable.{is_storable}
 use Rattle.sql_eval.specs.Groups.{CanBeSummed}
 use Rattle.sql_eval.proofs.Pairs.{all_join}
@@ -26,13 +26,13 @@ rows_sum : (rows : List Row) → AllByRecursion FitsSums rows → length rows �
 rows_sum [] all few = (few, tt)
 rows_sum (row ∷ rows) all few = (few, (all.0.1.0, (rows_sum rows all.1 (omega (arith, few))).1))
 
-padded_all : (P : Value → Type 0) (width : ℕ) (row : Row) → AllByRecursion P row → P Null → AllByRecursion P (padded width row)
+padded_all : (P : Value → Type 0) (width : ℕ) (row : Row) → AllByRecursion P row → P Null → AllByRecursion P (padded_row width row)
 padded_all P zero row all null = tt
 padded_all P (suc width) [] all null = (null, padded_all P width [] tt null)
 padded_all P (suc width) (v ∷ row) all null = (all.0, padded_all P width row all.1 null)
 
 pair_sums : (j : Join) (a b : Row) → FitsSums a → FitsSums b → FitsSums (paired j a b)
-pair_sums j a b first second = (omega arith, (all_join _ (padded j.width a) b (padded_all _ j.width a first.1.0 tt) second.1.0, tt))
+pair_sums j a b first second = (omega arith, (all_join _ (padded_row j.width a) b (padded_all _ j.width a first.1.0 tt) second.1.0, tt))
 
 -- the pairs of rows, first those of one row
 partners_sum : (j : Join) (a : Row) (ys : List Row) → FitsSums a → AllByRecursion FitsSums ys → AllByRecursion FitsSums (map (paired j a) (filter (is_pair j a) ys))

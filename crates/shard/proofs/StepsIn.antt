@@ -8,14 +8,15 @@ use Rattle.journal.specs.Runs.{IsLegal, NumbersBelow}
 use Rattle.journal.specs.Views.{SeatView, PassView, IsLater}
 use Rattle.journal.proofs.Fronts.{prefix_self, prefix_trans}
 use Rattle.journal.proofs.Public.{numbers_later}
-use Rattle.shard_run.specs.declared.Shard.{Shard}
+use Rattle.shard_run.specs.declared.ShardRecord.{ShardRecord}
 use Rattle.shard_run.specs.declared.Entry.{Entry}
 use Rattle.shard_run.specs.declared.Mode.TheVariants.{Serving}
-use Rattle.shard_run.specs.Runs.{Run, Opening, mode, is_serving, entries_on}
+use Rattle.shard_run.specs.Runs.{Run, Opening, mode, answers_queries, entries_on}
 use Rattle.shard_run.specs.Openings.{row_count}
-use Rattle.shard_contents.specs.declared.limits.Limits.{Limits}
+use Rattle.shard_law.specs.declared.limits.Limits.{Limits}
 use Rattle.shard_contents.specs.declared.contents.Contents.{Contents}
-use Rattle.shard_contents.specs.Shards.{IsAfter, MayFollow, HasLooked, ShardView, slot_of, commit_of}
+use Rattle.shard_law.specs.Entries.{MayFollow, HasLooked, ShardView, slot_of, commit_of}
+use Rattle.shard_contents.specs.Shards.{IsAfter}
 use Rattle.shard_contents.specs.Transactions.{PendingView, IsClear, IsPendingOf, entry_of, IsCommitAllRefusal, HasCommittedAll}
 use Rattle.shard_contents.specs.inner.Transactions.{has_room_for, IsAllUnprepared}
 use Rattle.shard_contents.proofs.Commits as commits
@@ -23,7 +24,7 @@ use Rattle.shard.proofs.CommitsIn as k
 use Rattle.shard_contents.proofs.Looks as looks
 
 -- what is left of a commit that was made
-pub record Left (o : Opening) (most : Limits) (s : Shard) (seat' : SeatView Entry) (c' : Contents) (p : PassView Entry) (tx : PendingView) (now : PassView Entry)
+pub record Left (o : Opening) (most : Limits) (s : ShardRecord) (seat' : SeatView Entry) (c' : Contents) (p : PassView Entry) (tx : PendingView) (now : PassView Entry)
     (first : Run) : Type 0 where
   pub committed : HasCommittedAll o most s p tx now
   pub is_now : IsAfter o most seat' c'
@@ -33,7 +34,7 @@ pub record Left (o : Opening) (most : Limits) (s : Shard) (seat' : SeatView Entr
 
 -- the state after the look, and how it is seen
 module _ (o : Opening) (most : Limits) (seat : SeatView Entry) (c : Contents) (is : IsAfter o most seat c) (v : ShardView)
-    (view_is : record { seen = seat.seen; shard = c.shard } ≡ v) (s : Shard) (shards : v.shard ≡ s) (old : SeatView Entry) (p looked : PassView Entry)
+    (view_is : record { seen = seat.seen; shard = c.shard } ≡ v) (s : ShardRecord) (shards : v.shard ≡ s) (old : SeatView Entry) (p looked : PassView Entry)
     (tx : PendingView) (later : IsLater slot_of commit_of (MayFollow o) old p v.seen)
     (pass_is : looked ≡ record p { seen = v.seen; looks = p.looks ++ (s.slot, length v.seen) ∷ [] }) (tied_is : IsPendingOf o s tx p)
     (clear_is : IsClear o s v.seen tx) where
@@ -53,7 +54,7 @@ module _ (o : Opening) (most : Limits) (seat : SeatView Entry) (c : Contents) (i
   has_looked = looks.has_looked o s.slot old p looked v.seen later pass_is
 
   tied : IsPendingOf o c.shard tx p
-  tied = subst (λ (u : Shard). IsPendingOf o u tx p) (sym shard_is) tied_is
+  tied = subst (λ (u : ShardRecord). IsPendingOf o u tx p) (sym shard_is) tied_is
 
   prior : IsPrefix p.seen seat.seen
   prior = subst (IsPrefix p.seen) (sym seen_is) later.pass
@@ -62,11 +63,11 @@ module _ (o : Opening) (most : Limits) (seat : SeatView Entry) (c : Contents) (i
   legal_seen = subst (IsLegal (MayFollow o)) (sym seen_is) later.legal
 
   clear : IsClear o c.shard seat.seen tx
-  clear = subst (λ (u : Shard). IsClear o u seat.seen tx) (sym shard_is) (subst (λ (r : Run). IsClear o s r tx) (sym seen_is) clear_is)
+  clear = subst (λ (u : ShardRecord). IsClear o u seat.seen tx) (sym shard_is) (subst (λ (r : Run). IsClear o s r tx) (sym seen_is) clear_is)
 
   entries_are : (entries : ℕ) → entries ≡ length (entries_on s.slot v.seen) → entries ≡ length (entries_on c.shard.slot seat.seen)
   entries_are entries e =
-      e ∙ ap (λ (r : Run). length (entries_on s.slot r)) (sym seen_is) ∙ ap (λ (u : Shard). length (entries_on u.slot seat.seen)) (sym shard_is)
+      e ∙ ap (λ (r : Run). length (entries_on s.slot r)) (sym seen_is) ∙ ap (λ (u : ShardRecord). length (entries_on u.slot seat.seen)) (sym shard_is)
 
   pub there : AllByRecursion (λ x. changed_table x < length c.store.rows) tx.changes
   there =
@@ -74,14 +75,14 @@ module _ (o : Opening) (most : Limits) (seat : SeatView Entry) (c : Contents) (i
       (k.changes_there o most seat c is p tx clear tied prior seat.seen legal_seen (prefix_self seat.seen) refl)
 
   pub within : row_count c.store.rows ≤ most.rows
-  within = (commits.has o most seat c is clear.serving).within (ap is_serving clear.serving)
+  within = (commits.has o most seat c is clear.serving).within (ap answers_queries clear.serving)
 
   pub refused : (entries : ℕ) (e : Refusal) → entries ≡ length (entries_on s.slot v.seen)
       → IsAllUnprepared c.limits entries (vec_len c.stored) (row_count c.store.rows) tx.changes e → IsCommitAllRefusal o most s looked.seen tx e
   refused entries e es why =
       let h = k.refused o most seat c is p tx clear tied prior seat.seen legal_seen (prefix_self seat.seen) refl entries (vec_len c.stored) e (entries_are entries es)
       c.stored.ok.0 why in
-      subst (λ (u : Shard). IsCommitAllRefusal o most u looked.seen tx e) shard_is
+      subst (λ (u : ShardRecord). IsCommitAllRefusal o most u looked.seen tx e) shard_is
       (subst (λ (r : Run). IsCommitAllRefusal o most c.shard r tx e) (seen_is ∙ sym looked_seen) h)
 
   module _ (session number : ℕ) (mine : p.session ≡ Some session) (low : NumbersBelow commit_of session number p.seen) (run : Run)
@@ -108,10 +109,10 @@ module _ (o : Opening) (most : Limits) (seat : SeatView Entry) (c : Contents) (i
         let has = k.has_room o most seat c is p tx clear tied prior run next.legal next.seat next.alone entries (vec_len c.stored) (entries_are entries es) c.stored.ok.0 fits in
         record {
           committed =
-              subst (λ (u : Shard). HasCommittedAll o most u p tx now) shard_is
+              subst (λ (u : ShardRecord). HasCommittedAll o most u p tx now) shard_is
               (record {
                 looked = looked;
-                look = subst (λ (u : Shard). HasLooked o u.slot p looked) (sym shard_is) has_looked;
+                look = subst (λ (u : ShardRecord). HasLooked o u.slot p looked) (sym shard_is) has_looked;
                 before = run;
                 later = next.pass;
                 own = λ n own. next.own n (session_is ∙ own) ∙ has_looked.own n own;

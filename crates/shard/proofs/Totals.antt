@@ -24,11 +24,11 @@ use Rattle.sql_eval.proofs.ChangeLemmas.{ok_is}
 use Rattle.journal.proofs.Counts.{count-append}
 use Rattle.shard_law.proofs.Counts.{count, once, same_self, count-none, count-append as row_count-append, count-one, count-without}
 use Rattle.shard_law.proofs.Databases.{length-all_applied}
-use Rattle.shard_run.specs.declared.Shard.{Shard}
-use Rattle.shard_run.specs.Runs.{Opening, Run, held, entries_on, stored_on}
+use Rattle.shard_run.specs.declared.ShardRecord.{ShardRecord}
+use Rattle.shard_run.specs.Runs.{Opening, Run, shard_rows, entries_on, stored_on}
 use Rattle.shard_law.specs.Legal.{AreChangesOf}
 use Rattle.shard_run.specs.Openings.{row_count}
-use Rattle.shard_contents.specs.declared.limits.Limits.{Limits}
+use Rattle.shard_law.specs.declared.limits.Limits.{Limits}
 use Rattle.shard_contents.specs.Commits.{HasRoom, is_added, is_removed}
 use Rattle.shard_contents.specs.inner.Transactions.{has_room_for}
 use Rattle.shard_contents.proofs.Changes.{AreOf, of_table}
@@ -193,10 +193,10 @@ total schema (w ∷ writes) db changes (first, rest, split, (exact, is, of), are
     subst (λ l. row_count (all_applied l db) + count_by is_removed l ≡ row_count db + count_by is_added l) (sym split)
     (omega (arith, one, all, more, r, a, e))
 
-module _ (schema : VSchema) (limits : Limits) (o : Opening) (s : Shard) (run : Run) (writes : List Write) (changes : List RowChange)
-    (made : AreChangesOf schema writes (held o run s) changes) (there : AllByRecursion (λ w. written_table w < length (held o run s)) writes) where
+module _ (schema : VSchema) (limits : Limits) (o : Opening) (s : ShardRecord) (run : Run) (writes : List Write) (changes : List RowChange)
+    (made : AreChangesOf schema writes (shard_rows o run s) changes) (there : AllByRecursion (λ w. written_table w < length (shard_rows o run s)) writes) where
   abbrev db : Database
-  db = held o run s
+  db = shard_rows o run s
 
   abbrev k : ℕ
   k = length (entries_on s.slot run)

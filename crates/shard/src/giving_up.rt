@@ -7,13 +7,13 @@ ghost use Rattle.shard_run.specs.Runs.{mode};
 use crate::state::ShardState;
 use crate::world::World;
 use journal::Naming;
-use shard_run::Shard;
+use shard_run::ShardRecord;
 
 impl<W: World, J: Naming> ShardState<W, J> {
     // Promise: A shard that is retired tells the targets that its entry names. Whether a target's workflow was given up no run tells
     // With: ShardState::{named, give_up}
     /// The targets that a retired shard named.
-    pub fn named(&self) -> &[Shard]
+    pub fn named(&self) -> &[ShardRecord]
         ensures { mode W.opening self.now.seen self.now.shard.slot ≡ Mode.Retired
             → Contains self.now.seen (record { shard = self.now.shard; event = Event.Retire result.now }) }
     {

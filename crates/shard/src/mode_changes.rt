@@ -2,7 +2,7 @@
 ghost use Rattle.std.specs.Prelude.{◌≡◌, ◌<◌, ◌≤◌, ◌^◌, ◌++◌, ◌∷◌, [], length};
 ghost use mathlib.Core.List.{IsPrefix};
 ghost use Rattle.shard_run.specs.declared.Event.{Event};
-ghost use Rattle.shard_run.specs.Runs.{mode, entries_on, held};
+ghost use Rattle.shard_run.specs.Runs.{mode, entries_on, shard_rows};
 ghost use Rattle.shard_run.specs.Openings.{row_count};
 ghost use Rattle.shard_law.specs.Legal.{MayRetire, MayServe};
 ghost use Rattle.shard.specs.Modes.{HasLookedTwice, HasChangedMode};
@@ -10,7 +10,7 @@ ghost use Rattle.shard.specs.Modes.{HasLookedTwice, HasChangedMode};
 use crate::state::{ShardState, append_event};
 use crate::world::{ShardLaw, World};
 use journal::{Naming, Pass};
-use shard_run::{Event, Mode, Shard};
+use shard_run::{Event, Mode, ShardRecord};
 use std::mem::replace;
 use vt_value::Items;
 
@@ -69,7 +69,7 @@ impl<W: World, J: Naming> ShardState<W, J> {
 
     /// It gives its rows to the targets, which have it as a source, don't overlap, and together hold its place: two looks in a row, and one
     /// entry. Takes no memory.
-    pub fn retire(&mut self, pass: &mut Pass<ShardLaw<W>, J>, targets: Items<Shard>)
+    pub fn retire(&mut self, pass: &mut Pass<ShardLaw<W>, J>, targets: Items<ShardRecord>)
         requires may { MayRetire W.opening self.old.seen self.old.shard targets }
         ensures changed { HasChangedMode W.opening self.old (Event.Retire targets) pass.old pass.new }
         ensures seen { self.new.seen ≡ pass.new.seen }
@@ -95,7 +95,7 @@ impl<W: World, J: Naming> ShardState<W, J> {
         requires following { mode W.opening self.old.seen self.old.shard.slot ≡ Mode.Following }
         requires looked { entries_on self.old.shard.slot pass.old.seen ≡ entries_on self.old.shard.slot self.old.seen }
         requires may { MayServe W.opening pass.old.seen self.old.shard }
-        requires within { row_count (held W.opening self.old.seen self.old.shard) ≤ W.limits.rows }
+        requires within { row_count (shard_rows W.opening self.old.seen self.old.shard) ≤ W.limits.rows }
         ensures changed { HasChangedMode W.opening self.old Event.Serve pass.old pass.new }
         ensures seen { self.new.seen ≡ pass.new.seen }
         ensures shard { self.new.shard ≡ self.old.shard }

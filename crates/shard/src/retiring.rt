@@ -1,16 +1,16 @@
 //! What a retired shard tells of the shards that take its place.
 ghost use Rattle.std.specs.Prelude.{◌≡◌, true, List, Contains, length};
 ghost use Rattle.shard_run.specs.declared.Event.{Event};
-ghost use Rattle.shard_run.specs.declared.Shard as which;
+ghost use Rattle.shard_run.specs.declared.ShardRecord as which;
 ghost use Rattle.shard_run.specs.Runs.{stored_on};
 
 use crate::state::ShardState;
 use crate::world::World;
 use journal::Naming;
 use shard_contents::Contents;
-use shard_run::{Mode, Shard};
+use shard_run::{Mode, ShardRecord};
 
-fn is_same(one: &Shard, other: &Shard) -> bool
+fn is_same(one: &ShardRecord, other: &ShardRecord) -> bool
     ensures { result ≡ true → one.now ≡ other.now }
 {
     one.slot == other.slot
@@ -19,7 +19,7 @@ fn is_same(one: &Shard, other: &Shard) -> bool
         && one.sources.as_slice() == other.sources.as_slice()
 }
 
-fn is_among(shard: &Shard, shards: &[Shard]) -> bool
+fn is_among(shard: &ShardRecord, shards: &[ShardRecord]) -> bool
     ensures { result ≡ true → Contains shards.now shard.now }
 {
     for other in shards {
@@ -45,14 +45,14 @@ impl<W: World, J: Naming> ShardState<W, J> {
     // With: ShardState::{is_retired_for, drop_rows}
     /// Whether it is retired, and its rows are still there.
     pub fn is_retired(&self) -> bool
-        ensures { result ≡ true → (targets : List which.Shard) × Contains self.now.seen (record { shard = self.now.shard; event = Event.Retire targets }) }
+        ensures { result ≡ true → (targets : List which.ShardRecord) × Contains self.now.seen (record { shard = self.now.shard; event = Event.Retire targets }) }
     {
         is_at_end(&self.contents)
     }
 
     /// Whether it is retired for targets of which this is one, has stored so many entries, and its rows are still there.
-    pub fn is_retired_for(&self, target: &Shard, stored: u64) -> bool
-        ensures { result ≡ true → (targets : List which.Shard) × Contains self.now.seen (record { shard = self.now.shard; event = Event.Retire targets })
+    pub fn is_retired_for(&self, target: &ShardRecord, stored: u64) -> bool
+        ensures { result ≡ true → (targets : List which.ShardRecord) × Contains self.now.seen (record { shard = self.now.shard; event = Event.Retire targets })
             × Contains targets target.now × (stored ≡ length (stored_on self.now.shard.slot self.now.seen)) }
     {
         if !is_at_end(&self.contents) {

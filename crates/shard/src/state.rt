@@ -6,17 +6,21 @@ ghost use Rattle.sql_eval.specs.Queries.{Allowed};
 ghost use Rattle.journal.specs.Views.{IsLater};
 ghost use Rattle.shard_run.specs.declared.Entry.{Entry};
 ghost use Rattle.shard_run.specs.declared.Event.{Event};
-ghost use Rattle.shard_run.specs.Runs.{held, mode, mode_after, is_serving, entries_on, stored_on};
+ghost use Rattle.shard_run.specs.Runs.{shard_rows, mode, mode_after, answers_queries, entries_on, stored_on};
 ghost use Rattle.shard_law.specs.Legal.{May};
 ghost use Rattle.shard_run.specs.Openings.{row_count};
 ghost use Rattle.journal.specs.Runs.{IsLegal};
-ghost use Rattle.shard_contents.specs.Shards.{beyond, IsAfter, MayFollow, slot_of, commit_of};
+ghost use Rattle.shard_law.specs.Entries.{MayFollow, slot_of, commit_of};
+ghost use Rattle.shard_contents.specs.Shards.{beyond, IsAfter};
 ghost use Rattle.shard_contents.specs.inner.Shards.{is_plain};
 
 use crate::world::{ShardLaw, World};
 use journal::{Naming, Pass, ShardSeat};
-use shard_contents::{Author, Committed, Contents, Limits, Read, Reading, SortedTables, Step};
-use shard_run::{Entry, Event, Follow, Mode, Shard};
+use shard_contents::{
+    CommitOutcome, Contents, ReadOutcome, Reading, SortedTables, StatementId, TargetStep,
+};
+use shard_law::Limits;
+use shard_run::{Entry, Event, Follow, Mode, ShardRecord};
 use shard_store::StoredTables;
 use std::alloc::Global;
 use std::marker::Model;
@@ -33,17 +37,18 @@ pub struct ShardState<W: World, J: Naming> {
     // while they are copied to targets, the tables that are stored in another order than that of their primary keys
     pub(crate) sorted: SortedTables,
     // once it is retired, those that take its place
-    pub(crate) targets: Items<Shard>,
+    pub(crate) targets: Items<ShardRecord>,
     // whether it is the target of a workflow that was given up, which no run tells
     pub(crate) given_up: bool,
 }
 
 impl<W: World, J: Naming> Model for ShardState<W, J> {
-    ghost use Rattle.shard_contents.specs.Shards.{ShardView, IsAfter, Names};
+    ghost use Rattle.shard_law.specs.Entries.{ShardView};
+    ghost use Rattle.shard_contents.specs.Shards.{IsAfter, RetiredFor};
     ghost use Rattle.shard_contents.specs.inner.Earlier.{AllHadRows};
     ghost use Rattle.std.specs.Coded.{codes};
     ghost use Rattle.shard_run.specs.contracts.Entry as entry;
-    ghost use Rattle.shard_run.specs.contracts.Shard as which;
+    ghost use Rattle.shard_run.specs.contracts.ShardRecord as which;
 
     ghost Value = { ShardView };
 
@@ -52,12 +57,12 @@ impl<W: World, J: Naming> Model for ShardState<W, J> {
     ghost view = { λ s. record { seen = s.seat.seen; shard = s.contents.shard } };
 
     // What it holds is what the run that it has seen leaves on it, and the tables in order had their rows when they say.
-    ghost invariant = { λ s. IsAfter W.opening W.limits s.seat s.contents × Names W.opening s.seat.seen s.contents.shard s.targets
+    ghost invariant = { λ s. IsAfter W.opening W.limits s.seat s.contents × RetiredFor W.opening s.seat.seen s.contents.shard s.targets
         × AllHadRows s.contents.stored.items s.contents.store.rows s.sorted };
 }
 
 fn serves(mode: Mode) -> bool
-    ensures { result ≡ is_serving mode }
+    ensures { result ≡ answers_queries mode }
 {
     matches!(mode, Mode::Serving | Mode::Frozen)
 }
@@ -74,7 +79,7 @@ pub(crate) fn append_event<W: World, J: Naming>(
     requires lives { mode W.opening seat.old.seen contents.old.shard.slot ≡ Mode.Retired → ⊥ }
     requires next { next ≡ mode_after (mode W.opening seat.old.seen contents.old.shard.slot) event }
     requires plain { is_plain event ≡ true }
-    requires within { is_serving next ≡ true → row_count contents.old.store.rows ≤ W.limits.rows }
+    requires within { answers_queries next ≡ true → row_count contents.old.store.rows ≤ W.limits.rows }
     requires room { length (entries_on contents.old.shard.slot seat.old.seen) < 2 ^ 40 + beyond next }
     requires lawful { (run : List Entry) → IsLater slot_of commit_of (MayFollow W.opening) seat.old pass.old run → May W.opening run contents.old.shard event }
     ensures event { result ≡ event }
@@ -88,7 +93,7 @@ pub(crate) fn append_event<W: World, J: Naming>(
     ensures rows { contents.new.store.rows ≡ contents.old.store.rows }
     ensures now { mode W.opening seat.new.seen contents.new.shard.slot ≡ next }
 {
-    let none = Shard {
+    let none = ShardRecord {
         slot: contents.shard.slot,
         place: Place {
             keyspace: contents.shard.place.keyspace,
@@ -108,13 +113,14 @@ pub(crate) fn append_event<W: World, J: Naming>(
 impl<W: World, J: Naming> ShardState<W, J> {
     ghost use mathlib.Core.List.{IsPrefix};
     ghost use Rattle.journal.specs.Runs.{NumbersBelow};
-    ghost use Rattle.shard_run.specs.Runs.{first_rows, held};
+    ghost use Rattle.shard_run.specs.Runs.{first_rows, shard_rows};
     ghost use Rattle.shard_run.specs.Openings.{IsOpening};
     ghost use Rattle.shard_run.specs.Copies.{position};
-    ghost use Rattle.shard_contents.specs.Progress.{behind};
+    ghost use Rattle.shard_contents.specs.Progress.{step_position};
     ghost use Rattle.shard_law.specs.Legal.{IsOnItsSlot, MayRetire, MayServe};
     ghost use Rattle.journal.specs.Views.{PassView};
-    ghost use Rattle.shard_contents.specs.Shards.{HasLooked, HasAppended, Answers, opening_shards, seat_view, IsNext};
+    ghost use Rattle.shard_law.specs.Entries.{HasLooked, HasAppended, opening_shards, seat_view};
+    ghost use Rattle.shard_contents.specs.Shards.{AnswersQuery, IsNext};
     ghost use Rattle.shard_contents.specs.Commits.{IsPlaced, HasCommitted, IsCommitRefusal, HasAnswered};
     ghost use Rattle.shard_contents.specs.Copying.{PassesLimit};
     ghost use Rattle.shard_law.specs.Law.{SourcesApart};
@@ -128,7 +134,7 @@ impl<W: World, J: Naming> ShardState<W, J> {
     pub fn new(
         alloc: Global,
         seat: ShardSeat<ShardLaw<W>, J>,
-        shard: Shard,
+        shard: ShardRecord,
         store: StoredTables,
         first_mode: Mode,
         limits: Limits,
@@ -165,7 +171,7 @@ impl<W: World, J: Naming> ShardState<W, J> {
     }
 
     /// Which shard it is.
-    pub fn shard(&self) -> &Shard
+    pub fn shard(&self) -> &ShardRecord
         ensures shard { result.now ≡ self.now.shard }
         ensures stands { IsOnItsSlot W.opening self.now.seen self.now.shard }
     {
@@ -204,7 +210,7 @@ impl<W: World, J: Naming> ShardState<W, J> {
     }
 
     /// Whether it is this shard.
-    pub fn is(&self, shard: &Shard) -> bool
+    pub fn is(&self, shard: &ShardRecord) -> bool
         ensures { IsTrue result ↔ (self.now.shard ≡ shard.now) }
     {
         self.stands_at(shard.slot, &shard.place)
@@ -222,17 +228,17 @@ impl<W: World, J: Naming> ShardState<W, J> {
     // Promise: A shard that serves tells how many rows it has
     /// How many rows a shard that serves has, of all tables.
     pub fn rows(&self) -> u64
-        requires serves { is_serving (mode W.opening self.now.seen self.now.shard.slot) ≡ true }
-        ensures { result ≡ row_count (held W.opening self.now.seen self.now.shard) }
+        requires serves { answers_queries (mode W.opening self.now.seen self.now.shard.slot) ≡ true }
+        ensures { result ≡ row_count (shard_rows W.opening self.now.seen self.now.shard) }
     {
         self.contents.store.row_count() as u64
     }
 
     /// The last step with a source by which the shard came forward: after it the shard stands in the source, and without one it has no
     /// position there.
-    pub fn last_step(&self, source: usize) -> Option<&Step>
+    pub fn last_step(&self, source: usize) -> Option<&TargetStep>
         requires lives { mode W.opening self.now.seen self.now.shard.slot ≡ Mode.Retired → ⊥ }
-        ensures { MatchOption result (position self.now.seen self.now.shard.slot source ≡ None) (λ step. position self.now.seen self.now.shard.slot source ≡ Some (behind step.now)) }
+        ensures { MatchOption result (position self.now.seen self.now.shard.slot source ≡ None) (λ step. position self.now.seen self.now.shard.slot source ≡ Some (step_position step.now)) }
     {
         let steps = self.contents.steps.as_slice();
         let mut end = steps.len();
@@ -273,12 +279,12 @@ impl<W: World, J: Naming> ShardState<W, J> {
         pass: &mut Pass<ShardLaw<W>, J>,
         query: &Query,
     ) -> Result<Reading, Refusal>
-        requires serves { is_serving (mode W.opening self.old.seen self.old.shard.slot) ≡ true }
+        requires serves { answers_queries (mode W.opening self.old.seen self.old.shard.slot) ≡ true }
         ensures seen { IsLater slot_of commit_of (MayFollow W.opening) (seat_view self.old) pass.old self.new.seen }
-        ensures rows { IfOk result (λ r. Allowed query.now (held W.opening self.new.seen self.old.shard) r.rows) }
+        ensures rows { IfOk result (λ r. Allowed query.now (shard_rows W.opening self.new.seen self.old.shard) r.rows) }
         ensures entries { IfOk result (λ r. r.entries ≡ length (entries_on self.old.shard.slot self.new.seen)) }
-        ensures serves { is_serving (mode W.opening self.new.seen self.old.shard.slot) ≡ true }
-        ensures few { row_count (held W.opening self.new.seen self.old.shard) ≤ 2 ^ 20 }
+        ensures serves { answers_queries (mode W.opening self.new.seen self.old.shard.slot) ≡ true }
+        ensures few { row_count (shard_rows W.opening self.new.seen self.old.shard) ≤ 2 ^ 20 }
         ensures err { IfErr result (λ e. e ≡ Refusal.OutOfMemory) }
         ensures shard { self.new.shard ≡ self.old.shard }
         ensures stands { IsOnItsSlot W.opening self.new.seen self.old.shard }
@@ -299,9 +305,9 @@ impl<W: World, J: Naming> ShardState<W, J> {
         alloc: Global,
         pass: &mut Pass<ShardLaw<W>, J>,
         query: &Query,
-    ) -> Result<Read, Refusal>
+    ) -> Result<ReadOutcome, Refusal>
         ensures seen { IsLater slot_of commit_of (MayFollow W.opening) (seat_view self.old) pass.old self.new.seen }
-        ensures read { IfOk result (Answers W.opening self.new.seen self.old.shard query.now) }
+        ensures read { IfOk result (AnswersQuery W.opening self.new.seen self.old.shard query.now) }
         ensures err { IfErr result (λ e. e ≡ Refusal.OutOfMemory) }
         ensures shard { self.new.shard ≡ self.old.shard }
         ensures stands { IsOnItsSlot W.opening self.new.seen self.old.shard }
@@ -309,10 +315,10 @@ impl<W: World, J: Naming> ShardState<W, J> {
     {
         if serves(self.contents.mode) {
             let reading = self.read_serving(alloc, pass, query)?;
-            Ok(Read::Rows(reading))
+            Ok(ReadOutcome::Rows(reading))
         } else {
             let _ = self.look(pass);
-            Ok(Read::NotServing)
+            Ok(ReadOutcome::NotServing)
         }
     }
 
@@ -340,14 +346,14 @@ impl<W: World, J: Naming> ShardState<W, J> {
         ensures shard { self.new.shard ≡ self.old.shard }
         ensures stands { IsOnItsSlot W.opening self.new.seen self.old.shard }
     {
-        let author = Author {
+        let statement_id = StatementId {
             session: pass.session().unwrap(),
             number: pass.statements(),
         };
         let entries = self.seat.look(pass);
         let prepared = self
             .contents
-            .prepare(alloc, entries, author, schema, write)?;
+            .prepare(alloc, entries, statement_id, schema, write)?;
         self.seat.append(pass, &prepared.entry);
         Ok(self.contents.take(prepared))
     }
@@ -369,7 +375,7 @@ impl<W: World, J: Naming> ShardState<W, J> {
         pass: &mut Pass<ShardLaw<W>, J>,
         schema: &VSchema,
         write: Write,
-    ) -> Result<Committed, Refusal>
+    ) -> Result<CommitOutcome, Refusal>
         requires schema { schema.now ≡ W.opening.schema }
         requires typed { IsTypedWrite W.opening.schema write }
         requires placed { IsPlaced W.opening.schema self.old.shard.place write }
@@ -387,15 +393,15 @@ impl<W: World, J: Naming> ShardState<W, J> {
         match self.contents.mode {
             Mode::Serving => {
                 let count = self.commit_serving(alloc, pass, schema, write)?;
-                Ok(Committed::Count(count))
+                Ok(CommitOutcome::Count(count))
             }
             Mode::Frozen => {
                 let _ = self.look(pass);
-                Ok(Committed::Frozen(write))
+                Ok(CommitOutcome::Frozen(write))
             }
             _ => {
                 let _ = self.look(pass);
-                Ok(Committed::NotServing(write))
+                Ok(CommitOutcome::NotServing(write))
             }
         }
     }
@@ -417,7 +423,7 @@ impl<W: World, J: Naming> ShardState<W, J> {
         ensures followed { OnOk result ((looked : PassView Entry) × HasLooked W.opening self.old.shard.slot pass.old looked
             × HasAppended W.opening (record { seen = looked.seen; shard = self.old.shard }) (Event.Follow taken) looked pass.new) }
         ensures room { OnOk result ((length (entries_on self.old.shard.slot self.old.seen) < 2 ^ 40) × (length (stored_on self.old.shard.slot self.old.seen) < W.limits.stored)) }
-        ensures rows { OnOk result (SourcesApart W.opening pass.new.seen self.old.shard → row_count (held W.opening pass.new.seen self.old.shard) ≤ W.limits.rows) }
+        ensures rows { OnOk result (SourcesApart W.opening pass.new.seen self.old.shard → row_count (shard_rows W.opening pass.new.seen self.old.shard) ≤ W.limits.rows) }
         ensures looked { OnErr result (HasLooked W.opening self.old.shard.slot pass.old pass.new) }
         ensures may { OnErr result (MayFollow W.opening pass.new.seen (record { shard = self.old.shard; event = Event.Follow taken })) }
         ensures err { IfErr result (λ e. (e ≡ Refusal.OutOfMemory) ⊎ ((e ≡ Refusal.ShardFull) × PassesLimit W.opening W.limits pass.new.seen self.old.shard (Event.Follow taken))) }
@@ -431,9 +437,9 @@ impl<W: World, J: Naming> ShardState<W, J> {
         if !self.contents.has_room_for(entries, changes) {
             return Err(Refusal::ShardFull);
         }
-        let came = Step::Followed {
+        let came = TargetStep::Followed {
             source: taken.source,
-            place: taken.place,
+            log_position: taken.log_position,
         };
         let step = self.contents.prepare_follow(alloc, taken)?;
         self.seat.append(pass, &step.entry);

@@ -1,7 +1,7 @@
 //! A shard on which nothing happened gives its seat back.
 ghost use Rattle.std.specs.Prelude.{◌≡◌, ◌↔◌, [], true, false};
 ghost use Rattle.shard_run.specs.Runs.{entries_on, is_opening};
-ghost use Rattle.shard_contents.specs.Shards.{seat_view};
+ghost use Rattle.shard_law.specs.Entries.{seat_view};
 
 use crate::locked::Shard;
 use crate::state::ShardState;

@@ -8,29 +8,29 @@ use Rattle.vschema.specs.declared.schema.Place.{Place}
 use Rattle.vschema.specs.declared.schema.Query.{Query}
 use Rattle.vschema.specs.declared.changes.Write.{Write}
 use Rattle.journal.specs.Views.{PassView}
-use Rattle.shard_run.specs.declared.Shard.{Shard}
+use Rattle.shard_run.specs.declared.ShardRecord.{ShardRecord}
 use Rattle.shard_run.specs.declared.Entry.{Entry}
 use Rattle.shard_run.specs.declared.Mode.TheVariants.{Following}
 use Rattle.shard_run.specs.Runs.{Opening, mode}
 use Rattle.shard_law.specs.Legal.{IsOnItsSlot}
-use Rattle.shard_contents.specs.declared.limits.Limits.{Limits}
+use Rattle.shard_law.specs.declared.limits.Limits.{Limits}
 use Rattle.serving.specs.Partitions.{Seat}
-use Rattle.shard_contents.specs.Shards.{HasLooked}
+use Rattle.shard_law.specs.Entries.{HasLooked}
 use Rattle.shard.specs.Seats.{place_at}
 use Rattle.shard_contents.specs.Transactions.{PendingView, IsClear, IsStopped, HasReadIn, HasWrittenIn, HasCommittedAll, IsReadRefusal, IsWriteRefusal, IsCommitAllRefusal}
 use Rattle.shard_contents.specs.Transactions as tx
 use Rattle.shard_calls.specs.declared.reply.ShardRead.{ShardRead}
 use Rattle.shard_calls.specs.Answers.{HasServed}
 use Rattle.shard_calls.specs.Pendings.{BoundView, bound_of}
-use Rattle.shard_calls.specs.inner.Within as w
-use Rattle.shard_calls.specs.inner.Within.{HasReadAt, IsNotReadAt, HasWrittenAt, IsNotWrittenAt, HasCommittedAt, IsNotCommittedAt}
+use Rattle.shard_calls.specs.inner.InTransactions as w
+use Rattle.shard_calls.specs.inner.InTransactions.{HasReadAt, IsNotReadAt, HasWrittenAt, IsNotWrittenAt, HasCommittedAt, IsNotCommittedAt}
 use Rattle.shard_calls.proofs.Finding.{served_at}
 
 abbrev view_at : List Seat → ℕ → ℕ → Place → BoundView
 view_at seats k n q = record { keyspace = k; seat = (n, q.range, q.keyspace); seats = seats }
 
 -- the shard of a seat is the one that a transaction is bound to by it
-pub bound_is : (b : BoundView) (seat : Seat) → seat ≡ b.seat → b.seat.2 ≡ b.keyspace → (s : Shard) → s.slot ≡ seat.0 → s.place ≡ place_at seat
+pub bound_is : (b : BoundView) (seat : Seat) → seat ≡ b.seat → b.seat.2 ≡ b.keyspace → (s : ShardRecord) → s.slot ≡ seat.0 → s.place ≡ place_at seat
     → bound_of s b.seats ≡ b
 bound_is b seat at home s on_slot is =
     let n : s.slot ≡ b.seat.0 = on_slot ∙ ap (λ (x : Seat). x.0) at in
@@ -39,7 +39,7 @@ bound_is b seat at home s on_slot is =
     ∙ ap (λ (k : ℕ). view_at b.seats k b.seat.0 (place_at b.seat)) home
 
 module _ (o : Opening) (limits : Limits) (b : BoundView) (seat : Seat) (at : seat ≡ b.seat) (home : b.seat.2 ≡ b.keyspace)
-    (p now : PassView Entry) (v : PendingView) (s : Shard) (stands : IsOnItsSlot o now.seen s) (on_slot : s.slot ≡ seat.0) (s_place : s.place ≡ place_at seat)
+    (p now : PassView Entry) (v : PendingView) (s : ShardRecord) (stands : IsOnItsSlot o now.seen s) (on_slot : s.slot ≡ seat.0) (s_place : s.place ≡ place_at seat)
     (past : mode o now.seen seat.0 ≡ Following → ⊥) where
   abbrev slot : ℕ
   slot = seat.0

@@ -7,19 +7,19 @@ use Rattle.vschema.specs.declared.schema.Place.{Place}
 use Rattle.journal.specs.Views.{PassView}
 use Rattle.journal.proofs.Fronts.{prefix_self, prefix_trans}
 use Rattle.serving.specs.Partitions.{Seat}
-use Rattle.shard_run.specs.declared.Shard.{Shard}
+use Rattle.shard_run.specs.declared.ShardRecord.{ShardRecord}
 use Rattle.shard_run.specs.declared.Mode.TheVariants.{Following}
 use Rattle.shard_run.specs.declared.Entry.{Entry}
 use Rattle.shard_run.specs.Runs.{Run, Opening, mode}
 use Rattle.shard_law.specs.Legal.{IsOnItsSlot}
 use Rattle.shard_law.proofs.Lists.{AllByRecursion-push, all-weaker}
-use Rattle.shard_contents.specs.Shards.{HasLooked}
+use Rattle.shard_law.specs.Entries.{HasLooked}
 use Rattle.shard.specs.Seats.{seat_of, place_at}
 use Rattle.shard.proofs.Found.{of_run}
 use Rattle.shard_calls.specs.Answers.{HasGone, HasGoneOn, HasServed, WasFound}
 
 -- a shard that stands on its slot and doesn't follow
-pub served_at : (o : Opening) (run : Run) (s : Shard) (slot : ℕ) → IsOnItsSlot o run s → s.slot ≡ slot → (mode o run slot ≡ Following → ⊥) → HasServed o run s
+pub served_at : (o : Opening) (run : Run) (s : ShardRecord) (slot : ℕ) → IsOnItsSlot o run s → s.slot ≡ slot → (mode o run slot ≡ Following → ⊥) → HasServed o run s
 served_at o run s slot stands on_slot past =
     let here : mode o run s.slot ≡ Following → ⊥ = subst (λ (n : ℕ). mode o run n ≡ Following → ⊥) (sym on_slot) past in
     record { of_run = of_run o run s stands here; past = here }
@@ -39,7 +39,7 @@ look_gone o slot p q now (added, gone) is = (
 )
 
 module _ (o : Opening) where
-  pub found_at : (seat : Seat) (p since now : PassView Entry) → IsPrefix p.seen since.seen → HasLooked o seat.0 since now → (s : Shard)
+  pub found_at : (seat : Seat) (p since now : PassView Entry) → IsPrefix p.seen since.seen → HasLooked o seat.0 since now → (s : ShardRecord)
       → IsOnItsSlot o now.seen s → s.slot ≡ seat.0 → s.place ≡ place_at seat → (mode o now.seen seat.0 ≡ Following → ⊥) → WasFound o p.seen now.seen seat
   found_at seat p since now before looked s stands on_slot at past = record {
     run = now.seen;
@@ -80,7 +80,7 @@ module _ (o : Opening) where
 
   -- the parts so far were found
   pub found_next : (p q now : PassView Entry) (parts : List Seat) (i : ℕ) (part : Seat) → i < length parts → part ≡ get_or parts i part
-      → IsPrefix p.seen q.seen → HasLooked o part.0 q now → (s : Shard) → IsOnItsSlot o now.seen s → s.slot ≡ part.0 → s.place ≡ place_at part
+      → IsPrefix p.seen q.seen → HasLooked o part.0 q now → (s : ShardRecord) → IsOnItsSlot o now.seen s → s.slot ≡ part.0 → s.place ≡ place_at part
       → (mode o now.seen part.0 ≡ Following → ⊥) → AllByRecursion (WasFound o p.seen q.seen) (take i parts)
       → AllByRecursion (WasFound o p.seen now.seen) (take (i + 1) parts)
   found_next p q now parts i part there is before looked s stands on_slot at past so_far =

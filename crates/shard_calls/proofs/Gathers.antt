@@ -13,12 +13,12 @@ use Rattle.shard_run.specs.declared.Entry.{Entry}
 use Rattle.shard_run.specs.Runs.{Opening}
 use Rattle.shard_law.proofs.Lists.{AllByRecursion-push, all-weaker, flat_map-push, In-right, Contains-from_In}
 use Rattle.shard_contents.specs.declared.outcomes.Reading.{Reading}
-use Rattle.shard_contents.specs.declared.outcomes.Read.{Read}
-use Rattle.shard_contents.specs.declared.outcomes.Read.TheVariants as r
-use Rattle.shard_contents.specs.Shards.{slot_of, commit_of, MayFollow}
+use Rattle.shard_contents.specs.declared.outcomes.ReadOutcome.{ReadOutcome}
+use Rattle.shard_contents.specs.declared.outcomes.ReadOutcome.TheVariants as r
+use Rattle.shard_law.specs.Entries.{slot_of, commit_of, MayFollow}
 use Rattle.shard_calls.specs.declared.reply.ShardRead.{ShardRead}
 use Rattle.shard_calls.specs.Answers.{HasGoneOn, HasGone}
-use Rattle.shard_calls.specs.inner.Scatter.{Given, is_read, IsGathered, IsStalled, given_rows, given_read, given_looks}
+use Rattle.shard_calls.specs.inner.Scatter.{ShardReply, is_read, IsGathered, IsStalled, given_rows, given_read, given_looks}
 
 pub map-push : {X Y : Type 0} (f : X → Y) (xs : List X) (x : X) → map f (xs ++ x ∷ []) ≡ map f xs ++ f x ∷ []
 map-push f [] x = refl
@@ -47,14 +47,14 @@ goes_on o p now q new added gone longer pass = record {
 }
 
 -- the readings so far are joined, and the rest is to come
-pub record Gathers (o : Opening) (p now : PassView Entry) (pieces : List (List Row)) (reads : List ShardRead) (rest all : List Given) : Type 0 where
-  pub front : List Given
+pub record Gathers (o : Opening) (p now : PassView Entry) (pieces : List (List Row)) (reads : List ShardRead) (rest all : List ShardReply) : Type 0 where
+  pub front : List ShardReply
   pub whole : front ++ rest ≡ all
   pub is : IsGathered o front p now
   pub pieces_are : pieces ≡ map given_rows front
   pub reads_are : reads ≡ map given_read front
 
-module _ (o : Opening) (p now new : PassView Entry) (pieces : List (List Row)) (reads : List ShardRead) (g : Given) (rest all : List Given)
+module _ (o : Opening) (p now new : PassView Entry) (pieces : List (List Row)) (reads : List ShardRead) (g : ShardReply) (rest all : List ShardReply)
     (so_far : Gathers o p now pieces reads (g ∷ rest) all) (longer : IsLonger slot_of commit_of (MayFollow o) now g.pass new.seen)
     (pass : new ≡ record now { seen = new.seen; looks = now.looks ++ g.pass.looks }) where
   abbrev pub looks_so_far : List (ℕ × ℕ)
@@ -80,20 +80,20 @@ module _ (o : Opening) (p now new : PassView Entry) (pieces : List (List Row)) (
           longer.other;
       answered =
           AllByRecursion-push (λ x. is_read x.outcome ≡ true) so_far.front g so_far.is.answered
-          (subst (λ (r : Result Read Refusal). is_read r ≡ true) (sym ok) refl);
+          (subst (λ (r : Result ReadOutcome Refusal). is_read r ≡ true) (sym ok) refl);
     };
     pieces_are =
         ap (λ (l : List (List Row)). l ++ reading.rows ∷ []) so_far.pieces_are
-        ∙ ap (λ (r : Result Read Refusal). map given_rows so_far.front ++ Rattle.shard_calls.specs.inner.Scatter.outcome_rows r ∷ []) (sym ok)
+        ∙ ap (λ (r : Result ReadOutcome Refusal). map given_rows so_far.front ++ Rattle.shard_calls.specs.inner.Scatter.outcome_rows r ∷ []) (sym ok)
         ∙ sym (map-push given_rows so_far.front g);
     reads_are =
         ap (λ (l : List ShardRead). l ++ record { slot = g.slot; entries = reading.entries } ∷ []) so_far.reads_are
-        ∙ ap (λ (r : Result Read Refusal). map given_read so_far.front ++ record { slot = g.slot; entries = Rattle.shard_calls.specs.inner.Scatter.entries_in r } ∷ []) (sym ok)
+        ∙ ap (λ (r : Result ReadOutcome Refusal). map given_read so_far.front ++ record { slot = g.slot; entries = Rattle.shard_calls.specs.inner.Scatter.entries_in r } ∷ []) (sym ok)
         ∙ sym (map-push given_read so_far.front g);
   }
 
 -- once none is to come, all are joined
-pub ends : (o : Opening) (p now : PassView Entry) (pieces : List (List Row)) (reads : List ShardRead) (all : List Given)
+pub ends : (o : Opening) (p now : PassView Entry) (pieces : List (List Row)) (reads : List ShardRead) (all : List ShardReply)
     → Gathers o p now pieces reads [] all → IsGathered o all p now × (pieces ≡ map given_rows all) × (reads ≡ map given_read all)
 ends o p now pieces reads all g =
     let same : g.front ≡ all = sym (append-nil g.front) ∙ g.whole in (
@@ -104,7 +104,7 @@ ends o p now pieces reads all g =
 
 -- ---- the same along a loop over what the readings are told by
 
-module _ {X : Type 0} (f : X → Given) (o : Opening) (p : PassView Entry) where
+module _ {X : Type 0} (f : X → ShardReply) (o : Opening) (p : PassView Entry) where
   pub begins_at : (items all : List X) (pieces : List (List Row)) (reads : List ShardRead) → items ≡ all → pieces ≡ [] → reads ≡ []
       → IsLegal (MayFollow o) p.seen → Gathers o p p pieces reads (map f items) (map f all)
   begins_at items all pieces reads same none_made none_read legal =
@@ -116,11 +116,11 @@ module _ {X : Type 0} (f : X → Given) (o : Opening) (p : PassView Entry) where
         reads_are = none_read;
       }
 
-  next_given : (now : PassView Entry) (pieces : List (List Row)) (reads : List ShardRead) (items rest : List X) (x : X) (all : List Given) → items ≡ x ∷ rest
+  next_given : (now : PassView Entry) (pieces : List (List Row)) (reads : List ShardRead) (items rest : List X) (x : X) (all : List ShardReply) → items ≡ x ∷ rest
       → Gathers o p now pieces reads (map f items) all → Gathers o p now pieces reads (f x ∷ map f rest) all
   next_given now pieces reads items rest x all is so_far = subst (λ (l : List X). Gathers o p now pieces reads (map f l) all) is so_far
 
-  module _ (now new : PassView Entry) (pieces : List (List Row)) (reads : List ShardRead) (items rest : List X) (x : X) (all : List Given)
+  module _ (now new : PassView Entry) (pieces : List (List Row)) (reads : List ShardRead) (items rest : List X) (x : X) (all : List ShardReply)
       (is : items ≡ x ∷ rest) (so_far : Gathers o p now pieces reads (map f items) all)
       (longer : IsLonger slot_of commit_of (MayFollow o) now (f x).pass new.seen)
       (pass : new ≡ record now { seen = new.seen; looks = now.looks ++ (f x).pass.looks }) where
@@ -151,7 +151,7 @@ map_twice f g [] = refl
 map_twice f g (x ∷ xs) = ap (λ l. f (g x) ∷ l) (map_twice f g xs)
 
 -- a reading of a shard that doesn't serve ends it
-pub stalled_at : {X : Type 0} (f : X → Given) (o : Opening) (p now new : PassView Entry) (pieces : List (List Row)) (reads : List ShardRead) (items rest : List X) (x : X)
+pub stalled_at : {X : Type 0} (f : X → ShardReply) (o : Opening) (p now new : PassView Entry) (pieces : List (List Row)) (reads : List ShardRead) (items rest : List X) (x : X)
     (all : List X) → items ≡ x ∷ rest → Gathers o p now pieces reads (map f items) (map f all) → IsLonger slot_of commit_of (MayFollow o) now (f x).pass new.seen
     → (f x).outcome ≡ Ok r.NotServing → IsStalled (map f all) new
 stalled_at f o p now new pieces reads items rest x all is so_far longer held_up = record {

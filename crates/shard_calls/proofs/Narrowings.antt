@@ -6,15 +6,15 @@ use Rattle.vschema.specs.declared.schema.Query.{Query}
 use Rattle.vschema.specs.Database.{all_applied}
 use Rattle.vschema.specs.Sources.{source_rows}
 use Rattle.sql_eval.specs.Narrowing.{narrowed, ShowsAt}
-use Rattle.shard_run.specs.declared.Shard.{Shard}
-use Rattle.shard_run.specs.Runs.{Run, Opening, held}
+use Rattle.shard_run.specs.declared.ShardRecord.{ShardRecord}
+use Rattle.shard_run.specs.Runs.{Run, Opening, shard_rows}
 use Rattle.shard_contents.specs.Transactions.{PendingView, HasReadIn}
 
-pub read_whole : (o : Opening) (s : Shard) (v : PendingView) (run : Run) (q : Query) (places : Option (List ℕ)) → ShowsAt q places
-    → (rows : List Row) (entries : ℕ) (w : PendingView) → HasReadIn o s v run (narrowed q) rows entries w → HasReadIn o s v run q (shown_at places rows) entries w
-read_whole o s v run q places shows rows entries w has = record {
+pub read_whole : (o : Opening) (s : ShardRecord) (v : PendingView) (run : Run) (q : Query) (ordinals : Option (List ℕ)) → ShowsAt q ordinals
+    → (rows : List Row) (entries : ℕ) (w : PendingView) → HasReadIn o s v run (narrowed q) rows entries w → HasReadIn o s v run q (shown_at ordinals rows) entries w
+read_whole o s v run q ordinals shows rows entries w has = record {
   clear = has.clear;
-  allowed = shows.answers (source_rows q (all_applied v.changes (held o run s))) rows has.allowed;
+  allowed = shows.answers (source_rows q (all_applied v.changes (shard_rows o run s))) rows has.allowed;
   count = has.count;
   touch = has.touch;
 }

@@ -21,16 +21,16 @@ use Rattle.shard.specs.contracts.world.ShardLawLaw.TheImpl as laws
 use Rattle.shard_store.proofs.stored.StoredTables.TheSendSync as store
 use Rattle.shard_contents.proofs.sorted.SortedTables.TheSendSync as sorted
 use Rattle.shard_run.specs.contracts.Entry as entry
-use Rattle.shard_run.specs.contracts.Shard as which
+use Rattle.shard_run.specs.contracts.ShardRecord as which
 use Rattle.vt_value.specs.contracts.Items as items
 use Rattle.shard_run.proofs.Sent.{entry_send}
 use Rattle.sql_tree.proofs.Condition.TheLaws.TheKnot as condition
 use Rattle.vschema.specs.contracts.schema.Query as query
 use Rattle.vschema.proofs.schema.Place.TheSendSync as place
 use Rattle.vt_value.proofs.refusal.Refusal.TheSendSync as refusal
-use Rattle.shard_contents.proofs.outcomes.Read.TheSendSync as reading
-use Rattle.shard_calls.specs.contracts.scatter.Job as job
-use Rattle.shard_calls.specs.contracts.scatter.Done as done
+use Rattle.shard_contents.proofs.outcomes.ReadOutcome.TheSendSync as reading
+use Rattle.shard_calls.specs.contracts.scatter.ReadJob as job
+use Rattle.shard_calls.specs.contracts.scatter.ReadResult as done
 
 -- captures that may each go to another thread
 pub captures_send : (n : List ℕ) (rs : List RattleType) → AllSend (shape (type_at n rs)).fields → IsSend (TupleAt n rs)

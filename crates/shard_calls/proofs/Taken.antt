@@ -7,10 +7,10 @@ use Rattle.shard_run.specs.declared.Entry.{Entry}
 use Rattle.planner.specs.Routes.{takes}
 use Rattle.serving.specs.Partitions.{Seat}
 use Rattle.shard_calls.specs.Answers.{needed}
-use Rattle.shard_calls.specs.inner.Scatter.{Asked, asked, all_asked, AreConsecutive}
+use Rattle.shard_calls.specs.inner.Scatter.{ShardRequest, asked, all_asked, AreConsecutive}
 use Rattle.shard_calls.proofs.Gathers.{map-push}
 
-module _ (t : Table) (p : Plan) (before : List Entry) (xs rest : List Seat) (x : Seat) (is : xs ≡ x ∷ rest) (done all : List Asked)
+module _ (t : Table) (p : Plan) (before : List Entry) (xs rest : List Seat) (x : Seat) (is : xs ≡ x ∷ rest) (done all : List ShardRequest)
     (so_far : done ++ all_asked t p before xs ≡ all) where
   cut : (b : Bool) → takes t p.route x.1 ≡ b
       → all_asked t p before xs ≡ map (asked t p before) (cond b (x ∷ needed t p.route rest) (needed t p.route rest))
@@ -25,8 +25,8 @@ module _ (t : Table) (p : Plan) (before : List Entry) (xs rest : List Seat) (x :
   skipped_next e = ap (λ l. done ++ l) (sym (cut false e)) ∙ so_far
 
 -- a job was pushed that asks the next shard
-pub asked_pushed : {J : Type 0} (ask : J → Asked) (t : Table) (p : Plan) (before : List Entry) (xs rest : List Seat) (x : Seat) → xs ≡ x ∷ rest
-    → (jobs jobs' : List J) (job : J) → jobs' ≡ jobs ++ job ∷ [] → ask job ≡ asked t p before x → takes t p.route x.1 ≡ true → (all : List Asked)
+pub asked_pushed : {J : Type 0} (ask : J → ShardRequest) (t : Table) (p : Plan) (before : List Entry) (xs rest : List Seat) (x : Seat) → xs ≡ x ∷ rest
+    → (jobs jobs' : List J) (job : J) → jobs' ≡ jobs ++ job ∷ [] → ask job ≡ asked t p before x → takes t p.route x.1 ≡ true → (all : List ShardRequest)
     → map ask jobs ++ all_asked t p before xs ≡ all → map ask jobs' ++ all_asked t p before rest ≡ all
 asked_pushed ask t p before xs rest x is jobs jobs' job pushed asks is_needed all so_far =
     ap (λ l. map ask l ++ all_asked t p before rest) pushed

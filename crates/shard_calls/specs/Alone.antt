@@ -19,7 +19,7 @@ use Rattle.journal.specs.Views.{PassView}
 use Rattle.shard_run.specs.declared.Entry.{Entry}
 use Rattle.shard_run.specs.Runs.{Run}
 use Rattle.shard_law.specs.Legal.{IsChangeOf}
-use Rattle.shard_contents.specs.Shards.{commit_of}
+use Rattle.shard_law.specs.Entries.{commit_of}
 use Rattle.shard_calls.specs.declared.reply.Selected.{Selected}
 use Rattle.shard_calls.specs.declared.reply.Answer.{Answer}
 use Rattle.shard_calls.specs.declared.reply.Answer.TheVariants.{Rows, Count}

@@ -18,13 +18,13 @@ use Rattle.journal.specs.Runs.{IsLegal, by_session}
 use Rattle.journal.specs.Views.{PassView}
 use Rattle.shard_run.specs.declared.Mode.{Mode}
 use Rattle.shard_run.specs.declared.Mode.TheVariants.{Following, Serving}
-use Rattle.shard_run.specs.declared.Shard.{Shard}
+use Rattle.shard_run.specs.declared.ShardRecord.{ShardRecord}
 use Rattle.shard_run.specs.declared.Entry.{Entry}
-use Rattle.shard_run.specs.Runs.{Run, Opening, IsShardOf, one, held, mode, is_serving, entries_on}
-use Rattle.shard_contents.specs.declared.limits.Limits.{Limits}
+use Rattle.shard_run.specs.Runs.{Run, Opening, IsShardOf, database, shard_rows, mode, answers_queries, entries_on}
+use Rattle.shard_law.specs.declared.limits.Limits.{Limits}
 use Rattle.shard_law.specs.Law.{Serves}
 use Rattle.serving.specs.Partitions.{Seat, IsPartition, AreOf}
-use Rattle.shard_contents.specs.Shards.{MayFollow, HasLooked, commit_of}
+use Rattle.shard_law.specs.Entries.{MayFollow, HasLooked, commit_of}
 use Rattle.shard_contents.specs.Commits.{HasCommitted, HasRoom}
 use Rattle.shard_calls.specs.declared.reply.Selected.{Selected}
 use Rattle.shard_calls.specs.declared.reply.Answer.TheVariants.{Rows, Count}
@@ -32,7 +32,7 @@ use Rattle.shard_calls.specs.declared.reply.ShardRead.{ShardRead}
 use Rattle.shard_calls.specs.declared.reply.Reply.{Reply}
 use Rattle.shard.specs.Seats.{seat_of}
 use Rattle.shard_calls.specs.Alone.{GivesOver}
-use Rattle.shard_calls.specs.Mix.{Part, Mix, mixed_rows}
+use Rattle.shard_calls.specs.Mix.{MixPart, Mix, mixed_rows}
 
 -- the pass once its session's next statement is numbered
 abbrev pub counted : PassView Entry → PassView Entry
@@ -54,9 +54,9 @@ abbrev pub HasGone : Opening → PassView Entry → PassView Entry → Type 0
 HasGone o p now = (added : List (ℕ × ℕ)) × HasGoneOn o p added now
 
 -- A shard was read if the part's run ends, by one of these looks: it serves then, in the part's range, and has so many entries.
-pub record IsShardRead (o : Opening) (keyspace : ℕ) (looks : List (ℕ × ℕ)) (part : Part) (r : ShardRead) : Type 0 where
+pub record IsShardRead (o : Opening) (keyspace : ℕ) (looks : List (ℕ × ℕ)) (part : MixPart) (r : ShardRead) : Type 0 where
   pub looked : Contains looks (r.slot, length part.run)
-  pub shard : Shard
+  pub shard : ShardRecord
   pub serves : Serves o part.run shard
   pub slot : shard.slot ≡ r.slot
   pub place : shard.place ≡ record { keyspace = keyspace; range = part.range }
@@ -71,7 +71,7 @@ pub record IsSelected (o : Opening) (p : PassView Entry) (t : Table) (query : Qu
   pub qualified : selected.qualified ≡ query.qualified
   pub added : List (ℕ × ℕ)
   pub gone : HasGoneOn o p added now
-  pub parts : List Part
+  pub parts : List MixPart
   pub mix : Mix p.seen now.seen parts
   pub allowed : Allowed query (mixed_rows o t.keyspace parts) selected.rows
   pub routed : AllZip (IsShardRead o t.keyspace added) (filter (λ part. takes t (route_of t query.join query.filter) part.range) parts) reads
@@ -82,7 +82,7 @@ pub data HasRead (o : Opening) (p : PassView Entry) (query : Query) : Reply → 
       → HasRead o p query (record { answer = Rows selected; reads = reads }) now
 
 -- a shard of the run that serves, or has served: one that is no target which follows
-pub record HasServed (o : Opening) (run : Run) (s : Shard) : Type 0 where
+pub record HasServed (o : Opening) (run : Run) (s : ShardRecord) : Type 0 where
   pub of_run : IsShardOf o run s
   pub past : mode o run s.slot ≡ Following → ⊥
 
@@ -91,7 +91,7 @@ pub record WasFound (o : Opening) (before now : Run) (seat : Seat) : Type 0 wher
   pub run : Run
   pub since : IsPrefix before run
   pub until : IsPrefix run now
-  pub shard : Shard
+  pub shard : ShardRecord
   pub served : HasServed o run shard
   pub seated : seat_of shard ≡ seat
 
@@ -111,7 +111,7 @@ pub record IsHeldUp (o : Opening) (t : Table) (r : Route) (answers : Mode → Bo
   pub run : List Entry
   pub since : IsPrefix before run
   pub until : IsPrefix run now
-  pub shard : Shard
+  pub shard : ShardRecord
   pub served : HasServed o run shard
   pub on_slot : shard.slot ≡ seat.0
   pub in_place : shard.place ≡ record { keyspace = t.keyspace; range = seat.1 }
@@ -121,7 +121,7 @@ pub record IsHeldUp (o : Opening) (t : Table) (r : Route) (answers : Mode → Bo
 pub data MayReadRefuse (o : Opening) (p : PassView Entry) (query : Query) : Refusal → PassView Entry → Type 0 where
   no_memory : {now : PassView Entry} → HasGone o p now → MayReadRefuse o p query OutOfMemory now
   buffer_full : {now : PassView Entry} → HasGone o p now
-      → IsHeldUp o (table_at o.schema query.table) (route_of (table_at o.schema query.table) query.join query.filter) is_serving p.seen now.seen
+      → IsHeldUp o (table_at o.schema query.table) (route_of (table_at o.schema query.table) query.join query.filter) answers_queries p.seen now.seen
       → MayReadRefuse o p query BufferFull now
 
 -- the seats that a write needs by a partition
@@ -129,7 +129,7 @@ abbrev pub needed_by : Opening → Write → List Seat → List Seat
 needed_by o w seats = needed (table_at o.schema (written_table w)) (write_route o.schema w) seats
 
 -- by some partition the write needs this shard alone
-pub record NeedsAlone (o : Opening) (w : Write) (s : Shard) : Type 0 where
+pub record NeedsAlone (o : Opening) (w : Write) (s : ShardRecord) : Type 0 where
   pub seats : List Seat
   pub partition : IsPartition seats
   pub keyspace : s.place.keyspace ≡ (table_at o.schema (written_table w)).keyspace
@@ -140,10 +140,10 @@ pub record NeedsAlone (o : Opening) (w : Write) (s : Shard) : Type 0 where
 -- the one right after it.
 pub data HasWritten (o : Opening) (limits : Limits) (p : PassView Entry) (w : Write) : Reply → PassView Entry → Type 0 where
   nowhere : {now : PassView Entry} (seats : List Seat) → IsPartition seats → needed_by o w seats ≡ [] → HasGone o p now
-      → GivesOver o.schema (one o now.seen) (typed.Write w) (Count 0) (one o now.seen)
+      → GivesOver o.schema (database o now.seen) (typed.Write w) (Count 0) (database o now.seen)
       → HasWritten o limits p w (record { answer = Count 0; reads = [] }) now
-  wrote : {count : ℕ} {since now : PassView Entry} (s : Shard) → NeedsAlone o w s → HasGone o p since → (entry : HasCommitted o limits s since w count now)
-      → GivesOver o.schema (one o entry.before) (typed.Write w) (Count count) (one o now.seen)
+  wrote : {count : ℕ} {since now : PassView Entry} (s : ShardRecord) → NeedsAlone o w s → HasGone o p since → (entry : HasCommitted o limits s since w count now)
+      → GivesOver o.schema (database o entry.before) (typed.Write w) (Count count) (database o now.seen)
       → HasWritten o limits p w (record { answer = Count count; reads = [] }) now
 
 -- what a typed statement gives: a query has its rows, a write is committed; SET NAMES counts 0, and no shard is used
@@ -159,10 +159,10 @@ is_writable _ = false
 
 -- Why a shard that takes commits refuses a write at a run: want of memory; the write has a primary key that is there already in the one
 -- database; its changes would pass a limit of the shard.
-pub data IsShardRefusal (o : Opening) (limits : Limits) (s : Shard) (run : Run) (w : Write) : Refusal → Type 0 where
+pub data IsShardRefusal (o : Opening) (limits : Limits) (s : ShardRecord) (run : Run) (w : Write) : Refusal → Type 0 where
   no_memory : IsShardRefusal o limits s run w OutOfMemory
-  duplicate : changes_of o.schema w (one o run) ≡ Err DuplicateKey → IsShardRefusal o limits s run w DuplicateKey
-  full : (changes : List RowChange) → changes_of o.schema w (held o run s) ≡ Ok changes → (HasRoom o limits s run changes → ⊥)
+  duplicate : changes_of o.schema w (database o run) ≡ Err DuplicateKey → IsShardRefusal o limits s run w DuplicateKey
+  full : (changes : List RowChange) → changes_of o.schema w (shard_rows o run s) ≡ Ok changes → (HasRoom o limits s run changes → ⊥)
       → IsShardRefusal o limits s run w ShardFull
 
 -- Why a write is refused: a growth was refused; by a partition of its keyspace, whose shards were found, it needs more than one; the buffer was
@@ -175,5 +175,5 @@ pub data MayWriteRefuse (o : Opening) (limits : Limits) (p : PassView Entry) (w 
   buffer_full : {now : PassView Entry} → HasGone o p now
       → IsHeldUp o (table_at o.schema (written_table w)) (write_route o.schema w) is_writable p.seen now.seen
       → MayWriteRefuse o limits p w BufferFull now
-  refused : {r : Refusal} {since now : PassView Entry} (s : Shard) → NeedsAlone o w s → HasGone o p since → HasLooked o s.slot since now
+  refused : {r : Refusal} {since now : PassView Entry} (s : ShardRecord) → NeedsAlone o w s → HasGone o p since → HasLooked o s.slot since now
       → HasServed o now.seen s → mode o now.seen s.slot ≡ Serving → IsShardRefusal o limits s now.seen w r → MayWriteRefuse o limits p w r now

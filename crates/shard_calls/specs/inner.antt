@@ -1,2 +1,2 @@
 pub mod Scatter
-pub mod Within
+pub mod InTransactions

@@ -5,14 +5,14 @@ mod gate;
 mod parts;
 mod reply;
 mod scatter;
+mod transactions;
 mod tx;
-mod within;
 
 pub use gate::{Gate, Open};
 pub use parts::{look_at_each, only_needed, shard_of};
 pub use reply::{Answer, Reply, Selected, ShardRead, counted};
-pub use scatter::{Done, Gathered, Job, gather, jobs, read_all};
-pub use tx::{Bound, OpenTx, Tx};
-pub use within::{
+pub use scatter::{Gathered, ReadJob, ReadResult, gather, jobs, read_all};
+pub use transactions::{
     closes, commit_at, ends, read_at, read_first, read_nothing, stays_open, write_at, write_first,
 };
+pub use tx::{Bound, OpenTx, Tx};

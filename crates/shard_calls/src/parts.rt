@@ -2,19 +2,19 @@
 ghost use Rattle.std.specs.Prelude.{◌≡◌, ◌≤◌, ◌∷◌, [], IfOk, IfErr, MatchOption, length};
 ghost use Rattle.std.specs.List.{AllByRecursion};
 ghost use Rattle.journal.specs.Runs.{IsLegal};
-ghost use Rattle.shard_contents.specs.Shards.{MayFollow};
+ghost use Rattle.shard_law.specs.Entries.{MayFollow};
 ghost use Rattle.shard_calls.specs.Answers.{needed, HasGone, WasFound};
 
 use journal::{Naming, Pass};
 use planner::{Route, single_id, takes_by};
-use serving::{Part, Seated};
+use serving::{Seated, ShardReference};
 use shard::{Shard, ShardLaw, World};
 use std::sync::Wait;
 use vschema::Table;
 use vt_value::Refusal;
 
 /// The part's shard.
-pub fn shard_of<W: World, J: Naming>(part: &Part<Shard<W, J>>) -> &Shard<W, J>
+pub fn shard_of<W: World, J: Naming>(part: &ShardReference<Shard<W, J>>) -> &Shard<W, J>
     ensures { result.now ≡ part.now }
 {
     part.shard()
@@ -22,10 +22,10 @@ pub fn shard_of<W: World, J: Naming>(part: &Part<Shard<W, J>>) -> &Shard<W, J>
 
 /// The one part that a write on the table with this route needs, if it needs one. Refuses if it needs several.
 pub fn only_needed<'e, S: Seated + Drop>(
-    parts: &'e [Part<S>],
+    parts: &'e [ShardReference<S>],
     table: &Table,
     route: &Route,
-) -> Result<Option<&'e Part<S>>, Refusal>
+) -> Result<Option<&'e ShardReference<S>>, Refusal>
     ensures ok { IfOk result (λ found. MatchOption found
         (needed table.now route.now parts.now ≡ [])
         (λ part. needed table.now route.now parts.now ≡ part.now ∷ [])) }
@@ -49,7 +49,7 @@ pub fn only_needed<'e, S: Seated + Drop>(
 pub fn look_at_each<W: World, J: Naming>(
     rt: &impl Wait,
     pass: &mut Pass<ShardLaw<W>, J>,
-    parts: &[Part<Shard<W, J>>],
+    parts: &[ShardReference<Shard<W, J>>],
 )
     requires legal { IsLegal (MayFollow W.opening) pass.old.seen }
     ensures found { AllByRecursion (WasFound W.opening pass.old.seen pass.new.seen) parts.now }

@@ -3,7 +3,7 @@ ghost use Rattle.std.specs.Prelude.{◌≡◌, ◌++◌, ◌∷◌, [], ℕ, IfO
 ghost use Rattle.std.specs.List.{AllZip, AllByRecursion};
 ghost use Rattle.journal.specs.Runs.{IsLegal};
 ghost use Rattle.serving.specs.Partitions.{AreOf};
-ghost use Rattle.shard_contents.specs.Shards.{MayFollow};
+ghost use Rattle.shard_law.specs.Entries.{MayFollow};
 ghost use Rattle.shard.specs.Seats.{place_at};
 ghost use Rattle.shard_calls.specs.Answers.{HasGone};
 ghost use Rattle.shard_calls.specs.inner.Scatter.{asked, all_asked, IsReadingOf, outcome_rows, entries_in, IsGathered, AreConsecutive, IsStalled};
@@ -13,8 +13,8 @@ use crate::reply::ShardRead;
 use journal::{Naming, Pass};
 use operators::{Operator, Rows};
 use planner::{Plan, single_id, takes_by};
-use serving::{Part, Seated};
-use shard::{Read, Reading, Shard, ShardLaw, World};
+use serving::{Seated, ShardReference};
+use shard::{ReadOutcome, Reading, Shard, ShardLaw, World};
 use shard_store::{Fixed, fixed_values};
 use sql_tree::Condition;
 use std::alloc::Global;
@@ -26,7 +26,7 @@ use vt_value::{Items, Refusal};
 /// What a shard is asked: its number among those that a query needs, itself, its piece of the query, how many rows that reads at most as far
 /// as it tells by itself, and a pass.
 #[derive(Drop)]
-pub struct Job<'e, W: World, J: Naming> {
+pub struct ReadJob<'e, W: World, J: Naming> {
     pub turn: usize,
     pub shard: &'e Shard<W, J>,
     pub query: Query,
@@ -36,10 +36,10 @@ pub struct Job<'e, W: World, J: Naming> {
 
 /// What a shard gave, with the pass by which it was read.
 #[derive(Drop)]
-pub struct Done<W: World, J: Naming> {
+pub struct ReadResult<W: World, J: Naming> {
     pub slot: usize,
     pub pass: Pass<ShardLaw<W>, J>,
-    pub outcome: Result<Read, Refusal>,
+    pub outcome: Result<ReadOutcome, Refusal>,
 }
 
 /// The rows that each shard gave, and what the reply tells of each.
@@ -111,10 +111,10 @@ fn job_for<'e, W: World, J: Naming>(
     alloc: Global,
     pass: &mut Pass<ShardLaw<W>, J>,
     turn: usize,
-    part: &'e Part<Shard<W, J>>,
+    part: &'e ShardReference<Shard<W, J>>,
     table: &Table,
     plan: &Plan,
-) -> Result<Job<'e, W, J>, Refusal>
+) -> Result<ReadJob<'e, W, J>, Refusal>
     requires keyspace { part.now.2 ≡ table.now.keyspace }
     ensures same { pass.new ≡ pass.old }
     ensures turn { IfOk result (λ job. job.turn ≡ turn) }
@@ -124,7 +124,7 @@ fn job_for<'e, W: World, J: Naming>(
     let range = part.range();
     let pass = pass.split()?;
     match plan.piece_for(alloc, table, &range) {
-        Ok(query) => Ok(Job {
+        Ok(query) => Ok(ReadJob {
             turn,
             shard: part.shard(),
             most: most_rows(table, &query),
@@ -142,10 +142,10 @@ fn job_for<'e, W: World, J: Naming>(
 pub fn jobs<'e, W: World, J: Naming>(
     alloc: Global,
     pass: &mut Pass<ShardLaw<W>, J>,
-    parts: &'e [Part<Shard<W, J>>],
+    parts: &'e [ShardReference<Shard<W, J>>],
     table: &Table,
     plan: &Plan,
-) -> Result<Vec<Job<'e, W, J>>, Refusal>
+) -> Result<Vec<ReadJob<'e, W, J>>, Refusal>
     requires keyspace { AreOf table.now.keyspace parts.now }
     ensures same { pass.new ≡ pass.old }
     ensures ok { IfOk result (λ jobs. map (λ job. record { slot = job.shard.now.0; place = place_at job.shard.now; query = job.query; pass = job.pass }) jobs.items ≡ all_asked table.now plan.now pass.old.seen parts.now) }
@@ -168,11 +168,11 @@ fn read_one<W: World, J: Naming, G: Gate>(
     rt: &impl Wait,
     alloc: Global,
     gate: &G,
-    job: Job<W, J>,
-) -> Done<W, J>
+    job: ReadJob<W, J>,
+) -> ReadResult<W, J>
     ensures { IsReadingOf W.opening (record { slot = job.entry.shard.now.0; place = place_at job.entry.shard.now; query = job.entry.query; pass = job.entry.pass }) (record { slot = result.slot; pass = result.pass; outcome = result.outcome }) }
 {
-    let Job {
+    let ReadJob {
         turn,
         shard,
         query,
@@ -184,7 +184,7 @@ fn read_one<W: World, J: Naming, G: Gate>(
     let outcome = shard.read(rt, alloc, &mut pass, &query);
     gate.after(turn);
     drop(query);
-    Done {
+    ReadResult {
         slot,
         pass,
         outcome,
@@ -192,7 +192,7 @@ fn read_one<W: World, J: Naming, G: Gate>(
 }
 
 // Whether a job reads at most so many rows of each table, as far as one can tell without waiting.
-fn is_small<W: World, J: Naming>(job: &Job<W, J>, most: usize) -> bool {
+fn is_small<W: World, J: Naming>(job: &ReadJob<W, J>, most: usize) -> bool {
     if job.most <= most {
         return true;
     }
@@ -206,7 +206,7 @@ fn is_small<W: World, J: Naming>(job: &Job<W, J>, most: usize) -> bool {
 }
 
 // Whether each of these jobs reads at most so many rows of each table.
-fn are_small<W: World, J: Naming>(jobs: &[Job<W, J>], most: usize) -> bool {
+fn are_small<W: World, J: Naming>(jobs: &[ReadJob<W, J>], most: usize) -> bool {
     for job in jobs {
         if !is_small(job, most) {
             return false;
@@ -220,8 +220,8 @@ fn read_in_turn<W: World, J: Naming, G: Gate>(
     rt: &impl Wait,
     alloc: Global,
     gate: &G,
-    jobs: Vec<Job<W, J>>,
-) -> Result<Vec<Done<W, J>>, Refusal>
+    jobs: Vec<ReadJob<W, J>>,
+) -> Result<Vec<ReadResult<W, J>>, Refusal>
     ensures ok { IfOk result (λ done. AllZip (λ job d. IsReadingOf W.opening (record { slot = job.shard.now.0; place = place_at job.shard.now; query = job.query; pass = job.pass }) (record { slot = d.slot; pass = d.pass; outcome = d.outcome })) jobs.entry.items done.items) }
     ensures err { IfErr result (λ e. e ≡ Refusal.OutOfMemory) }
 {
@@ -238,8 +238,8 @@ pub fn read_all<R: Threads + Wait + Sync, W: World + Send + Sync, J: Naming + Se
     rt: &R,
     alloc: Global,
     gate: &G,
-    jobs: Vec<Job<W, J>>,
-) -> Result<Vec<Done<W, J>>, Refusal>
+    jobs: Vec<ReadJob<W, J>>,
+) -> Result<Vec<ReadResult<W, J>>, Refusal>
     ensures ok { IfOk result (λ done. AllZip (λ job d. IsReadingOf W.opening (record { slot = job.shard.now.0; place = place_at job.shard.now; query = job.query; pass = job.pass }) (record { slot = d.slot; pass = d.pass; outcome = d.outcome })) jobs.entry.items done.items) }
     ensures err { IfErr result (λ e. e ≡ Refusal.OutOfMemory) }
 {
@@ -249,7 +249,7 @@ pub fn read_all<R: Threads + Wait + Sync, W: World + Send + Sync, J: Naming + Se
     let done = thread::map_vec(
         rt,
         jobs,
-        &|job: Job<W, J>| -> Done<W, J>
+        &|job: ReadJob<W, J>| -> ReadResult<W, J>
             ensures { IsReadingOf W.opening (record { slot = job.entry.shard.now.0; place = place_at job.entry.shard.now; query = job.entry.query; pass = job.entry.pass }) (record { slot = result.slot; pass = result.pass; outcome = result.outcome }) }
         { read_one(rt, alloc, gate, job) },
     )?;
@@ -261,7 +261,7 @@ pub fn read_all<R: Threads + Wait + Sync, W: World + Send + Sync, J: Naming + Se
 pub fn gather<W: World, J: Naming>(
     alloc: Global,
     pass: &mut Pass<ShardLaw<W>, J>,
-    done: Vec<Done<W, J>>,
+    done: Vec<ReadResult<W, J>>,
 ) -> Result<Option<Gathered>, Refusal>
     requires legal { IsLegal (MayFollow W.opening) pass.old.seen }
     requires refused { AllByRecursion (λ d. IfErr d.outcome (λ e. e ≡ Refusal.OutOfMemory)) done.items }
@@ -277,15 +277,15 @@ pub fn gather<W: World, J: Naming>(
         reads: Items::new(alloc),
     };
     for one in done {
-        let Done {
+        let ReadResult {
             slot,
             pass: other,
             outcome,
         } = one;
         pass.join(other);
         match outcome {
-            Ok(Read::Rows(reading)) => gathered.push(alloc, slot, reading)?,
-            Ok(Read::NotServing) => return Ok(None),
+            Ok(ReadOutcome::Rows(reading)) => gathered.push(alloc, slot, reading)?,
+            Ok(ReadOutcome::NotServing) => return Ok(None),
             Err(refusal) => return Err(refusal),
         }
     }

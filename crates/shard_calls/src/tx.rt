@@ -3,7 +3,7 @@ ghost use Rattle.std.specs.Prelude.{◌≡◌, ◌↔◌, IsTrue, IsSome, None, 
 ghost use Rattle.serving.specs.Partitions.{AreOf};
 
 use journal::Naming;
-use serving::{Part, Partition, Seated};
+use serving::{Partition, Seated, ShardReference};
 use shard::{Pending, Shard, World};
 use std::alloc::Global;
 use std::marker::Model;
@@ -14,7 +14,7 @@ use vt_value::Refusal;
 #[derive(Drop)]
 pub struct Bound<W: World, J: Naming> {
     keyspace: usize,
-    part: Part<Shard<W, J>>,
+    part: ShardReference<Shard<W, J>>,
     partition: Partition<Shard<W, J>>,
 }
 
@@ -30,14 +30,17 @@ impl<W: World, J: Naming> Model for Bound<W, J> {
     ghost invariant = { λ b. (b.part.2 ≡ b.keyspace) × AreOf b.keyspace b.partition };
 }
 
-fn copy_part<S: Seated + Drop>(part: &Part<S>) -> Result<Part<S>, Refusal>
+fn copy_part<S: Seated + Drop>(part: &ShardReference<S>) -> Result<ShardReference<S>, Refusal>
     ensures ok { IfOk result (λ copy. copy ≡ part.now) }
     ensures err { IfErr result (λ e. e ≡ Refusal.OutOfMemory) }
 {
-    Ok(Part::new(Arc::try_clone(part.shard())?))
+    Ok(ShardReference::new(Arc::try_clone(part.shard())?))
 }
 
-fn copy_parts<S: Seated + Drop>(alloc: Global, parts: &[Part<S>]) -> Result<Vec<Part<S>>, Refusal>
+fn copy_parts<S: Seated + Drop>(
+    alloc: Global,
+    parts: &[ShardReference<S>],
+) -> Result<Vec<ShardReference<S>>, Refusal>
     ensures ok { IfOk result (λ copies. copies.items ≡ parts.now) }
     ensures err { IfErr result (λ e. e ≡ Refusal.OutOfMemory) }
 {
@@ -54,7 +57,7 @@ impl<W: World, J: Naming> Bound<W, J> {
         alloc: Global,
         keyspace: usize,
         partition: &Partition<Shard<W, J>>,
-        part: &Part<Shard<W, J>>,
+        part: &ShardReference<Shard<W, J>>,
     ) -> Result<Bound<W, J>, Refusal>
         requires part { part.now.2 ≡ keyspace }
         requires keyspace { AreOf keyspace partition.now }
@@ -106,7 +109,7 @@ impl<W: World, J: Naming> Bound<W, J> {
     }
 
     /// Whether the part's shard is the one.
-    pub fn is_at(&self, part: &Part<Shard<W, J>>) -> bool
+    pub fn is_at(&self, part: &ShardReference<Shard<W, J>>) -> bool
         ensures { IsTrue result ↔ ((self.now.keyspace ≡ part.now.2) × (self.now.seat ≡ part.now)) }
     {
         self.keyspace == part.keyspace()

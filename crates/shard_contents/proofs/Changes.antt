@@ -18,7 +18,7 @@ use Rattle.sql_eval.specs.Conditions.{is_kept}
 use Rattle.sql_eval.specs.Writes.{has_duplicate, assigned, row_updates, written_table, changes_over, changes_of}
 use Rattle.sql_eval.proofs.ChangeLemmas.{ok_is}
 use Rattle.shard_law.proofs.Lists.{all-flat_map, all-each}
-use Rattle.shard_contents.specs.declared.limits.Limits.{Limits}
+use Rattle.shard_law.specs.declared.limits.Limits.{Limits}
 use Rattle.shard_contents.specs.inner.Commits.{has_room, IsUnprepared, no_memory, duplicate, full}
 
 abbrev Changes : Type 0

@@ -18,20 +18,21 @@ use Rattle.sql_eval.specs.Writes.{written_table, changes_of, change}
 use Rattle.sql_eval.proofs.ChangeLemmas.{SameChanges, same_changes, rows-same}
 use Rattle.journal.specs.Runs.{IsLegal, NumbersBelow, by_session, number_of}
 use Rattle.journal.specs.Views.{SeatView, PassView}
-use Rattle.shard_run.specs.declared.Shard.{Shard}
+use Rattle.shard_run.specs.declared.ShardRecord.{ShardRecord}
 use Rattle.shard_run.specs.declared.Mode.TheVariants.{Serving}
 use Rattle.shard_run.specs.declared.Event.{Event}
 use Rattle.shard_run.specs.declared.Event.TheVariants.{Commit, Follow, Copy, Freeze, Thaw, Retire, Serve}
 use Rattle.shard_run.specs.declared.Entry.{Entry}
-use Rattle.shard_run.specs.Runs.{Run, Opening, one, held, mode, is_serving, first_rows, entries_on, stored_on, is_on, is_stored}
+use Rattle.shard_run.specs.Runs.{Run, Opening, database, shard_rows, mode, answers_queries, first_rows, entries_on, stored_on, is_on, is_stored}
 use Rattle.shard_law.specs.Legal.{is_late, IsOnItsSlot}
 use Rattle.shard_run.specs.Openings.{row_count}
 use Rattle.shard_law.proofs.Databases.{length-all_applied}
 use Rattle.shard_law.proofs.Runs.{log, log-on, mode-on, stored_on-push}
 use Rattle.shard_law.proofs.Typed.{keeps_keys-from_typed, table_there}
-use Rattle.shard_contents.specs.declared.limits.Limits.{Limits}
+use Rattle.shard_law.specs.declared.limits.Limits.{Limits}
 use Rattle.shard_contents.specs.declared.contents.Contents.{Contents}
-use Rattle.shard_contents.specs.Shards.{Holds, holds, IsAfter, beyond, MayFollow, HasLooked, commit_of}
+use Rattle.shard_law.specs.Entries.{MayFollow, HasLooked, commit_of}
+use Rattle.shard_contents.specs.Shards.{Holds, holds, IsAfter, beyond}
 use Rattle.shard_contents.specs.Commits.{IsPlaced, commit_entry, HasRoom, HasCommitted, IsCommitRefusal}
 use Rattle.shard_contents.specs.inner.Commits.{has_room, IsUnprepared}
 use Rattle.shard_contents.specs.inner.Commits as commits
@@ -81,9 +82,9 @@ rises_by session number (e ∷ run) all = at e.event (rises_by session number ru
 module _ (o : Opening) (most : Limits) (seat : SeatView Entry) (c : Contents) (is : IsAfter o most seat c)
     (serving : mode o seat.seen c.shard.slot ≡ Serving) where
   pub has : Holds o most seat.seen c
-  has = holds_of o most seat.seen c is.keeps (lives_if (mode o seat.seen c.shard.slot) (ap is_serving serving))
+  has = holds_of o most seat.seen c is.keeps (lives_if (mode o seat.seen c.shard.slot) (ap answers_queries serving))
 
-  abbrev s : Shard
+  abbrev s : ShardRecord
   s = c.shard
 
   abbrev schema : VSchema
@@ -92,16 +93,16 @@ module _ (o : Opening) (most : Limits) (seat : SeatView Entry) (c : Contents) (i
   -- a run that has no more entries on the slot
   module _ (run : Run) (legal : IsLegal (MayFollow o) run) (alone : entries_on seat.slot run ≡ entries_on seat.slot seat.seen) where
     abbrev restricted : Database
-    restricted = restrict schema s.place (one o run)
+    restricted = restrict schema s.place (database o run)
 
     pub here : entries_on s.slot run ≡ entries_on s.slot seat.seen
     here = subst (λ (i : ℕ). entries_on i run ≡ entries_on i seat.seen) is.slot alone
 
-    pub rows : SameRows c.store.rows (held o run s)
+    pub rows : SameRows c.store.rows (shard_rows o run s)
     rows = subst (SameRows c.store.rows) (sym (held-same o seat.seen run s here)) has.rows
 
-    pub counted : row_count c.store.rows ≡ row_count (held o run s)
-    counted = row_count-same c.store.rows (held o run s) rows
+    pub counted : row_count c.store.rows ≡ row_count (shard_rows o run s)
+    counted = row_count-same c.store.rows (shard_rows o run s) rows
 
     pub serves : mode o run s.slot ≡ Serving
     serves = mode-same o seat.seen run s here ∙ serving
@@ -109,12 +110,12 @@ module _ (o : Opening) (most : Limits) (seat : SeatView Entry) (c : Contents) (i
     pub stands : IsOnItsSlot o run s
     stands = stands-same o seat.seen run s here is.stands
 
-    part : SameRows (held o run s) restricted
-    part = part_held o is.opens run s stands (ap is_serving serves) legal
+    part : SameRows (shard_rows o run s) restricted
+    part = part_held o is.opens run s stands (ap answers_queries serves) legal
 
     -- so are the rows with the seat those of the one database in the shard's place
-    beside : SameRows c.store.rows restricted
-    beside = same_through c.store.rows (held o run s) restricted rows part
+    alongside : SameRows c.store.rows restricted
+    alongside = same_through c.store.rows (shard_rows o run s) restricted rows part
 
     over_same : (w : Write) (db : Database) → SameRows c.store.rows db
         → SameChanges (get_or schema.tables (written_table w) no_table) w (rows_of c.store.rows (written_table w)) (rows_of db (written_table w))
@@ -126,7 +127,7 @@ module _ (o : Opening) (most : Limits) (seat : SeatView Entry) (c : Contents) (i
 
     module _ (w : Write) (changes : List RowChange) (changed : changes_of schema w c.store.rows ≡ Ok changes) where
       pub over_one : (exact : List RowChange) × (changes_of schema w restricted ≡ Ok exact) × IsPermutation changes exact
-      over_one = (over_same w restricted beside).changed changes changed
+      over_one = (over_same w restricted alongside).changed changes changed
 
       pub lawful : (session number : ℕ) → IsTypedWrite schema w → IsPlaced schema s.place w → NumbersBelow commit_of session number run
           → MayFollow o run (commit_entry s session number w changes)
@@ -136,7 +137,7 @@ module _ (o : Opening) (most : Limits) (seat : SeatView Entry) (c : Contents) (i
           serving = serves;
           inside =
               changes_in schema s.place w c.store.rows changes (keeps_keys-from_typed schema w typed) placed
-              (rows_lie schema s.place c.store.rows (one o run) beside (written_table w)) changed;
+              (rows_lie schema s.place c.store.rows (database o run) alongside (written_table w)) changed;
           typed = (typed, tt);
           meant = (
             changes,
@@ -156,7 +157,7 @@ module _ (o : Opening) (most : Limits) (seat : SeatView Entry) (c : Contents) (i
 
     tested : (entries stored : ℕ) (w : Write) → entries ≡ length (entries_on seat.slot seat.seen) → stored ≡ length c.stored.items
         → has_room c.limits entries stored (row_count c.store.rows) w
-        ≡ has_room most (length (entries_on s.slot run)) (length (stored_on s.slot run)) (row_count (held o run s)) w
+        ≡ has_room most (length (entries_on s.slot run)) (length (stored_on s.slot run)) (row_count (shard_rows o run s)) w
     tested entries stored w es ss =
         let e : entries ≡ length (entries_on s.slot run) = es ∙ ap length (ap (λ (i : ℕ). entries_on i seat.seen) is.slot) ∙ ap length (sym here) in
         let k : stored ≡ length (stored_on s.slot run) = ss ∙ ap length stored_here in
@@ -167,8 +168,8 @@ module _ (o : Opening) (most : Limits) (seat : SeatView Entry) (c : Contents) (i
     there : (w : Write) → IsTypedWrite schema w → written_table w < length c.store.rows
     there w typed = let h = table_there schema w typed in let k = has.tables in omega (arith, h, k)
 
-    there_held : (w : Write) → IsTypedWrite schema w → written_table w < length (held o run s)
-    there_held w typed = let h = there w typed in let l = length-same c.store.rows (held o run s) rows in omega (arith, h, l)
+    there_held : (w : Write) → IsTypedWrite schema w → written_table w < length (shard_rows o run s)
+    there_held w typed = let h = there w typed in let l = length-same c.store.rows (shard_rows o run s) rows in omega (arith, h, l)
 
     pub has_room_now : (entries stored : ℕ) (w : Write) (changes : List RowChange) → entries ≡ length (entries_on seat.slot seat.seen)
         → stored ≡ length c.stored.items → IsTypedWrite schema w → changes_of schema w c.store.rows ≡ Ok changes
@@ -183,10 +184,10 @@ module _ (o : Opening) (most : Limits) (seat : SeatView Entry) (c : Contents) (i
         → IsCommitRefusal o most s run w r
     refused v entries stored w r vs es ss typed (commits.no_memory) = refusals.no_memory
     refused v entries stored w r vs es ss typed (commits.duplicate e) =
-        refusals.duplicate ((over_same w restricted beside).refused (ap (λ v. changes_of v w c.store.rows) (sym vs) ∙ e))
+        refusals.duplicate ((over_same w restricted alongside).refused (ap (λ v. changes_of v w c.store.rows) (sym vs) ∙ e))
     refused v entries stored w r vs es ss typed (commits.full changes e h) =
-        let exact = (over_same w (held o run s) rows).changed changes (ap (λ v. changes_of v w c.store.rows) (sym vs) ∙ e) in
-        let few : row_count (held o run s) ≤ most.rows = subst (λ n. n ≤ most.rows) counted (has.within (ap is_serving serving)) in
+        let exact = (over_same w (shard_rows o run s) rows).changed changes (ap (λ v. changes_of v w c.store.rows) (sym vs) ∙ e) in
+        let few : row_count (shard_rows o run s) ≤ most.rows = subst (λ n. n ≤ most.rows) counted (has.within (ap answers_queries serving)) in
         refusals.full exact.0 exact.1
         (no_room_from schema most o s run w exact.0 exact.1 (there_held w typed) few (sym (tested entries stored w es ss) ∙ h))
 
@@ -199,7 +200,7 @@ module _ (o : Opening) (most : Limits) (seat : SeatView Entry) (c : Contents) (i
         → HasRoom o most s run changes → count ≡ length changes → now ≡ record looked { seen = now.seen }
         → HasCommitted o most s p w count now
     committed p looked now w changes session count changed look later own mine seen legal_now room counts pass =
-        let one' = over_one w changes changed in
+        let database' = over_one w changes changed in
         record {
           looked = looked;
           look = look;
@@ -212,8 +213,8 @@ module _ (o : Opening) (most : Limits) (seat : SeatView Entry) (c : Contents) (i
           seen = seen;
           legal = legal_now;
           room = room;
-          after = all_applied one'.0 restricted;
-          counted = told one'.0 one'.1 ∙ ap (λ n. Ok (all_applied one'.0 restricted, n)) (length_permutation changes one'.0 one'.2 ∙ sym counts);
+          after = all_applied database'.0 restricted;
+          counted = told database'.0 database'.1 ∙ ap (λ n. Ok (all_applied database'.0 restricted, n)) (length_permutation changes database'.0 database'.2 ∙ sym counts);
           pass = pass;
         }
       where
@@ -224,7 +225,7 @@ module _ (o : Opening) (most : Limits) (seat : SeatView Entry) (c : Contents) (i
         → seat'.seen ≡ run ++ entry_of s session number writes changes ∷ [] → c'.shard ≡ s → mode o seat'.seen c'.shard.slot ≡ Serving
     still_serves seat' c' session number writes changes seen shard_is =
         let e : Entry = entry_of s session number writes changes in
-        ap (λ (r : Run). mode o r c'.shard.slot) seen ∙ ap (λ (t : Shard). mode o (run ++ e ∷ []) t.slot) shard_is
+        ap (λ (r : Run). mode o r c'.shard.slot) seen ∙ ap (λ (t : ShardRecord). mode o (run ++ e ∷ []) t.slot) shard_is
         ∙ mode-on o run e s.slot (eq-eqb s.slot s.slot refl) ∙ serves
 
     pub after : (seat' : SeatView Entry) (c' : Contents) (session number : ℕ) (writes : List Write) (changes : List RowChange)
@@ -235,36 +236,36 @@ module _ (o : Opening) (most : Limits) (seat : SeatView Entry) (c : Contents) (i
     after seat' c' session number writes changes slots seen room shard_is rows_are stored_are came mode_is limits_are =
         let e : Entry = entry_of s session number writes changes in
         let on : is_on s.slot e ≡ true = eq-eqb s.slot s.slot refl in
-        let left : held o (run ++ e ∷ []) s ≡ all_applied changes (held o run s) =
+        let left : shard_rows o (run ++ e ∷ []) s ≡ all_applied changes (shard_rows o run s) =
         ap (λ l. all_applied l (first_rows o s)) (log-on run e s.slot on) ∙ applied-append (log s.slot run) changes (first_rows o s) in
-        let now : SameRows c'.store.rows (held o (run ++ e ∷ []) s) =
+        let now : SameRows c'.store.rows (shard_rows o (run ++ e ∷ []) s) =
         subst (SameRows c'.store.rows) (sym left)
-        (same_through c'.store.rows (all_applied changes c.store.rows) (all_applied changes (held o run s)) rows_are (all_applied-same changes c.store.rows (held o run s) rows)) in
+        (same_through c'.store.rows (all_applied changes c.store.rows) (all_applied changes (shard_rows o run s)) rows_are (all_applied-same changes c.store.rows (shard_rows o run s) rows)) in
         let logged : filter (λ e. is_on s.slot e && is_stored e.event) (e ∷ []) ≡ e ∷ [] = simp on in
         let more : length (entries_on s.slot (run ++ e ∷ [])) ≡ length (entries_on s.slot run) + 1 =
         ap length (entries-on run e s.slot on) ∙ length-append (entries_on s.slot run) (e ∷ []) in
         let still : mode o (run ++ e ∷ []) s.slot ≡ Serving = mode-on o run e s.slot on ∙ serves in
         record {
           opens = is.opens;
-          slot = slots ∙ is.slot ∙ ap (λ (t : Shard). t.slot) (sym shard_is);
+          slot = slots ∙ is.slot ∙ ap (λ (t : ShardRecord). t.slot) (sym shard_is);
           stands = subst (λ r. IsOnItsSlot o r c'.shard) (sym seen) (subst (IsOnItsSlot o (run ++ e ∷ [])) (sym shard_is) (stands-next o run s e.event stands));
           keeps = holds (record {
-            rows = subst (SameRows c'.store.rows) (ap (λ t. held o (run ++ e ∷ []) t) (sym shard_is) ∙ ap (λ r. held o r c'.shard) (sym seen)) now;
+            rows = subst (SameRows c'.store.rows) (ap (λ t. shard_rows o (run ++ e ∷ []) t) (sym shard_is) ∙ ap (λ r. shard_rows o r c'.shard) (sym seen)) now;
             tables = length-same c'.store.rows (all_applied changes c.store.rows) rows_are ∙ length-all_applied changes c.store.rows ∙ has.tables;
             mode =
-                mode_is ∙ has.mode ∙ serving ∙ sym still ∙ ap (λ (t : Shard). mode o (run ++ e ∷ []) t.slot) (sym shard_is)
+                mode_is ∙ has.mode ∙ serving ∙ sym still ∙ ap (λ (t : ShardRecord). mode o (run ++ e ∷ []) t.slot) (sym shard_is)
                 ∙ ap (λ r. mode o r c'.shard.slot) (sym seen);
             stored =
                 stored_are ∙ ap (λ l. l ++ e ∷ []) stored_here ∙ ap (λ l. stored_on s.slot run ++ l) (sym logged) ∙ sym (stored_on-push run e s.slot)
-                ∙ ap (λ (t : Shard). stored_on t.slot (run ++ e ∷ [])) (sym shard_is) ∙ ap (λ r. stored_on c'.shard.slot r) (sym seen);
+                ∙ ap (λ (t : ShardRecord). stored_on t.slot (run ++ e ∷ [])) (sym shard_is) ∙ ap (λ r. stored_on c'.shard.slot r) (sym seen);
             steps =
                 came ∙ has.steps ∙ ap (kept_from []) (ap (flat_map (λ (x : Entry). steps_of x.event)) (sym here) ∙ sym (steps-push run e s.slot on ∙ append-nil (steps_on s.slot run)))
-                ∙ ap (λ (t : Shard). kept_on t.slot (run ++ e ∷ [])) (sym shard_is) ∙ ap (λ r. kept_on c'.shard.slot r) (sym seen);
-            within = λ serves. subst (λ n. n ≤ most.rows) (sym (row_count-same c'.store.rows (held o (run ++ e ∷ []) s) now ∙ ap row_count left)) room.rows;
+                ∙ ap (λ (t : ShardRecord). kept_on t.slot (run ++ e ∷ [])) (sym shard_is) ∙ ap (λ r. kept_on c'.shard.slot r) (sym seen);
+            within = λ serves. subst (λ n. n ≤ most.rows) (sym (row_count-same c'.store.rows (shard_rows o (run ++ e ∷ []) s) now ∙ ap row_count left)) room.rows;
           });
           entries =
               subst (λ r. length (entries_on c'.shard.slot r) ≤ 2 ^ 40 + beyond (mode o r c'.shard.slot)) (sym seen)
-              (subst (λ (t : Shard). length (entries_on t.slot (run ++ e ∷ [])) ≤ 2 ^ 40 + beyond (mode o (run ++ e ∷ []) t.slot)) (sym shard_is)
+              (subst (λ (t : ShardRecord). length (entries_on t.slot (run ++ e ∷ [])) ≤ 2 ^ 40 + beyond (mode o (run ++ e ∷ []) t.slot)) (sym shard_is)
               (let h = room.entries in let k = ap beyond still in omega (arith, more, h, k)));
           limits = limits_are ∙ is.limits;
           most_rows = is.most_rows;

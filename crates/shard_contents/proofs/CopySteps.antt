@@ -22,13 +22,13 @@ use Rattle.sql_eval.proofs.Permutations.{IsPermutation-filter}
 use Rattle.journal.specs.Runs.{on_slot}
 use Rattle.journal.specs.Views.{SeatView, PassView, IsLater}
 use Rattle.journal.proofs.Fronts.{prefix_trans}
-use Rattle.shard_run.specs.declared.Shard.{Shard}
+use Rattle.shard_run.specs.declared.ShardRecord.{ShardRecord}
 use Rattle.shard_run.specs.declared.Mode.TheVariants.{Following}
 use Rattle.shard_run.specs.declared.Copied as C
 use Rattle.shard_run.specs.declared.Event.{Event}
 use Rattle.shard_run.specs.declared.Event.TheVariants.{Commit, Follow, Copy, Freeze, Thaw, Retire, Serve}
 use Rattle.shard_run.specs.declared.Entry.{Entry}
-use Rattle.shard_run.specs.Runs.{Run, Opening, held, first_rows, mode, is_serving, is_on, is_stored, stored_on, stored_changes, entries_on}
+use Rattle.shard_run.specs.Runs.{Run, Opening, shard_rows, first_rows, mode, answers_queries, is_on, is_stored, stored_on, stored_changes, entries_on}
 use Rattle.shard_run.specs.Copies.{position, is_key_before, table_at, is_last, has_copied_all, is_copied, is_copy_that, reaches}
 use Rattle.shard_law.specs.Legal.{Legal, MayCopy, Had, IsOnItsSlot, is_left}
 use Rattle.shard_run.specs.Openings.{IsOpening, row_count}
@@ -38,15 +38,16 @@ use Rattle.shard_law.proofs.Keys.{filter-permuted}
 use Rattle.shard_law.proofs.Unique.{filter-fewer, unique-from_few, few_held}
 use Rattle.shard_law.proofs.Rising.{last_key_tells, none_tells}
 use Rattle.shard_law.proofs.Runs.{log, log-on, mode-on, stored_on-push}
-use Rattle.shard_contents.specs.declared.limits.Limits.{Limits}
+use Rattle.shard_law.specs.declared.limits.Limits.{Limits}
 use Rattle.shard_contents.specs.declared.contents.Contents.{Contents}
-use Rattle.shard_contents.specs.declared.forward.Step.{Step}
-use Rattle.shard_contents.specs.declared.forward.Step.TheVariants.{Copied}
+use Rattle.shard_contents.specs.declared.target_steps.TargetStep.{TargetStep}
+use Rattle.shard_contents.specs.declared.target_steps.TargetStep.TheVariants.{Copied}
 use Rattle.shard_contents.specs.Progress.{last_row, steps_of, steps_on}
 use Rattle.shard_contents.specs.Kept.{keep, kept_from, kept_on}
-use Rattle.shard_contents.specs.Shards as sh
-use Rattle.shard_contents.specs.Shards.{Holds, holds, Keeps, IsAfter, Names, ShardView, slot_of, commit_of, beyond}
-use Rattle.shard_contents.specs.Copying.{is_reached, is_wanted, IsCopyFor, IsNextCopy, PassesLimit}
+use Rattle.shard_law.specs.Entries as entries_of
+use Rattle.shard_law.specs.Entries.{ShardView, slot_of, commit_of}
+use Rattle.shard_contents.specs.Shards.{Holds, holds, Keeps, IsAfter, RetiredFor, beyond}
+use Rattle.shard_contents.specs.Copying.{is_reached, is_left_to_copy, IsCopyFor, IsNextCopy, PassesLimit}
 use Rattle.shard_contents.specs.Copying as limits
 use Rattle.shard_contents.specs.inner.Copying.{has_room_to_copy}
 use Rattle.shard_contents.specs.inner.Placed.{AreFirst}
@@ -72,11 +73,11 @@ later None old = old
 later (Some row) old = Some row
 
 -- the last of these steps' rows of the table from the source
-abbrev pub row_last : ℕ → ℕ → Option Row → List Step → Option Row
+abbrev pub row_last : ℕ → ℕ → Option Row → List TargetStep → Option Row
 row_last source n old [] = old
 row_last source n old (x ∷ steps) = row_last source n (later (row_of source n x) old) steps
 
-pub row_last-push : (source n : ℕ) (old : Option Row) (steps : List Step) (x : Step)
+pub row_last-push : (source n : ℕ) (old : Option Row) (steps : List TargetStep) (x : TargetStep)
     → row_last source n old (steps ++ x ∷ []) ≡ later (row_of source n x) (row_last source n old steps)
 row_last-push source n old [] x = refl
 row_last-push source n old (y ∷ steps) x = row_last-push source n (later (row_of source n y) old) steps x
@@ -125,7 +126,7 @@ row_last-run source n old (e ∷ run) = by e.event (λ new. row_last-run source 
         ap (λ r. later r old) (last_row-append (copied_by source n (Copy c)) (flat_map (λ (x : Entry). copied_by source n x.event) run))
         ∙ later-assoc (last_row (flat_map (λ (x : Entry). copied_by source n x.event) run)) (last_row (copied_by source n (Copy c))) old
         ∙ ap (λ r. later (last_row (flat_map (λ (x : Entry). copied_by source n x.event) run)) (later r old)) (last_row-if ((c.source == source) && (c.table == n)) c.rows)
-        ∙ ih (later (row_of source n (Copied c.source c.table c.place (is_last c) (last_row c.rows))) old)
+        ∙ ih (later (row_of source n (Copied c.source c.table c.log_position (is_last c) (last_row c.rows))) old)
     by Freeze ih = ih old
     by Thaw ih = ih old
     by (Retire targets) ih = ih old
@@ -226,23 +227,23 @@ table_is schema items are n t there is = is ∙ other items n t no_table there �
     other (x ∷ xs) (suc n) d e l = other xs n d e (omega (arith, l))
 
 pub first_as : (place : Place) (t t' : Table) (after after' : Option Row) (rows rows' first : List Row) → t ≡ t' → after ≡ after' → rows ≡ rows'
-    → AreFirst t (is_wanted place t after) rows first → AreFirst t' (is_wanted place t' after') rows' first
+    → AreFirst t (is_left_to_copy place t after) rows first → AreFirst t' (is_left_to_copy place t' after') rows' first
 first_as place t t' after after' rows rows' first a b c f =
-    subst (λ (x : Table). AreFirst x (is_wanted place x after') rows' first) a
-    (subst (λ (x : Option Row). AreFirst t (is_wanted place t x) rows' first) b
-    (subst (λ (x : List Row). AreFirst t (is_wanted place t after) x first) c f))
+    subst (λ (x : Table). AreFirst x (is_left_to_copy place x after') rows' first) a
+    (subst (λ (x : Option Row). AreFirst t (is_left_to_copy place t x) rows' first) b
+    (subst (λ (x : List Row). AreFirst t (is_left_to_copy place t after) x first) c f))
 
 pub stored_there_now : (o : Opening) (run : Run) → Legal o run → (source at : ℕ) (e : Entry) → slice_get (stored_on source run) at ≡ Some e
     → AllByRecursion (λ c. changed_table c < length o.schema.tables) (stored_changes e.event)
 stored_there_now o run legal source at e stored = stored_there o run source at e (there_from o run [] legal tt) stored
 
 module _ (o : Opening) (most : Limits) (seat : SeatView Entry) (c : Contents) (is : IsAfter o most seat c) (formed : is_vschema o.schema ≡ true)
-    (legal : Legal o seat.seen) (serves : is_serving (mode o seat.seen c.shard.slot) ≡ true) (n : ℕ) where
+    (legal : Legal o seat.seen) (serves : answers_queries (mode o seat.seen c.shard.slot) ≡ true) (n : ℕ) where
   has : Holds o most seat.seen c
   has = holds_of o most seat.seen c is.keeps (lives_if (mode o seat.seen c.shard.slot) serves)
 
-  same : IsPermutation (rows_of c.store.rows n) (rows_of (held o seat.seen c.shard) n)
-  same = rows-same c.store.rows (held o seat.seen c.shard) has.rows n
+  same : IsPermutation (rows_of c.store.rows n) (rows_of (shard_rows o seat.seen c.shard) n)
+  same = rows-same c.store.rows (shard_rows o seat.seen c.shard) has.rows n
 
   -- no two of these rows have one key
   few : (test : Row → Bool) (arranged : List Row) → IsPermutation (filter test (rows_of c.store.rows n)) arranged → (r : Row)
@@ -251,29 +252,29 @@ module _ (o : Opening) (most : Limits) (seat : SeatView Entry) (c : Contents) (i
       let q : Row → Bool = λ row. same_row (key_of (table_at o.schema n) row) (key_of (table_at o.schema n) r) in
       let h = filter-permuted q (filter test (rows_of c.store.rows n)) arranged all in
       let k = filter-fewer test q (rows_of c.store.rows n) in
-      let l = filter-permuted q (rows_of c.store.rows n) (rows_of (held o seat.seen c.shard) n) same in
+      let l = filter-permuted q (rows_of c.store.rows n) (rows_of (shard_rows o seat.seen c.shard) n) same in
       let m = few_held o is.opens formed seat.seen legal c.shard (lives o is.opens seat.seen c.shard is.stands serves) n r in
       omega (arith, h, k, l, m)
 
   pub copy_for : (place : Place) (after : Option Row) (first : List Row) (taken : C.Copied)
-      → AreFirst (table_at o.schema n) (is_wanted place (table_at o.schema n) after) (rows_of c.store.rows n) first
-      → taken.source ≡ c.shard.slot → taken.table ≡ n → taken.place ≡ length (stored_on c.shard.slot seat.seen) → taken.rows ≡ first
+      → AreFirst (table_at o.schema n) (is_left_to_copy place (table_at o.schema n) after) (rows_of c.store.rows n) first
+      → taken.source ≡ c.shard.slot → taken.table ≡ n → taken.log_position ≡ length (stored_on c.shard.slot seat.seen) → taken.rows ≡ first
       → IsCopyFor o seat.seen c.shard place after taken
   copy_for place after first taken f source table at rows =
       let t = table_at o.schema n in
-      let test : Row → Bool = is_wanted place t after in
+      let test : Row → Bool = is_left_to_copy place t after in
       let unique = unique-from_few t f.arranged (few test f.arranged f.all) in
-      let all : IsPermutation (filter test (rows_of (held o seat.seen c.shard) n)) f.arranged =
-      IsPermutation-trans (filter test (rows_of (held o seat.seen c.shard) n)) (filter test (rows_of c.store.rows n)) f.arranged
-      (IsPermutation-filter test (rows_of (held o seat.seen c.shard) n) (rows_of c.store.rows n)
-      (IsPermutation-sym (rows_of c.store.rows n) (rows_of (held o seat.seen c.shard) n) same)) f.all in
+      let all : IsPermutation (filter test (rows_of (shard_rows o seat.seen c.shard) n)) f.arranged =
+      IsPermutation-trans (filter test (rows_of (shard_rows o seat.seen c.shard) n)) (filter test (rows_of c.store.rows n)) f.arranged
+      (IsPermutation-filter test (rows_of (shard_rows o seat.seen c.shard) n) (rows_of c.store.rows n)
+      (IsPermutation-sym (rows_of c.store.rows n) (rows_of (shard_rows o seat.seen c.shard) n) same)) f.all in
       record {
         of_source = source;
         of_run = of_run o is.opens seat.seen c.shard is.stands serves;
         serves = serves;
         place = at;
         arranged = f.arranged;
-        all = subst (λ m. IsPermutation (filter (is_wanted place (table_at o.schema m) after) (rows_of (held o seat.seen c.shard) m)) f.arranged) (sym table) all;
+        all = subst (λ m. IsPermutation (filter (is_left_to_copy place (table_at o.schema m) after) (rows_of (shard_rows o seat.seen c.shard) m)) f.arranged) (sym table) all;
         in_order =
             subst (λ m. AllPairs (λ a b. IsTrue (is_key_before (key_of (table_at o.schema m) a) (key_of (table_at o.schema m) b))) f.arranged) (sym table)
             (strictly t f.arranged f.in_order unique);
@@ -282,7 +283,7 @@ module _ (o : Opening) (most : Limits) (seat : SeatView Entry) (c : Contents) (i
 
 -- ---- when a Copy is lawful
 
-module _ (o : Opening) (old new : Run) (t : Shard) (same : entries_on t.slot new ≡ entries_on t.slot old) where
+module _ (o : Opening) (old new : Run) (t : ShardRecord) (same : entries_on t.slot new ≡ entries_on t.slot old) where
   pub left-same : (source n : ℕ) (row : Row) → is_left o new t source n row ≡ is_left o old t source n row
   left-same source n row =
       ap (λ b. lies_in t.place (table_at o.schema n) row && not b)
@@ -304,10 +305,10 @@ had_later o old new slot entries db (rest, is) h = record {
 }
 
 -- a Copy that was next by what seat and pass had seen may come in each run that they may meet
-pub may_copy_later : (o : Opening) (run new : Run) (v : ShardView) (t : Shard) (c : C.Copied) → IsNextCopy o run v c → v.shard ≡ t → IsPrefix run new
+pub may_copy_later : (o : Opening) (run new : Run) (v : ShardView) (t : ShardRecord) (c : C.Copied) → IsNextCopy o run v c → v.shard ≡ t → IsPrefix run new
     → entries_on t.slot new ≡ entries_on t.slot v.seen → mode o new t.slot ≡ Following → MayCopy o new t c
 may_copy_later o run new v t c is shard later same following =
-    let x : IsNextCopy o run (record v { shard = t }) c = subst (λ (s : Shard). IsNextCopy o run (record v { shard = s }) c) shard is in
+    let x : IsNextCopy o run (record v { shard = t }) c = subst (λ (s : ShardRecord). IsNextCopy o run (record v { shard = s }) c) shard is in
     record {
       following = following;
       of_source = x.of_source;
@@ -316,7 +317,7 @@ may_copy_later o run new v t c is shard later same following =
       first = λ n of_table earlier. copied_all-same v.seen new t.slot c.source n same ∙ x.next.first n of_table earlier;
       place = by (x.place);
       db = x.db;
-      had = had_later o run new c.source c.place x.db later x.had;
+      had = had_later o run new c.source c.log_position x.db later x.had;
       arranged = x.arranged;
       all =
           subst (λ (l : List Row). IsPermutation l x.arranged)
@@ -326,8 +327,8 @@ may_copy_later o run new v t c is shard later same following =
       rows = x.rows;
     }
   where
-    by : (position v.seen t.slot c.source ≡ None) ⊎ (position v.seen t.slot c.source ≡ Some c.place)
-        → (position new t.slot c.source ≡ None) ⊎ (position new t.slot c.source ≡ Some c.place)
+    by : (position v.seen t.slot c.source ≡ None) ⊎ (position v.seen t.slot c.source ≡ Some c.log_position)
+        → (position new t.slot c.source ≡ None) ⊎ (position new t.slot c.source ≡ Some c.log_position)
     by (inl e) = inl (position-same v.seen new t.slot c.source same ∙ e)
     by (inr e) = inr (position-same v.seen new t.slot c.source same ∙ e)
 
@@ -335,7 +336,7 @@ may_copy_later o run new v t c is shard later same following =
 
 module _ (o : Opening) (most : Limits) (seat : SeatView Entry) (c : Contents) (is : IsAfter o most seat c) (following : mode o seat.seen c.shard.slot ≡ Following)
     (run : Run) (alone : entries_on seat.slot run ≡ entries_on seat.slot seat.seen) (taken : C.Copied) where
-  abbrev s : Shard
+  abbrev s : ShardRecord
   s = c.shard
 
   abbrev e : Entry
@@ -356,7 +357,7 @@ module _ (o : Opening) (most : Limits) (seat : SeatView Entry) (c : Contents) (i
   pub mode_copies : mode o (run ++ e ∷ []) s.slot ≡ Following
   mode_copies = mode-on o run e s.slot on ∙ mode_there o most seat c is run alone ∙ following
 
-  held_now : held o (run ++ e ∷ []) s ≡ all_applied changes (held o seat.seen s)
+  held_now : shard_rows o (run ++ e ∷ []) s ≡ all_applied changes (shard_rows o seat.seen s)
   held_now =
       ap (λ (l : List RowChange). all_applied l (first_rows o s)) (log-on run e s.slot on)
       ∙ applied-append (log s.slot run) changes (first_rows o s)
@@ -367,43 +368,43 @@ module _ (o : Opening) (most : Limits) (seat : SeatView Entry) (c : Contents) (i
       let none : filter (λ (x : Entry). is_on s.slot x && is_stored x.event) (e ∷ []) ≡ [] = simp on in
       stored_on-push run e s.slot ∙ ap (λ (l : Run). stored_on s.slot run ++ l) none ∙ append-nil (stored_on s.slot run) ∙ stored-same o seat.seen run s same_on
 
-  abbrev came : Step
-  came = Copied taken.source taken.table taken.place (is_last taken) (last_row taken.rows)
+  abbrev came : TargetStep
+  came = Copied taken.source taken.table taken.log_position (is_last taken) (last_row taken.rows)
 
   pub after_copy : (seat' : SeatView Entry) (c' : Contents) → seat'.seen ≡ run ++ e ∷ [] → seat'.slot ≡ seat.slot → c'.shard ≡ s
       → SameRows c'.store.rows (all_applied changes c.store.rows) → c'.mode ≡ c.mode → c'.stored.items ≡ c.stored.items → c'.steps.items ≡ keep came c.steps.items
       → c'.limits ≡ c.limits → length (entries_on s.slot seat.seen) < 2 ^ 40 → IsAfter o most seat' c'
   after_copy seat' c' seen at shard_is rows modes stores steps_are limits_are room =
-      let now : SameRows c'.store.rows (held o (run ++ e ∷ []) s) =
+      let now : SameRows c'.store.rows (shard_rows o (run ++ e ∷ []) s) =
       subst (SameRows c'.store.rows) (sym held_now)
-      (same_through c'.store.rows (all_applied changes c.store.rows) (all_applied changes (held o seat.seen s)) rows
-      (all_applied-same changes c.store.rows (held o seat.seen s) held_before.rows)) in
+      (same_through c'.store.rows (all_applied changes c.store.rows) (all_applied changes (shard_rows o seat.seen s)) rows
+      (all_applied-same changes c.store.rows (shard_rows o seat.seen s) held_before.rows)) in
       record {
         opens = is.opens;
-        slot = at ∙ is.slot ∙ ap (λ (t : Shard). t.slot) (sym shard_is);
+        slot = at ∙ is.slot ∙ ap (λ (t : ShardRecord). t.slot) (sym shard_is);
         stands =
             subst (λ r. IsOnItsSlot o r c'.shard) (sym seen)
             (subst (IsOnItsSlot o (run ++ e ∷ [])) (sym shard_is) (stands-next o run s e.event (stands_there o most seat c is run alone)));
         keeps = holds (record {
-          rows = subst (SameRows c'.store.rows) (ap (held o (run ++ e ∷ [])) (sym shard_is) ∙ ap (λ r. held o r c'.shard) (sym seen)) now;
+          rows = subst (SameRows c'.store.rows) (ap (shard_rows o (run ++ e ∷ [])) (sym shard_is) ∙ ap (λ r. shard_rows o r c'.shard) (sym seen)) now;
           tables = length-same c'.store.rows (all_applied changes c.store.rows) rows ∙ length-all_applied changes c.store.rows ∙ held_before.tables;
           mode =
-              modes ∙ held_before.mode ∙ following ∙ sym mode_copies ∙ ap (λ (t : Shard). mode o (run ++ e ∷ []) t.slot) (sym shard_is)
+              modes ∙ held_before.mode ∙ following ∙ sym mode_copies ∙ ap (λ (t : ShardRecord). mode o (run ++ e ∷ []) t.slot) (sym shard_is)
               ∙ ap (λ r. mode o r c'.shard.slot) (sym seen);
           stored =
-              stores ∙ held_before.stored ∙ sym stored_now ∙ ap (λ (t : Shard). stored_on t.slot (run ++ e ∷ [])) (sym shard_is)
+              stores ∙ held_before.stored ∙ sym stored_now ∙ ap (λ (t : ShardRecord). stored_on t.slot (run ++ e ∷ [])) (sym shard_is)
               ∙ ap (stored_on c'.shard.slot) (sym seen);
           steps =
               steps_are ∙ ap (keep came) (held_before.steps ∙ ap (λ (es : List Entry). kept_from [] (flat_map (λ (x : Entry). steps_of x.event) es)) (sym same_on))
-              ∙ sym (kept-push [] (steps_on s.slot run) came) ∙ ap (kept_from []) (sym (steps-push run e s.slot on)) ∙ ap (λ (t : Shard). kept_on t.slot (run ++ e ∷ [])) (sym shard_is)
+              ∙ sym (kept-push [] (steps_on s.slot run) came) ∙ ap (kept_from []) (sym (steps-push run e s.slot on)) ∙ ap (λ (t : ShardRecord). kept_on t.slot (run ++ e ∷ [])) (sym shard_is)
               ∙ ap (kept_on c'.shard.slot) (sym seen);
           within = λ serves.
-              absurd (false≢true (sym (ap is_serving (ap (λ r. mode o r c'.shard.slot) seen
-              ∙ ap (λ (t : Shard). mode o (run ++ e ∷ []) t.slot) shard_is ∙ mode_copies)) ∙ serves));
+              absurd (false≢true (sym (ap answers_queries (ap (λ r. mode o r c'.shard.slot) seen
+              ∙ ap (λ (t : ShardRecord). mode o (run ++ e ∷ []) t.slot) shard_is ∙ mode_copies)) ∙ serves));
         });
         entries =
             subst (λ r. length (entries_on c'.shard.slot r) ≤ 2 ^ 40 + beyond (mode o r c'.shard.slot)) (sym seen)
-            (subst (λ (t : Shard). length (entries_on t.slot (run ++ e ∷ [])) ≤ 2 ^ 40 + beyond (mode o (run ++ e ∷ []) t.slot)) (sym shard_is)
+            (subst (λ (t : ShardRecord). length (entries_on t.slot (run ++ e ∷ [])) ≤ 2 ^ 40 + beyond (mode o (run ++ e ∷ []) t.slot)) (sym shard_is)
             (let h = ap length (entries-on run e s.slot on) in
             let k = length-append (entries_on s.slot run) (e ∷ []) in
             let l = ap length same_on in
@@ -415,15 +416,15 @@ module _ (o : Opening) (most : Limits) (seat : SeatView Entry) (c : Contents) (i
 
 -- ---- the Copy as the code makes it
 
-module _ {X : Type 0} (o : Opening) (most : Limits) (seat looked : SeatView Entry) (c : Contents) (targets : List Shard) (p q : PassView Entry)
-    (inv : IsAfter o most seat c × Names o seat.seen c.shard targets × X) (further : IsLater slot_of commit_of (sh.MayFollow o) seat p looked.seen)
+module _ {X : Type 0} (o : Opening) (most : Limits) (seat looked : SeatView Entry) (c : Contents) (targets : List ShardRecord) (p q : PassView Entry)
+    (inv : IsAfter o most seat c × RetiredFor o seat.seen c.shard targets × X) (further : IsLater slot_of commit_of (entries_of.MayFollow o) seat p looked.seen)
     (seat_is : looked ≡ record seat { seen = looked.seen }) (pass_is : q ≡ record p { seen = looked.seen; looks = p.looks ++ (seat.slot, length looked.seen) ∷ [] })
     (v : ShardView) (view : record { seen = seat.seen; shard = c.shard } ≡ v) (following : mode o v.seen v.shard.slot ≡ Following) (taken : C.Copied)
     (next : IsNextCopy o p.seen v taken) where
   now_is : IsAfter o most looked c
   now_is = f.now_is o most seat looked c targets p q inv further seat_is pass_is v view following
 
-  pub copy_lawful : (run : Run) → IsLater slot_of commit_of (sh.MayFollow o) looked q run → sh.MayFollow o run (record { shard = c.shard; event = Copy taken })
+  pub copy_lawful : (run : Run) → IsLater slot_of commit_of (entries_of.MayFollow o) looked q run → entries_of.MayFollow o run (record { shard = c.shard; event = Copy taken })
   copy_lawful run more =
       let first = alone_here o most seat looked p c targets further (ap (λ (s : SeatView Entry). s.slot) seat_is) inv.0 in
       let second = here o most looked c now_is run more.alone in
@@ -446,24 +447,24 @@ module _ {X : Type 0} (o : Opening) (most : Limits) (seat looked : SeatView Entr
 
   -- after its entry it has so many rows
   copied_rows : (run : Run) → entries_on looked.slot run ≡ entries_on looked.slot looked.seen
-      → row_count (held o (run ++ record { shard = v.shard; event = Copy taken } ∷ []) v.shard) ≡ row_count c.store.rows + length taken.rows
+      → row_count (shard_rows o (run ++ record { shard = v.shard; event = Copy taken } ∷ []) v.shard) ≡ row_count c.store.rows + length taken.rows
   copied_rows run alone =
       let follows = f.follows_now o most seat looked c targets p q inv further seat_is pass_is v view following in
-      let changed = all_applied-same adds c.store.rows (held o looked.seen c.shard) has_now.rows in
+      let changed = all_applied-same adds c.store.rows (shard_rows o looked.seen c.shard) has_now.rows in
       let there = next.next.table.0 in
       let tables = has_now.tables in
-      ap (λ (s : Shard). row_count (held o (run ++ record { shard = s; event = Copy taken } ∷ []) s)) (sym shard_is)
+      ap (λ (s : ShardRecord). row_count (shard_rows o (run ++ record { shard = s; event = Copy taken } ∷ []) s)) (sym shard_is)
       ∙ ap row_count (held_now o most looked c now_is follows run alone taken)
-      ∙ sym (row_count-same (all_applied adds c.store.rows) (all_applied adds (held o looked.seen c.shard)) changed)
+      ∙ sym (row_count-same (all_applied adds c.store.rows) (all_applied adds (shard_rows o looked.seen c.shard)) changed)
       ∙ copied_count taken.table taken.rows c.store.rows (omega (arith, there, tables))
 
   -- after the run that was seen it may come
-  pub copy_lawful_now : sh.MayFollow o q.seen (record { shard = v.shard; event = Copy taken })
+  pub copy_lawful_now : entries_of.MayFollow o q.seen (record { shard = v.shard; event = Copy taken })
   copy_lawful_now =
       let seen_same : q.seen ≡ looked.seen = ap (λ (x : PassView Entry). x.seen) pass_is in
       let h = copy_lawful looked.seen (f.nothing_since o looked q further.legal seen_same) in
-      subst (λ (r : Run). sh.MayFollow o r (record { shard = v.shard; event = Copy taken })) (sym seen_same)
-      (subst (λ (s : Shard). sh.MayFollow o looked.seen (record { shard = s; event = Copy taken })) shard_is h)
+      subst (λ (r : Run). entries_of.MayFollow o r (record { shard = v.shard; event = Copy taken })) (sym seen_same)
+      (subst (λ (s : ShardRecord). entries_of.MayFollow o looked.seen (record { shard = s; event = Copy taken })) shard_is h)
 
   -- where the test by counts says no, a limit is passed
   pub copy_passes : (n : ℕ) → n ≡ length (filter (on_slot slot_of seat.slot) looked.seen)
@@ -479,17 +480,17 @@ module _ {X : Type 0} (o : Opening) (most : Limits) (seat looked : SeatView Entr
           let rows = copied_rows looked.seen refl in
           let limit = ap (λ (x : Limits). x.rows) inv.0.limits in
           let seen_same : q.seen ≡ looked.seen = ap (λ (x : PassView Entry). x.seen) pass_is in
-          let told = ap (λ (r : Run). row_count (held o (r ++ record { shard = v.shard; event = Copy taken } ∷ []) v.shard)) seen_same in
+          let told = ap (λ (r : Run). row_count (shard_rows o (r ++ record { shard = v.shard; event = Copy taken } ∷ []) v.shard)) seen_same in
           limits.rows (omega (arith, rows, limit, told, h))
 
   -- and where it says yes, none is
   pub copy_within : (n : ℕ) (run seen : Run) → entries_on looked.slot run ≡ entries_on looked.slot looked.seen
       → seen ≡ run ++ record { shard = c.shard; event = Copy taken } ∷ []
-      → has_room_to_copy c.limits n (row_count c.store.rows) (length taken.rows) ≡ true → row_count (held o seen v.shard) ≤ most.rows
+      → has_room_to_copy c.limits n (row_count c.store.rows) (length taken.rows) ≡ true → row_count (shard_rows o seen v.shard) ≤ most.rows
   copy_within n run seen alone end_is h =
       let rows = copied_rows run alone in
       let limit = ap (λ (x : Limits). x.rows) inv.0.limits in
       let few = room_to_copy c.limits n (row_count c.store.rows) (length taken.rows) h in
-      let told = ap (λ (r : Run). row_count (held o r v.shard)) end_is
-      ∙ ap (λ (s : Shard). row_count (held o (run ++ record { shard = s; event = Copy taken } ∷ []) v.shard)) shard_is in
+      let told = ap (λ (r : Run). row_count (shard_rows o r v.shard)) end_is
+      ∙ ap (λ (s : ShardRecord). row_count (shard_rows o (run ++ record { shard = s; event = Copy taken } ∷ []) v.shard)) shard_is in
       omega (arith, rows, limit, few, told)

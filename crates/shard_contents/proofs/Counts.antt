@@ -26,10 +26,10 @@ use Rattle.sql_eval.proofs.ChangeLemmas.{ok_is}
 use Rattle.shard_law.proofs.Rows.{row_is, nil_is}
 use Rattle.shard_law.proofs.Lists.{AllByRecursion-push}
 use Rattle.vt_value.specs.declared.refusal.Refusal.TheVariants.{DuplicateKey}
-use Rattle.shard_run.specs.declared.Shard.{Shard}
-use Rattle.shard_run.specs.Runs.{Opening, Run, held, entries_on, stored_on}
+use Rattle.shard_run.specs.declared.ShardRecord.{ShardRecord}
+use Rattle.shard_run.specs.Runs.{Opening, Run, shard_rows, entries_on, stored_on}
 use Rattle.shard_run.specs.Openings.{row_count}
-use Rattle.shard_contents.specs.declared.limits.Limits.{Limits}
+use Rattle.shard_law.specs.declared.limits.Limits.{Limits}
 use Rattle.shard_contents.specs.Commits.{inserted_rows, HasRoom}
 use Rattle.shard_contents.specs.inner.Commits.{has_room}
 use Rattle.shard_contents.specs.inner.Stores.{row_after}
@@ -206,7 +206,7 @@ counted schema w changes db is there =
     let n = written_table w in
     count_after changes db n (of_table (get_or schema.tables n no_table) w (get_or db n []) changes is) there
 
-module _ (schema : VSchema) (limits : Limits) (o : Opening) (s : Shard) (run : Run) (w : Write) (changes : List RowChange) where
+module _ (schema : VSchema) (limits : Limits) (o : Opening) (s : ShardRecord) (run : Run) (w : Write) (changes : List RowChange) where
   abbrev n : ℕ
   n = written_table w
 
@@ -214,19 +214,19 @@ module _ (schema : VSchema) (limits : Limits) (o : Opening) (s : Shard) (run : R
   table = get_or schema.tables n no_table
 
   -- the quick test, over the same rows in some order, says that there is room
-  pub room_from : (db : Database) → SameRows db (held o run s) → changes_of schema w db ≡ Ok changes → n < length db
-      → has_room limits (length (entries_on s.slot run)) (length (stored_on s.slot run)) (row_count (held o run s)) w ≡ true → HasRoom o limits s run changes
+  pub room_from : (db : Database) → SameRows db (shard_rows o run s) → changes_of schema w db ≡ Ok changes → n < length db
+      → has_room limits (length (entries_on s.slot run)) (length (stored_on s.slot run)) (row_count (shard_rows o run s)) w ≡ true → HasRoom o limits s run changes
   room_from db same is there h =
       let e = length (entries_on s.slot run) in
       let k = length (stored_on s.slot run) in
-      let many = row_count (held o run s) in
+      let many = row_count (shard_rows o run s) in
       let a = and_parts (nat_lt e (2 ^ 40) && nat_lt k limits.stored) (nat_le (many + length (inserted_rows w)) limits.rows) h in
       let b = and_parts (nat_lt e (2 ^ 40)) (nat_lt k limits.stored) a.0 in
       let l = leb-true (many + length (inserted_rows w)) limits.rows a.1 in
       let c = counted schema w changes db is there in
       let d = write_count table w (get_or db n []) changes is in
-      let before = row_count-same db (held o run s) same in
-      let after = row_count-same (all_applied changes db) (all_applied changes (held o run s)) (all_applied-same changes db (held o run s) same) in
+      let before = row_count-same db (shard_rows o run s) same in
+      let after = row_count-same (all_applied changes db) (all_applied changes (shard_rows o run s)) (all_applied-same changes db (shard_rows o run s) same) in
       record {
         rows = omega (arith, l, c, d, before, after);
         stored = ltb-true k limits.stored b.1;
@@ -234,19 +234,19 @@ module _ (schema : VSchema) (limits : Limits) (o : Opening) (s : Shard) (run : R
       }
 
   -- and that there is none
-  pub no_room_from : changes_of schema w (held o run s) ≡ Ok changes → n < length (held o run s) → row_count (held o run s) ≤ limits.rows
-      → has_room limits (length (entries_on s.slot run)) (length (stored_on s.slot run)) (row_count (held o run s)) w ≡ false
+  pub no_room_from : changes_of schema w (shard_rows o run s) ≡ Ok changes → n < length (shard_rows o run s) → row_count (shard_rows o run s) ≤ limits.rows
+      → has_room limits (length (entries_on s.slot run)) (length (stored_on s.slot run)) (row_count (shard_rows o run s)) w ≡ false
       → HasRoom o limits s run changes → ⊥
   no_room_from is there within h room =
       let e = length (entries_on s.slot run) in
       let k = length (stored_on s.slot run) in
-      let all : row_count (held o run s) + length (inserted_rows w) ≤ limits.rows = by (insert_count table w (get_or (held o run s) n []) changes is) in
-      false≢true (sym h ∙ and_from (nat_lt e (2 ^ 40) && nat_lt k limits.stored) (nat_le (row_count (held o run s) + length (inserted_rows w)) limits.rows)
+      let all : row_count (shard_rows o run s) + length (inserted_rows w) ≤ limits.rows = by (insert_count table w (get_or (shard_rows o run s) n []) changes is) in
+      false≢true (sym h ∙ and_from (nat_lt e (2 ^ 40) && nat_lt k limits.stored) (nat_le (row_count (shard_rows o run s) + length (inserted_rows w)) limits.rows)
       (and_from (nat_lt e (2 ^ 40)) (nat_lt k limits.stored) (lt-ltb e (2 ^ 40) room.entries) (lt-ltb k limits.stored room.stored))
-      (le-leb (row_count (held o run s) + length (inserted_rows w)) limits.rows all))
+      (le-leb (row_count (shard_rows o run s) + length (inserted_rows w)) limits.rows all))
     where
       by : (length (inserted_rows w) ≡ 0)
-          ⊎ (length (rows_after changes (get_or (held o run s) n [])) ≡ length (get_or (held o run s) n []) + length (inserted_rows w))
-          → row_count (held o run s) + length (inserted_rows w) ≤ limits.rows
+          ⊎ (length (rows_after changes (get_or (shard_rows o run s) n [])) ≡ length (get_or (shard_rows o run s) n []) + length (inserted_rows w))
+          → row_count (shard_rows o run s) + length (inserted_rows w) ≤ limits.rows
       by (inl none) = omega (arith, within, none)
-      by (inr exact) = let c = counted schema w changes (held o run s) is there in let r = room.rows in omega (arith, c, r, exact)
+      by (inr exact) = let c = counted schema w changes (shard_rows o run s) is there in let r = room.rows in omega (arith, c, r, exact)

@@ -10,12 +10,12 @@ use Rattle.vschema.specs.Database.{SameRows, restricted_changes, all_applied, ch
 use Rattle.journal.specs.Runs.{IsLegal, on_slot, by_session}
 use Rattle.journal.specs.Views.{SeatView, PassView, IsLater}
 use Rattle.journal.proofs.Fronts.{prefix_trans, prefix_self}
-use Rattle.shard_run.specs.declared.Shard.{Shard}
+use Rattle.shard_run.specs.declared.ShardRecord.{ShardRecord}
 use Rattle.shard_run.specs.declared.Mode.TheVariants.{Following}
 use Rattle.shard_run.specs.declared.Follow as F
 use Rattle.shard_run.specs.declared.Entry.{Entry}
 use Rattle.shard_run.specs.declared.Event.TheVariants.{Follow}
-use Rattle.shard_run.specs.Runs.{Run, Opening, held, first_rows, mode, is_serving, is_on, is_stored, stored_on, stored_changes, entries_on}
+use Rattle.shard_run.specs.Runs.{Run, Opening, shard_rows, first_rows, mode, answers_queries, is_on, is_stored, stored_on, stored_changes, entries_on}
 use Rattle.shard_law.specs.Legal.{Legal, MayFollowSource, IsOnItsSlot}
 use Rattle.shard_run.specs.Copies.{position, change_is_copied}
 use Rattle.shard_contents.proofs.Positions.{position-same, copied-same}
@@ -23,15 +23,16 @@ use Rattle.shard_run.specs.Openings.{IsOpening, row_count}
 use Rattle.shard_law.proofs.Law.{slots}
 use Rattle.shard_law.proofs.Databases.{length-all_applied}
 use Rattle.shard_law.proofs.Runs.{log, log-on, mode-on, stored_on-push}
-use Rattle.shard_contents.specs.declared.limits.Limits.{Limits}
+use Rattle.shard_law.specs.declared.limits.Limits.{Limits}
 use Rattle.shard_contents.specs.declared.contents.Contents.{Contents}
-use Rattle.shard_contents.specs.Shards as sh
-use Rattle.shard_contents.specs.Shards.{Holds, holds, IsAfter, IsNext, Names, ShardView, slot_of, commit_of, beyond}
+use Rattle.shard_law.specs.Entries as entries_of
+use Rattle.shard_law.specs.Entries.{ShardView, slot_of, commit_of}
+use Rattle.shard_contents.specs.Shards.{Holds, holds, IsAfter, IsNext, RetiredFor, beyond}
 use Rattle.shard_contents.proofs.Commits.{applied-append}
 use Rattle.shard_contents.proofs.Legality.{stands-next, legal_is}
 use Rattle.shard_contents.proofs.Tables.{taken_there}
 use Rattle.shard_contents.proofs.Looks.{following_lives}
-use Rattle.shard_contents.specs.declared.forward.Step.TheVariants.{Followed}
+use Rattle.shard_contents.specs.declared.target_steps.TargetStep.TheVariants.{Followed}
 use Rattle.shard_contents.specs.Progress.{steps_of, steps_on}
 use Rattle.shard_contents.specs.Kept.{keep, kept_from, kept_on}
 use Rattle.shard_contents.proofs.Kept.{kept-push}
@@ -59,16 +60,16 @@ stored_later source place old new e (rest, is) at =
     (subst (λ (l : Run). slice_get l place ≡ Some e) (sym (filter-append p old rest)) (get_front (filter p old) (filter p rest) place e at))
 
 -- a step that was lawful by what the pass had seen is lawful in each run that the seat may meet
-pub may_follow_later : (o : Opening) (old seen new : Run) (t : Shard) (f : F.Follow) → IsPrefix old new → entries_on t.slot new ≡ entries_on t.slot seen
-    → mode o new t.slot ≡ Following → Contains t.sources f.source → position seen t.slot f.source ≡ Some f.place → (e : Entry)
-    → slice_get (stored_on f.source old) f.place ≡ Some e
+pub may_follow_later : (o : Opening) (old seen new : Run) (t : ShardRecord) (f : F.Follow) → IsPrefix old new → entries_on t.slot new ≡ entries_on t.slot seen
+    → mode o new t.slot ≡ Following → Contains t.sources f.source → position seen t.slot f.source ≡ Some f.log_position → (e : Entry)
+    → slice_get (stored_on f.source old) f.log_position ≡ Some e
     → f.changes ≡ filter (change_is_copied o.schema seen t.slot f.source) (restricted_changes o.schema t.place (stored_changes e.event)) → MayFollowSource o new t f
 may_follow_later o old seen new t f later same following of_source next e stored filtered = record {
   following = following;
   of_source = of_source;
   next = position-same seen new t.slot f.source same ∙ next;
   entry = e;
-  stored = stored_later f.source f.place old new e later stored;
+  stored = stored_later f.source f.log_position old new e later stored;
   filtered = filtered ∙ sym (copied-same seen new t.slot f.source o.schema (restricted_changes o.schema t.place (stored_changes e.event)) same);
 }
 
@@ -84,13 +85,13 @@ stored_more source first second (rest, is) =
 pub none_left : (o : Opening) → IsOpening o → (first second : Run) (slot source stored n : ℕ) → IsPrefix first second → Legal o first
     → stored ≡ length (stored_on source second) → position first slot source ≡ Some n → stored ≤ n → n ≡ length (stored_on source second)
 none_left o opens first second slot source stored n later legal is at level =
-    let most = (slots o opens first legal).behind slot source n at in
+    let most = (slots o opens first legal).trailing slot source n at in
     let more = stored_more source first second later in
     omega (arith, is, level, more, most)
 
 -- what was seen by a look is a run that seat and pass may meet
-pub nothing_since : (o : Opening) (looked : SeatView Entry) (q : PassView Entry) → IsLegal (sh.MayFollow o) looked.seen → q.seen ≡ looked.seen
-    → IsLater slot_of commit_of (sh.MayFollow o) looked q looked.seen
+pub nothing_since : (o : Opening) (looked : SeatView Entry) (q : PassView Entry) → IsLegal (entries_of.MayFollow o) looked.seen → q.seen ≡ looked.seen
+    → IsLater slot_of commit_of (entries_of.MayFollow o) looked q looked.seen
 nothing_since o looked q legal same = record {
   legal = legal;
   seat = prefix_self looked.seen;
@@ -103,7 +104,7 @@ nothing_since o looked q legal same = record {
 
 module _ (o : Opening) (most : Limits) (seat : SeatView Entry) (c : Contents) (is : IsAfter o most seat c) (following : mode o seat.seen c.shard.slot ≡ Following)
     (run : Run) (alone : entries_on seat.slot run ≡ entries_on seat.slot seat.seen) (f : F.Follow) where
-  abbrev s : Shard
+  abbrev s : ShardRecord
   s = c.shard
 
   abbrev e : Entry
@@ -121,7 +122,7 @@ module _ (o : Opening) (most : Limits) (seat : SeatView Entry) (c : Contents) (i
   pub mode_follows : mode o (run ++ e ∷ []) s.slot ≡ Following
   mode_follows = mode-on o run e s.slot on ∙ mode_there o most seat c is run alone ∙ following
 
-  held_now : held o (run ++ e ∷ []) s ≡ all_applied f.changes (held o seat.seen s)
+  held_now : shard_rows o (run ++ e ∷ []) s ≡ all_applied f.changes (shard_rows o seat.seen s)
   held_now =
       ap (λ (l : List RowChange). all_applied l (first_rows o s)) (log-on run e s.slot on)
       ∙ applied-append (log s.slot run) f.changes (first_rows o s)
@@ -133,39 +134,39 @@ module _ (o : Opening) (most : Limits) (seat : SeatView Entry) (c : Contents) (i
       stored_on-push run e s.slot ∙ ap (λ (l : Run). stored_on s.slot run ++ l) one ∙ ap (λ (l : Run). l ++ e ∷ []) (stored-same o seat.seen run s same)
 
   pub after_follow : (seat' : SeatView Entry) (c' : Contents) → seat'.seen ≡ run ++ e ∷ [] → seat'.slot ≡ seat.slot → c'.shard ≡ s
-      → SameRows c'.store.rows (all_applied f.changes c.store.rows) → c'.mode ≡ c.mode → c'.stored.items ≡ c.stored.items ++ e ∷ [] → c'.steps.items ≡ keep (Followed f.source f.place) c.steps.items → c'.limits ≡ c.limits
+      → SameRows c'.store.rows (all_applied f.changes c.store.rows) → c'.mode ≡ c.mode → c'.stored.items ≡ c.stored.items ++ e ∷ [] → c'.steps.items ≡ keep (Followed f.source f.log_position) c.steps.items → c'.limits ≡ c.limits
       → length (entries_on s.slot seat.seen) < 2 ^ 40 → IsAfter o most seat' c'
   after_follow seat' c' seen at shard_is rows modes stores came limits_are room =
-      let now : SameRows c'.store.rows (held o (run ++ e ∷ []) s) =
+      let now : SameRows c'.store.rows (shard_rows o (run ++ e ∷ []) s) =
       subst (SameRows c'.store.rows) (sym held_now)
-      (same_through c'.store.rows (all_applied f.changes c.store.rows) (all_applied f.changes (held o seat.seen s)) rows
-      (all_applied-same f.changes c.store.rows (held o seat.seen s) has.rows)) in
+      (same_through c'.store.rows (all_applied f.changes c.store.rows) (all_applied f.changes (shard_rows o seat.seen s)) rows
+      (all_applied-same f.changes c.store.rows (shard_rows o seat.seen s) has.rows)) in
       record {
         opens = is.opens;
-        slot = at ∙ is.slot ∙ ap (λ (t : Shard). t.slot) (sym shard_is);
+        slot = at ∙ is.slot ∙ ap (λ (t : ShardRecord). t.slot) (sym shard_is);
         stands =
             subst (λ r. IsOnItsSlot o r c'.shard) (sym seen)
             (subst (IsOnItsSlot o (run ++ e ∷ [])) (sym shard_is) (stands-next o run s e.event (stands_there o most seat c is run alone)));
         keeps = holds (record {
-          rows = subst (SameRows c'.store.rows) (ap (held o (run ++ e ∷ [])) (sym shard_is) ∙ ap (λ r. held o r c'.shard) (sym seen)) now;
+          rows = subst (SameRows c'.store.rows) (ap (shard_rows o (run ++ e ∷ [])) (sym shard_is) ∙ ap (λ r. shard_rows o r c'.shard) (sym seen)) now;
           tables = length-same c'.store.rows (all_applied f.changes c.store.rows) rows ∙ length-all_applied f.changes c.store.rows ∙ has.tables;
           mode =
-              modes ∙ has.mode ∙ following ∙ sym mode_follows ∙ ap (λ (t : Shard). mode o (run ++ e ∷ []) t.slot) (sym shard_is)
+              modes ∙ has.mode ∙ following ∙ sym mode_follows ∙ ap (λ (t : ShardRecord). mode o (run ++ e ∷ []) t.slot) (sym shard_is)
               ∙ ap (λ r. mode o r c'.shard.slot) (sym seen);
           stored =
-              stores ∙ ap (λ (l : Run). l ++ e ∷ []) has.stored ∙ sym stored_now ∙ ap (λ (t : Shard). stored_on t.slot (run ++ e ∷ [])) (sym shard_is)
+              stores ∙ ap (λ (l : Run). l ++ e ∷ []) has.stored ∙ sym stored_now ∙ ap (λ (t : ShardRecord). stored_on t.slot (run ++ e ∷ [])) (sym shard_is)
               ∙ ap (stored_on c'.shard.slot) (sym seen);
           steps =
-              came ∙ ap (keep (Followed f.source f.place)) (has.steps ∙ ap (λ (es : List Entry). kept_from [] (flat_map (λ (x : Entry). steps_of x.event) es)) (sym same))
-              ∙ sym (kept-push [] (steps_on s.slot run) (Followed f.source f.place)) ∙ ap (kept_from []) (sym (steps-push run e s.slot on))
-              ∙ ap (λ (t : Shard). kept_on t.slot (run ++ e ∷ [])) (sym shard_is) ∙ ap (kept_on c'.shard.slot) (sym seen);
+              came ∙ ap (keep (Followed f.source f.log_position)) (has.steps ∙ ap (λ (es : List Entry). kept_from [] (flat_map (λ (x : Entry). steps_of x.event) es)) (sym same))
+              ∙ sym (kept-push [] (steps_on s.slot run) (Followed f.source f.log_position)) ∙ ap (kept_from []) (sym (steps-push run e s.slot on))
+              ∙ ap (λ (t : ShardRecord). kept_on t.slot (run ++ e ∷ [])) (sym shard_is) ∙ ap (kept_on c'.shard.slot) (sym seen);
           within = λ serves.
-              absurd (false≢true (sym (ap is_serving (ap (λ r. mode o r c'.shard.slot) seen
-              ∙ ap (λ (t : Shard). mode o (run ++ e ∷ []) t.slot) shard_is ∙ mode_follows)) ∙ serves));
+              absurd (false≢true (sym (ap answers_queries (ap (λ r. mode o r c'.shard.slot) seen
+              ∙ ap (λ (t : ShardRecord). mode o (run ++ e ∷ []) t.slot) shard_is ∙ mode_follows)) ∙ serves));
         });
         entries =
             subst (λ r. length (entries_on c'.shard.slot r) ≤ 2 ^ 40 + beyond (mode o r c'.shard.slot)) (sym seen)
-            (subst (λ (t : Shard). length (entries_on t.slot (run ++ e ∷ [])) ≤ 2 ^ 40 + beyond (mode o (run ++ e ∷ []) t.slot)) (sym shard_is)
+            (subst (λ (t : ShardRecord). length (entries_on t.slot (run ++ e ∷ [])) ≤ 2 ^ 40 + beyond (mode o (run ++ e ∷ []) t.slot)) (sym shard_is)
             (let h = ap length (entries-on run e s.slot on) in
             let k = length-append (entries_on s.slot run) (e ∷ []) in
             let l = ap length same in
@@ -177,8 +178,8 @@ module _ (o : Opening) (most : Limits) (seat : SeatView Entry) (c : Contents) (i
 
 -- ---- the step as the code makes it
 
-module _ {X : Type 0} (o : Opening) (most : Limits) (seat looked : SeatView Entry) (c : Contents) (targets : List Shard) (p q : PassView Entry)
-    (inv : IsAfter o most seat c × Names o seat.seen c.shard targets × X) (later : IsLater slot_of commit_of (sh.MayFollow o) seat p looked.seen)
+module _ {X : Type 0} (o : Opening) (most : Limits) (seat looked : SeatView Entry) (c : Contents) (targets : List ShardRecord) (p q : PassView Entry)
+    (inv : IsAfter o most seat c × RetiredFor o seat.seen c.shard targets × X) (later : IsLater slot_of commit_of (entries_of.MayFollow o) seat p looked.seen)
     (seat_is : looked ≡ record seat { seen = looked.seen }) (pass_is : q ≡ record p { seen = looked.seen; looks = p.looks ++ (seat.slot, length looked.seen) ∷ [] })
     (v : ShardView) (view : record { seen = seat.seen; shard = c.shard } ≡ v) (following : mode o v.seen v.shard.slot ≡ Following) where
   slot_same : looked.slot ≡ seat.slot
@@ -206,55 +207,55 @@ module _ {X : Type 0} (o : Opening) (most : Limits) (seat looked : SeatView Entr
 
   pub entries_told : length (entries_on c.shard.slot looked.seen) ≡ length (entries_on v.shard.slot q.seen)
   entries_told =
-      ap (λ (s : Shard). length (entries_on s.slot looked.seen)) (ap (λ (x : ShardView). x.shard) view)
+      ap (λ (s : ShardRecord). length (entries_on s.slot looked.seen)) (ap (λ (x : ShardView). x.shard) view)
       ∙ ap (λ (r : Run). length (entries_on v.shard.slot r)) (sym seen_same)
 
   pub stored_told : length c.stored.items ≡ length (stored_on v.shard.slot q.seen)
   stored_told =
-      ap length has_now.stored ∙ ap (λ (s : Shard). length (stored_on s.slot looked.seen)) (ap (λ (x : ShardView). x.shard) view)
+      ap length has_now.stored ∙ ap (λ (s : ShardRecord). length (stored_on s.slot looked.seen)) (ap (λ (x : ShardView). x.shard) view)
       ∙ ap (λ (r : Run). length (stored_on v.shard.slot r)) (sym seen_same)
 
   module _ (f : F.Follow) (next : IsNext o p.seen v f) where
     -- it is lawful after each run that seat and pass may meet
-    pub lawful : (run : Run) → IsLater slot_of commit_of (sh.MayFollow o) looked q run → sh.MayFollow o run (record { shard = c.shard; event = Follow f })
+    pub lawful : (run : Run) → IsLater slot_of commit_of (entries_of.MayFollow o) looked q run → entries_of.MayFollow o run (record { shard = c.shard; event = Follow f })
     lawful run more =
         let s_is : v.shard ≡ c.shard = ap (λ (x : ShardView). x.shard) (sym view) in
         let v_seen : v.seen ≡ seat.seen = ap (λ (x : ShardView). x.seen) (sym view) in
         let first = alone_here o most seat looked p c targets later slot_same inv.0 in
         let second = here o most looked c now_is run more.alone in
-        let taken : Run → Shard → List RowChange =
+        let taken : Run → ShardRecord → List RowChange =
         λ r s. filter (change_is_copied o.schema r s.slot f.source) (restricted_changes o.schema s.place (stored_changes next.entry.event)) in (
           stands_there o most looked c now_is run more.alone,
           may_follow_later o p.seen seat.seen run c.shard f
               (prefix_trans p.seen looked.seen run later.pass more.seat) (second ∙ first)
               (mode_there o most looked c now_is run more.alone ∙ follows_now)
-              (subst (λ (s : Shard). Contains s.sources f.source) s_is next.of_source)
-              (sym (ap (λ (r : Run). position r v.shard.slot f.source) v_seen ∙ ap (λ (s : Shard). position seat.seen s.slot f.source) s_is) ∙ next.next)
-              next.entry next.stored (next.filtered ∙ ap (λ (r : Run). taken r v.shard) v_seen ∙ ap (λ (s : Shard). taken seat.seen s) s_is),
+              (subst (λ (s : ShardRecord). Contains s.sources f.source) s_is next.of_source)
+              (sym (ap (λ (r : Run). position r v.shard.slot f.source) v_seen ∙ ap (λ (s : ShardRecord). position seat.seen s.slot f.source) s_is) ∙ next.next)
+              next.entry next.stored (next.filtered ∙ ap (λ (r : Run). taken r v.shard) v_seen ∙ ap (λ (s : ShardRecord). taken seat.seen s) s_is),
         )
 
     -- after the run that was seen too
-    pub lawful_now : sh.MayFollow o q.seen (record { shard = v.shard; event = Follow f })
+    pub lawful_now : entries_of.MayFollow o q.seen (record { shard = v.shard; event = Follow f })
     lawful_now =
         let h = lawful looked.seen (nothing_since o looked q later.legal seen_same) in
-        subst (λ (r : Run). sh.MayFollow o r (record { shard = v.shard; event = Follow f })) (sym seen_same)
-        (subst (λ (s : Shard). sh.MayFollow o looked.seen (record { shard = s; event = Follow f })) (ap (λ (x : ShardView). x.shard) view) h)
+        subst (λ (r : Run). entries_of.MayFollow o r (record { shard = v.shard; event = Follow f })) (sym seen_same)
+        (subst (λ (s : ShardRecord). entries_of.MayFollow o looked.seen (record { shard = s; event = Follow f })) (ap (λ (x : ShardView). x.shard) view) h)
 
     -- and of tables that are there
     pub there_now : AllByRecursion (λ (x : RowChange). changed_table x < length o.schema.tables) f.changes
     there_now =
         subst (AllByRecursion (λ (x : RowChange). changed_table x < length o.schema.tables)) (sym next.filtered)
-        (taken_there o looked.seen (legal_is o looked.seen later.legal) f.source f.place next.entry
-        (stored_later f.source f.place p.seen looked.seen next.entry later.pass next.stored) v.shard.place
+        (taken_there o looked.seen (legal_is o looked.seen later.legal) f.source f.log_position next.entry
+        (stored_later f.source f.log_position p.seen looked.seen next.entry later.pass next.stored) v.shard.place
         (change_is_copied o.schema v.seen v.shard.slot f.source))
 
-    rows_told : row_count (all_applied f.changes c.store.rows) ≡ row_count (held o (q.seen ++ record { shard = v.shard; event = Follow f } ∷ []) v.shard)
+    rows_told : row_count (all_applied f.changes c.store.rows) ≡ row_count (shard_rows o (q.seen ++ record { shard = v.shard; event = Follow f } ∷ []) v.shard)
     rows_told =
-        let changed = all_applied-same f.changes c.store.rows (held o looked.seen c.shard) has_now.rows in
-        row_count-same (all_applied f.changes c.store.rows) (all_applied f.changes (held o looked.seen c.shard)) changed
+        let changed = all_applied-same f.changes c.store.rows (shard_rows o looked.seen c.shard) has_now.rows in
+        row_count-same (all_applied f.changes c.store.rows) (all_applied f.changes (shard_rows o looked.seen c.shard)) changed
         ∙ ap row_count (sym (held_now o most looked c now_is follows_now looked.seen refl f))
-        ∙ ap (λ (r : Run). row_count (held o (r ++ record { shard = c.shard; event = Follow f } ∷ []) c.shard)) (sym seen_same)
-        ∙ ap (λ (s : Shard). row_count (held o (q.seen ++ record { shard = s; event = Follow f } ∷ []) s)) (ap (λ (x : ShardView). x.shard) view)
+        ∙ ap (λ (r : Run). row_count (shard_rows o (r ++ record { shard = c.shard; event = Follow f } ∷ []) c.shard)) (sym seen_same)
+        ∙ ap (λ (s : ShardRecord). row_count (shard_rows o (q.seen ++ record { shard = s; event = Follow f } ∷ []) s)) (ap (λ (x : ShardView). x.shard) view)
 
     -- where the test by counts says no, a limit is passed
     pub passes : (n stored : ℕ) → n ≡ length (filter (on_slot slot_of seat.slot) looked.seen) → stored ≡ length c.stored.items
@@ -280,15 +281,15 @@ module _ {X : Type 0} (o : Opening) (most : Limits) (seat looked : SeatView Entr
         omega (arith, limit, few)
 
     -- and so they are after each run that seat and pass may meet
-    pub held_then : (run : Run) → IsLater slot_of commit_of (sh.MayFollow o) looked q run → row_count (held o run c.shard) ≡ row_count c.store.rows
+    pub held_then : (run : Run) → IsLater slot_of commit_of (entries_of.MayFollow o) looked q run → row_count (shard_rows o run c.shard) ≡ row_count c.store.rows
     held_then run more =
         ap row_count (held-same o looked.seen run c.shard (here o most looked c now_is run more.alone))
-        ∙ sym (row_count-same c.store.rows (held o looked.seen c.shard) has_now.rows)
+        ∙ sym (row_count-same c.store.rows (shard_rows o looked.seen c.shard) has_now.rows)
 
-    pub there_then : (run : Run) → IsLater slot_of commit_of (sh.MayFollow o) looked q run
-        → AllByRecursion (λ (x : RowChange). changed_table x < length (held o run c.shard)) f.changes
+    pub there_then : (run : Run) → IsLater slot_of commit_of (entries_of.MayFollow o) looked q run
+        → AllByRecursion (λ (x : RowChange). changed_table x < length (shard_rows o run c.shard)) f.changes
     there_then run more =
-        let long : length o.schema.tables ≡ length (held o run c.shard) =
-        sym tables_now ∙ length-same c.store.rows (held o looked.seen c.shard) has_now.rows
+        let long : length o.schema.tables ≡ length (shard_rows o run c.shard) =
+        sym tables_now ∙ length-same c.store.rows (shard_rows o looked.seen c.shard) has_now.rows
         ∙ ap length (sym (held-same o looked.seen run c.shard (here o most looked c now_is run more.alone))) in
         subst (λ k. AllByRecursion (λ (x : RowChange). changed_table x < k) f.changes) long there_now

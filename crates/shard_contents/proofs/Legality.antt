@@ -4,12 +4,12 @@ use Rattle.std.specs.Prelude.{Contains}
 use Rattle.std.proofs.lemmas.Bool.{false≢true, eq-eqb}
 use Rattle.vschema.specs.Database.{Database, SameRows, restrict}
 use Rattle.journal.specs.Runs.{LegalAfter, IsLegal}
-use Rattle.shard_run.specs.declared.Shard.{Shard}
+use Rattle.shard_run.specs.declared.ShardRecord.{ShardRecord}
 use Rattle.shard_run.specs.declared.Mode.{Mode}
 use Rattle.shard_run.specs.declared.Mode.TheVariants.{Following}
 use Rattle.shard_run.specs.declared.Event.{Event}
 use Rattle.shard_run.specs.declared.Entry.{Entry}
-use Rattle.shard_run.specs.Runs.{Run, Opening, one, held, first_rows, mode, is_serving, is_opening, is_on, entries_on, IsShardOf}
+use Rattle.shard_run.specs.Runs.{Run, Opening, database, shard_rows, first_rows, mode, answers_queries, is_opening, is_on, entries_on, IsShardOf}
 use Rattle.shard_law.specs.Legal.{Legal, LegalFrom, IsOnItsSlot}
 use Rattle.shard_run.specs.Openings.{IsOpening, OpensWith}
 use Rattle.shard_law.proofs.Databases.{length-all_applied}
@@ -19,7 +19,7 @@ use Rattle.shard_law.proofs.Lists.{In, In-from_Contains, Contains-from_In, In-fr
 use Rattle.shard_law.proofs.Runs.{Of, Live, is_of, log, opening-is}
 use Rattle.shard_law.proofs.Law.{slots, distinct, known}
 use Rattle.shard_law.proofs.Holds.{holds_its_part}
-use Rattle.shard_contents.specs.Shards.{MayFollow, opening_shards}
+use Rattle.shard_law.specs.Entries.{MayFollow, opening_shards}
 
 -- the journal's legal runs are the legal runs
 legal_after : (o : Opening) (run before : Run) → LegalAfter (MayFollow o) before run → LegalFrom o before run
@@ -29,7 +29,7 @@ legal_after o (e ∷ run) before legal = (legal.0.0, legal.0.1, legal_after o ru
 pub legal_is : (o : Opening) (run : Run) → IsLegal (MayFollow o) run → Legal o run
 legal_is o run legal = legal_after o run [] legal
 
-module _ (o : Opening) (opens : IsOpening o) (s : Shard) (opening : Contains (opening_shards o) s) where
+module _ (o : Opening) (opens : IsOpening o) (s : ShardRecord) (opening : Contains (opening_shards o) s) where
   there : In s (opening_shards o)
   there = In-from_Contains s (opening_shards o) opening
 
@@ -42,17 +42,17 @@ module _ (o : Opening) (opens : IsOpening o) (s : Shard) (opening : Contains (op
   given : Given
   given = by (In-from_map (λ p. p.0) s o.shards there)
     where
-      by : (p : Shard × Database) × In p o.shards × (p.0 ≡ s) → Given
+      by : (p : ShardRecord × Database) × In p o.shards × (p.0 ≡ s) → Given
       by w =
           let same : w.0 ≡ (s, w.0.1) = ap (λ t. (t, w.0.1)) w.2 in
           record {
             db = w.0.1;
-            is = subst (λ (p : Shard × Database). In p o.shards) same w.1;
+            is = subst (λ (p : ShardRecord × Database). In p o.shards) same w.1;
             with' = subst (λ t. OpensWith o.schema t w.0.1) w.2 (In-all (λ p. OpensWith o.schema p.0 p.1) w.0 o.shards opens.each w.1);
           }
 
   -- a list of rows for each table
-  pub tables_held : (run : Run) → length (held o run s) ≡ length o.schema.tables
+  pub tables_held : (run : Run) → length (shard_rows o run s) ≡ length o.schema.tables
   tables_held run =
       length-all_applied (log s.slot run) (first_rows o s) ∙ ap length (first_rows_are o opens s given.db given.is)
       ∙ long o.schema.tables given.db given.with'.rows
@@ -74,7 +74,7 @@ module _ (o : Opening) (opens : IsOpening o) (s : Shard) (opening : Contains (op
 -- ---- any shard that stands on its slot
 
 -- entries on other slots don't matter
-pub stands-same : (o : Opening) (old new : Run) (s : Shard) → entries_on s.slot new ≡ entries_on s.slot old → IsOnItsSlot o old s → IsOnItsSlot o new s
+pub stands-same : (o : Opening) (old new : Run) (s : ShardRecord) → entries_on s.slot new ≡ entries_on s.slot old → IsOnItsSlot o old s → IsOnItsSlot o new s
 stands-same o old new s same is = record {
   slot = is.slot;
   range = is.range;
@@ -86,7 +86,7 @@ stands-same o old new s same is = record {
 }
 
 -- one more entry of the shard's own
-pub stands-next : (o : Opening) (run : Run) (s : Shard) (ev : Event) → IsOnItsSlot o run s → IsOnItsSlot o (run ++ record { shard = s; event = ev } ∷ []) s
+pub stands-next : (o : Opening) (run : Run) (s : ShardRecord) (ev : Event) → IsOnItsSlot o run s → IsOnItsSlot o (run ++ record { shard = s; event = ev } ∷ []) s
 stands-next o run s ev is = record {
   slot = is.slot;
   range = is.range;
@@ -95,10 +95,10 @@ stands-next o run s ev is = record {
   target = is.target;
 }
 
-not_following : (m : Mode) → is_serving m ≡ true → m ≡ Following → ⊥
-not_following m serves is = false≢true (sym (ap is_serving is) ∙ serves)
+not_following : (m : Mode) → answers_queries m ≡ true → m ≡ Following → ⊥
+not_following m serves is = false≢true (sym (ap answers_queries is) ∙ serves)
 
-module _ (o : Opening) (opens : IsOpening o) (run : Run) (s : Shard) (stands : IsOnItsSlot o run s) (serves : is_serving (mode o run s.slot) ≡ true) where
+module _ (o : Opening) (opens : IsOpening o) (run : Run) (s : ShardRecord) (stands : IsOnItsSlot o run s) (serves : answers_queries (mode o run s.slot) ≡ true) where
   pub lives : Live o run s
   lives = record {
     of_run = is_of o (distinct o opens) run s stands (known o opens run s stands) (not_following (mode o run s.slot) serves);
@@ -117,5 +117,5 @@ module _ (o : Opening) (opens : IsOpening o) (run : Run) (s : Shard) (stands : I
   serves_now = record { of_run = of_run; answers = serves }
 
   -- it holds the one database's rows of its place
-  pub part_held : IsLegal (MayFollow o) run → SameRows (held o run s) (restrict o.schema s.place (one o run))
+  pub part_held : IsLegal (MayFollow o) run → SameRows (shard_rows o run s) (restrict o.schema s.place (database o run))
   part_held legal = holds_its_part o opens run (legal_is o run legal) s lives

@@ -4,14 +4,15 @@ use Rattle.std.specs.List.{filter}
 use mathlib.Core.List.{IsPrefix}
 use Rattle.journal.specs.Runs.{IsLegal, by_session}
 use Rattle.journal.specs.Views.{SeatView, PassView, IsLater}
-use Rattle.shard_run.specs.declared.Shard.{Shard}
+use Rattle.shard_run.specs.declared.ShardRecord.{ShardRecord}
 use Rattle.shard_run.specs.declared.Mode.{Mode}
 use Rattle.shard_run.specs.declared.Mode.TheVariants.{Following, Serving, Frozen, Retired, Dropped}
 use Rattle.shard_run.specs.declared.Entry.{Entry}
-use Rattle.shard_run.specs.Runs.{Run, Opening, mode, is_serving, is_opening, stored_on}
-use Rattle.shard_contents.specs.declared.limits.Limits.{Limits}
+use Rattle.shard_run.specs.Runs.{Run, Opening, mode, answers_queries, is_opening, stored_on}
+use Rattle.shard_law.specs.declared.limits.Limits.{Limits}
 use Rattle.shard_contents.specs.declared.contents.Contents.{Contents}
-use Rattle.shard_contents.specs.Shards.{slot_of, commit_of, MayFollow, HasLooked, Keeps, holds, dropped, IsAfter, ShardView}
+use Rattle.shard_law.specs.Entries.{slot_of, commit_of, MayFollow, HasLooked, ShardView}
+use Rattle.shard_contents.specs.Shards.{Keeps, holds, dropped, IsAfter}
 use Rattle.shard_contents.specs.Transactions.{PendingView, IsClear, IsStopped, is_conflict, conflict, moved}
 use Rattle.shard_contents.proofs.States.{holds_of, lives_if}
 use Rattle.vt_value.specs.declared.refusal.Refusal.TheVariants.{Conflict, ShardMoved}
@@ -49,17 +50,17 @@ module _ (o : Opening) (most : Limits) (seat : SeatView Entry) (c : Contents) (i
 
   tested : c.mode ≡ Serving → is_conflict (stored_on c.shard.slot seat.seen) tx.touched ≡ is_conflict c.stored.items tx.touched
   tested serves =
-      let has = holds_of o most seat.seen c is.keeps (lives_if (mode o seat.seen c.shard.slot) (ap is_serving (serving_here serves))) in
+      let has = holds_of o most seat.seen c is.keeps (lives_if (mode o seat.seen c.shard.slot) (ap answers_queries (serving_here serves))) in
       ap (λ (l : List Entry). is_conflict l tx.touched) (sym has.stored)
 
   clear_is : c.mode ≡ Serving → is_conflict c.stored.items tx.touched ≡ false → IsClear o c.shard seat.seen tx
   clear_is serves none = record { serving = serving_here serves; unchanged = tested serves ∙ none }
 
   -- as the shard's state is seen
-  module _ (v : ShardView) (view_is : record { seen = seat.seen; shard = c.shard } ≡ v) (s : Shard) (shards : v.shard ≡ s) where
-    there : (P : Shard → Run → Type 0) → P c.shard seat.seen → P s v.seen
+  module _ (v : ShardView) (view_is : record { seen = seat.seen; shard = c.shard } ≡ v) (s : ShardRecord) (shards : v.shard ≡ s) where
+    there : (P : ShardRecord → Run → Type 0) → P c.shard seat.seen → P s v.seen
     there P h =
-        subst (λ (u : Shard). P u v.seen) shards (subst (λ (x : ShardView). P x.shard x.seen) view_is h)
+        subst (λ (u : ShardRecord). P u v.seen) shards (subst (λ (x : ShardView). P x.shard x.seen) view_is h)
 
     pub clear_seen : c.mode ≡ Serving → is_conflict c.stored.items tx.touched ≡ false → IsClear o s v.seen tx
     clear_seen serves none = there (λ u r. IsClear o u r tx) (clear_is serves none)
@@ -70,7 +71,7 @@ module _ (o : Opening) (most : Limits) (seat : SeatView Entry) (c : Contents) (i
     pub moved_seen : (c.mode ≡ Serving → ⊥) → IsStopped o s v.seen tx ShardMoved
     moved_seen other = there (λ u r. IsStopped o u r tx ShardMoved) (moved (not_serving_is o most seat.seen c is.keeps other))
 
-pub not_serving : (m : Mode) → (m ≡ Serving → ⊥) → (m ≡ Frozen → ⊥) → is_serving m ≡ false
+pub not_serving : (m : Mode) → (m ≡ Serving → ⊥) → (m ≡ Frozen → ⊥) → answers_queries m ≡ false
 not_serving Following a b = refl
 not_serving Serving a b = absurd (a refl)
 not_serving Frozen a b = absurd (b refl)

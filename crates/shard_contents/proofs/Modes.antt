@@ -8,26 +8,27 @@ use Rattle.vschema.specs.declared.schema.Place.{Place}
 use Rattle.vschema.specs.Database.{Database, SameRows, all_applied}
 use Rattle.journal.specs.Runs.{on_slot}
 use Rattle.journal.specs.Views.{SeatView}
-use Rattle.shard_run.specs.declared.Shard.{Shard}
+use Rattle.shard_run.specs.declared.ShardRecord.{ShardRecord}
 use Rattle.shard_run.specs.declared.Mode.{Mode}
 use Rattle.shard_run.specs.declared.Mode.TheVariants.{Following, Serving, Frozen, Retired}
 use Rattle.shard_run.specs.declared.Event.{Event}
 use Rattle.shard_run.specs.declared.Event.TheVariants.{Commit, Follow, Copy, Freeze, Thaw, Retire, Serve}
 use Rattle.shard_run.specs.declared.Entry.{Entry}
-use Rattle.shard_run.specs.Runs.{Run, Opening, held, first_rows, mode, mode_after, is_serving, is_on, is_stored, held_changes, stored_on, entries_on}
+use Rattle.shard_run.specs.Runs.{Run, Opening, shard_rows, first_rows, mode, mode_after, answers_queries, is_on, is_stored, held_changes, stored_on, entries_on}
 use Rattle.shard_law.specs.Legal.{LegalFrom, Legal, MayRetire, MayServe, IsOnItsSlot, IsRetiredFor, IsTableOf}
 use Rattle.shard_run.specs.Openings.{IsOpening, row_count}
 use Rattle.shard_law.proofs.Lists.{In, In-from_Contains, In-all, all-from_In, zip-left}
 use Rattle.shard_law.proofs.Runs.{log, log-on, mode-on, mode-off, stored_on-push, not_retired}
 use Rattle.shard_law.proofs.Law.{slots, slots_from}
-use Rattle.shard_contents.specs.declared.limits.Limits.{Limits}
+use Rattle.shard_law.specs.declared.limits.Limits.{Limits}
 use Rattle.shard_contents.specs.declared.contents.Contents.{Contents}
-use Rattle.shard_contents.specs.Shards.{slot_of, commit_in, beyond, Holds, holds, IsAfter}
+use Rattle.shard_law.specs.Entries.{slot_of, commit_in}
+use Rattle.shard_contents.specs.Shards.{beyond, Holds, holds, IsAfter}
 use Rattle.shard_contents.specs.inner.Shards.{is_plain}
 use Rattle.shard_run.specs.Copies.{position, has_copied_all}
 use Rattle.shard_contents.proofs.Positions.{position-same, copied_all-same}
 use Rattle.shard_contents.proofs.Legality.{stands-same, stands-next}
-use Rattle.shard_contents.specs.declared.forward.Step.{Step}
+use Rattle.shard_contents.specs.declared.target_steps.TargetStep.{TargetStep}
 use Rattle.shard_contents.specs.Progress.{steps_of, steps_on}
 use Rattle.shard_contents.specs.Kept.{kept_from, kept_on}
 use Rattle.shard_contents.proofs.Progress.{steps-push, no_steps}
@@ -74,7 +75,7 @@ beyond_one m = by m
     by Rattle.shard_run.specs.declared.Mode.TheVariants.Dropped = omega arith
 
 module _ (o : Opening) (most : Limits) (seat : SeatView Entry) (c : Contents) (is : IsAfter o most seat c) where
-  abbrev s : Shard
+  abbrev s : ShardRecord
   s = c.shard
 
   -- the word has room for one more
@@ -109,7 +110,7 @@ module _ (o : Opening) (most : Limits) (seat : SeatView Entry) (c : Contents) (i
       pub mode_now : mode o (run ++ e ∷ []) s.slot ≡ m
       mode_now = mode-on o run e s.slot on ∙ ap (λ (x : Mode). mode_after x ev) mode_there ∙ sym m_is
 
-      held_now : held o (run ++ e ∷ []) s ≡ held o seat.seen s
+      held_now : shard_rows o (run ++ e ∷ []) s ≡ shard_rows o seat.seen s
       held_now =
           ap (λ (l : List RowChange). all_applied l (first_rows o s))
           (log-on run e s.slot on ∙ ap (λ (l : List RowChange). log s.slot run ++ l) (nothing_held ev plain) ∙ append-nil (log s.slot run))
@@ -123,36 +124,36 @@ module _ (o : Opening) (most : Limits) (seat : SeatView Entry) (c : Contents) (i
 
       steps_now : steps_on s.slot (run ++ e ∷ []) ≡ steps_on s.slot seat.seen
       steps_now =
-          steps-push run e s.slot on ∙ ap (λ (l : List Step). steps_on s.slot run ++ l) (no_steps ev plain) ∙ append-nil (steps_on s.slot run)
+          steps-push run e s.slot on ∙ ap (λ (l : List TargetStep). steps_on s.slot run ++ l) (no_steps ev plain) ∙ append-nil (steps_on s.slot run)
           ∙ ap (flat_map (λ (x : Entry). steps_of x.event)) here
 
       pub after : (seat' : SeatView Entry) (c' : Contents) → seat'.seen ≡ run ++ e ∷ [] → seat'.slot ≡ seat.slot → c'.shard ≡ s → c'.store.rows ≡ c.store.rows
           → c'.mode ≡ m → c'.stored.items ≡ c.stored.items → c'.steps.items ≡ c.steps.items → c'.limits ≡ c.limits
-          → (is_serving m ≡ true → row_count c.store.rows ≤ most.rows) → IsAfter o most seat' c'
+          → (answers_queries m ≡ true → row_count c.store.rows ≤ most.rows) → IsAfter o most seat' c'
       after seat' c' seen at shard_is rows modes stores came limits_are fit = record {
         opens = is.opens;
-        slot = at ∙ is.slot ∙ ap (λ (t : Shard). t.slot) (sym shard_is);
+        slot = at ∙ is.slot ∙ ap (λ (t : ShardRecord). t.slot) (sym shard_is);
         stands = subst (λ r. IsOnItsSlot o r c'.shard) (sym seen) (subst (IsOnItsSlot o (run ++ e ∷ [])) (sym shard_is) (stands-next o run s ev stands_there));
         keeps = holds (record {
           rows =
-              subst (SameRows c'.store.rows) (sym held_now ∙ ap (held o (run ++ e ∷ [])) (sym shard_is) ∙ ap (λ r. held o r c'.shard) (sym seen))
-              (subst (λ (db : Database). SameRows db (held o seat.seen s)) (sym rows) has.rows);
+              subst (SameRows c'.store.rows) (sym held_now ∙ ap (shard_rows o (run ++ e ∷ [])) (sym shard_is) ∙ ap (λ r. shard_rows o r c'.shard) (sym seen))
+              (subst (λ (db : Database). SameRows db (shard_rows o seat.seen s)) (sym rows) has.rows);
           tables = ap length rows ∙ has.tables;
-          mode = modes ∙ sym mode_now ∙ ap (λ (t : Shard). mode o (run ++ e ∷ []) t.slot) (sym shard_is) ∙ ap (λ r. mode o r c'.shard.slot) (sym seen);
+          mode = modes ∙ sym mode_now ∙ ap (λ (t : ShardRecord). mode o (run ++ e ∷ []) t.slot) (sym shard_is) ∙ ap (λ r. mode o r c'.shard.slot) (sym seen);
           stored =
-              stores ∙ has.stored ∙ sym stored_now ∙ ap (λ (t : Shard). stored_on t.slot (run ++ e ∷ [])) (sym shard_is)
+              stores ∙ has.stored ∙ sym stored_now ∙ ap (λ (t : ShardRecord). stored_on t.slot (run ++ e ∷ [])) (sym shard_is)
               ∙ ap (stored_on c'.shard.slot) (sym seen);
           steps =
-              came ∙ has.steps ∙ ap (kept_from []) (sym steps_now) ∙ ap (λ (t : Shard). kept_on t.slot (run ++ e ∷ [])) (sym shard_is)
+              came ∙ has.steps ∙ ap (kept_from []) (sym steps_now) ∙ ap (λ (t : ShardRecord). kept_on t.slot (run ++ e ∷ [])) (sym shard_is)
               ∙ ap (kept_on c'.shard.slot) (sym seen);
           within = λ serves.
               subst (λ db. row_count db ≤ most.rows) (sym rows)
-              (fit (ap is_serving (sym mode_now ∙ ap (λ (t : Shard). mode o (run ++ e ∷ []) t.slot) (sym shard_is)
+              (fit (ap answers_queries (sym mode_now ∙ ap (λ (t : ShardRecord). mode o (run ++ e ∷ []) t.slot) (sym shard_is)
               ∙ ap (λ r. mode o r c'.shard.slot) (sym seen)) ∙ serves));
         });
         entries =
             subst (λ r. length (entries_on c'.shard.slot r) ≤ 2 ^ 40 + beyond (mode o r c'.shard.slot)) (sym seen)
-            (subst (λ (t : Shard). length (entries_on t.slot (run ++ e ∷ [])) ≤ 2 ^ 40 + beyond (mode o (run ++ e ∷ []) t.slot)) (sym shard_is)
+            (subst (λ (t : ShardRecord). length (entries_on t.slot (run ++ e ∷ [])) ≤ 2 ^ 40 + beyond (mode o (run ++ e ∷ []) t.slot)) (sym shard_is)
             (let h = ap length (entries-on run e s.slot on) in
             let k = length-append (entries_on s.slot run) (e ∷ []) in
             let l = ap length here in
@@ -164,13 +165,13 @@ module _ (o : Opening) (most : Limits) (seat : SeatView Entry) (c : Contents) (i
       }
 
 pub within_here : (o : Opening) (most : Limits) (seat : SeatView Entry) (c : Contents) → IsAfter o most seat c
-    → is_serving (mode o seat.seen c.shard.slot) ≡ true → row_count c.store.rows ≤ most.rows
+    → answers_queries (mode o seat.seen c.shard.slot) ≡ true → row_count c.store.rows ≤ most.rows
 within_here o most seat c is serves =
     (holds_of o most seat.seen c is.keeps (lives_if (mode o seat.seen c.shard.slot) serves)).within serves
 
 -- ---- retiring
 
-pub may_retire_later : (o : Opening) (old run : Run) (s : Shard) (targets : List Shard) → mode o run s.slot ≡ mode o old s.slot → MayRetire o old s targets
+pub may_retire_later : (o : Opening) (old run : Run) (s : ShardRecord) (targets : List ShardRecord) → mode o run s.slot ≡ mode o old s.slot → MayRetire o old s targets
     → MayRetire o run s targets
 may_retire_later o old run s targets same may = record {
   frozen = same ∙ may.frozen;
@@ -205,7 +206,7 @@ module _ (o : Opening) (slot : ℕ) where
 
 -- ---- serving
 
-pub retired_for_later : (old new : Run) (source : ℕ) (place : Place) (t : Shard) → IsPrefix old new → IsRetiredFor old source place t → IsRetiredFor new source place t
+pub retired_for_later : (old new : Run) (source : ℕ) (place : Place) (t : ShardRecord) → IsPrefix old new → IsRetiredFor old source place t → IsRetiredFor new source place t
 retired_for_later old new source place t later is = record {
   retired = is.retired;
   targets = is.targets;
@@ -215,7 +216,7 @@ retired_for_later old new source place t later is = record {
   named = is.named;
 }
 
-module _ (o : Opening) (opens : IsOpening o) (old new : Run) (later : IsPrefix old new) (legal : Legal o new) (t : Shard) (may : MayServe o old t)
+module _ (o : Opening) (opens : IsOpening o) (old new : Run) (later : IsPrefix old new) (legal : Legal o new) (t : ShardRecord) (may : MayServe o old t)
     (same : entries_on t.slot new ≡ entries_on t.slot old) (following : mode o new t.slot ≡ Following) where
   legal_old : Legal o old
   legal_old = by later

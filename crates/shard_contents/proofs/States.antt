@@ -10,17 +10,18 @@ use Rattle.vschema.specs.Database.{Database, SameRows, all_applied}
 use Rattle.journal.specs.Views.{SeatView, PassView, IsLater}
 use Rattle.shard_run.specs.declared.Event.TheVariants.{Retire}
 use Rattle.shard_law.proofs.Lists.{In-left, In-from_Contains, Contains-from_In}
-use Rattle.shard_run.specs.declared.Shard.{Shard}
+use Rattle.shard_run.specs.declared.ShardRecord.{ShardRecord}
 use Rattle.shard_run.specs.declared.Mode.{Mode}
 use Rattle.shard_run.specs.declared.Mode.TheVariants.{Following, Serving, Retired}
 use Rattle.shard_run.specs.declared.Entry.{Entry}
-use Rattle.shard_run.specs.Runs.{Opening, Run, mode, mode_from, held, stored_on, held_changes, is_stored, is_on, is_opening, first_rows, entries_on, is_serving}
+use Rattle.shard_run.specs.Runs.{Opening, Run, mode, mode_from, shard_rows, stored_on, held_changes, is_stored, is_on, is_opening, first_rows, entries_on, answers_queries}
 use Rattle.shard_law.specs.Legal.{IsOnItsSlot}
-use Rattle.shard_contents.specs.declared.limits.Limits.{Limits}
+use Rattle.shard_law.specs.declared.limits.Limits.{Limits}
 use Rattle.shard_contents.specs.declared.contents.Contents.{Contents}
 use Rattle.shard_contents.specs.Progress.{steps_of}
 use Rattle.shard_contents.specs.Kept.{kept_from, kept_on}
-use Rattle.shard_contents.specs.Shards.{ShardView, slot_of, commit_of, MayFollow, Names, Holds, Keeps, holds, dropped, IsAfter, beyond}
+use Rattle.shard_law.specs.Entries.{ShardView, slot_of, commit_of, MayFollow}
+use Rattle.shard_contents.specs.Shards.{RetiredFor, Holds, Keeps, holds, dropped, IsAfter, beyond}
 use Rattle.shard_contents.proofs.Legality.{stands-same}
 
 filter_both : {X : Type 0} (f g : X → Bool) (xs : List X) → filter (λ x. f x && g x) xs ≡ filter g (filter f xs)
@@ -36,8 +37,8 @@ pub stored_in : (slot : ℕ) (run : List Entry) → stored_on slot run ≡ filte
 stored_in slot run = filter_both (is_on slot) (λ e. is_stored e.event) run
 
 -- what two runs with the same entries on a slot leave there
-module _ (o : Opening) (old new : Run) (s : Shard) (same : entries_on s.slot new ≡ entries_on s.slot old) where
-  pub held-same : held o new s ≡ held o old s
+module _ (o : Opening) (old new : Run) (s : ShardRecord) (same : entries_on s.slot new ≡ entries_on s.slot old) where
+  pub held-same : shard_rows o new s ≡ shard_rows o old s
   held-same = ap (λ (es : List Entry). all_applied (flat_map (λ e. held_changes e.event) es) (first_rows o s)) same
 
   pub mode-same : mode o new s.slot ≡ mode o old s.slot
@@ -54,7 +55,7 @@ module _ (o : Opening) (limits : Limits) (old new : Run) (c : Contents) (same : 
     mode = is.mode ∙ sym (mode-same o old new c.shard same);
     stored = is.stored ∙ sym (stored-same o old new c.shard same);
     steps = is.steps ∙ ap (λ (es : List Entry). kept_from [] (flat_map (λ (e : Entry). steps_of e.event) es)) (sym same);
-    within = λ serves. is.within (ap is_serving (sym (mode-same o old new c.shard same)) ∙ serves);
+    within = λ serves. is.within (ap answers_queries (sym (mode-same o old new c.shard same)) ∙ serves);
   }
 
   pub still_keeps : Keeps o limits old c → Keeps o limits new c
@@ -86,10 +87,10 @@ pub same_contents : (o : Opening) (limits : Limits) (seat : SeatView Entry) (c d
 same_contents o limits seat c d is shards rows modes stores came most =
     record {
       opens = is.opens;
-      slot = is.slot ∙ ap (λ (s : Shard). s.slot) (sym shards);
+      slot = is.slot ∙ ap (λ (s : ShardRecord). s.slot) (sym shards);
       stands = subst (IsOnItsSlot o seat.seen) (sym shards) is.stands;
       keeps = by is.keeps;
-      entries = subst (λ (s : Shard). length (entries_on s.slot seat.seen) ≤ 2 ^ 40 + beyond (mode o seat.seen s.slot)) (sym shards) is.entries;
+      entries = subst (λ (s : ShardRecord). length (entries_on s.slot seat.seen) ≤ 2 ^ 40 + beyond (mode o seat.seen s.slot)) (sym shards) is.entries;
       limits = most ∙ is.limits;
       most_rows = is.most_rows;
     }
@@ -97,17 +98,17 @@ same_contents o limits seat c d is shards rows modes stores came most =
     by : Keeps o limits seat.seen c → Keeps o limits seat.seen d
     by (holds h) = holds (record {
       rows =
-          subst (λ (s : Shard). SameRows d.store.rows (held o seat.seen s)) (sym shards)
-          (subst (λ (db : Database). SameRows db (held o seat.seen c.shard)) (sym rows) h.rows);
+          subst (λ (s : ShardRecord). SameRows d.store.rows (shard_rows o seat.seen s)) (sym shards)
+          (subst (λ (db : Database). SameRows db (shard_rows o seat.seen c.shard)) (sym rows) h.rows);
       tables = ap length rows ∙ h.tables;
-      mode = modes ∙ h.mode ∙ ap (λ (s : Shard). mode o seat.seen s.slot) (sym shards);
-      stored = stores ∙ h.stored ∙ ap (λ (s : Shard). stored_on s.slot seat.seen) (sym shards);
-      steps = came ∙ h.steps ∙ ap (λ (s : Shard). kept_on s.slot seat.seen) (sym shards);
+      mode = modes ∙ h.mode ∙ ap (λ (s : ShardRecord). mode o seat.seen s.slot) (sym shards);
+      stored = stores ∙ h.stored ∙ ap (λ (s : ShardRecord). stored_on s.slot seat.seen) (sym shards);
+      steps = came ∙ h.steps ∙ ap (λ (s : ShardRecord). kept_on s.slot seat.seen) (sym shards);
       within = λ serves.
           subst (λ (db : Database). row_count db ≤ limits.rows) (sym rows)
-          (h.within (ap (λ (s : Shard). is_serving (mode o seat.seen s.slot)) (sym shards) ∙ serves));
+          (h.within (ap (λ (s : ShardRecord). answers_queries (mode o seat.seen s.slot)) (sym shards) ∙ serves));
     })
-    by (dropped e r) = dropped (modes ∙ e) (ap (λ (s : Shard). mode o seat.seen s.slot) shards ∙ r)
+    by (dropped e r) = dropped (modes ∙ e) (ap (λ (s : ShardRecord). mode o seat.seen s.slot) shards ∙ r)
 
 -- a shard that isn't retired holds what the run leaves on it
 pub holds_of : (o : Opening) (limits : Limits) (run : Run) (c : Contents) → Keeps o limits run c → (mode o run c.shard.slot ≡ Retired → ⊥) → Holds o limits run c
@@ -115,12 +116,12 @@ holds_of o limits run c (holds h) lives = h
 holds_of o limits run c (dropped d r) lives = absurd (lives r)
 
 -- the mode with the seat, as far as it answers
-pub serves_is : (o : Opening) (limits : Limits) (run : Run) (c : Contents) → Keeps o limits run c → is_serving c.mode ≡ is_serving (mode o run c.shard.slot)
-serves_is o limits run c (holds h) = ap is_serving h.mode
-serves_is o limits run c (dropped d r) = ap is_serving d ∙ sym (ap is_serving r)
+pub serves_is : (o : Opening) (limits : Limits) (run : Run) (c : Contents) → Keeps o limits run c → answers_queries c.mode ≡ answers_queries (mode o run c.shard.slot)
+serves_is o limits run c (holds h) = ap answers_queries h.mode
+serves_is o limits run c (dropped d r) = ap answers_queries d ∙ sym (ap answers_queries r)
 
-pub lives_if : (m : Mode) → is_serving m ≡ true → m ≡ Retired → ⊥
-lives_if m serves is = false≢true (sym (ap is_serving is) ∙ serves)
+pub lives_if : (m : Mode) → answers_queries m ≡ true → m ≡ Retired → ⊥
+lives_if m serves is = false≢true (sym (ap answers_queries is) ∙ serves)
 
 -- ---- one more entry
 
@@ -139,16 +140,16 @@ pub contains_later : {X : Type 0} (x : X) (old new : List X) → IsPrefix old ne
 contains_later x old new (rest, is) there =
     subst (λ l. Contains l x) is (Contains-from_In x (old ++ rest) (In-left x old rest (In-from_Contains x old there)))
 
-pub still_names : (o : Opening) (old new : Run) (s : Shard) (targets : List Shard) → entries_on s.slot new ≡ entries_on s.slot old → IsPrefix old new
-    → Names o old s targets → Names o new s targets
+pub still_names : (o : Opening) (old new : Run) (s : ShardRecord) (targets : List ShardRecord) → entries_on s.slot new ≡ entries_on s.slot old → IsPrefix old new
+    → RetiredFor o old s targets → RetiredFor o new s targets
 still_names o old new s targets same later named retired =
     contains_later (record { shard = s; event = Retire targets }) old new later (named (sym (mode-same o old new s same) ∙ retired))
 
-pub names_none : (o : Opening) (run : Run) (s : Shard) (targets : List Shard) → (mode o run s.slot ≡ Retired → ⊥) → Names o run s targets
+pub names_none : (o : Opening) (run : Run) (s : ShardRecord) (targets : List ShardRecord) → (mode o run s.slot ≡ Retired → ⊥) → RetiredFor o run s targets
 names_none o run s targets lives retired = absurd (lives retired)
 
 -- what lies with a seat after a look
-module _ (o : Opening) (limits : Limits) (old new : SeatView Entry) (p : PassView Entry) (c : Contents) (targets : List Shard)
+module _ (o : Opening) (limits : Limits) (old new : SeatView Entry) (p : PassView Entry) (c : Contents) (targets : List ShardRecord)
     (later : IsLater slot_of commit_of (MayFollow o) old p new.seen) (slot : new.slot ≡ old.slot) (is : IsAfter o limits old c) where
   pub after_look : IsAfter o limits new c
   after_look = still_after o limits old new c slot later.alone is
@@ -159,17 +160,17 @@ module _ (o : Opening) (limits : Limits) (old new : SeatView Entry) (p : PassVie
   pub mode_after_look : mode o new.seen c.shard.slot ≡ mode o old.seen c.shard.slot
   mode_after_look = mode-same o old.seen new.seen c.shard alone_here
 
-  pub names_after_look : Names o old.seen c.shard targets → Names o new.seen c.shard targets
+  pub names_after_look : RetiredFor o old.seen c.shard targets → RetiredFor o new.seen c.shard targets
   names_after_look = still_names o old.seen new.seen c.shard targets alone_here later.seat
 
 -- what lies with a seat once it has looked, whatever else the state keeps
-pub record Looked (o : Opening) (most : Limits) (seat : SeatView Entry) (c : Contents) (targets : List Shard) : Type 0 where
+pub record Looked (o : Opening) (most : Limits) (seat : SeatView Entry) (c : Contents) (targets : List ShardRecord) : Type 0 where
   pub is : IsAfter o most seat c
-  pub names : Names o seat.seen c.shard targets
+  pub names : RetiredFor o seat.seen c.shard targets
 
-pub looked : {X : Type 0} (o : Opening) (most : Limits) (old new : SeatView Entry) (p : PassView Entry) (c : Contents) (targets : List Shard)
+pub looked : {X : Type 0} (o : Opening) (most : Limits) (old new : SeatView Entry) (p : PassView Entry) (c : Contents) (targets : List ShardRecord)
     → IsLater slot_of commit_of (MayFollow o) old p new.seen → new ≡ record old { seen = new.seen }
-    → IsAfter o most old c × Names o old.seen c.shard targets × X → Looked o most new c targets
+    → IsAfter o most old c × RetiredFor o old.seen c.shard targets × X → Looked o most new c targets
 looked o most old new p c targets later seat is = record {
   is = after_look o most old new p c targets later (ap (λ (s : SeatView Entry). s.slot) seat) is.0;
   names = names_after_look o most old new p c targets later (ap (λ (s : SeatView Entry). s.slot) seat) is.0 is.1;
@@ -177,17 +178,17 @@ looked o most old new p c targets later seat is = record {
 
 -- and where it serves
 pub record Served (o : Opening) (most : Limits) (seat : SeatView Entry) (c : Contents) : Type 0 where
-  pub serves : is_serving (mode o seat.seen c.shard.slot) ≡ true
+  pub serves : answers_queries (mode o seat.seen c.shard.slot) ≡ true
   pub holds : Holds o most seat.seen c
 
-pub served : {X : Type 0} (o : Opening) (most : Limits) (old new : SeatView Entry) (p : PassView Entry) (c : Contents) (targets : List Shard)
+pub served : {X : Type 0} (o : Opening) (most : Limits) (old new : SeatView Entry) (p : PassView Entry) (c : Contents) (targets : List ShardRecord)
     → IsLater slot_of commit_of (MayFollow o) old p new.seen → new ≡ record old { seen = new.seen }
-    → IsAfter o most old c × Names o old.seen c.shard targets × X → (v : ShardView) → record { seen = old.seen; shard = c.shard } ≡ v
-    → is_serving (mode o v.seen v.shard.slot) ≡ true → Served o most new c
+    → IsAfter o most old c × RetiredFor o old.seen c.shard targets × X → (v : ShardView) → record { seen = old.seen; shard = c.shard } ≡ v
+    → answers_queries (mode o v.seen v.shard.slot) ≡ true → Served o most new c
 served o most old new p c targets later seat is v view serves =
     let at = ap (λ (s : SeatView Entry). s.slot) seat in
-    let now = ap is_serving (mode_after_look o most old new p c targets later at is.0)
-    ∙ subst (λ (x : ShardView). is_serving (mode o x.seen x.shard.slot) ≡ true) (sym view) serves in
+    let now = ap answers_queries (mode_after_look o most old new p c targets later at is.0)
+    ∙ subst (λ (x : ShardView). answers_queries (mode o x.seen x.shard.slot) ≡ true) (sym view) serves in
     record {
       serves = now;
       holds = holds_of o most new.seen c (after_look o most old new p c targets later at is.0).keeps (lives_if (mode o new.seen c.shard.slot) now);

@@ -10,7 +10,7 @@ use Rattle.vschema.specs.declared.changes.RowChange.TheVariants.{Added, Replaced
 use Rattle.vschema.specs.Database.{Database, same_row, without, applied, all_applied, changed_table}
 use Rattle.shard_law.proofs.Databases.{length-applied}
 use Rattle.shard_run.specs.Openings.{row_count}
-use Rattle.shard_contents.specs.declared.limits.Limits.{Limits}
+use Rattle.shard_law.specs.declared.limits.Limits.{Limits}
 use Rattle.shard_contents.specs.Commits.{is_added, is_removed}
 use Rattle.shard_contents.specs.inner.Stores.{row_after}
 use Rattle.shard_contents.specs.inner.Transactions.{has_room_for}

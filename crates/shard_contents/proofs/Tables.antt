@@ -10,11 +10,11 @@ use Rattle.vschema.specs.Schema.{no_table}
 use Rattle.vschema.specs.TypedWrites.{IsTypedWrite}
 use Rattle.vschema.specs.Database.{Database, rows_of, restrict, all_applied, changed_table, change_lies_in, restricted_changes}
 use Rattle.sql_eval.specs.Writes.{written_table, changes_of}
-use Rattle.shard_run.specs.declared.Shard.{Shard}
+use Rattle.shard_run.specs.declared.ShardRecord.{ShardRecord}
 use Rattle.shard_run.specs.declared.Event.{Event}
 use Rattle.shard_run.specs.declared.Event.TheVariants.{Commit, Follow, Copy, Freeze, Thaw, Retire, Serve}
 use Rattle.shard_run.specs.declared.Entry.{Entry}
-use Rattle.shard_run.specs.Runs.{Run, Opening, one, is_on, is_stored, stored_on, stored_changes}
+use Rattle.shard_run.specs.Runs.{Run, Opening, database, is_on, is_stored, stored_on, stored_changes}
 use Rattle.shard_run.specs.Copies.{change_is_copied}
 use Rattle.shard_law.specs.Legal.{Legal, LegalFrom, May, IsChangeOf, AreChangesOf}
 use Rattle.shard_law.proofs.Lists.{In-all, In-from_filter, AllByRecursion-push, slice_get-In, all-weaker, all-filter, all-append}
@@ -63,11 +63,11 @@ module _ (o : Opening) where
       In-all (AreThere o) e run all
       (In-from_filter (λ x. is_on source x && is_stored x.event) e run (slice_get-In (stored_on source run) place e at)).0
 
-  last_there : (before : Run) (s : Shard) (ev : Event) → May o before s ev → AllByRecursion (AreThere o) before → AllByRecursion (IsThere o.schema) (stored_changes ev)
-  last_there before s (Commit c) m all = all_there o.schema c.statements (restrict o.schema s.place (one o before)) c.changes m.typed m.meant
+  last_there : (before : Run) (s : ShardRecord) (ev : Event) → May o before s ev → AllByRecursion (AreThere o) before → AllByRecursion (IsThere o.schema) (stored_changes ev)
+  last_there before s (Commit c) m all = all_there o.schema c.statements (restrict o.schema s.place (database o before)) c.changes m.typed m.meant
   last_there before s (Follow f) m all =
       subst (AllByRecursion (IsThere o.schema)) (sym m.filtered)
-      (restricted_there s.place (change_is_copied o.schema before s.slot f.source) m.entry (stored_there before f.source f.place m.entry all m.stored))
+      (restricted_there s.place (change_is_copied o.schema before s.slot f.source) m.entry (stored_there before f.source f.log_position m.entry all m.stored))
   last_there before s (Copy c) m all = tt
   last_there before s Freeze m all = tt
   last_there before s Thaw m all = tt

@@ -16,16 +16,16 @@ use Rattle.vschema.specs.Database.{Database, lies_in, restrict, all_applied}
 use Rattle.sql_eval.specs.Writes.{written_table, changes_of, change}
 use Rattle.journal.specs.Runs.{IsLegal, by_session}
 use Rattle.journal.specs.Views.{PassView}
-use Rattle.shard_run.specs.declared.Shard.{Shard}
+use Rattle.shard_run.specs.declared.ShardRecord.{ShardRecord}
 use Rattle.shard_run.specs.declared.Event.TheVariants.{Commit}
 use Rattle.shard_run.specs.declared.Entry.{Entry}
 use Rattle.shard_run.specs.declared.Mode.TheVariants as modes
-use Rattle.shard_run.specs.Runs.{Run, Opening, one, held, mode, is_serving, entries_on, stored_on}
-use Rattle.shard_contents.specs.declared.outcomes.Committed.{Committed}
-use Rattle.shard_contents.specs.declared.outcomes.Committed.TheVariants.{Count, Frozen, NotServing}
+use Rattle.shard_run.specs.Runs.{Run, Opening, database, shard_rows, mode, answers_queries, entries_on, stored_on}
+use Rattle.shard_contents.specs.declared.outcomes.CommitOutcome.{CommitOutcome}
+use Rattle.shard_contents.specs.declared.outcomes.CommitOutcome.TheVariants.{Count, Frozen, NotServing}
 use Rattle.shard_run.specs.Openings.{row_count}
-use Rattle.shard_contents.specs.declared.limits.Limits.{Limits}
-use Rattle.shard_contents.specs.Shards.{commit_of, MayFollow, HasLooked}
+use Rattle.shard_law.specs.declared.limits.Limits.{Limits}
+use Rattle.shard_law.specs.Entries.{commit_of, MayFollow, HasLooked}
 
 abbrev pub inserted_rows : Write → List Row
 inserted_rows (Insert n new) = new
@@ -37,7 +37,7 @@ IsPlaced schema place w =
     IsTrue (list_all (lies_in place (slice_index_or schema.tables (written_table w) no_table)) (inserted_rows w))
 
 -- the entry of a session's commit of one write
-abbrev pub commit_entry : Shard → ℕ → ℕ → Write → List RowChange → Entry
+abbrev pub commit_entry : ShardRecord → ℕ → ℕ → Write → List RowChange → Entry
 commit_entry s session number w changes =
     record { shard = s; event = Commit (record { session = session; number = number; statements = w ∷ []; changes = changes }) }
 
@@ -52,15 +52,15 @@ is_removed (Replaced n old new) = false
 is_removed (Removed n row) = true
 
 -- after the run, one more stored entry with these changes passes no limit of the shard
-pub record HasRoom (o : Opening) (limits : Limits) (s : Shard) (run : Run) (changes : List RowChange) : Type 0 where
-  pub rows : row_count (all_applied changes (held o run s)) ≤ limits.rows
+pub record HasRoom (o : Opening) (limits : Limits) (s : ShardRecord) (run : Run) (changes : List RowChange) : Type 0 where
+  pub rows : row_count (all_applied changes (shard_rows o run s)) ≤ limits.rows
   pub stored : length (stored_on s.slot run) < limits.stored
   pub entries : length (entries_on s.slot run) < 2 ^ 40
 
 -- The session of the pass has committed the write on the shard. The pass made one look, after which it has seen a run that ends with the
 -- commit's entry, and this alone is new of its session. The count is what the write gives over the one database before that entry, in the
 -- shard's place.
-pub record HasCommitted (o : Opening) (limits : Limits) (s : Shard) (p : PassView Entry) (w : Write) (count : ℕ) (now : PassView Entry) : Type 0 where
+pub record HasCommitted (o : Opening) (limits : Limits) (s : ShardRecord) (p : PassView Entry) (w : Write) (count : ℕ) (now : PassView Entry) : Type 0 where
   pub looked : PassView Entry
   pub look : HasLooked o s.slot p looked
   pub before : Run
@@ -73,20 +73,20 @@ pub record HasCommitted (o : Opening) (limits : Limits) (s : Shard) (p : PassVie
   pub legal : IsLegal (MayFollow o) now.seen
   pub room : HasRoom o limits s before changes
   pub after : Database
-  pub counted : change o.schema w (restrict o.schema s.place (one o before)) ≡ Ok (after, count)
+  pub counted : change o.schema w (restrict o.schema s.place (database o before)) ≡ Ok (after, count)
   pub pass : now ≡ record looked { seen = now.seen }
 
 -- What a shard answers to a write: it is committed; or one look shows that the shard is frozen, or doesn't serve, and the write comes back.
-pub data HasAnswered (o : Opening) (limits : Limits) (s : Shard) (p : PassView Entry) (w : Write) : Committed → PassView Entry → Type 0 where
+pub data HasAnswered (o : Opening) (limits : Limits) (s : ShardRecord) (p : PassView Entry) (w : Write) : CommitOutcome → PassView Entry → Type 0 where
   committed : {count : ℕ} {now : PassView Entry} → HasCommitted o limits s p w count now → HasAnswered o limits s p w (Count count) now
   frozen : {now : PassView Entry} → HasLooked o s.slot p now → mode o now.seen s.slot ≡ modes.Frozen → HasAnswered o limits s p w (Frozen w) now
-  not_serving : {now : PassView Entry} → HasLooked o s.slot p now → is_serving (mode o now.seen s.slot) ≡ false
+  not_serving : {now : PassView Entry} → HasLooked o s.slot p now → answers_queries (mode o now.seen s.slot) ≡ false
       → HasAnswered o limits s p w (NotServing w) now
 
 -- Why a commit is refused at a run: want of memory; the write has a primary key that is there already, in the one database's rows of the
 -- shard's place; its changes would pass a limit of the shard.
-pub data IsCommitRefusal (o : Opening) (limits : Limits) (s : Shard) (run : Run) (w : Write) : Refusal → Type 0 where
+pub data IsCommitRefusal (o : Opening) (limits : Limits) (s : ShardRecord) (run : Run) (w : Write) : Refusal → Type 0 where
   no_memory : IsCommitRefusal o limits s run w OutOfMemory
-  duplicate : changes_of o.schema w (restrict o.schema s.place (one o run)) ≡ Err DuplicateKey → IsCommitRefusal o limits s run w DuplicateKey
-  full : (changes : List RowChange) → changes_of o.schema w (held o run s) ≡ Ok changes → (HasRoom o limits s run changes → ⊥)
+  duplicate : changes_of o.schema w (restrict o.schema s.place (database o run)) ≡ Err DuplicateKey → IsCommitRefusal o limits s run w DuplicateKey
+  full : (changes : List RowChange) → changes_of o.schema w (shard_rows o run s) ≡ Ok changes → (HasRoom o limits s run changes → ⊥)
       → IsCommitRefusal o limits s run w ShardFull

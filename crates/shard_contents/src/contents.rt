@@ -12,10 +12,10 @@ ghost use Rattle.shard_contents.specs.Kept.{keep};
 ghost use Rattle.shard_contents.specs.Commits.{inserted_rows, commit_entry};
 ghost use Rattle.shard_contents.specs.inner.Commits.{has_room, IsUnprepared};
 
-use crate::copies::{beside, copy_shard, one};
-use crate::forward::{Step, keep};
-use crate::limits::{Limits, MOST_ENTRIES};
-use shard_run::{Commit, Entry, Event, Follow, Mode, Shard};
+use crate::copies::{copy_shard, one, with_owned};
+use crate::target_steps::{TargetStep, keep};
+use shard_law::{Limits, MOST_ENTRIES};
+use shard_run::{Commit, Entry, Event, Follow, Mode, ShardRecord};
 use shard_store::{KeyedChange, StoredTables};
 use std::alloc::Global;
 use vschema::{RowChange, VSchema, Write};
@@ -24,18 +24,18 @@ use vt_value::{Items, Refusal};
 /// What a shard holds besides its seat.
 #[derive(Drop)]
 pub struct Contents {
-    pub shard: Shard,
+    pub shard: ShardRecord,
     pub store: StoredTables,
     pub mode: Mode,
     pub stored: Vec<Entry>,
     // how far a target has come with its sources
-    pub steps: Vec<Step>,
+    pub steps: Vec<TargetStep>,
     pub limits: Limits,
 }
 
 /// The session that commits, and the number of its statement.
 #[derive(Clone, Copy)]
-pub struct Author {
+pub struct StatementId {
     pub session: u64,
     pub number: u64,
 }
@@ -54,9 +54,9 @@ pub fn written_table(write: &Write) -> usize
     ensures { result ≡ written_table write.now }
 {
     match write {
-        Write::Insert(place, _) => *place,
-        Write::Update(place, _, _) => *place,
-        Write::Delete(place, _) => *place,
+        Write::Insert(ordinal, _) => *ordinal,
+        Write::Update(ordinal, _, _) => *ordinal,
+        Write::Delete(ordinal, _) => *ordinal,
     }
 }
 
@@ -71,19 +71,19 @@ fn inserted(write: &Write) -> usize
 
 fn commit_entry(
     alloc: Global,
-    shard: &Shard,
-    author: Author,
+    shard: &ShardRecord,
+    statement_id: StatementId,
     write: Write,
     changes: Items<RowChange>,
 ) -> Result<Entry, Refusal>
-    ensures ok { IfOk result (λ e. e ≡ commit_entry shard.now author.session author.number write changes) }
+    ensures ok { IfOk result (λ e. e ≡ commit_entry shard.now statement_id.session statement_id.number write changes) }
     ensures err { IfErr result (λ e. e ≡ Refusal.OutOfMemory) }
 {
     let statements = one(alloc, write)?;
     let shard = copy_shard(alloc, shard)?;
     let event = Event::Commit(Commit {
-        session: author.session,
-        number: author.number,
+        session: statement_id.session,
+        number: statement_id.number,
         statements,
         changes,
     });
@@ -116,8 +116,8 @@ impl Contents {
         ensures limits { OnOk result (IsTrue (has_room self.now.limits entries (vec_len self.now.stored) (row_count self.now.store.rows) write.now)) }
         ensures err { IfErr result (IsUnprepared schema.now self.now.limits entries (vec_len self.now.stored) self.now.store.rows write.now) }
     {
-        let place = written_table(write);
-        let table = &schema.tables.as_slice()[place];
+        let ordinal = written_table(write);
+        let table = &schema.tables.as_slice()[ordinal];
         let changes = self.store.changes(alloc, table, write)?;
         if !self.has_room(entries, write) {
             return Err(Refusal::ShardFull);
@@ -160,7 +160,7 @@ impl Contents {
         &mut self,
         alloc: Global,
         entries: u64,
-        author: Author,
+        statement_id: StatementId,
         schema: &VSchema,
         write: Write,
     ) -> Result<Prepared, Refusal>
@@ -168,7 +168,7 @@ impl Contents {
         requires tables { length self.old.store.rows ≡ length schema.now.tables }
         requires within { row_count self.old.store.rows ≤ self.old.limits.rows }
         ensures changes { IfOk result (λ p. changes_of schema.now write self.old.store.rows ≡ Ok (held_changes p.entry.event)) }
-        ensures entry { IfOk result (λ p. p.entry ≡ commit_entry self.old.shard author.session author.number write (held_changes p.entry.event)) }
+        ensures entry { IfOk result (λ p. p.entry ≡ commit_entry self.old.shard statement_id.session statement_id.number write (held_changes p.entry.event)) }
         ensures count { IfOk result (λ p. p.count ≡ length (held_changes p.entry.event)) }
         ensures ready { IfOk result (λ p. IsReadyFor self.new.store (held_changes p.entry.event) p.changes.items) }
         ensures one_more { OnOk result (vec_len self.new.stored < vec_capacity self.new.stored) }
@@ -182,9 +182,9 @@ impl Contents {
         ensures same_limits { self.new.limits ≡ self.old.limits }
     {
         let twice = self.changes_twice(alloc, entries, schema, &write);
-        let ((changes, keyed), write) = beside(twice, write)?;
+        let ((changes, keyed), write) = with_owned(twice, write)?;
         let count = changes.len() as u64;
-        let entry = commit_entry(alloc, &self.shard, author, write, changes)?;
+        let entry = commit_entry(alloc, &self.shard, statement_id, write, changes)?;
         Ok(Prepared {
             entry,
             changes: keyed,
@@ -245,7 +245,7 @@ impl Contents {
         count
     }
     /// Takes over a step with a source for which memory was made. Takes no memory.
-    pub fn take_step(&mut self, prepared: Prepared, step: Step)
+    pub fn take_step(&mut self, prepared: Prepared, step: TargetStep)
         requires ready { IsReadyFor self.old.store (held_changes prepared.entry.event) prepared.changes.items }
         requires one_more { vec_len self.old.stored < vec_capacity self.old.stored }
         requires one_step { vec_len self.old.steps < vec_capacity self.old.steps }

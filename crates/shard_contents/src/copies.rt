@@ -1,13 +1,13 @@
 //! Equal shards and changes, with memory of their own, and two helpers for values that are handed on.
 ghost use Rattle.std.specs.Prelude.{◌≡◌, ◌∷◌, [], Ok, Err, IfOk, IfErr};
 
-use shard_run::Shard;
+use shard_run::ShardRecord;
 use std::alloc::Global;
 use vschema::{Place, RowChange};
 use vt_value::{Items, Refusal, copy_row};
 
 /// An equal shard.
-pub fn copy_shard(alloc: Global, shard: &Shard) -> Result<Shard, Refusal>
+pub fn copy_shard(alloc: Global, shard: &ShardRecord) -> Result<ShardRecord, Refusal>
     ensures ok { IfOk result (λ s. s ≡ shard.now) }
     ensures err { IfErr result (λ e. e ≡ Refusal.OutOfMemory) }
 {
@@ -16,7 +16,7 @@ pub fn copy_shard(alloc: Global, shard: &Shard) -> Result<Shard, Refusal>
         keyspace: shard.place.keyspace,
         range: shard.place.range,
     };
-    Ok(Shard {
+    Ok(ShardRecord {
         slot: shard.slot,
         place,
         sources,
@@ -61,7 +61,7 @@ pub fn one<T: Drop>(alloc: Global, item: T) -> Result<Items<T>, Refusal>
 }
 
 /// The value with what was got; if nothing was got, the value is dropped here, and not at each place that calls this.
-pub fn beside<T, U: Drop, E>(got: Result<T, E>, owned: U) -> Result<(T, U), E>
+pub fn with_owned<T, U: Drop, E>(got: Result<T, E>, owned: U) -> Result<(T, U), E>
     ensures ok { IfOk result (λ both. (got ≡ Ok both.0) × (both.1 ≡ owned)) }
     ensures err { IfErr result (λ e. got ≡ Err e) }
 {

@@ -8,18 +8,18 @@ ghost use Rattle.shard_run.specs.declared.Event.{Event};
 ghost use Rattle.shard_run.specs.Runs.{mode, stored_changes, held_changes};
 ghost use Rattle.shard_run.specs.Copies.{is_last};
 ghost use Rattle.shard_store.specs.Stores.{IsReadyFor};
-ghost use Rattle.shard_contents.specs.Progress.{behind, last_row};
+ghost use Rattle.shard_contents.specs.Progress.{step_position, last_row};
 ghost use Rattle.shard_contents.specs.Kept.{keep};
 ghost use Rattle.shard_run.specs.Openings.{row_count};
 ghost use Rattle.shard_contents.specs.inner.Rowed.{row_of, first_named};
 ghost use Rattle.shard_contents.specs.inner.Copying.{has_room_to_copy};
 
-use crate::choosing::{COPY_STEP, lies_in};
 use crate::contents::Contents;
 use crate::copies::{copy_change, copy_shard};
-use crate::forward::{Step, keep};
-use crate::limits::MOST_ENTRIES;
+use crate::next_rows::{COPY_STEP, lies_in};
 use crate::store::changed_table;
+use crate::target_steps::{TargetStep, keep};
+use shard_law::MOST_ENTRIES;
 use shard_run::{Copied, Entry, Event};
 use shard_store::{KeyedChange, StoredTables};
 use std::alloc::Global;
@@ -37,19 +37,19 @@ pub struct NextTable {
 #[derive(Drop)]
 pub struct SourceProgress {
     /// After how many of the source's stored entries it stands. None before its first Copy from there.
-    pub behind: Option<u128>,
+    pub stands_after: Option<u128>,
     /// Where it copies on. None if it has copied all tables.
     pub next: Option<NextTable>,
 }
 
-impl Step {
+impl TargetStep {
     // After how many of the source's stored entries the target stands after the step.
-    pub fn behind(&self) -> u128
-        ensures { result ≡ behind self.now }
+    pub fn step_position(&self) -> u128
+        ensures { result ≡ step_position self.now }
     {
         match self {
-            Step::Followed { place, .. } => u128::from(*place) + 1,
-            Step::Copied { place, .. } => u128::from(*place),
+            TargetStep::Followed { log_position, .. } => u128::from(*log_position) + 1,
+            TargetStep::Copied { log_position, .. } => u128::from(*log_position),
         }
     }
 
@@ -58,8 +58,8 @@ impl Step {
         ensures { option_copied result ≡ row_of source table self.now }
     {
         match self {
-            Step::Followed { .. } => None,
-            Step::Copied {
+            TargetStep::Followed { .. } => None,
+            TargetStep::Copied {
                 source: from,
                 table: of,
                 row,
@@ -177,7 +177,7 @@ fn added(alloc: Global, table: usize, rows: &[Row]) -> Result<Vec<RowChange>, Re
 pub struct PreparedCopy {
     pub entry: Entry,
     pub changes: Vec<KeyedChange>,
-    pub step: Step,
+    pub step: TargetStep,
 }
 
 // The rows as additions by keys, with room for them in the store.
@@ -211,7 +211,7 @@ impl Contents {
     pub fn prepare_copy(&mut self, alloc: Global, taken: Copied) -> Result<PreparedCopy, Refusal>
         requires { taken.table < length self.old.store.rows }
         ensures entry { IfOk result (λ p. p.entry ≡ record { shard = self.old.shard; event = Event.Copy taken }) }
-        ensures step { IfOk result (λ p. p.step ≡ Step.Copied taken.source taken.table taken.place (is_last taken) (last_row taken.rows)) }
+        ensures step { IfOk result (λ p. p.step ≡ TargetStep.Copied taken.source taken.table taken.log_position (is_last taken) (last_row taken.rows)) }
         ensures ready { IfOk result (λ p. IsReadyFor self.new.store (held_changes p.entry.event) p.changes.items) }
         ensures one_step { OnOk result (vec_len self.new.steps < vec_capacity self.new.steps) }
         ensures err { IfErr result (λ e. e ≡ Refusal.OutOfMemory) }
@@ -224,10 +224,10 @@ impl Contents {
     {
         let changes = prepare_rows(alloc, &mut self.store, taken.table, taken.rows.as_slice())?;
         self.steps.reserve(1)?;
-        let step = Step::Copied {
+        let step = TargetStep::Copied {
             source: taken.source,
             table: taken.table,
-            place: taken.place,
+            log_position: taken.log_position,
             last: taken.rows.len() < COPY_STEP,
             row: last_row(alloc, taken.rows.as_slice())?,
         };

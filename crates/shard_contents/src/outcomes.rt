@@ -12,14 +12,14 @@ pub struct Reading {
 
 /// What a shard answers to a query.
 #[derive(Drop)]
-pub enum Read {
+pub enum ReadOutcome {
     Rows(Reading),
     NotServing,
 }
 
 /// What a shard answers to a write: how many rows it added, removed or really changed, or the write again.
 #[derive(Drop)]
-pub enum Committed {
+pub enum CommitOutcome {
     Count(u64),
     Frozen(Write),
     NotServing(Write),

@@ -3,9 +3,9 @@ ghost use Rattle.std.specs.Prelude.{◌≡◌, false, ◌↔◌, ◌++◌, ◌+�
 ghost use Rattle.shard_contents.specs.Transactions.{nothing_done, changes_table, is_changed, is_conflict, is_touched, touched_with, touched_all};
 ghost use Rattle.vschema.specs.Sources.{source_tables};
 
-use crate::behind::changes_any;
-use crate::copies::{beside, copy_changes};
-use crate::touch::Touch;
+use crate::copies::{copy_changes, with_owned};
+use crate::touched_table::Touch;
+use crate::transaction_rows::changes_any;
 use shard_run::{Entry, Event};
 use std::alloc::Global;
 use std::marker::Model;
@@ -34,12 +34,12 @@ impl Model for Pending {
 }
 
 // Whether the entry changes a row of the table at a place.
-fn changes_table(place: usize, entry: &Entry) -> bool
-    ensures { result ≡ changes_table place entry.now }
+fn changes_table(ordinal: usize, entry: &Entry) -> bool
+    ensures { result ≡ changes_table ordinal entry.now }
 {
     match &entry.event {
-        Event::Commit(commit) => changes_any(place, commit.changes.as_slice()),
-        Event::Follow(follow) => changes_any(place, follow.changes.as_slice()),
+        Event::Commit(commit) => changes_any(ordinal, commit.changes.as_slice()),
+        Event::Follow(follow) => changes_any(ordinal, follow.changes.as_slice()),
         _ => false,
     }
 }
@@ -53,10 +53,10 @@ fn is_changed(stored: &[Entry], touch: &Touch) -> bool
         .any(|entry| changes_table(touch.table, entry))
 }
 
-fn is_touched(touched: &[Touch], place: usize) -> bool
-    ensures { result ≡ is_touched touched.now place }
+fn is_touched(touched: &[Touch], ordinal: usize) -> bool
+    ensures { result ≡ is_touched touched.now ordinal }
 {
-    touched.iter().any(|touch| touch.table == place)
+    touched.iter().any(|touch| touch.table == ordinal)
 }
 
 // Touches a table, unless it is touched. Takes no memory.
@@ -157,14 +157,14 @@ impl Pending {
         ensures err { IfErr result (λ e. e ≡ Refusal.OutOfMemory) }
         ensures unchanged { OnErr result (self.new ≡ self.old) }
     {
-        let (mut copied, write) = beside(copy_changes(alloc, changes), write)?;
+        let (mut copied, write) = with_owned(copy_changes(alloc, changes), write)?;
         let room = append(
             &mut self.touched,
             &mut self.writes,
             &mut self.changes,
             &mut copied,
         );
-        let (_, write) = beside(room, write)?;
+        let (_, write) = with_owned(room, write)?;
         self.writes.push_reserved(write);
         touch_table(&mut self.touched, touch);
         Ok(())

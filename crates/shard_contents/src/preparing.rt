@@ -9,10 +9,10 @@ ghost use Rattle.shard_contents.specs.Transactions.{entry_of};
 ghost use Rattle.shard_contents.specs.Commits.{is_added, is_removed};
 ghost use Rattle.shard_contents.specs.inner.Transactions.{has_room_for, IsAllUnprepared};
 
-use crate::contents::{Author, Contents, Prepared};
+use crate::contents::{Contents, Prepared, StatementId};
 use crate::copies::copy_shard;
-use crate::limits::MOST_ENTRIES;
 use crate::pending::Pending;
+use shard_law::MOST_ENTRIES;
 use shard_run::{Commit, Entry, Event};
 use shard_store::KeyedChange;
 use std::alloc::Global;
@@ -54,14 +54,14 @@ fn removed(changes: &[RowChange]) -> usize
 
 impl Pending {
     // Gives its writes and changes away, as the commit of this session's statement.
-    fn give(&mut self, alloc: Global, author: Author) -> Commit
-        ensures { result ≡ record { session = author.session; number = author.number; statements = self.old.writes; changes = self.old.changes } }
+    fn give(&mut self, alloc: Global, statement_id: StatementId) -> Commit
+        ensures { result ≡ record { session = statement_id.session; number = statement_id.number; statements = self.old.writes; changes = self.old.changes } }
     {
         let writes = mem::replace(&mut self.writes, Vec::new(alloc));
         let changes = mem::replace(&mut self.changes, Vec::new(alloc));
         Commit {
-            session: author.session,
-            number: author.number,
+            session: statement_id.session,
+            number: statement_id.number,
             statements: Items::from_vec(writes),
             changes: Items::from_vec(changes),
         }
@@ -116,14 +116,14 @@ impl Contents {
         &mut self,
         alloc: Global,
         entries: u64,
-        author: Author,
+        statement_id: StatementId,
         tx: &mut Pending,
     ) -> Result<Prepared, Refusal>
         requires there { AllByRecursion (λ c. changed_table c < length self.old.store.rows) tx.old.changes }
         requires within { row_count self.old.store.rows ≤ self.old.limits.rows }
         requires most { self.old.limits.rows ≤ 2 ^ 20 }
         ensures changes { IfOk result (λ p. held_changes p.entry.event ≡ tx.old.changes) }
-        ensures entry { IfOk result (λ p. p.entry ≡ entry_of self.old.shard author.session author.number tx.old.writes tx.old.changes) }
+        ensures entry { IfOk result (λ p. p.entry ≡ entry_of self.old.shard statement_id.session statement_id.number tx.old.writes tx.old.changes) }
         ensures ready { IfOk result (λ p. IsReadyFor self.new.store (held_changes p.entry.event) p.changes.items) }
         ensures one_more { OnOk result (vec_len self.new.stored < vec_capacity self.new.stored) }
         ensures limits { OnOk result (has_room_for self.old.limits entries (vec_len self.old.stored) (row_count self.old.store.rows) tx.old.changes ≡ true) }
@@ -147,7 +147,7 @@ impl Contents {
         };
         let entry = Entry {
             shard,
-            event: Event::Commit(tx.give(alloc, author)),
+            event: Event::Commit(tx.give(alloc, statement_id)),
         };
         Ok(Prepared {
             entry,

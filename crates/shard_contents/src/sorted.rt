@@ -4,14 +4,14 @@ ghost use Rattle.vschema.specs.Database.{Database, rows_of, without, all_applied
 ghost use Rattle.shard_run.specs.declared.Entry as entry;
 ghost use Rattle.shard_run.specs.Runs.{stored_changes};
 ghost use Rattle.shard_store.specs.Tables.{key_at};
-ghost use Rattle.shard_contents.specs.Copying.{is_wanted};
+ghost use Rattle.shard_contents.specs.Copying.{is_left_to_copy};
 ghost use Rattle.shard_contents.specs.inner.Placed.{AreFirst};
 ghost use Rattle.shard_contents.specs.inner.Stores.{row_after};
 ghost use Rattle.shard_contents.specs.inner.Earlier.{changes_by, HadRows, AllHadRows, IsCurrentTable};
 
-use crate::choosing::{COPY_STEP, first_wanted};
 use crate::contents::Contents;
 use crate::copying::{NextTable, stored_changes};
+use crate::next_rows::{COPY_STEP, first_wanted};
 use crate::store::changed_table;
 use shard_run::Entry;
 use shard_store::{AllRows, RowKey, RowSource, StoredTables, TableRows};
@@ -40,7 +40,7 @@ impl Model for SortedTable {
 // The key of a row, with memory for the row.
 fn make_room(alloc: Global, rows: &mut TableRows, row: &Row) -> Result<RowKey, Refusal>
     ensures rows { rows.new.rows ≡ rows.old.rows }
-    ensures key { IfOk result (λ key. key.values ≡ key_at rows.new.places row.now) }
+    ensures key { IfOk result (λ key. key.values ≡ key_at rows.new.ordinals row.now) }
     ensures room { OnOk result (0 < rows.new.room) }
     ensures err { IfErr result (λ e. e ≡ Refusal.OutOfMemory) }
 {
@@ -183,16 +183,16 @@ impl SortedTable {
         table: &Table,
         last: Option<&Row>,
     ) -> Result<Vec<Row>, Refusal>
-        ensures ok { IfOk result (λ first. AreFirst table.now (is_wanted place.now table.now (option_copied last.entry)) self.now.rows first.items) }
+        ensures ok { IfOk result (λ first. AreFirst table.now (is_left_to_copy place.now table.now (option_copied last.entry)) self.now.rows first.items) }
         ensures err { IfErr result (λ e. e ≡ Refusal.OutOfMemory) }
     {
-        let rows = self.rows.behind(alloc, table, last)?;
+        let rows = self.rows.rows_after(alloc, table, last)?;
         first_wanted(alloc, place, table, last, rows)
     }
 }
 
 // Where among these tables the one at a place of the VSchema is.
-fn place_of(tables: &[SortedTable], table: usize) -> Option<usize>
+fn ordinal_of(tables: &[SortedTable], table: usize) -> Option<usize>
     ensures { result ≡ position (λ t. t.table == table) tables.now }
 {
     tables.iter().position(|t| t.table == table)
@@ -235,7 +235,7 @@ impl SortedTables {
         ensures had { (stored : List entry.Entry) (now : Database) → AllHadRows stored now self.old → AllHadRows stored now self.new }
         ensures taken { IfSome result (λ t. (t.table ≡ place) × ((stored : List entry.Entry) (now : Database) → AllHadRows stored now self.old → HadRows stored now t)) }
     {
-        let at = place_of(self.tables.as_slice(), place)?;
+        let at = ordinal_of(self.tables.as_slice(), place)?;
         Some(self.tables.remove(at))
     }
 
@@ -287,7 +287,7 @@ impl SortedTables {
         requires there { next.now.table < length contents.now.store.rows }
         requires had { AllHadRows contents.now.stored.items contents.now.store.rows self.old }
         ensures had { AllHadRows contents.now.stored.items contents.now.store.rows self.new }
-        ensures ok { IfOk result (λ first. AreFirst table.now (is_wanted place.now table.now next.now.after) (rows_of contents.now.store.rows next.now.table) first.items) }
+        ensures ok { IfOk result (λ first. AreFirst table.now (is_left_to_copy place.now table.now next.now.after) (rows_of contents.now.store.rows next.now.table) first.items) }
         ensures err { IfErr result (λ e. e ≡ Refusal.OutOfMemory) }
     {
         let sorted = self.take_current(alloc, contents, next.table, table)?;
@@ -312,11 +312,11 @@ impl Contents {
         requires there { next.now.table < length self.now.store.rows }
         requires had { AllHadRows self.now.stored.items self.now.store.rows sorted.old }
         ensures had { AllHadRows self.now.stored.items self.now.store.rows sorted.new }
-        ensures ok { IfOk result (λ first. AreFirst table.now (is_wanted place.now table.now next.now.after) (rows_of self.now.store.rows next.now.table) first.items) }
+        ensures ok { IfOk result (λ first. AreFirst table.now (is_left_to_copy place.now table.now next.now.after) (rows_of self.now.store.rows next.now.table) first.items) }
         ensures err { IfErr result (λ e. e ≡ Refusal.OutOfMemory) }
     {
         let last = next.after.as_ref();
-        let rows = self.store.behind(alloc, next.table, table, last)?;
+        let rows = self.store.rows_after(alloc, next.table, table, last)?;
         if rows.in_order {
             return first_wanted(alloc, place, table, last, rows);
         }

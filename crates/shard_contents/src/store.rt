@@ -8,8 +8,8 @@ pub fn changed_table(change: &RowChange) -> usize
     ensures { result ≡ changed_table change.now }
 {
     match change {
-        RowChange::Added(place, _) => *place,
-        RowChange::Replaced(place, _, _) => *place,
-        RowChange::Removed(place, _) => *place,
+        RowChange::Added(ordinal, _) => *ordinal,
+        RowChange::Replaced(ordinal, _, _) => *ordinal,
+        RowChange::Removed(ordinal, _) => *ordinal,
     }
 }

@@ -13,7 +13,7 @@ use Rattle.keyrange.specs.declared.KeyRange.{KeyRange}
 use Rattle.keyrange.specs.Ranges.{is_less, is_before, is_before_end, has_id, IsByteString, Overlap}
 use Rattle.keyrange.specs.Names.{IsNamed}
 use Rattle.vschema.specs.declared.schema.Place.{Place}
-use Rattle.shard_law.specs.Legal.{Hold}
+use Rattle.shard_law.specs.Legal.{TogetherHold}
 use Rattle.shard_law.proofs.Lists.{In, In-from_Contains, In-all, all-append}
 
 less_is : (o : Ordering) → is_less o ≡ is_lt o
@@ -149,7 +149,7 @@ end_in (q ∷ places) p (inr h) e i = Rattle.shard_law.proofs.Lists.In-right e (
 
 -- places that hold each byte string of a place hold each id of it
 pub hold_all : (places : List Place) (p : Place) → IsNamed p.range → AllByRecursion (λ q. IsNamed q.range) places
-    → Hold places p → (id : List ℕ) → has_id p.range id ≡ true
+    → TogetherHold places p → (id : List ℕ) → has_id p.range id ≡ true
     → (other : Place) × In other places × (other.keyspace ≡ p.keyspace) × (has_id other.range id ≡ true)
 hold_all places p n named hold id h = by (hold b.best b.bytes inside)
   where

@@ -8,18 +8,18 @@ use Rattle.vt_value.specs.declared.value.Value.TheVariants.{Null}
 use Rattle.vt_value.specs.declared.refusal.Refusal.TheVariants.{WrongValueCount, NotSupported, NoDefaultValue, NullNotAllowed, OutOfRange, TooLong}
 use Rattle.vt_value.specs.Values.{is_null}
 use Rattle.sql_tree.specs.declared.Assignment.{Assignment}
-use Rattle.vschema_document.specs.declared.column.Column.{Column}
-use Rattle.vschema_document.specs.declared.column.ColumnType.{ColumnType}
-use Rattle.vschema_document.specs.declared.column.ColumnType.TheVariants.{BigInt, BigIntUnsigned, VarBinary}
+use Rattle.vschema_json.specs.declared.column.Column.{Column}
+use Rattle.vschema_json.specs.declared.column.ColumnType.{ColumnType}
+use Rattle.vschema_json.specs.declared.column.ColumnType.TheVariants.{BigInt, BigIntUnsigned, VarBinary}
 use Rattle.vschema.specs.declared.schema.Table.{Table}
 use Rattle.vschema.specs.declared.schema.VSchema.{VSchema}
 use Rattle.vschema.specs.declared.changes.Write.{Write}
 use Rattle.vschema.specs.declared.changes.Write.TheVariants.{Insert, Update, Delete}
-use Rattle.vschema.specs.Schema.{no_table, place_from}
-use Rattle.vschema.specs.Resolved.{Name, place, places_from}
+use Rattle.vschema.specs.Schema.{no_table, ordinal_from}
+use Rattle.vschema.specs.Resolved.{Name, ordinal, ordinals_from}
 use Rattle.vschema.specs.Scopes.{only}
 use Rattle.vschema.specs.Checks.{has_number, filter_has, condition_mixes, is_text_type, value_is_text, differ}
-use Rattle.vschema.specs.WriteChecks.{Stored, beside, insert_places, has_wrong_count, inserted_values, assigned_values, has_other_kind, has_wrong_null, has_out_of_range, has_too_long, is_out_of_range, is_too_long, leaves_out_column, sets_key, update_is_not_supported}
+use Rattle.vschema.specs.WriteChecks.{Stored, with_column, insert_ordinals, has_wrong_count, inserted_values, assigned_values, has_other_kind, has_wrong_null, has_out_of_range, has_too_long, is_out_of_range, is_too_long, leaves_out_column, sets_key, update_is_not_supported}
 use Rattle.vschema.specs.TypedWrites.{IsTypedWrite, insert, update, delete, unless_refused, insert_checks, update_checks, delete_checks, insert_over, update_over, delete_over, value_for, whole_row, resolved_assignment}
 use Rattle.vschema.specs.Storable.{is_storable, is_storable_value, are_storable_values}
 use Rattle.shard_law.proofs.Typed.{found, unrefused, passed}
@@ -76,9 +76,9 @@ from_flat_map P f (x ∷ xs) h = (all-left P (f x) (flat_map f xs) h, from_flat_
 abbrev IsStorable : Column × Value → Type 0
 IsStorable p = is_storable_value p.0 p.1 ≡ true
 
-beside_fits : (t : Table) (n : ℕ) (v : Value) → AllByRecursion IsStorable (beside t n v) → value_fits (slice_get t.columns n) v ≡ true
+with_fits : (t : Table) (n : ℕ) (v : Value) → AllByRecursion IsStorable (with_column t n v) → value_fits (slice_get t.columns n) v ≡ true
 unfolding value_fits
-beside_fits t n v h = by (slice_get t.columns n) h
+with_fits t n v h = by (slice_get t.columns n) h
   where
     by : (c : Option Column) → AllByRecursion IsStorable (map (λ c. (c, v)) (option_to_list c)) → value_fits c v ≡ true
     by None h = refl
@@ -87,12 +87,12 @@ beside_fits t n v h = by (slice_get t.columns n) h
 -- ---- UPDATE
 
 assignments_fit : (t : Table) (assignments : List (Assignment Name))
-    → AllByRecursion IsStorable (flat_map (λ a. beside t (place t a.column) a.value) assignments)
+    → AllByRecursion IsStorable (flat_map (λ a. with_column t (ordinal t a.column) a.value) assignments)
     → AllByRecursion (λ a. value_fits (slice_get t.columns a.column) a.value ≡ true) (map (resolved_assignment t) assignments)
 assignments_fit t [] h = tt
 assignments_fit t (a ∷ assignments) h =
-    let f = λ (a : Assignment Name). beside t (place t a.column) a.value in (
-      beside_fits t (place t a.column) a.value (all-left IsStorable (f a) (flat_map f assignments) h),
+    let f = λ (a : Assignment Name). with_column t (ordinal t a.column) a.value in (
+      with_fits t (ordinal t a.column) a.value (all-left IsStorable (f a) (flat_map f assignments) h),
       assignments_fit t assignments (all-right IsStorable (f a) (flat_map f assignments) h),
     )
 
@@ -104,19 +104,19 @@ first_value j [] values = Null
 first_value j (m ∷ places) [] = Null
 first_value j (m ∷ places) (v ∷ values) = cond (m == j) v (first_value j places values)
 
-place_later : {X : Type 0} (test : X → Bool) (n : ℕ) (xs : List X) → place_from test (suc n) xs ≡ option_map suc (place_from test n xs)
-place_later test n [] = refl
-place_later test n (x ∷ xs) = by (test x) (place_later test (n + 1) xs)
+ordinal_later : {X : Type 0} (test : X → Bool) (n : ℕ) (xs : List X) → ordinal_from test (suc n) xs ≡ option_map suc (ordinal_from test n xs)
+ordinal_later test n [] = refl
+ordinal_later test n (x ∷ xs) = by (test x) (ordinal_later test (n + 1) xs)
   where
-    by : (b : Bool) → place_from test (suc (n + 1)) xs ≡ option_map suc (place_from test (n + 1) xs)
-        → cond b (Some (suc n)) (place_from test (suc n + 1) xs) ≡ option_map suc (cond b (Some n) (place_from test (n + 1) xs))
+    by : (b : Bool) → ordinal_from test (suc (n + 1)) xs ≡ option_map suc (ordinal_from test (n + 1) xs)
+        → cond b (Some (suc n)) (ordinal_from test (suc n + 1) xs) ≡ option_map suc (cond b (Some n) (ordinal_from test (n + 1) xs))
     by true e = refl
-    by false e = let k : suc n + 1 ≡ suc (n + 1) = omega arith in ap (λ z. place_from test z xs) k ∙ e
+    by false e = let k : suc n + 1 ≡ suc (n + 1) = omega arith in ap (λ z. ordinal_from test z xs) k ∙ e
 
 value_is_first : (j : ℕ) (places : List ℕ) (values : List Value) → value_for places values j ≡ first_value j places values
 unfolding first_value
 value_is_first j [] values = refl
-value_is_first j (m ∷ places) [] = none (place_from (λ m. m == j) 0 (m ∷ places))
+value_is_first j (m ∷ places) [] = none (ordinal_from (λ m. m == j) 0 (m ∷ places))
   where
     none : (k : Option ℕ) → unwrap_or (option_and_then (slice_get []) k) Null ≡ Null
     none None = refl
@@ -128,12 +128,12 @@ value_is_first j (m ∷ places) (v ∷ values) = by (m == j) (value_is_first j p
     later (Some k) = refl
 
     by : (b : Bool) → value_for places values j ≡ first_value j places values
-        → unwrap_or (option_and_then (slice_get (v ∷ values)) (cond b (Some 0) (place_from (λ m. m == j) 1 places))) Null
+        → unwrap_or (option_and_then (slice_get (v ∷ values)) (cond b (Some 0) (ordinal_from (λ m. m == j) 1 places))) Null
         ≡ cond b v (first_value j places values)
     by true ih = refl
     by false ih =
-        ap (λ k. unwrap_or (option_and_then (slice_get (v ∷ values)) k) Null) (place_later (λ m. m == j) 0 places)
-        ∙ (later (place_from (λ m. m == j) 0 places) ∙ ih)
+        ap (λ k. unwrap_or (option_and_then (slice_get (v ∷ values)) k) Null) (ordinal_later (λ m. m == j) 0 places)
+        ∙ (later (ordinal_from (λ m. m == j) 0 places) ∙ ih)
 
 null_fits : (c : Column) → c.nullable ≡ true → is_storable_value c Null ≡ true
 null_fits c e = by c.kind
@@ -167,23 +167,23 @@ module _ (columns : List Column) (j : ℕ) (c : Column) (there : slice_get colum
 module _ (columns : List Column) (places : List ℕ) (values : List Value) (count : length values ≡ length places)
     (fit : AllByRecursion (λ p. value_fits (slice_get columns p.0) p.1 ≡ true) (zip places values)) where
   row_fits : (cs : List Column) (i : ℕ) → ((k : ℕ) → slice_get columns (i + k) ≡ slice_get cs k)
-      → list_any (λ p. not p.1.nullable && not (has_number places p.0)) (zip (places_from i cs) cs) ≡ false
-      → are_storable_values cs (map (value_for places values) (places_from i cs)) ≡ true
+      → list_any (λ p. not p.1.nullable && not (has_number places p.0)) (zip (ordinals_from i cs) cs) ≡ false
+      → are_storable_values cs (map (value_for places values) (ordinals_from i cs)) ≡ true
   row_fits [] i at e = refl
   row_fits (c ∷ cs) i at e =
       let g = or_parts (not c.nullable && not (has_number places i))
-      (list_any (λ p. not p.1.nullable && not (has_number places p.0)) (zip (places_from (i + 1) cs) cs)) e in
+      (list_any (λ p. not p.1.nullable && not (has_number places p.0)) (zip (ordinals_from (i + 1) cs) cs)) e in
       let here : slice_get columns i ≡ Some c = ap (slice_get columns) (omega arith) ∙ at 0 in
-      and_from (is_storable_value c (value_for places values i)) (are_storable_values cs (map (value_for places values) (places_from (i + 1) cs)))
+      and_from (is_storable_value c (value_for places values i)) (are_storable_values cs (map (value_for places values) (ordinals_from (i + 1) cs)))
       (ap (is_storable_value c) (value_is_first i places values) ∙ first_fits columns i c here places values count fit g.0)
       (row_fits cs (i + 1) (λ k. ap (slice_get columns) (omega arith) ∙ at (suc k)) g.1)
 
-pairs_fit : (t : Table) (pairs : List (ℕ × Value)) → AllByRecursion IsStorable (flat_map (λ p. beside t p.0 p.1) pairs)
+pairs_fit : (t : Table) (pairs : List (ℕ × Value)) → AllByRecursion IsStorable (flat_map (λ p. with_column t p.0 p.1) pairs)
     → AllByRecursion (λ p. value_fits (slice_get t.columns p.0) p.1 ≡ true) pairs
 pairs_fit t [] h = tt
 pairs_fit t (p ∷ pairs) h =
-    let f = λ (p : ℕ × Value). beside t p.0 p.1 in (
-      beside_fits t p.0 p.1 (all-left IsStorable (f p) (flat_map f pairs) h),
+    let f = λ (p : ℕ × Value). with_column t p.0 p.1 in (
+      with_fits t p.0 p.1 (all-left IsStorable (f p) (flat_map f pairs) h),
       pairs_fit t pairs (all-right IsStorable (f p) (flat_map f pairs) h),
     )
 
@@ -196,8 +196,8 @@ same_count a b e = by (a == b) refl e
 
 rows_fit : (t : Table) (places : List ℕ) (rows : List (List Value))
     → list_any (λ row. not (length row == length places)) rows ≡ false
-    → AllByRecursion (λ row. AllByRecursion IsStorable (flat_map (λ p. beside t p.0 p.1) (zip places row))) rows
-    → list_any (λ p. not p.1.nullable && not (has_number places p.0)) (zip (places_from 0 t.columns) t.columns) ≡ false
+    → AllByRecursion (λ row. AllByRecursion IsStorable (flat_map (λ p. with_column t p.0 p.1) (zip places row))) rows
+    → list_any (λ p. not p.1.nullable && not (has_number places p.0)) (zip (ordinals_from 0 t.columns) t.columns) ≡ false
     → AllByRecursion (λ row. is_storable t row ≡ true) (map (whole_row t places) rows)
 rows_fit t places [] c h e = tt
 rows_fit t places (row ∷ rows) c h e =
@@ -230,7 +230,7 @@ module _ (schema : VSchema) (w : Write) where
   fits-from_typed (insert s h) =
       let f = found schema w s.table (λ n t. unless_refused (insert_checks t s) (insert_over n t s)) h in
       let pass = passed (insert_checks f.t s) (insert_over f.n f.t s) w f.means in
-      let places = insert_places f.t s.columns in
+      let places = insert_ordinals f.t s.columns in
       let counts = pass (has_wrong_count f.t s) WrongValueCount (inr (inl refl)) in
       let kinds = pass (has_other_kind (inserted_values f.t s)) NotSupported (inr (inr (inr (inl refl)))) in
       let left_out = pass (leaves_out_column f.t s) NoDefaultValue (inr (inr (inr (inr (inl refl))))) in
@@ -238,7 +238,7 @@ module _ (schema : VSchema) (w : Write) where
       let ranges = pass (has_out_of_range (inserted_values f.t s)) OutOfRange (inr (inr (inr (inr (inr (inr (inl refl))))))) in
       let lengths = pass (has_too_long (inserted_values f.t s)) TooLong (inr (inr (inr (inr (inr (inr (inr (inl refl)))))))) in
       let j : get_or schema.tables f.n no_table ≡ f.t = get_or_from_slice_get schema.tables f.n f.t no_table f.there in
-      let each = from_flat_map IsStorable (λ row. flat_map (λ p. beside f.t p.0 p.1) (zip places row)) s.rows
+      let each = from_flat_map IsStorable (λ row. flat_map (λ p. with_column f.t p.0 p.1) (zip places row)) s.rows
       (all_storable (inserted_values f.t s) kinds nulls ranges lengths) in
       subst (Fits schema) (unrefused (insert_checks f.t s) (insert_over f.n f.t s) w f.means)
       (subst (λ t. AllByRecursion (λ row. is_storable t row ≡ true) (map (whole_row f.t places) s.rows)) (sym j)

@@ -7,31 +7,31 @@ use Rattle.vt_value.specs.Values.{Row}
 use Rattle.vschema.specs.declared.changes.Write.TheVariants.{Insert}
 use Rattle.vschema.specs.declared.changes.RowChange.TheVariants.{Added}
 use Rattle.vschema.proofs.Example.{schema}
-use Rattle.shard_run.specs.declared.Shard.{Shard}
+use Rattle.shard_run.specs.declared.ShardRecord.{ShardRecord}
 use Rattle.shard_run.specs.declared.Mode.TheVariants.{Serving, Retired}
 use Rattle.shard_run.specs.declared.Event.{Event}
 use Rattle.shard_run.specs.declared.Event.TheVariants.{Commit, Follow, Freeze, Retire, Serve}
 use Rattle.shard_run.specs.declared.Entry.{Entry}
-use Rattle.shard_run.specs.Runs.{Run, Opening, one, held, mode}
+use Rattle.shard_run.specs.Runs.{Run, Opening, database, shard_rows, mode}
 
 abbrev pub n : ℕ → Value
 n k = Int (pos k)
 
-abbrev pub shard : ℕ → List ℕ → Option (List ℕ) → List ℕ → Shard
+abbrev pub shard : ℕ → List ℕ → Option (List ℕ) → List ℕ → ShardRecord
 shard slot begin end sources = record {
   slot = slot;
   place = record { keyspace = 0; range = record { begin = begin; end = end } };
   sources = sources;
 }
 
-abbrev pub low : Shard
+abbrev pub low : ShardRecord
 low = shard 0 [] (Some (0x80 ∷ [])) []
 
-abbrev pub high : Shard
+abbrev pub high : ShardRecord
 high = shard 1 (0x80 ∷ []) None []
 
 -- the first target of a split of -80
-abbrev pub lowest : Shard
+abbrev pub lowest : ShardRecord
 lowest = shard 2 [] (Some (0x40 ∷ [])) (0 ∷ [])
 
 abbrev pub opening : Opening
@@ -41,7 +41,7 @@ opening = record {
 }
 
 -- session 1 adds (7, 1), which lies on 80-, and (4, 1), which lies on -80 and then is followed
-abbrev pub added : ℕ → ℕ → Shard → Row → Entry
+abbrev pub added : ℕ → ℕ → ShardRecord → Row → Entry
 added session number s row = record {
   shard = s;
   event = Commit (record {
@@ -61,26 +61,26 @@ four = added 1 2 low (n 4 ∷ n 1 ∷ [])
 abbrev pub follow_four : Entry
 follow_four = record {
   shard = lowest;
-  event = Follow (record { source = 0; place = 0; changes = Added 0 (n 4 ∷ n 1 ∷ []) ∷ [] });
+  event = Follow (record { source = 0; log_position = 0; changes = Added 0 (n 4 ∷ n 1 ∷ []) ∷ [] });
 }
 
-abbrev pub event_on : Shard → Event → Entry
+abbrev pub event_on : ShardRecord → Event → Entry
 event_on s e = record { shard = s; event = e }
 
 abbrev pub run : Run
 run = seven ∷ four ∷ follow_four ∷ event_on low Freeze ∷ event_on low (Retire (lowest ∷ [])) ∷ event_on lowest Serve ∷ []
 
 one_database :
-    one opening run
+    database opening run
     ≡ ((n 2 ∷ Null ∷ []) ∷ (n 1 ∷ Null ∷ []) ∷ (n 7 ∷ n 1 ∷ []) ∷ (n 4 ∷ n 1 ∷ []) ∷ []) ∷ [] ∷ [] ∷ []
 one_database = refl
 
-high_holds : held opening run high ≡ ((n 1 ∷ Null ∷ []) ∷ (n 7 ∷ n 1 ∷ []) ∷ []) ∷ [] ∷ [] ∷ []
+high_holds : shard_rows opening run high ≡ ((n 1 ∷ Null ∷ []) ∷ (n 7 ∷ n 1 ∷ []) ∷ []) ∷ [] ∷ [] ∷ []
 unfolding reverse_bits_onto
 high_holds = refl
 
 -- id 2 has the keyspace id 40.., which isn't in -40, and id 4 has 20..
-target_holds : held opening run lowest ≡ ((n 4 ∷ n 1 ∷ []) ∷ []) ∷ [] ∷ [] ∷ []
+target_holds : shard_rows opening run lowest ≡ ((n 4 ∷ n 1 ∷ []) ∷ []) ∷ [] ∷ [] ∷ []
 unfolding reverse_bits_onto
 target_holds = refl
 

@@ -6,18 +6,18 @@ use Rattle.keyrange.specs.Names.{IsNamed}
 use Rattle.vschema.specs.declared.schema.VSchema.{VSchema}
 use Rattle.vschema.specs.Database.{Database, restrict}
 use Rattle.vschema.specs.Storable.{is_database}
-use Rattle.shard_run.specs.declared.Shard.{Shard}
+use Rattle.shard_run.specs.declared.ShardRecord.{ShardRecord}
 use Rattle.shard_run.specs.Runs.{Opening}
 
 abbrev pub row_count : Database → ℕ
 row_count db = sum_by length db
 
-abbrev pub shards_in : Opening → ℕ → List Shard
+abbrev pub shards_in : Opening → ℕ → List ShardRecord
 shards_in o keyspace = filter (λ s. s.place.keyspace == keyspace) (map (λ p. p.0) o.shards)
 
 -- A shard's first rows are rows that its tables may hold and that lie in its place, no two of a table with one primary
 -- key, and at most 2 ^ 20. Its keyspace is one of the VSchema's, its range has a name, and it has no sources.
-pub record OpensWith (schema : VSchema) (s : Shard) (db : Database) : Type 0 where
+pub record OpensWith (schema : VSchema) (s : ShardRecord) (db : Database) : Type 0 where
   pub slot : s.slot < 64
   pub keyspace : s.place.keyspace < length schema.keyspaces
   pub range : IsNamed s.place.range

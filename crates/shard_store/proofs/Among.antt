@@ -18,11 +18,11 @@ use denote.Param.Members.{Mut}
 use Rattle.vt_value.specs.declared.value.Value.{Value}
 use Rattle.vt_value.specs.Values.{Row, value_cmp}
 use Rattle.operators.proofs.OrderLemmas.{value_cmp-total, value_cmp-same}
-use Rattle.shard_store.specs.Keys.{key_cmp}
+use Rattle.shard_store.specs.Keys.{row_key_cmp}
 use Rattle.shard_store.specs.Slots.{Slot, rows_in, begins, slots_with}
 use Rattle.shard_store.specs.Chosen.{is_among, Climbs, slots_among}
 use Rattle.shard_store.specs.inner.Chosen.{risen}
-use Rattle.shard_store.proofs.Prefix.{Ascend, ascend, none_with, none_behind}
+use Rattle.shard_store.proofs.Prefix.{Ascend, ascend, none_with, none_after}
 use Rattle.shard_store.proofs.KeptRows.{none_any}
 
 -- ---- values in their order
@@ -116,10 +116,10 @@ less_first v x ks (w ∷ vs) h e = by (less_first v x ks vs h.1) (is_eq (value_c
         let f : list_any (λ w. begins w (x ∷ ks)) vs ≡ true = rw t at g in
         ih f
 
-behind : (v : Value) (ks : Row) (vs : List Value) → Below v vs → list_any (λ w. begins w ks) vs ≡ true
+trailing : (v : Value) (ks : Row) (vs : List Value) → Below v vs → list_any (λ w. begins w ks) vs ≡ true
     → (is_le (slice_cmp value_cmp (v ∷ []) ks) ≡ true) × (begins v ks ≡ false)
-behind v [] vs h e = absurd (false≢true (sym (none_any (λ w. begins w []) (λ w. refl) vs) ∙ e))
-behind v (x ∷ ks) vs h e =
+trailing v [] vs h e = absurd (false≢true (sym (none_any (λ w. begins w []) (λ w. refl) vs) ∙ e))
+trailing v (x ∷ ks) vs h e =
     let less = less_first v x ks vs h e in
     (ap (λ o. is_le (ordering_then o (slice_cmp value_cmp [] ks))) less, ap is_eq less)
 
@@ -130,12 +130,12 @@ two v vs (s ∷ slots) h up = by (two v vs slots h up.1) (begins v s.0.values) r
     by : slots_with v slots ++ slots_among vs slots ≡ slots_among (v ∷ vs) slots → (b : Bool) → begins v s.0.values ≡ b → (d : Bool) → list_any (λ w. begins w s.0.values) vs ≡ d
         → cond (begins v s.0.values) (s ∷ slots_with v slots) (slots_with v slots) ++ cond (list_any (λ w. begins w s.0.values) vs) (s ∷ slots_among vs slots) (slots_among vs slots)
         ≡ cond (begins v s.0.values || list_any (λ w. begins w s.0.values) vs) (s ∷ slots_among (v ∷ vs) slots) (slots_among (v ∷ vs) slots)
-    by ih true t true u = absurd (false≢true (sym (behind v s.0.values vs h u).1 ∙ t))
+    by ih true t true u = absurd (false≢true (sym (trailing v s.0.values vs h u).1 ∙ t))
     by ih true t false u = rw (t, u) (ap (λ (z : List Slot). s ∷ z) ih)
     by ih false t false u = rw (t, u) ih
     by ih false t true u =
-        let far = behind v s.0.values vs h u in
-        let none : slots_with v slots ≡ [] = none_with v slots (none_behind v s slots far.0 t up.0) in
+        let far = trailing v s.0.values vs h u in
+        let none : slots_with v slots ≡ [] = none_with v slots (none_after v s slots far.0 t up.0) in
         let rest : slots_among vs slots ≡ slots_among (v ∷ vs) slots = ap (λ (z : List Slot). z ++ slots_among vs slots) (sym none) ∙ ih in
         rw (t, u) (ap (λ (z : List Slot). z ++ s ∷ slots_among vs slots) none ∙ ap (λ (z : List Slot). s ∷ z) rest)
 
@@ -143,24 +143,24 @@ none_of : (slots : List Slot) → slots_among [] slots ≡ []
 none_of [] = refl
 none_of (s ∷ slots) = none_of slots
 
-rows_behind : (a b : List Slot) → rows_in (a ++ b) ≡ rows_in a ++ rows_in b
-rows_behind [] b = refl
-rows_behind (s ∷ a) b =
-    ap (λ (z : List Row). option_to_list s.1 ++ z) (rows_behind a b)
+rows_past : (a b : List Slot) → rows_in (a ++ b) ≡ rows_in a ++ rows_in b
+rows_past [] b = refl
+rows_past (s ∷ a) b =
+    ap (λ (z : List Row). option_to_list s.1 ++ z) (rows_past a b)
     ∙ sym (append_assoc (option_to_list s.1) (rows_in a) (rows_in b))
 
 each_walk : (vs : List Value) (slots : List Slot) → Rising vs → Ascend slots → flat_map (λ v. rows_in (slots_with v slots)) vs ≡ rows_in (slots_among vs slots)
 each_walk [] slots r up = sym (ap rows_in (none_of slots))
 each_walk (v ∷ vs) slots r up =
     ap (λ (z : List Row). rows_in (slots_with v slots) ++ z) (each_walk vs slots r.1 up)
-    ∙ sym (rows_behind (slots_with v slots) (slots_among vs slots)) ∙ ap rows_in (two v vs slots r.0 up)
+    ∙ sym (rows_past (slots_with v slots) (slots_among vs slots)) ∙ ap rows_in (two v vs slots r.0 up)
 
 begins_same : (vs : List Value) (ks : Row) → Climbs vs → list_any (λ v. begins v ks) (risen None vs) ≡ list_any (λ v. begins v ks) vs
 begins_same vs [] h = none_any (λ v. begins v []) (λ v. refl) (risen None vs) ∙ sym (none_any (λ v. begins v []) (λ v. refl) vs)
 begins_same vs (x ∷ ks) h = risen_all vs x h
 
 -- a walk for each value that is above the last one
-pub walked : (vs : List Value) (slots : List Slot) → Climbs vs → IsStrictlySortedBy key_cmp (keys_of slots)
+pub walked : (vs : List Value) (slots : List Slot) → Climbs vs → IsStrictlySortedBy row_key_cmp (keys_of slots)
     → flat_map (λ v. rows_in (slots_with v slots)) (risen None vs) ≡ rows_in (slots_among vs slots)
 walked vs slots h up =
     each_walk (risen None vs) slots (all_rise vs) (ascend slots up)

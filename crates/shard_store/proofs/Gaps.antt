@@ -12,7 +12,7 @@ use Rattle.std.specs.declared.cmp.Ordering.TheVariants.{Less, Equal, Greater}
 use Rattle.std.specs.declared.ops.Bound.TheVariants.{Excluded, Unbounded}
 use Rattle.std.proofs.lemmas.Bool.{false≢true}
 use Rattle.vt_value.specs.Values.{Row, value_cmp, same_row}
-use Rattle.shard_store.specs.declared.gone.LentRow.{LentRow}
+use Rattle.shard_store.specs.declared.removed_rows.LentRow.{LentRow}
 use Rattle.shard_store.specs.Proofs.LentLemmas.{lent_cmp-total}
 use Rattle.shard_store.specs.inner.Overlays.{lent_key, lent_cmp}
 use Rattle.shard_store.proofs.Bags.{same_self}
@@ -46,23 +46,23 @@ absent key (e ∷ es) h = by (absent key es) (same_row key (lent_key e.0)) refl
         g) in
         ap (λ b. b || list_any (same_row key) (keys_in es)) t ∙ rest
 
-module _ (m : BTreeMap LentRow (Unit {0})) (lent : LentRow) (behind : List (LentRow × Unit {0})) (range : IsRangeOf lent_cmp (Excluded lent) Unbounded m behind)
+module _ (m : BTreeMap LentRow (Unit {0})) (lent : LentRow) (trailing : List (LentRow × Unit {0})) (range : IsRangeOf lent_cmp (Excluded lent) Unbounded m trailing)
     (key : Row) (up : is_lt (slice_cmp value_cmp (lent_key lent) key) ≡ true) where
   in_range : (q : LentRow) → lent_key q ≡ key → IsInRange lent_cmp (Excluded lent) Unbounded q
   in_range q is =
       (subst (λ (k : Row). slice_cmp value_cmp (lent_key lent) k ≡ Less) (sym is) (lt_is (slice_cmp value_cmp (lent_key lent) key) up), tt)
 
-  pub gap_at_end : behind ≡ [] → list_any (same_row key) (keys_in m.entries) ≡ false
+  pub gap_at_end : trailing ≡ [] → list_any (same_row key) (keys_in m.entries) ≡ false
   gap_at_end none = absent key m.entries (λ q is. range.5 none q (in_range q is))
 
-  pub gap_before : (next : LentRow × Unit {0}) (more : List (LentRow × Unit {0})) → behind ≡ next ∷ more
+  pub gap_before : (next : LentRow × Unit {0}) (more : List (LentRow × Unit {0})) → trailing ≡ next ∷ more
       → is_lt (slice_cmp value_cmp key (lent_key next.0)) ≡ true → list_any (same_row key) (keys_in m.entries) ≡ false
   gap_before next more is below = absent key m.entries (λ q same. by q same (get lent_cmp m q) refl)
     where
       by : (q : LentRow) → lent_key q ≡ key → (o : Option (Unit {0})) → get lent_cmp m q ≡ o → get lent_cmp m q ≡ None
       by q same None e = e
       by q same (Some v) e =
-          let least : IfSome (slice_get behind 0) (λ f. is_gt (lent_cmp f.0 q) ≡ false) = range.2 q (in_range q same) (ap is_some e) in
+          let least : IfSome (slice_get trailing 0) (λ f. is_gt (lent_cmp f.0 q) ≡ false) = range.2 q (in_range q same) (ap is_some e) in
           let not_above : is_gt (lent_cmp next.0 q) ≡ false =
           subst (λ (l : List (LentRow × Unit {0})). IfSome (slice_get l 0) (λ f. is_gt (lent_cmp f.0 q) ≡ false)) is least in
           let low : lent_cmp q next.0 ≡ Less =

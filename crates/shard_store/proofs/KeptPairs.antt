@@ -19,7 +19,7 @@ use Rattle.vschema.specs.Sources.{is_pair, paired, pairs_of}
 use Rattle.sql_eval.specs.Conditions.{is_kept}
 use Rattle.sql_eval.specs.Queries.{Keyed, keyed_row, keyed_groups, kept_rows, IsAnswer}
 use Rattle.sql_eval.proofs.PairValues.{left_at, right_at}
-use Rattle.shard_store.specs.declared.fixed.Fixed.{Fixed}
+use Rattle.shard_store.specs.declared.equalities.Fixed.{Fixed}
 use Rattle.shard_store.specs.Chosen.{fits}
 use Rattle.shard_store.specs.Slots.{rows_in}
 use Rattle.shard_store.specs.Tables.{TableView}

@@ -141,13 +141,13 @@ none_any f h [] = refl
 none_any f h (x ∷ xs) = ap (λ b. b || list_any f xs) (h x) ∙ none_any f h xs
 
 -- the rows with a key, by the places of the stored keys
-pub keys_same : (places : List ℕ) (t : Table) (row : Row) (values : Row) → values ≡ key_at places row
-    → ((a b : Row) → same_row (key_at places a) (key_at places b) ≡ same_row (key_of t a) (key_of t b))
-    → (xs : List Row) → list_any (Rattle.shard_store.specs.Tables.has_key places values) xs ≡ list_any (λ r. same_row (key_of t row) (key_of t r)) xs
-keys_same places t row values at h [] = refl
-keys_same places t row values at h (x ∷ xs) =
-    ap (λ b. b || list_any (Rattle.shard_store.specs.Tables.has_key places values) xs) (ap (λ vs. same_row vs (key_at places x)) at ∙ h row x)
-    ∙ ap (λ b. same_row (key_of t row) (key_of t x) || b) (keys_same places t row values at h xs)
+pub keys_same : (ordinals : List ℕ) (t : Table) (row : Row) (values : Row) → values ≡ key_at ordinals row
+    → ((a b : Row) → same_row (key_at ordinals a) (key_at ordinals b) ≡ same_row (key_of t a) (key_of t b))
+    → (xs : List Row) → list_any (Rattle.shard_store.specs.Tables.has_key ordinals values) xs ≡ list_any (λ r. same_row (key_of t row) (key_of t r)) xs
+keys_same ordinals t row values at h [] = refl
+keys_same ordinals t row values at h (x ∷ xs) =
+    ap (λ b. b || list_any (Rattle.shard_store.specs.Tables.has_key ordinals values) xs) (ap (λ vs. same_row vs (key_at ordinals x)) at ∙ h row x)
+    ∙ ap (λ b. same_row (key_of t row) (key_of t x) || b) (keys_same ordinals t row values at h xs)
 
 pub nil_of : {X : Type 0} (xs : List X) (n : ℕ) → n ≡ length xs → n ≡ 0 → xs ≡ []
 nil_of [] n e z = refl

@@ -15,7 +15,7 @@ use Rattle.std.specs.Prelude.{slice_index}
 use Rattle.vt_value.specs.Values.{Row, value_at, value_cmp}
 use Rattle.vschema.specs.Database.{same_row, without}
 use Rattle.shard_store.specs.declared.key.RowKey.{RowKey}
-use Rattle.shard_store.specs.Keys.{key_cmp}
+use Rattle.shard_store.specs.Keys.{row_key_cmp}
 use Rattle.shard_store.specs.Slots.{Slot, rows_in, slot_at, row_at, begins, slots_with, with_slot, with_row, without_slot}
 use Rattle.shard_store.specs.Tables.{key_at, has_key, begins_with, IsAtItsKey}
 use Rattle.shard_store.specs.Chosen.{is_among, slots_among}
@@ -25,13 +25,13 @@ use Rattle.shard_store.proofs.Bags.{same_self}
 use Rattle.shard_store.proofs.Prefix.{Ascend, ascend}
 
 abbrev pub Keyed : List ℕ → List Slot → Type 0
-Keyed places slots = AllByRecursion (IsAtItsKey places) slots
+Keyed ordinals slots = AllByRecursion (IsAtItsKey ordinals) slots
 
 -- a test of rows that is a test of their keys keeps the rows of the slots whose keys pass
-filter_slots : (places : List ℕ) (p : Row → Bool) (q : RowKey → Bool) → ((k : RowKey) (row : Row) → k.values ≡ key_at places row → p row ≡ q k)
-    → (slots : List Slot) → Keyed places slots → filter p (rows_in slots) ≡ rows_in (filter (λ s. q s.0) slots)
-filter_slots places p q same [] h = refl
-filter_slots places p q same (s ∷ slots) h = by (filter_slots places p q same slots h.1) s.1 refl (q s.0) refl
+filter_slots : (ordinals : List ℕ) (p : Row → Bool) (q : RowKey → Bool) → ((k : RowKey) (row : Row) → k.values ≡ key_at ordinals row → p row ≡ q k)
+    → (slots : List Slot) → Keyed ordinals slots → filter p (rows_in slots) ≡ rows_in (filter (λ s. q s.0) slots)
+filter_slots ordinals p q same [] h = refl
+filter_slots ordinals p q same (s ∷ slots) h = by (filter_slots ordinals p q same slots h.1) s.1 refl (q s.0) refl
   where
     by : filter p (rows_in slots) ≡ rows_in (filter (λ s. q s.0) slots) → (o : Option Row) → s.1 ≡ o → (b : Bool) → q s.0 ≡ b
         → filter p (option_to_list s.1 ++ rows_in slots) ≡ rows_in (cond (q s.0) (s ∷ filter (λ s. q s.0) slots) (filter (λ s. q s.0) slots))
@@ -44,7 +44,7 @@ filter_slots places p q same (s ∷ slots) h = by (filter_slots places p q same 
         let g : p row ≡ false = same s.0 row (h.0 row e) ∙ t in
         simp (t, e, g, ih)
 
-none_at : (k : RowKey) (slots : List Slot) → AllByRecursion (λ q. key_cmp k q.0 ≡ Less) slots → filter (λ s. is_eq (key_cmp k s.0)) slots ≡ []
+none_at : (k : RowKey) (slots : List Slot) → AllByRecursion (λ q. row_key_cmp k q.0 ≡ Less) slots → filter (λ s. is_eq (row_key_cmp k s.0)) slots ≡ []
 none_at k [] h = refl
 none_at k (s ∷ slots) h =
     let first = h.0 in
@@ -52,42 +52,42 @@ none_at k (s ∷ slots) h =
     simp (first, rest)
 
 -- in ascending keys one slot at most has the key
-at_key : (k : RowKey) (slots : List Slot) → Ascend slots → rows_in (filter (λ s. is_eq (key_cmp k s.0)) slots) ≡ option_to_list (row_at slots k)
+at_key : (k : RowKey) (slots : List Slot) → Ascend slots → rows_in (filter (λ s. is_eq (row_key_cmp k s.0)) slots) ≡ option_to_list (row_at slots k)
 at_key k [] up = refl
-at_key k (s ∷ slots) up = by (at_key k slots up.1) (is_eq (key_cmp k s.0)) refl
+at_key k (s ∷ slots) up = by (at_key k slots up.1) (is_eq (row_key_cmp k s.0)) refl
   where
-    by : rows_in (filter (λ s. is_eq (key_cmp k s.0)) slots) ≡ option_to_list (row_at slots k) → (b : Bool) → is_eq (key_cmp k s.0) ≡ b
-        → rows_in (cond (is_eq (key_cmp k s.0)) (s ∷ filter (λ s. is_eq (key_cmp k s.0)) slots) (filter (λ s. is_eq (key_cmp k s.0)) slots))
+    by : rows_in (filter (λ s. is_eq (row_key_cmp k s.0)) slots) ≡ option_to_list (row_at slots k) → (b : Bool) → is_eq (row_key_cmp k s.0) ≡ b
+        → rows_in (cond (is_eq (row_key_cmp k s.0)) (s ∷ filter (λ s. is_eq (row_key_cmp k s.0)) slots) (filter (λ s. is_eq (row_key_cmp k s.0)) slots))
         ≡ option_to_list (row_at (s ∷ slots) k)
     by ih true t =
-        let same : k ≡ s.0 = key-same k s.0 ((Equal-is (key_cmp k s.0)).0 t) in
-        let none : filter (λ q. is_eq (key_cmp k q.0)) slots ≡ [] =
-        subst (λ (x : RowKey). filter (λ q. is_eq (key_cmp x q.0)) slots ≡ []) (sym same) (none_at s.0 slots up.0) in
+        let same : k ≡ s.0 = key-same k s.0 ((Equal-is (row_key_cmp k s.0)).0 t) in
+        let none : filter (λ q. is_eq (row_key_cmp k q.0)) slots ≡ [] =
+        subst (λ (x : RowKey). filter (λ q. is_eq (row_key_cmp x q.0)) slots ≡ []) (sym same) (none_at s.0 slots up.0) in
         simp (t, none, append-nil)
     by ih false t = simp t ih
 
 -- the row at a key is the only one that has it
-pub found : (places : List ℕ) (key : RowKey) (slots : List Slot) → Keyed places slots → IsStrictlySortedBy key_cmp (keys_of slots)
-    → filter (has_key places key.values) (rows_in slots) ≡ option_to_list (row_at slots key)
-found places key slots h up =
-    filter_slots places (has_key places key.values) (λ k. is_eq (key_cmp key k))
+pub found : (ordinals : List ℕ) (key : RowKey) (slots : List Slot) → Keyed ordinals slots → IsStrictlySortedBy row_key_cmp (keys_of slots)
+    → filter (has_key ordinals key.values) (rows_in slots) ≡ option_to_list (row_at slots key)
+found ordinals key slots h up =
+    filter_slots ordinals (has_key ordinals key.values) (λ k. is_eq (row_key_cmp key k))
     (λ k row at. ap (λ (vs : Row). is_eq (slice_cmp value_cmp key.values vs)) (sym at)) slots h
     ∙ at_key key slots (ascend slots up)
 
 -- the rows whose keys begin with the value are those whose first key column has it
-pub begun : (places : List ℕ) (v : Value) (slots : List Slot) → 1 ≤ length places → Keyed places slots
-    → rows_in (slots_with v slots) ≡ filter (begins_with places v) (rows_in slots)
+pub begun : (ordinals : List ℕ) (v : Value) (slots : List Slot) → 1 ≤ length ordinals → Keyed ordinals slots
+    → rows_in (slots_with v slots) ≡ filter (begins_with ordinals v) (rows_in slots)
 begun [] v slots some h = absurd (omega (arith, some))
-begun (n ∷ places) v slots some h =
-    sym (filter_slots (n ∷ places) (begins_with (n ∷ places) v) (λ k. begins v k.values)
+begun (n ∷ ordinals) v slots some h =
+    sym (filter_slots (n ∷ ordinals) (begins_with (n ∷ ordinals) v) (λ k. begins v k.values)
     (λ k row at. ap (λ (vs : Row). begins v vs) (sym at)) slots h)
 
 -- the same of several values
-pub begun_any : (places : List ℕ) (vs : List Value) (slots : List Slot) → 1 ≤ length places → Keyed places slots
-    → rows_in (slots_among vs slots) ≡ filter (λ row. is_among vs (value_at row (slice_index places 0))) (rows_in slots)
+pub begun_any : (ordinals : List ℕ) (vs : List Value) (slots : List Slot) → 1 ≤ length ordinals → Keyed ordinals slots
+    → rows_in (slots_among vs slots) ≡ filter (λ row. is_among vs (value_at row (slice_index ordinals 0))) (rows_in slots)
 begun_any [] vs slots some h = absurd (omega (arith, some))
-begun_any (n ∷ places) vs slots some h =
-    sym (filter_slots (n ∷ places) (λ row. is_among vs (value_at row n)) (λ k. list_any (λ v. begins v k.values) vs)
+begun_any (n ∷ ordinals) vs slots some h =
+    sym (filter_slots (n ∷ ordinals) (λ row. is_among vs (value_at row n)) (λ k. list_any (λ v. begins v k.values) vs)
     (λ k row at. ap (λ (ks : Row). list_any (λ v. begins v ks) vs) (sym at)) slots h)
 
 pub some_first : (x : Row) (xs : List Row) (o : Option Row) → x ∷ xs ≡ option_to_list o → (o ≡ Some x) × (xs ≡ [])
@@ -120,11 +120,11 @@ free_of (Some None) none there = refl
 free_of (Some (Some row)) none there = absurd (cc none)
 
 -- a slot at a key that no row has is free
-pub free_slot : (places : List ℕ) (key : RowKey) (slots : List Slot) → Keyed places slots → IsStrictlySortedBy key_cmp (keys_of slots)
-    → list_any (has_key places key.values) (rows_in slots) ≡ false → is_some (slot_at slots key) ≡ true → slot_at slots key ≡ Some None
-free_slot places key slots h up none there =
+pub free_slot : (ordinals : List ℕ) (key : RowKey) (slots : List Slot) → Keyed ordinals slots → IsStrictlySortedBy row_key_cmp (keys_of slots)
+    → list_any (has_key ordinals key.values) (rows_in slots) ≡ false → is_some (slot_at slots key) ≡ true → slot_at slots key ≡ Some None
+free_slot ordinals key slots h up none there =
     free_of (slot_at slots key)
-    (sym (any_found (has_key places key.values) (rows_in slots) (row_at slots key) (found places key slots h up)) ∙ none) there
+    (sym (any_found (has_key ordinals key.values) (rows_in slots) (row_at slots key) (found ordinals key slots h up)) ∙ none) there
 
 -- a slot with a row, by its row
 pub slot_of_row : (slots : List Slot) (key : RowKey) (row : Row) → row_at slots key ≡ Some row → slot_at slots key ≡ Some (Some row)
@@ -135,100 +135,100 @@ slot_of_row slots key row is = by (slot_at slots key) is
     by (Some slot) e = ap Some e
 
 -- a row that is not the one at its key is not there
-lacks : (places : List ℕ) (row : Row) (values : List Value) → values ≡ key_at places row → (xs : List Row) (o : Option Row)
-    → filter (has_key places values) xs ≡ option_to_list o → (o ≡ Some row → ⊥) → without row xs ≡ xs
-lacks places row values key [] o e differs = refl
-lacks places row values key (x ∷ xs) o e differs =
-    by (lacks places row values key xs) (same_row row x) refl (has_key places values x) refl
+lacks : (ordinals : List ℕ) (row : Row) (values : List Value) → values ≡ key_at ordinals row → (xs : List Row) (o : Option Row)
+    → filter (has_key ordinals values) xs ≡ option_to_list o → (o ≡ Some row → ⊥) → without row xs ≡ xs
+lacks ordinals row values key [] o e differs = refl
+lacks ordinals row values key (x ∷ xs) o e differs =
+    by (lacks ordinals row values key xs) (same_row row x) refl (has_key ordinals values x) refl
   where
-    by : ((o : Option Row) → filter (has_key places values) xs ≡ option_to_list o → (o ≡ Some row → ⊥) → without row xs ≡ xs)
-        → (b : Bool) → same_row row x ≡ b → (d : Bool) → has_key places values x ≡ d → cond (same_row row x) xs (x ∷ without row xs) ≡ x ∷ xs
+    by : ((o : Option Row) → filter (has_key ordinals values) xs ≡ option_to_list o → (o ≡ Some row → ⊥) → without row xs ≡ xs)
+        → (b : Bool) → same_row row x ≡ b → (d : Bool) → has_key ordinals values x ≡ d → cond (same_row row x) xs (x ∷ without row xs) ≡ x ∷ xs
     by ih true t true u =
-        let f : x ∷ filter (has_key places values) xs ≡ option_to_list o = rw u at e in
-        absurd (differs ((some_first x (filter (has_key places values) xs) o f).0 ∙ ap Some (sym (row_is row x t))))
+        let f : x ∷ filter (has_key ordinals values) xs ≡ option_to_list o = rw u at e in
+        absurd (differs ((some_first x (filter (has_key ordinals values) xs) o f).0 ∙ ap Some (sym (row_is row x t))))
     by ih true t false u =
-        let g : has_key places values x ≡ true =
-        subst (λ (r : Row). same_row values (key_at places r) ≡ true) (row_is row x t)
-        (subst (λ (vs : Row). same_row vs (key_at places row) ≡ true) (sym key) (same_self (key_at places row))) in
+        let g : has_key ordinals values x ≡ true =
+        subst (λ (r : Row). same_row values (key_at ordinals r) ≡ true) (row_is row x t)
+        (subst (λ (vs : Row). same_row vs (key_at ordinals row) ≡ true) (sym key) (same_self (key_at ordinals row))) in
         absurd (cc (sym g ∙ u))
     by ih false t true u =
-        let f : x ∷ filter (has_key places values) xs ≡ option_to_list o = rw u at e in
-        let rest = ih None (some_first x (filter (has_key places values) xs) o f).1 (λ n. absurd (cc n)) in
+        let f : x ∷ filter (has_key ordinals values) xs ≡ option_to_list o = rw u at e in
+        let rest = ih None (some_first x (filter (has_key ordinals values) xs) o f).1 (λ n. absurd (cc n)) in
         simp t (ap (λ (z : List Row). x ∷ z) rest)
     by ih false t false u =
-        let f : filter (has_key places values) xs ≡ option_to_list o = rw u at e in
+        let f : filter (has_key ordinals values) xs ≡ option_to_list o = rw u at e in
         let rest = ih o f differs in
         simp t (ap (λ (z : List Row). x ∷ z) rest)
 
-pub not_there : (places : List ℕ) (key : RowKey) (slots : List Slot) (row : Row) → Keyed places slots → IsStrictlySortedBy key_cmp (keys_of slots)
-    → key.values ≡ key_at places row → (row_at slots key ≡ Some row → ⊥) → without row (rows_in slots) ≡ rows_in slots
-not_there places key slots row h up is differs =
-    lacks places row key.values is (rows_in slots) (row_at slots key) (found places key slots h up) differs
+pub not_there : (ordinals : List ℕ) (key : RowKey) (slots : List Slot) (row : Row) → Keyed ordinals slots → IsStrictlySortedBy row_key_cmp (keys_of slots)
+    → key.values ≡ key_at ordinals row → (row_at slots key ≡ Some row → ⊥) → without row (rows_in slots) ≡ rows_in slots
+not_there ordinals key slots row h up is differs =
+    lacks ordinals row key.values is (rows_in slots) (row_at slots key) (found ordinals key slots h up) differs
 
 -- a row at its key stands in the slots as the others do
-pub keyed_row : (places : List ℕ) (key : RowKey) (row : Option Row) (slots : List Slot) → ((r : Row) → row ≡ Some r → key.values ≡ key_at places r)
-    → Keyed places slots → Keyed places (with_row key row slots)
-keyed_row places key row [] fit h = tt
-keyed_row places key row (s ∷ slots) fit h = by (keyed_row places key row slots fit h.1) (is_eq (key_cmp key s.0)) refl
+pub keyed_row : (ordinals : List ℕ) (key : RowKey) (row : Option Row) (slots : List Slot) → ((r : Row) → row ≡ Some r → key.values ≡ key_at ordinals r)
+    → Keyed ordinals slots → Keyed ordinals (with_row key row slots)
+keyed_row ordinals key row [] fit h = tt
+keyed_row ordinals key row (s ∷ slots) fit h = by (keyed_row ordinals key row slots fit h.1) (is_eq (row_key_cmp key s.0)) refl
   where
-    by : Keyed places (with_row key row slots) → (b : Bool) → is_eq (key_cmp key s.0) ≡ b
-        → Keyed places (cond (is_eq (key_cmp key s.0)) ((s.0, row) ∷ slots) (s ∷ with_row key row slots))
+    by : Keyed ordinals (with_row key row slots) → (b : Bool) → is_eq (row_key_cmp key s.0) ≡ b
+        → Keyed ordinals (cond (is_eq (row_key_cmp key s.0)) ((s.0, row) ∷ slots) (s ∷ with_row key row slots))
     by ih true t =
-        let same : key ≡ s.0 = key-same key s.0 ((Equal-is (key_cmp key s.0)).0 t) in
-        subst (λ (b : Bool). Keyed places (cond b ((s.0, row) ∷ slots) (s ∷ with_row key row slots))) (sym t)
+        let same : key ≡ s.0 = key-same key s.0 ((Equal-is (row_key_cmp key s.0)).0 t) in
+        subst (λ (b : Bool). Keyed ordinals (cond b ((s.0, row) ∷ slots) (s ∷ with_row key row slots))) (sym t)
         ((λ r e. ap (λ (k : RowKey). k.values) (sym same) ∙ fit r e), h.1)
     by ih false t =
-        subst (λ (b : Bool). Keyed places (cond b ((s.0, row) ∷ slots) (s ∷ with_row key row slots))) (sym t) (h.0, ih)
+        subst (λ (b : Bool). Keyed ordinals (cond b ((s.0, row) ∷ slots) (s ∷ with_row key row slots))) (sym t) (h.0, ih)
 
-keyed_slot : (places : List ℕ) (key : RowKey) (slots : List Slot) → Keyed places slots → Keyed places (with_slot key slots)
-keyed_slot places key [] h = ((λ r e. absurd (cc e)), tt)
-keyed_slot places key (s ∷ slots) h = by (keyed_slot places key slots h.1) (key_cmp key s.0) refl
+keyed_slot : (ordinals : List ℕ) (key : RowKey) (slots : List Slot) → Keyed ordinals slots → Keyed ordinals (with_slot key slots)
+keyed_slot ordinals key [] h = ((λ r e. absurd (cc e)), tt)
+keyed_slot ordinals key (s ∷ slots) h = by (keyed_slot ordinals key slots h.1) (row_key_cmp key s.0) refl
   where
-    by : Keyed places (with_slot key slots) → (o : Ordering) → key_cmp key s.0 ≡ o
-        → Keyed places (match_ordering (key_cmp key s.0) ((key, None) ∷ s ∷ slots) ((s.0, None) ∷ slots) (s ∷ with_slot key slots))
+    by : Keyed ordinals (with_slot key slots) → (o : Ordering) → row_key_cmp key s.0 ≡ o
+        → Keyed ordinals (match_ordering (row_key_cmp key s.0) ((key, None) ∷ s ∷ slots) ((s.0, None) ∷ slots) (s ∷ with_slot key slots))
     by ih Less t =
-        subst (λ (o : Ordering). Keyed places (match_ordering o ((key, None) ∷ s ∷ slots) ((s.0, None) ∷ slots) (s ∷ with_slot key slots))) (sym t)
+        subst (λ (o : Ordering). Keyed ordinals (match_ordering o ((key, None) ∷ s ∷ slots) ((s.0, None) ∷ slots) (s ∷ with_slot key slots))) (sym t)
         ((λ r e. absurd (cc e)), h)
     by ih Equal t =
-        subst (λ (o : Ordering). Keyed places (match_ordering o ((key, None) ∷ s ∷ slots) ((s.0, None) ∷ slots) (s ∷ with_slot key slots))) (sym t)
+        subst (λ (o : Ordering). Keyed ordinals (match_ordering o ((key, None) ∷ s ∷ slots) ((s.0, None) ∷ slots) (s ∷ with_slot key slots))) (sym t)
         ((λ r e. absurd (cc e)), h.1)
     by ih Greater t =
-        subst (λ (o : Ordering). Keyed places (match_ordering o ((key, None) ∷ s ∷ slots) ((s.0, None) ∷ slots) (s ∷ with_slot key slots))) (sym t)
+        subst (λ (o : Ordering). Keyed ordinals (match_ordering o ((key, None) ∷ s ∷ slots) ((s.0, None) ∷ slots) (s ∷ with_slot key slots))) (sym t)
         (h.0, ih)
 
-keyed_less : (places : List ℕ) (key : RowKey) (slots : List Slot) → Keyed places slots → Keyed places (without_slot key slots)
-keyed_less places key [] h = tt
-keyed_less places key (s ∷ slots) h = by (keyed_less places key slots h.1) (is_eq (key_cmp key s.0)) refl
+keyed_less : (ordinals : List ℕ) (key : RowKey) (slots : List Slot) → Keyed ordinals slots → Keyed ordinals (without_slot key slots)
+keyed_less ordinals key [] h = tt
+keyed_less ordinals key (s ∷ slots) h = by (keyed_less ordinals key slots h.1) (is_eq (row_key_cmp key s.0)) refl
   where
-    by : Keyed places (without_slot key slots) → (b : Bool) → is_eq (key_cmp key s.0) ≡ b
-        → Keyed places (cond (is_eq (key_cmp key s.0)) slots (s ∷ without_slot key slots))
-    by ih true t = subst (λ (b : Bool). Keyed places (cond b slots (s ∷ without_slot key slots))) (sym t) h.1
-    by ih false t = subst (λ (b : Bool). Keyed places (cond b slots (s ∷ without_slot key slots))) (sym t) (h.0, ih)
+    by : Keyed ordinals (without_slot key slots) → (b : Bool) → is_eq (row_key_cmp key s.0) ≡ b
+        → Keyed ordinals (cond (is_eq (row_key_cmp key s.0)) slots (s ∷ without_slot key slots))
+    by ih true t = subst (λ (b : Bool). Keyed ordinals (cond b slots (s ∷ without_slot key slots))) (sym t) h.1
+    by ih false t = subst (λ (b : Bool). Keyed ordinals (cond b slots (s ∷ without_slot key slots))) (sym t) (h.0, ih)
 
-keyed_either : (places : List ℕ) (a b : List Slot) → Keyed places a → Keyed places b → (c : Bool) → Keyed places (cond c a b)
-keyed_either places a b f g true = f
-keyed_either places a b f g false = g
+keyed_either : (ordinals : List ℕ) (a b : List Slot) → Keyed ordinals a → Keyed ordinals b → (c : Bool) → Keyed ordinals (cond c a b)
+keyed_either ordinals a b f g true = f
+keyed_either ordinals a b f g false = g
 
-pub keyed_reserved : (places : List ℕ) (key : RowKey) (old new : List Slot) → new ≡ cond (is_some (slot_at old key)) old (with_slot key old)
-    → Keyed places old → Keyed places new
-keyed_reserved places key old new is h =
-    subst (Keyed places) (sym is) (keyed_either places old (with_slot key old) h (keyed_slot places key old h) (is_some (slot_at old key)))
+pub keyed_reserved : (ordinals : List ℕ) (key : RowKey) (old new : List Slot) → new ≡ cond (is_some (slot_at old key)) old (with_slot key old)
+    → Keyed ordinals old → Keyed ordinals new
+keyed_reserved ordinals key old new is h =
+    subst (Keyed ordinals) (sym is) (keyed_either ordinals old (with_slot key old) h (keyed_slot ordinals key old h) (is_some (slot_at old key)))
 
-pub keyed_swept : (places : List ℕ) (key : RowKey) (old new : List Slot) → new ≡ cond (is_some (row_at old key)) old (without_slot key old)
-    → Keyed places old → Keyed places new
-keyed_swept places key old new is h =
-    subst (Keyed places) (sym is) (keyed_either places old (without_slot key old) h (keyed_less places key old h) (is_some (row_at old key)))
+pub keyed_swept : (ordinals : List ℕ) (key : RowKey) (old new : List Slot) → new ≡ cond (is_some (row_at old key)) old (without_slot key old)
+    → Keyed ordinals old → Keyed ordinals new
+keyed_swept ordinals key old new is h =
+    subst (Keyed ordinals) (sym is) (keyed_either ordinals old (without_slot key old) h (keyed_less ordinals key old h) (is_some (row_at old key)))
 
-pub keyed_added : (places : List ℕ) (key : RowKey) (row : Row) (old new : List Slot) → new ≡ with_row key (Some row) old → key.values ≡ key_at places row
-    → Keyed places old → Keyed places new
-keyed_added places key row old new is at h =
-    subst (Keyed places) (sym is) (keyed_row places key (Some row) old (λ r e. subst (λ (x : Row). key.values ≡ key_at places x) (row_of e) at) h)
+pub keyed_added : (ordinals : List ℕ) (key : RowKey) (row : Row) (old new : List Slot) → new ≡ with_row key (Some row) old → key.values ≡ key_at ordinals row
+    → Keyed ordinals old → Keyed ordinals new
+keyed_added ordinals key row old new is at h =
+    subst (Keyed ordinals) (sym is) (keyed_row ordinals key (Some row) old (λ r e. subst (λ (x : Row). key.values ≡ key_at ordinals x) (row_of e) at) h)
   where
     row_of : {a b : Row} → ◌≡◌ {A = Option Row} (Some a) (Some b) → a ≡ b
     row_of e = cc e
 
-pub keyed_taken : (places : List ℕ) (key : RowKey) (old new : List Slot) → new ≡ with_row key None old → Keyed places old → Keyed places new
-keyed_taken places key old new is h = subst (Keyed places) (sym is) (keyed_row places key None old (λ r e. absurd (cc e)) h)
+pub keyed_taken : (ordinals : List ℕ) (key : RowKey) (old new : List Slot) → new ≡ with_row key None old → Keyed ordinals old → Keyed ordinals new
+keyed_taken ordinals key old new is h = subst (Keyed ordinals) (sym is) (keyed_row ordinals key None old (λ r e. absurd (cc e)) h)
 
 one_row : (o : Option Row) → length (option_to_list o) ≤ 1
 one_row None = omega arith

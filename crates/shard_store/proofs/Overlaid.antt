@@ -14,7 +14,7 @@ use Rattle.std.proofs.lemmas.List.Sums.{fails_before_first}
 use Rattle.operators.proofs.OrderLemmas.{rows_cmp-same}
 use Rattle.vt_value.specs.Values.{Row, same_row}
 use Rattle.vschema.specs.Database.{without}
-use Rattle.shard_store.specs.declared.gone.LentRow.{LentRow}
+use Rattle.shard_store.specs.declared.removed_rows.LentRow.{LentRow}
 use Rattle.shard_store.specs.declared.key.RowKey.{RowKey}
 use Rattle.shard_store.specs.Slots.{Slot, rows_in}
 use Rattle.shard_store.specs.Tables.{key_at, has_key, IsAtItsKey}
@@ -285,18 +285,18 @@ pub slot_none : (p : Row → Bool) (gone : ColumnKeys) (xs : List Row) → filte
 slot_none p gone xs e = sym (any_swap p (λ r. not (is_gone gone r)) xs ∙ ap (list_any (λ r. not (is_gone gone r))) e)
 
 -- a row of which the key is known to have one row, or none
-module _ (places : List ℕ) (values : Row) (row : Row) (key : values ≡ key_at places row) (gone : ColumnKeys) (xs : List Row) where
-  has_it : (x : Row) → same_row row x ≡ true → has_key places values x ≡ true
+module _ (ordinals : List ℕ) (values : Row) (row : Row) (key : values ≡ key_at ordinals row) (gone : ColumnKeys) (xs : List Row) where
+  has_it : (x : Row) → same_row row x ≡ true → has_key ordinals values x ≡ true
   has_it x e =
-      subst (λ (r : Row). same_row values (key_at places r) ≡ true) (row_is row x e)
-      (subst (λ (vs : Row). same_row vs (key_at places row) ≡ true) (sym key) (same_self (key_at places row)))
+      subst (λ (r : Row). same_row values (key_at ordinals r) ≡ true) (row_is row x e)
+      (subst (λ (vs : Row). same_row vs (key_at ordinals row) ≡ true) (sym key) (same_self (key_at ordinals row)))
 
-  by_key : list_any (same_row row) (left_of gone xs) ≡ list_any (same_row row) (left_of gone (filter (has_key places values) xs))
+  by_key : list_any (same_row row) (left_of gone xs) ≡ list_any (same_row row) (left_of gone (filter (has_key ordinals values) xs))
   by_key =
-      sym (any_kept (same_row row) (has_key places values) has_it (left_of gone xs))
-      ∙ ap (list_any (same_row row)) (filter_swap (has_key places values) (λ r. not (is_gone gone r)) xs)
+      sym (any_kept (same_row row) (has_key ordinals values) has_it (left_of gone xs))
+      ∙ ap (list_any (same_row row)) (filter_swap (has_key ordinals values) (λ r. not (is_gone gone r)) xs)
 
-  pub one_there : (x : Row) → filter (has_key places values) xs ≡ x ∷ []
+  pub one_there : (x : Row) → filter (has_key ordinals values) xs ≡ x ∷ []
       → (same_row row x && not (is_gone gone row)) ≡ list_any (same_row row) (left_of gone xs)
   one_there x e = by (same_row row x) refl (is_gone gone row) refl ∙ sym (by_key ∙ ap (λ (l : List Row). list_any (same_row row) (left_of gone l)) e)
     where
@@ -310,5 +310,5 @@ module _ (places : List ℕ) (values : Row) (row : Row) (key : values ≡ key_at
           simp (here, u, w)
       by false u g w = simp u (sym (not_left row gone (x ∷ []) (simp u)))
 
-  pub none_there : filter (has_key places values) xs ≡ [] → false ≡ list_any (same_row row) (left_of gone xs)
+  pub none_there : filter (has_key ordinals values) xs ≡ [] → false ≡ list_any (same_row row) (left_of gone xs)
   none_there e = sym (by_key ∙ ap (λ (l : List Row). list_any (same_row row) (left_of gone l)) e)

@@ -119,10 +119,10 @@ module _ (column : ℕ) where
   parted p h (x ∷ xs) up (suc i) zero d low l e = absurd (omega (arith, low))
   parted p h (x ∷ xs) up (suc i) (suc j) d low l e = parted p h xs up.1 i j d (omega (arith, low)) (omega (arith, l)) e
 
-  pub rises_behind : (i : ℕ) (xs : List (Bor Row)) → Rises column xs → Rises column (drop i xs)
-  rises_behind zero xs up = up
-  rises_behind (suc i) [] up = tt
-  rises_behind (suc i) (x ∷ xs) up = rises_behind i xs up.1
+  pub rises_after : (i : ℕ) (xs : List (Bor Row)) → Rises column xs → Rises column (drop i xs)
+  rises_after zero xs up = up
+  rises_after (suc i) [] up = tt
+  rises_after (suc i) (x ∷ xs) up = rises_after i xs up.1
 
   module _ (v : Value) where
     abbrev pub is_below_value : Bor Row → Bool

@@ -59,32 +59,32 @@ pub changes_push : (keyed : List KeyedChange) (c : KeyedChange) → changes_in (
 changes_push [] c = refl
 changes_push (d ∷ keyed) c = ap (λ z. change_in d ∷ z) (changes_push keyed c)
 
-append_behind : {X : Type 0} (xs ys zs : List X) → (xs ++ ys) ++ zs ≡ xs ++ (ys ++ zs)
-append_behind [] ys zs = refl
-append_behind (x ∷ xs) ys zs = ap (λ z. x ∷ z) (append_behind xs ys zs)
+append_after : {X : Type 0} (xs ys zs : List X) → (xs ++ ys) ++ zs ≡ xs ++ (ys ++ zs)
+append_after [] ys zs = refl
+append_after (x ∷ xs) ys zs = ap (λ z. x ∷ z) (append_after xs ys zs)
 
-pub two_behind : {X : Type 0} (xs : List X) (x y : X) → (xs ++ x ∷ []) ++ y ∷ [] ≡ xs ++ x ∷ y ∷ []
-two_behind xs x y = append_behind xs (x ∷ []) (y ∷ [])
+pub two_after : {X : Type 0} (xs : List X) (x y : X) → (xs ++ x ∷ []) ++ y ∷ [] ≡ xs ++ x ∷ y ∷ []
+two_after xs x y = append_after xs (x ∷ []) (y ∷ [])
 
 -- one change more
 pub split_next : (changes : List RowChange) (i : ℕ) (c : RowChange) → i < length changes → c ≡ get_or changes i c
     → all_split (take (i + 1) changes) ≡ all_split (take i changes) ++ split c
 split_next [] i c l is = absurd (omega (arith, l))
-split_next (d ∷ changes) zero c l is = nil_behind (split d) ∙ ap split (sym is)
+split_next (d ∷ changes) zero c l is = nil_after (split d) ∙ ap split (sym is)
   where
-    nil_behind : {X : Type 0} (xs : List X) → xs ++ [] ≡ xs
-    nil_behind [] = refl
-    nil_behind (x ∷ xs) = ap (λ z. x ∷ z) (nil_behind xs)
+    nil_after : {X : Type 0} (xs : List X) → xs ++ [] ≡ xs
+    nil_after [] = refl
+    nil_after (x ∷ xs) = ap (λ z. x ∷ z) (nil_after xs)
 split_next (d ∷ changes) (suc i) c l is =
     let same : suc i + 1 ≡ suc (i + 1) = omega arith in
-    ap (λ k. all_split (take k (d ∷ changes))) same ∙ ap (λ z. split d ++ z) (split_next changes i c (omega (arith, l)) is) ∙ sym (append_behind (split d) (all_split (take i changes)) (split c))
+    ap (λ k. all_split (take k (d ∷ changes))) same ∙ ap (λ z. split d ++ z) (split_next changes i c (omega (arith, l)) is) ∙ sym (append_after (split d) (all_split (take i changes)) (split c))
 
 -- ---- room
 
-abbrev place_of : KeyedChange → ℕ
-place_of c = changed_table (change_in c)
+abbrev ordinal_of : KeyedChange → ℕ
+ordinal_of c = changed_table (change_in c)
 
-puts-own : (n m : ℕ) (c : KeyedChange) → place_of c ≡ n → puts_into m c ≡ true → n ≡ m
+puts-own : (n m : ℕ) (c : KeyedChange) → ordinal_of c ≡ n → puts_into m c ≡ true → n ≡ m
 puts-own n m (Put k row) is e = sym is ∙ eqb-true k m e
 puts-own n m (Take k row) is e = absurd (cc e)
 
@@ -107,20 +107,20 @@ pub room_next : (old new : StoreView) (changes : List KeyedChange) (n : ℕ) (c 
     → AllByRecursion (λ c. length changes ≤ room_of old (changed_table (change_in c))) (take n changes)
     → AllByRecursion (λ c. length changes ≤ room_of new (changed_table (change_in c))) (take (n + 1) changes)
 room_next old new changes n c within is more enough all =
-    let P : KeyedChange → Type 0 = λ c. length changes ≤ room_of new (place_of c) in
-    let kept = all_weaker (λ c. length changes ≤ room_of old (place_of c)) P (λ c h. let m = more (place_of c) in omega (arith, h, m)) (take n changes) all in
+    let P : KeyedChange → Type 0 = λ c. length changes ≤ room_of new (ordinal_of c) in
+    let kept = all_weaker (λ c. length changes ≤ room_of old (ordinal_of c)) P (λ c h. let m = more (ordinal_of c) in omega (arith, h, m)) (take n changes) all in
     let next : AllByRecursion P (take (suc n) changes) = all_take_next P changes n c within kept (subst P is enough) in
     let same : suc n ≡ n + 1 = omega arith in
     subst (λ k. AllByRecursion P (take k changes)) same next
 
-some_room : (s : StoreView) (least n : ℕ) (changes : List KeyedChange) → AllByRecursion (λ c. least ≤ room_of s (place_of c)) changes
+some_room : (s : StoreView) (least n : ℕ) (changes : List KeyedChange) → AllByRecursion (λ c. least ≤ room_of s (ordinal_of c)) changes
     → (count_by (puts_into n) changes ≡ 0) ⊎ (least ≤ room_of s n)
 some_room s least n [] all = inl refl
 some_room s least n (c ∷ changes) all = by (puts_into n c) refl (some_room s least n changes all.1)
   where
     by : (b : Bool) → puts_into n c ≡ b → (count_by (puts_into n) changes ≡ 0) ⊎ (least ≤ room_of s n)
         → (count_by (puts_into n) (c ∷ changes) ≡ 0) ⊎ (least ≤ room_of s n)
-    by true i rest = inr (subst (λ k. least ≤ room_of s k) (puts-own (place_of c) n c refl i) all.0)
+    by true i rest = inr (subst (λ k. least ≤ room_of s k) (puts-own (ordinal_of c) n c refl i) all.0)
     by false i (inl none) =
         let h = sum_by-cons (λ x. cond (puts_into n x) 1 0) c changes in
         let k : cond {A = ℕ} (puts_into n c) 1 0 ≡ 0 = simp i in

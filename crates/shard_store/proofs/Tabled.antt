@@ -17,8 +17,8 @@ use Rattle.shard_store.proofs.Done.{SameRows-refl, SameRows-trans}
 abbrev pub rows_of_all : List RowsView → Database
 rows_of_all ts = map (λ t. t.rows) ts
 
-abbrev pub places_in : List RowsView → List (List ℕ)
-places_in ts = map (λ t. t.places) ts
+abbrev pub ordinals_in : List RowsView → List (List ℕ)
+ordinals_in ts = map (λ t. t.ordinals) ts
 
 abbrev pub room_in : List RowsView → List ℕ
 room_in ts = map (λ t. t.room) ts
@@ -28,8 +28,8 @@ pub same_set : {X : Type 0} (f : RowsView → X) (ts : List RowsView) (i : ℕ) 
     → map f (set ts i new) ≡ map f ts
 same_set f ts i old new e h = map-set_same f ts i new old (h ∙ ap f e)
 
-pub places-at : (ts : List RowsView) (i : ℕ) (t : RowsView) → i < length ts → t ≡ get_or ts i t → get_or (places_in ts) i [] ≡ t.places
-places-at ts i t l e = get_or-map (λ t. t.places) ts i t [] l ∙ ap (λ (x : RowsView). x.places) (sym e)
+pub places-at : (ts : List RowsView) (i : ℕ) (t : RowsView) → i < length ts → t ≡ get_or ts i t → get_or (ordinals_in ts) i [] ≡ t.ordinals
+places-at ts i t l e = get_or-map (λ t. t.ordinals) ts i t [] l ∙ ap (λ (x : RowsView). x.ordinals) (sym e)
 
 -- the rows of one table have changed, as bags
 pub changed : (ts : List RowsView) (i : ℕ) (old new : RowsView) (f : List Row → List Row) → i < length ts → old ≡ get_or ts i old
@@ -137,17 +137,17 @@ reached_last rows left end none r =
     subst (SameRows rows) ends r.same
 
 -- keys are by the places alone
-key_stays : (s t : StoreView) → t.places ≡ s.places → (c : KeyedChange) → HasItsKey s c → HasItsKey t c
+key_stays : (s t : StoreView) → t.ordinals ≡ s.ordinals → (c : KeyedChange) → HasItsKey s c → HasItsKey t c
 key_stays s t e (Put n k) h = h ∙ ap (λ (ps : List (List ℕ)). key_at (get_or ps n []) k.row) (sym e)
 key_stays s t e (Take n k) h = h ∙ ap (λ (ps : List (List ℕ)). key_at (get_or ps n []) k.row) (sym e)
 
-pub keys_stay : (s t : StoreView) → t.places ≡ s.places → (cs : List KeyedChange) → AllByRecursion (HasItsKey s) cs → AllByRecursion (HasItsKey t) cs
+pub keys_stay : (s t : StoreView) → t.ordinals ≡ s.ordinals → (cs : List KeyedChange) → AllByRecursion (HasItsKey s) cs → AllByRecursion (HasItsKey t) cs
 keys_stay s t e [] h = tt
 keys_stay s t e (c ∷ cs) h = (key_stays s t e c h.0, keys_stay s t e cs h.1)
 
 pub key_first : (s : StoreView) (all left : List KeyedChange) (c : KeyedChange) → all ≡ c ∷ left → AllByRecursion (HasItsKey s) all → HasItsKey s c
 key_first s all left c is h = (subst (AllByRecursion (HasItsKey s)) is h).0
 
-pub keys_others : (s t : StoreView) (all left : List KeyedChange) (c : KeyedChange) → all ≡ c ∷ left → t.places ≡ s.places → AllByRecursion (HasItsKey s) all
+pub keys_others : (s t : StoreView) (all left : List KeyedChange) (c : KeyedChange) → all ≡ c ∷ left → t.ordinals ≡ s.ordinals → AllByRecursion (HasItsKey s) all
     → AllByRecursion (HasItsKey t) left
 keys_others s t all left c is e h = keys_stay s t e left (subst (AllByRecursion (HasItsKey s)) is h).1

@@ -11,7 +11,7 @@ use Rattle.std.proofs.lemmas.List.Sorted.{IsPermutation-sym, IsPermutation-trans
 use Rattle.vt_value.specs.Values.{Row}
 use Rattle.vschema.specs.Database.{same_row, without}
 use Rattle.shard_store.specs.declared.key.RowKey.{RowKey}
-use Rattle.shard_store.specs.Keys.{key_cmp}
+use Rattle.shard_store.specs.Keys.{row_key_cmp}
 use Rattle.shard_store.specs.Slots.{Slot, rows_in, row_at}
 use Rattle.shard_store.specs.Tables.{key_at, has_key}
 use Rattle.shard_store.proofs.Rows.{row_is}
@@ -132,14 +132,14 @@ none_if_whole r xs e = by (list_any (same_row r) xs) refl
     by true t = let n = shorter r xs t in let m = ap length e in absurd (omega (arith, n, m))
     by false t = refl
 
-pub held_there : (places : List ℕ) (key : RowKey) (slots : List Slot) (row : Row) (holds : Bool) → Keyed places slots
-    → IsStrictlySortedBy key_cmp (keys_of slots) → key.values ≡ key_at places row → IsTrue holds ↔ (row_at slots key ≡ Some row)
+pub held_there : (ordinals : List ℕ) (key : RowKey) (slots : List Slot) (row : Row) (holds : Bool) → Keyed ordinals slots
+    → IsStrictlySortedBy row_key_cmp (keys_of slots) → key.values ≡ key_at ordinals row → IsTrue holds ↔ (row_at slots key ≡ Some row)
     → holds ≡ list_any (same_row row) (rows_in slots)
-held_there places key slots row true h up at is =
-    sym (any_first (has_key places key.values) row (rows_in slots) []
-    (found places key slots h up ∙ ap option_to_list (is.0 refl)))
-held_there places key slots row false h up at is =
-    sym (none_if_whole row (rows_in slots) (not_there places key slots row h up at (λ e. false≢true (is.1 e))))
+held_there ordinals key slots row true h up at is =
+    sym (any_first (has_key ordinals key.values) row (rows_in slots) []
+    (found ordinals key slots h up ∙ ap option_to_list (is.0 refl)))
+held_there ordinals key slots row false h up at is =
+    sym (none_if_whole row (rows_in slots) (not_there ordinals key slots row h up at (λ e. false≢true (is.1 e))))
 
 -- a key with a free slot
 pub free_parts : (a b c : Bool) → c ≡ (a && not b) → c ≡ true → (a ≡ true) × (b ≡ false)

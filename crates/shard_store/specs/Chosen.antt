@@ -4,8 +4,8 @@ use Rattle.std.specs.List.{list_any}
 use Rattle.std.specs.Ordering.{is_eq, is_lt}
 use Rattle.vt_value.specs.declared.value.Value.{Value}
 use Rattle.vt_value.specs.Values.{Row, value_cmp}
-use Rattle.shard_store.specs.declared.fixed.Fixed.{Fixed}
-use Rattle.shard_store.specs.declared.fixed.Fixed.TheVariants.{One, Among as OneOf}
+use Rattle.shard_store.specs.declared.equalities.Fixed.{Fixed}
+use Rattle.shard_store.specs.declared.equalities.Fixed.TheVariants.{One, Among as OneOf}
 use Rattle.shard_store.specs.declared.walk.ChosenSlots.{ChosenSlots}
 use Rattle.shard_store.specs.declared.walk.ChosenSlots.TheVariants.{All, With, Among}
 use Rattle.shard_store.specs.declared.walk.ChosenRows.{ChosenRows}
@@ -37,4 +37,4 @@ slots_chosen (Among rows) = rows
 
 -- and those outside them
 abbrev pub rows_chosen : ChosenRows → List Row
-rows_chosen rows = slots_chosen rows.slots ++ rows.beside
+rows_chosen rows = slots_chosen rows.slots ++ rows.unslotted

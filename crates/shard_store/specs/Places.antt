@@ -5,13 +5,13 @@ use Rattle.vschema.specs.declared.schema.ColumnVindex.{ColumnVindex}
 use Rattle.vschema.specs.Checks.{has_number}
 
 -- the place of the vindex column, in a table that has one
-abbrev pub vindex_places : Option ColumnVindex → List ℕ
-vindex_places None = []
-vindex_places (Some v) = v.column ∷ []
+abbrev pub vindex_ordinals : Option ColumnVindex → List ℕ
+vindex_ordinals None = []
+vindex_ordinals (Some v) = v.column ∷ []
 
 -- the vindex column first, and then the others of the primary key
-abbrev pub key_places : Table → List ℕ
-key_places t = vindex_places t.vindex ++ filter (λ n. not (has_number (vindex_places t.vindex) n)) t.primary_key
+abbrev pub key_ordinals : Table → List ℕ
+key_ordinals t = vindex_ordinals t.vindex ++ filter (λ n. not (has_number (vindex_ordinals t.vindex) n)) t.primary_key
 
 -- the vindex column is one of the primary key's, as in each table of a well-formed VSchema
 abbrev pub right_by : Option ColumnVindex → List ℕ → Bool

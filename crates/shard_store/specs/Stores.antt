@@ -12,23 +12,23 @@ use Rattle.shard_store.specs.Tables.{key_at}
 -- a table: its rows, the places of its key columns, and for how many more rows without slots there is memory
 pub record RowsView : Type 0 where
   pub rows : List Row
-  pub places : List ℕ
+  pub ordinals : List ℕ
   pub room : ℕ
 
 -- a table with changes that it does not have: the rows then, and the places of its key columns
 pub record ChangedView : Type 0 where
   pub rows : List Row
-  pub places : List ℕ
+  pub ordinals : List ℕ
 
 -- the rows of all tables, the places of their key columns, and their room
 pub record StoreView : Type 0 where
   pub rows : Database
-  pub places : List (List ℕ)
+  pub ordinals : List (List ℕ)
   pub room : List ℕ
 
 -- a table that the store doesn't have has no key columns
-abbrev pub places_of : StoreView → ℕ → List ℕ
-places_of s n = slice_index_or s.places n []
+abbrev pub ordinals_of : StoreView → ℕ → List ℕ
+ordinals_of s n = slice_index_or s.ordinals n []
 
 -- and no room
 abbrev pub room_of : StoreView → ℕ → ℕ
@@ -43,8 +43,8 @@ changes_in changes = map change_in changes
 
 -- the key is that of the row
 abbrev pub HasItsKey : StoreView → KeyedChange → Type 0
-HasItsKey s (Put n k) = k.key.values ≡ key_at (places_of s n) k.row
-HasItsKey s (Take n k) = k.key.values ≡ key_at (places_of s n) k.row
+HasItsKey s (Put n k) = k.key.values ≡ key_at (ordinals_of s n) k.row
+HasItsKey s (Take n k) = k.key.values ≡ key_at (ordinals_of s n) k.row
 
 -- the change puts a row into the table at the place
 abbrev pub puts_into : ℕ → KeyedChange → Bool

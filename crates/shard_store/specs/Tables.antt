@@ -11,31 +11,31 @@ use Rattle.shard_store.specs.declared.key.RowKey.{RowKey}
 -- a table: its slots, and the places of its key columns
 pub record TableView : Type 0 where
   pub slots : List Slot
-  pub places : List ℕ
+  pub ordinals : List ℕ
 
 -- the values of a row's key columns
 abbrev pub key_at : List ℕ → Row → List Value
-key_at places row = map (value_at row) places
+key_at ordinals row = map (value_at row) ordinals
 
 -- the row has these values in its key columns
 abbrev pub has_key : List ℕ → List Value → Row → Bool
-has_key places values row = same_row values (key_at places row)
+has_key ordinals values row = same_row values (key_at ordinals row)
 
 -- the row's first key column has the value
 abbrev pub begins_with : List ℕ → Value → Row → Bool
-begins_with places v row = is_eq (value_cmp v (value_at row (slice_index places 0)))
+begins_with ordinals v row = is_eq (value_cmp v (value_at row (slice_index ordinals 0)))
 
 -- a slot's row, if it has one, has the slot's key
 abbrev pub IsAtItsKey : List ℕ → Slot → Type 0
-IsAtItsKey places s = (row : Row) → s.1 ≡ Some row → s.0.values ≡ key_at places row
+IsAtItsKey ordinals s = (row : Row) → s.1 ≡ Some row → s.0.values ≡ key_at ordinals row
 
 -- what is true of each stored table: its rows are at their keys, and their count is known
-pub record IsStored (places : List ℕ) (slots : List Slot) (count : ℕ) : Type 0 where
-  pub keyed : AllByRecursion (IsAtItsKey places) slots
+pub record IsStored (ordinals : List ℕ) (slots : List Slot) (count : ℕ) : Type 0 where
+  pub keyed : AllByRecursion (IsAtItsKey ordinals) slots
   pub counted : count ≡ length (rows_in slots)
 
 -- a table that has a slot for the row can take it with these rows: no row of them has its key
 pub record CanTake (t : TableView) (key : RowKey) (row : Row) (rows : List Row) : Type 0 where
-  pub at : key.values ≡ key_at t.places row
+  pub at : key.values ≡ key_at t.ordinals row
   pub slot : IsSome (slot_at t.slots key)
-  pub absent : list_any (has_key t.places key.values) rows ≡ false
+  pub absent : list_any (has_key t.ordinals key.values) rows ≡ false

@@ -126,7 +126,7 @@ fn slots_with<'a>(
     stored: Option<&'a StoredTable>,
     value: &'a Value,
 ) -> Result<Option<ChosenSlots<'a>>, Refusal>
-    requires { IfSome stored (λ t. 0 < length t.now.places) }
+    requires { IfSome stored (λ t. 0 < length t.now.ordinals) }
     ensures ok { IfOk result (λ slots. slots_left slots ≡ stored_with value.now stored.entry) }
     ensures err { IfErr result (λ e. e ≡ Refusal.OutOfMemory) }
 {

@@ -10,7 +10,7 @@ ghost use Rattle.shard_store.specs.inner.Joined.{passes};
 ghost use Rattle.shard_store.specs.inner.Partners.{current_pairs};
 
 use crate::by_value::{RowsByValue, RowsFound};
-use crate::own::{own_conjuncts, passes};
+use crate::pushdown::{own_conjuncts, passes};
 use sql_eval::{PairSource, RowSource, Seen, copy_seen, is_pair, select_local, select_pairs};
 use sql_tree::Condition;
 use std::alloc::Global;

@@ -51,11 +51,11 @@ pub(crate) fn compare_values(a: &[Value], b: &[Value]) -> Ordering
     }
 }
 
-fn order_of(value: &Value, row: &Row, place: usize) -> Ordering
-    ensures { result ≡ value_cmp value.now (value_at row.now place) }
+fn order_of(value: &Value, row: &Row, ordinal: usize) -> Ordering
+    ensures { result ≡ value_cmp value.now (value_at row.now ordinal) }
 {
     let null = Value::Null;
-    sort_order(value, value_at(row, place, &null))
+    sort_order(value, value_at(row, ordinal, &null))
 }
 
 // Compares values with those of a row in columns, one after the other.
@@ -66,7 +66,7 @@ fn compare_values_to_row(values: &[Value], row: &Row, columns: &[usize]) -> Orde
         (None, None) => Ordering::Equal,
         (None, Some(_)) => Ordering::Less,
         (Some(_), None) => Ordering::Greater,
-        (Some((value, values)), Some((place, columns))) => match order_of(value, row, *place) {
+        (Some((value, values)), Some((ordinal, columns))) => match order_of(value, row, *ordinal) {
             Ordering::Equal => compare_values_to_row(values, row, columns),
             order => order,
         },

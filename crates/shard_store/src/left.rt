@@ -10,8 +10,8 @@ ghost use Rattle.shard_store.specs.inner.Overlays.{left_of};
 ghost use Rattle.shard_store.specs.inner.Gaps.{IsGapIn};
 ghost use Rattle.shard_store.specs.inner.Left.{rows_left, AreKeyed};
 
-use crate::gone::{Gap, GoneRows};
 use crate::key::RowKey;
+use crate::removed_rows::{Gap, RemovedRows};
 use crate::table::StoredTable;
 use crate::walk::ChosenSlots;
 use sql_eval::RowSource;
@@ -36,7 +36,7 @@ pub fn slots_left<'a>(
     condition: &'a Option<Condition<usize>>,
 ) -> Result<SlotsLeft<'a>, Refusal>
     ensures ok { IfOk result (λ slots. filter (is_kept condition.now) (rows_left slots) ≡ filter (is_kept condition.now) (rows_in stored.now.slots)) }
-    ensures keyed { IfOk result (AreKeyed stored.now.places) }
+    ensures keyed { IfOk result (AreKeyed stored.now.ordinals) }
     ensures err { IfErr result (λ e. e ≡ Refusal.OutOfMemory) }
 {
     match stored.chosen(alloc, condition)? {
@@ -47,7 +47,7 @@ pub fn slots_left<'a>(
 
 // Whether a row in a slot is gone. A key in the gap is not looked up; one outside begins another gap.
 fn is_gone<'a>(
-    gone: &GoneRows<'a>,
+    gone: &RemovedRows<'a>,
     gap: &mut Option<Gap<'a>>,
     key: &'a RowKey,
     row: &'a Row,
@@ -62,14 +62,14 @@ fn is_gone<'a>(
             return false;
         }
     }
-    *gap = Some(gone.gap_behind(key, row));
+    *gap = Some(gone.gap_after(key, row));
     gone.has(row)
 }
 
 // The next row of all in slots that isn't gone.
 fn next_of_all<'a>(
     slots: &mut Range<'a, RowKey, Option<Row>>,
-    gone: &GoneRows<'a>,
+    gone: &RemovedRows<'a>,
     gap: &mut Option<Gap<'a>>,
 ) -> Option<&'a Row>
     requires keyed { AllByRecursion (IsAtItsKey gone.now.columns) slots.old }
@@ -91,7 +91,7 @@ fn next_of_all<'a>(
 }
 
 // The next of the chosen rows that isn't gone.
-fn next_of_chosen<'a>(slots: &mut ChosenSlots<'a>, gone: &GoneRows<'a>) -> Option<&'a Row>
+fn next_of_chosen<'a>(slots: &mut ChosenSlots<'a>, gone: &RemovedRows<'a>) -> Option<&'a Row>
     ensures { MatchOption result
         ((left_of gone.now (slots_chosen slots.old) ≡ []) × (slots_chosen slots.new ≡ []))
         (λ row. left_of gone.now (slots_chosen slots.old) ≡ row.now ∷ left_of gone.now (slots_chosen slots.new)) }
@@ -107,7 +107,7 @@ fn next_of_chosen<'a>(slots: &mut ChosenSlots<'a>, gone: &GoneRows<'a>) -> Optio
 /// The next row in slots that isn't gone.
 pub fn next_left<'a>(
     slots: &mut SlotsLeft<'a>,
-    gone: &GoneRows<'a>,
+    gone: &RemovedRows<'a>,
     gap: &mut Option<Gap<'a>>,
 ) -> Option<&'a Row>
     requires keyed { AreKeyed gone.now.columns slots.old }

@@ -15,14 +15,14 @@ ghost use Rattle.shard_store.specs.Slots.{rows_in};
 ghost use Rattle.shard_store.specs.inner.Joined.{rows_lent};
 ghost use Rattle.shard_store.specs.inner.Overlays.{ColumnKeys, left_of};
 
-use crate::beside::TableRows;
 use crate::by_value::all_of;
-use crate::gone::{Gap, GoneRows};
 use crate::key::RowKey;
 use crate::left::{SlotsLeft, next_left, slots_left};
-use crate::primary::are_key_places;
+use crate::primary::are_key_ordinals;
+use crate::removed_rows::{Gap, RemovedRows};
 use crate::stored::StoredTables;
 use crate::table::StoredTable;
+use crate::table_rows::TableRows;
 use sql_eval::{
     RowSource, SliceRows, all_kept, has_key_among, in_key_order, same_row, select_from,
 };
@@ -37,7 +37,7 @@ use vt_value::{Items, Refusal, Row};
 pub struct Overlay<'a> {
     stored: &'a StoredTable,
     // rows in slots that the changes take away
-    gone: GoneRows<'a>,
+    gone: RemovedRows<'a>,
     // the rows outside the slots, and those that the changes add
     others: Vec<&'a Row>,
 }
@@ -51,16 +51,16 @@ impl<'a> Model for Overlay<'a> {
 
     ghost Value = { ChangedView };
 
-    ghost view = { λ o. record { rows = left_of o.gone (rows_in o.stored.now.slots) ++ rows_lent o.others.items; places = o.stored.now.places } };
+    ghost view = { λ o. record { rows = left_of o.gone (rows_in o.stored.now.slots) ++ rows_lent o.others.items; ordinals = o.stored.now.ordinals } };
 
-    ghost invariant = { λ o. o.gone.columns ≡ o.stored.now.places };
+    ghost invariant = { λ o. o.gone.columns ≡ o.stored.now.ordinals };
 }
 
 /// Rows of an overlay that are still to come. Contracts see the rows.
 #[derive(Drop)]
 pub struct RowsLeft<'a, 'b> {
     slots: SlotsLeft<'a>,
-    gone: &'b GoneRows<'a>,
+    gone: &'b RemovedRows<'a>,
     // keys after the last one that was looked up, none of which is gone
     gap: Option<Gap<'a>>,
     others: &'b [&'a Row],
@@ -100,7 +100,7 @@ impl<'a, 'b> RowSource<'a> for RowsLeft<'a, 'b> {
 }
 
 // The place of the first row that is this one.
-fn place_of(rows: &[&Row], row: &Row) -> Option<usize>
+fn ordinal_of(rows: &[&Row], row: &Row) -> Option<usize>
     ensures { result ≡ position (λ r. same_row row.now r.now) rows.now }
 {
     rows.iter().position(|r| same_row(row, r))
@@ -110,14 +110,14 @@ fn place_of(rows: &[&Row], row: &Row) -> Option<usize>
 fn remove_first(rows: &mut Vec<&Row>, row: &Row)
     ensures { rows_lent rows.new.items ≡ without row.now (rows_lent rows.old.items) }
 {
-    if let Some(place) = place_of(rows.as_slice(), row) {
-        rows.remove(place);
+    if let Some(ordinal) = ordinal_of(rows.as_slice(), row) {
+        rows.remove(ordinal);
     }
 }
 
 // Whether a row in slots that isn't gone has a key.
-fn has_slot<'a>(stored: &'a StoredTable, gone: &GoneRows<'a>, key: &RowKey) -> bool
-    ensures { result ≡ list_any (has_key stored.now.places key.now.values) (left_of gone.now (rows_in stored.now.slots)) }
+fn has_slot<'a>(stored: &'a StoredTable, gone: &RemovedRows<'a>, key: &RowKey) -> bool
+    ensures { result ≡ list_any (has_key stored.now.ordinals key.now.values) (left_of gone.now (rows_in stored.now.slots)) }
 {
     match stored.get(key) {
         Some(row) => !gone.has(row),
@@ -129,10 +129,10 @@ fn has_slot<'a>(stored: &'a StoredTable, gone: &GoneRows<'a>, key: &RowKey) -> b
 fn has_slot_of<'a>(
     alloc: Global,
     stored: &'a StoredTable,
-    gone: &GoneRows<'a>,
+    gone: &RemovedRows<'a>,
     row: &Row,
 ) -> Result<bool, Refusal>
-    ensures ok { IfOk result (λ has. has ≡ list_any (has_key stored.now.places (key_at stored.now.places row.now)) (left_of gone.now (rows_in stored.now.slots))) }
+    ensures ok { IfOk result (λ has. has ≡ list_any (has_key stored.now.ordinals (key_at stored.now.ordinals row.now)) (left_of gone.now (rows_in stored.now.slots))) }
     ensures err { IfErr result (λ e. e ≡ Refusal.OutOfMemory) }
 {
     let key = stored.key_of(alloc, row)?;
@@ -143,10 +143,10 @@ fn has_slot_of<'a>(
 fn any_has_slot<'a>(
     alloc: Global,
     stored: &'a StoredTable,
-    gone: &GoneRows<'a>,
+    gone: &RemovedRows<'a>,
     new: &[Row],
 ) -> Result<bool, Refusal>
-    ensures ok { IfOk result (λ has. has ≡ list_any (λ n. list_any (has_key stored.now.places (key_at stored.now.places n)) (left_of gone.now (rows_in stored.now.slots))) new.now) }
+    ensures ok { IfOk result (λ has. has ≡ list_any (λ n. list_any (has_key stored.now.ordinals (key_at stored.now.ordinals n)) (left_of gone.now (rows_in stored.now.slots))) new.now) }
     ensures err { IfErr result (λ e. e ≡ Refusal.OutOfMemory) }
 {
     for row in new {
@@ -185,9 +185,9 @@ fn any_has_key_among<'a, S: RowSource<'a>>(table: &Table, sorted: &[&Row], rows:
 }
 
 // Whether a row, whose key is given, is in a slot and isn't gone: then it is there once.
-fn is_left<'a>(stored: &StoredTable, gone: &GoneRows<'a>, key: &RowKey, row: &'a Row) -> bool
-    requires places { gone.now.columns ≡ stored.now.places }
-    requires key { key.now.values ≡ key_at stored.now.places row.now }
+fn is_left<'a>(stored: &StoredTable, gone: &RemovedRows<'a>, key: &RowKey, row: &'a Row) -> bool
+    requires ordinals { gone.now.columns ≡ stored.now.ordinals }
+    requires key { key.now.values ≡ key_at stored.now.ordinals row.now }
     ensures is { result ≡ list_any (same_row row.now) (left_of gone.now (rows_in stored.now.slots)) }
     ensures once { IsTrue result → (more : ColumnKeys) → more.columns ≡ gone.now.columns
         → ((key : List V) → list_any (same_row key) more.keys ≡ (same_row key (key_at gone.now.columns row.now) || list_any (same_row key) gone.now.keys))
@@ -208,10 +208,10 @@ impl<'a> Overlay<'a> {
         ensures rows { IfOk result (λ overlay. overlay.rows ≡ table.now.rows) }
         ensures err { IfErr result (λ e. e ≡ Refusal.OutOfMemory) }
     {
-        let others = all_of(alloc, SliceRows::new(table.beside.as_slice()))?;
+        let others = all_of(alloc, SliceRows::new(table.unslotted.as_slice()))?;
         Ok(Overlay {
             stored: &table.stored,
-            gone: GoneRows::new(alloc, table.stored.key_columns()),
+            gone: RemovedRows::new(alloc, table.stored.key_columns()),
             others,
         })
     }
@@ -296,7 +296,7 @@ impl<'a> Overlay<'a> {
 
     // Whether a row has the primary key of one of these, if the places of the key columns tell which are the same.
     fn has_any_keyed(&self, alloc: Global, table: &Table, new: &[Row]) -> Result<bool, Refusal>
-        requires { (a b : List V) → same_row (key_at self.now.places a) (key_at self.now.places b) ≡ same_row (key_of table.now a) (key_of table.now b) }
+        requires { (a b : List V) → same_row (key_at self.now.ordinals a) (key_at self.now.ordinals b) ≡ same_row (key_of table.now a) (key_of table.now b) }
         ensures ok { IfOk result (λ has. has ≡ list_any (λ n. list_any (λ r. same_row (key_of table.now n) (key_of table.now r)) self.now.rows) new.now) }
         ensures err { IfErr result (λ e. e ≡ Refusal.OutOfMemory) }
     {
@@ -312,7 +312,7 @@ impl<'a> Overlay<'a> {
         ensures ok { IfOk result (λ has. has ≡ list_any (λ n. list_any (λ r. same_row (key_of table.now n) (key_of table.now r)) self.now.rows) new.now) }
         ensures err { IfErr result (λ e. e ≡ Refusal.OutOfMemory) }
     {
-        if are_key_places(alloc, table, self.stored.key_columns())? {
+        if are_key_ordinals(alloc, table, self.stored.key_columns())? {
             return self.has_any_keyed(alloc, table, new);
         }
         let sorted = in_key_order(alloc, table, new)?;
@@ -322,11 +322,11 @@ impl<'a> Overlay<'a> {
 
 impl StoredTables {
     /// The rows of the table at a place, without any change. Refuses for want of memory.
-    pub fn overlay(&self, alloc: Global, place: usize) -> Result<Overlay<'_>, Refusal>
-        requires { place < length self.now.rows }
-        ensures ok { IfOk result (λ overlay. overlay.rows ≡ rows_of self.now.rows place) }
+    pub fn overlay(&self, alloc: Global, ordinal: usize) -> Result<Overlay<'_>, Refusal>
+        requires { ordinal < length self.now.rows }
+        ensures ok { IfOk result (λ overlay. overlay.rows ≡ rows_of self.now.rows ordinal) }
         ensures err { IfErr result (λ e. e ≡ Refusal.OutOfMemory) }
     {
-        Overlay::of(alloc, &self.tables[place])
+        Overlay::of(alloc, &self.tables[ordinal])
     }
 }

@@ -10,12 +10,12 @@ ghost use Rattle.sql_eval.specs.Groups.{CanBeSummed};
 ghost use Rattle.sql_eval.specs.Queries.{IsAnswer};
 ghost use Rattle.shard_store.specs.Chosen.{fits, rows_chosen};
 
-use crate::beside::TableRows;
 use crate::by_value::RowsByValue;
-use crate::fixed::{Fixed, fixed_first};
+use crate::equalities::{Fixed, fixed_first};
 use crate::joined::select_by_value;
 use crate::stored::StoredTables;
 use crate::table::StoredTable;
+use crate::table_rows::TableRows;
 use crate::walk::ChosenRows;
 use sql_eval::{SliceRows, select_local};
 use std::alloc::Global;
@@ -26,10 +26,10 @@ impl StoredTable {
     // Values of which the first key column has one in the first row of each pair that a query keeps: none for an aggregated one, which is
     // answered over all pairs.
     fn first_pair_values<'a>(&self, query: &'a Query, join: Join) -> Option<Fixed<'a>>
-        ensures some { IfSome result (λ f. 0 < length self.now.places) }
+        ensures some { IfSome result (λ f. 0 < length self.now.ordinals) }
         ensures plain { is_aggregated query.now ≡ true → result ≡ None }
         ensures values { IfSome result (λ f. (first second : List V) → is_pair join first second ≡ true → is_kept query.now.filter (paired join first second) ≡ true
-            → fits f (value_at first (slice_index self.now.places 0)) ≡ true) }
+            → fits f (value_at first (slice_index self.now.ordinals 0)) ≡ true) }
     {
         match self.key_columns().first() {
             Some(column) if !query.is_aggregated() => fixed_first(&query.filter, join, *column),
@@ -55,7 +55,7 @@ impl TableRows {
         let slots = self.stored.chosen_by(alloc, values)?;
         Ok(ChosenRows {
             slots,
-            beside: SliceRows::new(self.beside.as_slice()),
+            unslotted: SliceRows::new(self.unslotted.as_slice()),
         })
     }
 
@@ -67,8 +67,8 @@ impl TableRows {
     {
         match self.stored.key_columns().first() {
             Some(first) if *first == column => {
-                let beside = SliceRows::new(self.beside.as_slice());
-                RowsByValue::new(alloc, column, Some(&self.stored), beside)
+                let unslotted = SliceRows::new(self.unslotted.as_slice());
+                RowsByValue::new(alloc, column, Some(&self.stored), unslotted)
             }
             _ => RowsByValue::new(alloc, column, None, self.all()),
         }

@@ -18,12 +18,12 @@ ghost use Rattle.shard_store.specs.inner.Stores.{IsInsertOf};
 ghost use Rattle.shard_store.specs.Chosen.{fits, slots_chosen, rows_chosen};
 ghost use Rattle.shard_store.specs.inner.Joined.{may_have};
 
-use crate::beside::TableRows;
-use crate::fixed::{Fixed, fixed_values};
-use crate::primary::are_key_places;
+use crate::equalities::{Fixed, fixed_values};
+use crate::primary::are_key_ordinals;
 use crate::source::any_has_key;
 use crate::stored::StoredTables;
 use crate::table::StoredTable;
+use crate::table_rows::TableRows;
 use crate::walk::{AllRows, ChosenRows, ChosenSlots};
 use sql_eval::{SliceRows, all_kept, change_local, select_from, select_local};
 use sql_tree::Condition;
@@ -34,8 +34,8 @@ use vt_value::{Items, Refusal, Row};
 impl StoredTable {
     // Values of which the first key column has one in each row whose condition is true.
     fn first_values<'a>(&self, condition: &'a Option<Condition<usize>>) -> Option<Fixed<'a>>
-        ensures some { IfSome result (λ f. 0 < length self.now.places) }
-        ensures values { IfSome result (λ f. (row : List V) → is_kept condition.now row ≡ true → fits f (value_at row (slice_index self.now.places 0)) ≡ true) }
+        ensures some { IfSome result (λ f. 0 < length self.now.ordinals) }
+        ensures values { IfSome result (λ f. (row : List V) → is_kept condition.now row ≡ true → fits f (value_at row (slice_index self.now.ordinals 0)) ≡ true) }
     {
         match (condition, self.key_columns().first()) {
             (Some(condition), Some(column)) => fixed_values(condition, *column),
@@ -45,8 +45,8 @@ impl StoredTable {
 
     // The rows in slots whose first key column has one of the values.
     fn chosen_of<'a>(&'a self, alloc: Global, fixed: Fixed<'a>) -> Result<ChosenSlots<'a>, Refusal>
-        requires { 0 < length self.now.places }
-        ensures ok { IfOk result (λ rows. slots_chosen rows ≡ filter (λ row. fits fixed.entry (value_at row (slice_index self.now.places 0))) (rows_in self.now.slots)) }
+        requires { 0 < length self.now.ordinals }
+        ensures ok { IfOk result (λ rows. slots_chosen rows ≡ filter (λ row. fits fixed.entry (value_at row (slice_index self.now.ordinals 0))) (rows_in self.now.slots)) }
         ensures err { IfErr result (λ e. e ≡ Refusal.OutOfMemory) }
     {
         match fixed {
@@ -67,8 +67,8 @@ impl StoredTable {
         alloc: Global,
         fixed: Option<Fixed<'a>>,
     ) -> Result<ChosenSlots<'a>, Refusal>
-        requires { IfSome fixed (λ f. 0 < length self.now.places) }
-        ensures ok { IfOk result (λ rows. slots_chosen rows ≡ filter (may_have fixed.entry (slice_index self.now.places 0)) (rows_in self.now.slots)) }
+        requires { IfSome fixed (λ f. 0 < length self.now.ordinals) }
+        ensures ok { IfOk result (λ rows. slots_chosen rows ≡ filter (may_have fixed.entry (slice_index self.now.ordinals 0)) (rows_in self.now.slots)) }
         ensures err { IfErr result (λ e. e ≡ Refusal.OutOfMemory) }
     {
         match fixed {
@@ -104,7 +104,7 @@ impl TableRows {
         let slots = self.stored.chosen(alloc, condition)?;
         Ok(ChosenRows {
             slots,
-            beside: SliceRows::new(self.beside.as_slice()),
+            unslotted: SliceRows::new(self.unslotted.as_slice()),
         })
     }
 
@@ -133,7 +133,7 @@ impl TableRows {
 
     // Whether a row has this row's primary key; `keyed` tells whether it can be looked up.
     fn has_key(&self, alloc: Global, table: &Table, keyed: bool, row: &Row) -> Result<bool, Refusal>
-        requires { IsTrue keyed → (a b : List V) → same_row (key_at self.now.places a) (key_at self.now.places b) ≡ same_row (key_of table.now a) (key_of table.now b) }
+        requires { IsTrue keyed → (a b : List V) → same_row (key_at self.now.ordinals a) (key_at self.now.ordinals b) ≡ same_row (key_of table.now a) (key_of table.now b) }
         ensures ok { IfOk result (λ has. has ≡ list_any (λ r. same_row (key_of table.now row.now) (key_of table.now r)) self.now.rows) }
         ensures err { IfErr result (λ e. e ≡ Refusal.OutOfMemory) }
     {
@@ -141,8 +141,8 @@ impl TableRows {
             return Ok(any_has_key(table, row, self.all()));
         }
         let key = self.stored.key_of(alloc, row)?;
-        let beside = SliceRows::new(self.beside.as_slice());
-        Ok(self.stored.contains(&key) || any_has_key(table, row, beside))
+        let unslotted = SliceRows::new(self.unslotted.as_slice());
+        Ok(self.stored.contains(&key) || any_has_key(table, row, unslotted))
     }
 
     // Whether a row has the primary key of one of these.
@@ -150,7 +150,7 @@ impl TableRows {
         ensures ok { IfOk result (λ has. has ≡ list_any (λ n. list_any (λ r. same_row (key_of table.now n) (key_of table.now r)) self.now.rows) new.now) }
         ensures err { IfErr result (λ e. e ≡ Refusal.OutOfMemory) }
     {
-        let keyed = are_key_places(alloc, table, self.stored.key_columns())?;
+        let keyed = are_key_ordinals(alloc, table, self.stored.key_columns())?;
         for row in new {
             if self.has_key(alloc, table, keyed, row)? {
                 return Ok(true);
@@ -162,24 +162,24 @@ impl TableRows {
 
 impl StoredTables {
     /// All rows of the table at a place.
-    pub fn all(&self, place: usize) -> AllRows<'_>
-        requires { place < length self.now.rows }
-        ensures { result ≡ rows_of self.now.rows place }
+    pub fn all(&self, ordinal: usize) -> AllRows<'_>
+        requires { ordinal < length self.now.rows }
+        ensures { result ≡ rows_of self.now.rows ordinal }
     {
-        self.tables[place].all()
+        self.tables[ordinal].all()
     }
 
-    pub(crate) fn table(&self, place: usize) -> Option<&TableRows>
-        ensures { MatchOption result (rows_of self.now.rows place ≡ []) (λ table. rows_of self.now.rows place ≡ table.now.rows) }
+    pub(crate) fn table(&self, ordinal: usize) -> Option<&TableRows>
+        ensures { MatchOption result (rows_of self.now.rows ordinal ≡ []) (λ table. rows_of self.now.rows ordinal ≡ table.now.rows) }
     {
-        self.tables.get(place)
+        self.tables.get(ordinal)
     }
 
     /// How many rows the table at a place has: none after the last table.
-    pub fn row_count_of(&self, place: usize) -> usize
-        ensures { result ≡ length (rows_of self.now.rows place) }
+    pub fn row_count_of(&self, ordinal: usize) -> usize
+        ensures { result ≡ length (rows_of self.now.rows ordinal) }
     {
-        match self.table(place) {
+        match self.table(ordinal) {
             Some(table) => table.row_count(),
             None => 0,
         }
@@ -189,13 +189,13 @@ impl StoredTables {
     pub fn kept(
         &self,
         alloc: Global,
-        place: usize,
+        ordinal: usize,
         condition: &Option<Condition<usize>>,
     ) -> Result<Items<Row>, Refusal>
-        ensures ok { IfOk result (λ list. list ≡ filter (is_kept condition.now) (rows_of self.now.rows place)) }
+        ensures ok { IfOk result (λ list. list ≡ filter (is_kept condition.now) (rows_of self.now.rows ordinal)) }
         ensures err { IfErr result (λ e. e ≡ Refusal.OutOfMemory) }
     {
-        match self.table(place) {
+        match self.table(ordinal) {
             Some(table) => table.kept(alloc, condition),
             None => Ok(Items::new(alloc)),
         }
@@ -229,13 +229,13 @@ impl StoredTables {
         &self,
         alloc: Global,
         table: &Table,
-        place: usize,
+        ordinal: usize,
         new: &[Row],
     ) -> Result<bool, Refusal>
-        ensures ok { IfOk result (λ has. has ≡ list_any (λ n. list_any (λ r. same_row (key_of table.now n) (key_of table.now r)) (rows_of self.now.rows place)) new.now) }
+        ensures ok { IfOk result (λ has. has ≡ list_any (λ n. list_any (λ r. same_row (key_of table.now n) (key_of table.now r)) (rows_of self.now.rows ordinal)) new.now) }
         ensures err { IfErr result (λ e. e ≡ Refusal.OutOfMemory) }
     {
-        match self.table(place) {
+        match self.table(ordinal) {
             Some(rows) => rows.has_any_key(alloc, table, new),
             None => Ok(false),
         }
@@ -247,14 +247,14 @@ impl StoredTables {
         alloc: Global,
         table: &Table,
         write: &Write,
-        place: usize,
+        ordinal: usize,
         condition: &Option<Condition<usize>>,
     ) -> Result<Items<RowChange>, Refusal>
         requires { (rows : List (List V)) → changes_over table.now write.now (filter (is_kept condition.now) rows) ≡ changes_over table.now write.now rows }
-        ensures ok { IfOk result (λ changes. changes_over table.now write.now (rows_of self.now.rows place) ≡ Ok changes) }
-        ensures err { IfErr result (λ e. (e ≡ Refusal.OutOfMemory) ⊎ (changes_over table.now write.now (rows_of self.now.rows place) ≡ Err e)) }
+        ensures ok { IfOk result (λ changes. changes_over table.now write.now (rows_of self.now.rows ordinal) ≡ Ok changes) }
+        ensures err { IfErr result (λ e. (e ≡ Refusal.OutOfMemory) ⊎ (changes_over table.now write.now (rows_of self.now.rows ordinal) ≡ Err e)) }
     {
-        let kept = self.kept(alloc, place, condition);
+        let kept = self.kept(alloc, ordinal, condition);
         match kept {
             Ok(kept) => change_local(alloc, table, write, kept.as_slice()),
             Err(e) => Err(e),
@@ -267,14 +267,14 @@ impl StoredTables {
         alloc: Global,
         table: &Table,
         write: &Write,
-        place: usize,
+        ordinal: usize,
         new: &[Row],
     ) -> Result<Items<RowChange>, Refusal>
-        requires { IsInsertOf place new.now write.now }
-        ensures ok { IfOk result (λ changes. changes_over table.now write.now (rows_of self.now.rows place) ≡ Ok changes) }
-        ensures err { IfErr result (λ e. (e ≡ Refusal.OutOfMemory) ⊎ (changes_over table.now write.now (rows_of self.now.rows place) ≡ Err e)) }
+        requires { IsInsertOf ordinal new.now write.now }
+        ensures ok { IfOk result (λ changes. changes_over table.now write.now (rows_of self.now.rows ordinal) ≡ Ok changes) }
+        ensures err { IfErr result (λ e. (e ≡ Refusal.OutOfMemory) ⊎ (changes_over table.now write.now (rows_of self.now.rows ordinal) ≡ Err e)) }
     {
-        match self.has_any_key(alloc, table, place, new) {
+        match self.has_any_key(alloc, table, ordinal, new) {
             Ok(true) => Err(Refusal::DuplicateKey),
             Ok(false) => change_local(alloc, table, write, &[]),
             Err(e) => Err(e),
@@ -293,11 +293,19 @@ impl StoredTables {
         ensures err { IfErr result (λ e. (e ≡ Refusal.OutOfMemory) ⊎ (changes_over table.now write.now (rows_of self.now.rows (written_table write.now)) ≡ Err e)) }
     {
         match write {
-            Write::Insert(place, new) => self.inserted(alloc, table, write, *place, new.as_slice()),
-            Write::Update(place, _, condition) => {
-                self.changed(alloc, table, write, *place, condition)
+            Write::Insert(ordinal, new) => self.inserted(
+                alloc,
+                table,
+                write,
+                *ordinal,
+                new.as_slice(),
+            ),
+            Write::Update(ordinal, _, condition) => {
+                self.changed(alloc, table, write, *ordinal, condition)
             }
-            Write::Delete(place, condition) => self.changed(alloc, table, write, *place, condition),
+            Write::Delete(ordinal, condition) => self.changed(
+                alloc, table, write, *ordinal, condition,
+            ),
         }
     }
 }

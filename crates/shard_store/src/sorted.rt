@@ -42,7 +42,7 @@ pub fn sorted<'a>(alloc: Global, values: &'a [Value]) -> Result<Vec<&'a Value>, 
 }
 
 /// Whether a value is after the last one, if there is one.
-pub fn is_behind(last: Option<&Value>, value: &Value) -> bool
+pub fn comes_after(last: Option<&Value>, value: &Value) -> bool
     ensures { MatchOption last.entry (result ≡ true) (λ l. result ≡ is_lt (value_cmp l.now value.now)) }
 {
     match last {

@@ -4,13 +4,13 @@ ghost use Rattle.std.specs.List.{AllByRecursion};
 ghost use Rattle.vschema.specs.declared.changes.RowChange.TheVariants.{Added, Removed};
 ghost use Rattle.vschema.specs.Database.{SameRows, rows_of, without, changed_table, applied, all_applied};
 ghost use Rattle.shard_store.specs.Tables.{key_at};
-ghost use Rattle.shard_store.specs.Stores.{places_of, room_of, change_in, changes_in, HasItsKey, puts_into, HasRoomFor, IsReadyFor};
+ghost use Rattle.shard_store.specs.Stores.{ordinals_of, room_of, change_in, changes_in, HasItsKey, puts_into, HasRoomFor, IsReadyFor};
 ghost use Rattle.shard_store.specs.inner.Stores.{split, all_split};
 
-use crate::beside::TableRows;
 use crate::key::{KeyedChange, KeyedRow, RowKey};
+use crate::key_columns::key_ordinals;
 use crate::key_values::KeyValues;
-use crate::places::key_places;
+use crate::table_rows::TableRows;
 use std::alloc::Global;
 use std::marker::Model;
 use vschema::{RowChange, Table};
@@ -28,15 +28,15 @@ impl Model for StoredTables {
 
     ghost Value = { StoreView };
 
-    ghost view = { λ s. record { rows = map (λ t. t.rows) s.tables.items; places = map (λ t. t.places) s.tables.items; room = map (λ t. t.room) s.tables.items } };
+    ghost view = { λ s. record { rows = map (λ t. t.rows) s.tables.items; ordinals = map (λ t. t.ordinals) s.tables.items; room = map (λ t. t.room) s.tables.items } };
 }
 
-fn place_in(change: &KeyedChange) -> usize
+fn ordinal_in(change: &KeyedChange) -> usize
     ensures { result ≡ changed_table (change_in change.now) }
 {
     match change {
-        KeyedChange::Put(place, _) => *place,
-        KeyedChange::Take(place, _) => *place,
+        KeyedChange::Put(ordinal, _) => *ordinal,
+        KeyedChange::Take(ordinal, _) => *ordinal,
     }
 }
 
@@ -55,8 +55,8 @@ fn is_removal(change: &KeyedChange) -> bool {
 fn sweep_tables(tables: &mut Vec<TableRows>)
     ensures { tables.new.items ≡ tables.old.items }
 {
-    for place in 0..tables.len() {
-        tables[place].sweep();
+    for ordinal in 0..tables.len() {
+        tables[ordinal].sweep();
     }
 }
 
@@ -82,8 +82,8 @@ impl StoredTables {
         ensures err { IfErr result (λ e. e ≡ Refusal.OutOfMemory) }
         ensures unchanged { OnErr result (self.new ≡ self.old) }
     {
-        let places = key_places(alloc, table)?;
-        self.tables.push(TableRows::new(alloc, places))?;
+        let ordinals = key_ordinals(alloc, table)?;
+        self.tables.push(TableRows::new(alloc, ordinals))?;
         Ok(())
     }
 
@@ -115,11 +115,11 @@ impl StoredTables {
     }
 
     // The key of a row of the table at a place.
-    fn key_of(&self, alloc: Global, place: usize, row: &Row) -> Result<RowKey, Refusal>
-        ensures ok { IfOk result (λ key. key.values ≡ key_at (places_of self.now place) row.now) }
+    fn key_of(&self, alloc: Global, ordinal: usize, row: &Row) -> Result<RowKey, Refusal>
+        ensures ok { IfOk result (λ key. key.values ≡ key_at (ordinals_of self.now ordinal) row.now) }
         ensures err { IfErr result (λ e. e ≡ Refusal.OutOfMemory) }
     {
-        match self.tables.get(place) {
+        match self.tables.get(ordinal) {
             Some(table) => table.key_of(alloc, row),
             None => {
                 let values = KeyValues::new(alloc, Items::new(alloc))?;
@@ -129,13 +129,13 @@ impl StoredTables {
     }
 
     // An equal row, with its key.
-    fn keyed_row(&self, alloc: Global, place: usize, row: &Row) -> Result<KeyedRow, Refusal>
+    fn keyed_row(&self, alloc: Global, ordinal: usize, row: &Row) -> Result<KeyedRow, Refusal>
         ensures row { IfOk result (λ k. k.row ≡ row.now) }
-        ensures key { IfOk result (λ k. k.key.values ≡ key_at (places_of self.now place) row.now) }
+        ensures key { IfOk result (λ k. k.key.values ≡ key_at (ordinals_of self.now ordinal) row.now) }
         ensures err { IfErr result (λ e. e ≡ Refusal.OutOfMemory) }
     {
         let row = copy_row(alloc, row)?;
-        match self.key_of(alloc, place, &row) {
+        match self.key_of(alloc, ordinal, &row) {
             Ok(key) => Ok(KeyedRow { key, row }),
             Err(e) => Err(e),
         }
@@ -145,17 +145,17 @@ impl StoredTables {
     fn push_put(
         &self,
         alloc: Global,
-        place: usize,
+        ordinal: usize,
         row: &Row,
         keyed: &mut Vec<KeyedChange>,
     ) -> Result<(), Refusal>
         requires { AllByRecursion (HasItsKey self.now) keyed.old.items }
         ensures keys { OnOk result (AllByRecursion (HasItsKey self.now) keyed.new.items) }
-        ensures changes { OnOk result (changes_in keyed.new.items ≡ changes_in keyed.old.items ++ Added place row.now ∷ []) }
+        ensures changes { OnOk result (changes_in keyed.new.items ≡ changes_in keyed.old.items ++ Added ordinal row.now ∷ []) }
         ensures err { IfErr result (λ e. e ≡ Refusal.OutOfMemory) }
     {
-        let row = self.keyed_row(alloc, place, row)?;
-        keyed.push(KeyedChange::Put(place, row))?;
+        let row = self.keyed_row(alloc, ordinal, row)?;
+        keyed.push(KeyedChange::Put(ordinal, row))?;
         Ok(())
     }
 
@@ -163,17 +163,17 @@ impl StoredTables {
     fn push_take(
         &self,
         alloc: Global,
-        place: usize,
+        ordinal: usize,
         row: &Row,
         keyed: &mut Vec<KeyedChange>,
     ) -> Result<(), Refusal>
         requires { AllByRecursion (HasItsKey self.now) keyed.old.items }
         ensures keys { OnOk result (AllByRecursion (HasItsKey self.now) keyed.new.items) }
-        ensures changes { OnOk result (changes_in keyed.new.items ≡ changes_in keyed.old.items ++ Removed place row.now ∷ []) }
+        ensures changes { OnOk result (changes_in keyed.new.items ≡ changes_in keyed.old.items ++ Removed ordinal row.now ∷ []) }
         ensures err { IfErr result (λ e. e ≡ Refusal.OutOfMemory) }
     {
-        let row = self.keyed_row(alloc, place, row)?;
-        keyed.push(KeyedChange::Take(place, row))?;
+        let row = self.keyed_row(alloc, ordinal, row)?;
+        keyed.push(KeyedChange::Take(ordinal, row))?;
         Ok(())
     }
 
@@ -189,12 +189,12 @@ impl StoredTables {
         ensures err { IfErr result (λ e. e ≡ Refusal.OutOfMemory) }
     {
         match change {
-            RowChange::Added(place, row) => self.push_put(alloc, *place, row, keyed),
-            RowChange::Replaced(place, old, new) => {
-                self.push_take(alloc, *place, old, keyed)?;
-                self.push_put(alloc, *place, new, keyed)
+            RowChange::Added(ordinal, row) => self.push_put(alloc, *ordinal, row, keyed),
+            RowChange::Replaced(ordinal, old, new) => {
+                self.push_take(alloc, *ordinal, old, keyed)?;
+                self.push_put(alloc, *ordinal, new, keyed)
             }
-            RowChange::Removed(place, row) => self.push_take(alloc, *place, row, keyed),
+            RowChange::Removed(ordinal, row) => self.push_take(alloc, *ordinal, row, keyed),
         }
     }
 
@@ -219,27 +219,27 @@ impl StoredTables {
     fn reserve(
         &mut self,
         alloc: Global,
-        place: usize,
+        ordinal: usize,
         key: &RowKey,
         additional: usize,
     ) -> Result<(), Refusal>
-        requires { place < length self.old.rows }
+        requires { ordinal < length self.old.rows }
         ensures rows { self.new.rows ≡ self.old.rows }
-        ensures places { self.new.places ≡ self.old.places }
-        ensures ok { OnOk result (additional ≤ room_of self.new place) }
+        ensures ordinals { self.new.ordinals ≡ self.old.ordinals }
+        ensures ok { OnOk result (additional ≤ room_of self.new ordinal) }
         ensures room { (n : ℕ) → room_of self.old n ≤ room_of self.new n }
         ensures err { IfErr result (λ e. e ≡ Refusal.OutOfMemory) }
     {
-        self.tables[place].make_room(alloc, key, additional)
+        self.tables[ordinal].make_room(alloc, key, additional)
     }
 
     // Makes memory to remember so many more keys of rows that are removed from the table at a place.
-    fn reserve_freed(&mut self, place: usize, additional: usize) -> Result<(), Refusal>
-        requires { place < length self.old.rows }
+    fn reserve_freed(&mut self, ordinal: usize, additional: usize) -> Result<(), Refusal>
+        requires { ordinal < length self.old.rows }
         ensures unchanged { self.new ≡ self.old }
         ensures err { IfErr result (λ e. e ≡ Refusal.OutOfMemory) }
     {
-        self.tables[place].reserve_freed(additional)
+        self.tables[ordinal].reserve_freed(additional)
     }
 
     // Makes memory for a change, one of so many.
@@ -251,23 +251,23 @@ impl StoredTables {
     ) -> Result<(), Refusal>
         requires { changed_table (change_in change.now) < length self.old.rows }
         ensures rows { self.new.rows ≡ self.old.rows }
-        ensures places { self.new.places ≡ self.old.places }
+        ensures ordinals { self.new.ordinals ≡ self.old.ordinals }
         ensures ok { OnOk result (changes ≤ room_of self.new (changed_table (change_in change.now))) }
         ensures room { (n : ℕ) → room_of self.old n ≤ room_of self.new n }
         ensures err { IfErr result (λ e. e ≡ Refusal.OutOfMemory) }
     {
-        let place = place_in(change);
+        let ordinal = ordinal_in(change);
         if is_removal(change) {
-            self.reserve_freed(place, changes)?;
+            self.reserve_freed(ordinal, changes)?;
         }
-        self.reserve(alloc, place, key_in(change), changes)
+        self.reserve(alloc, ordinal, key_in(change), changes)
     }
 
     // Makes memory for the changes.
     fn reserve_all(&mut self, alloc: Global, keyed: &[KeyedChange]) -> Result<(), Refusal>
         requires { AllByRecursion (λ c. changed_table (change_in c) < length self.old.rows) keyed.now }
         ensures rows { self.new.rows ≡ self.old.rows }
-        ensures places { self.new.places ≡ self.old.places }
+        ensures ordinals { self.new.ordinals ≡ self.old.ordinals }
         ensures ok { OnOk result (HasRoomFor self.new keyed.now) }
         ensures err { IfErr result (λ e. e ≡ Refusal.OutOfMemory) }
     {
@@ -287,7 +287,7 @@ impl StoredTables {
         requires { AllByRecursion (λ c. changed_table c < length self.old.rows) changes.now }
         ensures ready { IfOk result (λ keyed. IsReadyFor self.new changes.now keyed.items) }
         ensures rows { self.new.rows ≡ self.old.rows }
-        ensures places { self.new.places ≡ self.old.places }
+        ensures ordinals { self.new.ordinals ≡ self.old.ordinals }
         ensures err { IfErr result (λ e. e ≡ Refusal.OutOfMemory) }
     {
         let keyed = self.keyed_changes(alloc, changes)?;
@@ -297,33 +297,33 @@ impl StoredTables {
         }
     }
 
-    fn put(&mut self, place: usize, key: &RowKey, row: Row)
-        requires key { key.now.values ≡ key_at (places_of self.old place) row }
-        requires room { 0 < room_of self.old place }
-        ensures rows { SameRows self.new.rows (applied (Added place row) self.old.rows) }
-        ensures places { self.new.places ≡ self.old.places }
-        ensures room { (n : ℕ) → room_of self.old n ≤ room_of self.new n + (if place == n then 1 else 0) }
+    fn put(&mut self, ordinal: usize, key: &RowKey, row: Row)
+        requires key { key.now.values ≡ key_at (ordinals_of self.old ordinal) row }
+        requires room { 0 < room_of self.old ordinal }
+        ensures rows { SameRows self.new.rows (applied (Added ordinal row) self.old.rows) }
+        ensures ordinals { self.new.ordinals ≡ self.old.ordinals }
+        ensures room { (n : ℕ) → room_of self.old n ≤ room_of self.new n + (if ordinal == n then 1 else 0) }
     {
-        self.tables[place].add(key, row);
+        self.tables[ordinal].add(key, row);
     }
 
-    fn take(&mut self, place: usize, key: &RowKey, row: &Row)
-        requires { key.now.values ≡ key_at (places_of self.old place) row.now }
-        ensures rows { SameRows self.new.rows (applied (Removed place row.now) self.old.rows) }
-        ensures places { self.new.places ≡ self.old.places }
+    fn take(&mut self, ordinal: usize, key: &RowKey, row: &Row)
+        requires { key.now.values ≡ key_at (ordinals_of self.old ordinal) row.now }
+        ensures rows { SameRows self.new.rows (applied (Removed ordinal row.now) self.old.rows) }
+        ensures ordinals { self.new.ordinals ≡ self.old.ordinals }
         ensures room { (n : ℕ) → room_of self.old n ≤ room_of self.new n }
     {
-        if place < self.tables.len() {
-            self.tables[place].remove(key, row);
+        if ordinal < self.tables.len() {
+            self.tables[ordinal].remove(key, row);
         }
     }
 
     // Remembers the key of a row that was removed from the table at a place.
-    fn free(&mut self, place: usize, key: RowKey)
+    fn free(&mut self, ordinal: usize, key: RowKey)
         ensures { self.new ≡ self.old }
     {
-        if place < self.tables.len() {
-            self.tables[place].free(key);
+        if ordinal < self.tables.len() {
+            self.tables[ordinal].free(key);
         }
     }
 
@@ -338,18 +338,18 @@ impl StoredTables {
         requires key { HasItsKey self.old change }
         requires room { (n : ℕ) → IsTrue (puts_into n change) → 0 < room_of self.old n }
         ensures rows { SameRows self.new.rows (applied (change_in change) self.old.rows) }
-        ensures places { self.new.places ≡ self.old.places }
+        ensures ordinals { self.new.ordinals ≡ self.old.ordinals }
         ensures room { (n : ℕ) → room_of self.old n ≤ room_of self.new n + count_by (puts_into n) (change ∷ []) }
     {
         match change {
-            KeyedChange::Put(place, keyed) => {
+            KeyedChange::Put(ordinal, keyed) => {
                 let KeyedRow { key, row } = keyed;
-                self.put(place, &key, row);
+                self.put(ordinal, &key, row);
             }
-            KeyedChange::Take(place, keyed) => {
+            KeyedChange::Take(ordinal, keyed) => {
                 let KeyedRow { key, row } = keyed;
-                self.take(place, &key, &row);
-                self.free(place, key);
+                self.take(ordinal, &key, &row);
+                self.free(ordinal, key);
             }
         }
     }
@@ -359,7 +359,7 @@ impl StoredTables {
         requires keys { AllByRecursion (HasItsKey self.old) changes.items }
         requires room { HasRoomFor self.old changes.items }
         ensures rows { SameRows self.new.rows (all_applied (changes_in changes.items) self.old.rows) }
-        ensures places { self.new.places ≡ self.old.places }
+        ensures ordinals { self.new.ordinals ≡ self.old.ordinals }
     {
         for change in changes {
             self.apply_one(change);

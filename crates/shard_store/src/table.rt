@@ -6,7 +6,7 @@ ghost use Rattle.vschema.specs.Database.{same_row, without};
 ghost use Rattle.shard_store.specs.Slots.{rows_in, slot_at, row_at, slots_from, with_slot, without_slot};
 ghost use Rattle.shard_store.specs.Tables.{key_at, has_key, begins_with, IsAtItsKey, CanTake};
 ghost use Rattle.shard_store.specs.Chosen.{is_among};
-ghost use Rattle.shard_store.specs.Behind.{is_behind, IsInOrder};
+ghost use Rattle.shard_store.specs.RowsAfter.{comes_after, IsInOrder};
 
 use crate::key::RowKey;
 use crate::key_values::KeyValues;
@@ -24,7 +24,7 @@ use vt_value::{Items, Refusal, Row, Value, copy};
 #[derive(Drop)]
 pub struct StoredTable {
     slots: Slots,
-    places: Items<usize>,
+    ordinals: Items<usize>,
     count: usize,
 }
 
@@ -33,69 +33,69 @@ impl Model for StoredTable {
 
     ghost Value = { TableView };
 
-    ghost view = { λ t. record { slots = t.slots; places = t.places } };
+    ghost view = { λ t. record { slots = t.slots; ordinals = t.ordinals } };
 
-    ghost invariant = { λ t. IsStored t.places t.slots t.count };
+    ghost invariant = { λ t. IsStored t.ordinals t.slots t.count };
 }
 
 /// A copy of the value of a row at a place: NULL after its last one. Refuses for want of memory.
-fn copy_at(alloc: Global, row: &Row, place: usize) -> Result<Value, Refusal>
-    ensures ok { IfOk result (λ v. v ≡ value_at row.now place) }
+fn copy_at(alloc: Global, row: &Row, ordinal: usize) -> Result<Value, Refusal>
+    ensures ok { IfOk result (λ v. v ≡ value_at row.now ordinal) }
     ensures err { IfErr result (λ e. e ≡ Refusal.OutOfMemory) }
 {
-    match row.as_slice().get(place) {
+    match row.as_slice().get(ordinal) {
         Some(value) => copy(alloc, value),
         None => Ok(Value::Null),
     }
 }
 
-fn values_at(alloc: Global, places: &[usize], row: &Row) -> Result<Row, Refusal>
-    ensures ok { IfOk result (λ values. values ≡ key_at places.now row.now) }
+fn values_at(alloc: Global, ordinals: &[usize], row: &Row) -> Result<Row, Refusal>
+    ensures ok { IfOk result (λ values. values ≡ key_at ordinals.now row.now) }
     ensures err { IfErr result (λ e. e ≡ Refusal.OutOfMemory) }
 {
     let mut values = Items::new(alloc);
-    for place in places {
-        values.push(copy_at(alloc, row, *place)?)?;
+    for ordinal in ordinals {
+        values.push(copy_at(alloc, row, *ordinal)?)?;
     }
     Ok(values)
 }
 
-fn key_values(alloc: Global, places: &[usize], row: &Row) -> Result<KeyValues, Refusal>
-    ensures ok { IfOk result (λ values. values ≡ key_at places.now row.now) }
+fn key_values(alloc: Global, ordinals: &[usize], row: &Row) -> Result<KeyValues, Refusal>
+    ensures ok { IfOk result (λ values. values ≡ key_at ordinals.now row.now) }
     ensures err { IfErr result (λ e. e ≡ Refusal.OutOfMemory) }
 {
-    match places {
-        [place] => KeyValues::of_one(alloc, copy_at(alloc, row, *place)?),
-        _ => KeyValues::new(alloc, values_at(alloc, places, row)?),
+    match ordinals {
+        [ordinal] => KeyValues::of_one(alloc, copy_at(alloc, row, *ordinal)?),
+        _ => KeyValues::new(alloc, values_at(alloc, ordinals, row)?),
     }
 }
 
 impl StoredTable {
     /// A table without rows, whose key columns are at these places.
-    pub fn new(alloc: Global, places: Items<usize>) -> StoredTable
+    pub fn new(alloc: Global, ordinals: Items<usize>) -> StoredTable
         ensures slots { result.slots ≡ [] }
-        ensures places { result.places ≡ places }
+        ensures ordinals { result.ordinals ≡ ordinals }
     {
         StoredTable {
             slots: Slots::new(alloc),
-            places,
+            ordinals,
             count: 0,
         }
     }
 
     /// The places of the key columns.
     pub fn key_columns(&self) -> &[usize]
-        ensures { result.now ≡ self.now.places }
+        ensures { result.now ≡ self.now.ordinals }
     {
-        self.places.as_slice()
+        self.ordinals.as_slice()
     }
 
     /// The key of a row of this table. Refuses for want of memory.
     pub fn key_of(&self, alloc: Global, row: &Row) -> Result<RowKey, Refusal>
-        ensures ok { IfOk result (λ key. key.values ≡ key_at self.now.places row.now) }
+        ensures ok { IfOk result (λ key. key.values ≡ key_at self.now.ordinals row.now) }
         ensures err { IfErr result (λ e. e ≡ Refusal.OutOfMemory) }
     {
-        let values = key_values(alloc, self.places.as_slice(), row)?;
+        let values = key_values(alloc, self.ordinals.as_slice(), row)?;
         Ok(RowKey { values })
     }
 
@@ -118,7 +118,7 @@ impl StoredTable {
     /// All slots, in the order of their keys. The rows in them are at their keys.
     pub(crate) fn slots(&self) -> Range<'_, RowKey, Option<Row>>
         ensures slots { result ≡ self.now.slots }
-        ensures keyed { AllByRecursion (IsAtItsKey self.now.places) result }
+        ensures keyed { AllByRecursion (IsAtItsKey self.now.ordinals) result }
     {
         self.slots.all()
     }
@@ -132,14 +132,14 @@ impl StoredTable {
 
     /// Whether the key columns are those of the primary key, in its order.
     pub(crate) fn is_by_primary_key(&self, table: &Table) -> bool
-        ensures { IsTrue result → self.now.places ≡ table.now.primary_key }
+        ensures { IsTrue result → self.now.ordinals ≡ table.now.primary_key }
     {
         self.key_columns() == table.primary_key.as_slice()
     }
 
     // The rows from the key of a row on.
     fn rows_from_row(&self, alloc: Global, row: &Row) -> Result<RowsInOrder<'_>, Refusal>
-        ensures ok { IfOk result (λ rows. rows ≡ rows_in (slots_from (record { values = key_at self.now.places row.now }) self.now.slots)) }
+        ensures ok { IfOk result (λ rows. rows ≡ rows_in (slots_from (record { values = key_at self.now.ordinals row.now }) self.now.slots)) }
         ensures err { IfErr result (λ e. e ≡ Refusal.OutOfMemory) }
     {
         let key = self.key_of(alloc, row)?;
@@ -147,15 +147,15 @@ impl StoredTable {
     }
 
     /// Rows in slots among which are all after a row; all, if they don't stand in the order of primary keys.
-    pub(crate) fn behind(
+    pub(crate) fn rows_after(
         &self,
         alloc: Global,
         table: &Table,
         in_order: bool,
         last: Option<&Row>,
     ) -> Result<RowsInOrder<'_>, Refusal>
-        requires { IsTrue in_order → self.now.places ≡ table.now.primary_key }
-        ensures rows { IfOk result (λ rows. filter (is_behind table.now (option_copied last.entry)) rows ≡ filter (is_behind table.now (option_copied last.entry)) (rows_in self.now.slots)) }
+        requires { IsTrue in_order → self.now.ordinals ≡ table.now.primary_key }
+        ensures rows { IfOk result (λ rows. filter (comes_after table.now (option_copied last.entry)) rows ≡ filter (comes_after table.now (option_copied last.entry)) (rows_in self.now.slots)) }
         ensures order { IfOk result (λ rows. IsTrue in_order → IsInOrder table.now rows) }
         ensures err { IfErr result (λ e. e ≡ Refusal.OutOfMemory) }
     {
@@ -168,8 +168,8 @@ impl StoredTable {
 
     /// The rows whose first key column has a value, in the order of their keys. Refuses for want of memory for that value's key.
     pub fn rows_with<'a>(&'a self, alloc: Global, value: &'a Value) -> Result<RowsWith<'a>, Refusal>
-        requires { 0 < length self.now.places }
-        ensures ok { IfOk result (λ rows. rows ≡ filter (begins_with self.now.places value.now) (rows_in self.now.slots)) }
+        requires { 0 < length self.now.ordinals }
+        ensures ok { IfOk result (λ rows. rows ≡ filter (begins_with self.now.ordinals value.now) (rows_in self.now.slots)) }
         ensures err { IfErr result (λ e. e ≡ Refusal.OutOfMemory) }
     {
         let rows = self.slots.rows_with(alloc, value)?;
@@ -182,8 +182,8 @@ impl StoredTable {
         alloc: Global,
         values: &'a [Value],
     ) -> Result<RowsAmong<'a>, Refusal>
-        requires { 0 < length self.now.places }
-        ensures ok { IfOk result (λ rows. rows ≡ filter (λ row. is_among values.now (value_at row (slice_index self.now.places 0))) (rows_in self.now.slots)) }
+        requires { 0 < length self.now.ordinals }
+        ensures ok { IfOk result (λ rows. rows ≡ filter (λ row. is_among values.now (value_at row (slice_index self.now.ordinals 0))) (rows_in self.now.slots)) }
         ensures err { IfErr result (λ e. e ≡ Refusal.OutOfMemory) }
     {
         let sorted = sorted(alloc, values)?;
@@ -193,7 +193,7 @@ impl StoredTable {
 
     /// The row that has a key, if one has it.
     pub fn get(&self, key: &RowKey) -> Option<&Row>
-        ensures { option_to_list (option_copied result) ≡ filter (has_key self.now.places key.now.values) (rows_in self.now.slots) }
+        ensures { option_to_list (option_copied result) ≡ filter (has_key self.now.ordinals key.now.values) (rows_in self.now.slots) }
     {
         let _slots = self.slots.len();
         self.slots.get(key)
@@ -201,21 +201,21 @@ impl StoredTable {
 
     /// Whether a row has a key.
     pub fn contains(&self, key: &RowKey) -> bool
-        ensures { result ≡ list_any (has_key self.now.places key.now.values) (rows_in self.now.slots) }
+        ensures { result ≡ list_any (has_key self.now.ordinals key.now.values) (rows_in self.now.slots) }
     {
         self.get(key).is_some()
     }
 
     /// Whether a key has a slot, and no row.
     pub fn is_free(&self, key: &RowKey) -> bool
-        ensures { result ≡ (is_some (slot_at self.now.slots key.now) && not (list_any (has_key self.now.places key.now.values) (rows_in self.now.slots))) }
+        ensures { result ≡ (is_some (slot_at self.now.slots key.now) && not (list_any (has_key self.now.ordinals key.now.values) (rows_in self.now.slots))) }
     {
         self.slots.has(key) && !self.contains(key)
     }
 
     /// Whether this row, whose key is given, is there.
     pub fn holds(&self, key: &RowKey, row: &Row) -> bool
-        requires { key.now.values ≡ key_at self.now.places row.now }
+        requires { key.now.values ≡ key_at self.now.ordinals row.now }
         ensures { result ≡ list_any (same_row row.now) (rows_in self.now.slots) }
     {
         let _slots = self.slots.len();
@@ -228,7 +228,7 @@ impl StoredTable {
         ensures ok { OnOk result (IsSome (slot_at self.new.slots key.now)) }
         ensures kept { (k : RowKey) → IsSome (slot_at self.old.slots k) → slot_at self.new.slots k ≡ slot_at self.old.slots k }
         ensures slots { OnOk result (self.new.slots ≡ (if is_some (slot_at self.old.slots key.now) then self.old.slots else with_slot key.now self.old.slots)) }
-        ensures places { self.new.places ≡ self.old.places }
+        ensures ordinals { self.new.ordinals ≡ self.old.ordinals }
         ensures err { IfErr result (λ e. e ≡ Refusal.OutOfMemory) }
         ensures unchanged { OnErr result (self.new ≡ self.old) }
     {
@@ -243,7 +243,7 @@ impl StoredTable {
     pub fn sweep(&mut self, key: &RowKey)
         ensures rows { rows_in self.new.slots ≡ rows_in self.old.slots }
         ensures slots { self.new.slots ≡ (if is_some (row_at self.old.slots key.now) then self.old.slots else without_slot key.now self.old.slots) }
-        ensures places { self.new.places ≡ self.old.places }
+        ensures ordinals { self.new.ordinals ≡ self.old.ordinals }
     {
         self.slots.sweep(key);
     }
@@ -253,7 +253,7 @@ impl StoredTable {
         requires { CanTake self.old key.now row (rows_in self.old.slots) }
         ensures rows { IsPermutation (rows_in self.new.slots) (rows_in self.old.slots ++ row ∷ []) }
         ensures kept { (k : RowKey) → IsSome (slot_at self.old.slots k) → IsSome (slot_at self.new.slots k) }
-        ensures places { self.new.places ≡ self.old.places }
+        ensures ordinals { self.new.ordinals ≡ self.old.ordinals }
     {
         let _before = self.slots.len();
         self.slots.add(key, row);
@@ -263,10 +263,10 @@ impl StoredTable {
 
     /// Removes a row, if it is there; the slot of its key stays. Takes no memory.
     pub fn remove(&mut self, key: &RowKey, row: &Row)
-        requires { key.now.values ≡ key_at self.old.places row.now }
+        requires { key.now.values ≡ key_at self.old.ordinals row.now }
         ensures rows { IsPermutation (rows_in self.new.slots) (without row.now (rows_in self.old.slots)) }
         ensures kept { (k : RowKey) → IsSome (slot_at self.old.slots k) → IsSome (slot_at self.new.slots k) }
-        ensures places { self.new.places ≡ self.old.places }
+        ensures ordinals { self.new.ordinals ≡ self.old.ordinals }
     {
         let _slots = self.slots.len();
         if self.slots.holds(key, row) {
@@ -277,11 +277,11 @@ impl StoredTable {
 
     /// Puts a row in the place of another one, which has the same key. Takes no memory.
     pub fn replace(&mut self, key: &RowKey, old: &Row, new: Row)
-        requires key { key.now.values ≡ key_at self.old.places old.now }
+        requires key { key.now.values ≡ key_at self.old.ordinals old.now }
         requires fits { CanTake self.old key.now new (without old.now (rows_in self.old.slots)) }
         ensures rows { IsPermutation (rows_in self.new.slots) (without old.now (rows_in self.old.slots) ++ new ∷ []) }
         ensures kept { (k : RowKey) → IsSome (slot_at self.old.slots k) → IsSome (slot_at self.new.slots k) }
-        ensures places { self.new.places ≡ self.old.places }
+        ensures ordinals { self.new.ordinals ≡ self.old.ordinals }
     {
         self.remove(key, old);
         self.add(key, new);

@@ -10,13 +10,13 @@ use Rattle.sql_tree.specs.declared.Key.{Key}
 use Rattle.vt_value.specs.Values.{Row, value_at}
 use Rattle.sql_tree.specs.declared.Item.{Item}
 use Rattle.sql_tree.specs.declared.Item.TheVariants.{Column, CountRows, Count, Sum, Min, Max}
-use Rattle.sql_tree.specs.declared.Limit.{Limit}
+use Rattle.sql_tree.specs.declared.LimitClause.{LimitClause}
 use Rattle.operators.specs.Orders.{keys_cmp, sort_values, row_cmp}
 use Rattle.operators.specs.Slices.{sliced, columns_of}
 use Rattle.vschema.specs.declared.schema.Query.{Query}
 use Rattle.vschema.specs.Checks.{is_aggregate, is_aggregated}
 use Rattle.sql_eval.specs.Conditions.{is_kept}
-use Rattle.sql_eval.specs.Grouping.{shown_place, group_columns, group_order, IsSortedSlice}
+use Rattle.sql_eval.specs.Grouping.{shown_ordinal, group_columns, group_order, IsSortedSlice}
 use Rattle.sql_eval.specs.inner.Parts.{grouped_rows}
 use Rattle.sql_eval.specs.Queries.{Keyed, shown_value, shown, keyed_row, keyed_groups, kept_rows, IsAnswer}
 use Rattle.sql_eval.proofs.GroupLemmas.{map_both, keyed_wide, keyed_is, same_cmp}
@@ -29,7 +29,7 @@ or_right : (a b : Bool) → (a || b) ≡ false → b ≡ false
 or_right true b e = absurd cc
 or_right false b e = e
 
-shown_item : (row : Row) (i : Item ℕ) → is_aggregate i ≡ false → value_at row (shown_place i) ≡ shown_value row i
+shown_item : (row : Row) (i : Item ℕ) → is_aggregate i ≡ false → value_at row (shown_ordinal i) ≡ shown_value row i
 shown_item row (Column n) e = refl
 shown_item row CountRows e = absurd cc
 shown_item row (Count n) e = absurd cc
@@ -38,18 +38,18 @@ shown_item row (Min n) e = absurd cc
 shown_item row (Max n) e = absurd cc
 
 shown_items : (row : Row) (items : List (Item ℕ)) → list_any is_aggregate items ≡ false
-    → map (value_at row) (map shown_place items) ≡ map (shown_value row) items
+    → map (value_at row) (map shown_ordinal items) ≡ map (shown_value row) items
 shown_items row [] e = refl
 shown_items row (i ∷ items) e =
     rw (shown_item row i (or_left _ _ e), shown_items row items (or_right (is_aggregate i) _ e)) refl
 
 -- the rows as the query shows them, from their keyed forms
 shown_rows : (q : Query) → list_any is_aggregate q.items ≡ false → (rows : List Row)
-    → map (columns_of (map shown_place q.items)) rows ≡ map (λ r. r.0) (map (keyed_row q) rows)
+    → map (columns_of (map shown_ordinal q.items)) rows ≡ map (λ r. r.0) (map (keyed_row q) rows)
 shown_rows q e [] = refl
 shown_rows q e (row ∷ rows) = rw (shown_items row q.items e, shown_rows q e rows) refl
 
-pub sliced_map : {X Y : Type 0} (f : X → Y) (limit : Option Limit) (xs : List X) → sliced limit (map f xs) ≡ map f (sliced limit xs)
+pub sliced_map : {X Y : Type 0} (f : X → Y) (limit : Option LimitClause) (xs : List X) → sliced limit (map f xs) ≡ map f (sliced limit xs)
 sliced_map f None xs = refl
 sliced_map f (Some l) xs = ap (take l.count) (drop-map f l.offset xs) ∙ take-map f l.count (drop l.offset xs)
 
@@ -69,7 +69,7 @@ pub kept_grouped : (q : Query) (rows : List Row) → is_aggregated q ≡ true �
 kept_grouped q rows grouped = rw grouped refl
 
 plain_answer : (q : Query) (rows kept list : List Row) → is_aggregated q ≡ false → kept ≡ filter (is_kept q.filter) rows
-    → IsSortedSlice q.order_by q.limit (map shown_place q.items) kept list → IsAnswer q rows list
+    → IsSortedSlice q.order_by q.limit (map shown_ordinal q.items) kept list → IsAnswer q rows list
 plain_answer q rows kept list plain is (sorted, permuted, ascending, shown) =
     let items = or_left _ _ plain in (
       map (keyed_row q) sorted,
@@ -92,7 +92,7 @@ group_answer q rows kept list grouped is (sorted, permuted, ascending, shown) = 
 )
 
 pub answered : (q : Query) (rows kept : List Row) (result : Result (List Row) Refusal) → is_aggregated q ≡ false → kept ≡ filter (is_kept q.filter) rows
-    → IfOk result (IsSortedSlice q.order_by q.limit (map shown_place q.items) kept) → IfOk result (IsAnswer q rows)
+    → IfOk result (IsSortedSlice q.order_by q.limit (map shown_ordinal q.items) kept) → IfOk result (IsAnswer q rows)
 answered q rows kept (Ok list) plain is shown = plain_answer q rows kept list plain is shown
 answered q rows kept (Err e) plain is shown = cc
 

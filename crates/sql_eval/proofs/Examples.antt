@@ -21,7 +21,7 @@ abbrev t_rows : List Row
 t_rows = (n 1 ∷ Null ∷ []) ∷ (n 2 ∷ Null ∷ []) ∷ (n 3 ∷ n 7 ∷ []) ∷ (n 4 ∷ n 7 ∷ []) ∷ (n 5 ∷ n 9 ∷ []) ∷ (n 6 ∷ n 1 ∷ []) ∷ []
 
 abbrev query : List ℕ → Option (Condition ℕ) → Query
-query places filter' = record { table = 0; join = None; items = map item.Column places; qualified = []; filter = filter'; group_by = []; order_by = []; limit = None }
+query ordinals filter' = record { table = 0; join = None; items = map item.Column ordinals; qualified = []; filter = filter'; group_by = []; order_by = []; limit = None }
 
 -- which rows a condition keeps, by its plain test
 kept_by : (c : Condition ℕ) (p : Row → Bool) → ((row : Row) → is_kept (Some c) row ≡ p row) → filter (is_kept (Some c)) t_rows ≡ filter p t_rows

@@ -17,11 +17,11 @@ use Rattle.operators.specs.Slices.{columns_of}
 use Rattle.operators.proofs.SliceLemmas.{drop_next}
 use Rattle.aggregate.specs.Aggregates.{present, values_of, total}
 use Rattle.aggregate.specs.Groups.{distinct, joined_part, joined_parts, of_group, group_keys, joined_rows}
-use Rattle.aggregate.proofs.PartsOfRows.{first_behind}
+use Rattle.aggregate.proofs.PartsOfRows.{first_past}
 use Rattle.vschema.specs.declared.schema.Query.{Query}
 use Rattle.vschema.specs.Checks.{is_aggregate, has_number}
 use Rattle.sql_eval.specs.Groups.{group_values, group_rows, group_value, item_value}
-use Rattle.sql_eval.specs.Grouping.{shown_place, aggregates_of, group_place_from, item_places, placed_key, behind_groups, group_columns, group_order}
+use Rattle.sql_eval.specs.Grouping.{shown_ordinal, aggregates_of, group_ordinal_from, item_ordinals, placed_key, after_groups, group_columns, group_order}
 use Rattle.sql_eval.specs.inner.Parts.{one_of, row_part, part_row, grouped_rows}
 use Rattle.sql_eval.specs.Queries.{Keyed, keyed_group, keyed_groups}
 
@@ -30,7 +30,7 @@ map_both f g h same [] = refl
 map_both f g h same (x ∷ xs) = λ i. same x i ∷ map_both f g h same xs i
 
 pub at_drop : (row : Row) (n : ℕ) (v : Value) (rest : Row) → drop n row ≡ v ∷ rest → value_at row n ≡ v
-at_drop row n v rest e = sym (first_behind n row) ∙ ap (λ r. value_at r 0) e
+at_drop row n v rest e = sym (first_past n row) ∙ ap (λ r. value_at r 0) e
 
 -- nothing stands after the last value
 at_end : (row : Row) (n : ℕ) → length row ≤ n → value_at row n ≡ Null
@@ -179,18 +179,18 @@ grouped_is columns items rows =
     each (key ∷ keys) = λ i. (key ++ parts_of_group columns items key rows i) ∷ each keys i
 
 -- a column of GROUP BY in a row that has its values from a place on
-place_value : (wide : Row) (columns : List ℕ) (values rest : Row) (n other c : ℕ) → length values ≡ length columns → drop n wide ≡ values ++ rest → length wide ≤ other
-    → value_at wide (group_place_from n other columns c) ≡ group_value columns values c
-place_value wide [] values rest n other c same at far = at_end wide other far
-place_value wide (g ∷ columns) [] rest n other c same at far = cc
-place_value wide (g ∷ columns) (v ∷ values) rest n other c same at far = by (g == c) (place_value wide columns values rest (n + 1) other c (omega (arith, same)) (drop_next wide (values ++ rest) v n at) far)
+ordinal_value : (wide : Row) (columns : List ℕ) (values rest : Row) (n other c : ℕ) → length values ≡ length columns → drop n wide ≡ values ++ rest → length wide ≤ other
+    → value_at wide (group_ordinal_from n other columns c) ≡ group_value columns values c
+ordinal_value wide [] values rest n other c same at far = at_end wide other far
+ordinal_value wide (g ∷ columns) [] rest n other c same at far = cc
+ordinal_value wide (g ∷ columns) (v ∷ values) rest n other c same at far = by (g == c) (ordinal_value wide columns values rest (n + 1) other c (omega (arith, same)) (drop_next wide (values ++ rest) v n at) far)
   where
-    by : (b : Bool) → value_at wide (group_place_from (n + 1) other columns c) ≡ group_value columns values c
-        → value_at wide (cond b n (group_place_from (n + 1) other columns c)) ≡ cond b v (group_value columns values c)
+    by : (b : Bool) → value_at wide (group_ordinal_from (n + 1) other columns c) ≡ group_value columns values c
+        → value_at wide (cond b n (group_ordinal_from (n + 1) other columns c)) ≡ cond b v (group_value columns values c)
     by true later = at_drop wide n v (values ++ rest) at
     by false later = later
 
-plain_item : (columns : List ℕ) (values : Row) (rows : List Row) (i : Item ℕ) → is_aggregate i ≡ false → group_value columns values (shown_place i) ≡ item_value columns values rows i
+plain_item : (columns : List ℕ) (values : Row) (rows : List Row) (i : Item ℕ) → is_aggregate i ≡ false → group_value columns values (shown_ordinal i) ≡ item_value columns values rows i
 plain_item columns values rows (Column c) e = refl
 plain_item columns values rows CountRows e = cc
 plain_item columns values rows (Count c) e = cc
@@ -199,24 +199,24 @@ plain_item columns values rows (Min c) e = cc
 plain_item columns values rows (Max c) e = cc
 
 module _ (columns : List ℕ) (values : Row) (rows : List Row) (wide : Row) (other : ℕ)
-    (plain : (c : ℕ) → value_at wide (group_place_from 0 other columns c) ≡ group_value columns values c) where
+    (plain : (c : ℕ) → value_at wide (group_ordinal_from 0 other columns c) ≡ group_value columns values c) where
   items_at : (items : List (Item ℕ)) (n : ℕ) → drop n wide ≡ map (item_value columns values rows) (aggregates_of items)
-      → map (value_at wide) (item_places other columns n items) ≡ map (item_value columns values rows) items
+      → map (value_at wide) (item_ordinals other columns n items) ≡ map (item_value columns values rows) items
   items_at [] n at = refl
   items_at (i ∷ items) n at = by (is_aggregate i) refl (items_at items) at
     where
       by : (b : Bool) → is_aggregate i ≡ b
           → ((m : ℕ) → drop m wide ≡ map (item_value columns values rows) (aggregates_of items)
-          → map (value_at wide) (item_places other columns m items) ≡ map (item_value columns values rows) items)
+          → map (value_at wide) (item_ordinals other columns m items) ≡ map (item_value columns values rows) items)
           → drop n wide ≡ map (item_value columns values rows) (cond b (i ∷ aggregates_of items) (aggregates_of items))
-          → map (value_at wide) (cond b (n ∷ item_places other columns (n + 1) items) (group_place_from 0 other columns (shown_place i) ∷ item_places other columns n items))
+          → map (value_at wide) (cond b (n ∷ item_ordinals other columns (n + 1) items) (group_ordinal_from 0 other columns (shown_ordinal i) ∷ item_ordinals other columns n items))
           ≡ item_value columns values rows i ∷ map (item_value columns values rows) items
       by true e rest at =
           let first = at_drop wide n (item_value columns values rows i) (map (item_value columns values rows) (aggregates_of items)) at in
           let others = rest (n + 1) (drop_next wide (map (item_value columns values rows) (aggregates_of items)) (item_value columns values rows i) n at) in
           λ j. first j ∷ others j
       by false e rest at =
-          let first = plain (shown_place i) ∙ plain_item columns values rows i e in
+          let first = plain (shown_ordinal i) ∙ plain_item columns values rows i e in
           let others = rest n at in
           λ j. first j ∷ others j
 
@@ -255,11 +255,11 @@ module _ (q : Query) where
       let group = group_rows q.group_by values rows in
       let parts = map (item_value q.group_by values group) (aggregates_of q.items) in
       let wide = values ++ parts in
-      let far : length wide ≤ behind_groups q = omega (arith, length-append values parts, length-map (aggregates_of q.items) (item_value q.group_by values group), filter_short is_aggregate q.items, long) in
-      let plain : (c : ℕ) → value_at wide (group_place_from 0 (behind_groups q) q.group_by c) ≡ group_value q.group_by values c =
-      λ c. place_value wide q.group_by values parts 0 (behind_groups q) c long refl far in
-      let shown = items_at q.group_by values group wide (behind_groups q) plain q.items (length q.group_by) (drop_join (length q.group_by) values parts long) in
-      let keys = keys_at q.group_by values group wide (behind_groups q) plain q.order_by in
+      let far : length wide ≤ after_groups q = omega (arith, length-append values parts, length-map (aggregates_of q.items) (item_value q.group_by values group), filter_short is_aggregate q.items, long) in
+      let plain : (c : ℕ) → value_at wide (group_ordinal_from 0 (after_groups q) q.group_by c) ≡ group_value q.group_by values c =
+      λ c. ordinal_value wide q.group_by values parts 0 (after_groups q) c long refl far in
+      let shown = items_at q.group_by values group wide (after_groups q) plain q.items (length q.group_by) (drop_join (length q.group_by) values parts long) in
+      let keys = keys_at q.group_by values group wide (after_groups q) plain q.order_by in
       λ i. (shown i, keys i)
 
   keyed_each : (rows keys : List Row) → AllByRecursion (IsKey q.group_by) keys → map keyed_wide (map (group_row q.group_by q.items rows) keys) ≡ map (keyed_group q rows) keys
@@ -271,7 +271,7 @@ module _ (q : Query) where
   keyed_is rows = ap (map keyed_wide) (grouped_is q.group_by q.items rows) ∙ keyed_each rows (group_values q.group_by rows) (all_keys q.group_by rows)
 
   -- they are sorted in the same way
-  same_order : (keys : List (Key ℕ)) (as' bs : List Value) → keys_cmp (map (placed_key (behind_groups q) q.group_by) keys) as' bs ≡ keys_cmp keys as' bs
+  same_order : (keys : List (Key ℕ)) (as' bs : List Value) → keys_cmp (map (placed_key (after_groups q) q.group_by) keys) as' bs ≡ keys_cmp keys as' bs
   same_order [] as' bs = refl
   same_order (k ∷ keys) as' bs = ap (ordering_then (value_order k (value_at as' 0) (value_at bs 0))) (same_order keys (drop 1 as') (drop 1 bs))
 

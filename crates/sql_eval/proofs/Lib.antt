@@ -10,7 +10,7 @@ pub mod Permutations
 pub mod DistinctRows
 pub mod Rejoined
 pub mod SameAnswers
-pub mod PlaceLemmas
+pub mod OrdinalLemmas
 pub mod Firsts
 pub mod Counted
 pub mod LentRows

@@ -36,13 +36,13 @@ kind (Sum n) = 3
 kind (Min n) = 4
 kind (Max n) = 5
 
-abbrev place : Item ℕ → ℕ
-place (Column n) = n
-place CountRows = 0
-place (Count n) = n
-place (Sum n) = n
-place (Min n) = n
-place (Max n) = n
+abbrev ordinal : Item ℕ → ℕ
+ordinal (Column n) = n
+ordinal CountRows = 0
+ordinal (Count n) = n
+ordinal (Sum n) = n
+ordinal (Min n) = n
+ordinal (Max n) = n
 
 abbrev item_of : ℕ → ℕ → Item ℕ
 item_of zero n = Column n
@@ -52,7 +52,7 @@ item_of (suc (suc (suc zero))) n = Sum n
 item_of (suc (suc (suc (suc zero)))) n = Min n
 item_of k n = Max n
 
-is_item : (i : Item ℕ) → item_of (kind i) (place i) ≡ i
+is_item : (i : Item ℕ) → item_of (kind i) (ordinal i) ≡ i
 is_item (Column n) = refl
 is_item CountRows = refl
 is_item (Count n) = refl
@@ -60,7 +60,7 @@ is_item (Sum n) = refl
 is_item (Min n) = refl
 is_item (Max n) = refl
 
-code_is : (i : Item ℕ) → (item_code i ≡ 6 * place i + kind i) × (kind i < 6)
+code_is : (i : Item ℕ) → (item_code i ≡ 6 * ordinal i + kind i) × (kind i < 6)
 code_is (Column n) = (omega arith, omega arith)
 code_is CountRows = (omega arith, omega arith)
 code_is (Count n) = (omega arith, omega arith)
@@ -72,9 +72,9 @@ pub by_number : (i j : Item ℕ) → item_code i ≡ item_code j → i ≡ j
 by_number i j e =
     let a = code_is i in
     let b = code_is j in
-    let places : place i ≡ place j = omega (arith, a.0, a.1, b.0, b.1, e) in
+    let ordinals : ordinal i ≡ ordinal j = omega (arith, a.0, a.1, b.0, b.1, e) in
     let kinds : kind i ≡ kind j = omega (arith, a.0, a.1, b.0, b.1, e) in
-    sym (is_item i) ∙ ap (λ k. item_of k (place i)) kinds ∙ ap (item_of (kind j)) places ∙ is_item j
+    sym (is_item i) ∙ ap (λ k. item_of k (ordinal i)) kinds ∙ ap (item_of (kind j)) ordinals ∙ is_item j
 
 -- ---- each item once, from the last one on
 
@@ -114,45 +114,45 @@ one_item_more i [] true is = absurd cc
 one_item_more i [] false is = refl
 one_item_more i (x ∷ items) b is = by (same_item i x) refl (has_item i (distinct_items items)) refl (one_item_more i items)
   where
-    behind : others x (distinct_items items ++ i ∷ []) ≡ others x (distinct_items items) ++ others x (i ∷ [])
-    behind = filter-append (λ j. not (same_item x j)) (distinct_items items) (i ∷ [])
+    trailing : others x (distinct_items items ++ i ∷ []) ≡ others x (distinct_items items) ++ others x (i ∷ [])
+    trailing = filter-append (λ j. not (same_item x j)) (distinct_items items) (i ∷ [])
 
     by : (same : Bool) → same_item i x ≡ same → (there : Bool) → has_item i (distinct_items items) ≡ there
         → ((c : Bool) → has_item i (distinct_items items) ≡ c → distinct_items (items ++ i ∷ []) ≡ cond c (distinct_items items) (distinct_items items ++ i ∷ []))
         → x ∷ others x (distinct_items (items ++ i ∷ [])) ≡ cond b (x ∷ others x (distinct_items items)) (x ∷ others x (distinct_items items) ++ i ∷ [])
     by true same true there more = let yes : b ≡ true = cc in rw (yes, more true there) refl
-    by true same false there more = let yes : b ≡ true = cc in rw (yes, more false there, behind, not_again i x same, append-nil (others x (distinct_items items))) refl
+    by true same false there more = let yes : b ≡ true = cc in rw (yes, more false there, trailing, not_again i x same, append-nil (others x (distinct_items items))) refl
     by false same true there more =
         let yes : b ≡ true = sym is ∙ ap (λ s. s || has_item i (others x (distinct_items items))) same ∙ others_stay i x same (distinct_items items) ∙ there in
         rw (yes, more true there) refl
     by false same false there more =
         let no : b ≡ false = sym is ∙ ap (λ s. s || has_item i (others x (distinct_items items))) same ∙ others_stay i x same (distinct_items items) ∙ there in
-        rw (no, more false there, behind, again i x same) refl
+        rw (no, more false there, trailing, again i x same) refl
 
 -- ---- places in a list that grows
 
-pub kept_place : {X : Type 0} (xs ys : List X) (k : ℕ) (x : X) → slice_get xs k ≡ Some x → slice_get (xs ++ ys) k ≡ Some x
-kept_place [] ys k x e = absurd cc
-kept_place (y ∷ xs) ys zero x e = e
-kept_place (y ∷ xs) ys (suc k) x e = kept_place xs ys k x e
+pub kept_ordinal : {X : Type 0} (xs ys : List X) (k : ℕ) (x : X) → slice_get xs k ≡ Some x → slice_get (xs ++ ys) k ≡ Some x
+kept_ordinal [] ys k x e = absurd cc
+kept_ordinal (y ∷ xs) ys zero x e = e
+kept_ordinal (y ∷ xs) ys (suc k) x e = kept_ordinal xs ys k x e
 
-pub last_place : {X : Type 0} (xs : List X) (y : X) → slice_get (xs ++ y ∷ []) (length xs) ≡ Some y
-last_place [] y = refl
-last_place (x ∷ xs) y = last_place xs y
+pub last_ordinal : {X : Type 0} (xs : List X) (y : X) → slice_get (xs ++ y ∷ []) (length xs) ≡ Some y
+last_ordinal [] y = refl
+last_ordinal (x ∷ xs) y = last_ordinal xs y
 
 -- what was found is found among more
-pub found_among : {X : Type 0} (xs ys : List X) (places : List ℕ) (wanted : List X) → map (slice_get xs) places ≡ map Some wanted → map (slice_get (xs ++ ys)) places ≡ map Some wanted
+pub found_among : {X : Type 0} (xs ys : List X) (ordinals : List ℕ) (wanted : List X) → map (slice_get xs) ordinals ≡ map Some wanted → map (slice_get (xs ++ ys)) ordinals ≡ map Some wanted
 found_among xs ys [] [] e = refl
 found_among xs ys [] (w ∷ wanted) e = absurd cc
-found_among xs ys (p ∷ places) [] e = absurd cc
-found_among {X} xs ys (p ∷ places) (w ∷ wanted) e =
+found_among xs ys (p ∷ ordinals) [] e = absurd cc
+found_among {X} xs ys (p ∷ ordinals) (w ∷ wanted) e =
     let head : slice_get xs p ≡ Some w = cc in
-    let tail : map (slice_get xs) places ≡ map Some wanted = cc in
-    rw (kept_place xs ys p w head, found_among xs ys places wanted tail) refl
+    let tail : map (slice_get xs) ordinals ≡ map Some wanted = cc in
+    rw (kept_ordinal xs ys p w head, found_among xs ys ordinals wanted tail) refl
 
-pub one_more : {X : Type 0} (xs : List X) (places : List ℕ) (wanted : List X) (p : ℕ) (w : X) → map (slice_get xs) places ≡ map Some wanted → slice_get xs p ≡ Some w
-    → map (slice_get xs) (places ++ p ∷ []) ≡ map Some (wanted ++ w ∷ [])
-one_more xs places wanted p w e last = map-append (slice_get xs) places (p ∷ []) ∙ rw (e, last) (sym (map-append Some wanted (w ∷ [])))
+pub one_more : {X : Type 0} (xs : List X) (ordinals : List ℕ) (wanted : List X) (p : ℕ) (w : X) → map (slice_get xs) ordinals ≡ map Some wanted → slice_get xs p ≡ Some w
+    → map (slice_get xs) (ordinals ++ p ∷ []) ≡ map Some (wanted ++ w ∷ [])
+one_more xs ordinals wanted p w e last = map-append (slice_get xs) ordinals (p ∷ []) ∙ rw (e, last) (sym (map-append Some wanted (w ∷ [])))
 
 -- ---- the loop's step
 
@@ -169,24 +169,24 @@ has_at i (x ∷ items) zero e = let same : x ≡ i = cc in rw (same, same_as_its
 has_at i (x ∷ items) (suc p) e = rw (has_at i items p e) (or_true (same_item i x))
 
 pub seen_again : (before : List (Item ℕ)) (s : Seen) (i : Item ℕ) (p : ℕ) → IsSeen before s → get nat_cmp s.by_code (item_code i) ≡ Some p
-    → IsSeen (before ++ i ∷ []) (record s { places = s.places ++ p ∷ [] })
+    → IsSeen (before ++ i ∷ []) (record s { ordinals = s.ordinals ++ p ∷ [] })
 seen_again before s i p is found =
     let at : slice_get s.items p ≡ Some i = is.known i p found in
     record {
       distinct = is.distinct ∙ sym (one_item_more i before true (ap (has_item i) (sym is.distinct) ∙ has_at i s.items p at));
-      shown = one_more s.items s.places before p i is.shown at;
+      shown = one_more s.items s.ordinals before p i is.shown at;
       known = is.known;
       unknown = is.unknown;
     }
 
 pub seen_first : (before : List (Item ℕ)) (s : Seen) (i : Item ℕ) (by_code : BTreeMap ℕ ℕ) → IsSeen before s → get nat_cmp s.by_code (item_code i) ≡ None
     → ((n : ℕ) → get nat_cmp by_code n ≡ cond (is_eq (nat_cmp (item_code i) n)) (Some (length s.items)) (get nat_cmp s.by_code n))
-    → IsSeen (before ++ i ∷ []) (record { items = s.items ++ i ∷ []; places = s.places ++ length s.items ∷ []; by_code = by_code })
+    → IsSeen (before ++ i ∷ []) (record { items = s.items ++ i ∷ []; ordinals = s.ordinals ++ length s.items ∷ []; by_code = by_code })
 seen_first before s i by_code is none updates =
     record {
       distinct = ap (λ l. l ++ i ∷ []) is.distinct ∙ sym (one_item_more i before false (ap (has_item i) (sym is.distinct) ∙ is.unknown i none));
       shown =
-          one_more (s.items ++ i ∷ []) s.places before (length s.items) i (found_among s.items (i ∷ []) s.places before is.shown) (last_place s.items i);
+          one_more (s.items ++ i ∷ []) s.ordinals before (length s.items) i (found_among s.items (i ∷ []) s.ordinals before is.shown) (last_ordinal s.items i);
       known = λ j p found. known j p (same_item i j) refl (sym (at_code j) ∙ found);
       unknown = λ j none. list_any-append (same_item j) s.items (i ∷ []) ∙ unknown j (same_item i j) refl (sym (at_code j) ∙ none);
     }
@@ -198,8 +198,8 @@ seen_first before s i by_code is none updates =
         → slice_get (s.items ++ i ∷ []) p ≡ Some j
     known j p true same found =
         let here : length s.items ≡ p = cc in
-        ap (slice_get (s.items ++ i ∷ [])) (sym here) ∙ last_place s.items i ∙ ap Some (by_number i j (eqb-true _ _ same))
-    known j p false same found = kept_place s.items (i ∷ []) p j (is.known j p found)
+        ap (slice_get (s.items ++ i ∷ [])) (sym here) ∙ last_ordinal s.items i ∙ ap Some (by_number i j (eqb-true _ _ same))
+    known j p false same found = kept_ordinal s.items (i ∷ []) p j (is.known j p found)
 
     unknown : (j : Item ℕ) (b : Bool) → same_item i j ≡ b → cond b (Some (length s.items)) (get nat_cmp s.by_code (item_code j)) ≡ None
         → (has_item j s.items || (same_item j i || false)) ≡ false
@@ -272,66 +272,66 @@ value_there f [] p i e = absurd cc
 value_there f (x ∷ items) zero i e = let same : x ≡ i = cc in ap f same
 value_there f (x ∷ items) (suc p) i e = value_there f items p i e
 
-values_there : (f : Item ℕ → Value) (items : List (Item ℕ)) (places : List ℕ) (wanted : List (Item ℕ)) → map (slice_get items) places ≡ map Some wanted
-    → columns_of places (map f items) ≡ map f wanted
+values_there : (f : Item ℕ → Value) (items : List (Item ℕ)) (ordinals : List ℕ) (wanted : List (Item ℕ)) → map (slice_get items) ordinals ≡ map Some wanted
+    → columns_of ordinals (map f items) ≡ map f wanted
 values_there f items [] [] e = refl
 values_there f items [] (w ∷ wanted) e = absurd cc
-values_there f items (p ∷ places) [] e = absurd cc
-values_there f items (p ∷ places) (w ∷ wanted) e =
+values_there f items (p ∷ ordinals) [] e = absurd cc
+values_there f items (p ∷ ordinals) (w ∷ wanted) e =
     let head : slice_get items p ≡ Some w = cc in
-    let tail : map (slice_get items) places ≡ map Some wanted = cc in
-    rw (value_there f items p w head, values_there f items places wanted tail) refl
+    let tail : map (slice_get items) ordinals ≡ map Some wanted = cc in
+    rw (value_there f items p w head, values_there f items ordinals wanted tail) refl
 
 abbrev widened : List ℕ → Keyed → Keyed
-widened places r = (columns_of places r.0, r.1)
+widened ordinals r = (columns_of ordinals r.0, r.1)
 
 map_same : {X Y Z : Type 0} (f : X → Z) (g : X → Y) (h : Y → Z) → ((x : X) → f x ≡ h (g x)) → (xs : List X) → map f xs ≡ map h (map g xs)
 map_same f g h same [] = refl
 map_same f g h same (x ∷ xs) = rw (same x, map_same f g h same xs) refl
 
-module _ (q : Query) (places : List ℕ) (at : map (slice_get (distinct_items q.items)) places ≡ map Some q.items) where
-  row_widened : (row : Row) → keyed_row q row ≡ widened places (keyed_row (narrowed q) row)
-  row_widened row = ap (λ (r : Row). (r, (keyed_row q row).1)) (sym (values_there (shown_value row) (distinct_items q.items) places q.items at))
+module _ (q : Query) (ordinals : List ℕ) (at : map (slice_get (distinct_items q.items)) ordinals ≡ map Some q.items) where
+  row_widened : (row : Row) → keyed_row q row ≡ widened ordinals (keyed_row (narrowed q) row)
+  row_widened row = ap (λ (r : Row). (r, (keyed_row q row).1)) (sym (values_there (shown_value row) (distinct_items q.items) ordinals q.items at))
 
-  group_widened : (rows : List Row) (values : Row) → keyed_group q rows values ≡ widened places (keyed_group (narrowed q) rows values)
+  group_widened : (rows : List Row) (values : Row) → keyed_group q rows values ≡ widened ordinals (keyed_group (narrowed q) rows values)
   group_widened rows values =
       ap (λ (r : Row). (r, (keyed_group q rows values).1))
-      (sym (values_there (item_value q.group_by values (group_rows q.group_by values rows)) (distinct_items q.items) places q.items at))
+      (sym (values_there (item_value q.group_by values (group_rows q.group_by values rows)) (distinct_items q.items) ordinals q.items at))
 
-  kept_widened : (rows : List Row) → kept_rows q rows ≡ map (widened places) (kept_rows (narrowed q) rows)
+  kept_widened : (rows : List Row) → kept_rows q rows ≡ map (widened ordinals) (kept_rows (narrowed q) rows)
   kept_widened rows = by (is_aggregated q) refl
     where
-      by : (b : Bool) → is_aggregated q ≡ b → kept_rows q rows ≡ map (widened places) (kept_rows (narrowed q) rows)
+      by : (b : Bool) → is_aggregated q ≡ b → kept_rows q rows ≡ map (widened ordinals) (kept_rows (narrowed q) rows)
       by true grouped =
-          kept_grouped q rows grouped ∙ map_same (keyed_group q (filter (is_kept q.filter) rows)) (keyed_group (narrowed q) (filter (is_kept q.filter) rows)) (widened places)
+          kept_grouped q rows grouped ∙ map_same (keyed_group q (filter (is_kept q.filter) rows)) (keyed_group (narrowed q) (filter (is_kept q.filter) rows)) (widened ordinals)
           (group_widened (filter (is_kept q.filter) rows)) (group_values q.group_by (filter (is_kept q.filter) rows))
-          ∙ ap (map (widened places)) (sym (kept_grouped (narrowed q) rows (narrowed_aggregated q ∙ grouped)))
+          ∙ ap (map (widened ordinals)) (sym (kept_grouped (narrowed q) rows (narrowed_aggregated q ∙ grouped)))
       by false plain =
-          kept_plain q rows plain ∙ map_same (keyed_row q) (keyed_row (narrowed q)) (widened places) row_widened (filter (is_kept q.filter) rows)
-          ∙ ap (map (widened places)) (sym (kept_plain (narrowed q) rows (narrowed_aggregated q ∙ plain)))
+          kept_plain q rows plain ∙ map_same (keyed_row q) (keyed_row (narrowed q)) (widened ordinals) row_widened (filter (is_kept q.filter) rows)
+          ∙ ap (map (widened ordinals)) (sym (kept_plain (narrowed q) rows (narrowed_aggregated q ∙ plain)))
 
   sorted_widened : (rows : List Keyed) → IsSorted (λ (a : Keyed) (b : Keyed). keys_cmp q.order_by a.1 b.1) rows
-      → IsSorted (λ (a : Keyed) (b : Keyed). keys_cmp q.order_by a.1 b.1) (map (widened places) rows)
+      → IsSorted (λ (a : Keyed) (b : Keyed). keys_cmp q.order_by a.1 b.1) (map (widened ordinals) rows)
   sorted_widened rows sorted k d low within =
-      let len = length-map rows (widened places) in
+      let len = length-map rows (widened ordinals) in
       let next : k + 1 < length rows = omega (arith, len, within) in
       let this : k < length rows = omega (arith, next) in
       let none : Keyed = ([], []) in
-      rw (get_or-map (widened places) rows (k + 1) none d next, get_or-map (widened places) rows k none d this) (sorted k none low next)
+      rw (get_or-map (widened ordinals) rows (k + 1) none d next, get_or-map (widened ordinals) rows k none d this) (sorted k none low next)
 
-  first_of : (list : List Keyed) → map (columns_of places) (map (λ (r : Keyed). r.0) list) ≡ map (λ (r : Keyed). r.0) (map (widened places) list)
+  first_of : (list : List Keyed) → map (columns_of ordinals) (map (λ (r : Keyed). r.0) list) ≡ map (λ (r : Keyed). r.0) (map (widened ordinals) list)
   first_of [] = refl
-  first_of (r ∷ list) = ap (λ l. columns_of places r.0 ∷ l) (first_of list)
+  first_of (r ∷ list) = ap (λ l. columns_of ordinals r.0 ∷ l) (first_of list)
 
-  pub answer_whole : (rows list : List Row) → IsAnswer (narrowed q) rows list → IsAnswer q rows (map (columns_of places) list)
+  pub answer_whole : (rows list : List Row) → IsAnswer (narrowed q) rows list → IsAnswer q rows (map (columns_of ordinals) list)
   answer_whole rows list (arranged, permuted, sorted, is) = (
-    map (widened places) arranged,
-    subst (λ ks. IsPermutation ks (map (widened places) arranged)) (sym (kept_widened rows)) (IsPermutation-map (widened places) (kept_rows (narrowed q) rows) arranged permuted),
+    map (widened ordinals) arranged,
+    subst (λ ks. IsPermutation ks (map (widened ordinals) arranged)) (sym (kept_widened rows)) (IsPermutation-map (widened ordinals) (kept_rows (narrowed q) rows) arranged permuted),
     sorted_widened arranged sorted,
-    ap (map (columns_of places)) is ∙ first_of (sliced q.limit arranged) ∙ ap (map (λ (r : Keyed). r.0)) (sym (sliced_map (widened places) q.limit arranged)),
+    ap (map (columns_of ordinals)) is ∙ first_of (sliced q.limit arranged) ∙ ap (map (λ (r : Keyed). r.0)) (sym (sliced_map (widened ordinals) q.limit arranged)),
   )
 
-  pub shown_whole : ShowsAt q (Some places)
+  pub shown_whole : ShowsAt q (Some ordinals)
   shown_whole = record { answers = answer_whole }
 
 -- a query that shows each item once is run as it is
@@ -339,12 +339,12 @@ pub shown_as_it_is : (q : Query) → distinct_items q.items ≡ q.items → Show
 shown_as_it_is q same = record { answers = λ rows list answer. subst (λ items. IsAnswer (record q { items = items }) rows list) same answer }
 
 pub narrowing : (q narrow : Query) (items : List (Item ℕ)) (w : Whole) → narrow ≡ record q { items = items } → w.items ≡ q.items → items ≡ distinct_items q.items
-    → map (slice_get items) w.places ≡ map Some q.items → IsNarrowing narrow (Some w)
+    → map (slice_get items) w.ordinals ≡ map Some q.items → IsNarrowing narrow (Some w)
 narrowing q narrow items w narrow_is whole distinct at =
     let same : record narrow { items = w.items } ≡ q = ap (λ (n : Query). record n { items = w.items }) narrow_is ∙ ap (λ l. record q { items = l }) whole in
     record {
       narrow = narrow_is ∙ ap (λ l. record q { items = l }) distinct ∙ ap narrowed (sym same);
       shows =
-          subst (λ (v : Query). ShowsAt v (Some w.places)) (sym same)
-          (shown_whole q w.places (ap (λ l. map (slice_get l) w.places) (sym distinct) ∙ at));
+          subst (λ (v : Query). ShowsAt v (Some w.ordinals)) (sym same)
+          (shown_whole q w.ordinals (ap (λ l. map (slice_get l) w.ordinals) (sym distinct) ∙ at));
     }

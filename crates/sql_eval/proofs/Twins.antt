@@ -71,8 +71,8 @@ twice-permutation t a b h = by (twice t a) (twice t b) refl refl
 
 module _ {X : Type 0} (R : X → X → Ordering) (o : IsTotalOrder R) where
   -- what isn't before b comes after a, which is before b
-  behind : (a b c : X) → R a b ≡ Less → is_lt (R c b) ≡ false → is_eq (R a c) ≡ false
-  behind a b c less h = by (R c b) refl h
+  trailing : (a b c : X) → R a b ≡ Less → is_lt (R c b) ≡ false → is_eq (R a c) ≡ false
+  trailing a b c less h = by (R c b) refl h
     where
       by : (p : Ordering) → R c b ≡ p → is_lt p ≡ false → is_eq (R a c) ≡ false
       by Less e h = absurd (true≢false h)
@@ -84,10 +84,10 @@ module _ {X : Type 0} (R : X → X → Ordering) (o : IsTotalOrder R) where
   is_less Equal h e = absurd (true≢false e)
   is_less Greater h e = absurd (true≢false h)
 
-  all_behind : (a b : X) (cs : List X) → R a b ≡ Less → ((j : ℕ) (d : X) → j < length cs → is_lt (R (get_or cs j d) b) ≡ false) → list_any (λ c. is_eq (R a c)) cs ≡ false
-  all_behind a b [] less h = refl
-  all_behind a b (c ∷ cs) less h =
-      ap (λ z. z || list_any (λ c. is_eq (R a c)) cs) (behind a b c less (h 0 c (omega arith))) ∙ all_behind a b cs less (λ j d w. h (suc j) d (omega (arith, w)))
+  all_past : (a b : X) (cs : List X) → R a b ≡ Less → ((j : ℕ) (d : X) → j < length cs → is_lt (R (get_or cs j d) b) ≡ false) → list_any (λ c. is_eq (R a c)) cs ≡ false
+  all_past a b [] less h = refl
+  all_past a b (c ∷ cs) less h =
+      ap (λ z. z || list_any (λ c. is_eq (R a c)) cs) (trailing a b c less (h 0 c (omega arith))) ∙ all_past a b cs less (λ j d w. h (suc j) d (omega (arith, w)))
 
 sorted_rest : (t : Table) (a : Row) (rows : List Row) → IsSorted (key_cmp t) (a ∷ rows) → IsSorted (key_cmp t) rows
 sorted_rest t a rows s k d low within =
@@ -108,7 +108,7 @@ twins_more t a b rows s rest = by (same_key t a b) refl
         let low : is_lt (key_cmp t b a) ≡ false = far 0 1 a (omega arith) (omega arith) in
         let less : key_cmp t a b ≡ Less = is_less (key_cmp t) o (key_cmp t a b) (ap is_lt (sym (o.antisymm b a)) ∙ low) e in
         let none : list_any (same_key t a) rows ≡ false =
-        all_behind (key_cmp t) o a b rows less (λ j d w. far 1 (suc (suc j)) d (omega arith) (omega (arith, w))) in
+        all_past (key_cmp t) o a b rows less (λ j d w. far 1 (suc (suc j)) d (omega arith) (omega (arith, w))) in
         ap (λ z. z || has_twins t (b ∷ rows)) e ∙ rest
         ∙ sym (ap (λ z. (z || list_any (same_key t a) rows) || twice t (b ∷ rows)) e ∙ ap (λ z. z || twice t (b ∷ rows)) none)
 

@@ -4,7 +4,7 @@ use Rattle.vt_value.specs.Values.{Row}
 use Rattle.sql_tree.specs.declared.Item.{Item}
 use Rattle.sql_tree.specs.declared.Item.TheVariants.{Column}
 use Rattle.sql_tree.specs.declared.Key.{Key}
-use Rattle.sql_tree.specs.declared.Limit.{Limit}
+use Rattle.sql_tree.specs.declared.LimitClause.{LimitClause}
 use Rattle.operators.specs.Orders.{row_cmp}
 use Rattle.operators.specs.Slices.{sliced, columns_of}
 use Rattle.aggregate.specs.Groups.{joined_rows}
@@ -13,49 +13,49 @@ use Rattle.vschema.specs.Checks.{is_aggregate}
 use Rattle.sql_eval.specs.declared.groups.Grouping.{Grouping}
 
 -- the column that an item shows, 0 if it shows an aggregate
-abbrev pub shown_place : Item ℕ → ℕ
-shown_place (Column n) = n
-shown_place _ = 0
+abbrev pub shown_ordinal : Item ℕ → ℕ
+shown_ordinal (Column n) = n
+shown_ordinal _ = 0
 
 abbrev pub aggregates_of : List (Item ℕ) → List (Item ℕ)
 aggregates_of items = filter is_aggregate items
 
 -- the place of a column among those of GROUP BY, counted from a number on, and another place if it isn't there
-abbrev pub group_place_from : ℕ → ℕ → List ℕ → ℕ → ℕ
-group_place_from n other [] c = other
-group_place_from n other (g ∷ columns) c = if g == c then n else group_place_from (n + 1) other columns c
+abbrev pub group_ordinal_from : ℕ → ℕ → List ℕ → ℕ → ℕ
+group_ordinal_from n other [] c = other
+group_ordinal_from n other (g ∷ columns) c = if g == c then n else group_ordinal_from (n + 1) other columns c
 
 -- the places of a query's items in the rows of groups, if the aggregates stand from a place on
-abbrev pub item_places : ℕ → List ℕ → ℕ → List (Item ℕ) → List ℕ
-item_places other columns n [] = []
-item_places other columns n (i ∷ items) =
-    if is_aggregate i then n ∷ item_places other columns (n + 1) items
-    else group_place_from 0 other columns (shown_place i) ∷ item_places other columns n items
+abbrev pub item_ordinals : ℕ → List ℕ → ℕ → List (Item ℕ) → List ℕ
+item_ordinals other columns n [] = []
+item_ordinals other columns n (i ∷ items) =
+    if is_aggregate i then n ∷ item_ordinals other columns (n + 1) items
+    else group_ordinal_from 0 other columns (shown_ordinal i) ∷ item_ordinals other columns n items
 
 abbrev pub placed_key : ℕ → List ℕ → Key ℕ → Key ℕ
-placed_key other columns k = record { column = group_place_from 0 other columns k.column; descending = k.descending }
+placed_key other columns k = record { column = group_ordinal_from 0 other columns k.column; descending = k.descending }
 
 -- a place after the last value of a group's row
-abbrev pub behind_groups : Query → ℕ
-behind_groups q = length q.group_by + length q.items
+abbrev pub after_groups : Query → ℕ
+after_groups q = length q.group_by + length q.items
 
 abbrev pub grouping_of : Query → Grouping
 grouping_of q = record { width = length q.group_by; aggregates = aggregates_of q.items; hashing = tt }
 
 -- the places of the query's items in a group's row
 abbrev pub group_columns : Query → List ℕ
-group_columns q = item_places (behind_groups q) q.group_by (length q.group_by) q.items
+group_columns q = item_ordinals (after_groups q) q.group_by (length q.group_by) q.items
 
 -- the sort keys, by the places of their columns in a group's row
 abbrev pub group_order : Query → List (Key ℕ)
-group_order q = map (placed_key (behind_groups q) q.group_by) q.order_by
+group_order q = map (placed_key (after_groups q) q.group_by) q.order_by
 
 -- the rows of the groups that these parts make up
 abbrev pub grouped : Grouping → List Row → List Row
 grouped g parts = joined_rows g.aggregates g.width parts
 
 -- what is shown of rows: their slice in an order that the keys allow, by the columns in these places
-abbrev pub IsSortedSlice : List (Key ℕ) → Option Limit → List ℕ → List Row → List Row → Type 0
-IsSortedSlice keys limit places rows list =
+abbrev pub IsSortedSlice : List (Key ℕ) → Option LimitClause → List ℕ → List Row → List Row → Type 0
+IsSortedSlice keys limit ordinals rows list =
     (arranged : List Row) × IsPermutation rows arranged × IsSorted (row_cmp keys) arranged
-    × (list ≡ map (columns_of places) (sliced limit arranged))
+    × (list ≡ map (columns_of ordinals) (sliced limit arranged))

@@ -35,10 +35,10 @@ whole_items None items = items
 whole_items (Some w) items = w.items
 
 -- where each of them stands among those of the narrowed one; without places each stands where it is
-abbrev pub whole_places : Option Whole → Option (List ℕ)
-whole_places None = None
-whole_places (Some w) = Some w.places
+abbrev pub whole_ordinals : Option Whole → Option (List ℕ)
+whole_ordinals None = None
+whole_ordinals (Some w) = Some w.ordinals
 
 -- Over whatever rows: of each answer of the narrowed query the columns in these places are an answer of the query.
-pub record ShowsAt (q : Query) (places : Option (List ℕ)) : Type 0 where
-  pub answers : (rows list : List Row) → IsAnswer (narrowed q) rows list → IsAnswer q rows (shown_at places list)
+pub record ShowsAt (q : Query) (ordinals : Option (List ℕ)) : Type 0 where
+  pub answers : (rows list : List Row) → IsAnswer (narrowed q) rows list → IsAnswer q rows (shown_at ordinals list)

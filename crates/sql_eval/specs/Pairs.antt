@@ -2,13 +2,13 @@
 use Rattle.std.specs.Prelude.{List, [], ◌∷◌, ◌++◌, map, filter}
 use Rattle.vt_value.specs.Values.{Row}
 use Rattle.vschema.specs.declared.schema.Join.{Join}
-use Rattle.vschema.specs.Sources.{padded, is_pair, paired, pairs_of}
+use Rattle.vschema.specs.Sources.{padded_row, is_pair, paired, pairs_of}
 use Rattle.sql_eval.specs.declared.conditions.Seen.{Seen}
 use Rattle.sql_eval.specs.declared.conditions.Seen.TheVariants as of
 
 abbrev pub seen : Seen → Row
 seen (of.Row row) = row.now
-seen (of.Pair a width b) = padded width a.now ++ b.now
+seen (of.Pair a width b) = padded_row width a.now ++ b.now
 
 -- the pairs of the first of these rows with the rest of the others, and of each after it with all of them
 abbrev pub pairs_left : Join → List Row → List Row → List Row → List Row

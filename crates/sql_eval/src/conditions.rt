@@ -4,7 +4,7 @@ ghost use Rattle.std.specs.List.{list_any};
 ghost use Rattle.vt_value.specs.Values.{in_list, is_null, is_true, all_true, any_true};
 ghost use Rattle.sql_eval.specs.Conditions.{truth_at, operand_value, is_kept};
 ghost use Rattle.sql_eval.specs.Pairs.{seen};
-ghost use Rattle.vschema.specs.Sources.{padded};
+ghost use Rattle.vschema.specs.Sources.{padded_row};
 
 use crate::rows::value_at;
 use sql_tree::{Condition, Operand};
@@ -22,27 +22,27 @@ fn pair_at<'v>(
     first: &'v Row,
     width: usize,
     second: &'v Row,
-    place: usize,
+    ordinal: usize,
     null: &'v Value,
 ) -> &'v Value
     requires { null.now ≡ Value.Null }
-    ensures { result.now ≡ Rattle.vt_value.specs.Values.value_at (padded width first.now ++ second.now) place }
+    ensures { result.now ≡ Rattle.vt_value.specs.Values.value_at (padded_row width first.now ++ second.now) ordinal }
 {
-    if place < width {
-        value_at(first, place, null)
+    if ordinal < width {
+        value_at(first, ordinal, null)
     } else {
-        value_at(second, place - width, null)
+        value_at(second, ordinal - width, null)
     }
 }
 
 /// The value at a place: `null`, which is NULL, after the last one.
-pub fn seen_at<'v>(values: Seen<'v>, place: usize, null: &'v Value) -> &'v Value
+pub fn seen_at<'v>(values: Seen<'v>, ordinal: usize, null: &'v Value) -> &'v Value
     requires { null.now ≡ Value.Null }
-    ensures { result.now ≡ Rattle.vt_value.specs.Values.value_at (seen values.entry) place }
+    ensures { result.now ≡ Rattle.vt_value.specs.Values.value_at (seen values.entry) ordinal }
 {
     match values {
-        Seen::Row(row) => value_at(row, place, null),
-        Seen::Pair(first, width, second) => pair_at(first, width, second, place, null),
+        Seen::Row(row) => value_at(row, ordinal, null),
+        Seen::Pair(first, width, second) => pair_at(first, width, second, ordinal, null),
     }
 }
 

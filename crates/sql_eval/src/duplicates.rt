@@ -28,19 +28,19 @@ fn has_duplicate_pair(table: &Table, rows: &[Row], new: &[Row]) -> bool
     false
 }
 
-fn order_at(a: &Row, b: &Row, place: usize) -> Ordering
-    ensures { result ≡ value_cmp (value_at a.now place) (value_at b.now place) }
+fn order_at(a: &Row, b: &Row, ordinal: usize) -> Ordering
+    ensures { result ≡ value_cmp (value_at a.now ordinal) (value_at b.now ordinal) }
 {
     let null = Value::Null;
-    sort_order(value_at(a, place, &null), value_at(b, place, &null))
+    sort_order(value_at(a, ordinal, &null), value_at(b, ordinal, &null))
 }
 
 /// The order of two rows by their primary keys.
 fn key_order(table: &Table, a: &Row, b: &Row) -> Ordering
     ensures { result ≡ key_cmp table.now a.now b.now }
 {
-    for place in table.primary_key.as_slice() {
-        let order = order_at(a, b, *place);
+    for ordinal in table.primary_key.as_slice() {
+        let order = order_at(a, b, *ordinal);
         if order.is_ne() {
             return order;
         }
@@ -86,10 +86,10 @@ pub fn in_key_order<'r>(
 }
 
 /// Whether a row has the key of the first of those after it.
-fn is_twin(table: &Table, row: &Row, behind: &[&Row]) -> bool
-    ensures { result ≡ is_twin table.now row.now (map (λ r. r.now) behind.now) }
+fn is_twin(table: &Table, row: &Row, trailing: &[&Row]) -> bool
+    ensures { result ≡ is_twin table.now row.now (map (λ r. r.now) trailing.now) }
 {
-    match behind.first() {
+    match trailing.first() {
         Some(next) => same_key(table, row, next),
         None => false,
     }

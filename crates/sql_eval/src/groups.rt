@@ -2,9 +2,9 @@
 ghost use Rattle.std.specs.Prelude.{◌≡◌, IfOk, IfErr, map, filter, length, unwrap_or};
 ghost use Rattle.aggregate.specs.Groups.{AreSummable};
 ghost use Rattle.vschema.specs.Checks.{is_aggregate};
-ghost use Rattle.vschema.specs.FirstPlaces.{first_place};
+ghost use Rattle.vschema.specs.FirstOrdinals.{first_ordinal};
 ghost use Rattle.sql_eval.specs.Conditions.{is_kept};
-ghost use Rattle.sql_eval.specs.Grouping.{shown_place, aggregates_of, item_places, placed_key, grouping_of, group_columns, group_order, grouped};
+ghost use Rattle.sql_eval.specs.Grouping.{shown_ordinal, aggregates_of, item_ordinals, placed_key, grouping_of, group_columns, group_order, grouped};
 ghost use Rattle.sql_eval.specs.inner.Parts.{one_of, row_part, part_row};
 
 use crate::filters::Filter;
@@ -14,7 +14,7 @@ use aggregate::GroupMerge;
 use operators::{Operator, collect, project_row};
 use sql_tree::{Item, Key};
 use std::alloc::Global;
-use vschema::{FirstPlaces, Hashing, Query};
+use vschema::{FirstOrdinals, Hashing, Query};
 use vt_value::{Items, Refusal, Row, Value, copy};
 
 /// How parts are joined to groups.
@@ -35,11 +35,11 @@ fn is_aggregate(item: &Item<usize>) -> bool
 }
 
 /// The column that an item shows, 0 if it shows an aggregate.
-pub fn shown_place(item: &Item<usize>) -> usize
-    ensures { result ≡ shown_place item.now }
+pub fn shown_ordinal(item: &Item<usize>) -> usize
+    ensures { result ≡ shown_ordinal item.now }
 {
     match item {
-        Item::Column(place) => *place,
+        Item::Column(ordinal) => *ordinal,
         _ => 0,
     }
 }
@@ -49,12 +49,12 @@ pub fn copy_item(item: &Item<usize>) -> Item<usize>
     ensures { result ≡ item.now }
 {
     match item {
-        Item::Column(place) => Item::Column(*place),
+        Item::Column(ordinal) => Item::Column(*ordinal),
         Item::CountRows => Item::CountRows,
-        Item::Count(place) => Item::Count(*place),
-        Item::Sum(place) => Item::Sum(*place),
-        Item::Min(place) => Item::Min(*place),
-        Item::Max(place) => Item::Max(*place),
+        Item::Count(ordinal) => Item::Count(*ordinal),
+        Item::Sum(ordinal) => Item::Sum(*ordinal),
+        Item::Min(ordinal) => Item::Min(*ordinal),
+        Item::Max(ordinal) => Item::Max(*ordinal),
     }
 }
 
@@ -119,9 +119,9 @@ fn part_value(alloc: Global, row: &Row, aggregate: &Item<usize>) -> Result<Value
     match aggregate {
         Item::Column(_) => Ok(Value::Null),
         Item::CountRows => Ok(Value::Int(1)),
-        Item::Count(place) => Ok(one_of(value_at(row, *place, &null))),
-        Item::Sum(place) | Item::Min(place) | Item::Max(place) => {
-            copy(alloc, value_at(row, *place, &null))
+        Item::Count(ordinal) => Ok(one_of(value_at(row, *ordinal, &null))),
+        Item::Sum(ordinal) | Item::Min(ordinal) | Item::Max(ordinal) => {
+            copy(alloc, value_at(row, *ordinal, &null))
         }
     }
 }
@@ -192,43 +192,43 @@ impl<'a, S: RowSource<'a>> Operator for Parts<'a, S> {
     }
 }
 
-fn place_of(columns: &FirstPlaces, column: usize, other: usize) -> usize
-    ensures { result ≡ unwrap_or (first_place columns.now column) other }
+fn ordinal_of(columns: &FirstOrdinals, column: usize, other: usize) -> usize
+    ensures { result ≡ unwrap_or (first_ordinal columns.now column) other }
 {
     columns.get(column).unwrap_or(other)
 }
 
-fn item_places(
+fn item_ordinals(
     alloc: Global,
     columns: &[usize],
     items: &[Item<usize>],
     other: usize,
 ) -> Result<Items<usize>, Refusal>
-    ensures ok { IfOk result (λ places. places ≡ item_places other columns.now (length columns.now) items.now) }
+    ensures ok { IfOk result (λ ordinals. ordinals ≡ item_ordinals other columns.now (length columns.now) items.now) }
     ensures err { IfErr result (λ e. e ≡ Refusal.OutOfMemory) }
 {
-    let first = FirstPlaces::of(alloc, columns)?;
-    let mut places = Items::new(alloc);
+    let first = FirstOrdinals::of(alloc, columns)?;
+    let mut ordinals = Items::new(alloc);
     let mut next = columns.len();
     for item in items {
         if is_aggregate(item) {
-            places.push(next)?;
+            ordinals.push(next)?;
             next += 1;
         } else {
-            places.push(place_of(&first, shown_place(item), other))?;
+            ordinals.push(ordinal_of(&first, shown_ordinal(item), other))?;
         }
     }
-    Ok(places)
+    Ok(ordinals)
 }
 
 /// The places of an aggregated query's items in the rows of its groups. Refuses only for want of memory.
 pub fn group_columns(alloc: Global, query: &Query) -> Result<Items<usize>, Refusal>
-    ensures ok { IfOk result (λ places. places ≡ group_columns query.now) }
+    ensures ok { IfOk result (λ ordinals. ordinals ≡ group_columns query.now) }
     ensures err { IfErr result (λ e. e ≡ Refusal.OutOfMemory) }
 {
     let columns = query.group_by.as_slice();
     let items = query.items.as_slice();
-    item_places(alloc, columns, items, columns.len() + items.len())
+    item_ordinals(alloc, columns, items, columns.len() + items.len())
 }
 
 fn placed_keys(
@@ -240,11 +240,11 @@ fn placed_keys(
     ensures ok { IfOk result (λ placed. placed ≡ map (placed_key other columns.now) keys.now) }
     ensures err { IfErr result (λ e. e ≡ Refusal.OutOfMemory) }
 {
-    let first = FirstPlaces::of(alloc, columns)?;
+    let first = FirstOrdinals::of(alloc, columns)?;
     let mut placed = Items::new(alloc);
     for key in keys {
         placed.push(Key {
-            column: place_of(&first, key.column, other),
+            column: ordinal_of(&first, key.column, other),
             descending: key.descending,
         })?;
     }

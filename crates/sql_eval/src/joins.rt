@@ -2,14 +2,14 @@
 ghost use Rattle.std.specs.Prelude.{◌≡◌, List, [], ◌∷◌, ◌++◌, false, MatchOption, IfOk, IfErr, filter};
 ghost use Rattle.vt_value.specs.declared.value.Value.{Value as V};
 ghost use Rattle.vschema.specs.Checks.{is_aggregated};
-ghost use Rattle.vschema.specs.Sources.{padded, is_pair, pairs_of};
+ghost use Rattle.vschema.specs.Sources.{padded_row, is_pair, pairs_of};
 ghost use Rattle.sql_eval.specs.Conditions.{is_kept};
 ghost use Rattle.sql_eval.specs.Grouping.{IsSortedSlice};
 ghost use Rattle.sql_eval.specs.Pairs.{seen};
 ghost use Rattle.sql_eval.specs.Queries.{IsAnswer};
 
 use crate::conditions::{Seen, keeps_seen, seen_at};
-use crate::queries::{show, shown_places};
+use crate::queries::{show, shown_ordinals};
 use crate::rows::value_at;
 use operators::{Limit, Operator, Project, collect};
 use sql_tree::{Condition, Key};
@@ -119,13 +119,13 @@ fn next_kept_pair<'a, S: PairSource<'a>>(
 }
 
 fn copy_pair(alloc: Global, first: &Row, width: usize, second: &Row) -> Result<Row, Refusal>
-    ensures ok { IfOk result (λ row. row ≡ padded width first.now ++ second.now) }
+    ensures ok { IfOk result (λ row. row ≡ padded_row width first.now ++ second.now) }
     ensures err { IfErr result (λ e. e ≡ Refusal.OutOfMemory) }
 {
     let mut row = Items::new(alloc);
-    for place in 0..width {
+    for ordinal in 0..width {
         let null = Value::Null;
-        row.push(copy(alloc, value_at(first, place, &null))?)?;
+        row.push(copy(alloc, value_at(first, ordinal, &null))?)?;
     }
     for value in second.as_slice() {
         row.push(copy(alloc, value)?)?;
@@ -180,19 +180,19 @@ fn shown_pairs<O: Operator>(
     alloc: Global,
     rows: O,
     keys: &[Key<usize>],
-    limit: Option<sql_tree::Limit>,
-    places: Items<usize>,
+    limit: Option<sql_tree::LimitClause>,
+    ordinals: Items<usize>,
 ) -> Result<Items<Row>, Refusal>
-    ensures ok { IfOk result (IsSortedSlice keys.now limit places (O.to_come rows)) }
+    ensures ok { IfOk result (IsSortedSlice keys.now limit ordinals (O.to_come rows)) }
     ensures err { IfErr result (λ e. e ≡ Refusal.OutOfMemory) }
 {
     if keys.is_empty() {
-        let mut shown = Project::new(Limit::new(rows, limit), places);
+        let mut shown = Project::new(Limit::new(rows, limit), ordinals);
         return collect(alloc, &mut shown);
     }
     let mut rows = rows;
     let all = collect(alloc, &mut rows)?;
-    show(alloc, all, keys, limit, places)
+    show(alloc, all, keys, limit, ordinals)
 }
 
 // Promise: What a query gives over the pairs that it is lent is one of its answers
@@ -208,11 +208,17 @@ pub fn select_pairs<'a, S: PairSource<'a>>(
     ensures ok { IfOk result (IsAnswer query.now (S.to_come pairs)) }
     ensures err { IfErr result (λ e. e ≡ Refusal.OutOfMemory) }
 {
-    let places = shown_places(alloc, query.items.as_slice())?;
+    let ordinals = shown_ordinals(alloc, query.items.as_slice())?;
     let kept = KeptPairs {
         condition: &query.filter,
         pairs,
         failed: false,
     };
-    shown_pairs(alloc, kept, query.order_by.as_slice(), query.limit, places)
+    shown_pairs(
+        alloc,
+        kept,
+        query.order_by.as_slice(),
+        query.limit,
+        ordinals,
+    )
 }

@@ -2,7 +2,7 @@
 //! different items, and each row is shown whole once it is asked for.
 ghost use Rattle.std.specs.Prelude.{◌≡◌, ℕ, ◌∷◌, ◌++◌, [], List, Some, None, IfOk, IfErr, IfSome, IfNone, OnOk, IsTrue, map, slice_get};
 ghost use Rattle.sql_tree.specs.declared.Item.{Item as I};
-ghost use Rattle.sql_eval.specs.Narrowing.{item_code, distinct_items, narrowed, whole_items, whole_places, ShowsAt};
+ghost use Rattle.sql_eval.specs.Narrowing.{item_code, distinct_items, narrowed, whole_items, whole_ordinals, ShowsAt};
 ghost use Rattle.sql_eval.specs.inner.Narrowings.{has_item, are_apart, IsSeen};
 
 use crate::groups::copy_item;
@@ -21,12 +21,12 @@ fn item_code(item: &Item<usize>) -> u128
     ensures { result ≡ item_code item.now }
 {
     match item {
-        Item::Column(place) => 6 * (*place as u128),
+        Item::Column(ordinal) => 6 * (*ordinal as u128),
         Item::CountRows => 1,
-        Item::Count(place) => 6 * (*place as u128) + 2,
-        Item::Sum(place) => 6 * (*place as u128) + 3,
-        Item::Min(place) => 6 * (*place as u128) + 4,
-        Item::Max(place) => 6 * (*place as u128) + 5,
+        Item::Count(ordinal) => 6 * (*ordinal as u128) + 2,
+        Item::Sum(ordinal) => 6 * (*ordinal as u128) + 3,
+        Item::Min(ordinal) => 6 * (*ordinal as u128) + 4,
+        Item::Max(ordinal) => 6 * (*ordinal as u128) + 5,
     }
 }
 
@@ -42,11 +42,11 @@ fn are_apart(items: &[Item<usize>]) -> bool
     ensures { result ≡ are_apart items.now }
 {
     let mut rest = items;
-    while let Some((item, behind)) = rest.split_first() {
-        if has_item(item, behind) {
+    while let Some((item, trailing)) = rest.split_first() {
+        if has_item(item, trailing) {
             return false;
         }
-        rest = behind;
+        rest = trailing;
     }
     true
 }
@@ -55,7 +55,7 @@ fn are_apart(items: &[Item<usize>]) -> bool
 #[derive(Drop)]
 struct Seen {
     items: Items<Item<usize>>,
-    places: Items<usize>,
+    ordinals: Items<usize>,
     by_code: BTreeMap<u128, usize>,
 }
 
@@ -67,12 +67,12 @@ impl Seen {
     {
         let code = item_code(item);
         match self.by_code.get(&code).copied() {
-            Some(place) => self.places.push(place)?,
+            Some(ordinal) => self.ordinals.push(ordinal)?,
             None => {
-                let place = self.items.len();
-                self.by_code.insert(code, place)?;
+                let ordinal = self.items.len();
+                self.by_code.insert(code, ordinal)?;
                 self.items.push(copy_item(item))?;
-                self.places.push(place)?;
+                self.ordinals.push(ordinal)?;
             }
         }
         Ok(())
@@ -85,7 +85,7 @@ impl Seen {
     {
         let mut seen = Seen {
             items: Items::new(alloc),
-            places: Items::new(alloc),
+            ordinals: Items::new(alloc),
             by_code: BTreeMap::new(alloc),
         };
         for item in items {
@@ -99,7 +99,7 @@ impl Seen {
 #[derive(Drop)]
 pub struct Whole {
     pub items: Items<Item<usize>>,
-    pub places: Items<usize>,
+    pub ordinals: Items<usize>,
 }
 
 /// The different items of a list, and where each of the list stands among them; `None` if all are different. Refuses only for want of
@@ -110,7 +110,7 @@ fn different(
 ) -> Result<Option<(Items<Item<usize>>, Items<usize>)>, Refusal>
     ensures all { IfOk result (λ r. IfNone r (distinct_items items.now ≡ items.now)) }
     ensures items { IfOk result (λ r. IfSome r (λ s. s.0 ≡ distinct_items items.now)) }
-    ensures places { IfOk result (λ r. IfSome r (λ s. map (slice_get s.0) s.1 ≡ map Some items.now)) }
+    ensures ordinals { IfOk result (λ r. IfSome r (λ s. map (slice_get s.0) s.1 ≡ map Some items.now)) }
     ensures err { IfErr result (λ e. e ≡ Refusal.OutOfMemory) }
 {
     if items.len() <= FEW && are_apart(items) {
@@ -120,15 +120,19 @@ fn different(
     if seen.items.len() == items.len() {
         return Ok(None);
     }
-    let Seen { items, places, .. } = seen;
-    Ok(Some((items, places)))
+    let Seen {
+        items,
+        ordinals,
+        ..
+    } = seen;
+    Ok(Some((items, ordinals)))
 }
 
 /// A query with these items in place of its own, and what it stands for with its own.
-fn showing(query: Query, items: Items<Item<usize>>, places: Items<usize>) -> (Query, Whole)
+fn showing(query: Query, items: Items<Item<usize>>, ordinals: Items<usize>) -> (Query, Whole)
     ensures query { result.0 ≡ record query { items = items } }
     ensures items { result.1.items ≡ query.items }
-    ensures places { result.1.places ≡ places }
+    ensures ordinals { result.1.ordinals ≡ ordinals }
 {
     let Query {
         table,
@@ -152,7 +156,7 @@ fn showing(query: Query, items: Items<Item<usize>>, places: Items<usize>) -> (Qu
     };
     let whole = Whole {
         items: whole,
-        places,
+        ordinals,
     };
     (narrow, whole)
 }
@@ -181,7 +185,7 @@ impl Model for Narrowed {
 impl Narrowed {
     // Promise: A query that shows items again and again is run with each of them once: of whatever that may answer over rows, the columns in the
     // places that are told are what the whole query may answer
-    // With: Narrowed::query, Narrowed::places, Narrowed::split, Narrowed::shown
+    // With: Narrowed::query, Narrowed::ordinals, Narrowed::split, Narrowed::shown
     /// The query that shows each item of this one once. Refuses only for want of memory.
     pub fn of(alloc: Global, query: Query) -> Result<Narrowed, Refusal>
         ensures ok { IfOk result (λ n. n ≡ query) }
@@ -189,8 +193,8 @@ impl Narrowed {
     {
         match different(alloc, query.items.as_slice())? {
             None => Ok(Narrowed { query, whole: None }),
-            Some((items, places)) => {
-                let (query, whole) = showing(query, items, places);
+            Some((items, ordinals)) => {
+                let (query, whole) = showing(query, items, ordinals);
                 Ok(Narrowed {
                     query,
                     whole: Some(whole),
@@ -208,13 +212,13 @@ impl Narrowed {
 
     /// Where the items of the whole query stand among those of the one that is run; `None` if they are the same. Refuses only for want of
     /// memory.
-    pub fn places(&self, alloc: Global) -> Result<Option<Items<usize>>, Refusal>
+    pub fn ordinals(&self, alloc: Global) -> Result<Option<Items<usize>>, Refusal>
         ensures ok { IfOk result (ShowsAt self.now) }
         ensures err { IfErr result (λ e. e ≡ Refusal.OutOfMemory) }
     {
         match &self.whole {
             None => Ok(None),
-            Some(whole) => Ok(Some(Items::from_slice(alloc, whole.places.as_slice())?)),
+            Some(whole) => Ok(Some(Items::from_slice(alloc, whole.ordinals.as_slice())?)),
         }
     }
 
@@ -222,7 +226,7 @@ impl Narrowed {
     pub fn split(self) -> (Query, Option<Whole>)
         ensures query { result.0 ≡ narrowed self }
         ensures items { whole_items result.1 result.0.items ≡ self.items }
-        ensures shows { ShowsAt self (whole_places result.1) }
+        ensures shows { ShowsAt self (whole_ordinals result.1) }
     {
         let Narrowed { query, whole } = self;
         (query, whole)

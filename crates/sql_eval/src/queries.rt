@@ -6,13 +6,13 @@ ghost use Rattle.vschema.specs.Checks.{is_aggregated};
 ghost use Rattle.operators.specs.Slices.{columns_of};
 ghost use Rattle.sql_eval.specs.Conditions.{is_kept};
 ghost use Rattle.sql_eval.specs.Groups.{CanBeSummed};
-ghost use Rattle.sql_eval.specs.Grouping.{shown_place, group_columns, group_order, IsSortedSlice};
+ghost use Rattle.sql_eval.specs.Grouping.{shown_ordinal, group_columns, group_order, IsSortedSlice};
 ghost use Rattle.sql_eval.specs.inner.Parts.{grouped_rows, is_count_rows, counted_row};
 ghost use Rattle.sql_eval.specs.inner.Fronts.{IsWithin};
 ghost use Rattle.sql_eval.specs.Queries.{IsAnswer};
 
 use crate::filters::Filter;
-use crate::groups::{Grouping, Parts, group_columns, group_order, shown_place};
+use crate::groups::{Grouping, Parts, group_columns, group_order, shown_ordinal};
 use crate::ordered::{ordered, ordered_front};
 use crate::source::{RowSource, SliceRows, kept_count, shown};
 use operators::{Limit, Project, Rows, collect, project_row, sort_rows};
@@ -22,25 +22,25 @@ use vschema::Query;
 use vt_value::{Items, Refusal, Row, Value};
 
 /// The columns that items show, by their places, 0 for an aggregate.
-pub fn shown_places(alloc: Global, items: &[Item<usize>]) -> Result<Items<usize>, Refusal>
-    ensures ok { IfOk result (λ places. places ≡ map shown_place items.now) }
+pub fn shown_ordinals(alloc: Global, items: &[Item<usize>]) -> Result<Items<usize>, Refusal>
+    ensures ok { IfOk result (λ ordinals. ordinals ≡ map shown_ordinal items.now) }
     ensures err { IfErr result (λ e. e ≡ Refusal.OutOfMemory) }
 {
-    let mut places = Items::new(alloc);
+    let mut ordinals = Items::new(alloc);
     for item in items {
-        places.push(shown_place(item))?;
+        ordinals.push(shown_ordinal(item))?;
     }
-    Ok(places)
+    Ok(ordinals)
 }
 
 /// The rows by the columns in these places, each copied.
-fn project_rows(alloc: Global, rows: &[Row], places: &[usize]) -> Result<Items<Row>, Refusal>
-    ensures ok { IfOk result (λ list. list ≡ map (columns_of places.now) rows.now) }
+fn project_rows(alloc: Global, rows: &[Row], ordinals: &[usize]) -> Result<Items<Row>, Refusal>
+    ensures ok { IfOk result (λ list. list ≡ map (columns_of ordinals.now) rows.now) }
     ensures err { IfErr result (λ e. e ≡ Refusal.OutOfMemory) }
 {
     let mut list = Items::new(alloc);
     for row in rows {
-        list.push(project_row(alloc, places, row)?)?;
+        list.push(project_row(alloc, ordinals, row)?)?;
     }
     Ok(list)
 }
@@ -51,19 +51,19 @@ pub fn show(
     alloc: Global,
     rows: Items<Row>,
     keys: &[Key<usize>],
-    limit: Option<sql_tree::Limit>,
-    places: Items<usize>,
+    limit: Option<sql_tree::LimitClause>,
+    ordinals: Items<usize>,
 ) -> Result<Items<Row>, Refusal>
-    ensures ok { IfOk result (IsSortedSlice keys.now limit places rows) }
+    ensures ok { IfOk result (IsSortedSlice keys.now limit ordinals rows) }
     ensures err { IfErr result (λ e. e ≡ Refusal.OutOfMemory) }
 {
     let sorted = sort_rows(alloc, rows, keys)?;
     // of many rows each goes once it is copied
     if limit.is_none() && sorted.len() < 2 {
-        return project_rows(alloc, sorted.as_slice(), places.as_slice());
+        return project_rows(alloc, sorted.as_slice(), ordinals.as_slice());
     }
     let limited = Limit::new(Rows::new(alloc, sorted)?, limit);
-    let mut shown = Project::new(limited, places);
+    let mut shown = Project::new(limited, ordinals);
     collect(alloc, &mut shown)
 }
 
@@ -71,7 +71,7 @@ pub fn show(
 const FRONT: u64 = 1_000;
 
 /// How many of the first rows a limit needs, if these are few.
-fn front_of(limit: Option<sql_tree::Limit>) -> Option<usize>
+fn front_of(limit: Option<sql_tree::LimitClause>) -> Option<usize>
     ensures { IfSome result (λ most. IsWithin most limit) }
 {
     match limit {
@@ -89,15 +89,15 @@ fn show_front<'a, S: RowSource<'a>>(
     condition: &Filter,
     rows: S,
     most: usize,
-    places: &[usize],
+    ordinals: &[usize],
 ) -> Result<Items<Row>, Refusal>
     requires { IsWithin most query.now.limit }
-    ensures ok { IfOk result (IsSortedSlice query.now.order_by query.now.limit places.now (filter (is_kept condition.now) (S.to_come rows))) }
+    ensures ok { IfOk result (IsSortedSlice query.now.order_by query.now.limit ordinals.now (filter (is_kept condition.now) (S.to_come rows))) }
     ensures err { IfErr result (λ e. e ≡ Refusal.OutOfMemory) }
 {
     let rows = ordered_front(alloc, condition, rows, query.order_by.as_slice(), most)?;
     let all = Filter::plain(&None);
-    shown(alloc, &all, rows, query.limit, places)
+    shown(alloc, &all, rows, query.limit, ordinals)
 }
 
 // What is shown of the rows.
@@ -106,14 +106,14 @@ fn show_ordered<'a, S: RowSource<'a>>(
     query: &Query,
     condition: &Filter,
     rows: S,
-    places: &[usize],
+    ordinals: &[usize],
 ) -> Result<Items<Row>, Refusal>
-    ensures ok { IfOk result (IsSortedSlice query.now.order_by query.now.limit places.now (filter (is_kept condition.now) (S.to_come rows))) }
+    ensures ok { IfOk result (IsSortedSlice query.now.order_by query.now.limit ordinals.now (filter (is_kept condition.now) (S.to_come rows))) }
     ensures err { IfErr result (λ e. e ≡ Refusal.OutOfMemory) }
 {
     let rows = ordered(alloc, condition, rows, query.order_by.as_slice())?;
     let all = Filter::plain(&None);
-    shown(alloc, &all, rows, query.limit, places)
+    shown(alloc, &all, rows, query.limit, ordinals)
 }
 
 // What a query without aggregates gives. Only what goes out is copied.
@@ -122,18 +122,18 @@ fn select_rows<'a, S: RowSource<'a>>(
     query: &'a Query,
     rows: S,
 ) -> Result<Items<Row>, Refusal>
-    ensures ok { IfOk result (IsSortedSlice query.now.order_by query.now.limit (map shown_place query.now.items) (filter (is_kept query.now.filter) (S.to_come rows))) }
+    ensures ok { IfOk result (IsSortedSlice query.now.order_by query.now.limit (map shown_ordinal query.now.items) (filter (is_kept query.now.filter) (S.to_come rows))) }
     ensures err { IfErr result (λ e. e ≡ Refusal.OutOfMemory) }
 {
-    let places = shown_places(alloc, query.items.as_slice())?;
-    let places = places.as_slice();
+    let ordinals = shown_ordinals(alloc, query.items.as_slice())?;
+    let ordinals = ordinals.as_slice();
     let filter = Filter::of(alloc, &query.filter)?;
     if query.order_by.as_slice().is_empty() {
-        return shown(alloc, &filter, rows, query.limit, places);
+        return shown(alloc, &filter, rows, query.limit, ordinals);
     }
     match front_of(query.limit) {
-        Some(most) => show_front(alloc, query, &filter, rows, most, places),
-        None => show_ordered(alloc, query, &filter, rows, places),
+        Some(most) => show_front(alloc, query, &filter, rows, most, ordinals),
+        None => show_ordered(alloc, query, &filter, rows, ordinals),
     }
 }
 
@@ -215,8 +215,8 @@ fn select_groups<'a, S: RowSource<'a>>(
 {
     let groups = grouped(alloc, query, rows)?;
     let keys = group_order(alloc, query)?;
-    let places = group_columns(alloc, query)?;
-    show(alloc, groups, keys.as_slice(), query.limit, places)
+    let ordinals = group_columns(alloc, query)?;
+    show(alloc, groups, keys.as_slice(), query.limit, ordinals)
 }
 
 // Promise: What a query gives over the rows that it is lent is one of its answers: rows, or a row for each group with exact aggregates, in

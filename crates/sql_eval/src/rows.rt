@@ -11,11 +11,11 @@ use vschema::Table;
 use vt_value::{Row, Value, sort_order};
 
 /// The value of a row at a place: `null`, which is NULL, after its last one.
-pub fn value_at<'a>(row: &'a Row, place: usize, null: &'a Value) -> &'a Value
+pub fn value_at<'a>(row: &'a Row, ordinal: usize, null: &'a Value) -> &'a Value
     requires { null.now ≡ Value.Null }
-    ensures { result.now ≡ value_at row.now place }
+    ensures { result.now ≡ value_at row.now ordinal }
 {
-    match row.as_slice().get(place) {
+    match row.as_slice().get(ordinal) {
         Some(value) => value,
         None => null,
     }
@@ -33,11 +33,11 @@ fn are_equal(a: &[Value], b: &[Value]) -> bool
     a.iter().zip(b).all(|(x, y)| equal(x, y))
 }
 
-fn same_at(a: &Row, b: &Row, place: usize) -> bool
-    ensures { result ≡ is_eq (value_cmp (value_at a.now place) (value_at b.now place)) }
+fn same_at(a: &Row, b: &Row, ordinal: usize) -> bool
+    ensures { result ≡ is_eq (value_cmp (value_at a.now ordinal) (value_at b.now ordinal)) }
 {
     let null = Value::Null;
-    equal(value_at(a, place, &null), value_at(b, place, &null))
+    equal(value_at(a, ordinal, &null), value_at(b, ordinal, &null))
 }
 
 /// Whether two rows have the same values. Takes no memory.
@@ -47,10 +47,10 @@ pub fn same_row(a: &Row, b: &Row) -> bool
     a.len() == b.len() && are_equal(a.as_slice(), b.as_slice())
 }
 
-fn same_at_each(a: &Row, b: &Row, places: &[usize]) -> bool
-    ensures { result ≡ list_all (λ n. is_eq (value_cmp (value_at a.now n) (value_at b.now n))) places.now }
+fn same_at_each(a: &Row, b: &Row, ordinals: &[usize]) -> bool
+    ensures { result ≡ list_all (λ n. is_eq (value_cmp (value_at a.now n) (value_at b.now n))) ordinals.now }
 {
-    places.iter().all(|place| same_at(a, b, *place))
+    ordinals.iter().all(|ordinal| same_at(a, b, *ordinal))
 }
 
 /// Whether two rows of a table have the same primary key. Takes no memory.

@@ -7,7 +7,7 @@ ghost use Rattle.sql_eval.specs.Conditions.{is_kept};
 use crate::conditions::keeps;
 use crate::filters::Filter;
 use operators::project_row;
-use sql_tree::{Condition, Limit};
+use sql_tree::{Condition, LimitClause};
 use std::alloc::Global;
 use std::marker::Model;
 use vt_value::{Items, Refusal, Row, copy_row};
@@ -151,10 +151,10 @@ fn first_shown<'a, S: RowSource<'a>>(
     alloc: Global,
     condition: &Filter,
     rows: &mut S,
-    places: &[usize],
+    ordinals: &[usize],
     count: u64,
 ) -> Result<Items<Row>, Refusal>
-    ensures ok { IfOk result (λ list. list ≡ map (columns_of places.now) (take count (filter (is_kept condition.now) (S.to_come rows.old)))) }
+    ensures ok { IfOk result (λ list. list ≡ map (columns_of ordinals.now) (take count (filter (is_kept condition.now) (S.to_come rows.old)))) }
     ensures rest { OnOk result (filter (is_kept condition.now) (S.to_come rows.new) ≡ drop count (filter (is_kept condition.now) (S.to_come rows.old))) }
     ensures err { IfErr result (λ e. e ≡ Refusal.OutOfMemory) }
 {
@@ -163,7 +163,7 @@ fn first_shown<'a, S: RowSource<'a>>(
         let Some(row) = next_passing(condition, rows) else {
             break;
         };
-        list.push(project_row(alloc, places, row)?)?;
+        list.push(project_row(alloc, ordinals, row)?)?;
     }
     Ok(list)
 }
@@ -173,14 +173,14 @@ fn all_shown<'a, S: RowSource<'a>>(
     alloc: Global,
     condition: &Filter,
     rows: &mut S,
-    places: &[usize],
+    ordinals: &[usize],
 ) -> Result<Items<Row>, Refusal>
-    ensures ok { IfOk result (λ list. list ≡ map (columns_of places.now) (filter (is_kept condition.now) (S.to_come rows.old))) }
+    ensures ok { IfOk result (λ list. list ≡ map (columns_of ordinals.now) (filter (is_kept condition.now) (S.to_come rows.old))) }
     ensures err { IfErr result (λ e. e ≡ Refusal.OutOfMemory) }
 {
     let mut list = Items::new(alloc);
     while let Some(row) = next_passing(condition, rows) {
-        list.push(project_row(alloc, places, row)?)?;
+        list.push(project_row(alloc, ordinals, row)?)?;
     }
     Ok(list)
 }
@@ -191,18 +191,18 @@ pub fn shown<'a, S: RowSource<'a>>(
     alloc: Global,
     condition: &Filter,
     rows: S,
-    limit: Option<Limit>,
-    places: &[usize],
+    limit: Option<LimitClause>,
+    ordinals: &[usize],
 ) -> Result<Items<Row>, Refusal>
-    ensures ok { IfOk result (λ list. list ≡ map (columns_of places.now) (sliced limit (filter (is_kept condition.now) (S.to_come rows)))) }
+    ensures ok { IfOk result (λ list. list ≡ map (columns_of ordinals.now) (sliced limit (filter (is_kept condition.now) (S.to_come rows)))) }
     ensures err { IfErr result (λ e. e ≡ Refusal.OutOfMemory) }
 {
     let mut rows = rows;
     match limit {
         Some(limit) => {
             pass_over(condition, &mut rows, limit.offset);
-            first_shown(alloc, condition, &mut rows, places, limit.count)
+            first_shown(alloc, condition, &mut rows, ordinals, limit.count)
         }
-        None => all_shown(alloc, condition, &mut rows, places),
+        None => all_shown(alloc, condition, &mut rows, ordinals),
     }
 }

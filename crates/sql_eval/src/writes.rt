@@ -12,31 +12,31 @@ use std::alloc::Global;
 use vschema::{RowChange, Table, Write};
 use vt_value::{Items, Refusal, Row, copy, copy_row};
 
-fn added(alloc: Global, place: usize, new: &[Row]) -> Result<Items<RowChange>, Refusal>
-    ensures ok { IfOk result (λ changes. changes ≡ map (Added place) new.now) }
+fn added(alloc: Global, ordinal: usize, new: &[Row]) -> Result<Items<RowChange>, Refusal>
+    ensures ok { IfOk result (λ changes. changes ≡ map (Added ordinal) new.now) }
     ensures err { IfErr result (λ e. e ≡ Refusal.OutOfMemory) }
 {
     let mut changes = Items::from_vec(Vec::with_capacity(alloc, new.len())?);
     for row in new {
-        changes.push(RowChange::Added(place, copy_row(alloc, row)?))?;
+        changes.push(RowChange::Added(ordinal, copy_row(alloc, row)?))?;
     }
     Ok(changes)
 }
 
 fn removed(
     alloc: Global,
-    place: usize,
+    ordinal: usize,
     condition: &Option<Condition<usize>>,
     rows: &[Row],
 ) -> Result<Items<RowChange>, Refusal>
-    ensures ok { IfOk result (λ changes. changes ≡ map (Removed place) (filter (is_kept condition.now) rows.now)) }
+    ensures ok { IfOk result (λ changes. changes ≡ map (Removed ordinal) (filter (is_kept condition.now) rows.now)) }
     ensures err { IfErr result (λ e. e ≡ Refusal.OutOfMemory) }
 {
     let filter = Filter::of(alloc, condition)?;
     let mut changes = Items::new(alloc);
     for row in rows {
         if filter.keeps(row) {
-            changes.push(RowChange::Removed(place, copy_row(alloc, row)?))?;
+            changes.push(RowChange::Removed(ordinal, copy_row(alloc, row)?))?;
         }
     }
     Ok(changes)
@@ -57,12 +57,12 @@ fn assigned(alloc: Global, assignments: &[Assignment<usize>], row: &Row) -> Resu
 
 fn row_update(
     alloc: Global,
-    place: usize,
+    ordinal: usize,
     assignments: &[Assignment<usize>],
     filter: &Filter,
     row: &Row,
 ) -> Result<Option<RowChange>, Refusal>
-    ensures ok { IfOk result (λ change. option_to_list change ≡ row_updates place assignments.now filter.now row.now) }
+    ensures ok { IfOk result (λ change. option_to_list change ≡ row_updates ordinal assignments.now filter.now row.now) }
     ensures err { IfErr result (λ e. e ≡ Refusal.OutOfMemory) }
 {
     if !filter.keeps(row) {
@@ -72,23 +72,23 @@ fn row_update(
     if same_row(row, &new) {
         return Ok(None);
     }
-    Ok(Some(RowChange::Replaced(place, copy_row(alloc, row)?, new)))
+    Ok(Some(RowChange::Replaced(ordinal, copy_row(alloc, row)?, new)))
 }
 
 fn updated(
     alloc: Global,
-    place: usize,
+    ordinal: usize,
     assignments: &[Assignment<usize>],
     condition: &Option<Condition<usize>>,
     rows: &[Row],
 ) -> Result<Items<RowChange>, Refusal>
-    ensures ok { IfOk result (λ changes. changes ≡ flat_map (row_updates place assignments.now condition.now) rows.now) }
+    ensures ok { IfOk result (λ changes. changes ≡ flat_map (row_updates ordinal assignments.now condition.now) rows.now) }
     ensures err { IfErr result (λ e. e ≡ Refusal.OutOfMemory) }
 {
     let filter = Filter::of(alloc, condition)?;
     let mut changes = Items::new(alloc);
     for row in rows {
-        if let Some(change) = row_update(alloc, place, assignments, &filter, row)? {
+        if let Some(change) = row_update(alloc, ordinal, assignments, &filter, row)? {
             changes.push(change)?;
         }
     }
@@ -110,16 +110,16 @@ pub fn change_local(
     ensures err { IfErr result (λ e. (e ≡ Refusal.OutOfMemory) ⊎ (changes_over table.now write.now rows.now ≡ Err e)) }
 {
     match write {
-        Write::Insert(place, new) => {
+        Write::Insert(ordinal, new) => {
             let has = has_duplicate(alloc, table, rows, new.as_slice())?;
             if has {
                 return Err(Refusal::DuplicateKey);
             }
-            added(alloc, *place, new.as_slice())
+            added(alloc, *ordinal, new.as_slice())
         }
-        Write::Update(place, assignments, condition) => {
-            updated(alloc, *place, assignments.as_slice(), condition, rows)
+        Write::Update(ordinal, assignments, condition) => {
+            updated(alloc, *ordinal, assignments.as_slice(), condition, rows)
         }
-        Write::Delete(place, condition) => removed(alloc, *place, condition, rows),
+        Write::Delete(ordinal, condition) => removed(alloc, *ordinal, condition, rows),
     }
 }

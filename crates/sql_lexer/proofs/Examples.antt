@@ -35,8 +35,8 @@ large : said_by Number (codes "18446744073709551615") ≡ number 184467440737095
 large = refl
 
 -- a number right before a letter is no token
-letter_behind : goes_on Number 0x78 ≡ true
-letter_behind = refl
+letter_after : goes_on Number 0x78 ≡ true
+letter_after = refl
 
 abbrev token : TokenKind → ℕ → ℕ → Token
 token kind start end = record { kind = kind; start = start; end = end }

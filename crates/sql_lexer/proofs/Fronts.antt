@@ -6,7 +6,7 @@ use Rattle.std.proofs.lemmas.List.{length-append, take-append-drop, length-take}
 use Rattle.std.proofs.Math.Seq.{take-append_seam, drop-append_seam}
 use Rattle.vt_value.specs.declared.value.Comparison.{Comparison}
 use Rattle.vt_value.specs.declared.value.Comparison.TheVariants.{Eq, Ne, Lt, Le, Gt, Ge}
-use Rattle.sql_lexer.specs.declared.body.Place.TheVariants.{Inside}
+use Rattle.sql_lexer.specs.declared.body.TextState.TheVariants.{Inside}
 use Rattle.sql_lexer.specs.declared.token.Keyword as K
 use Rattle.sql_lexer.specs.declared.token.Sign as S
 use Rattle.sql_lexer.specs.declared.token.Sign.TheVariants.{LeftParenthesis, RightParenthesis, Comma, Semicolon, Star, Minus, Dot}
@@ -146,17 +146,17 @@ quoted_sound (b ∷ bs) x e =
     let short : leb (suc (run is_word_byte bs)) max_word ≡ true = subst (λ (m : ℕ). leb m max_word ≡ true) more q.1 in
     let quote : first_passes (λ c. eqb c 0x60) (drop (run is_word_byte bs) bs) ≡ true =
     subst (λ (m : ℕ). first_passes (λ c. eqb c 0x60) (drop m (b ∷ bs)) ≡ true) more p.1 in
-    let behind = begins_with 0x60 (drop (run is_word_byte bs) bs) quote in
+    let trailing = begins_with 0x60 (drop (run is_word_byte bs) bs) quote in
     let word = take (run is_word_byte bs) bs in
-    let parts : bs ≡ (word ++ 0x60 ∷ []) ++ behind.0 =
-    sym (take-append-drop (run is_word_byte bs) bs) ∙ ap (λ (cs : List ℕ). word ++ cs) behind.1 ∙ sym (append_assoc word (0x60 ∷ []) behind.0) in
+    let parts : bs ≡ (word ++ 0x60 ∷ []) ++ trailing.0 =
+    sym (take-append-drop (run is_word_byte bs) bs) ∙ ap (λ (cs : List ℕ). word ++ cs) trailing.1 ∙ sym (append_assoc word (0x60 ∷ []) trailing.0) in
     subst (Found (0x60 ∷ b ∷ bs)) g.1 (record {
       front = 0x60 ∷ (b ∷ word) ++ 0x60 ∷ [];
-      rest = behind.0;
+      rest = trailing.0;
       parts = ap (λ (cs : List ℕ). 0x60 ∷ b ∷ cs) parts;
       size = let within = run_within is_word_byte bs in omega (arith, more, length-take (run is_word_byte bs) bs, length-append word (0x60 ∷ []));
       spells = s.quoted (b ∷ word) (run_is_word b bs q.0 short);
-      ended = ends_quoted behind.0;
+      ended = ends_quoted trailing.0;
     })
 
 text_sound : (bs : List ℕ) (x : Front) → string_at bs ≡ Some x → Found (0x27 ∷ bs) x
@@ -413,8 +413,8 @@ digits_again : (b : ℕ) (bs rest : List ℕ) → is_digit b ≡ true → list_a
     → token_at ((b ∷ bs) ++ rest) ≡ Some (Number, length (b ∷ bs))
 digits_again b bs rest h hs stop =
     let passes : list_all is_digit (b ∷ bs) ≡ true = rw (h, hs) refl in
-    let behind : first_passes is_word_byte (drop (length (b ∷ bs)) ((b ∷ bs) ++ rest)) ≡ false = rw (drop-append_seam (b ∷ bs) rest) stop in
-    front_number b (bs ++ rest) h ∙ number_read ((b ∷ bs) ++ rest) (length (b ∷ bs)) (run_exact is_digit (b ∷ bs) passes rest (no_digit rest stop)) behind
+    let trailing : first_passes is_word_byte (drop (length (b ∷ bs)) ((b ∷ bs) ++ rest)) ≡ false = rw (drop-append_seam (b ∷ bs) rest) stop in
+    front_number b (bs ++ rest) h ∙ number_read ((b ∷ bs) ++ rest) (length (b ∷ bs)) (run_exact is_digit (b ∷ bs) passes rest (no_digit rest stop)) trailing
 
 less_again : (rest : List ℕ) → ends_token (Operator Lt) rest ≡ true → less_at rest ≡ Some (Lt, 1)
 less_again [] h = refl

@@ -3,7 +3,7 @@ use Rattle.std.proofs.Common.{◌≡◌, ℕ, ◌+◌, ◌≤◌, true, List, []
 use Rattle.std.specs.List.{list_all}
 use Rattle.std.proofs.lemmas.List.{length-append}
 use Rattle.vt_value.specs.declared.value.Comparison.TheVariants.{Eq, Ne, Lt, Le, Gt, Ge}
-use Rattle.sql_lexer.specs.declared.body.Place.TheVariants.{Inside}
+use Rattle.sql_lexer.specs.declared.body.TextState.TheVariants.{Inside}
 use Rattle.sql_lexer.specs.declared.token.TokenKind.{TokenKind}
 use Rattle.sql_lexer.specs.declared.token.TokenKind.TheVariants.{Quoted, Number, Text, Sign, Operator}
 use Rattle.sql_lexer.specs.Lexemes.{is_letter, is_digit, is_word_byte, is_word, max_word, IsBody, Spells, ends_token}

@@ -15,8 +15,8 @@ use Rattle.sql_lexer.proofs.Fronts.{Found, token_sound, token_again, starts}
 abbrev pub token_of : ℕ → Front → Token
 token_of at x = record { kind = x.0; start = at; end = at + x.1 }
 
-pub behind_front : (bs : List ℕ) (x : Front) (f : Found bs x) → drop x.1 bs ≡ f.rest
-behind_front bs x f = rw (f.size) (subst (λ (cs : List ℕ). drop (length f.front) cs ≡ f.rest) (sym f.parts) (drop-append_seam f.front f.rest))
+pub past_front : (bs : List ℕ) (x : Front) (f : Found bs x) → drop x.1 bs ≡ f.rest
+past_front bs x f = rw (f.size) (subst (λ (cs : List ℕ). drop (length f.front) cs ≡ f.rest) (sym f.parts) (drop-append_seam f.front f.rest))
 
 -- a token has a byte, and stands within the text
 pub token_within : (bs : List ℕ) (x : Front) → token_at bs ≡ Some x → (0 < x.1) × (x.1 ≤ length bs)
@@ -47,7 +47,7 @@ lex_sound (suc n) at (b ∷ bs) tokens le e = go (is_blank b) refl e (lex_sound 
         let shorter : length (drop a.0.1 (b ∷ bs)) ≤ n = omega (arith, within.0, within.1, length-drop a.0.1 (b ∷ bs)) in
         let later : LexesFrom (at + a.0.1) (drop a.0.1 (b ∷ bs)) d.0 = rec (at + a.0.1) (drop a.0.1 (b ∷ bs)) d.0 shorter d.1 in
         let there : LexesFrom (at + length f.front) f.rest d.0 =
-        subst (λ (cs : List ℕ). LexesFrom (at + length f.front) cs d.0) (behind_front (b ∷ bs) a.0 f) (subst (λ (m : ℕ). LexesFrom (at + m) (drop a.0.1 (b ∷ bs)) d.0) f.size later) in
+        subst (λ (cs : List ℕ). LexesFrom (at + length f.front) cs d.0) (past_front (b ∷ bs) a.0 f) (subst (λ (m : ℕ). LexesFrom (at + m) (drop a.0.1 (b ∷ bs)) d.0) f.size later) in
         let r : LexesFrom at (f.front ++ f.rest) (record { kind = a.0.0; start = at; end = at + length f.front } ∷ d.0) = t.token f.spells f.ended there in
         let whole : LexesFrom at (b ∷ bs) (token_of at a.0 ∷ d.0) =
         subst (λ (m : ℕ). LexesFrom at (b ∷ bs) (record { kind = a.0.0; start = at; end = at + m } ∷ d.0)) (sym f.size)
@@ -84,10 +84,10 @@ lex_again (t.token {at} {bytes} {rest} {kind} {tokens} spelled end r) (suc n) le
     let st = starts bytes kind spelled in
     let some = ap length st.is in
     let tail : lex_at n (at + length bytes) rest ≡ Some tokens = lex_again r n (omega (arith, some, length-append bytes rest)) in
-    let behind : lex_at n (at + length bytes) (drop (length bytes) (bytes ++ rest)) ≡ Some tokens =
+    let trailing : lex_at n (at + length bytes) (drop (length bytes) (bytes ++ rest)) ≡ Some tokens =
     subst (λ (cs : List ℕ). lex_at n (at + length bytes) cs ≡ Some tokens) (sym (drop-append_seam bytes rest)) tail in
     let whole : bytes ++ rest ≡ st.first ∷ st.others ++ rest = ap (λ (cs : List ℕ). cs ++ rest) st.is in
     let read = token_again bytes kind spelled rest end in
     subst (λ (cs : List ℕ). lex_at (suc n) at cs ≡ Some (record { kind = kind; start = at; end = at + length bytes } ∷ tokens)) (sym whole)
     (one_token n at st.first (st.others ++ rest) (kind, length bytes) tokens st.plain (subst (λ (cs : List ℕ). token_at cs ≡ Some (kind, length bytes)) whole read)
-    (subst (λ (cs : List ℕ). lex_at n (at + length bytes) (drop (length bytes) cs) ≡ Some tokens) whole behind))
+    (subst (λ (cs : List ℕ). lex_at n (at + length bytes) (drop (length bytes) cs) ≡ Some tokens) whole trailing))

@@ -1,15 +1,15 @@
 -- Texts in single quotes: a text is read up to the quote that closes it.
 use Rattle.std.proofs.Common.{◌≡◌, ℕ, ◌+◌, ◌≤◌, Bool, true, false, cond, eqb, not, List, [], ◌∷◌, ◌++◌, length, Some, None, refl, sym, ap, subst, ◌∙◌, arith}
 use Rattle.std.proofs.lemmas.Bool.{eqb-true}
-use Rattle.sql_lexer.specs.declared.body.Place.{Place}
-use Rattle.sql_lexer.specs.declared.body.Place.TheVariants.{Inside, BehindQuote, BehindBackslash}
+use Rattle.sql_lexer.specs.declared.body.TextState.{TextState}
+use Rattle.sql_lexer.specs.declared.body.TextState.TheVariants.{Inside, AfterQuote, AfterBackslash}
 use Rattle.sql_lexer.specs.declared.token.TokenKind.TheVariants.{Text}
 use Rattle.sql_lexer.specs.Lexemes.{IsBody, ends_token}
 use Rattle.sql_lexer.specs.Lexemes as s
 use Rattle.sql_lexer.specs.inner.Scanning.{text_len}
 
 -- the step of a text by each place
-inside_quote : (n : ℕ) (bs : List ℕ) → text_len n Inside (0x27 ∷ bs) ≡ text_len (n + 1) BehindQuote bs
+inside_quote : (n : ℕ) (bs : List ℕ) → text_len n Inside (0x27 ∷ bs) ≡ text_len (n + 1) AfterQuote bs
 unfolding text_len
 inside_quote n bs = refl
 
@@ -22,20 +22,20 @@ unfolding text_len
 inside_plain n b bs p q = go (eqb b 0x27) p (eqb b 0x5C) q
   where
     go : (x : Bool) → x ≡ false → (y : Bool) → y ≡ false
-        → (elim (cond x (Some BehindQuote) (cond y (Some BehindBackslash) (Some Inside))) [ Some next ↦ text_len (n + 1) next bs | None ↦ Some n ])
+        → (elim (cond x (Some AfterQuote) (cond y (Some AfterBackslash) (Some Inside))) [ Some next ↦ text_len (n + 1) next bs | None ↦ Some n ])
         ≡ text_len (n + 1) Inside bs
     go true p y q = absurd cc
     go false p true q = absurd cc
     go false p false q = refl
 
-behind_pair : (n : ℕ) (bs : List ℕ) → text_len n BehindQuote (0x27 ∷ bs) ≡ text_len (n + 1) Inside bs
+after_pair : (n : ℕ) (bs : List ℕ) → text_len n AfterQuote (0x27 ∷ bs) ≡ text_len (n + 1) Inside bs
 unfolding text_len
-behind_pair n bs = refl
+after_pair n bs = refl
 
-behind_end : (n : ℕ) (rest : List ℕ) → ends_token Text rest ≡ true → text_len n BehindQuote rest ≡ Some n
+after_end : (n : ℕ) (rest : List ℕ) → ends_token Text rest ≡ true → text_len n AfterQuote rest ≡ Some n
 unfolding text_len
-behind_end n [] h = refl
-behind_end n (b ∷ rest) h = go (eqb b 0x27) h
+after_end n [] h = refl
+after_end n (b ∷ rest) h = go (eqb b 0x27) h
   where
     go : (q : Bool) → not q ≡ true → (elim (cond q (Some Inside) None) [ Some next ↦ text_len (n + 1) next rest | None ↦ Some n ]) ≡ Some n
     go true h = absurd cc
@@ -47,19 +47,19 @@ through s.done n bs = ap (λ m. text_len m Inside bs) (omega arith)
 through (s.plain {b} {bytes} no_quote no_backslash r) n bs =
     inside_plain n b (bytes ++ bs) no_quote no_backslash ∙ through r (n + 1) bs ∙ ap (λ m. text_len m Inside bs) (omega arith)
 through (s.quotes {bytes} r) n bs =
-    inside_quote n (0x27 ∷ bytes ++ bs) ∙ behind_pair (n + 1) (bytes ++ bs) ∙ through r (n + 1 + 1) bs ∙ ap (λ m. text_len m Inside bs) (omega arith)
+    inside_quote n (0x27 ∷ bytes ++ bs) ∙ after_pair (n + 1) (bytes ++ bs) ∙ through r (n + 1 + 1) bs ∙ ap (λ m. text_len m Inside bs) (omega arith)
 through (s.escape {b} {bytes} r) n bs =
     inside_backslash n b (bytes ++ bs) ∙ through r (n + 1 + 1) bs ∙ ap (λ m. text_len m Inside bs) (omega arith)
 
 pub closes : {raw : List ℕ} → IsBody raw → (rest : List ℕ) → ends_token Text rest ≡ true → text_len 0 Inside (raw ++ 0x27 ∷ rest) ≡ Some (length raw + 1)
 closes {raw} r rest h =
-    through r 0 (0x27 ∷ rest) ∙ inside_quote (0 + length raw) rest ∙ behind_end (0 + length raw + 1) rest h ∙ ap (λ (m : ℕ). Some m) (omega arith)
+    through r 0 (0x27 ∷ rest) ∙ inside_quote (0 + length raw) rest ∙ after_end (0 + length raw + 1) rest h ∙ ap (λ (m : ℕ). Some m) (omega arith)
 
 -- what a place has after it
-abbrev before : Place → List ℕ
+abbrev before : TextState → List ℕ
 before Inside = []
-before BehindQuote = 0x27 ∷ []
-before BehindBackslash = 0x5C ∷ []
+before AfterQuote = 0x27 ∷ []
+before AfterBackslash = 0x5C ∷ []
 
 -- a text whose first quote stands before n bytes, and these ones
 pub record Closed (bs : List ℕ) (n : ℕ) : Type 0 where
@@ -71,7 +71,7 @@ pub record Closed (bs : List ℕ) (n : ℕ) : Type 0 where
   pub ended : ends_token Text rest ≡ true
 
 -- n bytes were read before what a place has after it
-abbrev Reached : Place → List ℕ → ℕ → ℕ → Type 0
+abbrev Reached : TextState → List ℕ → ℕ → ℕ → Type 0
 Reached place bs n m = (k : ℕ) × (m ≡ n + k) × Closed (before place ++ bs) k
 
 -- one byte or two more inside
@@ -90,7 +90,7 @@ one_more b n m bs no_quote no_backslash r =
       },
     )
 
-pair_more : (n m : ℕ) (bs : List ℕ) → Reached Inside bs (n + 2) m → Reached BehindQuote (0x27 ∷ bs) n m
+pair_more : (n m : ℕ) (bs : List ℕ) → Reached Inside bs (n + 2) m → Reached AfterQuote (0x27 ∷ bs) n m
 pair_more n m bs r =
     let c = r.2 in (
       r.0 + 2,
@@ -105,7 +105,7 @@ pair_more n m bs r =
       },
     )
 
-escape_more : (b n m : ℕ) (bs : List ℕ) → Reached Inside bs (n + 2) m → Reached BehindBackslash (b ∷ bs) n m
+escape_more : (b n m : ℕ) (bs : List ℕ) → Reached Inside bs (n + 2) m → Reached AfterBackslash (b ∷ bs) n m
 escape_more b n m bs r =
     let c = r.2 in (
       r.0 + 2,
@@ -120,32 +120,32 @@ escape_more b n m bs r =
       },
     )
 
-recount : (i j : ℕ) (place : Place) (bs : List ℕ) (m : ℕ) → i ≡ j → text_len i place bs ≡ Some m → text_len j place bs ≡ Some m
+recount : (i j : ℕ) (place : TextState) (bs : List ℕ) (m : ℕ) → i ≡ j → text_len i place bs ≡ Some m → text_len j place bs ≡ Some m
 recount i j place bs m e r = subst (λ (x : ℕ). text_len x place bs ≡ Some m) e r
 
-pub text_sound : (bs : List ℕ) (n : ℕ) (place : Place) (m : ℕ) → text_len (n + length (before place)) place bs ≡ Some m → Reached place bs n m
+pub text_sound : (bs : List ℕ) (n : ℕ) (place : TextState) (m : ℕ) → text_len (n + length (before place)) place bs ≡ Some m → Reached place bs n m
 unfolding text_len
 text_sound [] n Inside m e = absurd cc
-text_sound [] n BehindQuote m e = let is : n + 1 ≡ m = cc in (1, sym is, record { raw = []; rest = []; parts = refl; size = refl; body = s.done; ended = refl })
-text_sound [] n BehindBackslash m e = absurd cc
+text_sound [] n AfterQuote m e = let is : n + 1 ≡ m = cc in (1, sym is, record { raw = []; rest = []; parts = refl; size = refl; body = s.done; ended = refl })
+text_sound [] n AfterBackslash m e = absurd cc
 text_sound (b ∷ bs) n Inside m e = go (eqb b 0x27) refl (eqb b 0x5C) refl e (text_sound bs)
   where
     go : (q : Bool) → eqb b 0x27 ≡ q → (l : Bool) → eqb b 0x5C ≡ l
-        → (elim (cond q (Some BehindQuote) (cond l (Some BehindBackslash) (Some Inside))) [ Some next ↦ text_len (n + 0 + 1) next bs | None ↦ Some (n + 0) ]) ≡ Some m
-        → ((n : ℕ) (place : Place) (m : ℕ) → text_len (n + length (before place)) place bs ≡ Some m → Reached place bs n m)
+        → (elim (cond q (Some AfterQuote) (cond l (Some AfterBackslash) (Some Inside))) [ Some next ↦ text_len (n + 0 + 1) next bs | None ↦ Some (n + 0) ]) ≡ Some m
+        → ((n : ℕ) (place : TextState) (m : ℕ) → text_len (n + length (before place)) place bs ≡ Some m → Reached place bs n m)
         → Reached Inside (b ∷ bs) n m
     go true is l _ e rec = subst (λ (x : ℕ). Reached Inside (x ∷ bs) n m) (sym (eqb-true b 0x27 is))
-        (rec n BehindQuote m (recount (n + 0 + 1) (n + 1) BehindQuote bs m (omega arith) e))
+        (rec n AfterQuote m (recount (n + 0 + 1) (n + 1) AfterQuote bs m (omega arith) e))
     go false _ true is e rec = subst (λ (x : ℕ). Reached Inside (x ∷ bs) n m) (sym (eqb-true b 0x5C is))
-        (rec n BehindBackslash m (recount (n + 0 + 1) (n + 1) BehindBackslash bs m (omega arith) e))
+        (rec n AfterBackslash m (recount (n + 0 + 1) (n + 1) AfterBackslash bs m (omega arith) e))
     go false no_quote false no_backslash e rec =
         one_more b n m bs no_quote no_backslash (rec (n + 1) Inside m (recount (n + 0 + 1) (n + 1 + 0) Inside bs m (omega arith) e))
-text_sound (b ∷ bs) n BehindQuote m e = go (eqb b 0x27) refl e (text_sound bs)
+text_sound (b ∷ bs) n AfterQuote m e = go (eqb b 0x27) refl e (text_sound bs)
   where
     go : (q : Bool) → eqb b 0x27 ≡ q → (elim (cond q (Some Inside) None) [ Some next ↦ text_len (n + 1 + 1) next bs | None ↦ Some (n + 1) ]) ≡ Some m
-        → ((n : ℕ) (place : Place) (m : ℕ) → text_len (n + length (before place)) place bs ≡ Some m → Reached place bs n m)
-        → Reached BehindQuote (b ∷ bs) n m
-    go true is e rec = subst (λ (x : ℕ). Reached BehindQuote (x ∷ bs) n m) (sym (eqb-true b 0x27 is))
+        → ((n : ℕ) (place : TextState) (m : ℕ) → text_len (n + length (before place)) place bs ≡ Some m → Reached place bs n m)
+        → Reached AfterQuote (b ∷ bs) n m
+    go true is e rec = subst (λ (x : ℕ). Reached AfterQuote (x ∷ bs) n m) (sym (eqb-true b 0x27 is))
         (pair_more n m bs (rec (n + 2) Inside m (recount (n + 1 + 1) (n + 2 + 0) Inside bs m (omega arith) e)))
     go false is e rec = let same : n + 1 ≡ m = cc in (
       1,
@@ -159,7 +159,7 @@ text_sound (b ∷ bs) n BehindQuote m e = go (eqb b 0x27) refl e (text_sound bs)
         ended = rw is refl;
       },
     )
-text_sound (b ∷ bs) n BehindBackslash m e = escape_more b n m bs (text_sound bs (n + 2) Inside m (recount (n + 1 + 1) (n + 2 + 0) Inside bs m (omega arith) e))
+text_sound (b ∷ bs) n AfterBackslash m e = escape_more b n m bs (text_sound bs (n + 2) Inside m (recount (n + 1 + 1) (n + 2 + 0) Inside bs m (omega arith) e))
 
 -- what is read after a first quote
 pub text_closed : (bs : List ℕ) (n : ℕ) → text_len 0 Inside bs ≡ Some n → Closed bs n
@@ -171,7 +171,7 @@ text_closed bs n e =
 -- a text is at least as long as one that closes there
 pub text_at_least : {raw : List ℕ} → IsBody raw → (back : List ℕ) (m : ℕ) → text_len 0 Inside (raw ++ 0x27 ∷ back) ≡ Some m → length raw + 1 ≤ m
 text_at_least {raw} r back m e =
-    let at_quote : text_len (0 + length raw + 1) BehindQuote back ≡ Some m = sym (through r 0 (0x27 ∷ back) ∙ inside_quote (0 + length raw) back) ∙ e in
-    let far = text_sound back (length raw) BehindQuote m (recount (0 + length raw + 1) (length raw + 1) BehindQuote back m (omega arith) at_quote) in
+    let at_quote : text_len (0 + length raw + 1) AfterQuote back ≡ Some m = sym (through r 0 (0x27 ∷ back) ∙ inside_quote (0 + length raw) back) ∙ e in
+    let far = text_sound back (length raw) AfterQuote m (recount (0 + length raw + 1) (length raw + 1) AfterQuote back m (omega arith) at_quote) in
     let size = far.2.size in
     omega (arith, far.1, size)

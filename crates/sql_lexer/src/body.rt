@@ -1,27 +1,27 @@
 //! Where a text in single quotes ends.
 ghost use Rattle.std.specs.Prelude.{◌≡◌, ◌≤◌, length, IfSome};
-ghost use Rattle.sql_lexer.specs.declared.body.Place.TheVariants.{Inside};
+ghost use Rattle.sql_lexer.specs.declared.body.TextState.TheVariants.{Inside};
 ghost use Rattle.sql_lexer.specs.inner.Scanning.{after_byte, text_len};
 
 /// A place in a text in single quotes.
 #[derive(Clone, Copy, Debug, PartialEq, Eq)]
-pub enum Place {
+pub enum TextState {
     Inside,
     /// After a quote, which closes the text or is the first of a pair.
-    BehindQuote,
+    AfterQuote,
     /// After a backslash, which escapes the next byte.
-    BehindBackslash,
+    AfterBackslash,
 }
 
 /// The place after a byte, unless the text ended before it.
-fn after_byte(place: Place, byte: u8) -> Option<Place>
-    ensures { result ≡ after_byte place byte }
+fn after_byte(state: TextState, byte: u8) -> Option<TextState>
+    ensures { result ≡ after_byte state byte }
 {
-    match place {
-        Place::Inside if byte == b'\'' => Some(Place::BehindQuote),
-        Place::Inside if byte == b'\\' => Some(Place::BehindBackslash),
-        Place::BehindQuote if byte != b'\'' => None,
-        _ => Some(Place::Inside),
+    match state {
+        TextState::Inside if byte == b'\'' => Some(TextState::AfterQuote),
+        TextState::Inside if byte == b'\\' => Some(TextState::AfterBackslash),
+        TextState::AfterQuote if byte != b'\'' => None,
+        _ => Some(TextState::Inside),
     }
 }
 
@@ -31,14 +31,14 @@ pub fn text_len(bytes: &[u8]) -> Option<usize>
     ensures value { result ≡ text_len 0 Inside bytes.now }
     ensures within { IfSome result (λ n. n ≤ length bytes.now) }
 {
-    let mut place = Place::Inside;
+    let mut state = TextState::Inside;
     for (count, byte) in bytes.iter().enumerate() {
-        let Some(next) = after_byte(place, *byte) else {
+        let Some(next) = after_byte(state, *byte) else {
             return Some(count);
         };
-        place = next;
+        state = next;
     }
-    if place == Place::BehindQuote {
+    if state == TextState::AfterQuote {
         Some(bytes.len())
     } else {
         None

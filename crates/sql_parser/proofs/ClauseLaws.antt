@@ -15,7 +15,7 @@ use Rattle.sql_tree.specs.declared.Item.TheVariants as shown
 use Rattle.sql_tree.specs.declared.SelectList.{SelectList}
 use Rattle.sql_tree.specs.declared.SelectList.TheVariants.{All, Items}
 use Rattle.sql_tree.specs.declared.Key.{Key}
-use Rattle.sql_tree.specs.declared.Limit.{Limit}
+use Rattle.sql_tree.specs.declared.LimitClause.{LimitClause}
 use Rattle.sql_tree.specs.Literals.{Name}
 use Rattle.sql_parser.specs.Grammar.{Lexemes, Listed, Optional, call, max_depth, ReadsColumn, ReadsItem, ReadsList, ReadsJoin, ReadsWhere, ReadsGroup, ReadsKey, ReadsOrder, ReadsLimit}
 use Rattle.sql_parser.specs.Grammar as g
@@ -25,7 +25,7 @@ use Rattle.sql_parser.proofs.Again.{listed_again}
 use Rattle.sql_parser.proofs.LiteralLaws.{NoDot, name_is, number_is, number_again, open_is, close_is, column_sound, column_again}
 use Rattle.sql_parser.proofs.ConditionsSound.{or_sound}
 use Rattle.sql_parser.proofs.ConditionsAgain.{or_again}
-use Rattle.sql_parser.proofs.Behind.{Behind, no_comma, no_and, no_or, no_dot, no_join, no_where, no_group, no_order, no_limit, no_direction, no_offset}
+use Rattle.sql_parser.proofs.AfterClause.{AfterClause, no_comma, no_and, no_or, no_dot, no_join, no_where, no_group, no_order, no_limit, no_direction, no_offset}
 
 -- ---- what is read is in the grammar
 
@@ -121,11 +121,11 @@ record Joins (ts : Lexemes) (x : JoinOn × Lexemes) : Type 0 where
 joined_on_sound : (ts : Lexemes) (x : JoinOn × Lexemes) → joined_on_at ts ≡ Some x → Joins ts x
 unfolding joined_on_at
 joined_on_sound ts x e =
-    bound _ _ _ e (λ table p e1. bound _ _ _ e1 (λ rest q e2. bound _ _ _ e2 (λ left r e3. bound _ _ _ e3 (λ behind s e4.
+    bound _ _ _ e (λ table p e1. bound _ _ _ e1 (λ rest q e2. bound _ _ _ e2 (λ left r e3. bound _ _ _ e3 (λ trailing s e4.
     bound _ _ _ e4 (λ right t e5.
     let a = column_sound rest left r in
-    let b = column_sound behind right t in
-    let tail : left.1 ≡ (operator Eq ∷ b.front) ++ right.1 = equals_is left.1 behind s ∙ ap (λ (us : Lexemes). operator Eq ∷ us) b.parts in
+    let b = column_sound trailing right t in
+    let tail : left.1 ≡ (operator Eq ∷ b.front) ++ right.1 = equals_is left.1 trailing s ∙ ap (λ (us : Lexemes). operator Eq ∷ us) b.parts in
     let columns = glue rest a.front left.1 (operator Eq ∷ b.front) right.1 a.parts tail in
     let on = on_is table.1 rest q ∙ ap (λ (us : Lexemes). keyword k.On ∷ us) columns in
     subst (Joins ts) (some_is _ x e5) (record {
@@ -227,7 +227,7 @@ offset_sound n lt (keyword k.Offset ∷ ts) x e =
     }
 offset_sound n lt ts x e = subst (Offset n ts) (some_is (0, ts) x e) (record { front = []; parts = refl; reads = g.limit n lt })
 
-pub limit_sound : (ts : Lexemes) (x : Option Limit × Lexemes) → limit_at ts ≡ Some x → Front (Optional ReadsLimit) ts x
+pub limit_sound : (ts : Lexemes) (x : Option LimitClause × Lexemes) → limit_at ts ≡ Some x → Front (Optional ReadsLimit) ts x
 unfolding limit_at
 limit_sound (keyword k.Limit ∷ ts) x e =
     bound _ _ _ e (λ count p e1. bound _ _ _ e1 (λ offset q e2.
@@ -288,7 +288,7 @@ unfolding joined_on_at name_at on_at equals_at
 joined_on_again table ts us left right r s rest none =
     rw (append_assoc ts (operator Eq ∷ us) rest, column_again ts left r (operator Eq ∷ us ++ rest) refl, column_again us right s rest none) refl
 
-pub join_again : (us : Lexemes) (x : Option JoinOn) → Optional ReadsJoin us x → (rest : Lexemes) → Behind 0 rest → join_at (us ++ rest) ≡ Some (x, rest)
+pub join_again : (us : Lexemes) (x : Option JoinOn) → Optional ReadsJoin us x → (rest : Lexemes) → AfterClause 0 rest → join_at (us ++ rest) ≡ Some (x, rest)
 unfolding join_at
 join_again _ _ g.absent rest b = no_join rest b
 join_again _ _ (g.present (g.join {table} {ts} {us} {left} {right} r s)) rest b =
@@ -296,12 +296,12 @@ join_again _ _ (g.present (g.join {table} {ts} {us} {left} {right} r s)) rest b 
 join_again _ _ (g.present (g.inner_join {table} {ts} {us} {left} {right} r s)) rest b =
     rw (joined_on_again table ts us left right r s rest (no_dot rest b)) refl
 
-pub where_again : (us : Lexemes) (x : Option (Condition ColumnName)) → Optional ReadsWhere us x → (rest : Lexemes) → Behind 1 rest → where_at (us ++ rest) ≡ Some (x, rest)
+pub where_again : (us : Lexemes) (x : Option (Condition ColumnName)) → Optional ReadsWhere us x → (rest : Lexemes) → AfterClause 1 rest → where_at (us ++ rest) ≡ Some (x, rest)
 unfolding where_at
 where_again _ _ g.absent rest b = no_where rest b
 where_again _ _ (g.present (g.filter {ts} {x} r)) rest b = rw (or_again max_depth ts x r rest (no_and rest b, no_dot rest b) (no_or rest b)) refl
 
-pub group_again : (us : Lexemes) (x : List ColumnName) → ReadsGroup us x → (rest : Lexemes) → Behind 2 rest → group_at (us ++ rest) ≡ Some (x, rest)
+pub group_again : (us : Lexemes) (x : List ColumnName) → ReadsGroup us x → (rest : Lexemes) → AfterClause 2 rest → group_at (us ++ rest) ≡ Some (x, rest)
 unfolding group_at
 group_again _ _ g.without rest b = no_group rest b
 group_again _ _ (g.clause {ts} {xs} r) rest b = listed_again column_at ReadsColumn NoDot (λ ts. refl) column_again ts xs r rest (no_dot rest b) (no_comma rest b)
@@ -322,13 +322,13 @@ comma_ends : (ts : Lexemes) → EndsKey (sign Comma ∷ ts)
 unfolding direction_at
 comma_ends ts = (refl, refl)
 
-pub order_again : (us : Lexemes) (x : List (Key ColumnName)) → ReadsOrder us x → (rest : Lexemes) → Behind 3 rest → order_at (us ++ rest) ≡ Some (x, rest)
+pub order_again : (us : Lexemes) (x : List (Key ColumnName)) → ReadsOrder us x → (rest : Lexemes) → AfterClause 3 rest → order_at (us ++ rest) ≡ Some (x, rest)
 unfolding order_at
 order_again _ _ g.without rest b = no_order rest b
 order_again _ _ (g.clause {ts} {xs} r) rest b =
     listed_again sort_key_at ReadsKey EndsKey comma_ends key_again ts xs r rest (no_direction rest b, no_dot rest b) (no_comma rest b)
 
-pub limit_again : (us : Lexemes) (x : Option Limit) → Optional ReadsLimit us x → (rest : Lexemes) → Behind 4 rest → limit_at (us ++ rest) ≡ Some (x, rest)
+pub limit_again : (us : Lexemes) (x : Option LimitClause) → Optional ReadsLimit us x → (rest : Lexemes) → AfterClause 4 rest → limit_at (us ++ rest) ≡ Some (x, rest)
 unfolding limit_at offset_at
 limit_again _ _ g.absent rest b = no_limit rest b
 limit_again _ _ (g.present (g.limit n lt)) rest b = rw (number_again n lt rest, no_offset rest b) refl

@@ -56,12 +56,12 @@ module _ (sep : Lexeme → Bool) (word : Lexeme) (only : (t : Lexeme) → sep t 
 -- ---- what comes after an operand
 
 -- Whatever tokens the operand has, they and these are read as the condition.
-abbrev Behind : (Lexemes → Condition ColumnName → Type 0) → Operand ColumnName → Lexemes → Condition ColumnName → Type 0
-Behind Reads left us x = (ls : Lexemes) → ReadsOperand ls left → Reads (ls ++ us) x
+abbrev AfterClause : (Lexemes → Condition ColumnName → Type 0) → Operand ColumnName → Lexemes → Condition ColumnName → Type 0
+AfterClause Reads left us x = (ls : Lexemes) → ReadsOperand ls left → Reads (ls ++ us) x
 
 -- the same after an IS
-abbrev BehindIs : (Lexemes → Condition ColumnName → Type 0) → Operand ColumnName → Lexemes → Condition ColumnName → Type 0
-BehindIs Reads left us x = (ls : Lexemes) → ReadsOperand ls left → Reads (ls ++ keyword k.Is ∷ us) x
+abbrev AfterIs : (Lexemes → Condition ColumnName → Type 0) → Operand ColumnName → Lexemes → Condition ColumnName → Type 0
+AfterIs Reads left us x = (ls : Lexemes) → ReadsOperand ls left → Reads (ls ++ keyword k.Is ∷ us) x
 
 module _ (Deeper : Lexemes → Condition ColumnName → Type 0) where
   -- what a predicate reads where a NOT may stand, and where not
@@ -73,12 +73,12 @@ module _ (Deeper : Lexemes → Condition ColumnName → Type 0) where
   lift false r = r
   lift true r = g.test r
 
-  in_sound : (may : Bool) (left : Operand ColumnName) (ts : Lexemes) (x : Condition ColumnName × Lexemes) → in_at left ts ≡ Some x → Front (Behind (Predicate may) left) ts x
+  in_sound : (may : Bool) (left : Operand ColumnName) (ts : Lexemes) (x : Condition ColumnName × Lexemes) → in_at left ts ≡ Some x → Front (AfterClause (Predicate may) left) ts x
   unfolding in_at
   in_sound may left (keyword k.In ∷ ts) x e =
       bound _ _ _ e (λ ms p e1.
       let f = members_sound ts ms p in
-      subst (Front (Behind (Predicate may) left) (keyword k.In ∷ ts)) (some_is _ x e1) (record {
+      subst (Front (AfterClause (Predicate may) left) (keyword k.In ∷ ts)) (some_is _ x e1) (record {
         front = keyword k.In ∷ f.front;
         parts = ap (λ (us : Lexemes). keyword k.In ∷ us) f.parts;
         reads = λ ls r. lift may (g.in_list r f.reads);
@@ -86,13 +86,13 @@ module _ (Deeper : Lexemes → Condition ColumnName → Type 0) where
   in_sound may left _ x e = absurd cc
 
   not_in_sound : (left : Operand ColumnName) (ts : Lexemes) (x : Condition ColumnName × Lexemes) → (in_at left ts >>= λ y. Some (c.Not y.0, y.1)) ≡ Some x
-      → Front (Behind (NotOf Deeper) left) (keyword k.Not ∷ ts) x
+      → Front (AfterClause (NotOf Deeper) left) (keyword k.Not ∷ ts) x
   unfolding in_at
   not_in_sound left (keyword k.In ∷ ts) x e =
       bound _ _ _ e (λ y q e2. bound _ _ _ q (λ ms p e1.
       let f = members_sound ts ms p in
       let same = ap (λ (z : Condition ColumnName × Lexemes). (c.Not z.0, z.1)) (some_is _ y e1) ∙ some_is _ x e2 in
-      subst (Front (Behind (NotOf Deeper) left) (keyword k.Not ∷ keyword k.In ∷ ts)) same (record {
+      subst (Front (AfterClause (NotOf Deeper) left) (keyword k.Not ∷ keyword k.In ∷ ts)) same (record {
         front = keyword k.Not ∷ keyword k.In ∷ f.front;
         parts = ap (λ (us : Lexemes). keyword k.Not ∷ keyword k.In ∷ us) f.parts;
         reads = λ ls r. g.not_in r f.reads;
@@ -100,42 +100,42 @@ module _ (Deeper : Lexemes → Condition ColumnName → Type 0) where
   not_in_sound left _ x e = absurd cc
 
   null_sound : (may : Bool) (left : Operand ColumnName) (ts : Lexemes) (x : Condition ColumnName × Lexemes) → null_at left ts ≡ Some x
-      → Front (BehindIs (Predicate may) left) ts x
+      → Front (AfterIs (Predicate may) left) ts x
   unfolding null_at
   null_sound may left (keyword k.Null ∷ ts) x e =
-      subst (Front (BehindIs (Predicate may) left) (keyword k.Null ∷ ts)) (some_is (c.IsNull left, ts) x e)
+      subst (Front (AfterIs (Predicate may) left) (keyword k.Null ∷ ts)) (some_is (c.IsNull left, ts) x e)
       (record { front = keyword k.Null ∷ []; parts = refl; reads = λ ls r. lift may (g.is_null r) })
   null_sound may left _ x e = absurd cc
 
   is_sound : (may : Bool) (left : Operand ColumnName) (ts : Lexemes) (x : Condition ColumnName × Lexemes) → is_at may left ts ≡ Some x
-      → Front (BehindIs (Predicate may) left) ts x
+      → Front (AfterIs (Predicate may) left) ts x
   unfolding is_at null_at
   is_sound true left (keyword k.Not ∷ keyword k.Null ∷ ts) x e =
-      subst (Front (BehindIs (NotOf Deeper) left) (keyword k.Not ∷ keyword k.Null ∷ ts)) (some_is (c.Not (c.IsNull left), ts) x e)
+      subst (Front (AfterIs (NotOf Deeper) left) (keyword k.Not ∷ keyword k.Null ∷ ts)) (some_is (c.Not (c.IsNull left), ts) x e)
       (record { front = keyword k.Not ∷ keyword k.Null ∷ []; parts = refl; reads = λ ls r. g.is_not_null r })
   is_sound true left (keyword k.Not ∷ _) x e = absurd cc
   is_sound may left ts x e = null_sound may left ts x e
 
-  behind_is : (may : Bool) (left : Operand ColumnName) (ts : Lexemes) (x : Condition ColumnName × Lexemes) → Front (BehindIs (Predicate may) left) ts x
-      → Front (Behind (Predicate may) left) (keyword k.Is ∷ ts) x
-  behind_is may left ts x f = record { front = keyword k.Is ∷ f.front; parts = ap (λ (us : Lexemes). keyword k.Is ∷ us) f.parts; reads = f.reads }
+  past_is : (may : Bool) (left : Operand ColumnName) (ts : Lexemes) (x : Condition ColumnName × Lexemes) → Front (AfterIs (Predicate may) left) ts x
+      → Front (AfterClause (Predicate may) left) (keyword k.Is ∷ ts) x
+  past_is may left ts x f = record { front = keyword k.Is ∷ f.front; parts = ap (λ (us : Lexemes). keyword k.Is ∷ us) f.parts; reads = f.reads }
 
   compare_sound : (may : Bool) (left : Operand ColumnName) (op : _) (ts : Lexemes) (x : Condition ColumnName × Lexemes)
-      → (operand_at ts >>= λ right. Some (c.Compare op left right.0, right.1)) ≡ Some x → Front (Behind (Predicate may) left) (operator op ∷ ts) x
+      → (operand_at ts >>= λ right. Some (c.Compare op left right.0, right.1)) ≡ Some x → Front (AfterClause (Predicate may) left) (operator op ∷ ts) x
   compare_sound may left op ts x e =
       bound _ _ _ e (λ right p e1.
       let f = operand_sound ts right p in
-      subst (Front (Behind (Predicate may) left) (operator op ∷ ts)) (some_is _ x e1) (record {
+      subst (Front (AfterClause (Predicate may) left) (operator op ∷ ts)) (some_is _ x e1) (record {
         front = operator op ∷ f.front;
         parts = ap (λ (us : Lexemes). operator op ∷ us) f.parts;
         reads = λ ls r. lift may (g.compare r f.reads);
       }))
 
   test_sound : (may : Bool) (left : Operand ColumnName) (ts : Lexemes) (x : Condition ColumnName × Lexemes) → test_at may left ts ≡ Some x
-      → Front (Behind (Predicate may) left) ts x
+      → Front (AfterClause (Predicate may) left) ts x
   unfolding test_at
   test_sound may left (operator op ∷ ts) x e = compare_sound may left op ts x e
-  test_sound may left (keyword k.Is ∷ ts) x e = behind_is may left ts x (is_sound may left ts x e)
+  test_sound may left (keyword k.Is ∷ ts) x e = past_is may left ts x (is_sound may left ts x e)
   test_sound true left (keyword k.Not ∷ ts) x e = not_in_sound left ts x e
   test_sound may left ts x e = in_sound may left ts x e
 

@@ -16,7 +16,7 @@ use Rattle.sql_tree.specs.declared.Operand.TheVariants.{Column, Literal}
 use Rattle.sql_tree.specs.Literals.{Name}
 use Rattle.sql_parser.specs.Grammar.{Lexemes, Listed, Bracketed, ReadsName, ReadsColumn, ReadsLiteral, ReadsOperand}
 use Rattle.sql_parser.specs.Grammar as g
-use Rattle.sql_parser.specs.inner.Reading.{Read, after_at, listed_at, name_at, is_dot, behind_name_at, column_at, number_at, close_at, open_at, natural_at, negative_at, literal_at, operand_at, bracketed_at, members_at}
+use Rattle.sql_parser.specs.inner.Reading.{Read, after_at, listed_at, name_at, is_dot, after_name_at, column_at, number_at, close_at, open_at, natural_at, negative_at, literal_at, operand_at, bracketed_at, members_at}
 use Rattle.sql_parser.proofs.Digits.{fits, fitting_is}
 use Rattle.sql_parser.proofs.Sound.{Front, glue, listed_sound}
 use Rattle.sql_parser.proofs.Again.{listed_again}
@@ -85,30 +85,30 @@ literal_operand ts x e =
     subst (Front ReadsOperand ts) (some_is _ x e1) (record { front = f.front; parts = f.parts; reads = g.literal f.reads }))
 
 -- a name, and after a dot the one that it qualifies
-pub behind_name_sound : (bytes : Name) (ts : Lexemes) (x : ColumnName × Lexemes) → behind_name_at bytes ts ≡ Some x → Front ReadsColumn (identifier bytes ∷ ts) x
-unfolding behind_name_at
-behind_name_sound bytes (sign Dot ∷ ts) x e =
+pub after_name_sound : (bytes : Name) (ts : Lexemes) (x : ColumnName × Lexemes) → after_name_at bytes ts ≡ Some x → Front ReadsColumn (identifier bytes ∷ ts) x
+unfolding after_name_at
+after_name_sound bytes (sign Dot ∷ ts) x e =
     bound _ _ _ e (λ name p e1.
     subst (Front ReadsColumn (identifier bytes ∷ sign Dot ∷ ts)) (some_is _ x e1) (record {
       front = identifier bytes ∷ sign Dot ∷ identifier name.0 ∷ [];
       parts = ap (λ (us : Lexemes). identifier bytes ∷ sign Dot ∷ us) (name_is ts name p);
       reads = g.qualified bytes name.0;
     }))
-behind_name_sound bytes ts x e =
+after_name_sound bytes ts x e =
     subst (Front ReadsColumn (identifier bytes ∷ ts)) (some_is _ x e) (record { front = identifier bytes ∷ []; parts = refl; reads = g.bare bytes })
 
 pub column_sound : (ts : Lexemes) (x : ColumnName × Lexemes) → column_at ts ≡ Some x → Front ReadsColumn ts x
 unfolding column_at
 column_sound ts x e =
     bound _ _ _ e (λ name p e1.
-    let f = behind_name_sound name.0 name.1 x e1 in
+    let f = after_name_sound name.0 name.1 x e1 in
     record { front = f.front; parts = name_is ts name p ∙ f.parts; reads = f.reads })
 
-column_operand : (bytes : Name) (ts : Lexemes) (x : Operand ColumnName × Lexemes) → (behind_name_at bytes ts >>= λ c. Some (Column c.0, c.1)) ≡ Some x
+column_operand : (bytes : Name) (ts : Lexemes) (x : Operand ColumnName × Lexemes) → (after_name_at bytes ts >>= λ c. Some (Column c.0, c.1)) ≡ Some x
     → Front ReadsOperand (identifier bytes ∷ ts) x
 column_operand bytes ts x e =
     bound _ _ _ e (λ c p e1.
-    let f = behind_name_sound bytes ts c p in
+    let f = after_name_sound bytes ts c p in
     subst (Front ReadsOperand (identifier bytes ∷ ts)) (some_is _ x e1) (record { front = f.front; parts = f.parts; reads = g.column f.reads }))
 
 pub operand_sound : (ts : Lexemes) (x : Operand ColumnName × Lexemes) → operand_at ts ≡ Some x → Front ReadsOperand ts x
@@ -165,25 +165,25 @@ literal_again _ _ (g.string bytes) rest = refl
 abbrev pub NoDot : Lexemes → Type 0
 NoDot rest = after_at is_dot rest ≡ None
 
-pub behind_name_again : (bytes : Name) (rest : Lexemes) → NoDot rest → behind_name_at bytes rest ≡ Some (record { table = None; name = bytes }, rest)
-unfolding behind_name_at
-behind_name_again bytes [] none = refl
-behind_name_again bytes (sign Dot ∷ rest) none = absurd cc
-behind_name_again bytes (t ∷ rest) none = refl
+pub after_name_again : (bytes : Name) (rest : Lexemes) → NoDot rest → after_name_at bytes rest ≡ Some (record { table = None; name = bytes }, rest)
+unfolding after_name_at
+after_name_again bytes [] none = refl
+after_name_again bytes (sign Dot ∷ rest) none = absurd cc
+after_name_again bytes (t ∷ rest) none = refl
 
 qualified_again : (table bytes : Name) (rest : Lexemes)
-    → behind_name_at table (sign Dot ∷ identifier bytes ∷ rest) ≡ Some (record { table = Some table; name = bytes }, rest)
-unfolding behind_name_at name_at
+    → after_name_at table (sign Dot ∷ identifier bytes ∷ rest) ≡ Some (record { table = Some table; name = bytes }, rest)
+unfolding after_name_at name_at
 qualified_again table bytes rest = refl
 
 pub column_again : (ts : Lexemes) (x : ColumnName) → ReadsColumn ts x → (rest : Lexemes) → NoDot rest → column_at (ts ++ rest) ≡ Some (x, rest)
 unfolding column_at name_at
-column_again _ _ (g.bare bytes) rest none = behind_name_again bytes rest none
+column_again _ _ (g.bare bytes) rest none = after_name_again bytes rest none
 column_again _ _ (g.qualified table bytes) rest none = qualified_again table bytes rest
 
 pub operand_again : (ts : Lexemes) (x : Operand ColumnName) → ReadsOperand ts x → (rest : Lexemes) → NoDot rest → operand_at (ts ++ rest) ≡ Some (x, rest)
 unfolding operand_at
-operand_again _ _ (g.column (g.bare bytes)) rest none = rw (behind_name_again bytes rest none) refl
+operand_again _ _ (g.column (g.bare bytes)) rest none = rw (after_name_again bytes rest none) refl
 operand_again _ _ (g.column (g.qualified table bytes)) rest none = rw (qualified_again table bytes rest) refl
 operand_again _ _ (g.literal g.null) rest none = rw (literal_again _ _ g.null rest) refl
 operand_again _ _ (g.literal (g.natural n lt)) rest none = rw (literal_again _ _ (g.natural n lt) rest) refl

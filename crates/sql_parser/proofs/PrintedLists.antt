@@ -38,8 +38,8 @@ pub words_join : (ts us : Lexemes) → Words ts → Words us → Words (ts ++ us
 words_join [] us v w = w
 words_join (t ∷ ts) us v w = let p = and_parts (is_named t) (list_all is_named ts) v in rw (p.0, words_join ts us p.1 w) refl
 
-pub words_behind : (t : Lexeme) (ts : Lexemes) → Words (t ∷ ts) → Words ts
-words_behind t ts w = (and_parts (is_named t) (list_all is_named ts) w).1
+pub words_after : (t : Lexeme) (ts : Lexemes) → Words (t ∷ ts) → Words ts
+words_after t ts w = (and_parts (is_named t) (list_all is_named ts) w).1
 
 -- ---- what is printed, and what its tokens say
 
@@ -110,7 +110,7 @@ module _ {A : Type 0} (sep : Lexeme) (between : List ℕ) (joint : Joint between
   pub follows_prints : (ts : Lexemes) (xs : List A) → Follows sep Item ts xs → Words ts → AsMore sep Out (following between (map print xs)) xs
   follows_prints _ _ g.end w = record { says = []; reads = g.end; part = λ rest ms b r. r; breaks = λ rest b. b }
   follows_prints _ _ (g.item {ts} {us} {x} {xs} r s) w =
-      let q = words_parts ts us (words_behind sep (ts ++ us) w) in
+      let q = words_parts ts us (words_after sep (ts ++ us) w) in
       let a = prints ts x r q.0 in
       let f = follows_prints us xs s q.1 in
       let more = following between (map print xs) in

@@ -23,7 +23,7 @@ use Rattle.sql_tree.specs.declared.Item.{Item}
 use Rattle.sql_tree.specs.declared.Item.TheVariants as shown
 use Rattle.sql_tree.specs.declared.SelectList.{SelectList}
 use Rattle.sql_tree.specs.declared.Key.{Key}
-use Rattle.sql_tree.specs.declared.Limit.{Limit}
+use Rattle.sql_tree.specs.declared.LimitClause.{LimitClause}
 use Rattle.sql_tree.specs.declared.Assignment.{Assignment}
 use Rattle.sql_tree.specs.declared.CharacterSet.{CharacterSet}
 use Rattle.sql_tree.specs.declared.Select as S
@@ -218,7 +218,7 @@ offset_prints n m lt lt2 = go (eqb m 0) refl
       breaks = λ rest b. at_blank;
     }
 
-limit_prints : (ts : Lexemes) (x : Option Limit) → Optional ReadsLimit ts x → AsTail (Optional ReadsLimit) (limit_text x) x
+limit_prints : (ts : Lexemes) (x : Option LimitClause) → Optional ReadsLimit ts x → AsTail (Optional ReadsLimit) (limit_text x) x
 limit_prints _ _ g.absent = record { says = []; reads = g.absent; part = λ rest ms b r. r; breaks = λ rest b. b }
 limit_prints _ _ (g.present (g.limit n lt)) = offset_prints n 0 lt (omega arith)
 limit_prints _ _ (g.present (g.offset n m lt lt2)) = offset_prints n m lt lt2

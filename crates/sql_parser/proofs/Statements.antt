@@ -22,7 +22,7 @@ use Rattle.sql_parser.proofs.Sound.{Front, glue}
 use Rattle.sql_parser.proofs.ClauseLaws.{list_sound, from_is, equals_is, join_sound, where_sound, group_sound, order_sound, limit_sound, list_again, join_again, where_again, group_again, order_again, limit_again}
 use Rattle.sql_parser.proofs.LiteralLaws.{name_is}
 use Rattle.sql_parser.proofs.WriteLaws.{insert_sound, update_sound, delete_sound, insert_again, update_again, delete_again}
-use Rattle.sql_parser.proofs.Behind.{Behind, earlier, end, semicolon, where_behind, group_behind, order_behind, limit_behind}
+use Rattle.sql_parser.proofs.AfterClause.{AfterClause, earlier, end, semicolon, where_after, group_after, order_after, limit_after}
 
 -- ---- what is read is in the grammar
 
@@ -41,11 +41,11 @@ select_sound ts x e =
     let b = glue filter.1 groups.front group.1 (orders.front ++ limits.front) limit.1 groups.parts a in
     let c = glue join.1 filters.front filter.1 (groups.front ++ (orders.front ++ limits.front)) limit.1 filters.parts b in
     let d = glue table.1 joins.front join.1 (filters.front ++ (groups.front ++ (orders.front ++ limits.front))) limit.1 joins.parts c in
-    let behind = keyword k.From ∷ identifier table.0 ∷ joins.front ++ (filters.front ++ (groups.front ++ (orders.front ++ limits.front))) in
-    let tail : list.1 ≡ behind ++ limit.1 = from_is list.1 table q ∙ ap (λ (us : Lexemes). keyword k.From ∷ identifier table.0 ∷ us) d in
-    let parts = glue ts f.front list.1 behind limit.1 f.parts tail in
+    let trailing = keyword k.From ∷ identifier table.0 ∷ joins.front ++ (filters.front ++ (groups.front ++ (orders.front ++ limits.front))) in
+    let tail : list.1 ≡ trailing ++ limit.1 = from_is list.1 table q ∙ ap (λ (us : Lexemes). keyword k.From ∷ identifier table.0 ∷ us) d in
+    let parts = glue ts f.front list.1 trailing limit.1 f.parts tail in
     subst (Front ReadsSelect (keyword k.Select ∷ ts)) (some_is _ x e7) (record {
-      front = keyword k.Select ∷ f.front ++ behind;
+      front = keyword k.Select ∷ f.front ++ trailing;
       parts = ap (λ (us : Lexemes). keyword k.Select ∷ us) parts;
       reads = g.select f.reads joins.reads filters.reads groups.reads orders.reads limits.reads;
     }))))))))
@@ -71,8 +71,8 @@ setting_sound ts x e =
     bound _ _ _ e (λ name p e1. bound _ _ _ e1 (λ rest q e2. bound _ _ _ e2 (λ set r e3.
     let named = where_passed (is_setting name.0) (equals_at name.1) rest q in
     let f = charset_sound rest set r in
-    let behind : name.1 ≡ operator Eq ∷ f.front ++ set.1 = equals_is name.1 rest named.1 ∙ ap (λ (us : Lexemes). operator Eq ∷ us) f.parts in
-    let parts = name_is ts name p ∙ ap (λ (us : Lexemes). identifier name.0 ∷ us) behind in
+    let trailing : name.1 ≡ operator Eq ∷ f.front ++ set.1 = equals_is name.1 rest named.1 ∙ ap (λ (us : Lexemes). operator Eq ∷ us) f.parts in
+    let parts = name_is ts name p ∙ ap (λ (us : Lexemes). identifier name.0 ∷ us) trailing in
     subst (Front ReadsStatement (keyword k.Set ∷ ts)) (some_is _ x e3) (record {
       front = keyword k.Set ∷ identifier name.0 ∷ operator Eq ∷ f.front;
       parts = ap (λ (us : Lexemes). keyword k.Set ∷ us) parts;
@@ -145,19 +145,19 @@ text_sound ts x e =
 
 -- ---- what is in the grammar is read
 
-select_again : (ts : Lexemes) (x : S.Select) → ReadsSelect ts x → (rest : Lexemes) → Behind 4 rest
+select_again : (ts : Lexemes) (x : S.Select) → ReadsSelect ts x → (rest : Lexemes) → AfterClause 4 rest
     → (us : Lexemes) × (ts ++ rest ≡ keyword k.Select ∷ us) × (select_at us ≡ Some (x, rest))
 unfolding select_at from_at name_at
 select_again _ _ (g.select {list_tokens} {join_tokens} {filter_tokens} {group_tokens} {order_tokens} {limit_tokens} {list} {table} {join} {filter} {group_by} {order_by} {limit} p j q r s t) rest b =
-    let b3 = limit_behind limit_tokens limit t rest b in
-    let b2 = order_behind order_tokens order_by s (limit_tokens ++ rest) b3 in
-    let b1 = group_behind group_tokens group_by r (order_tokens ++ (limit_tokens ++ rest)) b2 in
-    let b0 = where_behind filter_tokens filter q (group_tokens ++ (order_tokens ++ (limit_tokens ++ rest))) b1 in
-    let behind : Lexemes = join_tokens ++ (filter_tokens ++ (group_tokens ++ (order_tokens ++ (limit_tokens ++ rest)))) in (
-      list_tokens ++ keyword k.From ∷ identifier table ∷ behind,
+    let b3 = limit_after limit_tokens limit t rest b in
+    let b2 = order_after order_tokens order_by s (limit_tokens ++ rest) b3 in
+    let b1 = group_after group_tokens group_by r (order_tokens ++ (limit_tokens ++ rest)) b2 in
+    let b0 = where_after filter_tokens filter q (group_tokens ++ (order_tokens ++ (limit_tokens ++ rest))) b1 in
+    let trailing : Lexemes = join_tokens ++ (filter_tokens ++ (group_tokens ++ (order_tokens ++ (limit_tokens ++ rest)))) in (
+      list_tokens ++ keyword k.From ∷ identifier table ∷ trailing,
       simp append_assoc,
       rw (
-        list_again list_tokens list p (keyword k.From ∷ identifier table ∷ behind) refl refl,
+        list_again list_tokens list p (keyword k.From ∷ identifier table ∷ trailing) refl refl,
         join_again join_tokens join j _ b0,
         where_again filter_tokens filter q _ b1,
         group_again group_tokens group_by r _ b2,
@@ -171,7 +171,7 @@ unfolding charset_at
 charset_again _ _ (g.by_identifier bytes) rest = refl
 charset_again _ _ (g.by_text bytes) rest = refl
 
-statement_again : (ts : Lexemes) (x : Statement) → ReadsStatement ts x → (rest : Lexemes) → Behind 4 rest → statement_at (ts ++ rest) ≡ Some (x, rest)
+statement_again : (ts : Lexemes) (x : Statement) → ReadsStatement ts x → (rest : Lexemes) → AfterClause 4 rest → statement_at (ts ++ rest) ≡ Some (x, rest)
 unfolding statement_at control_at setting_at name_at equals_at
 statement_again _ _ (g.select_is {ts} {s} r) rest b = let m = select_again ts s r rest b in rw (m.1, m.2) refl
 statement_again _ _ (g.insert_is {ts} {s} r) rest b = let m = insert_again ts s r rest (earlier 4 0 (omega arith) rest b) in rw (m.1, m.2) refl

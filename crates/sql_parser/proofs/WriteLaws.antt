@@ -17,7 +17,7 @@ use Rattle.sql_parser.proofs.Sound.{Front, glue, listed_sound}
 use Rattle.sql_parser.proofs.Again.{listed_again}
 use Rattle.sql_parser.proofs.LiteralLaws.{name_is, name_sound, name_again, literal_sound, literal_again, bracketed_sound, bracketed_again, members_sound, members_again}
 use Rattle.sql_parser.proofs.ClauseLaws.{from_is, equals_is, where_sound, where_again}
-use Rattle.sql_parser.proofs.Behind.{Behind, no_comma, where_behind}
+use Rattle.sql_parser.proofs.AfterClause.{AfterClause, no_comma, where_after}
 
 -- ---- what is read is in the grammar
 
@@ -47,8 +47,8 @@ insert_sound ts x e =
     let f = columns_sound table.1 columns q in
     let h = listed_sound members_at (Bracketed ReadsLiteral) members_sound values rows s in
     let tail : columns.1 ≡ (keyword k.Values ∷ h.front) ++ rows.1 = values_is columns.1 values r ∙ ap (λ (us : Lexemes). keyword k.Values ∷ us) h.parts in
-    let behind = glue table.1 f.front columns.1 (keyword k.Values ∷ h.front) rows.1 f.parts tail in
-    let parts = name_is ts table p ∙ ap (λ (us : Lexemes). identifier table.0 ∷ us) behind in
+    let trailing = glue table.1 f.front columns.1 (keyword k.Values ∷ h.front) rows.1 f.parts tail in
+    let parts = name_is ts table p ∙ ap (λ (us : Lexemes). identifier table.0 ∷ us) trailing in
     subst (Front ReadsInsert (keyword k.Insert ∷ keyword k.Into ∷ ts)) (some_is _ x e4) (record {
       front = keyword k.Insert ∷ keyword k.Into ∷ identifier table.0 ∷ f.front ++ (keyword k.Values ∷ h.front);
       parts = ap (λ (us : Lexemes). keyword k.Insert ∷ keyword k.Into ∷ us) parts;
@@ -60,10 +60,10 @@ unfolding assignment_at
 assignment_sound ts x e =
     bound _ _ _ e (λ column p e1. bound _ _ _ e1 (λ rest q e2. bound _ _ _ e2 (λ value r e3.
     let f = literal_sound rest value r in
-    let behind : column.1 ≡ operator Eq ∷ f.front ++ value.1 = equals_is column.1 rest q ∙ ap (λ (us : Lexemes). operator Eq ∷ us) f.parts in
+    let trailing : column.1 ≡ operator Eq ∷ f.front ++ value.1 = equals_is column.1 rest q ∙ ap (λ (us : Lexemes). operator Eq ∷ us) f.parts in
     subst (Front ReadsAssignment ts) (some_is _ x e3) (record {
       front = identifier column.0 ∷ operator Eq ∷ f.front;
-      parts = name_is ts column p ∙ ap (λ (us : Lexemes). identifier column.0 ∷ us) behind;
+      parts = name_is ts column p ∙ ap (λ (us : Lexemes). identifier column.0 ∷ us) trailing;
       reads = g.assignment column.0 f.reads;
     }))))
 
@@ -73,8 +73,8 @@ update_sound ts x e =
     bound _ _ _ e (λ table p e1. bound _ _ _ e1 (λ rest q e2. bound _ _ _ e2 (λ assignments r e3. bound _ _ _ e3 (λ filter s e4.
     let f = listed_sound assignment_at ReadsAssignment assignment_sound rest assignments r in
     let h = where_sound assignments.1 filter s in
-    let behind = glue rest f.front assignments.1 h.front filter.1 f.parts h.parts in
-    let set : table.1 ≡ keyword k.Set ∷ (f.front ++ h.front) ++ filter.1 = set_is table.1 rest q ∙ ap (λ (us : Lexemes). keyword k.Set ∷ us) behind in
+    let trailing = glue rest f.front assignments.1 h.front filter.1 f.parts h.parts in
+    let set : table.1 ≡ keyword k.Set ∷ (f.front ++ h.front) ++ filter.1 = set_is table.1 rest q ∙ ap (λ (us : Lexemes). keyword k.Set ∷ us) trailing in
     let parts = name_is ts table p ∙ ap (λ (us : Lexemes). identifier table.0 ∷ us) set in
     subst (Front ReadsUpdate (keyword k.Update ∷ ts)) (some_is _ x e4) (record {
       front = keyword k.Update ∷ identifier table.0 ∷ keyword k.Set ∷ f.front ++ h.front;
@@ -108,7 +108,7 @@ rows_again : (ts : Lexemes) (xs : _) → Listed (Bracketed ReadsLiteral) ts xs �
 rows_again ts xs r rest none =
     listed_again members_at (Bracketed ReadsLiteral) (λ _. Unit {0}) (λ _. tt) (λ us y q rest h. members_again us y q rest) ts xs r rest tt none
 
-pub insert_again : (ts : Lexemes) (x : Insert) → ReadsInsert ts x → (rest : Lexemes) → Behind 0 rest
+pub insert_again : (ts : Lexemes) (x : Insert) → ReadsInsert ts x → (rest : Lexemes) → AfterClause 0 rest
     → (us : Lexemes) × (ts ++ rest ≡ keyword k.Insert ∷ keyword k.Into ∷ us) × (insert_at us ≡ Some (x, rest))
 unfolding insert_at name_at values_at
 insert_again _ _ (g.insert {column_tokens} {row_tokens} {table} {columns} {rows} p q) rest b = (
@@ -126,17 +126,17 @@ assignments_again : (ts : Lexemes) (xs : List (Assignment Name)) → Listed Read
 assignments_again ts xs r rest none =
     listed_again assignment_at ReadsAssignment (λ _. Unit {0}) (λ _. tt) (λ us y q rest h. assignment_again us y q rest) ts xs r rest tt none
 
-pub update_again : (ts : Lexemes) (x : Update) → ReadsUpdate ts x → (rest : Lexemes) → Behind 1 rest
+pub update_again : (ts : Lexemes) (x : Update) → ReadsUpdate ts x → (rest : Lexemes) → AfterClause 1 rest
     → (us : Lexemes) × (ts ++ rest ≡ keyword k.Update ∷ us) × (update_at us ≡ Some (x, rest))
 unfolding update_at name_at set_at
 update_again _ _ (g.update {assignment_tokens} {filter_tokens} {table} {assignments} {filter} p q) rest b =
-    let none = no_comma (filter_tokens ++ rest) (where_behind filter_tokens filter q rest b) in (
+    let none = no_comma (filter_tokens ++ rest) (where_after filter_tokens filter q rest b) in (
       identifier table ∷ keyword k.Set ∷ assignment_tokens ++ (filter_tokens ++ rest),
       simp append_assoc,
       rw (assignments_again assignment_tokens assignments p (filter_tokens ++ rest) none, where_again filter_tokens filter q rest b) refl,
     )
 
-pub delete_again : (ts : Lexemes) (x : Delete) → ReadsDelete ts x → (rest : Lexemes) → Behind 1 rest
+pub delete_again : (ts : Lexemes) (x : Delete) → ReadsDelete ts x → (rest : Lexemes) → AfterClause 1 rest
     → (us : Lexemes) × (ts ++ rest ≡ keyword k.Delete ∷ us) × (delete_at us ≡ Some (x, rest))
 unfolding delete_at from_at name_at
 delete_again _ _ (g.delete {filter_tokens} {table} {filter} q) rest b =

@@ -22,7 +22,7 @@ use Rattle.sql_tree.specs.declared.Item.TheVariants as shown
 use Rattle.sql_tree.specs.declared.SelectList.{SelectList}
 use Rattle.sql_tree.specs.declared.SelectList.TheVariants.{All, Items}
 use Rattle.sql_tree.specs.declared.Key.{Key}
-use Rattle.sql_tree.specs.declared.Limit.{Limit}
+use Rattle.sql_tree.specs.declared.LimitClause.{LimitClause}
 use Rattle.sql_tree.specs.declared.Assignment.{Assignment}
 use Rattle.sql_tree.specs.declared.CharacterSet.{CharacterSet}
 use Rattle.sql_tree.specs.declared.CharacterSet.TheVariants as charset
@@ -170,7 +170,7 @@ abbrev pub ReadsOrder : Lexemes → List (Key ColumnName) → Type 0
 ReadsOrder = Clause (keyword K.Order ∷ keyword K.By ∷ []) ReadsKey
 
 -- LIMIT count [OFFSET count], whose counts are less than 2 ^ 64. Without an OFFSET it is 0.
-pub data ReadsLimit : Lexemes → Limit → Type 0 where
+pub data ReadsLimit : Lexemes → LimitClause → Type 0 where
   limit : (n : ℕ) → n < 2 ^ 64 → ReadsLimit (keyword K.Limit ∷ number n ∷ []) (record { count = n; offset = 0 })
   offset : (n m : ℕ) → n < 2 ^ 64 → m < 2 ^ 64
       → ReadsLimit (keyword K.Limit ∷ number n ∷ keyword K.Offset ∷ number m ∷ []) (record { count = n; offset = m })
@@ -198,7 +198,7 @@ pub data ReadsJoin : Lexemes → JoinOn → Type 0 where
 -- SELECT list FROM name [[INNER] JOIN name ON column = column] [WHERE or] [GROUP BY column,..] [ORDER BY key,..] [LIMIT count [OFFSET count]]
 pub data ReadsSelect : Lexemes → S.Select → Type 0 where
   select : {list_tokens join_tokens filter_tokens group_tokens order_tokens limit_tokens : Lexemes} {list : SelectList} {table : Name} {join : Option JoinOn}
-      {filter : Option (Condition ColumnName)} {group_by : List ColumnName} {order_by : List (Key ColumnName)} {limit : Option Limit}
+      {filter : Option (Condition ColumnName)} {group_by : List ColumnName} {order_by : List (Key ColumnName)} {limit : Option LimitClause}
       → ReadsList list_tokens list → Optional ReadsJoin join_tokens join → Optional ReadsWhere filter_tokens filter → ReadsGroup group_tokens group_by
       → ReadsOrder order_tokens order_by → Optional ReadsLimit limit_tokens limit
       → ReadsSelect

@@ -10,7 +10,7 @@ use crate::kinds::{ASC, BY, DESC, FROM, GROUP, INNER, JOIN, LIMIT, OFFSET, ON, O
 use crate::names::{after_comma, column, columns, name, number};
 use crate::writes::equals;
 use sql_lexer::Token;
-use sql_tree::{ColumnName, Condition, JoinOn, Key, Limit, Name};
+use sql_tree::{ColumnName, Condition, JoinOn, Key, LimitClause, Name};
 use std::alloc::Global;
 use vt_value::{Items, Refusal};
 
@@ -196,14 +196,17 @@ fn offset<'s>(text: &[u8], tokens: &'s [Token]) -> Result<(u64, &'s [Token]), Re
 
 /// [LIMIT count [OFFSET count]]
 #[tactic(auto, unfolding(crate::specs::inner::Reading::limit_at))]
-pub fn limit<'s>(text: &[u8], tokens: &'s [Token]) -> Result<(Option<Limit>, &'s [Token]), Refusal>
+pub fn limit<'s>(
+    text: &[u8],
+    tokens: &'s [Token],
+) -> Result<(Option<LimitClause>, &'s [Token]), Refusal>
     ensures { AgreesWith (λ x. (x.0, lexemes_of text.now x.1.now)) result (limit_at (lexemes_of text.now tokens.now)) }
 {
     match tokens {
         [Token { kind: LIMIT, .. }, rest @ ..] => {
             let (count, rest) = number(text, rest)?;
             let (offset, rest) = offset(text, rest)?;
-            Ok((Some(Limit { count, offset }), rest))
+            Ok((Some(LimitClause { count, offset }), rest))
         }
         _ => Ok((None, tokens)),
     }

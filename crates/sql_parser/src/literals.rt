@@ -6,7 +6,7 @@ ghost use Rattle.sql_parser.specs.inner.Reading.{listed_at, close_at, open_at, n
 ghost use Rattle.sql_parser.specs.inner.Reading.{operand_at, members_at};
 
 use crate::kinds::{CLOSE, MINUS, NULL, OPEN};
-use crate::names::{after_comma, behind_name, number};
+use crate::names::{after_comma, number, rest_of_name};
 use crate::said;
 use sql_lexer::{Token, TokenKind};
 use sql_tree::{ColumnName, Operand};
@@ -31,7 +31,7 @@ fn close(tokens: &[Token]) -> Result<&[Token], Refusal>
 /// What was read in parentheses, and what comes after the closing one.
 pub fn closed<'s, T: Drop>(inner: T, tokens: &'s [Token]) -> Result<(T, &'s [Token]), Refusal>
     ensures same { IfOk result (λ x. x.0 ≡ inner) }
-    ensures behind { (text : List ℕ)
+    ensures trailing { (text : List ℕ)
         → AgreesWith (λ x. lexemes_of text x.1.now) result (close_at (lexemes_of text tokens.now)) }
 {
     let rest = close(tokens)?;
@@ -142,7 +142,7 @@ pub fn operand<'s>(
     match said::identifier(text, first) {
         Some(bytes) => {
             let name = Items::from_slice(alloc, bytes)?;
-            let (column, rest) = behind_name(alloc, text, name, rest)?;
+            let (column, rest) = rest_of_name(alloc, text, name, rest)?;
             Ok((Operand::Column(column), rest))
         }
         None => {

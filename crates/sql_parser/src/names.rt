@@ -3,7 +3,7 @@ ghost use Rattle.std.specs.Prelude.{◌≡◌, ℕ, List, option_map};
 ghost use Rattle.std.specs.Option.{option_copied};
 ghost use Rattle.sql_lexer.specs.Lexemes.{lexemes_of};
 ghost use Rattle.sql_lexer.specs.inner.Results.{AgreesWith};
-ghost use Rattle.sql_parser.specs.inner.Reading.{is_comma, after_at, listed_at, name_at, behind_name_at, column_at};
+ghost use Rattle.sql_parser.specs.inner.Reading.{is_comma, after_at, listed_at, name_at, after_name_at, column_at};
 ghost use Rattle.sql_parser.specs.inner.Reading.{number_at};
 
 use crate::kinds::{COMMA, DOT};
@@ -43,14 +43,14 @@ pub fn name<'s>(
 }
 
 /// The column that begins with a name: that name, or the one after a dot.
-#[tactic(auto, unfolding(crate::specs::inner::Reading::behind_name_at))]
-pub fn behind_name<'s>(
+#[tactic(auto, unfolding(crate::specs::inner::Reading::after_name_at))]
+pub fn rest_of_name<'s>(
     alloc: Global,
     text: &[u8],
     first: Name,
     tokens: &'s [Token],
 ) -> Result<(ColumnName, &'s [Token]), Refusal>
-    ensures { AgreesWith (λ x. (x.0, lexemes_of text.now x.1.now)) result (behind_name_at first (lexemes_of text.now tokens.now)) }
+    ensures { AgreesWith (λ x. (x.0, lexemes_of text.now x.1.now)) result (after_name_at first (lexemes_of text.now tokens.now)) }
 {
     match tokens {
         [Token { kind: DOT, .. }, rest @ ..] => {
@@ -78,7 +78,7 @@ pub fn column<'s>(
     ensures { AgreesWith (λ x. (x.0, lexemes_of text.now x.1.now)) result (column_at (lexemes_of text.now tokens.now)) }
 {
     let (first, rest) = name(alloc, text, tokens)?;
-    behind_name(alloc, text, first, rest)
+    rest_of_name(alloc, text, first, rest)
 }
 
 /// column,..

@@ -16,7 +16,7 @@ use Rattle.sql_tree.specs.declared.Item.TheVariants as item
 use Rattle.sql_tree.specs.declared.SelectList.{SelectList}
 use Rattle.sql_tree.specs.declared.SelectList.TheVariants as shown
 use Rattle.sql_tree.specs.declared.Key.{Key}
-use Rattle.sql_tree.specs.declared.Limit.{Limit}
+use Rattle.sql_tree.specs.declared.LimitClause.{LimitClause}
 use Rattle.sql_tree.specs.declared.Assignment.{Assignment}
 use Rattle.sql_tree.specs.declared.CharacterSet.{CharacterSet}
 use Rattle.sql_tree.specs.declared.CharacterSet.TheVariants as charset
@@ -141,7 +141,7 @@ abbrev pub clause_text : Text → List Text → Text
 clause_text words [] = []
 clause_text words (x ∷ xs) = words ++ commas (x ∷ xs)
 
-abbrev pub limit_text : Option Limit → Text
+abbrev pub limit_text : Option LimitClause → Text
 limit_text None = []
 limit_text (Some l) = codes " LIMIT " ++ decimal l.count ++ (if l.offset == 0 then [] else codes " OFFSET " ++ decimal l.offset)
 

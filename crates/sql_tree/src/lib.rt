@@ -65,7 +65,7 @@ pub struct Key<C> {
 
 /// How many rows are wanted, and how many are passed over before them.
 #[derive(Clone, Copy, Debug, PartialEq, Eq)]
-pub struct Limit {
+pub struct LimitClause {
     pub count: u64,
     pub offset: u64,
 }
@@ -87,7 +87,7 @@ pub struct Select {
     pub filter: Option<Condition<ColumnName>>,
     pub group_by: Items<ColumnName>,
     pub order_by: Items<Key<ColumnName>>,
-    pub limit: Option<Limit>,
+    pub limit: Option<LimitClause>,
 }
 
 /// An INSERT. Without a list of columns its rows have a value for each column of the table.

@@ -8,7 +8,7 @@ use crate::conditions::put_condition;
 use crate::lists::{Print, put_bracketed, put_clause, put_commas};
 use crate::literals::{put, put_column, put_name, put_quoted};
 use crate::{
-    CharacterSet, ColumnName, Condition, Delete, Insert, Item, JoinOn, Limit, Name, Select,
+    CharacterSet, ColumnName, Condition, Delete, Insert, Item, JoinOn, LimitClause, Name, Select,
     SelectList, Statement, Update,
 };
 use itoa::Buffer;
@@ -61,7 +61,7 @@ fn put_number(out: &mut Vec<u8>, number: u64) -> Result<(), Refusal>
     put(out, buffer.format(number).as_bytes())
 }
 
-fn put_limit(out: &mut Vec<u8>, limit: &Option<Limit>) -> Result<(), Refusal>
+fn put_limit(out: &mut Vec<u8>, limit: &Option<LimitClause>) -> Result<(), Refusal>
     ensures ok { OnOk result (out.new.items ≡ out.old.items ++ limit_text limit.now) }
     ensures err { IfErr result (λ e. e ≡ Refusal.OutOfMemory) }
 {

@@ -1,45 +1,45 @@
 //! Cases, conversations, scenes of threads, soaks and measurements, each a line: its area, a tab, and its fields with tabs between them. Line N of
 //! the output answers line N of the input, so the first line at which they differ is that of a case that fails.
 //!
-//! A case costs nothing to add: `tests/cases` has a file for each area, from which `scripts/cases --write` makes `stdin` and `stdout`. What it
+//! A case costs nothing to add: `tests/test_cases` has a file for each area, from which `scripts/test_cases --write` makes `stdin` and `stdout`. What it
 //! must give comes from outside: a standard's table, another implementation, or a definition worked by hand, and never from this program.
 //! `scripts/cases` prints each case that fails.
 //!
 //! | Area | Fields | Answer |
 //! |---|---|---|
-//! | those of `cases` | | |
-//! | those of `connection_tests` | | |
-//! | `pulled`, `threads`, `log`, `limits`, `scene` | the name of a scene of `pulled_rows`, `thread_tests`, `log_tests`, `shard_limits` or `router_tests` | `ok`, where it went as it is to go |
+//! | those of `test_cases` | | |
+//! | those of `test_connections` | | |
+//! | `pulled`, `threads`, `log`, `limits`, `scene` | the name of a scene of `test_cases`, `test_threads`, `log_tests`, `test_shard_limits` or `test_router` | `ok`, where it went as it is to go |
 //! | `soak` | seconds, a seed, and maybe `counts`, with blanks between them | `nothing lost or doubled`, and what was done where that is asked for |
 //! | `measure` | a VSchema, the ranges of its shards with commas between them, measurements of `bench` | what each gave; standard error has how long it took |
 //!
 //! A line that is no case answers `unknown`, and one whose call is refused `refused`.
 #![tactic(auto)]
 
-use case_fields::{Told, Unanswered, print_answer};
 use std::alloc::Global;
 use std::io;
 use std::net::{Net, TcpListener, TcpStream};
 use std::sync::Wait;
 use std::thread::Threads;
 use std::time::Clock;
+use test_fields::{CaseAnswer, Unanswered, print_answer};
 
 // Tells what a case of this area answers.
 fn answer<
     R: Threads + Wait + Sync + Clock + Eprint + Net<Listener = TcpListener, Stream = TcpStream>,
->(rt: &R, alloc: Global, area: &str, case: &str, told: &mut Told) -> Result<(), Unanswered> {
+>(rt: &R, alloc: Global, area: &str, case: &str, told: &mut CaseAnswer) -> Result<(), Unanswered> {
     match area {
-        "pulled" => pulled_rows::answer(alloc, case, told),
-        "threads" => thread_tests::answer(rt, alloc, case, told),
+        "pulled" => test_cases::answer_pulled(alloc, case, told),
+        "threads" => test_threads::answer(rt, alloc, case, told),
         "log" => log_tests::answer(rt, alloc, case, told),
-        "limits" => shard_limits::answer(rt, alloc, case, told),
-        "scene" => router_tests::answer(rt, alloc, case, told),
-        "soak" => soak::answer(rt, alloc, case, told),
+        "limits" => test_shard_limits::answer(rt, alloc, case, told),
+        "scene" => test_router::answer(rt, alloc, case, told),
+        "soak" => test_soak::answer(rt, alloc, case, told),
         "measure" => bench::answer(rt, alloc, case, told),
         "talk" | "around" | "served" | "run" | "failing_run" | "loopback" => {
-            connection_tests::answer(rt, alloc, area, case, told)
+            test_connections::answer(rt, alloc, area, case, told)
         }
-        _ => cases::answer(alloc, area, case, told),
+        _ => test_cases::answer(alloc, area, case, told),
     }
 }
 
@@ -54,7 +54,7 @@ fn answer_line<
         + Net<Listener = TcpListener, Stream = TcpStream>,
 >(rt: &R, alloc: Global, line: &str) -> io::Result<()> {
     let (area, case) = line.split_once('\t').unwrap_or((line, ""));
-    let mut told = Told::new(alloc);
+    let mut told = CaseAnswer::new(alloc);
     let answered = answer(rt, alloc, area, case, &mut told);
     print_answer(rt, answered, &told)
 }

@@ -3,17 +3,17 @@ use Rattle.std.proofs.Common.{◌≡◌, ℕ, suc, zero, ◌+◌, ◌<◌, lengt
 use Rattle.std.specs.List.{list_any, position, position_from}
 use Rattle.std.proofs.lemmas.Iterator.Adapters.{position_from-zero}
 use Rattle.std.specs.Cmp.Lexicographic.{nat_list_eq_equiv}
-use Rattle.vschema_document.specs.declared.column.Column.{Column}
-use Rattle.vschema.specs.Schema.{place_from}
+use Rattle.vschema_json.specs.declared.column.Column.{Column}
+use Rattle.vschema.specs.Schema.{ordinal_from}
 use Rattle.vschema.specs.WriteChecks.{has_twice}
-use Rattle.vschema_document.proofs.Options.{neither}
+use Rattle.vschema_json.proofs.Options.{neither}
 
-placed_from : {X : Type 0} (p q : X → Bool) → ((x : X) → p x ≡ q x) → (n : ℕ) (xs : List X) → position_from p n xs ≡ place_from q n xs
+placed_from : {X : Type 0} (p q : X → Bool) → ((x : X) → p x ≡ q x) → (n : ℕ) (xs : List X) → position_from p n xs ≡ ordinal_from q n xs
 placed_from p q e n [] = refl
 placed_from p q e n (x ∷ xs) = rw (e x) (rw (placed_from p q e (n + 1) xs) refl)
 
-pub place_by_name : (name : List ℕ) (cs : List Column) → position (λ c. bytes_eq name c.name) cs ≡ place_from (λ c. bytes_eq c.name name) 0 cs
-place_by_name name cs =
+pub ordinal_by_name : (name : List ℕ) (cs : List Column) → position (λ c. bytes_eq name c.name) cs ≡ ordinal_from (λ c. bytes_eq c.name name) 0 cs
+ordinal_by_name name cs =
     position_from-zero (λ c. bytes_eq name c.name) cs
     ∙ placed_from (λ c. bytes_eq name c.name) (λ c. bytes_eq c.name name) (λ c. nat_list_eq_equiv.symm name c.name) 0 cs
 

@@ -2,9 +2,9 @@
 use Rattle.std.proofs.Common.{ℕ, Bool, List, [], ◌∷◌, Some, None, true, false, refl}
 use Rattle.std.specs.Prelude.{codes}
 use Rattle.vindex.specs.declared.AnyVindex.TheVariants.{ReverseBits, BinaryMd5}
-use Rattle.vschema_document.specs.declared.column.Column.{Column}
-use Rattle.vschema_document.specs.declared.column.ColumnType.{ColumnType}
-use Rattle.vschema_document.specs.declared.column.ColumnType.TheVariants.{BigInt, BigIntUnsigned, VarBinary}
+use Rattle.vschema_json.specs.declared.column.Column.{Column}
+use Rattle.vschema_json.specs.declared.column.ColumnType.{ColumnType}
+use Rattle.vschema_json.specs.declared.column.ColumnType.TheVariants.{BigInt, BigIntUnsigned, VarBinary}
 use Rattle.vschema.specs.declared.schema.Table.{Table}
 use Rattle.vschema.specs.declared.schema.VSchema.{VSchema}
 

@@ -10,18 +10,18 @@ use Rattle.sql_lexer.specs.Lexemes.{is_word}
 use Rattle.vindex.specs.declared.AnyVindex.{AnyVindex}
 use Rattle.vschema.specs.declared.schema.ColumnVindex.{ColumnVindex}
 use Rattle.vschema.specs.declared.schema.Keyspace.{Keyspace}
-use Rattle.vschema_document.specs.declared.document.DeclaredKey.{DeclaredKey}
-use Rattle.vschema_document.specs.declared.document.DeclaredTable.{DeclaredTable}
-use Rattle.vschema_document.specs.declared.document.DeclaredKeyspace.{DeclaredKeyspace}
-use Rattle.vschema_document.specs.declared.fault.SchemaFault.{SchemaFault}
-use Rattle.vschema_document.specs.declared.fault.SchemaFault.TheVariants.{OutOfMemory, NotJson, IllFormed, UnknownVindex, MissingColumn, WrongKeyType, NullableKey, KeyWithoutVindex, NamedTwice, AboveLimit}
+use Rattle.vschema_json.specs.declared.document.DeclaredKey.{DeclaredKey}
+use Rattle.vschema_json.specs.declared.document.DeclaredTable.{DeclaredTable}
+use Rattle.vschema_json.specs.declared.document.DeclaredKeyspace.{DeclaredKeyspace}
+use Rattle.vschema_json.specs.declared.fault.SchemaFault.{SchemaFault}
+use Rattle.vschema_json.specs.declared.fault.SchemaFault.TheVariants.{OutOfMemory, NotJson, IllFormed, UnknownVindex, MissingColumn, WrongKeyType, NullableKey, KeyWithoutVindex, NamedTwice, AboveLimit}
 use Rattle.vschema.specs.WriteChecks.{has_twice}
 use Rattle.vschema.specs.WellFormed.{is_formed, is_table, is_in_keyspace, is_sharded_at, is_vindex_right, fits_vindex, takes_type, has_number_twice}
-use Rattle.vschema_document.specs.Faults.{keys, vindex_of, column_of, lacks_column, is_nullable, mismatch, is_misplaced, table_has, keyspace_has, whole_has, all_tables, has, faults, first_fault}
-use Rattle.vschema.specs.Meant.{place_in, vindex_number, vindex_on, meant_table, meant_tables, meant_keyspace, meant}
-use Rattle.vschema_document.proofs.Formats.{good_column, good_table, good_keyspace}
-use Rattle.vschema_document.proofs.Options.{some_same, never, both, neither, join, turned, unturned, unfound, any_never}
-use Rattle.vschema.proofs.Places.{has_column, places_apart, place_among, present, needed, all_needed}
+use Rattle.vschema_json.specs.Faults.{keys, vindex_of, column_of, lacks_column, is_nullable, mismatch, is_misplaced, table_has, keyspace_has, whole_has, all_tables, has, faults, first_fault}
+use Rattle.vschema.specs.Meant.{ordinal_in, vindex_number, vindex_on, meant_table, meant_tables, meant_keyspace, meant}
+use Rattle.vschema_json.proofs.Formats.{good_column, good_table, good_keyspace}
+use Rattle.vschema_json.proofs.Options.{some_same, never, both, neither, join, turned, unturned, unfound, any_never}
+use Rattle.vschema.proofs.Places.{has_column, ordinals_apart, ordinal_among, present, needed, all_needed}
 
 -- no fault lies in a table
 abbrev Clean : DeclaredKeyspace → DeclaredTable → Type 0
@@ -54,13 +54,13 @@ key_right k t e es clean is = record {
 }
 
 right_key : (k : DeclaredKeyspace) (n : ℕ) (t : DeclaredTable) (e : DeclaredKey) (v : AnyVindex) → KeyIsRight k t e → vindex_of k e.vindex ≡ Some v → k.sharded ≡ true
-    → is_vindex_right (meant_table k n t) k.sharded (Some (record { column = place_in t e.column; vindex = v; number = vindex_number k e.vindex })) ≡ true
+    → is_vindex_right (meant_table k n t) k.sharded (Some (record { column = ordinal_in t e.column; vindex = v; number = vindex_number k e.vindex })) ≡ true
 right_key k n t e v right is sharded =
     let x = has_column t e.column right.there in
-    let w : ColumnVindex = record { column = place_in t e.column; vindex = v; number = vindex_number k e.vindex } in
+    let w : ColumnVindex = record { column = ordinal_in t e.column; vindex = v; number = vindex_number k e.vindex } in
     let taken : mismatch (Some v) (Some x.0) ≡ false = ap (λ o. mismatch o (Some x.0)) (sym is) ∙ ap (mismatch (vindex_of k e.vindex)) (sym x.1.is_found) ∙ right.fits in
-    let fits : fits_vindex w (slice_get t.columns (place_in t e.column)) ≡ true = ap (fits_vindex w) x.1.stands ∙ unturned (takes_type v x.0.kind) taken in
-    let inside = place_among t e.column t.primary_key (unturned (list_any (bytes_eq e.column) t.primary_key) right.within) in
+    let fits : fits_vindex w (slice_get t.columns (ordinal_in t e.column)) ≡ true = ap (fits_vindex w) x.1.stands ∙ unturned (takes_type v x.0.kind) taken in
+    let inside = ordinal_among t e.column t.primary_key (unturned (list_any (bytes_eq e.column) t.primary_key) right.within) in
     join (join (join sharded fits) (needed t (meant_table k n t) e.column refl right.there right.not_null)) inside
 
 vindex_right : (k : DeclaredKeyspace) (n : ℕ) (t : DeclaredTable) (o : Option (List DeclaredKey)) → Clean k t → t.column_vindexes ≡ o → is_misplaced k.sharded o ≡ false
@@ -74,7 +74,7 @@ vindex_right k n t (Some (e ∷ es)) clean is fits =
     let v = present (vindex_of k e.vindex) right.known in
     let sharded = unturned k.sharded (neither (not k.sharded) (length (e ∷ es) == 0) fits).0 in
     ap (λ es. is_vindex_right (meant_table k n t) k.sharded (option_and_then (vindex_on k t) (slice_get es 0))) listed
-    ∙ ap (λ o. is_vindex_right (meant_table k n t) k.sharded (option_map (λ v. record { column = place_in t e.column; vindex = v; number = vindex_number k e.vindex }) o)) v.1
+    ∙ ap (λ o. is_vindex_right (meant_table k n t) k.sharded (option_map (λ v. record { column = ordinal_in t e.column; vindex = v; number = vindex_number k e.vindex }) o)) v.1
     ∙ right_key k n t e v.0 right v.1 sharded
 
 table_lawful : (all : List Keyspace) (k : DeclaredKeyspace) (n : ℕ) (t : DeclaredTable) → is_sharded_at all n ≡ Some k.sharded → good_table t ≡ true → Clean k t
@@ -88,11 +88,11 @@ table_lawful all k n t at good clean =
     let not_null = (neither (list_any (is_nullable t) t.primary_key) (list_any (λ e. is_nullable t e.column) (keys t)) (clean NullableKey)).0 in
     let within = (neither (nat_lt 64 (length t.columns)) (nat_lt 1 (length (keys t))) (clean AboveLimit)).0 in
     let u = meant_table k n t in
-    let key_length : nat_le 1 (length (map (place_in t) t.primary_key)) ≡ true = ap (nat_le 1) (length-map t.primary_key (place_in t)) ∙ some_there (length t.primary_key) some.1 in
+    let key_length : nat_le 1 (length (map (ordinal_in t) t.primary_key)) ≡ true = ap (nat_le 1) (length-map t.primary_key (ordinal_in t)) ∙ some_there (length t.primary_key) some.1 in
     let in_keyspace : is_in_keyspace u (is_sharded_at all n) ≡ true = ap (is_in_keyspace u) at ∙ vindex_right k n t t.column_vindexes clean refl well.1 in
     join (join (join (join (join (join (join (join words.0 (some_there (length t.columns) some.0)) (not_above 64 (length t.columns) within))
     (turned (has_twice (map (λ c. c.name) t.columns)) (clean NamedTwice))) words.1) key_length)
-    (turned (has_number_twice (map (place_in t) t.primary_key)) (places_apart t t.primary_key there once.1))) (all_needed t u t.primary_key refl there not_null)) in_keyspace
+    (turned (has_number_twice (map (ordinal_in t) t.primary_key)) (ordinals_apart t t.primary_key there once.1))) (all_needed t u t.primary_key refl there not_null)) in_keyspace
 
 tables_within : (all : List Keyspace) (k : DeclaredKeyspace) (n : ℕ) → is_sharded_at all n ≡ Some k.sharded → (ts : List DeclaredTable) → list_all good_table ts ≡ true
     → ((f : SchemaFault) → list_any (table_has f k) ts ≡ false) → list_all (is_table all) (map (meant_table k n) ts) ≡ true
@@ -102,13 +102,13 @@ tables_within all k n at (t ∷ ts) good clean =
     join (table_lawful all k n t at g.0 (λ f. (neither (table_has f k t) (list_any (table_has f k) ts) (clean f)).0))
     (tables_within all k n at ts g.1 (λ f. (neither (table_has f k t) (list_any (table_has f k) ts) (clean f)).1))
 
-first_behind : {X : Type 0} (all : List X) (n : ℕ) → slice_get all n ≡ slice_get (drop n all) 0
-first_behind [] n = sym (ap (λ xs. slice_get xs 0) (drop-nil n))
-first_behind (x ∷ xs) zero = refl
-first_behind (x ∷ xs) (suc n) = first_behind xs n
+first_past : {X : Type 0} (all : List X) (n : ℕ) → slice_get all n ≡ slice_get (drop n all) 0
+first_past [] n = sym (ap (λ xs. slice_get xs 0) (drop-nil n))
+first_past (x ∷ xs) zero = refl
+first_past (x ∷ xs) (suc n) = first_past xs n
 
 head_at : {X : Type 0} (all : List X) (n : ℕ) (x : X) (xs : List X) → drop n all ≡ x ∷ xs → slice_get all n ≡ Some x
-head_at all n x xs e = first_behind all n ∙ ap (λ ys. slice_get ys 0) e
+head_at all n x xs e = first_past all n ∙ ap (λ ys. slice_get ys 0) e
 
 tail_at : {X : Type 0} (all : List X) (n : ℕ) (x : X) (xs : List X) → drop n all ≡ x ∷ xs → drop (n + 1) all ≡ xs
 tail_at all n x xs e = sym (drop-drop 1 n all) ∙ ap (drop 1) e

@@ -1,2 +1,2 @@
 -- What is known of lists of a document.
-pub use Rattle.vschema_document.proofs.Lists.{list_any_map}
+pub use Rattle.vschema_json.proofs.Lists.{list_any_map}

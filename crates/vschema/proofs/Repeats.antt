@@ -3,7 +3,7 @@ use Rattle.std.proofs.Common.{◌≡◌, List, [], ◌∷◌, map, bytes_eq, ref
 use Rattle.sql_tree.specs.declared.Assignment.{Assignment}
 use Rattle.vschema.specs.Resolved.{Name}
 use Rattle.vschema.specs.WriteChecks.{has_twice, sets_twice}
-use Rattle.vschema_document.proofs.Lists.{list_any_map}
+use Rattle.vschema_json.proofs.Lists.{list_any_map}
 
 pub sets_same : (assignments : List (Assignment Name)) → has_twice (map (λ a. a.column) assignments) ≡ sets_twice assignments
 sets_same [] = refl

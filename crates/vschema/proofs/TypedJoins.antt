@@ -8,16 +8,16 @@ use Rattle.vindex.specs.declared.AnyVindex.{AnyVindex}
 use Rattle.vindex.specs.declared.AnyVindex.TheVariants.{Numeric, ReverseBits, Binary, BinaryMd5}
 use Rattle.sql_tree.specs.declared.JoinOn.{JoinOn}
 use Rattle.sql_tree.specs.declared.Select as S
-use Rattle.vschema_document.specs.declared.column.Column.{Column}
+use Rattle.vschema_json.specs.declared.column.Column.{Column}
 use Rattle.vschema.specs.declared.schema.ColumnVindex.{ColumnVindex}
 use Rattle.vschema.specs.declared.schema.Join.{Join}
 use Rattle.vschema.specs.declared.schema.Query.{Query}
 use Rattle.vschema.specs.declared.schema.Table.{Table}
 use Rattle.vschema.specs.declared.schema.VSchema.{VSchema}
-use Rattle.vschema.specs.Schema.{table_place, table_at, no_table}
+use Rattle.vschema.specs.Schema.{table_ordinal, table_at, no_table}
 use Rattle.vschema.specs.Scopes.{Scope, only, scope_columns}
 use Rattle.vschema.specs.Checks.{names_unknown_column, select_is_not_supported, shows_ungrouped, is_aggregated}
-use Rattle.vschema.specs.Joins.{same_vindex, takes_keys, takes_columns, left_place, right_place, resolved_join, is_refused, join_is_refused}
+use Rattle.vschema.specs.Joins.{same_vindex, takes_keys, takes_columns, left_ordinal, right_ordinal, resolved_join, is_refused, join_is_refused}
 use Rattle.vschema.specs.Sources.{kind_of, type_at, HaveOneId, IsInPlace, JoinsInPlace}
 use Rattle.vschema.specs.TypedStatement.{join_over, over, checked, checked_pair, checked_second, checked_with, checked_first, checked_at, typed_select}
 
@@ -53,10 +53,10 @@ one_vindex BinaryMd5 Binary e = cc
 one_vindex BinaryMd5 BinaryMd5 e = refl
 
 -- a column after those of the first table
-behind_at : (xs ys : List Column) (n m : ℕ) → m ≡ length xs + n → slice_get (xs ++ ys) m ≡ slice_get ys n
-behind_at [] ys n m e = let same : m ≡ n = omega (arith, e) in ap (slice_get ys) same
-behind_at (x ∷ xs) ys n zero e = absurd (omega (arith, e))
-behind_at (x ∷ xs) ys n (suc m) e = behind_at xs ys n m (omega (arith, e))
+past_at : (xs ys : List Column) (n m : ℕ) → m ≡ length xs + n → slice_get (xs ++ ys) m ≡ slice_get ys n
+past_at [] ys n m e = let same : m ≡ n = omega (arith, e) in ap (slice_get ys) same
+past_at (x ∷ xs) ys n zero e = absurd (omega (arith, e))
+past_at (x ∷ xs) ys n (suc m) e = past_at xs ys n m (omega (arith, e))
 
 module _ (t u : Table) (a b : ℕ) where
   abbrev s : Scope
@@ -65,8 +65,8 @@ module _ (t u : Table) (a b : ℕ) where
   abbrev second : ℕ
   second = b - length t.columns
 
-  place : nat_le (length t.columns) b ≡ true → b ≡ length t.columns + second
-  place e = let le = leb-true (length t.columns) b e in omega (arith, le)
+  ordinal : nat_le (length t.columns) b ≡ true → b ≡ length t.columns + second
+  ordinal e = let le = leb-true (length t.columns) b e in omega (arith, le)
 
   one_id : nat_le (length t.columns) b ≡ true → (v w : Option ColumnVindex) → takes_keys s a b v w ≡ true → HaveOneId a second v w
   one_id le None None e = tt
@@ -77,12 +77,12 @@ module _ (t u : Table) (a b : ℕ) where
       let middle = both ((v.number == w.number) && same_vindex v.vindex w.vindex) (v.column == a) last.0 in
       let vindexes = both (v.number == w.number) (same_vindex v.vindex w.vindex) middle.0 in
       let at : length t.columns + w.column ≡ b = eqb-true (length t.columns + w.column) b last.1 in
-      let split : b ≡ length t.columns + second = place le in
+      let split : b ≡ length t.columns + second = ordinal le in
       let is : w.column ≡ second = omega (arith, at, split) in
       (one_vindex v.vindex w.vindex vindexes.1, eqb-true v.column a middle.1, is)
 
   second_type : nat_le (length t.columns) b ≡ true → kind_of (slice_get (scope_columns s) b) ≡ type_at u second
-  second_type le = ap kind_of (behind_at t.columns u.columns second b (place le))
+  second_type le = ap kind_of (past_at t.columns u.columns second b (ordinal le))
 
 some_join : (a b : Join) → ◌≡◌ {A = Option Join} (Some a) (Some b) → a ≡ b
 some_join a b e = cc
@@ -110,25 +110,25 @@ two_tables schema n m t u s is_t is_u fine j e = by s.join refl e
         let qq : Query = over n (Some m) sc s in
         let j_is : resolved_join sc m on ≡ j = some_join (resolved_join sc m on) j f in
         let refused : is_refused sc (Some u) qq (Some (resolved_join sc m on)) ≡ false = ap (λ o. is_refused sc (Some u) qq (join_over sc (Some m) o)) (sym is) ∙ fine in
-        let a = left_place sc on in
-        let b = right_place sc on in
+        let a = left_ordinal sc on in
+        let b = right_ordinal sc on in
         let parts = neither ((n == m) || is_aggregated qq) (not (takes_columns sc u a b)) refused in
         let more = neither (n == m) (is_aggregated qq) parts.0 in
         let whole : takes_columns sc u a b ≡ true = not_false (takes_columns sc u a b) parts.1 in
         let keys = both (nat_lt a (length t.columns) && nat_le (length t.columns) b && (t.keyspace == u.keyspace)) (takes_keys sc a b t.vindex u.vindex) whole in
         let spaces = both (nat_lt a (length t.columns) && nat_le (length t.columns) b) (t.keyspace == u.keyspace) keys.0 in
-        let behind = both (nat_lt a (length t.columns)) (nat_le (length t.columns) b) spaces.0 in
+        let trailing = both (nat_lt a (length t.columns)) (nat_le (length t.columns) b) spaces.0 in
         subst (IsInPlace schema qq) j_is (record {
           plain = more.1;
           keyspace = ap (λ (x : Table). x.keyspace) is_u ∙ sym (eqb-true t.keyspace u.keyspace spaces.1) ∙ ap (λ (x : Table). x.keyspace) (sym is_t);
           width = ap (λ (x : Table). length x.columns) (sym is_t);
-          first = ltb-true a (length t.columns) behind.0;
+          first = ltb-true a (length t.columns) trailing.0;
           second = b - length t.columns;
-          place = place t u a b behind.1;
-          kind = second_type t u a b behind.1 ∙ ap (λ x. type_at x (b - length t.columns)) (sym is_u);
+          ordinal = ordinal t u a b trailing.1;
+          kind = second_type t u a b trailing.1 ∙ ap (λ x. type_at x (b - length t.columns)) (sym is_u);
           ids =
               subst (λ (x : Table). HaveOneId a (b - length t.columns) x.vindex (table_at schema m).vindex) (sym is_t)
-              (subst (λ (y : Table). HaveOneId a (b - length t.columns) t.vindex y.vindex) (sym is_u) (one_id t u a b behind.1 t.vindex u.vindex keys.1));
+              (subst (λ (y : Table). HaveOneId a (b - length t.columns) t.vindex y.vindex) (sym is_u) (one_id t u a b trailing.1 t.vindex u.vindex keys.1));
         })
 
 -- what passes the checks is the query, and its join isn't refused
@@ -160,7 +160,7 @@ one_table : (schema : VSchema) (n : ℕ) (t : Table) (s : S.Select) → JoinsInP
 one_table schema n t s j e = cc
 
 pub in_place : (schema : VSchema) (s : S.Select) (q : Query) → typed_select schema s ≡ Ok q → JoinsInPlace schema q
-in_place schema s q e = by_table (table_place schema s.table) e
+in_place schema s q e = by_table (table_ordinal schema s.table) e
   where
     by_pair : (n m : ℕ) (t : Table) → slice_get schema.tables n ≡ Some t → (u : Option Table) → slice_get schema.tables m ≡ u → checked_pair s n m t u ≡ Ok q → JoinsInPlace schema q
     by_pair n m t is None is_u f = cc
@@ -174,7 +174,7 @@ in_place schema s q e = by_table (table_place schema s.table) e
 
     by_join : (n : ℕ) (t : Table) → slice_get schema.tables n ≡ Some t → (on : Option JoinOn) → checked_with schema s n t on ≡ Ok q → JoinsInPlace schema q
     by_join n t is None f = let p = passes n None (only t) s q f in subst (JoinsInPlace schema) p.1 (one_table schema n t s)
-    by_join n t is (Some j) f = by_second n t is (table_place schema j.table) f
+    by_join n t is (Some j) f = by_second n t is (table_ordinal schema j.table) f
 
     by_first : (n : ℕ) (t : Option Table) → slice_get schema.tables n ≡ t → checked_first schema s n t ≡ Ok q → JoinsInPlace schema q
     by_first n None is f = cc

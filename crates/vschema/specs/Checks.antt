@@ -14,22 +14,22 @@ use Rattle.sql_tree.specs.declared.SelectList.{SelectList}
 use Rattle.sql_tree.specs.declared.SelectList.TheVariants.{All, Items}
 use Rattle.sql_tree.specs.declared.Item.{Item}
 use Rattle.sql_tree.specs.declared.Item.TheVariants as item
-use Rattle.vschema_document.specs.declared.column.ColumnType.{ColumnType}
-use Rattle.vschema_document.specs.declared.column.ColumnType.TheVariants.{BigInt, BigIntUnsigned, VarBinary}
+use Rattle.vschema_json.specs.declared.column.ColumnType.{ColumnType}
+use Rattle.vschema_json.specs.declared.column.ColumnType.TheVariants.{BigInt, BigIntUnsigned, VarBinary}
 use Rattle.vschema.specs.declared.schema.Table.{Table}
 use Rattle.vschema.specs.declared.schema.Query.{Query}
-use Rattle.vschema.specs.Schema.{column_place}
+use Rattle.vschema.specs.Schema.{column_ordinal}
 use Rattle.vschema.specs.Resolved.{Name}
-use Rattle.vschema.specs.Scopes.{Scope, scope_columns, scope_place, place_in}
-pub use Rattle.vschema_document.specs.Twice.{has_number}
+use Rattle.vschema.specs.Scopes.{Scope, scope_columns, scope_ordinal, ordinal_in}
+pub use Rattle.vschema_json.specs.Twice.{has_number}
 
 -- a name that is no column of the table
 abbrev pub is_unknown : Table → Name → Bool
-is_unknown t name = is_none (column_place t name)
+is_unknown t name = is_none (column_ordinal t name)
 
 -- a name that is no column after FROM, or a column of both tables
 abbrev pub is_unnamed : Scope → ColumnName → Bool
-is_unnamed s c = is_none (scope_place s c)
+is_unnamed s c = is_none (scope_ordinal s c)
 
 abbrev pub operand_is_unknown : Scope → Operand ColumnName → Bool
 operand_is_unknown s (operand.Column name) = is_unnamed s name
@@ -88,7 +88,7 @@ abbrev pub column_is_text : Scope → ℕ → Option Bool
 column_is_text s n = option_map (λ c. is_text_type c.kind) (slice_get (scope_columns s) n)
 
 abbrev pub operand_is_text : Scope → Operand ColumnName → Option Bool
-operand_is_text s (operand.Column name) = column_is_text s (place_in s name)
+operand_is_text s (operand.Column name) = column_is_text s (ordinal_in s name)
 operand_is_text s (operand.Literal v) = value_is_text v
 
 -- one is a number and the other a text
@@ -114,7 +114,7 @@ mixes_kinds s q = filter_has (condition_mixes s) q.filter
 
 -- SUM of a column of texts
 abbrev pub is_text_sum : Scope → Item ColumnName → Bool
-is_text_sum s (item.Sum name) = differ (column_is_text s (place_in s name)) (Some false)
+is_text_sum s (item.Sum name) = differ (column_is_text s (ordinal_in s name)) (Some false)
 is_text_sum s _ = false
 
 abbrev pub sums_text : Scope → SelectList → Bool

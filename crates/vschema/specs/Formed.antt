@@ -2,12 +2,12 @@
 use Rattle.std.specs.Prelude.{ℕ, Bool, false, not, ◌&&◌, nat_le, List, length, map, filter, slice_get, option_map, Option, Some, None}
 use Rattle.std.specs.List.{list_all}
 use Rattle.sql_lexer.specs.Lexemes.{is_word}
-use Rattle.vschema_document.specs.declared.column.Column.{Column}
+use Rattle.vschema_json.specs.declared.column.Column.{Column}
 use Rattle.vschema.specs.declared.schema.ColumnVindex.{ColumnVindex}
 use Rattle.vschema.specs.declared.schema.Keyspace.{Keyspace}
 use Rattle.vschema.specs.declared.schema.Table.{Table}
-use Rattle.vschema_document.specs.Twice.{has_number, has_number_twice, has_twice}
-pub use Rattle.vschema_document.specs.ColumnTypes.{is_type, takes_type}
+use Rattle.vschema_json.specs.Twice.{has_number, has_number_twice, has_twice}
+pub use Rattle.vschema_json.specs.ColumnTypes.{is_type, takes_type}
 
 -- a column of the table that is NOT NULL
 abbrev pub is_needed : Table → ℕ → Bool

@@ -7,7 +7,7 @@ use Rattle.vschema.specs.declared.schema.ColumnVindex.{ColumnVindex}
 use Rattle.vschema.specs.declared.schema.Join.{Join}
 use Rattle.vschema.specs.declared.schema.Query.{Query}
 use Rattle.vschema.specs.declared.schema.Table.{Table}
-use Rattle.vschema.specs.Scopes.{Scope, scope_columns, place_in}
+use Rattle.vschema.specs.Scopes.{Scope, scope_columns, ordinal_in}
 use Rattle.vschema.specs.Checks.{differ, column_is_text, is_aggregated}
 use Rattle.vschema.specs.Sources.{kind_of}
 
@@ -33,20 +33,20 @@ takes_columns s t a b =
     && takes_keys s a b s.first.vindex t.vindex
 
 -- ON has its columns in either order: the one of the first table, and the other
-abbrev pub left_place : Scope → JoinOn → ℕ
-left_place s j = if nat_lt (place_in s j.left) (length s.first.columns) then place_in s j.left else place_in s j.right
+abbrev pub left_ordinal : Scope → JoinOn → ℕ
+left_ordinal s j = if nat_lt (ordinal_in s j.left) (length s.first.columns) then ordinal_in s j.left else ordinal_in s j.right
 
-abbrev pub right_place : Scope → JoinOn → ℕ
-right_place s j = if nat_lt (place_in s j.left) (length s.first.columns) then place_in s j.right else place_in s j.left
+abbrev pub right_ordinal : Scope → JoinOn → ℕ
+right_ordinal s j = if nat_lt (ordinal_in s j.left) (length s.first.columns) then ordinal_in s j.right else ordinal_in s j.left
 
 -- the join with the table at this place of the VSchema
 abbrev pub resolved_join : Scope → ℕ → JoinOn → Join
 resolved_join s m j = record {
   table = m;
   width = length s.first.columns;
-  first = left_place s j;
-  second = right_place s j;
-  kind = kind_of (slice_get (scope_columns s) (right_place s j));
+  first = left_ordinal s j;
+  second = right_ordinal s j;
+  kind = kind_of (slice_get (scope_columns s) (right_ordinal s j));
 }
 
 -- a table with itself, an aggregated query, or columns that aren't taken

@@ -12,5 +12,5 @@ pub mod Storable
 pub mod Formed
 pub mod WellFormed
 pub mod Meant
-pub mod FirstPlaces
+pub mod FirstOrdinals
 pub mod inner

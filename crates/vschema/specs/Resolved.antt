@@ -13,19 +13,19 @@ use Rattle.sql_tree.specs.declared.Item.TheVariants as item
 use Rattle.sql_tree.specs.declared.Key.{Key}
 pub use Rattle.sql_tree.specs.Literals.{Name}
 use Rattle.vschema.specs.declared.schema.Table.{Table}
-use Rattle.vschema.specs.Schema.{column_place}
-use Rattle.vschema.specs.Scopes.{Scope, scope_columns, place_in}
+use Rattle.vschema.specs.Schema.{column_ordinal}
+use Rattle.vschema.specs.Scopes.{Scope, scope_columns, ordinal_in}
 
 -- the place of a column; that it is there is a check of its own
-abbrev pub place : Table → Name → ℕ
-place t name = unwrap_or (column_place t name) 0
+abbrev pub ordinal : Table → Name → ℕ
+ordinal t name = unwrap_or (column_ordinal t name) 0
 
-abbrev pub places_from : {X : Type 0} → ℕ → List X → List ℕ
-places_from n [] = []
-places_from n (x ∷ xs) = n ∷ places_from (n + 1) xs
+abbrev pub ordinals_from : {X : Type 0} → ℕ → List X → List ℕ
+ordinals_from n [] = []
+ordinals_from n (x ∷ xs) = n ∷ ordinals_from (n + 1) xs
 
 abbrev pub resolved_operand : Scope → Operand ColumnName → Operand ℕ
-resolved_operand s (Column name) = Column (place_in s name)
+resolved_operand s (Column name) = Column (ordinal_in s name)
 resolved_operand s (Literal v) = Literal v
 
 abbrev pub resolved_node : Scope → Condition-F ColumnName (Condition ℕ) → Condition ℕ
@@ -40,16 +40,16 @@ abbrev pub resolved_condition : Scope → Condition ColumnName → Condition ℕ
 resolved_condition s c = fold-Condition ColumnName (Condition ℕ) (resolved_node s) c
 
 abbrev pub resolved_item : Scope → Item ColumnName → Item ℕ
-resolved_item s (item.Column name) = item.Column (place_in s name)
+resolved_item s (item.Column name) = item.Column (ordinal_in s name)
 resolved_item s item.CountRows = item.CountRows
-resolved_item s (item.Count name) = item.Count (place_in s name)
-resolved_item s (item.Sum name) = item.Sum (place_in s name)
-resolved_item s (item.Min name) = item.Min (place_in s name)
-resolved_item s (item.Max name) = item.Max (place_in s name)
+resolved_item s (item.Count name) = item.Count (ordinal_in s name)
+resolved_item s (item.Sum name) = item.Sum (ordinal_in s name)
+resolved_item s (item.Min name) = item.Min (ordinal_in s name)
+resolved_item s (item.Max name) = item.Max (ordinal_in s name)
 
 -- `*` is all columns in their order
 abbrev pub resolved_list : Scope → SelectList → List (Item ℕ)
-resolved_list s All = map item.Column (places_from 0 (scope_columns s))
+resolved_list s All = map item.Column (ordinals_from 0 (scope_columns s))
 resolved_list s (Items items) = map (resolved_item s) items
 
 -- an item is written with its table's name
@@ -66,4 +66,4 @@ qualified_in All = []
 qualified_in (Items items) = map is_qualified items
 
 abbrev pub resolved_key : Scope → Key ColumnName → Key ℕ
-resolved_key s k = record { column = place_in s k.column; descending = k.descending }
+resolved_key s k = record { column = ordinal_in s k.column; descending = k.descending }

@@ -6,14 +6,14 @@ use Rattle.vindex.specs.KeyspaceIds.{keyspace_id}
 use Rattle.vschema.specs.declared.schema.ColumnVindex.{ColumnVindex}
 use Rattle.vschema.specs.declared.schema.Table.{Table}
 use Rattle.vschema.specs.declared.schema.VSchema.{VSchema}
-pub use Rattle.vschema_document.specs.Places.{place_from}
+pub use Rattle.vschema_json.specs.Places.{ordinal_from}
 
 -- names are compared byte by byte
-abbrev pub column_place : Table → List ℕ → Option ℕ
-column_place t name = place_from (λ c. bytes_eq c.name name) 0 t.columns
+abbrev pub column_ordinal : Table → List ℕ → Option ℕ
+column_ordinal t name = ordinal_from (λ c. bytes_eq c.name name) 0 t.columns
 
-abbrev pub table_place : VSchema → List ℕ → Option ℕ
-table_place schema name = place_from (λ t. bytes_eq t.name name) 0 schema.tables
+abbrev pub table_ordinal : VSchema → List ℕ → Option ℕ
+table_ordinal schema name = ordinal_from (λ t. bytes_eq t.name name) 0 schema.tables
 
 -- a row's primary key
 abbrev pub key_of : Table → Row → List Value

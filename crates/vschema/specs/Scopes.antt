@@ -2,9 +2,9 @@
 use Rattle.std.specs.Prelude.{ℕ, ◌+◌, Bool, false, List, [], ◌++◌, length, bytes_eq, Option, Some, None, option_map, option_and_then, unwrap_or, if◌then◌else◌}
 use Rattle.sql_tree.specs.declared.ColumnName.{ColumnName}
 use Rattle.sql_tree.specs.Literals.{Name}
-use Rattle.vschema_document.specs.declared.column.Column.{Column}
+use Rattle.vschema_json.specs.declared.column.Column.{Column}
 use Rattle.vschema.specs.declared.schema.Table.{Table}
-use Rattle.vschema.specs.Schema.{column_place}
+use Rattle.vschema.specs.Schema.{column_ordinal}
 
 -- the tables after FROM
 pub record Scope : Type 0 where
@@ -17,17 +17,17 @@ only t = record { first = t; second = None }
 abbrev pub both_of : Table → Table → Scope
 both_of t u = record { first = t; second = Some u }
 
-abbrev pub columns_of : Option Table → List Column
-columns_of None = []
-columns_of (Some t) = t.columns
+abbrev pub table_columns : Option Table → List Column
+table_columns None = []
+table_columns (Some t) = t.columns
 
 -- the columns of the first, and after them those of the second
 abbrev pub scope_columns : Scope → List Column
-scope_columns s = s.first.columns ++ columns_of s.second
+scope_columns s = s.first.columns ++ table_columns s.second
 
 -- the place of a column of the second table among these
-abbrev pub second_place : Scope → Name → Option ℕ
-second_place s name = option_map (λ n. length s.first.columns + n) (option_and_then (λ t. column_place t name) s.second)
+abbrev pub second_ordinal : Scope → Name → Option ℕ
+second_ordinal s name = option_map (λ n. length s.first.columns + n) (option_and_then (λ t. column_ordinal t name) s.second)
 
 -- the one of two places that is there, if just one is
 abbrev pub just_one : Option ℕ → Option ℕ → Option ℕ
@@ -41,15 +41,15 @@ is_named name (Some t) = bytes_eq t.name name
 
 -- A bare name is a column of just one of the tables; a qualified one is a column of the table of that name. A table joined with itself is the
 -- first of the two.
-abbrev pub named_place : Scope → Option Name → Name → Option ℕ
-named_place s None name = just_one (column_place s.first name) (second_place s name)
-named_place s (Some table) name =
-    if bytes_eq s.first.name table then column_place s.first name
-    else if is_named table s.second then second_place s name else None
+abbrev pub named_ordinal : Scope → Option Name → Name → Option ℕ
+named_ordinal s None name = just_one (column_ordinal s.first name) (second_ordinal s name)
+named_ordinal s (Some table) name =
+    if bytes_eq s.first.name table then column_ordinal s.first name
+    else if is_named table s.second then second_ordinal s name else None
 
-abbrev pub scope_place : Scope → ColumnName → Option ℕ
-scope_place s c = named_place s c.table c.name
+abbrev pub scope_ordinal : Scope → ColumnName → Option ℕ
+scope_ordinal s c = named_ordinal s c.table c.name
 
 -- the place of a column; that it is there is a check of its own
-abbrev pub place_in : Scope → ColumnName → ℕ
-place_in s c = unwrap_or (scope_place s c) 0
+abbrev pub ordinal_in : Scope → ColumnName → ℕ
+ordinal_in s c = unwrap_or (scope_ordinal s c) 0

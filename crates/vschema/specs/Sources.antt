@@ -4,9 +4,9 @@ use Rattle.std.specs.List.{AllByRecursion}
 use Rattle.vt_value.specs.declared.value.Value.TheVariants.{Null}
 use Rattle.vt_value.specs.declared.value.Comparison.TheVariants.{Eq}
 use Rattle.vt_value.specs.Values.{Row, value_at, compare, is_true}
-use Rattle.vschema_document.specs.declared.column.Column.{Column}
-use Rattle.vschema_document.specs.declared.column.ColumnType.{ColumnType}
-use Rattle.vschema_document.specs.declared.column.ColumnType.TheVariants.{BigInt}
+use Rattle.vschema_json.specs.declared.column.Column.{Column}
+use Rattle.vschema_json.specs.declared.column.ColumnType.{ColumnType}
+use Rattle.vschema_json.specs.declared.column.ColumnType.TheVariants.{BigInt}
 use Rattle.vschema.specs.declared.schema.ColumnVindex.{ColumnVindex}
 use Rattle.vschema.specs.declared.schema.Join.{Join}
 use Rattle.vschema.specs.declared.schema.Query.{Query}
@@ -17,14 +17,14 @@ use Rattle.vschema.specs.Checks.{is_aggregated}
 use Rattle.vschema.specs.Database.{Database, rows_of}
 
 -- the first values of a row, so many, with NULL after its last one
-abbrev pub padded : ℕ → Row → Row
-padded zero row = []
-padded (suc n) [] = Null ∷ padded n []
-padded (suc n) (v ∷ row) = v ∷ padded n row
+abbrev pub padded_row : ℕ → Row → Row
+padded_row zero row = []
+padded_row (suc n) [] = Null ∷ padded_row n []
+padded_row (suc n) (v ∷ row) = v ∷ padded_row n row
 
 -- the values of the first, one for each of its table's columns, and then those of the second
 abbrev pub paired : Join → Row → Row → Row
-paired j a b = padded j.width a ++ b
+paired j a b = padded_row j.width a ++ b
 
 -- two rows are a pair if the two columns have equal values, of which then neither is NULL
 abbrev pub is_pair : Join → Row → Row → Bool
@@ -79,7 +79,7 @@ pub record IsInPlace (schema : VSchema) (q : Query) (j : Join) : Type 0 where
   pub width : j.width ≡ length (table_at schema q.table).columns
   pub first : j.first < j.width
   pub second : ℕ
-  pub place : j.second ≡ j.width + second
+  pub ordinal : j.second ≡ j.width + second
   pub kind : j.kind ≡ type_at (table_at schema j.table) second
   pub ids : HaveOneId j.first second (table_at schema q.table).vindex (table_at schema j.table).vindex
 

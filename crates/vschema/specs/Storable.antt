@@ -3,7 +3,7 @@ use Rattle.std.specs.Prelude.{Bool, true, false, not, ◌&&◌, ◌||◌, List, 
 use Rattle.std.specs.List.{list_any, list_all}
 use Rattle.vt_value.specs.declared.value.Value.{Value}
 use Rattle.vt_value.specs.Values.{Row, is_null}
-use Rattle.vschema_document.specs.declared.column.Column.{Column}
+use Rattle.vschema_json.specs.declared.column.Column.{Column}
 use Rattle.vschema.specs.declared.schema.Table.{Table}
 use Rattle.vschema.specs.Schema.{key_of}
 use Rattle.vschema.specs.Checks.{is_text_type, value_is_text, differ}

@@ -13,8 +13,8 @@ use Rattle.vschema.specs.declared.schema.VSchema.{VSchema}
 use Rattle.vschema.specs.declared.schema.Typed.{Typed}
 use Rattle.vschema.specs.declared.schema.Typed.TheVariants as typed
 use Rattle.vschema.specs.declared.changes.Write.{Write}
-use Rattle.vschema.specs.Schema.{table_place}
-use Rattle.vschema.specs.Scopes.{Scope, only, both_of, place_in}
+use Rattle.vschema.specs.Schema.{table_ordinal}
+use Rattle.vschema.specs.Scopes.{Scope, only, both_of, ordinal_in}
 use Rattle.vschema.specs.Resolved.{resolved_condition, resolved_list, qualified_in, resolved_key}
 use Rattle.vschema.specs.Joins.{resolved_join, join_is_refused}
 use Rattle.vschema.specs.Checks.{names_unknown_column, select_is_not_supported, shows_ungrouped}
@@ -33,7 +33,7 @@ over n m scope s = record {
   items = resolved_list scope s.list;
   qualified = qualified_in s.list;
   filter = option_map (resolved_condition scope) s.filter;
-  group_by = map (place_in scope) s.group_by;
+  group_by = map (ordinal_in scope) s.group_by;
   order_by = map (resolved_key scope) s.order_by;
   limit = s.limit;
 }
@@ -59,7 +59,7 @@ checked_second schema s n t (Some m) = checked_pair s n m t (slice_get schema.ta
 -- with the second table, if one is named
 abbrev pub checked_with : VSchema → S.Select → ℕ → Table → Option JoinOn → Result Query Refusal
 checked_with schema s n t None = checked n None (only t) s
-checked_with schema s n t (Some j) = checked_second schema s n t (table_place schema j.table)
+checked_with schema s n t (Some j) = checked_second schema s n t (table_ordinal schema j.table)
 
 abbrev pub checked_first : VSchema → S.Select → ℕ → Option Table → Result Query Refusal
 checked_first schema s n None = Err UnknownTable
@@ -71,7 +71,7 @@ checked_at schema s (Some n) = checked_first schema s n (slice_get schema.tables
 
 -- the tables, and then their checks
 abbrev pub typed_select : VSchema → S.Select → Result Query Refusal
-typed_select schema s = checked_at schema s (table_place schema s.table)
+typed_select schema s = checked_at schema s (table_ordinal schema s.table)
 
 abbrev pub as_query : Result Query Refusal → Result Typed Refusal
 as_query (Ok q) = Ok (typed.Select q)

@@ -14,10 +14,10 @@ use Rattle.vschema.specs.declared.schema.Table.{Table}
 use Rattle.vschema.specs.declared.schema.VSchema.{VSchema}
 use Rattle.vschema.specs.declared.changes.Write.{Write}
 use Rattle.vschema.specs.declared.changes.Write.TheVariants.{Insert, Update, Delete}
-use Rattle.vschema.specs.Schema.{table_place, place_from}
+use Rattle.vschema.specs.Schema.{table_ordinal, ordinal_from}
 use Rattle.vschema.specs.Scopes.{only}
-use Rattle.vschema.specs.Resolved.{Name, place, places_from, resolved_condition}
-use Rattle.vschema.specs.WriteChecks.{Stored, has_twice, sets_twice, insert_names, insert_places, has_wrong_count, insert_names_unknown, update_names_unknown, delete_names_unknown, inserted_values, assigned_values, has_other_kind, has_wrong_null, has_out_of_range, has_too_long, leaves_out_column, update_is_not_supported, delete_is_not_supported}
+use Rattle.vschema.specs.Resolved.{Name, ordinal, ordinals_from, resolved_condition}
+use Rattle.vschema.specs.WriteChecks.{Stored, has_twice, sets_twice, insert_names, insert_ordinals, has_wrong_count, insert_names_unknown, update_names_unknown, delete_names_unknown, inserted_values, assigned_values, has_other_kind, has_wrong_null, has_out_of_range, has_too_long, leaves_out_column, update_is_not_supported, delete_is_not_supported}
 
 -- the write, or the refusal of the first check that fails
 abbrev pub unless_refused : List (Bool × Refusal) → Write → Result Write Refusal
@@ -45,18 +45,18 @@ delete_checks t s = (delete_names_unknown t s, UnknownColumn) ∷ (delete_is_not
 
 -- the value of INSERT's row for a column, NULL if it isn't named
 abbrev pub value_for : List ℕ → List Value → ℕ → Value
-value_for places values n = unwrap_or (option_and_then (slice_get values) (place_from (λ m. m == n) 0 places)) Null
+value_for ordinals values n = unwrap_or (option_and_then (slice_get values) (ordinal_from (λ m. m == n) 0 ordinals)) Null
 
 -- a row of INSERT in the order of the table's columns
 abbrev pub whole_row : Table → List ℕ → List Value → Row
-whole_row t places values = map (value_for places values) (places_from 0 t.columns)
+whole_row t ordinals values = map (value_for ordinals values) (ordinals_from 0 t.columns)
 
 abbrev pub resolved_assignment : Table → Assignment Name → Assignment ℕ
-resolved_assignment t a = record { column = place t a.column; value = a.value }
+resolved_assignment t a = record { column = ordinal t a.column; value = a.value }
 
 -- the writes over the table at a place of the VSchema
 abbrev pub insert_over : ℕ → Table → I.Insert → Write
-insert_over n t s = Insert n (map (whole_row t (insert_places t s.columns)) s.rows)
+insert_over n t s = Insert n (map (whole_row t (insert_ordinals t s.columns)) s.rows)
 
 abbrev pub update_over : ℕ → Table → U.Update → Write
 update_over n t s =
@@ -75,7 +75,7 @@ on_place schema typed (Some n) = on_table typed n (slice_get schema.tables n)
 
 -- what is typed over the table of this name
 abbrev pub on_name : VSchema → Name → (ℕ → Table → Result Write Refusal) → Result Write Refusal
-on_name schema name typed = on_place schema typed (table_place schema name)
+on_name schema name typed = on_place schema typed (table_ordinal schema name)
 
 abbrev pub typed_insert : VSchema → I.Insert → Result Write Refusal
 typed_insert schema s = on_name schema s.table (λ n t. unless_refused (insert_checks t s) (insert_over n t s))

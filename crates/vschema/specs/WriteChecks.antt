@@ -8,15 +8,15 @@ use Rattle.sql_tree.specs.declared.Assignment.{Assignment}
 use Rattle.sql_tree.specs.declared.Insert.{Insert}
 use Rattle.sql_tree.specs.declared.Update.{Update}
 use Rattle.sql_tree.specs.declared.Delete.{Delete}
-use Rattle.vschema_document.specs.declared.column.Column.{Column}
-use Rattle.vschema_document.specs.declared.column.ColumnType.{ColumnType}
-use Rattle.vschema_document.specs.declared.column.ColumnType.TheVariants.{BigInt, BigIntUnsigned, VarBinary}
+use Rattle.vschema_json.specs.declared.column.Column.{Column}
+use Rattle.vschema_json.specs.declared.column.ColumnType.{ColumnType}
+use Rattle.vschema_json.specs.declared.column.ColumnType.TheVariants.{BigInt, BigIntUnsigned, VarBinary}
 use Rattle.vschema.specs.declared.schema.ColumnVindex.{ColumnVindex}
 use Rattle.vschema.specs.declared.schema.Table.{Table}
 use Rattle.vschema.specs.Scopes.{only}
-use Rattle.vschema.specs.Resolved.{Name, place, places_from}
+use Rattle.vschema.specs.Resolved.{Name, ordinal, ordinals_from}
 use Rattle.vschema.specs.Checks.{is_unknown, filter_has, condition_names_unknown, condition_mixes, is_text_type, value_is_text, differ, has_number}
-pub use Rattle.vschema_document.specs.Twice.{has_twice}
+pub use Rattle.vschema_json.specs.Twice.{has_twice}
 
 -- SET names a column twice
 abbrev pub sets_twice : List (Assignment Name) → Bool
@@ -32,13 +32,13 @@ abbrev pub insert_names : Insert → List Name
 insert_names s = listed_names s.columns
 
 -- the places of INSERT's columns: all of them, in their order, if none is named
-abbrev pub insert_places : Table → Option (List Name) → List ℕ
-insert_places t None = places_from 0 t.columns
-insert_places t (Some names) = map (place t) names
+abbrev pub insert_ordinals : Table → Option (List Name) → List ℕ
+insert_ordinals t None = ordinals_from 0 t.columns
+insert_ordinals t (Some names) = map (ordinal t) names
 
 -- a row has another number of values than INSERT has columns
 abbrev pub has_wrong_count : Table → Insert → Bool
-has_wrong_count t s = list_any (λ row. not (length row == length (insert_places t s.columns))) s.rows
+has_wrong_count t s = list_any (λ row. not (length row == length (insert_ordinals t s.columns))) s.rows
 
 abbrev pub insert_names_unknown : Table → Insert → Bool
 insert_names_unknown t s = list_any (is_unknown t) (insert_names s)
@@ -54,17 +54,17 @@ delete_names_unknown t s = filter_has (condition_names_unknown (only t)) s.filte
 abbrev pub Stored : Type 0
 Stored = List (Column × Value)
 
-abbrev pub beside : Table → ℕ → Value → Stored
-beside t n v = map (λ c. (c, v)) (option_to_list (slice_get t.columns n))
+abbrev pub with_column : Table → ℕ → Value → Stored
+with_column t n v = map (λ c. (c, v)) (option_to_list (slice_get t.columns n))
 
 -- the values that INSERT stores
 abbrev pub inserted_values : Table → Insert → Stored
 inserted_values t s =
-    flat_map (λ row. flat_map (λ p. beside t p.0 p.1) (zip (insert_places t s.columns) row)) s.rows
+    flat_map (λ row. flat_map (λ p. with_column t p.0 p.1) (zip (insert_ordinals t s.columns) row)) s.rows
 
 -- the values that SET stores
 abbrev pub assigned_values : Table → Update → Stored
-assigned_values t s = flat_map (λ a. beside t (place t a.column) a.value) s.assignments
+assigned_values t s = flat_map (λ a. with_column t (ordinal t a.column) a.value) s.assignments
 
 -- a text is stored in a column of numbers, or a number in one of texts
 abbrev pub has_other_kind : Stored → Bool
@@ -91,8 +91,8 @@ has_too_long stored = list_any (λ p. is_too_long p.0.kind p.1) stored
 -- a NOT NULL column that INSERT doesn't name
 abbrev pub leaves_out_column : Table → Insert → Bool
 leaves_out_column t s =
-    list_any (λ p. not p.1.nullable && not (has_number (insert_places t s.columns) p.0))
-    (zip (places_from 0 t.columns) t.columns)
+    list_any (λ p. not p.1.nullable && not (has_number (insert_ordinals t s.columns) p.0))
+    (zip (ordinals_from 0 t.columns) t.columns)
 
 abbrev pub is_vindex_column : Option ColumnVindex → ℕ → Bool
 is_vindex_column None n = false
@@ -104,7 +104,7 @@ is_key_column t n = has_number t.primary_key n || is_vindex_column t.vindex n
 
 -- SET of a primary key column or the vindex column
 abbrev pub sets_key : Table → Update → Bool
-sets_key t s = list_any (λ a. is_key_column t (place t a.column)) s.assignments
+sets_key t s = list_any (λ a. is_key_column t (ordinal t a.column)) s.assignments
 
 -- a comparison or SET has a number on one side and a text on the other, or a key is set
 abbrev pub update_is_not_supported : Table → Update → Bool

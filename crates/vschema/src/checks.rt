@@ -4,16 +4,16 @@ ghost use Rattle.std.specs.List.{list_any};
 ghost use Rattle.vschema.specs.Checks.{is_unknown, is_unnamed, join_names_unknown, operand_is_unknown, condition_names_unknown, filter_has, item_names_unknown, list_names_unknown, names_unknown_column};
 ghost use Rattle.vschema.specs.Checks.{is_text_type, value_is_text, column_is_text, operand_is_text, differ, condition_mixes, is_text_sum, sums_text, select_is_not_supported};
 ghost use Rattle.vschema.specs.Checks.{has_number, is_aggregate, shows_ungrouped};
-ghost use Rattle.vschema.specs.FirstPlaces.{first_place};
-ghost use Rattle.vschema.specs.inner.FirstPlaces.{shows_other};
+ghost use Rattle.vschema.specs.FirstOrdinals.{first_ordinal};
+ghost use Rattle.vschema.specs.inner.FirstOrdinals.{shows_other};
 
-use crate::first_places::FirstPlaces;
+use crate::first_ordinals::FirstOrdinals;
 use crate::names::is_unknown;
 use crate::schema::{Query, Table};
-use crate::scope::{Scope, is_unnamed, kind_at, place_in};
+use crate::scope::{Scope, is_unnamed, kind_at, ordinal_in};
 use sql_tree::{ColumnName, Condition, Item, JoinOn, Key, Name, Operand, Select, SelectList};
 use std::alloc::{AllocError, Global};
-use vschema_document::ColumnType;
+use vschema_json::ColumnType;
 use vt_value::Value;
 
 /// Whether one of the names is no column of the table.
@@ -143,10 +143,10 @@ pub fn value_is_text(value: &Value) -> Option<bool>
     }
 }
 
-pub fn column_is_text(scope: &Scope, place: usize) -> Option<bool>
-    ensures { result ≡ column_is_text scope.now place }
+pub fn column_is_text(scope: &Scope, ordinal: usize) -> Option<bool>
+    ensures { result ≡ column_is_text scope.now ordinal }
 {
-    match kind_at(scope, place) {
+    match kind_at(scope, ordinal) {
         Some(kind) => Some(is_text_type(kind)),
         None => None,
     }
@@ -156,7 +156,7 @@ fn operand_is_text(scope: &Scope, operand: &Operand<ColumnName>) -> Option<bool>
     ensures { result ≡ operand_is_text scope.now operand.now }
 {
     match operand {
-        Operand::Column(name) => { column_is_text(scope, place_in(scope, name)) }
+        Operand::Column(name) => { column_is_text(scope, ordinal_in(scope, name)) }
         Operand::Literal(value) => value_is_text(value),
     }
 }
@@ -214,7 +214,7 @@ fn is_text_sum(scope: &Scope, item: &Item<ColumnName>) -> bool
     ensures { result ≡ is_text_sum scope.now item.now }
 {
     match item {
-        Item::Sum(name) => { differ(column_is_text(scope, place_in(scope, name)), Some(false)) }
+        Item::Sum(name) => { differ(column_is_text(scope, ordinal_in(scope, name)), Some(false)) }
         _ => false,
     }
 }
@@ -283,29 +283,29 @@ impl Query {
     }
 }
 
-fn is_ungrouped(grouped: &FirstPlaces, item: &Item<usize>) -> bool
+fn is_ungrouped(grouped: &FirstOrdinals, item: &Item<usize>) -> bool
     ensures { result ≡ shows_other grouped.now item.now }
 {
     match item {
-        Item::Column(place) => grouped.get(*place).is_none(),
+        Item::Column(ordinal) => grouped.get(*ordinal).is_none(),
         _ => false,
     }
 }
 
-fn some_item_ungrouped(grouped: &FirstPlaces, items: &[Item<usize>]) -> bool
+fn some_item_ungrouped(grouped: &FirstOrdinals, items: &[Item<usize>]) -> bool
     ensures { result ≡ list_any (shows_other grouped.now) items.now }
 {
     items.iter().any(|item| is_ungrouped(grouped, item))
 }
 
-fn some_key_ungrouped(grouped: &FirstPlaces, keys: &[Key<usize>]) -> bool
-    ensures { result ≡ list_any (λ k. is_none (first_place grouped.now k.column)) keys.now }
+fn some_key_ungrouped(grouped: &FirstOrdinals, keys: &[Key<usize>]) -> bool
+    ensures { result ≡ list_any (λ k. is_none (first_ordinal grouped.now k.column)) keys.now }
 {
     keys.iter().any(|key| grouped.get(key.column).is_none())
 }
 
-fn has_ungrouped(grouped: &FirstPlaces, query: &Query) -> bool
-    ensures { result ≡ list_any (shows_other grouped.now) query.now.items || list_any (λ k. is_none (first_place grouped.now k.column)) query.now.order_by }
+fn has_ungrouped(grouped: &FirstOrdinals, query: &Query) -> bool
+    ensures { result ≡ list_any (shows_other grouped.now) query.now.items || list_any (λ k. is_none (first_ordinal grouped.now k.column)) query.now.order_by }
 {
     some_item_ungrouped(grouped, query.items.as_slice())
         || some_key_ungrouped(grouped, query.order_by.as_slice())
@@ -318,6 +318,6 @@ pub fn shows_ungrouped(alloc: Global, query: &Query) -> Result<bool, AllocError>
     if !query.is_aggregated() {
         return Ok(false);
     }
-    let grouped = FirstPlaces::of(alloc, query.group_by.as_slice())?;
+    let grouped = FirstOrdinals::of(alloc, query.group_by.as_slice())?;
     Ok(has_ungrouped(&grouped, query))
 }

@@ -2,13 +2,13 @@
 ghost use Rattle.std.specs.Prelude.{◌≡◌, not, ◌++◌, ◌∷◌, [], bytes_eq, length, IfOk, OnOk, OnErr, OnSome, if◌then◌else◌};
 ghost use Rattle.std.specs.List.{list_any};
 ghost use Rattle.std.specs.Option.{option_copied};
-ghost use Rattle.vschema.specs.Schema.{place_from};
+ghost use Rattle.vschema.specs.Schema.{ordinal_from};
 
 use indexmap::IndexSet;
 use sql_tree::Name;
 use std::alloc::{AllocError, Global};
 use std::marker::Model;
-use vschema_document::{Column, place_among};
+use vschema_json::{Column, ordinal_among};
 
 /// Up to so many columns a name is compared with each, which takes less time than its hash.
 const FEW: usize = 8;
@@ -22,8 +22,8 @@ pub struct Columns {
 impl Model for Columns {
     ghost use Rattle.std.specs.Prelude.{List};
     ghost use Rattle.std.specs.Coded.{coded_list};
-    ghost use Rattle.vschema_document.specs.declared.column.Column.{Column};
-    ghost use Rattle.vschema_document.specs.contracts.column.Column as column;
+    ghost use Rattle.vschema_json.specs.declared.column.Column.{Column};
+    ghost use Rattle.vschema_json.specs.contracts.column.Column as column;
 
     ghost Value = { List Column };
 
@@ -35,7 +35,7 @@ impl Model for Columns {
 impl Columns {
     // Promise: The columns of a table are kept in their order and found by name; one whose name is there isn't added; only memory refuses
     // one
-    // With: Columns::{insert, as_slice, len, place_of}
+    // With: Columns::{insert, as_slice, len, ordinal_of}
     /// No columns.
     pub fn new(alloc: Global) -> Columns
         ensures { result ≡ [] }
@@ -70,11 +70,11 @@ impl Columns {
     }
 
     /// The place of the column with this name.
-    pub fn place_of(&self, name: &Name) -> Option<usize>
-        ensures { result ≡ place_from (λ c. bytes_eq c.name name.now) 0 self.now }
+    pub fn ordinal_of(&self, name: &Name) -> Option<usize>
+        ensures { result ≡ ordinal_from (λ c. bytes_eq c.name name.now) 0 self.now }
     {
         if self.by_name.len() <= FEW {
-            return place_among(self.by_name.as_slice(), name);
+            return ordinal_among(self.by_name.as_slice(), name);
         }
         self.by_name.get_index_of(name.as_slice())
     }

@@ -11,7 +11,7 @@ ghost use Rattle.vschema.specs.Sources.{JoinsInPlace};
 mod changes;
 mod checks;
 mod columns;
-mod first_places;
+mod first_ordinals;
 mod group_by;
 mod hashing;
 mod joins;
@@ -27,11 +27,11 @@ mod writes;
 
 pub use changes::{RowChange, Write};
 pub use columns::Columns;
-pub use first_places::FirstPlaces;
+pub use first_ordinals::FirstOrdinals;
 pub use group_by::GroupBy;
 pub use hashing::Hashing;
 pub use schema::{ColumnVindex, Join, Keyspace, Place, Query, Table, Tables, Typed, VSchema};
-pub use vschema_document::{Column, ColumnType, SchemaFault};
+pub use vschema_json::{Column, ColumnType, SchemaFault};
 pub use write_checks::{is_out_of_range, is_too_long};
 
 // Promise: Each join that a statement means is one that shards can make by themselves: both tables lie in one keyspace, and either neither has a

@@ -1,8 +1,8 @@
 //! The VSchema that a sound document means: names are resolved to places, once.
 ghost use Rattle.std.specs.Prelude.{◌≡◌, ◌++◌, ◌+◌, ◌≤◌, ◌<◌, ◌^◌, false, map, length, slice_get, option_and_then, IfOk, IfErr, IsTrue};
 ghost use Rattle.std.specs.List.{list_any};
-ghost use Rattle.vschema_document.specs.Faults.{keys, table_has, has};
-ghost use Rattle.vschema.specs.Meant.{place_in, vindex_number, vindex_on, meant_table, meant_tables, meant_keyspace, meant, contents};
+ghost use Rattle.vschema_json.specs.Faults.{keys, table_has, has};
+ghost use Rattle.vschema.specs.Meant.{ordinal_in, vindex_number, vindex_on, meant_table, meant_tables, meant_keyspace, meant, contents};
 ghost use Rattle.vschema.specs.Formed.{is_formed};
 ghost use Rattle.vschema.specs.WriteChecks.{has_twice};
 
@@ -10,8 +10,8 @@ use crate::columns::Columns;
 use crate::schema::{ColumnVindex, Keyspace, Table, Tables, VSchema};
 use sql_tree::Name;
 use std::alloc::Global;
-use vschema_document::{
-    Column, DeclaredKey, DeclaredKeyspace, DeclaredTable, SchemaFault, is_name, keys, place_of,
+use vschema_json::{
+    Column, DeclaredKey, DeclaredKeyspace, DeclaredTable, SchemaFault, is_name, keys, ordinal_of,
     vindex_of, vindexes,
 };
 use vt_value::Items;
@@ -39,25 +39,25 @@ fn copy_columns(alloc: Global, columns: &[Column]) -> Result<Columns, SchemaFaul
     Ok(copied)
 }
 
-fn place_in(table: &DeclaredTable, name: &Name) -> usize
-    ensures { result ≡ place_in table.now name.now }
+fn ordinal_in(table: &DeclaredTable, name: &Name) -> usize
+    ensures { result ≡ ordinal_in table.now name.now }
 {
-    place_of(table, name).unwrap_or(0)
+    ordinal_of(table, name).unwrap_or(0)
 }
 
-fn places_in(
+fn ordinals_in(
     alloc: Global,
     table: &DeclaredTable,
     names: &[Name],
 ) -> Result<Items<usize>, SchemaFault>
-    ensures ok { IfOk result (λ r. r ≡ map (place_in table.now) names.now) }
+    ensures ok { IfOk result (λ r. r ≡ map (ordinal_in table.now) names.now) }
     ensures err { IfErr result (λ e. e ≡ SchemaFault.OutOfMemory) }
 {
-    let mut places = Items::new(alloc);
+    let mut ordinals = Items::new(alloc);
     for name in names {
-        places.push(place_in(table, name))?;
+        ordinals.push(ordinal_in(table, name))?;
     }
-    Ok(places)
+    Ok(ordinals)
 }
 
 fn vindex_number(keyspace: &DeclaredKeyspace, name: &Name) -> usize
@@ -79,7 +79,7 @@ fn vindex_on(
     ensures { result ≡ vindex_on keyspace.now table.now key.now }
 {
     let vindex = vindex_of(keyspace, &key.vindex)?;
-    let column = place_in(table, &key.column);
+    let column = ordinal_in(table, &key.column);
     let number = vindex_number(keyspace, &key.vindex);
     Some(ColumnVindex {
         column,
@@ -97,19 +97,19 @@ fn first_vindex(keyspace: &DeclaredKeyspace, table: &DeclaredTable) -> Option<Co
 fn meant_table(
     alloc: Global,
     keyspace: &DeclaredKeyspace,
-    place: usize,
+    ordinal: usize,
     table: &DeclaredTable,
 ) -> Result<Table, SchemaFault>
     requires once { table_has SchemaFault.NamedTwice keyspace.now table.now ≡ false }
-    ensures ok { IfOk result (λ t. t ≡ meant_table keyspace.now place table.now) }
+    ensures ok { IfOk result (λ t. t ≡ meant_table keyspace.now ordinal table.now) }
     ensures err { IfErr result (λ e. e ≡ SchemaFault.OutOfMemory) }
 {
     let name = Items::from_slice(alloc, table.name.as_slice())?;
     let columns = copy_columns(alloc, table.columns.as_slice())?;
-    let primary_key = places_in(alloc, table, table.primary_key.as_slice())?;
+    let primary_key = ordinals_in(alloc, table, table.primary_key.as_slice())?;
     Ok(Table {
         name,
-        keyspace: place,
+        keyspace: ordinal,
         columns,
         primary_key,
         vindex: first_vindex(keyspace, table),
@@ -119,15 +119,15 @@ fn meant_table(
 fn tables_of(
     alloc: Global,
     keyspace: &DeclaredKeyspace,
-    place: usize,
+    ordinal: usize,
 ) -> Result<Items<Table>, SchemaFault>
     requires once { list_any (table_has SchemaFault.NamedTwice keyspace.now) keyspace.now.tables ≡ false }
-    ensures ok { IfOk result (λ ts. ts ≡ map (meant_table keyspace.now place) keyspace.now.tables) }
+    ensures ok { IfOk result (λ ts. ts ≡ map (meant_table keyspace.now ordinal) keyspace.now.tables) }
     ensures err { IfErr result (λ e. e ≡ SchemaFault.OutOfMemory) }
 {
     let mut tables = Items::new(alloc);
     for table in keyspace.tables.as_slice() {
-        tables.push(meant_table(alloc, keyspace, place, table)?)?;
+        tables.push(meant_table(alloc, keyspace, ordinal, table)?)?;
     }
     Ok(tables)
 }
@@ -138,8 +138,8 @@ fn all_tables(alloc: Global, keyspaces: &[DeclaredKeyspace]) -> Result<Items<Tab
     ensures err { IfErr result (λ e. e ≡ SchemaFault.OutOfMemory) }
 {
     let mut tables = Items::new(alloc);
-    for (place, keyspace) in keyspaces.iter().enumerate() {
-        tables.append(tables_of(alloc, keyspace, place)?)?;
+    for (ordinal, keyspace) in keyspaces.iter().enumerate() {
+        tables.append(tables_of(alloc, keyspace, ordinal)?)?;
     }
     Ok(tables)
 }

@@ -3,7 +3,7 @@ use crate::hashing::Hashing;
 use crate::meaning::meant;
 use crate::schema::VSchema;
 use std::alloc::Global;
-use vschema_document::{SchemaFault, first_fault, parse, read_document};
+use vschema_json::{SchemaFault, first_fault, parse, read_document};
 
 impl VSchema {
     ghost use Rattle.std.specs.Prelude.{◌≡◌, ◌⊎◌, Ok, Err, IfOk, IfErr, IsTrue};
@@ -12,7 +12,7 @@ impl VSchema {
 
     // Promise: A text is the VSchema that it declares, or the fault with the least number that applies; every VSchema is well-formed, as
     // its type keeps
-    // With: VSchema::formed, vschema_document::{parse, read_document, first_fault, SchemaFault::number}
+    // With: VSchema::formed, vschema_json::{parse, read_document, first_fault, SchemaFault::number}
     /// The VSchema that a JSON text declares, or the fault with the least number that applies. Besides these it refuses only
     /// for want of memory. Keyspaces, and the tables of each, are in the order of their names.
     pub fn read(alloc: Global, text: &str) -> Result<VSchema, SchemaFault>

@@ -1,32 +1,32 @@
 //! Statements with their names resolved: tables and columns become places, and the first refusal that applies is told.
 ghost use Rattle.std.specs.Prelude.{◌≡◌, ◌⊎◌, IfOk, IfErr, IfSome, IfNone, map, slice_get, option_map, Ok, Err, Some, None, true, false};
 ghost use Rattle.vschema.specs.Checks.{shows_ungrouped};
-ghost use Rattle.vschema.specs.Scopes.{only, both_of, scope_columns, place_in};
-ghost use Rattle.vschema.specs.Joins.{left_place, right_place, resolved_join, join_is_refused};
-ghost use Rattle.vschema.specs.Schema.{table_place};
-ghost use Rattle.vschema.specs.Resolved.{place, places_from, resolved_operand, resolved_condition, resolved_item, resolved_list, is_qualified, qualified_in, resolved_key};
+ghost use Rattle.vschema.specs.Scopes.{only, both_of, scope_columns, ordinal_in};
+ghost use Rattle.vschema.specs.Joins.{left_ordinal, right_ordinal, resolved_join, join_is_refused};
+ghost use Rattle.vschema.specs.Schema.{table_ordinal};
+ghost use Rattle.vschema.specs.Resolved.{ordinal, ordinals_from, resolved_operand, resolved_condition, resolved_item, resolved_list, is_qualified, qualified_in, resolved_key};
 ghost use Rattle.vschema.specs.TypedStatement.{join_over, over, checked, checked_pair, checked_second, checked_with, typed_select, typed_statement};
 
 use crate::checks::{is_not_supported, names_unknown_column, shows_ungrouped};
 use crate::group_by::GroupBy;
 use crate::hashing::Hashing;
 use crate::joins::join_is_refused;
-use crate::names::{column_place, table_place};
+use crate::names::{column_ordinal, table_ordinal};
 use crate::schema::{Join, Query, Table, Typed, VSchema};
-use crate::scope::{Scope, column_count, kind_at, place_in, width};
+use crate::scope::{Scope, column_count, kind_at, ordinal_in, width};
 use crate::writes::{resolve_delete, resolve_insert, resolve_update};
 use sql_tree::{
     ColumnName, Condition, Item, JoinOn, Key, Name, Operand, Select, SelectList, Statement,
 };
 use std::alloc::Global;
-use vschema_document::ColumnType;
+use vschema_json::ColumnType;
 use vt_value::{Boxed, Items, Refusal, Value, copy};
 
 /// The place of a column; that it is there is a check of its own.
-pub fn place(table: &Table, name: &Name) -> usize
-    ensures { result ≡ place table.now name.now }
+pub fn ordinal(table: &Table, name: &Name) -> usize
+    ensures { result ≡ ordinal table.now name.now }
 {
-    column_place(table, name).unwrap_or(0)
+    column_ordinal(table, name).unwrap_or(0)
 }
 
 fn copy_values(alloc: Global, values: &[Value]) -> Result<Items<Value>, Refusal>
@@ -49,7 +49,7 @@ fn resolve_operand(
     ensures err { IfErr result (λ e. e ≡ Refusal.OutOfMemory) }
 {
     match operand {
-        Operand::Column(name) => Ok(Operand::Column(place_in(scope, name))),
+        Operand::Column(name) => Ok(Operand::Column(ordinal_in(scope, name))),
         Operand::Literal(value) => {
             let value = copy(alloc, value)?;
             Ok(Operand::Literal(value))
@@ -142,12 +142,12 @@ fn resolve_members(
 }
 
 fn all_columns(alloc: Global, scope: &Scope) -> Result<Items<Item<usize>>, Refusal>
-    ensures ok { IfOk result (λ r. r ≡ map Item.Column (places_from 0 (scope_columns scope.now))) }
+    ensures ok { IfOk result (λ r. r ≡ map Item.Column (ordinals_from 0 (scope_columns scope.now))) }
     ensures err { IfErr result (λ e. e ≡ Refusal.OutOfMemory) }
 {
     let mut shown = Items::new(alloc);
-    for place in 0..column_count(scope) {
-        shown.push(Item::Column(place))?;
+    for ordinal in 0..column_count(scope) {
+        shown.push(Item::Column(ordinal))?;
     }
     Ok(shown)
 }
@@ -156,12 +156,12 @@ fn resolve_item(scope: &Scope, item: &Item<ColumnName>) -> Item<usize>
     ensures { result ≡ resolved_item scope.now item.now }
 {
     match item {
-        Item::Column(name) => Item::Column(place_in(scope, name)),
+        Item::Column(name) => Item::Column(ordinal_in(scope, name)),
         Item::CountRows => Item::CountRows,
-        Item::Count(name) => Item::Count(place_in(scope, name)),
-        Item::Sum(name) => Item::Sum(place_in(scope, name)),
-        Item::Min(name) => Item::Min(place_in(scope, name)),
-        Item::Max(name) => Item::Max(place_in(scope, name)),
+        Item::Count(name) => Item::Count(ordinal_in(scope, name)),
+        Item::Sum(name) => Item::Sum(ordinal_in(scope, name)),
+        Item::Min(name) => Item::Min(ordinal_in(scope, name)),
+        Item::Max(name) => Item::Max(ordinal_in(scope, name)),
     }
 }
 
@@ -230,14 +230,14 @@ fn qualified_in(alloc: Global, list: &SelectList) -> Result<Items<bool>, Refusal
 
 /// The places of these columns.
 pub fn resolve_names(alloc: Global, table: &Table, names: &[Name]) -> Result<Items<usize>, Refusal>
-    ensures ok { IfOk result (λ r. r ≡ map (place table.now) names.now) }
+    ensures ok { IfOk result (λ r. r ≡ map (ordinal table.now) names.now) }
     ensures err { IfErr result (λ e. e ≡ Refusal.OutOfMemory) }
 {
-    let mut places = Items::new(alloc);
+    let mut ordinals = Items::new(alloc);
     for name in names {
-        places.push(place(table, name))?;
+        ordinals.push(ordinal(table, name))?;
     }
-    Ok(places)
+    Ok(ordinals)
 }
 
 fn resolve_columns(
@@ -245,21 +245,21 @@ fn resolve_columns(
     scope: &Scope,
     columns: &[ColumnName],
 ) -> Result<Items<usize>, Refusal>
-    ensures ok { IfOk result (λ r. r ≡ map (place_in scope.now) columns.now) }
+    ensures ok { IfOk result (λ r. r ≡ map (ordinal_in scope.now) columns.now) }
     ensures err { IfErr result (λ e. e ≡ Refusal.OutOfMemory) }
 {
-    let mut places = Items::new(alloc);
+    let mut ordinals = Items::new(alloc);
     for column in columns {
-        places.push(place_in(scope, column))?;
+        ordinals.push(ordinal_in(scope, column))?;
     }
-    Ok(places)
+    Ok(ordinals)
 }
 
 fn resolve_key(scope: &Scope, key: &Key<ColumnName>) -> Key<usize>
     ensures { result ≡ resolved_key scope.now key.now }
 {
     Key {
-        column: place_in(scope, &key.column),
+        column: ordinal_in(scope, &key.column),
         descending: key.descending,
     }
 }
@@ -297,23 +297,23 @@ pub fn resolve_filter(
     }
 }
 
-fn left_place(scope: &Scope, join: &JoinOn) -> usize
-    ensures { result ≡ left_place scope.now join.now }
+fn left_ordinal(scope: &Scope, join: &JoinOn) -> usize
+    ensures { result ≡ left_ordinal scope.now join.now }
 {
-    let left = place_in(scope, &join.left);
+    let left = ordinal_in(scope, &join.left);
     if left < width(scope) {
         left
     } else {
-        place_in(scope, &join.right)
+        ordinal_in(scope, &join.right)
     }
 }
 
-fn right_place(scope: &Scope, join: &JoinOn) -> usize
-    ensures { result ≡ right_place scope.now join.now }
+fn right_ordinal(scope: &Scope, join: &JoinOn) -> usize
+    ensures { result ≡ right_ordinal scope.now join.now }
 {
-    let left = place_in(scope, &join.left);
+    let left = ordinal_in(scope, &join.left);
     if left < width(scope) {
-        place_in(scope, &join.right)
+        ordinal_in(scope, &join.right)
     } else {
         left
     }
@@ -322,11 +322,11 @@ fn right_place(scope: &Scope, join: &JoinOn) -> usize
 fn resolve_join(scope: &Scope, table: usize, join: &JoinOn) -> Join
     ensures { result ≡ resolved_join scope.now table join.now }
 {
-    let second = right_place(scope, join);
+    let second = right_ordinal(scope, join);
     Join {
         table,
         width: width(scope),
-        first: left_place(scope, join),
+        first: left_ordinal(scope, join),
         second,
         kind: kind_at(scope, second).unwrap_or(ColumnType::BigInt),
     }
@@ -344,12 +344,12 @@ fn join_over(scope: &Scope, second: Option<usize>, join: &Option<JoinOn>) -> Opt
 fn query_over(
     alloc: Global,
     hashing: &Hashing,
-    place: usize,
+    ordinal: usize,
     second: Option<usize>,
     scope: &Scope,
     select: &Select,
 ) -> Result<Query, Refusal>
-    ensures ok { IfOk result (λ q. q ≡ over place second scope.now select.now) }
+    ensures ok { IfOk result (λ q. q ≡ over ordinal second scope.now select.now) }
     ensures err { IfErr result (λ e. e ≡ Refusal.OutOfMemory) }
 {
     let items = resolve_list(alloc, scope, &select.list)?;
@@ -358,7 +358,7 @@ fn query_over(
     let order_by = resolve_keys(alloc, scope, select.order_by.as_slice())?;
     let filter = resolve_filter(alloc, scope, &select.filter)?;
     Ok(Query {
-        table: place,
+        table: ordinal,
         join: join_over(scope, second, &select.join),
         items,
         qualified,
@@ -405,13 +405,13 @@ fn late_refusal(alloc: Global, scope: &Scope, query: &Query) -> Option<Refusal>
 fn resolve_over(
     alloc: Global,
     hashing: &Hashing,
-    place: usize,
+    ordinal: usize,
     second: Option<usize>,
     scope: &Scope,
     select: &Select,
 ) -> Result<Query, Refusal>
-    ensures ok { IfOk result (λ q. checked place second scope.now select.now ≡ Ok q) }
-    ensures err { IfErr result (λ e. (e ≡ Refusal.OutOfMemory) ⊎ (checked place second scope.now select.now ≡ Err e)) }
+    ensures ok { IfOk result (λ q. checked ordinal second scope.now select.now ≡ Ok q) }
+    ensures err { IfErr result (λ e. (e ≡ Refusal.OutOfMemory) ⊎ (checked ordinal second scope.now select.now ≡ Err e)) }
 {
     if names_unknown_column(scope, select) {
         return Err(Refusal::UnknownColumn);
@@ -419,7 +419,7 @@ fn resolve_over(
     if is_not_supported(scope, select) {
         return Err(Refusal::NotSupported);
     }
-    let query = query_over(alloc, hashing, place, second, scope, select)?;
+    let query = query_over(alloc, hashing, ordinal, second, scope, select)?;
     let refusal = late_refusal(alloc, scope, &query);
     unless_refused(query, refusal)
 }
@@ -428,35 +428,35 @@ fn resolve_over(
 fn resolve_both(
     alloc: Global,
     hashing: &Hashing,
-    place: usize,
+    ordinal: usize,
     second: usize,
     table: &Table,
     other: &Table,
     select: &Select,
 ) -> Result<Query, Refusal>
-    ensures ok { IfOk result (λ q. checked place (Some second) (both_of table.now other.now) select.now ≡ Ok q) }
-    ensures err { IfErr result (λ e. (e ≡ Refusal.OutOfMemory) ⊎ (checked place (Some second) (both_of table.now other.now) select.now ≡ Err e)) }
+    ensures ok { IfOk result (λ q. checked ordinal (Some second) (both_of table.now other.now) select.now ≡ Ok q) }
+    ensures err { IfErr result (λ e. (e ≡ Refusal.OutOfMemory) ⊎ (checked ordinal (Some second) (both_of table.now other.now) select.now ≡ Err e)) }
 {
     let scope = Scope::of_both(table, other);
-    resolve_over(alloc, hashing, place, Some(second), &scope, select)
+    resolve_over(alloc, hashing, ordinal, Some(second), &scope, select)
 }
 
 // Resolves a join whose second table is told by its place.
-fn resolve_beside(
+fn resolve_alongside(
     alloc: Global,
     schema: &VSchema,
-    place: usize,
+    ordinal: usize,
     second: usize,
     table: &Table,
     select: &Select,
 ) -> Result<Query, Refusal>
-    ensures ok { IfOk result (λ q. checked_pair select.now place second table.now (slice_get schema.now.tables second) ≡ Ok q) }
-    ensures err { IfErr result (λ e. (e ≡ Refusal.OutOfMemory) ⊎ (checked_pair select.now place second table.now (slice_get schema.now.tables second) ≡ Err e)) }
+    ensures ok { IfOk result (λ q. checked_pair select.now ordinal second table.now (slice_get schema.now.tables second) ≡ Ok q) }
+    ensures err { IfErr result (λ e. (e ≡ Refusal.OutOfMemory) ⊎ (checked_pair select.now ordinal second table.now (slice_get schema.now.tables second) ≡ Err e)) }
 {
     match schema.tables.as_slice().get(second) {
         Some(other) => {
             let hashing = schema.tables.hashing();
-            resolve_both(alloc, hashing, place, second, table, other, select)
+            resolve_both(alloc, hashing, ordinal, second, table, other, select)
         }
         None => Err(Refusal::UnknownTable),
     }
@@ -466,16 +466,16 @@ fn resolve_beside(
 fn resolve_pair(
     alloc: Global,
     schema: &VSchema,
-    place: usize,
+    ordinal: usize,
     table: &Table,
     name: &Name,
     select: &Select,
 ) -> Result<Query, Refusal>
-    ensures ok { IfOk result (λ q. checked_second schema.now select.now place table.now (table_place schema.now name.now) ≡ Ok q) }
-    ensures err { IfErr result (λ e. (e ≡ Refusal.OutOfMemory) ⊎ (checked_second schema.now select.now place table.now (table_place schema.now name.now) ≡ Err e)) }
+    ensures ok { IfOk result (λ q. checked_second schema.now select.now ordinal table.now (table_ordinal schema.now name.now) ≡ Ok q) }
+    ensures err { IfErr result (λ e. (e ≡ Refusal.OutOfMemory) ⊎ (checked_second schema.now select.now ordinal table.now (table_ordinal schema.now name.now) ≡ Err e)) }
 {
-    match table_place(schema, name) {
-        Some(second) => resolve_beside(alloc, schema, place, second, table, select),
+    match table_ordinal(schema, name) {
+        Some(second) => resolve_alongside(alloc, schema, ordinal, second, table, select),
         None => Err(Refusal::UnknownTable),
     }
 }
@@ -484,30 +484,30 @@ fn resolve_pair(
 fn resolve_alone(
     alloc: Global,
     hashing: &Hashing,
-    place: usize,
+    ordinal: usize,
     table: &Table,
     select: &Select,
 ) -> Result<Query, Refusal>
-    ensures ok { IfOk result (λ q. checked place None (only table.now) select.now ≡ Ok q) }
-    ensures err { IfErr result (λ e. (e ≡ Refusal.OutOfMemory) ⊎ (checked place None (only table.now) select.now ≡ Err e)) }
+    ensures ok { IfOk result (λ q. checked ordinal None (only table.now) select.now ≡ Ok q) }
+    ensures err { IfErr result (λ e. (e ≡ Refusal.OutOfMemory) ⊎ (checked ordinal None (only table.now) select.now ≡ Err e)) }
 {
     let scope = Scope::of(table);
-    resolve_over(alloc, hashing, place, None, &scope, select)
+    resolve_over(alloc, hashing, ordinal, None, &scope, select)
 }
 
 fn resolve_with(
     alloc: Global,
     schema: &VSchema,
-    place: usize,
+    ordinal: usize,
     table: &Table,
     select: &Select,
 ) -> Result<Query, Refusal>
-    ensures ok { IfOk result (λ q. checked_with schema.now select.now place table.now select.now.join ≡ Ok q) }
-    ensures err { IfErr result (λ e. (e ≡ Refusal.OutOfMemory) ⊎ (checked_with schema.now select.now place table.now select.now.join ≡ Err e)) }
+    ensures ok { IfOk result (λ q. checked_with schema.now select.now ordinal table.now select.now.join ≡ Ok q) }
+    ensures err { IfErr result (λ e. (e ≡ Refusal.OutOfMemory) ⊎ (checked_with schema.now select.now ordinal table.now select.now.join ≡ Err e)) }
 {
     match &select.join {
-        Some(join) => resolve_pair(alloc, schema, place, table, &join.table, select),
-        None => resolve_alone(alloc, schema.tables.hashing(), place, table, select),
+        Some(join) => resolve_pair(alloc, schema, ordinal, table, &join.table, select),
+        None => resolve_alone(alloc, schema.tables.hashing(), ordinal, table, select),
     }
 }
 
@@ -515,11 +515,11 @@ fn resolve_select(alloc: Global, schema: &VSchema, select: &Select) -> Result<Qu
     ensures ok { IfOk result (λ q. typed_select schema.now select.now ≡ Ok q) }
     ensures err { IfErr result (λ e. (e ≡ Refusal.OutOfMemory) ⊎ (typed_select schema.now select.now ≡ Err e)) }
 {
-    let Some(place) = table_place(schema, &select.table) else {
+    let Some(ordinal) = table_ordinal(schema, &select.table) else {
         return Err(Refusal::UnknownTable);
     };
-    match schema.tables.as_slice().get(place) {
-        Some(table) => resolve_with(alloc, schema, place, table, select),
+    match schema.tables.as_slice().get(ordinal) {
+        Some(table) => resolve_with(alloc, schema, ordinal, table, select),
         None => Err(Refusal::UnknownTable),
     }
 }

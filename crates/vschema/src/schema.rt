@@ -7,10 +7,10 @@ use crate::columns::Columns;
 use crate::group_by::GroupBy;
 use crate::hashing::Hashing;
 use keyrange::KeyRange;
-use sql_tree::{Condition, Item, Key, Limit, Name};
+use sql_tree::{Condition, Item, Key, LimitClause, Name};
 use std::marker::Model;
 use vindex::AnyVindex;
-use vschema_document::ColumnType;
+use vschema_json::ColumnType;
 use vt_value::Items;
 
 /// The column that decides the shard of a row, by its place, and how; and which of the vindexes of its keyspace that is.
@@ -140,7 +140,7 @@ pub struct Query {
     pub filter: Option<Condition<usize>>,
     pub group_by: GroupBy,
     pub order_by: Items<Key<usize>>,
-    pub limit: Option<Limit>,
+    pub limit: Option<LimitClause>,
 }
 
 /// A statement with its names resolved.

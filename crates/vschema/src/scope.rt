@@ -1,15 +1,15 @@
 //! The columns that a statement may name.
 ghost use Rattle.std.specs.Prelude.{◌≡◌, ◌+◌, ◌<◌, length, option_map, slice_get, IfSome, Some};
-ghost use Rattle.vschema.specs.Scopes.{only, both_of, scope_columns, second_place, just_one, is_named, named_place, scope_place, place_in};
-ghost use Rattle.vschema.specs.Schema.{column_place as place_of};
+ghost use Rattle.vschema.specs.Scopes.{only, both_of, scope_columns, second_ordinal, just_one, is_named, named_ordinal, scope_ordinal, ordinal_in};
+ghost use Rattle.vschema.specs.Schema.{column_ordinal as ordinal_of};
 ghost use Rattle.vschema.specs.Checks.{is_unnamed};
 ghost use Rattle.vschema.specs.Scopes as scopes;
 
-use crate::names::column_place;
+use crate::names::column_ordinal;
 use crate::schema::Table;
 use sql_tree::{ColumnName, Name};
 use std::marker::Model;
-use vschema_document::{ColumnType, is_name};
+use vschema_json::{ColumnType, is_name};
 
 /// The tables after FROM: one, or the two of a join. Contracts see them as a `Scope` of definitions.
 #[derive(Drop)]
@@ -33,29 +33,29 @@ fn just_one(first: Option<usize>, second: Option<usize>) -> Option<usize>
 {
     match (first, second) {
         (Some(_), Some(_)) => None,
-        (Some(place), None) => Some(place),
-        (None, place) => place,
+        (Some(ordinal), None) => Some(ordinal),
+        (None, ordinal) => ordinal,
     }
 }
 
 // The place of a column, which the table has.
-fn place_below(table: &Table, name: &Name) -> Option<usize>
-    ensures place { result ≡ place_of table.now name.now }
+fn ordinal_below(table: &Table, name: &Name) -> Option<usize>
+    ensures ordinal { result ≡ ordinal_of table.now name.now }
     ensures below { IfSome result (λ n. n < length table.now.columns) }
 {
-    column_place(table, name)
+    column_ordinal(table, name)
 }
 
 // The place of a column after those of a first table.
-fn place_behind(first: &Table, table: &Table, name: &Name) -> Option<usize>
-    ensures { result ≡ option_map (λ n. length first.now.columns + n) (place_of table.now name.now) }
+fn ordinal_after(first: &Table, table: &Table, name: &Name) -> Option<usize>
+    ensures { result ≡ option_map (λ n. length first.now.columns + n) (ordinal_of table.now name.now) }
 {
     let width = first.columns.as_slice().len();
-    let behind = table.columns.as_slice().len();
-    match place_below(table, name) {
-        Some(place) => {
-            prove!(place < behind);
-            Some(width + place)
+    let table_width = table.columns.as_slice().len();
+    match ordinal_below(table, name) {
+        Some(ordinal) => {
+            prove!(ordinal < table_width);
+            Some(width + ordinal)
         }
         None => None,
     }
@@ -83,11 +83,11 @@ impl<'s> Scope<'s> {
     }
 }
 
-fn second_place(scope: &Scope, name: &Name) -> Option<usize>
-    ensures { result ≡ second_place scope.now name.now }
+fn second_ordinal(scope: &Scope, name: &Name) -> Option<usize>
+    ensures { result ≡ second_ordinal scope.now name.now }
 {
     match scope.other {
-        Some(table) => place_behind(scope.one, table, name),
+        Some(table) => ordinal_after(scope.one, table, name),
         None => None,
     }
 }
@@ -101,49 +101,49 @@ fn is_second(scope: &Scope, name: &Name) -> bool
     }
 }
 
-fn named_place(scope: &Scope, table: &Name, name: &Name) -> Option<usize>
-    ensures { result ≡ named_place scope.now (Some table.now) name.now }
+fn named_ordinal(scope: &Scope, table: &Name, name: &Name) -> Option<usize>
+    ensures { result ≡ named_ordinal scope.now (Some table.now) name.now }
 {
     if is_name(&scope.one.name, table) {
-        column_place(scope.one, name)
+        column_ordinal(scope.one, name)
     } else if is_second(scope, table) {
-        second_place(scope, name)
+        second_ordinal(scope, name)
     } else {
         None
     }
 }
 
 /// The place of a column, if just one is meant.
-pub fn scope_place(scope: &Scope, column: &ColumnName) -> Option<usize>
-    ensures { result ≡ scope_place scope.now column.now }
+pub fn scope_ordinal(scope: &Scope, column: &ColumnName) -> Option<usize>
+    ensures { result ≡ scope_ordinal scope.now column.now }
 {
     match &column.table {
-        Some(table) => named_place(scope, table, &column.name),
+        Some(table) => named_ordinal(scope, table, &column.name),
         None => just_one(
-            column_place(scope.one, &column.name),
-            second_place(scope, &column.name),
+            column_ordinal(scope.one, &column.name),
+            second_ordinal(scope, &column.name),
         ),
     }
 }
 
 /// The place of a column; that it is there is a check of its own.
-pub fn place_in(scope: &Scope, column: &ColumnName) -> usize
-    ensures { result ≡ place_in scope.now column.now }
+pub fn ordinal_in(scope: &Scope, column: &ColumnName) -> usize
+    ensures { result ≡ ordinal_in scope.now column.now }
 {
-    scope_place(scope, column).unwrap_or(0)
+    scope_ordinal(scope, column).unwrap_or(0)
 }
 
 /// Whether no column is meant, or not just one.
 pub fn is_unnamed(scope: &Scope, column: &ColumnName) -> bool
     ensures { result ≡ is_unnamed scope.now column.now }
 {
-    scope_place(scope, column).is_none()
+    scope_ordinal(scope, column).is_none()
 }
 
-fn kind_of(table: &Table, place: usize) -> Option<ColumnType>
-    ensures { result ≡ option_map (λ c. c.kind) (slice_get table.now.columns place) }
+fn kind_of(table: &Table, ordinal: usize) -> Option<ColumnType>
+    ensures { result ≡ option_map (λ c. c.kind) (slice_get table.now.columns ordinal) }
 {
-    match table.columns.as_slice().get(place) {
+    match table.columns.as_slice().get(ordinal) {
         Some(column) => Some(column.kind),
         None => None,
     }
@@ -168,15 +168,15 @@ pub fn column_count(scope: &Scope) -> usize
 }
 
 /// The type of the column at a place.
-pub fn kind_at(scope: &Scope, place: usize) -> Option<ColumnType>
-    ensures { result ≡ option_map (λ c. c.kind) (slice_get (scope_columns scope.now) place) }
+pub fn kind_at(scope: &Scope, ordinal: usize) -> Option<ColumnType>
+    ensures { result ≡ option_map (λ c. c.kind) (slice_get (scope_columns scope.now) ordinal) }
 {
     let width = scope.one.columns.as_slice().len();
-    if place < width {
-        return kind_of(scope.one, place);
+    if ordinal < width {
+        return kind_of(scope.one, ordinal);
     }
     match scope.other {
-        Some(table) => kind_of(table, place - width),
+        Some(table) => kind_of(table, ordinal - width),
         None => None,
     }
 }

@@ -4,7 +4,7 @@ ghost use Rattle.vschema.specs.WriteChecks.{sets_twice};
 
 use sql_tree::{Assignment, Name};
 use std::alloc::{AllocError, Global};
-use vschema_document::is_one_twice;
+use vschema_json::is_one_twice;
 
 fn columns_of(alloc: Global, assignments: &[Assignment<Name>]) -> Result<Vec<&[u8]>, AllocError>
     ensures { IfOk result (λ texts. map (λ n. n.now) texts.items ≡ map (λ a. a.column) assignments.now) }

@@ -1,17 +1,17 @@
 //! What is refused of a write: rows of another length, values outside their column's type, and changes of a key.
 ghost use Rattle.std.specs.Prelude.{◌≡◌, ◌==◌, not, ◌&&◌, map, zip, flat_map, length, bytes_eq};
 ghost use Rattle.std.specs.List.{list_any};
-ghost use Rattle.vschema.specs.Resolved.{place, places_from};
+ghost use Rattle.vschema.specs.Resolved.{ordinal, ordinals_from};
 ghost use Rattle.vschema.specs.Checks.{is_unknown, has_number};
-ghost use Rattle.vschema.specs.WriteChecks.{beside, is_out_of_range, is_too_long, is_key_column};
+ghost use Rattle.vschema.specs.WriteChecks.{with_column, is_out_of_range, is_too_long, is_key_column};
 ghost use Rattle.vschema.specs.inner.StoredChecks.{fails};
 
 use crate::checks::{differ, has_number, is_text_type, value_is_text};
 use crate::names::is_unknown;
-use crate::resolve::place;
+use crate::resolve::ordinal;
 use crate::schema::Table;
 use sql_tree::{Assignment, Name};
-use vschema_document::{Column, ColumnType};
+use vschema_json::{Column, ColumnType};
 use vt_value::{Items, Value};
 
 /// What is asked of each value that is stored.
@@ -24,10 +24,10 @@ pub enum StoredCheck {
 }
 
 /// Whether a row has another number of values than these.
-pub fn has_wrong_count(places: &[usize], rows: &[Items<Value>]) -> bool
-    ensures { result ≡ list_any (λ row. not (length row == length places.now)) rows.now }
+pub fn has_wrong_count(ordinals: &[usize], rows: &[Items<Value>]) -> bool
+    ensures { result ≡ list_any (λ row. not (length row == length ordinals.now)) rows.now }
 {
-    rows.iter().any(|row| row.len() != places.len())
+    rows.iter().any(|row| row.len() != ordinals.len())
 }
 
 /// Whether SET names a column that the table doesn't have.
@@ -73,33 +73,38 @@ fn fails(check: StoredCheck, column: &Column, value: &Value) -> bool
     }
 }
 
-fn value_fails(check: StoredCheck, table: &Table, place: usize, value: &Value) -> bool
-    ensures { result ≡ list_any (fails check) (beside table.now place value.now) }
+fn value_fails(check: StoredCheck, table: &Table, ordinal: usize, value: &Value) -> bool
+    ensures { result ≡ list_any (fails check) (with_column table.now ordinal value.now) }
 {
-    match table.columns.as_slice().get(place) {
+    match table.columns.as_slice().get(ordinal) {
         Some(column) => fails(check, column, value),
         None => false,
     }
 }
 
-fn row_fails(check: StoredCheck, table: &Table, places: &[usize], row: &[Value]) -> bool
-    ensures { result ≡ list_any (fails check) (flat_map (λ p. beside table.now p.0 p.1) (zip places.now row.now)) }
+fn row_fails(check: StoredCheck, table: &Table, ordinals: &[usize], row: &[Value]) -> bool
+    ensures { result ≡ list_any (fails check) (flat_map (λ p. with_column table.now p.0 p.1) (zip ordinals.now row.now)) }
 {
-    let [place, places @ ..] = places else {
+    let [ordinal, ordinals @ ..] = ordinals else {
         return false;
     };
     let [value, row @ ..] = row else {
         return false;
     };
-    value_fails(check, table, *place, value) || row_fails(check, table, places, row)
+    value_fails(check, table, *ordinal, value) || row_fails(check, table, ordinals, row)
 }
 
 /// Whether a value of a row fails, each with the column at its place.
-pub fn rows_fail(check: StoredCheck, table: &Table, places: &[usize], rows: &[Items<Value>]) -> bool
-    ensures { result ≡ list_any (fails check) (flat_map (λ row. flat_map (λ p. beside table.now p.0 p.1) (zip places.now row)) rows.now) }
+pub fn rows_fail(
+    check: StoredCheck,
+    table: &Table,
+    ordinals: &[usize],
+    rows: &[Items<Value>],
+) -> bool
+    ensures { result ≡ list_any (fails check) (flat_map (λ row. flat_map (λ p. with_column table.now p.0 p.1) (zip ordinals.now row)) rows.now) }
 {
     for row in rows {
-        if row_fails(check, table, places, row.as_slice()) {
+        if row_fails(check, table, ordinals, row.as_slice()) {
             return true;
         }
     }
@@ -108,10 +113,10 @@ pub fn rows_fail(check: StoredCheck, table: &Table, places: &[usize], rows: &[It
 
 /// Whether a value that SET stores fails.
 pub fn assignments_fail(check: StoredCheck, table: &Table, assignments: &[Assignment<Name>]) -> bool
-    ensures { result ≡ list_any (fails check) (flat_map (λ a. beside table.now (place table.now a.column) a.value) assignments.now) }
+    ensures { result ≡ list_any (fails check) (flat_map (λ a. with_column table.now (ordinal table.now a.column) a.value) assignments.now) }
 {
     for a in assignments {
-        if value_fails(check, table, place(table, &a.column), &a.value) {
+        if value_fails(check, table, ordinal(table, &a.column), &a.value) {
             return true;
         }
     }
@@ -119,33 +124,33 @@ pub fn assignments_fail(check: StoredCheck, table: &Table, assignments: &[Assign
 }
 
 /// Whether a NOT NULL column isn't at one of these places.
-pub fn leaves_out_column(table: &Table, places: &[usize]) -> bool
-    ensures { result ≡ list_any (λ p. not p.1.nullable && not (has_number places.now p.0))
-        (zip (places_from 0 table.now.columns) table.now.columns) }
+pub fn leaves_out_column(table: &Table, ordinals: &[usize]) -> bool
+    ensures { result ≡ list_any (λ p. not p.1.nullable && not (has_number ordinals.now p.0))
+        (zip (ordinals_from 0 table.now.columns) table.now.columns) }
 {
-    for (place, column) in table.columns.as_slice().iter().enumerate() {
-        if !column.nullable && !has_number(places, place) {
+    for (ordinal, column) in table.columns.as_slice().iter().enumerate() {
+        if !column.nullable && !has_number(ordinals, ordinal) {
             return true;
         }
     }
     false
 }
 
-fn is_key_column(table: &Table, place: usize) -> bool
-    ensures { result ≡ is_key_column table.now place }
+fn is_key_column(table: &Table, ordinal: usize) -> bool
+    ensures { result ≡ is_key_column table.now ordinal }
 {
-    has_number(table.primary_key.as_slice(), place)
+    has_number(table.primary_key.as_slice(), ordinal)
         || match table.vindex {
-            Some(vindex) => vindex.column == place,
+            Some(vindex) => vindex.column == ordinal,
             None => false,
         }
 }
 
 /// Whether SET sets a column of the primary key, or the vindex column.
 pub fn sets_key(table: &Table, assignments: &[Assignment<Name>]) -> bool
-    ensures { result ≡ list_any (λ a. is_key_column table.now (place table.now a.column)) assignments.now }
+    ensures { result ≡ list_any (λ a. is_key_column table.now (ordinal table.now a.column)) assignments.now }
 {
     assignments
         .iter()
-        .any(|a| is_key_column(table, place(table, &a.column)))
+        .any(|a| is_key_column(table, ordinal(table, &a.column)))
 }

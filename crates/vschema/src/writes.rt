@@ -1,16 +1,16 @@
 //! INSERT, UPDATE and DELETE with their names resolved, or the refusal of the first check that fails.
 ghost use Rattle.std.specs.Prelude.{◌≡◌, ◌⊎◌, ◌==◌, IfOk, IfErr, map, option_map, false, Ok, Err};
-ghost use Rattle.vschema.specs.Schema.{place_from};
-ghost use Rattle.vschema.specs.Resolved.{places_from};
-ghost use Rattle.vschema.specs.WriteChecks.{has_twice, sets_twice, listed_names, insert_places, has_wrong_count, insert_names_unknown, inserted_values, has_other_kind, leaves_out_column, assigned_values, update_names_unknown, update_is_not_supported};
+ghost use Rattle.vschema.specs.Schema.{ordinal_from};
+ghost use Rattle.vschema.specs.Resolved.{ordinals_from};
+ghost use Rattle.vschema.specs.WriteChecks.{has_twice, sets_twice, listed_names, insert_ordinals, has_wrong_count, insert_names_unknown, inserted_values, has_other_kind, leaves_out_column, assigned_values, update_names_unknown, update_is_not_supported};
 ghost use Rattle.vschema.specs.TypedWrites.{value_for, whole_row, resolved_assignment, insert_over, update_over, delete_over, unless_refused, stored_checks, insert_checks, update_checks, delete_checks, typed_insert, typed_update, typed_delete};
 ghost use Rattle.vschema.specs.inner.StoredChecks.{fails, unless};
 ghost use Rattle.std.specs.List.{list_any};
 
 use crate::changes::Write;
 use crate::checks::{filter_mixes, filter_names_unknown, some_unknown};
-use crate::names::table_place;
-use crate::resolve::{place, resolve_filter, resolve_names};
+use crate::names::table_ordinal;
+use crate::resolve::{ordinal, resolve_filter, resolve_names};
 use crate::schema::{Table, VSchema};
 use crate::scope::Scope;
 use crate::twice::sets_twice;
@@ -20,30 +20,30 @@ use crate::write_checks::{
 };
 use sql_tree::{Assignment, Delete, Insert, Name, Update};
 use std::alloc::Global;
-use vschema_document::has_twice;
+use vschema_json::has_twice;
 use vt_value::{Items, Refusal, Row, Value, copy};
 
-fn all_places(alloc: Global, table: &Table) -> Result<Items<usize>, Refusal>
-    ensures ok { IfOk result (λ r. r ≡ places_from 0 table.now.columns) }
+fn all_ordinals(alloc: Global, table: &Table) -> Result<Items<usize>, Refusal>
+    ensures ok { IfOk result (λ r. r ≡ ordinals_from 0 table.now.columns) }
     ensures err { IfErr result (λ e. e ≡ Refusal.OutOfMemory) }
 {
-    let mut places = Items::new(alloc);
-    for (place, _) in table.columns.as_slice().iter().enumerate() {
-        places.push(place)?;
+    let mut ordinals = Items::new(alloc);
+    for (ordinal, _) in table.columns.as_slice().iter().enumerate() {
+        ordinals.push(ordinal)?;
     }
-    Ok(places)
+    Ok(ordinals)
 }
 
-fn insert_places(
+fn insert_ordinals(
     alloc: Global,
     table: &Table,
     columns: &Option<Items<Name>>,
 ) -> Result<Items<usize>, Refusal>
-    ensures ok { IfOk result (λ r. r ≡ insert_places table.now columns.now) }
+    ensures ok { IfOk result (λ r. r ≡ insert_ordinals table.now columns.now) }
     ensures err { IfErr result (λ e. e ≡ Refusal.OutOfMemory) }
 {
     match columns {
-        None => all_places(alloc, table),
+        None => all_ordinals(alloc, table),
         Some(names) => resolve_names(alloc, table, names.as_slice()),
     }
 }
@@ -57,11 +57,11 @@ fn names_of(columns: &Option<Items<Name>>) -> &[Name]
     }
 }
 
-fn has_other_count(table: &Table, insert: &Insert, places: &[usize]) -> bool
-    requires places { places.now ≡ insert_places table.now insert.now.columns }
+fn has_other_count(table: &Table, insert: &Insert, ordinals: &[usize]) -> bool
+    requires ordinals { ordinals.now ≡ insert_ordinals table.now insert.now.columns }
     ensures { result ≡ has_wrong_count table.now insert.now }
 {
-    has_wrong_count(places, insert.rows.as_slice())
+    has_wrong_count(ordinals, insert.rows.as_slice())
 }
 
 fn names_unknown(table: &Table, insert: &Insert) -> bool
@@ -70,29 +70,29 @@ fn names_unknown(table: &Table, insert: &Insert) -> bool
     some_unknown(table, names_of(&insert.columns))
 }
 
-fn insert_fails(check: StoredCheck, table: &Table, insert: &Insert, places: &[usize]) -> bool
-    requires places { places.now ≡ insert_places table.now insert.now.columns }
+fn insert_fails(check: StoredCheck, table: &Table, insert: &Insert, ordinals: &[usize]) -> bool
+    requires ordinals { ordinals.now ≡ insert_ordinals table.now insert.now.columns }
     ensures { result ≡ list_any (fails check) (inserted_values table.now insert.now) }
 {
-    rows_fail(check, table, places, insert.rows.as_slice())
+    rows_fail(check, table, ordinals, insert.rows.as_slice())
 }
 
-fn leaves_out(table: &Table, insert: &Insert, places: &[usize]) -> bool
-    requires places { places.now ≡ insert_places table.now insert.now.columns }
+fn leaves_out(table: &Table, insert: &Insert, ordinals: &[usize]) -> bool
+    requires ordinals { ordinals.now ≡ insert_ordinals table.now insert.now.columns }
     ensures { result ≡ leaves_out_column table.now insert.now }
 {
-    leaves_out_column(table, places)
+    leaves_out_column(table, ordinals)
 }
 
-fn inserted_refusal(table: &Table, insert: &Insert, places: &[usize]) -> Option<Refusal>
-    requires places { places.now ≡ insert_places table.now insert.now.columns }
+fn inserted_refusal(table: &Table, insert: &Insert, ordinals: &[usize]) -> Option<Refusal>
+    requires ordinals { ordinals.now ≡ insert_ordinals table.now insert.now.columns }
     ensures { (w : Write) → unless_refused (stored_checks (inserted_values table.now insert.now)) w ≡ unless result w }
 {
-    if insert_fails(StoredCheck::WrongNull, table, insert, places) {
+    if insert_fails(StoredCheck::WrongNull, table, insert, ordinals) {
         Some(Refusal::NullNotAllowed)
-    } else if insert_fails(StoredCheck::OutOfRange, table, insert, places) {
+    } else if insert_fails(StoredCheck::OutOfRange, table, insert, ordinals) {
         Some(Refusal::OutOfRange)
-    } else if insert_fails(StoredCheck::TooLong, table, insert, places) {
+    } else if insert_fails(StoredCheck::TooLong, table, insert, ordinals) {
         Some(Refusal::TooLong)
     } else {
         None
@@ -100,29 +100,29 @@ fn inserted_refusal(table: &Table, insert: &Insert, places: &[usize]) -> Option<
 }
 
 // The refusal of an INSERT that names no column twice.
-fn insert_refusal(table: &Table, insert: &Insert, places: &[usize]) -> Option<Refusal>
-    requires places { places.now ≡ insert_places table.now insert.now.columns }
+fn insert_refusal(table: &Table, insert: &Insert, ordinals: &[usize]) -> Option<Refusal>
+    requires ordinals { ordinals.now ≡ insert_ordinals table.now insert.now.columns }
     requires once { has_twice (listed_names insert.now.columns) ≡ false }
     ensures { (w : Write) → unless_refused (insert_checks table.now insert.now) w ≡ unless result w }
 {
-    if has_other_count(table, insert, places) {
+    if has_other_count(table, insert, ordinals) {
         Some(Refusal::WrongValueCount)
     } else if names_unknown(table, insert) {
         Some(Refusal::UnknownColumn)
-    } else if insert_fails(StoredCheck::OtherKind, table, insert, places) {
+    } else if insert_fails(StoredCheck::OtherKind, table, insert, ordinals) {
         Some(Refusal::NotSupported)
-    } else if leaves_out(table, insert, places) {
+    } else if leaves_out(table, insert, ordinals) {
         Some(Refusal::NoDefaultValue)
     } else {
-        inserted_refusal(table, insert, places)
+        inserted_refusal(table, insert, ordinals)
     }
 }
 
-fn position(places: &[usize], place: usize) -> Option<usize>
-    ensures { result ≡ place_from (λ m. m == place) 0 places.now }
+fn position(ordinals: &[usize], ordinal: usize) -> Option<usize>
+    ensures { result ≡ ordinal_from (λ m. m == ordinal) 0 ordinals.now }
 {
-    for (i, other) in places.iter().enumerate() {
-        if *other == place {
+    for (i, other) in ordinals.iter().enumerate() {
+        if *other == ordinal {
             return Some(i);
         }
     }
@@ -131,14 +131,14 @@ fn position(places: &[usize], place: usize) -> Option<usize>
 
 fn value_for(
     alloc: Global,
-    places: &[usize],
+    ordinals: &[usize],
     values: &[Value],
-    place: usize,
+    ordinal: usize,
 ) -> Result<Value, Refusal>
-    ensures ok { IfOk result (λ v. v ≡ value_for places.now values.now place) }
+    ensures ok { IfOk result (λ v. v ≡ value_for ordinals.now values.now ordinal) }
     ensures err { IfErr result (λ e. e ≡ Refusal.OutOfMemory) }
 {
-    let Some(at) = position(places, place) else {
+    let Some(at) = position(ordinals, ordinal) else {
         return Ok(Value::Null);
     };
     match values.get(at) {
@@ -150,15 +150,15 @@ fn value_for(
 fn whole_row(
     alloc: Global,
     table: &Table,
-    places: &[usize],
+    ordinals: &[usize],
     values: &[Value],
 ) -> Result<Row, Refusal>
-    ensures ok { IfOk result (λ r. r ≡ whole_row table.now places.now values.now) }
+    ensures ok { IfOk result (λ r. r ≡ whole_row table.now ordinals.now values.now) }
     ensures err { IfErr result (λ e. e ≡ Refusal.OutOfMemory) }
 {
     let mut row = Items::new(alloc);
-    for (place, _) in table.columns.as_slice().iter().enumerate() {
-        let value = value_for(alloc, places, values, place)?;
+    for (ordinal, _) in table.columns.as_slice().iter().enumerate() {
+        let value = value_for(alloc, ordinals, values, ordinal)?;
         row.push(value)?;
     }
     Ok(row)
@@ -167,15 +167,15 @@ fn whole_row(
 fn whole_rows(
     alloc: Global,
     table: &Table,
-    places: &[usize],
+    ordinals: &[usize],
     rows: &[Items<Value>],
 ) -> Result<Items<Row>, Refusal>
-    ensures ok { IfOk result (λ r. r ≡ map (whole_row table.now places.now) rows.now) }
+    ensures ok { IfOk result (λ r. r ≡ map (whole_row table.now ordinals.now) rows.now) }
     ensures err { IfErr result (λ e. e ≡ Refusal.OutOfMemory) }
 {
     let mut whole = Items::new(alloc);
     for row in rows {
-        let row = whole_row(alloc, table, places, row.as_slice())?;
+        let row = whole_row(alloc, table, ordinals, row.as_slice())?;
         whole.push(row)?;
     }
     Ok(whole)
@@ -183,23 +183,23 @@ fn whole_rows(
 
 fn insert_into(
     alloc: Global,
-    place: usize,
+    ordinal: usize,
     table: &Table,
     insert: &Insert,
 ) -> Result<Write, Refusal>
-    ensures ok { IfOk result (λ w. unless_refused (insert_checks table.now insert.now) (insert_over place table.now insert.now) ≡ Ok w) }
+    ensures ok { IfOk result (λ w. unless_refused (insert_checks table.now insert.now) (insert_over ordinal table.now insert.now) ≡ Ok w) }
     ensures err { IfErr result (λ e. (e ≡ Refusal.OutOfMemory)
-        ⊎ (unless_refused (insert_checks table.now insert.now) (insert_over place table.now insert.now) ≡ Err e)) }
+        ⊎ (unless_refused (insert_checks table.now insert.now) (insert_over ordinal table.now insert.now) ≡ Err e)) }
 {
     if has_twice(alloc, names_of(&insert.columns))? {
         return Err(Refusal::ColumnNamedTwice);
     }
-    let places = insert_places(alloc, table, &insert.columns)?;
-    if let Some(refusal) = insert_refusal(table, insert, places.as_slice()) {
+    let ordinals = insert_ordinals(alloc, table, &insert.columns)?;
+    if let Some(refusal) = insert_refusal(table, insert, ordinals.as_slice()) {
         return Err(refusal);
     }
-    let rows = whole_rows(alloc, table, places.as_slice(), insert.rows.as_slice())?;
-    Ok(Write::Insert(place, rows))
+    let rows = whole_rows(alloc, table, ordinals.as_slice(), insert.rows.as_slice())?;
+    Ok(Write::Insert(ordinal, rows))
 }
 
 fn update_names_unknown(table: &Table, update: &Update) -> bool
@@ -257,7 +257,7 @@ fn resolve_assignment(
 {
     let value = copy(alloc, &a.value)?;
     Ok(Assignment {
-        column: place(table, &a.column),
+        column: ordinal(table, &a.column),
         value,
     })
 }
@@ -278,10 +278,15 @@ fn resolve_assignments(
     Ok(resolved)
 }
 
-fn update_of(alloc: Global, place: usize, table: &Table, update: &Update) -> Result<Write, Refusal>
-    ensures ok { IfOk result (λ w. unless_refused (update_checks table.now update.now) (update_over place table.now update.now) ≡ Ok w) }
+fn update_of(
+    alloc: Global,
+    ordinal: usize,
+    table: &Table,
+    update: &Update,
+) -> Result<Write, Refusal>
+    ensures ok { IfOk result (λ w. unless_refused (update_checks table.now update.now) (update_over ordinal table.now update.now) ≡ Ok w) }
     ensures err { IfErr result (λ e. (e ≡ Refusal.OutOfMemory)
-        ⊎ (unless_refused (update_checks table.now update.now) (update_over place table.now update.now) ≡ Err e)) }
+        ⊎ (unless_refused (update_checks table.now update.now) (update_over ordinal table.now update.now) ≡ Err e)) }
 {
     if sets_twice(alloc, update.assignments.as_slice())? {
         return Err(Refusal::ColumnNamedTwice);
@@ -291,18 +296,18 @@ fn update_of(alloc: Global, place: usize, table: &Table, update: &Update) -> Res
     }
     let assignments = resolve_assignments(alloc, table, update.assignments.as_slice())?;
     let filter = resolve_filter(alloc, &Scope::of(table), &update.filter)?;
-    Ok(Write::Update(place, assignments, filter))
+    Ok(Write::Update(ordinal, assignments, filter))
 }
 
 fn delete_from(
     alloc: Global,
-    place: usize,
+    ordinal: usize,
     table: &Table,
     delete: &Delete,
 ) -> Result<Write, Refusal>
-    ensures ok { IfOk result (λ w. unless_refused (delete_checks table.now delete.now) (delete_over place table.now delete.now) ≡ Ok w) }
+    ensures ok { IfOk result (λ w. unless_refused (delete_checks table.now delete.now) (delete_over ordinal table.now delete.now) ≡ Ok w) }
     ensures err { IfErr result (λ e. (e ≡ Refusal.OutOfMemory)
-        ⊎ (unless_refused (delete_checks table.now delete.now) (delete_over place table.now delete.now) ≡ Err e)) }
+        ⊎ (unless_refused (delete_checks table.now delete.now) (delete_over ordinal table.now delete.now) ≡ Err e)) }
 {
     if filter_names_unknown(&Scope::of(table), &delete.filter) {
         return Err(Refusal::UnknownColumn);
@@ -311,7 +316,7 @@ fn delete_from(
         return Err(Refusal::NotSupported);
     }
     let filter = resolve_filter(alloc, &Scope::of(table), &delete.filter)?;
-    Ok(Write::Delete(place, filter))
+    Ok(Write::Delete(ordinal, filter))
 }
 
 /// What an INSERT means, or the refusal of the first check that fails.
@@ -319,11 +324,11 @@ pub fn resolve_insert(alloc: Global, schema: &VSchema, insert: &Insert) -> Resul
     ensures ok { IfOk result (λ w. typed_insert schema.now insert.now ≡ Ok w) }
     ensures err { IfErr result (λ e. (e ≡ Refusal.OutOfMemory) ⊎ (typed_insert schema.now insert.now ≡ Err e)) }
 {
-    let Some(place) = table_place(schema, &insert.table) else {
+    let Some(ordinal) = table_ordinal(schema, &insert.table) else {
         return Err(Refusal::UnknownTable);
     };
-    match schema.tables.as_slice().get(place) {
-        Some(table) => insert_into(alloc, place, table, insert),
+    match schema.tables.as_slice().get(ordinal) {
+        Some(table) => insert_into(alloc, ordinal, table, insert),
         None => Err(Refusal::UnknownTable),
     }
 }
@@ -333,11 +338,11 @@ pub fn resolve_update(alloc: Global, schema: &VSchema, update: &Update) -> Resul
     ensures ok { IfOk result (λ w. typed_update schema.now update.now ≡ Ok w) }
     ensures err { IfErr result (λ e. (e ≡ Refusal.OutOfMemory) ⊎ (typed_update schema.now update.now ≡ Err e)) }
 {
-    let Some(place) = table_place(schema, &update.table) else {
+    let Some(ordinal) = table_ordinal(schema, &update.table) else {
         return Err(Refusal::UnknownTable);
     };
-    match schema.tables.as_slice().get(place) {
-        Some(table) => update_of(alloc, place, table, update),
+    match schema.tables.as_slice().get(ordinal) {
+        Some(table) => update_of(alloc, ordinal, table, update),
         None => Err(Refusal::UnknownTable),
     }
 }
@@ -347,11 +352,11 @@ pub fn resolve_delete(alloc: Global, schema: &VSchema, delete: &Delete) -> Resul
     ensures ok { IfOk result (λ w. typed_delete schema.now delete.now ≡ Ok w) }
     ensures err { IfErr result (λ e. (e ≡ Refusal.OutOfMemory) ⊎ (typed_delete schema.now delete.now ≡ Err e)) }
 {
-    let Some(place) = table_place(schema, &delete.table) else {
+    let Some(ordinal) = table_ordinal(schema, &delete.table) else {
         return Err(Refusal::UnknownTable);
     };
-    match schema.tables.as_slice().get(place) {
-        Some(table) => delete_from(alloc, place, table, delete),
+    match schema.tables.as_slice().get(ordinal) {
+        Some(table) => delete_from(alloc, ordinal, table, delete),
         None => Err(Refusal::UnknownTable),
     }
 }

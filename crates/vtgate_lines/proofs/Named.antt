@@ -60,7 +60,7 @@ pub record Front (name rest : List ℕ) (all : List KeyRange) : Type 0 where
   pub range : KeyRange
   pub ranges : List KeyRange
   pub named : IsNameOf name range
-  pub behind : IsListOf rest ranges
+  pub trailing : IsListOf rest ranges
   pub is : all ≡ range ∷ ranges
 
 pub at_comma : (text name rest : List ℕ) (all : List KeyRange) → text ≡ name ++ (44 ∷ rest) → HasNoComma name → IsListOf text all → Front name rest all
@@ -71,7 +71,7 @@ at_comma _ name rest _ e h (more {name = first} {rest = others} {range = range} 
       range = range;
       ranges = ranges;
       named = subst (λ (t : List ℕ). IsNameOf t range) p.0 n;
-      behind = subst (λ (t : List ℕ). IsListOf t ranges) p.1 l;
+      trailing = subst (λ (t : List ℕ). IsListOf t ranges) p.1 l;
       is = refl;
     }
 
@@ -103,7 +103,7 @@ read_more text rest name others read now range r e h n is = record {
       let f = at_comma rest name others o.0 e h o.1 in
       let same : f.range ≡ range = one_range_of name f.range range f.named n in (
         f.ranges,
-        f.behind,
+        f.trailing,
         o.2 ∙ (ap (λ (xs : List KeyRange). read ++ xs) (f.is ∙ ap (λ (x : KeyRange). x ∷ f.ranges) same)
             ∙ (sym (append_assoc read (range ∷ []) f.ranges) ∙ ap (λ (xs : List KeyRange). xs ++ f.ranges) (sym is))),
       );

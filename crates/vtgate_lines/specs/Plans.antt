@@ -15,7 +15,7 @@ use Rattle.vschema.specs.declared.changes.Write.TheVariants.{Insert, Update, Del
 use Rattle.vschema.specs.TypedStatement.{typed_statement}
 use Rattle.planner.specs.declared.routes.Route.{Route}
 use Rattle.planner.specs.declared.routes.Route.TheVariants as route
-use Rattle.planner.specs.Routes.{table_at, route_of, insert_route, taken_places}
+use Rattle.planner.specs.Routes.{table_at, route_of, insert_route, taken_ordinals}
 use Rattle.vtgate_lines.specs.Printed.{line}
 
 -- the name of a query's route, of an UPDATE's or of a DELETE's
@@ -41,20 +41,20 @@ range_word (Some range) = codes " " ++ range_text range
 
 -- the shards of a route: the one of the unsharded keyspace is 0
 abbrev pub shards_text : Route → List KeyRange → List ℕ → List ℕ
-shards_text route.Unsharded ranges places = codes " 0"
-shards_text route.None ranges places = flat_map (λ n. range_word (slice_get ranges n)) places
-shards_text (route.EqualUnique v) ranges places = flat_map (λ n. range_word (slice_get ranges n)) places
-shards_text (route.In values) ranges places = flat_map (λ n. range_word (slice_get ranges n)) places
-shards_text route.Scatter ranges places = flat_map (λ n. range_word (slice_get ranges n)) places
+shards_text route.Unsharded ranges ordinals = codes " 0"
+shards_text route.None ranges ordinals = flat_map (λ n. range_word (slice_get ranges n)) ordinals
+shards_text (route.EqualUnique v) ranges ordinals = flat_map (λ n. range_word (slice_get ranges n)) ordinals
+shards_text (route.In values) ranges ordinals = flat_map (λ n. range_word (slice_get ranges n)) ordinals
+shards_text route.Scatter ranges ordinals = flat_map (λ n. range_word (slice_get ranges n)) ordinals
 
 abbrev pub plan_text : List ℕ → Route → List KeyRange → List ℕ → List ℕ
-plan_text name r ranges places = line (name ++ codes ":" ++ shards_text r ranges places)
+plan_text name r ranges ordinals = line (name ++ codes ":" ++ shards_text r ranges ordinals)
 
 abbrev pub routed_text : Table → List KeyRange → Route → List ℕ
-routed_text t ranges r = plan_text (route_name r) r ranges (taken_places t r ranges)
+routed_text t ranges r = plan_text (route_name r) r ranges (taken_ordinals t r ranges)
 
 abbrev pub inserted_text : Table → List KeyRange → Route → List ℕ
-inserted_text t ranges r = plan_text (insert_name r (length (taken_places t r ranges))) r ranges (taken_places t r ranges)
+inserted_text t ranges r = plan_text (insert_name r (length (taken_ordinals t r ranges))) r ranges (taken_ordinals t r ranges)
 
 abbrev pub write_text : VSchema → List KeyRange → W.Write → List ℕ
 write_text schema ranges (Insert n rows) = inserted_text (table_at schema n) ranges (insert_route (table_at schema n) rows)

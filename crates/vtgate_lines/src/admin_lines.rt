@@ -5,7 +5,7 @@ ghost use Rattle.keyrange.specs.declared.KeyRange.{KeyRange};
 ghost use Rattle.vtgate_lines.specs.Partitions.{IsListOf};
 ghost use Rattle.vtgate_lines.specs.AdminLines.{single_words, IsCreate, AsksFor};
 
-use crate::lines::behind;
+use crate::lines::bytes_after;
 use crate::ranges::named_ranges;
 use keyrange::KeyRange;
 use std::alloc::Global;
@@ -62,7 +62,7 @@ fn read_create(
     ensures none { IfOk result (λ o. IfNone o ((sources targets : List KeyRange) → IsCreate words.now sources targets → ⊥)) }
     ensures err { IfErr result (λ e. e ≡ Refusal.OutOfMemory) }
 {
-    let Some(lists) = behind(words, b"create ") else {
+    let Some(lists) = bytes_after(words, b"create ") else {
         return Ok(None);
     };
     let Ok(text) = str::from_utf8(lists) else {

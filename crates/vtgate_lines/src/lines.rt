@@ -47,7 +47,7 @@ fn line_len(input: &[u8]) -> usize
 }
 
 // What follows a front.
-pub(crate) fn behind<'b>(bytes: &'b [u8], front: &[u8]) -> Option<&'b [u8]>
+pub(crate) fn bytes_after<'b>(bytes: &'b [u8], front: &[u8]) -> Option<&'b [u8]>
     ensures { MatchOption result ((rest : List ℕ) → bytes.now ≢ front.now ++ rest) (λ rest. bytes.now ≡ front.now ++ rest.now) }
 {
     bytes.strip_prefix(front)
@@ -76,11 +76,11 @@ pub fn next_line(input: &[u8]) -> Option<(&[u8], &[u8])>
 pub fn read_line(line: &[u8]) -> Line<'_>
     ensures { Says line.now result }
 {
-    if let Some(words) = behind(line, b"! ") {
+    if let Some(words) = bytes_after(line, b"! ") {
         return Line::Admin(words);
     }
     let (name, rest) = line.split_at(name_len(line));
-    match behind(rest, b": ") {
+    match bytes_after(rest, b": ") {
         Some(sql) if !name.is_empty() => Line::Statement(name, sql),
         _ => Line::Unknown,
     }

@@ -36,12 +36,12 @@ fn put_shard(
     alloc: Global,
     out: &mut Vec<u8>,
     ranges: &[KeyRange],
-    place: usize,
+    ordinal: usize,
 ) -> Result<(), Refusal>
-    ensures ok { OnOk result (out.new.items ≡ out.old.items ++ range_word (slice_get ranges.now place)) }
+    ensures ok { OnOk result (out.new.items ≡ out.old.items ++ range_word (slice_get ranges.now ordinal)) }
     ensures err { IfErr result (λ e. e ≡ Refusal.OutOfMemory) }
 {
-    match ranges.get(place) {
+    match ranges.get(ordinal) {
         Some(range) => {
             let name = format!(in alloc; " {range}")?;
             put(out, name.as_bytes())
@@ -54,13 +54,13 @@ fn put_shards(
     alloc: Global,
     out: &mut Vec<u8>,
     ranges: &[KeyRange],
-    places: &[usize],
+    ordinals: &[usize],
 ) -> Result<(), Refusal>
-    ensures ok { OnOk result (out.new.items ≡ out.old.items ++ flat_map (λ n. range_word (slice_get ranges.now n)) places.now) }
+    ensures ok { OnOk result (out.new.items ≡ out.old.items ++ flat_map (λ n. range_word (slice_get ranges.now n)) ordinals.now) }
     ensures err { IfErr result (λ e. e ≡ Refusal.OutOfMemory) }
 {
-    for place in places {
-        put_shard(alloc, out, ranges, *place)?;
+    for ordinal in ordinals {
+        put_shard(alloc, out, ranges, *ordinal)?;
     }
     Ok(())
 }
@@ -71,14 +71,14 @@ fn put_route(
     out: &mut Vec<u8>,
     route: &Route,
     ranges: &[KeyRange],
-    places: &[usize],
+    ordinals: &[usize],
 ) -> Result<(), Refusal>
-    ensures ok { OnOk result (out.new.items ≡ out.old.items ++ shards_text route.now ranges.now places.now) }
+    ensures ok { OnOk result (out.new.items ≡ out.old.items ++ shards_text route.now ranges.now ordinals.now) }
     ensures err { IfErr result (λ e. e ≡ Refusal.OutOfMemory) }
 {
     match route {
         Route::Unsharded => put(out, b" 0"),
-        _ => put_shards(alloc, out, ranges, places),
+        _ => put_shards(alloc, out, ranges, ordinals),
     }
 }
 
@@ -87,15 +87,15 @@ fn printed(
     name: &[u8],
     route: &Route,
     ranges: &[KeyRange],
-    places: &[usize],
+    ordinals: &[usize],
 ) -> Result<Vec<u8>, Refusal>
-    ensures ok { IfOk result (λ line. line.items ≡ plan_text name.now route.now ranges.now places.now) }
+    ensures ok { IfOk result (λ line. line.items ≡ plan_text name.now route.now ranges.now ordinals.now) }
     ensures err { IfErr result (λ e. e ≡ Refusal.OutOfMemory) }
 {
     let mut out = Vec::new(alloc);
     put(&mut out, name)?;
     put(&mut out, b":")?;
-    put_route(alloc, &mut out, route, ranges, places)?;
+    put_route(alloc, &mut out, route, ranges, ordinals)?;
     put(&mut out, b"\n")?;
     Ok(out)
 }
@@ -110,16 +110,17 @@ fn write_line(
     ensures err { IfErr result (λ e. e ≡ Refusal.OutOfMemory) }
 {
     let route = write_route(alloc, schema, write)?;
-    let (Write::Insert(place, _) | Write::Update(place, _, _) | Write::Delete(place, _)) = write;
-    let Some(table) = schema.tables.as_slice().get(*place) else {
+    let (Write::Insert(ordinal, _) | Write::Update(ordinal, _, _) | Write::Delete(ordinal, _)) =
+        write;
+    let Some(table) = schema.tables.as_slice().get(*ordinal) else {
         return printed(alloc, route_name(&route), &route, ranges, &[]);
     };
-    let places = shards(alloc, table, &route, ranges)?;
+    let ordinals = shards(alloc, table, &route, ranges)?;
     let name = match write {
-        Write::Insert(_, _) => insert_name(&route, places.len()),
+        Write::Insert(_, _) => insert_name(&route, ordinals.len()),
         Write::Update(_, _, _) | Write::Delete(_, _) => route_name(&route),
     };
-    printed(alloc, name, &route, ranges, &places)
+    printed(alloc, name, &route, ranges, &ordinals)
 }
 
 fn owned_line(
@@ -149,8 +150,8 @@ fn query_line(
     let Some(table) = schema.tables.as_slice().get(query.table) else {
         return printed(alloc, route_name(&route), &route, ranges, &[]);
     };
-    let places = shards(alloc, table, &route, ranges)?;
-    printed(alloc, route_name(&route), &route, ranges, &places)
+    let ordinals = shards(alloc, table, &route, ranges)?;
+    printed(alloc, route_name(&route), &route, ranges, &ordinals)
 }
 
 fn typed_line(

@@ -5,7 +5,6 @@ mod running;
 
 use log::{LevelFilter, Logged, error};
 use running::run;
-use serve_lines::Word;
 use server_log::{LineQueue, LineSink, NotStarted, environment_level, start_writing};
 use session::{Reader, Sink, Writer};
 use std::alloc::{AllocError, Global};
@@ -16,7 +15,7 @@ use std::rt::Env;
 use std::sync::{Arc, Wait};
 use std::thread::Threads;
 use std::time::Clock;
-use vtgate_input::{FAILED, FAILURE, Hashing};
+use vtgate_setup::{FAILED, FAILURE, Hashing, Word};
 
 /// How many bytes a word is first given room for, and how often that is doubled.
 const FIRST_ROOM: usize = 4096;
@@ -24,11 +23,11 @@ const FIRST_ROOM: usize = 4096;
 const DOUBLINGS: u32 = 32;
 
 // The word at a place of the command line, if there is one.
-fn word<R: Env>(rt: &R, alloc: Global, place: usize) -> Result<Option<Word>, AllocError> {
+fn word<R: Env>(rt: &R, alloc: Global, ordinal: usize) -> Result<Option<Word>, AllocError> {
     let mut room = FIRST_ROOM;
     for _ in 0..DOUBLINGS {
         let mut bytes = vec![in alloc; 0u8; room]?;
-        match rt.arg(place, &mut bytes) {
+        match rt.arg(ordinal, &mut bytes) {
             Ok(len) => {
                 bytes.truncate(len);
                 return Ok(Some(Word::new(bytes)));
@@ -42,8 +41,8 @@ fn word<R: Env>(rt: &R, alloc: Global, place: usize) -> Result<Option<Word>, All
 
 fn words<R: Env>(rt: &R, alloc: Global) -> Result<Vec<Word>, AllocError> {
     let mut words = Vec::new(alloc);
-    for place in 1..usize::MAX {
-        match word(rt, alloc, place)? {
+    for ordinal in 1..usize::MAX {
+        match word(rt, alloc, ordinal)? {
             Some(word) => words.push(word)?,
             None => break,
         }

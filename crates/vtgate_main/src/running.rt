@@ -1,25 +1,24 @@
 //! The words of the command line, and what they run.
 ghost use Rattle.std.specs.Prelude.{◌≡◌, ◌≢◌, ◌≤◌, ℕ, List, false, IfSome, IfNone, bytes_eq};
-ghost use Rattle.serve_lines.specs.Asking.{Asking, Asks};
-ghost use Rattle.serve_lines.specs.Words.{word_bytes};
-ghost use Rattle.vtgate_input.specs.Statuses.{IsWrong, TellsNone};
+ghost use Rattle.vtgate_setup.specs.ServeArgs.{ServeArgsView, IsServeCommand};
+ghost use Rattle.vtgate_setup.specs.Words.{word_bytes};
+ghost use Rattle.vtgate_setup.specs.Statuses.{IsWrong, TellsNone};
 ghost use Rattle.vtgate_main.specs.Words.{AsksPlan, AsksScript, is_plan, is_script};
 ghost use Rattle.vtgate_script.specs.Planned.{HasPlanned};
 ghost use Rattle.vtgate_script.specs.Scripted.{HasScripted};
 ghost use Rattle.vtgate_script.specs.Wrong.{IsWrongScript};
-ghost use Rattle.vtgate_serve.specs.Served.{HasServed};
+ghost use Rattle.vtgate_serve.specs.Served.{HasRunServer};
 
 use log::Log;
-use serve_lines::Word;
 use session::{Sink, Source};
 use std::alloc::Global;
 use std::net::{Net, TcpListener, TcpStream};
 use std::sync::Wait;
 use std::thread::Threads;
 use std::time::Clock;
-use vtgate_input::{Hashing, SUCCESS, WRONG_WORDS};
 use vtgate_script::{run_plan, run_script};
 use vtgate_serve::run_serve;
+use vtgate_setup::{Hashing, SUCCESS, WRONG_WORDS, Word};
 
 fn is_word(word: &Word, bytes: &[u8]) -> bool
     ensures { result ≡ bytes_eq (word_bytes word.now) bytes.now }
@@ -99,20 +98,20 @@ pub fn run<
         → HasScripted shards (I.unread input.old) (I.unread input.new) (O.taken output.old) (O.taken output.new) }
     ensures unread { (shards : List ℕ) → AsksScript words.now shards
         → TellsNone shards → (result ≢ SUCCESS) × (input.new ≡ input.old) }
-    ensures serve { (asking : Asking) → Asks words.now asking → result ≡ SUCCESS
-        → HasServed asking.shards (I.unread input.old) (I.unread input.new) (O.taken output.old) (O.taken output.new) }
-    ensures unserved { (asking : Asking) → Asks words.now asking
+    ensures serve { (asking : ServeArgsView) → IsServeCommand words.now asking → result ≡ SUCCESS
+        → HasRunServer asking.shards (I.unread input.old) (I.unread input.new) (O.taken output.old) (O.taken output.new) }
+    ensures unserved { (asking : ServeArgsView) → IsServeCommand words.now asking
         → TellsNone asking.shards → (result ≢ SUCCESS) × (input.new ≡ input.old) }
     // The status 2 has its cause: the word of the shards, or the VSchema that the input declares.
     ensures plan_cause { (shards sql : List ℕ) → AsksPlan words.now shards sql → result ≡ WRONG_WORDS
         → IsWrong shards (I.unread input.old) (I.unread input.new) }
     ensures script_cause { (shards : List ℕ) → AsksScript words.now shards → result ≡ WRONG_WORDS
         → IsWrongScript shards (I.unread input.old) (I.unread input.new) }
-    ensures serve_cause { (asking : Asking) → Asks words.now asking → result ≡ WRONG_WORDS
+    ensures serve_cause { (asking : ServeArgsView) → IsServeCommand words.now asking → result ≡ WRONG_WORDS
         → IsWrong asking.shards (I.unread input.old) (I.unread input.new) }
     ensures status { result ≤ 2 }
     ensures wrong { is_plan words.now ≡ false → is_script words.now ≡ false
-        → ((asking : Asking) → Asks words.now asking → ⊥)
+        → ((asking : ServeArgsView) → IsServeCommand words.now asking → ⊥)
         → (result ≡ WRONG_WORDS) × (input.new ≡ input.old) × (output.new ≡ output.old) }
 {
     if let Some((shards, sql)) = plan_words(words) {

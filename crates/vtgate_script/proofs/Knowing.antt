@@ -12,12 +12,12 @@ use Rattle.shard_run.specs.declared.Entry.{Entry}
 use Rattle.shard_run.specs.Runs.{Run, Opening}
 use Rattle.shard_run.specs.Openings.{IsOpening}
 use Rattle.shard_law.proofs.Lists.{In, In-filter}
-use Rattle.shard_contents.specs.Shards.{MayFollow, commit_of}
+use Rattle.shard_law.specs.Entries.{MayFollow, commit_of}
 use Rattle.shard_calls.specs.Alone.{IsNoOthers, NoOthers, NoCommits}
 use Rattle.shard_calls.specs.Pendings.{OpenView}
-use Rattle.session_replies.specs.Outcomes.{PassAndTransaction}
+use Rattle.conversation.specs.Means.{PassAndTransaction}
 use Rattle.vtgate_script.specs.Scripted.{met}
-use Rattle.vtgate_script.specs.inner.UnderWay.{Kept, KeptSession, PrintsFrom, PrintsHere, KnowsOwn, IsKnown, IsBehind}
+use Rattle.vtgate_script.specs.inner.UnderWay.{KeptState, KeptSession, PrintsFrom, PrintsHere, KnowsOwn, IsKnown, HasSeenLess}
 use Rattle.vtgate_script.proofs.Among.{prints_among}
 
 abbrev of : ℕ → List Entry → List Entry
@@ -37,8 +37,8 @@ is_of e c is = ap (of_session c.0) is ∙ eq-eqb c.0 c.0 refl
 not_of : (e : Entry) (added : List Entry) (c : ℕ × ℕ) → commit_of e ≡ Some c → of c.0 (e ∷ added) ≡ [] → ⊥
 not_of e added c is none = subst (In e) none (In-filter (by_session commit_of c.0) e (is_of e c is) (e ∷ added) (inl refl))
 
-none_behind : (n : ℕ) (e : Entry) (added : List Entry) → of n (e ∷ added) ≡ [] → of n added ≡ []
-none_behind n e added none = by (by_session commit_of n e) none
+none_after : (n : ℕ) (e : Entry) (added : List Entry) → of n (e ∷ added) ≡ [] → of n added ≡ []
+none_after n e added none = by (by_session commit_of n e) none
   where
     by : (b : Bool) → cond b (e ∷ of n added) (of n added) ≡ [] → of n added ≡ []
     by true some = absurd (cc some)
@@ -48,12 +48,12 @@ no_others : (n : ℕ) (added : List Entry) → ((k : ℕ) → (k ≡ n → ⊥) 
 no_others n [] none = tt
 no_others n (e ∷ added) none = (
   (λ c is. ⊎_elim (λ (same : c.0 ≡ n). same) (λ (other : c.0 ≡ n → ⊥). absurd (not_of e added c is (none c.0 other))) (cases_eq c.0 n)),
-  no_others n added (λ k other. none_behind k e added (none k other)),
+  no_others n added (λ k other. none_after k e added (none k other)),
 )
 
 nothing : (added : List Entry) → ((k : ℕ) → of k added ≡ []) → AllByRecursion (λ e. commit_of e ≡ None) added
 nothing [] none = tt
-nothing (e ∷ added) none = (by (commit_of e) refl, nothing added (λ k. none_behind k e added (none k)))
+nothing (e ∷ added) none = (by (commit_of e) refl, nothing added (λ k. none_after k e added (none k)))
   where
     by : (c : Option (ℕ × ℕ)) → commit_of e ≡ c → commit_of e ≡ None
     by None is = is
@@ -96,7 +96,7 @@ known_opened opened seen xs name many known = record {
 -- ---- what the sessions of a script keep
 
 abbrev pub AreUnderWay : Opening → ℕ → Run → List KeptSession → Type 0
-AreUnderWay o opened seen xs = (opened ≡ length xs) × AllByRecursion (IsBehind o seen) xs × IsKnown opened seen xs
+AreUnderWay o opened seen xs = (opened ≡ length xs) × AllByRecursion (HasSeenLess o seen) xs × IsKnown opened seen xs
 
 pub same_way : (o : Opening) (opened opened' : ℕ) (seen seen' : Run) (xs xs' : List KeptSession) → opened' ≡ opened → seen' ≡ seen → xs' ≡ xs
     → AreUnderWay o opened seen xs → AreUnderWay o opened' seen' xs'
@@ -135,47 +135,47 @@ knows_one_more seen xs i x at low before one k d below =
 
 -- ---- a session has run a statement, and all have confirmed
 
-module _ (opened : ℕ) (seen then : Run) (xs : List KeptSession) (place : ℕ) (one : KeptSession) (many : opened ≡ length xs) (below : place < length xs)
-    (known : IsKnown opened seen xs) (same : (d : KeptSession) → one.kept.pass.session ≡ (get_or xs place d).kept.pass.session)
-    (own : (k : ℕ) (d : KeptSession) → k < length (set xs place one) → KnowsOwn then (get_or (set xs place one) k d))
+module _ (opened : ℕ) (seen then : Run) (xs : List KeptSession) (ordinal : ℕ) (one : KeptSession) (many : opened ≡ length xs) (below : ordinal < length xs)
+    (known : IsKnown opened seen xs) (same : (d : KeptSession) → one.kept.pass.session ≡ (get_or xs ordinal d).kept.pass.session)
+    (own : (k : ℕ) (d : KeptSession) → k < length (set xs ordinal one) → KnowsOwn then (get_or (set xs ordinal one) k d))
     (unopened : (n : ℕ) → opened ≤ n → of n then ≡ []) where
-  as_many : length (set xs place one) ≡ length xs
-  as_many = length-set xs place one
+  as_many : length (set xs ordinal one) ≡ length xs
+  as_many = length-set xs ordinal one
 
-  pub known_run : IsKnown opened then (set xs place one)
+  pub known_run : IsKnown opened then (set xs ordinal one)
   known_run = record {
     numbered = λ k d low.
         let lower : k < length xs = omega (arith, low, as_many) in
         ⊎_elim
-        (λ (e : k ≡ place).
-        ap (λ (n : ℕ). (get_or (set xs place one) n d).kept.pass.session) e
-        ∙ ap (λ (x : KeptSession). x.kept.pass.session) (get_or-set_same xs place one d below) ∙ same d ∙ known.numbered place d below
+        (λ (e : k ≡ ordinal).
+        ap (λ (n : ℕ). (get_or (set xs ordinal one) n d).kept.pass.session) e
+        ∙ ap (λ (x : KeptSession). x.kept.pass.session) (get_or-set_same xs ordinal one d below) ∙ same d ∙ known.numbered ordinal d below
         ∙ ap (λ (n : ℕ). Some n) (sym e))
-        (λ (other : k ≡ place → ⊥). ap (λ (x : KeptSession). x.kept.pass.session) (get_or-set_other xs place k one d other) ∙ known.numbered k d lower)
-        (cases_eq k place);
+        (λ (other : k ≡ ordinal → ⊥). ap (λ (x : KeptSession). x.kept.pass.session) (get_or-set_other xs ordinal k one d other) ∙ known.numbered k d lower)
+        (cases_eq k ordinal);
     own = own;
     unopened = unopened;
   }
 
-  pub others_stay : (n : ℕ) → (n ≡ place → ⊥) → of n then ≡ of n seen
+  pub others_stay : (n : ℕ) → (n ≡ ordinal → ⊥) → of n then ≡ of n seen
   others_stay n other =
       ⊎_elim
       (λ (low : n < opened).
       let here : n < length xs = omega (arith, low, many) in
-      let there : n < length (set xs place one) = omega (arith, here, as_many) in
-      let at = get_or-set_other xs place n one one other in
+      let there : n < length (set xs ordinal one) = omega (arith, here, as_many) in
+      let at = get_or-set_other xs ordinal n one one other in
       let numbered = known.numbered n one here in
       subst (KnowsOwn then) at (own n one there) n numbered ∙ sym (known.own n one here n numbered))
       (λ (high : opened ≤ n). unopened n high ∙ sym (known.unopened n high)) (cases_lt n opened)
 
-  pub nobody_else : (p q : PassView Entry) → p.session ≡ (get_or xs place one).kept.pass.session → q.seen ≡ then → IsPrefix seen then
+  pub nobody_else : (p q : PassView Entry) → p.session ≡ (get_or xs ordinal one).kept.pass.session → q.seen ≡ then → IsPrefix seen then
       → NoOthers (record p { seen = seen }) q
   nobody_else p q session is later = record {
-    session = place;
-    of_session = session ∙ known.numbered place one below;
+    session = ordinal;
+    of_session = session ∙ known.numbered ordinal one below;
     added = later.0;
     seen = is ∙ sym later.1;
-    own = no_others place later.0 (λ k other. none_added k seen later.0 then (sym later.1) (others_stay k other));
+    own = no_others ordinal later.0 (λ k other. none_added k seen later.0 then (sym later.1) (others_stay k other));
   }
 
 -- the controller has run an admin line, and all have confirmed
@@ -201,7 +201,7 @@ module _ (opened : ℕ) (seen then : Run) (xs : List KeptSession) (many : opened
 
 -- ---- and so what is printed is what one database gives
 
-pub here_of : (o : Opening) → IsOpening o → is_vschema o.schema ≡ true → (seen : Run) → IsLegal (MayFollow o) seen → (k then : Kept)
+pub here_of : (o : Opening) → IsOpening o → is_vschema o.schema ≡ true → (seen : Run) → IsLegal (MayFollow o) seen → (k then : KeptState)
     → NoOthers (record k.pass { seen = seen }) then.pass → (sql text : List ℕ) → PrintsFrom o seen k sql text then → PrintsHere o seen k sql text then
 here_of o opens formed seen legal k then others sql text prints = λ s held.
     let said = prints s held in

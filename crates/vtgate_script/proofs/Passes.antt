@@ -7,10 +7,10 @@ use Rattle.journal.specs.Views.{PassView, IsLonger}
 use Rattle.journal.proofs.Fronts.{prefix_both}
 use Rattle.shard_run.specs.declared.Entry.{Entry}
 use Rattle.shard_run.specs.Runs.{Opening}
-use Rattle.shard_contents.specs.declared.limits.Limits.{Limits}
+use Rattle.shard_law.specs.declared.limits.Limits.{Limits}
 use Rattle.shard_calls.specs.declared.reply.Reply.{Reply}
 use Rattle.shard_calls.specs.Transactions.{Transaction, IsReplyTo, IsRefusedAt}
-use Rattle.shard_calls.specs.Pendings.{OpenView, Stands, IsOf}
+use Rattle.shard_calls.specs.Pendings.{OpenView, Represents, IsOf}
 use Rattle.session.proofs.Steps.{answer_on, refusal_at_on}
 
 -- ---- statements
@@ -18,12 +18,12 @@ use Rattle.session.proofs.Steps.{answer_on, refusal_at_on}
 -- what `execute` says of a reply, and of a refusal
 module _ (o : Opening) (l : Limits) (p now : PassView Entry) (v w : Option OpenView) (text : List ℕ) where
   abbrev pub Answered : Reply → Type 0
-  Answered r = (t : Option Transaction) → Stands o p v t
-      → (u : Option Transaction) × IsReplyTo o l (record { pass = p; tx = t }) text r (record { pass = now; tx = u }) × Stands o now w u
+  Answered r = (t : Option Transaction) → Represents o p v t
+      → (u : Option Transaction) × IsReplyTo o l (record { pass = p; tx = t }) text r (record { pass = now; tx = u }) × Represents o now w u
 
   abbrev pub Refused : Refusal → Type 0
-  Refused e = (t : Option Transaction) → Stands o p v t
-      → (u : Option Transaction) × IsRefusedAt o l (record { pass = p; tx = t }) text e (record { pass = now; tx = u }) × Stands o now w u
+  Refused e = (t : Option Transaction) → Represents o p v t
+      → (u : Option Transaction) × IsRefusedAt o l (record { pass = p; tx = t }) text e (record { pass = now; tx = u }) × Represents o now w u
 
   -- what is seen after a statement begins with what was seen before it
   pub goes_on : (result : Result Reply Refusal) → IfOk result Answered → IfErr result Refused → IsOf o v p → IsPrefix p.seen now.seen
@@ -35,8 +35,8 @@ module _ (o : Opening) (l : Limits) (p now : PassView Entry) (v w : Option OpenV
 module _ {E : Type 0} (slot_of : E → ℕ) (commit_of : E → Option (ℕ × ℕ)) (may : List E → E → Type 0) where
   -- a pass that has seen no more than the other sees what that has seen
   pub sees_all : (p q : PassView E) (run : List E) → IsLonger slot_of commit_of may p q run → IsPrefix p.seen q.seen → run ≡ q.seen
-  sees_all p q run longer behind = by longer.either
+  sees_all p q run longer trailing = by longer.either
     where
       by : (run ≡ p.seen) ⊎ (run ≡ q.seen) → run ≡ q.seen
-      by (inl e) = e ∙ prefix_both p.seen q.seen behind (subst (λ (z : List E). IsPrefix q.seen z) e longer.other)
+      by (inl e) = e ∙ prefix_both p.seen q.seen trailing (subst (λ (z : List E). IsPrefix q.seen z) e longer.other)
       by (inr e) = e

@@ -7,12 +7,12 @@ use Rattle.journal.specs.Runs.{by_session}
 use Rattle.journal.specs.Views.{PassView, IsLonger}
 use Rattle.shard_run.specs.declared.Entry.{Entry}
 use Rattle.shard_run.specs.Runs.{Run, Opening}
-use Rattle.shard_contents.specs.declared.limits.Limits.{Limits}
-use Rattle.shard_contents.specs.Shards.{slot_of, commit_of, MayFollow, most_limits}
+use Rattle.shard_law.specs.declared.limits.Limits.{Limits}
+use Rattle.shard_law.specs.Entries.{slot_of, commit_of, MayFollow, most_limits}
 use Rattle.shard_calls.specs.declared.reply.Reply.{Reply}
 use Rattle.shard_calls.specs.Transactions.{Transaction}
-use Rattle.shard_calls.specs.Pendings.{OpenView, Stands, IsOf}
-use Rattle.session_replies.specs.Outcomes.{PassAndTransaction}
+use Rattle.shard_calls.specs.Pendings.{OpenView, Represents, IsOf}
+use Rattle.conversation.specs.Means.{PassAndTransaction}
 use Rattle.route_engine.proofs.Anywhere.{stands_met}
 use Rattle.vtgate_script.specs.Scripted as s
 use Rattle.vtgate_script.specs.Scripted.{Prints, met}
@@ -27,8 +27,8 @@ on_ok (Err e) p f = tt
 
 module _ (o : Opening) (p now : PassView Entry) (v w : Option OpenView) (sql text : List ℕ) where
   abbrev Printed : Type 0
-  Printed = (t : Option Transaction) → Stands o p v t
-      → (u : Option Transaction) × Prints o (record { pass = p; tx = t }) sql text (record { pass = now; tx = u }) × Stands o now w u
+  Printed = (t : Option Transaction) → Represents o p v t
+      → (u : Option Transaction) × Prints o (record { pass = p; tx = t }) sql text (record { pass = now; tx = u }) × Represents o now w u
 
   told : (outcome : Result Reply Refusal) → IfOk outcome (Answered o most_limits p now v w sql) → IfErr outcome (Refused o most_limits p now v w sql)
       → IsOutcomeShown outcome text → Printed
@@ -64,14 +64,14 @@ kept_met o p q v run met more own kept =
 
 -- A pass meets that of all lines, runs a statement, and they meet again.
 module _ (o : Opening) (l : Limits) (sql text : List ℕ) (outcome : Result Reply Refusal) (p all p1 all1 p2 all2 p3 : PassView Entry) (v w : Option OpenView)
-    (behind : IsPrefix p.seen all.seen) (first : IsLonger slot_of commit_of (MayFollow o) p all p1.seen) (mine : p1 ≡ seen_by p1.seen p)
+    (trailing : IsPrefix p.seen all.seen) (first : IsLonger slot_of commit_of (MayFollow o) p all p1.seen) (mine : p1 ≡ seen_by p1.seen p)
     (theirs : all1 ≡ seen_by p1.seen all) (is : IfOk outcome (Answered o l p1 p2 v w sql)) (why : IfErr outcome (Refused o l p1 p2 v w sql))
     (second : IsLonger slot_of commit_of (MayFollow o) all1 p2 all2.seen) (then : p3 ≡ seen_by all2.seen p2) (kept : IsOf o v p) where
   begun : p1 ≡ seen_by all.seen p
-  begun = mine ∙ ap (λ run. seen_by run p) (sees_all slot_of commit_of (MayFollow o) p all p1.seen first behind)
+  begun = mine ∙ ap (λ run. seen_by run p) (sees_all slot_of commit_of (MayFollow o) p all p1.seen first trailing)
 
   -- what is kept stands for the transaction still
-  still : (t : Option Transaction) → Stands o p v t → Stands o p1 v t
+  still : (t : Option Transaction) → Represents o p v t → Represents o p1 v t
   still t stands = stands_met o p p1 v t first.one (ap (λ (q : PassView Entry). q.session) mine) first.own stands
 
   later : IsPrefix all1.seen p2.seen
@@ -80,13 +80,13 @@ module _ (o : Opening) (l : Limits) (sql text : List ℕ) (outcome : Result Repl
   ended : p3 ≡ p2
   ended = then ∙ ap (λ run. seen_by run p2) (sees_all slot_of commit_of (MayFollow o) all1 p2 all2.seen second later)
 
-  pub prints_behind : l ≡ most_limits → IsOutcomeShown outcome text → PrintsFrom o all.seen (record { pass = p; tx = v }) sql text (record { pass = p3; tx = w })
-  prints_behind e t = λ s held.
+  pub prints_after : l ≡ most_limits → IsOutcomeShown outcome text → PrintsFrom o all.seen (record { pass = p; tx = v }) sql text (record { pass = p3; tx = w })
+  prints_after e t = λ s held.
       let said = is_printed o p1 p2 v w sql text l e outcome is why t s.tx (still s.tx held.0.1) in
       let here : record { pass = p1; tx = s.tx } ≡ met all.seen s =
       ap (λ (q : PassView Entry). record { pass = q; tx = s.tx }) (begun ∙ ap (λ (q : PassView Entry). seen_by all.seen q) (sym held.0.0)) in
       let typed : AreTyped o said.0 = typed_then o (record { pass = p1; tx = s.tx }) (record { pass = p2; tx = said.0 }) sql text held.1 said.1 in (
         record { pass = p2; tx = said.0 },
-        ((sym ended, subst (λ (q : PassView Entry). Stands o q w said.0) (sym ended) said.2), typed),
+        ((sym ended, subst (λ (q : PassView Entry). Represents o q w said.0) (sym ended) said.2), typed),
         subst (λ (x : PassAndTransaction). Prints o x sql text (record { pass = p2; tx = said.0 })) here said.1,
       )

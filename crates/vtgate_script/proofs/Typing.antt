@@ -1,8 +1,8 @@
 -- The writes of a transaction are what statements mean.
 use Rattle.std.proofs.Common.{ℕ, List}
-use Rattle.shard_contents.specs.Shards.{most_limits}
+use Rattle.shard_law.specs.Entries.{most_limits}
 use Rattle.shard_run.specs.Runs.{Opening}
-use Rattle.session_replies.specs.Outcomes.{PassAndTransaction}
+use Rattle.conversation.specs.Means.{PassAndTransaction}
 use Rattle.session.specs.inner.TypedSteps.{AreTyped}
 use Rattle.session.proofs.Typing.{answered_at, refused_at}
 use Rattle.vtgate_script.specs.Scripted as s

@@ -1,20 +1,22 @@
 //! `vtgate plan`: the route of a statement, and its shards.
 ghost use Rattle.std.specs.Prelude.{◌≡◌, ◌≤◌, IfOk, IfErr};
-ghost use Rattle.vtgate_input.specs.Statuses.{IsWrong, TellsNone, status_of};
+ghost use Rattle.vtgate_setup.specs.Statuses.{IsWrong, TellsNone, status_of};
 ghost use Rattle.vtgate_script.specs.Planned.{IsPlanned, HasPlanned};
 
 use session::{Sink, Source};
 use std::alloc::Global;
 use vschema::Hashing;
-use vtgate_input::{Fault, SUCCESS, WRONG_WORDS, ranges_of, read_schema, refuse, refuse_plainly};
 use vtgate_lines::plan_line;
+use vtgate_setup::{
+    RunFault, SUCCESS, WRONG_WORDS, ranges_of, read_schema, refuse, refuse_plainly,
+};
 
 fn planned<I: Source>(
     alloc: Global,
     shards: &str,
     sql: &[u8],
     input: &mut I,
-) -> Result<Vec<u8>, Fault>
+) -> Result<Vec<u8>, RunFault>
     ensures ok { IfOk result (λ line. IsPlanned shards.now sql.now (I.unread input.old) (I.unread input.new) line.items) }
     ensures untouched { TellsNone shards.now → input.new ≡ input.old }
     ensures fault { IfErr result (λ f. status_of f ≡ WRONG_WORDS → IsWrong shards.now (I.unread input.old) (I.unread input.new)) }
@@ -24,7 +26,7 @@ fn planned<I: Source>(
     let schema = read_schema(alloc, &Hashing::known(), &ranges, input)?;
     match plan_line(alloc, &schema, &ranges, sql) {
         Ok(line) => Ok(line),
-        Err(refusal) => Err(Fault::Refused(refusal)),
+        Err(refusal) => Err(RunFault::Refused(refusal)),
     }
 }
 
@@ -52,7 +54,7 @@ pub fn run_plan<I: Source, O: Sink, E: Sink>(
         Err(fault) => return refuse_plainly(fault, output, errors),
     };
     if output.write(&line).is_err() {
-        return refuse(Fault::Failed, output, errors);
+        return refuse(RunFault::Failed, output, errors);
     }
     SUCCESS
 }

@@ -2,19 +2,19 @@
 ghost use Rattle.std.specs.Prelude.{◌≡◌, ◌≤◌, ℕ, List, [], None, IsTrue, IfOk, IfErr, OnOk, Ok};
 ghost use Rattle.vschema.specs.Meant.{contents, schema_read};
 ghost use Rattle.vschema.specs.WellFormed.{is_vschema};
-ghost use Rattle.shard_contents.specs.Shards.{most_limits};
+ghost use Rattle.shard_law.specs.Entries.{most_limits};
 ghost use Rattle.journal.specs.Views.{new_pass};
-ghost use Rattle.empty_opening.specs.Empty.{opening_of, sharded_keyspace, FitRanges};
-ghost use Rattle.administration.specs.Told.{keyspace_of};
-ghost use Rattle.administration.specs.Idle.{opening_workflow};
+ghost use Rattle.opening.specs.Empty.{opening_of, sharded_keyspace, FitRanges};
+ghost use Rattle.admin.specs.AdminAnswers.{keyspace_of};
+ghost use Rattle.admin.specs.Idle.{opening_workflow};
 ghost use Rattle.vtgate_lines.specs.Lines.{IsNextLine};
 ghost use Rattle.vtgate_lines.specs.Partitions.{NamesPartition};
-ghost use Rattle.vtgate_input.specs.Statuses.{TellsNone, status_of};
-ghost use Rattle.vtgate_script.specs.Scripted.{HasGiven, HasScripted};
+ghost use Rattle.vtgate_setup.specs.Statuses.{TellsNone, status_of};
+ghost use Rattle.vtgate_script.specs.Scripted.{HasPrinted, HasScripted};
 ghost use Rattle.vtgate_script.specs.Wrong.{DeclaresNone, IsWrongScript};
 
 use crate::sessions::{Sessions, run_lines};
-use administration::{Administrator, administered_router, widest_limits};
+use admin::{Administrator, administered_router, widest_limits};
 use journal::{Naming, Opened, Opener, Pass};
 use keyrange::KeyRange;
 use route_engine::{Engine, Open};
@@ -25,10 +25,10 @@ use std::marker::Brand;
 use std::sync::Wait;
 use std::thread::Threads;
 use vschema::{Hashing, SchemaFault, VSchema};
-use vtgate_input::{
-    FAILURE, Fault, SUCCESS, WRONG_WORDS, has_too_many, ranges_of, read_all, refuse, schema_of,
-};
 use vtgate_lines::next_line;
+use vtgate_setup::{
+    FAILURE, RunFault, SUCCESS, WRONG_WORDS, has_too_many, ranges_of, read_all, refuse, schema_of,
+};
 
 // The lines, run by the engine and the administrator of its sharded keyspace.
 fn run_router<W: World + Send + Sync, J: Naming + Send + Sync, R: Threads + Wait + Sync, O: Sink>(
@@ -40,12 +40,12 @@ fn run_router<W: World + Send + Sync, J: Naming + Send + Sync, R: Threads + Wait
     pass: Pass<ShardLaw<W>, J>,
     lines: &[u8],
     output: &mut O,
-) -> Result<(), Fault>
+) -> Result<(), RunFault>
     requires home { keyspace_of administrator ≡ sharded_keyspace engine.now }
     requires limits { W.limits ≡ most_limits }
     requires opener { opener ≡ 0 }
     requires pass { pass ≡ new_pass [] None }
-    ensures given { OnOk result (HasGiven W.opening administrator lines.now (O.taken output.old) (O.taken output.new)) }
+    ensures given { OnOk result (HasPrinted W.opening administrator lines.now (O.taken output.old) (O.taken output.new)) }
     ensures fault { IfErr result (λ f. status_of f ≡ FAILURE) }
 {
     let mut sessions = Sessions::new(alloc, opener, pass);
@@ -69,18 +69,18 @@ fn run_opened<W: World + Send + Sync, J: Naming + Send + Sync, R: Threads + Wait
     opened: Opened<ShardLaw<W>>,
     lines: &[u8],
     output: &mut O,
-) -> Result<(), Fault>
+) -> Result<(), RunFault>
     requires name { opened ≡ J.table }
     requires opening { W.opening ≡ opening_of schema ranges.now }
     requires limits { W.limits ≡ most_limits }
     requires schema { IsTrue (is_vschema schema) }
     requires ranges { FitRanges schema ranges.now }
-    ensures given { OnOk result (HasGiven (opening_of schema ranges.now) (opening_workflow schema ranges.now) lines.now (O.taken output.old) (O.taken output.new)) }
+    ensures given { OnOk result (HasPrinted (opening_of schema ranges.now) (opening_workflow schema ranges.now) lines.now (O.taken output.old) (O.taken output.new)) }
     ensures fault { IfErr result (λ f. status_of f ≡ FAILURE) }
 {
     let limits = widest_limits();
     match administered_router::<W, J, Open>(alloc, schema, ranges, limits, opened, 0, Open) {
-        Err(_) => Err(Fault::OutOfMemory),
+        Err(_) => Err(RunFault::OutOfMemory),
         Ok((engine, administrator, opener, pass)) => run_router(
             rt,
             alloc,
@@ -102,16 +102,16 @@ fn run_in_world<W: World + Send + Sync, R: Threads + Wait + Sync, O: Sink>(
     ranges: &[KeyRange],
     lines: &[u8],
     output: &mut O,
-) -> Result<(), Fault>
+) -> Result<(), RunFault>
     requires opening { W.opening ≡ opening_of schema ranges.now }
     requires limits { W.limits ≡ most_limits }
     requires schema { IsTrue (is_vschema schema) }
     requires ranges { FitRanges schema ranges.now }
-    ensures given { OnOk result (HasGiven (opening_of schema ranges.now) (opening_workflow schema ranges.now) lines.now (O.taken output.old) (O.taken output.new)) }
+    ensures given { OnOk result (HasPrinted (opening_of schema ranges.now) (opening_workflow schema ranges.now) lines.now (O.taken output.old) (O.taken output.new)) }
     ensures fault { IfErr result (λ f. status_of f ≡ FAILURE) }
 {
     let Ok(opened) = Opened::<ShardLaw<W>>::new(alloc) else {
-        return Err(Fault::OutOfMemory);
+        return Err(RunFault::OutOfMemory);
     };
     run_opened::<W, Brand, R, O>(rt, alloc, schema, ranges, opened, lines, output)
 }
@@ -122,7 +122,7 @@ fn begin<'l>(
     hashing: &Hashing,
     ranges: &[KeyRange],
     text: &'l [u8],
-) -> Result<(VSchema, &'l [u8]), Fault>
+) -> Result<(VSchema, &'l [u8]), RunFault>
     requires { (word : List ℕ) × NamesPartition word ranges.now }
     ensures first { IfOk result (λ x. (first : List ℕ) × IsNextLine text.now first x.1.now × (schema_read first ≡ Ok (contents x.0))) }
     ensures formed { IfOk result (λ x. IsTrue (is_vschema x.0)) }
@@ -130,12 +130,12 @@ fn begin<'l>(
     ensures fault { IfErr result (λ f. status_of f ≡ WRONG_WORDS → DeclaresNone text.now ranges.now) }
 {
     let Some((first, lines)) = next_line(text) else {
-        return Err(Fault::Schema(SchemaFault::NotJson));
+        return Err(RunFault::Schema(SchemaFault::NotJson));
     };
     match schema_of(alloc, hashing, first) {
         Ok(schema) => {
             if has_too_many(&schema, ranges) {
-                Err(Fault::WrongWords)
+                Err(RunFault::WrongWords)
             } else {
                 Ok((schema, lines))
             }
@@ -152,10 +152,10 @@ fn run_over<R: Threads + Wait + Sync, O: Sink>(
     ranges: &[KeyRange],
     lines: &[u8],
     output: &mut O,
-) -> Result<(), Fault>
+) -> Result<(), RunFault>
     requires schema { IsTrue (is_vschema schema) }
     requires ranges { FitRanges schema ranges.now }
-    ensures given { OnOk result (HasGiven (opening_of schema ranges.now) (opening_workflow schema ranges.now) lines.now (O.taken output.old) (O.taken output.new)) }
+    ensures given { OnOk result (HasPrinted (opening_of schema ranges.now) (opening_workflow schema ranges.now) lines.now (O.taken output.old) (O.taken output.new)) }
     ensures fault { IfErr result (λ f. status_of f ≡ FAILURE) }
 {
     run_in_world::<Brand, R, O>(rt, alloc, schema, ranges, lines, output)
@@ -168,7 +168,7 @@ fn scripted<R: Threads + Wait + Sync, I: Source, O: Sink>(
     shards: &str,
     input: &mut I,
     output: &mut O,
-) -> Result<(), Fault>
+) -> Result<(), RunFault>
     ensures ok { OnOk result (HasScripted shards.now (I.unread input.old) (I.unread input.new) (O.taken output.old) (O.taken output.new)) }
     ensures untouched { TellsNone shards.now → (input.new ≡ input.old) × (output.new ≡ output.old) }
     ensures fault { IfErr result (λ f. status_of f ≡ WRONG_WORDS → IsWrongScript shards.now (I.unread input.old) (I.unread input.new)) }

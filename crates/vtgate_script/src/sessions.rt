@@ -6,16 +6,16 @@ ghost use mathlib.Core.List.{IsPrefix};
 ghost use Rattle.vschema.specs.WellFormed.{is_vschema};
 ghost use Rattle.journal.specs.Runs.{IsLegal, by_session};
 ghost use Rattle.shard_run.specs.Openings.{IsOpening};
-ghost use Rattle.shard_contents.specs.Shards.{MayFollow, commit_of, most_limits};
+ghost use Rattle.shard_law.specs.Entries.{MayFollow, commit_of, most_limits};
 ghost use Rattle.vtgate_lines.specs.Printed.{rows_text, refusal_text};
 ghost use Rattle.shard_calls.specs.Pendings.{IsOf};
-ghost use Rattle.empty_opening.specs.Empty.{sharded_keyspace};
-ghost use Rattle.administration.specs.Told.{keyspace_of};
-ghost use Rattle.vtgate_input.specs.Statuses.{status_of};
-ghost use Rattle.vtgate_script.specs.Scripted.{HasGiven, unknown_text};
-ghost use Rattle.vtgate_script.specs.inner.UnderWay.{KeptSession, IsBehind, IsShown, IsOutcomeShown, KnowsOwn, PrintsFrom, nothing_kept};
+ghost use Rattle.opening.specs.Empty.{sharded_keyspace};
+ghost use Rattle.admin.specs.AdminAnswers.{keyspace_of};
+ghost use Rattle.vtgate_setup.specs.Statuses.{status_of};
+ghost use Rattle.vtgate_script.specs.Scripted.{HasPrinted, unknown_text};
+ghost use Rattle.vtgate_script.specs.inner.UnderWay.{KeptSession, HasSeenLess, IsShown, IsOutcomeShown, KnowsOwn, PrintsFrom, nothing_kept};
 
-use administration::{Administrator, administer};
+use admin::{Administrator, administer};
 use journal::{Naming, Opener, Pass};
 use operators::ShownRows;
 use route_engine::{Answer, Engine, Open, Reply, Tx};
@@ -26,8 +26,8 @@ use std::marker::Model;
 use std::sync::Wait;
 use std::thread::Threads;
 use vt_value::{Items, Refusal};
-use vtgate_input::{FAILURE, Fault};
 use vtgate_lines::{Line, count_line, next_line, put_shown_rows, read_line, refusal_line};
+use vtgate_setup::{FAILURE, RunFault};
 
 // Writes rows, or that there is no memory for them.
 fn write_rows<O: Sink>(alloc: Global, rows: ShownRows, output: &mut O) -> Result<(), DeviceFailed>
@@ -64,7 +64,7 @@ fn write_outcome<O: Sink>(
 }
 
 // Runs a statement of the pass's session after all that was seen, and writes what is printed for it.
-fn run_behind<W: World + Send + Sync, J: Naming + Send + Sync, R: Threads + Wait + Sync, O: Sink>(
+fn run_after<W: World + Send + Sync, J: Naming + Send + Sync, R: Threads + Wait + Sync, O: Sink>(
     rt: &R,
     alloc: Global,
     engine: &Engine<W, J, Open>,
@@ -76,7 +76,7 @@ fn run_behind<W: World + Send + Sync, J: Naming + Send + Sync, R: Threads + Wait
 ) -> Result<(), DeviceFailed>
     requires limits { W.limits ≡ most_limits }
     requires session { IsSome pass.old.session }
-    requires behind { IsPrefix pass.old.seen all.old.seen }
+    requires trailing { IsPrefix pass.old.seen all.old.seen }
     requires tx { IsOf W.opening tx.old pass.old }
     ensures prints { OnOk result ((text : List ℕ) × Appends (O.taken output.old) (O.taken output.new) text
         × PrintsFrom W.opening all.old.seen (record { pass = pass.old; tx = tx.old }) sql.now text (record { pass = pass.new; tx = tx.new })) }
@@ -130,7 +130,7 @@ impl<W: World, J: Naming> ScriptSession<W, J> {
 
     // Its pass confirms that all lines have seen no commit of it that it hasn't seen.
     fn confirm(&mut self, all: &mut Pass<ShardLaw<W>, J>)
-        requires behind { IsPrefix self.old.kept.pass.seen all.old.seen }
+        requires trailing { IsPrefix self.old.kept.pass.seen all.old.seen }
         ensures same { self.new ≡ self.old }
         ensures all { all.new ≡ all.old }
         ensures own { KnowsOwn all.old.seen self.old }
@@ -145,7 +145,7 @@ fn confirm_all<W: World, J: Naming>(
     sessions: &mut Vec<ScriptSession<W, J>>,
     all: &mut Pass<ShardLaw<W>, J>,
 )
-    requires behind { AllByRecursion (IsBehind W.opening all.old.seen) sessions.old.items }
+    requires trailing { AllByRecursion (HasSeenLess W.opening all.old.seen) sessions.old.items }
     ensures opener { opener.new ≡ opener.old }
     ensures sessions { sessions.new.items ≡ sessions.old.items }
     ensures all { all.new ≡ all.old }
@@ -171,7 +171,7 @@ impl<W: World, J: Naming> Model for Sessions<W, J> {
     ghost use Rattle.std.specs.Prelude.{◌≡◌, length};
     ghost use Rattle.std.specs.List.{AllByRecursion};
     ghost use Rattle.vschema.specs.contracts.changes.Write as write;
-    ghost use Rattle.vtgate_script.specs.inner.UnderWay.{KeptProgress, IsBehind, IsKnown};
+    ghost use Rattle.vtgate_script.specs.inner.UnderWay.{KeptProgress, HasSeenLess, IsKnown};
     ghost use Rattle.std.specs.Coded.{codes};
     ghost use Rattle.shard_run.specs.contracts.Entry as entry;
 
@@ -181,24 +181,24 @@ impl<W: World, J: Naming> Model for Sessions<W, J> {
 
     ghost view = { λ s. record { sessions = s.sessions.items; seen = s.all.seen } };
 
-    ghost invariant = { λ s. (s.opener ≡ length s.sessions.items) × AllByRecursion (IsBehind W.opening s.all.seen) s.sessions.items × IsKnown s.opener s.all.seen s.sessions.items };
+    ghost invariant = { λ s. (s.opener ≡ length s.sessions.items) × AllByRecursion (HasSeenLess W.opening s.all.seen) s.sessions.items × IsKnown s.opener s.all.seen s.sessions.items };
 }
 
 impl<W: World + Send + Sync, J: Naming + Send + Sync> Sessions<W, J> {
     ghost use Rattle.std.specs.Prelude.{◌≡◌, ◌<◌, ◌++◌, ◌∷◌, ℕ, List, [], Some, None, IfOk, OnOk, length, position, slice_index_or, slice_set, bytes_eq};
     ghost use Rattle.std.specs.Io.KnownBytes.{Appends};
-    ghost use Rattle.shard_contents.specs.Shards.{most_limits};
+    ghost use Rattle.shard_law.specs.Entries.{most_limits};
     ghost use Rattle.journal.specs.Views.{new_pass};
     ghost use Rattle.journal.specs.Views.{PassView};
     ghost use Rattle.shard_run.specs.declared.Entry.{Entry};
-    ghost use Rattle.administration.specs.declared.reply.AdminReply.{AdminReply};
-    ghost use Rattle.empty_opening.specs.Empty.{sharded_keyspace};
-    ghost use Rattle.administration.specs.Told as told;
-    ghost use Rattle.administration.specs.Told.{keyspace_of};
-    ghost use Rattle.administration.specs.Words.{reply_text};
+    ghost use Rattle.admin.specs.declared.reply.AdminReply.{AdminReply};
+    ghost use Rattle.opening.specs.Empty.{sharded_keyspace};
+    ghost use Rattle.admin.specs.AdminAnswers as told;
+    ghost use Rattle.admin.specs.AdminAnswers.{keyspace_of};
+    ghost use Rattle.admin.specs.Words.{reply_text};
     ghost use Rattle.shard_calls.specs.Alone.{NoCommits};
-    ghost use Rattle.vtgate_script.specs.Scripted.{Progress, Runs, PrintsLine};
-    ghost use Rattle.vtgate_script.specs.inner.UnderWay.{Kept, KeptSession, IsProgressOf, PrintsHere, HasOpened, nothing_kept};
+    ghost use Rattle.vtgate_script.specs.Scripted.{ScriptProgress, Runs, PrintsLine};
+    ghost use Rattle.vtgate_script.specs.inner.UnderWay.{KeptState, KeptSession, IsProgressOf, PrintsHere, HasOpened, nothing_kept};
 
     /// No session yet.
     pub fn new(
@@ -218,7 +218,7 @@ impl<W: World + Send + Sync, J: Naming + Send + Sync> Sessions<W, J> {
     }
 
     // The place of the session of this name.
-    fn place_of(&self, name: &[u8]) -> Option<usize>
+    fn ordinal_of(&self, name: &[u8]) -> Option<usize>
         ensures { result ≡ position (λ x. bytes_eq x.name name.now) self.now.sessions }
     {
         self.sessions
@@ -248,15 +248,15 @@ impl<W: World + Send + Sync, J: Naming + Send + Sync> Sessions<W, J> {
     }
 
     // The place of the session of this name, which is opened if there is none.
-    fn place_or_open(&mut self, alloc: Global, name: &[u8]) -> Result<usize, Refusal>
-        ensures { IfOk result (λ place. HasOpened self.old name.now place self.new) }
+    fn ordinal_or_open(&mut self, alloc: Global, name: &[u8]) -> Result<usize, Refusal>
+        ensures { IfOk result (λ ordinal. HasOpened self.old name.now ordinal self.new) }
     {
-        if let Some(place) = self.place_of(name) {
-            return Ok(place);
+        if let Some(ordinal) = self.ordinal_of(name) {
+            return Ok(ordinal);
         }
-        let place = self.count();
+        let ordinal = self.count();
         self.open(alloc, name)?;
-        Ok(place)
+        Ok(ordinal)
     }
 
     // Runs a statement of the session at the place.
@@ -265,18 +265,18 @@ impl<W: World + Send + Sync, J: Naming + Send + Sync> Sessions<W, J> {
         rt: &R,
         alloc: Global,
         engine: &Engine<W, J, Open>,
-        place: usize,
+        ordinal: usize,
         sql: &[u8],
         output: &mut O,
     ) -> Result<(), DeviceFailed>
         requires limits { W.limits ≡ most_limits }
-        requires place { place < length self.old.sessions }
-        ensures { OnOk result ((text : List ℕ) × (now : Kept) × Appends (O.taken output.old) (O.taken output.new) text
-            × ((d : KeptSession) → PrintsHere W.opening self.old.seen (slice_index_or self.old.sessions place d).kept sql.now text now)
-            × ((d : KeptSession) → self.new ≡ record { sessions = slice_set self.old.sessions place (record { name = (slice_index_or self.old.sessions place d).name; kept = now }); seen = now.pass.seen })) }
+        requires ordinal { ordinal < length self.old.sessions }
+        ensures { OnOk result ((text : List ℕ) × (now : KeptState) × Appends (O.taken output.old) (O.taken output.new) text
+            × ((d : KeptSession) → PrintsHere W.opening self.old.seen (slice_index_or self.old.sessions ordinal d).kept sql.now text now)
+            × ((d : KeptSession) → self.new ≡ record { sessions = slice_set self.old.sessions ordinal (record { name = (slice_index_or self.old.sessions ordinal d).name; kept = now }); seen = now.pass.seen })) }
     {
-        let session = &mut self.sessions[place];
-        let result = run_behind(
+        let session = &mut self.sessions[ordinal];
+        let result = run_after(
             rt,
             alloc,
             engine,
@@ -299,18 +299,18 @@ impl<W: World + Send + Sync, J: Naming + Send + Sync> Sessions<W, J> {
         name: &[u8],
         sql: &[u8],
         output: &mut O,
-    ) -> Result<(), Fault>
+    ) -> Result<(), RunFault>
         requires limits { W.limits ≡ most_limits }
         ensures runs { OnOk result ((text : List ℕ) × Appends (O.taken output.old) (O.taken output.new) text
-            × ((p : Progress) → IsProgressOf W.opening self.old p → (q : Progress) × IsProgressOf W.opening self.new q × Runs W.opening p name.now sql.now text q)) }
+            × ((p : ScriptProgress) → IsProgressOf W.opening self.old p → (q : ScriptProgress) × IsProgressOf W.opening self.new q × Runs W.opening p name.now sql.now text q)) }
         ensures fault { IfErr result (λ f. status_of f ≡ FAILURE) }
     {
-        let Ok(place) = self.place_or_open(alloc, name) else {
-            return Err(Fault::OutOfMemory);
+        let Ok(ordinal) = self.ordinal_or_open(alloc, name) else {
+            return Err(RunFault::OutOfMemory);
         };
-        match self.run_at(rt, alloc, engine, place, sql, output) {
+        match self.run_at(rt, alloc, engine, ordinal, sql, output) {
             Ok(()) => Ok(()),
-            Err(_) => Err(Fault::Failed),
+            Err(_) => Err(RunFault::Failed),
         }
     }
 
@@ -323,13 +323,13 @@ impl<W: World + Send + Sync, J: Naming + Send + Sync> Sessions<W, J> {
         administrator: &mut Administrator<W, J>,
         words: &[u8],
         output: &mut O,
-    ) -> Result<(), Fault>
+    ) -> Result<(), RunFault>
         requires limits { W.limits ≡ most_limits }
         requires home { keyspace_of administrator.old ≡ sharded_keyspace engine.now }
         ensures keyspace { keyspace_of administrator.new ≡ keyspace_of administrator.old }
         ensures told { OnOk result ((reply : AdminReply) × (p : PassView Entry) × (q : PassView Entry) × Appends (O.taken output.old) (O.taken output.new) (reply_text reply)
             × (p.seen ≡ self.old.seen) × NoCommits self.old.seen q.seen × (self.new ≡ record self.old { seen = q.seen })
-            × told.IsTold W.opening most_limits words.now p q reply administrator.old administrator.new) }
+            × told.IsAdminReply W.opening most_limits words.now p q reply administrator.old administrator.new) }
         ensures fault { IfErr result (λ f. status_of f ≡ FAILURE) }
     {
         let reply = administer(rt, alloc, engine, administrator, &mut self.all, words);
@@ -346,12 +346,12 @@ impl<W: World + Send + Sync, J: Naming + Send + Sync> Sessions<W, J> {
         administrator: &mut Administrator<W, J>,
         line: &[u8],
         output: &mut O,
-    ) -> Result<(), Fault>
+    ) -> Result<(), RunFault>
         requires limits { W.limits ≡ most_limits }
         requires home { keyspace_of administrator.old ≡ sharded_keyspace engine.now }
         ensures keyspace { keyspace_of administrator.new ≡ keyspace_of administrator.old }
         ensures gives { OnOk result ((text : List ℕ) × Appends (O.taken output.old) (O.taken output.new) text
-            × ((p : Progress) → IsProgressOf W.opening self.old p → (q : Progress) × IsProgressOf W.opening self.new q × PrintsLine W.opening p administrator.old line.now text q administrator.new)) }
+            × ((p : ScriptProgress) → IsProgressOf W.opening self.old p → (q : ScriptProgress) × IsProgressOf W.opening self.new q × PrintsLine W.opening p administrator.old line.now text q administrator.new)) }
         ensures fault { IfErr result (λ f. status_of f ≡ FAILURE) }
     {
         match read_line(line) {
@@ -362,13 +362,13 @@ impl<W: World + Send + Sync, J: Naming + Send + Sync> Sessions<W, J> {
     }
 }
 
-fn write_all<O: Sink>(text: &[u8], output: &mut O) -> Result<(), Fault>
+fn write_all<O: Sink>(text: &[u8], output: &mut O) -> Result<(), RunFault>
     ensures written { OnOk result (Appends (O.taken output.old) (O.taken output.new) text.now) }
     ensures fault { IfErr result (λ f. status_of f ≡ FAILURE) }
 {
     match output.write(text) {
         Ok(()) => Ok(()),
-        Err(_) => Err(Fault::Failed),
+        Err(_) => Err(RunFault::Failed),
     }
 }
 
@@ -387,11 +387,11 @@ pub fn run_lines<
     sessions: &mut Sessions<W, J>,
     lines: &[u8],
     output: &mut O,
-) -> Result<(), Fault>
+) -> Result<(), RunFault>
     requires limits { W.limits ≡ most_limits }
     requires first { sessions.old ≡ nothing_kept }
     requires home { keyspace_of administrator.old ≡ sharded_keyspace engine.now }
-    ensures given { OnOk result (HasGiven W.opening administrator.old lines.now (O.taken output.old) (O.taken output.new)) }
+    ensures given { OnOk result (HasPrinted W.opening administrator.old lines.now (O.taken output.old) (O.taken output.new)) }
     ensures fault { IfErr result (λ f. status_of f ≡ FAILURE) }
 {
     let mut rest = lines;

@@ -6,15 +6,15 @@ use Rattle.std.proofs.lemmas.List.Folds.{list_all-append}
 use Rattle.std.specs.Io.KnownBytes.{Appends}
 use Rattle.std.proofs.KnownBytes.{Appends-nil, Appends-trans}
 use Rattle.shard_run.specs.Runs.{Opening}
-use Rattle.shard_contents.specs.declared.limits.Limits.{Limits}
+use Rattle.shard_law.specs.declared.limits.Limits.{Limits}
 use Rattle.vtgate_lines.specs.Lines.{HasNoEnd, is_inner}
 use Rattle.vtgate_lines.specs.Printed.{line}
-use Rattle.session_replies.specs.Devices.{AppendsFront}
-use Rattle.administration.specs.declared.reply.AdminReply.{AdminReply}
-use Rattle.administration.specs.Told.{IsTold}
-use Rattle.administration.specs.Words.{reply_text}
+use Rattle.conversation.specs.Devices.{AppendsFront}
+use Rattle.admin.specs.declared.reply.AdminReply.{AdminReply}
+use Rattle.admin.specs.AdminAnswers.{IsAdminReply}
+use Rattle.admin.specs.Words.{reply_text}
 use Rattle.vtgate_serve.specs.Conversations as t
-use Rattle.vtgate_serve.specs.Conversations.{Controller, AreAnswered, AllTold, BreaksOff, HasAnsweredAll, HasEndedEarly, IsDoable, is_word_byte}
+use Rattle.vtgate_serve.specs.Conversations.{Controller, AreAnswered, AllAnswered, BreaksOff, HasAnsweredAll, HasEndedEarly, IsDoable, is_word_byte}
 
 -- neither has an end
 pub no_end : (front more : List ℕ) → HasNoEnd front → HasNoEnd more → HasNoEnd (front ++ more)
@@ -50,63 +50,63 @@ module _ (o : Opening) (most : Limits) where
       → IsUnderWay o most from (front ++ piece) front piece taken taken from
   begins from front piece taken unended = record { lines = []; told = []; split = refl; unended = unended; are = t.none; written = Appends-nil taken }
 
-  pub goes_on : (from mid now : Controller) (came front rest more behind whole : List ℕ) (taken then later : Option (List ℕ))
-      → IsUnderWay o most from came front rest taken then mid → HasNoEnd more → rest ≡ line more ++ behind → whole ≡ front ++ more
-      → length whole ≤ 8192 → IsTrue (list_all is_word_byte whole) → ((reply : AdminReply) × IsTold o most whole mid.pass now.pass reply mid.workflow now.workflow × Appends then later (reply_text reply))
-      → IsUnderWay o most from came [] behind taken later now
-  goes_on from mid now came front rest more behind whole taken then later so inner is put few good told = record {
+  pub goes_on : (from mid now : Controller) (came front rest more trailing whole : List ℕ) (taken then later : Option (List ℕ))
+      → IsUnderWay o most from came front rest taken then mid → HasNoEnd more → rest ≡ line more ++ trailing → whole ≡ front ++ more
+      → length whole ≤ 8192 → IsTrue (list_all is_word_byte whole) → ((reply : AdminReply) × IsAdminReply o most whole mid.pass now.pass reply mid.workflow now.workflow × Appends then later (reply_text reply))
+      → IsUnderWay o most from came [] trailing taken later now
+  goes_on from mid now came front rest more trailing whole taken then later so inner is put few good told = record {
     lines = so.lines ++ line whole;
     told = so.told ++ reply_text told.0;
     split = so.split ∙ (ap (λ (r : List ℕ). so.lines ++ (front ++ r)) is
-        ∙ (ap (λ (r : List ℕ). so.lines ++ (front ++ r)) (append_assoc more (0x0A ∷ []) behind)
-        ∙ (ap (λ (r : List ℕ). so.lines ++ r) (sym (append_assoc front more (0x0A ∷ behind)))
-        ∙ (ap (λ (w : List ℕ). so.lines ++ (w ++ 0x0A ∷ behind)) (sym put)
-        ∙ (ap (λ (r : List ℕ). so.lines ++ r) (sym (append_assoc whole (0x0A ∷ []) behind))
-        ∙ sym (append_assoc so.lines (line whole) behind))))));
+        ∙ (ap (λ (r : List ℕ). so.lines ++ (front ++ r)) (append_assoc more (0x0A ∷ []) trailing)
+        ∙ (ap (λ (r : List ℕ). so.lines ++ r) (sym (append_assoc front more (0x0A ∷ trailing)))
+        ∙ (ap (λ (w : List ℕ). so.lines ++ (w ++ 0x0A ∷ trailing)) (sym put)
+        ∙ (ap (λ (r : List ℕ). so.lines ++ r) (sym (append_assoc whole (0x0A ∷ []) trailing))
+        ∙ sym (append_assoc so.lines (line whole) trailing))))));
     unended = refl;
     are = t.next so.are (doable front more whole so.unended inner put few good) told.1;
     written = Appends-trans taken then later so.told (reply_text told.0) so.written told.2;
   }
 
-  pub goes_on_anew : (from mid now : Controller) (came front rest more behind whole left : List ℕ) (taken then later : Option (List ℕ))
-      → IsUnderWay o most from came front rest taken then mid → HasNoEnd more → rest ≡ line more ++ behind → whole ≡ front ++ more
-      → length whole ≤ 8192 → IsTrue (list_all is_word_byte whole) → ((reply : AdminReply) × IsTold o most whole mid.pass now.pass reply mid.workflow now.workflow × Appends then later (reply_text reply))
-      → left ≡ [] → IsUnderWay o most from came left behind taken later now
-  goes_on_anew from mid now came front rest more behind whole left taken then later so inner is put few good told none =
-      subst (λ (f : List ℕ). IsUnderWay o most from came f behind taken later now) (sym none)
-      (goes_on from mid now came front rest more behind whole taken then later so inner is put few good told)
+  pub goes_on_anew : (from mid now : Controller) (came front rest more trailing whole left : List ℕ) (taken then later : Option (List ℕ))
+      → IsUnderWay o most from came front rest taken then mid → HasNoEnd more → rest ≡ line more ++ trailing → whole ≡ front ++ more
+      → length whole ≤ 8192 → IsTrue (list_all is_word_byte whole) → ((reply : AdminReply) × IsAdminReply o most whole mid.pass now.pass reply mid.workflow now.workflow × Appends then later (reply_text reply))
+      → left ≡ [] → IsUnderWay o most from came left trailing taken later now
+  goes_on_anew from mid now came front rest more trailing whole left taken then later so inner is put few good told none =
+      subst (λ (f : List ℕ). IsUnderWay o most from came f trailing taken later now) (sym none)
+      (goes_on from mid now came front rest more trailing whole taken then later so inner is put few good told)
 
   pub stops : (from now : Controller) (came front rest : List ℕ) (taken then : Option (List ℕ)) → IsUnderWay o most from came front rest taken then now
       → BreaksOff o most from came taken then now
   stops from now came front rest taken then so = t.unasked so.lines so.told (front ++ rest) so.split so.are so.written
 
-  pub stops_untold : (from mid now : Controller) (came front rest more behind whole : List ℕ) (taken then later : Option (List ℕ))
-      → IsUnderWay o most from came front rest taken then mid → HasNoEnd more → rest ≡ line more ++ behind → whole ≡ front ++ more
-      → length whole ≤ 8192 → IsTrue (list_all is_word_byte whole) → ((reply : AdminReply) × IsTold o most whole mid.pass now.pass reply mid.workflow now.workflow × AppendsFront then later (reply_text reply))
+  pub stops_untold : (from mid now : Controller) (came front rest more trailing whole : List ℕ) (taken then later : Option (List ℕ))
+      → IsUnderWay o most from came front rest taken then mid → HasNoEnd more → rest ≡ line more ++ trailing → whole ≡ front ++ more
+      → length whole ≤ 8192 → IsTrue (list_all is_word_byte whole) → ((reply : AdminReply) × IsAdminReply o most whole mid.pass now.pass reply mid.workflow now.workflow × AppendsFront then later (reply_text reply))
       → BreaksOff o most from came taken later now
-  stops_untold from mid now came front rest more behind whole taken then later so inner is put few good told =
-      t.untold so.lines so.told whole behind mid told.0 then
+  stops_untold from mid now came front rest more trailing whole taken then later so inner is put few good told =
+      t.untold so.lines so.told whole trailing mid told.0 then
       (so.split ∙ (ap (λ (r : List ℕ). so.lines ++ (front ++ r)) is
-      ∙ (ap (λ (r : List ℕ). so.lines ++ (front ++ r)) (append_assoc more (0x0A ∷ []) behind)
-      ∙ (ap (λ (r : List ℕ). so.lines ++ r) (sym (append_assoc front more (0x0A ∷ behind)))
-      ∙ (ap (λ (w : List ℕ). so.lines ++ (w ++ 0x0A ∷ behind)) (sym put)
-      ∙ ap (λ (r : List ℕ). so.lines ++ r) (sym (append_assoc whole (0x0A ∷ []) behind)))))))
+      ∙ (ap (λ (r : List ℕ). so.lines ++ (front ++ r)) (append_assoc more (0x0A ∷ []) trailing)
+      ∙ (ap (λ (r : List ℕ). so.lines ++ r) (sym (append_assoc front more (0x0A ∷ trailing)))
+      ∙ (ap (λ (w : List ℕ). so.lines ++ (w ++ 0x0A ∷ trailing)) (sym put)
+      ∙ ap (λ (r : List ℕ). so.lines ++ r) (sym (append_assoc whole (0x0A ∷ []) trailing)))))))
       so.are (doable front more whole so.unended inner put few good) told.1 so.written told.2
 
-  pub stops_unread : (from now : Controller) (came front rest more behind whole : List ℕ) (taken then later : Option (List ℕ))
-      → IsUnderWay o most from came front rest taken then now → HasNoEnd more → rest ≡ line more ++ behind → whole ≡ front ++ more
+  pub stops_unread : (from now : Controller) (came front rest more trailing whole : List ℕ) (taken then later : Option (List ℕ))
+      → IsUnderWay o most from came front rest taken then now → HasNoEnd more → rest ≡ line more ++ trailing → whole ≡ front ++ more
       → IsFalse (list_all is_word_byte whole) → AppendsFront then later (line (codes "unknown")) → BreaksOff o most from came taken later now
-  stops_unread from now came front rest more behind whole taken then later so inner is put bad told =
-      t.unread so.lines so.told whole behind then
+  stops_unread from now came front rest more trailing whole taken then later so inner is put bad told =
+      t.unread so.lines so.told whole trailing then
       (so.split ∙ (ap (λ (r : List ℕ). so.lines ++ (front ++ r)) is
-      ∙ (ap (λ (r : List ℕ). so.lines ++ (front ++ r)) (append_assoc more (0x0A ∷ []) behind)
-      ∙ (ap (λ (r : List ℕ). so.lines ++ r) (sym (append_assoc front more (0x0A ∷ behind)))
-      ∙ (ap (λ (w : List ℕ). so.lines ++ (w ++ 0x0A ∷ behind)) (sym put)
-      ∙ ap (λ (r : List ℕ). so.lines ++ r) (sym (append_assoc whole (0x0A ∷ []) behind)))))))
+      ∙ (ap (λ (r : List ℕ). so.lines ++ (front ++ r)) (append_assoc more (0x0A ∷ []) trailing)
+      ∙ (ap (λ (r : List ℕ). so.lines ++ r) (sym (append_assoc front more (0x0A ∷ trailing)))
+      ∙ (ap (λ (w : List ℕ). so.lines ++ (w ++ 0x0A ∷ trailing)) (sym put)
+      ∙ ap (λ (r : List ℕ). so.lines ++ r) (sym (append_assoc whole (0x0A ∷ []) trailing)))))))
       so.are (subst HasNoEnd (sym put) (no_end front more so.unended inner)) bad so.written told
 
   pub ends : (from now : Controller) (came front rest left : List ℕ) (taken then : Option (List ℕ)) → IsUnderWay o most from came front rest taken then now
-      → HasNoEnd rest → left ≡ front ++ rest → AllTold o most from came left taken then now
+      → HasNoEnd rest → left ≡ front ++ rest → AllAnswered o most from came left taken then now
   ends from now came front rest left taken then so inner put = record {
     lines = so.lines;
     told = so.told;
@@ -118,14 +118,14 @@ module _ (o : Opening) (most : Limits) where
 
   -- ---- pieces
 
-  pub nothing_yet : (from : Controller) (front : List ℕ) (taken : Option (List ℕ)) → front ≡ [] → AllTold o most from [] front taken taken from
+  pub nothing_yet : (from : Controller) (front : List ℕ) (taken : Option (List ℕ)) → front ≡ [] → AllAnswered o most from [] front taken taken from
   nothing_yet from front taken none =
-      subst (λ (f : List ℕ). AllTold o most from [] f taken taken from) (sym none)
+      subst (λ (f : List ℕ). AllAnswered o most from [] f taken taken from) (sym none)
       (record { lines = []; told = []; split = refl; unended = refl; are = t.none; written = Appends-nil taken })
 
   pub piece_told : (from mid now : Controller) (came front piece left : List ℕ) (taken then later : Option (List ℕ))
-      → AllTold o most from came front taken then mid → AllTold o most mid (front ++ piece) left then later now
-      → AllTold o most from (came ++ piece) left taken later now
+      → AllAnswered o most from came front taken then mid → AllAnswered o most mid (front ++ piece) left then later now
+      → AllAnswered o most from (came ++ piece) left taken later now
   piece_told from mid now came front piece left taken then later so is = record {
     lines = so.lines ++ is.lines;
     told = so.told ++ is.told;
@@ -136,7 +136,7 @@ module _ (o : Opening) (most : Limits) where
   }
 
   pub piece_broke : (from mid now : Controller) (came front piece : List ℕ) (taken then later : Option (List ℕ))
-      → AllTold o most from came front taken then mid → BreaksOff o most mid (front ++ piece) then later now
+      → AllAnswered o most from came front taken then mid → BreaksOff o most mid (front ++ piece) then later now
       → BreaksOff o most from (came ++ piece) taken later now
   piece_broke from mid now came front piece taken then later so (t.unasked lines told rest split are written) =
       t.unasked (so.lines ++ lines) (so.told ++ told) rest
@@ -159,7 +159,7 @@ module _ (o : Opening) (most : Limits) where
   nothing_done from came taken = t.unasked [] [] came refl t.none (Appends-nil taken)
 
   -- what was told so far stands where a conversation breaks off
-  pub broke : (from now : Controller) (came front : List ℕ) (taken then : Option (List ℕ)) → AllTold o most from came front taken then now
+  pub broke : (from now : Controller) (came front : List ℕ) (taken then : Option (List ℕ)) → AllAnswered o most from came front taken then now
       → BreaksOff o most from came taken then now
   broke from now came front taken then so = t.unasked so.lines so.told front so.split so.are so.written
 

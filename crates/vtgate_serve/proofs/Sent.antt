@@ -19,8 +19,8 @@ use Rattle.std.proofs.net.socket_addr.SocketAddr.TheSendSync as address
 use Rattle.std.proofs.time.Instant.TheSendSync as instant
 use Rattle.std.proofs.Crossing as std
 use Rattle.vtgate_serve.specs.contracts.connection.Connection as connection
-use Rattle.vtgate_serve.proofs.progress.Progress.TheSendSync as progress
-use Rattle.vtgate_serve.specs.contracts.entrance.Acceptor as acceptor
+use Rattle.vtgate_serve.proofs.progress.ServeProgress.TheSendSync as progress
+use Rattle.vtgate_serve.specs.contracts.acceptor.Acceptor as acceptor
 
 -- captures that threads may each share
 pub captures_sync : (n : List ℕ) (rs : List RattleType) → AllSync (shape (type_at n rs)).fields → IsSync (TupleAt n rs)

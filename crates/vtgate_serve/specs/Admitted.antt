@@ -1,9 +1,9 @@
 -- What a connection is greeted with, and whom it lets in.
 use Rattle.std.specs.Prelude.{ℕ}
-use Rattle.serve_lines.specs.Asking.{Asking}
-use Rattle.serve_lines.specs.Salts.{salt_of}
-use Rattle.session_replies.specs.declared.hello.Hello.{Hello}
+use Rattle.vtgate_setup.specs.ServeArgs.{ServeArgsView}
+use Rattle.mysql_handshake.specs.Salts.{salt_of}
+use Rattle.conversation.specs.declared.access.Handshake.{Handshake}
 
 -- of the connection with the number, as the words ask
-abbrev pub hello_of : Asking → ℕ → Hello
-hello_of asked number = record { access = record { user = asked.user; stage2 = asked.stage2 }; salt = salt_of asked.nonce number; id = number }
+abbrev pub handshake_of : ServeArgsView → ℕ → Handshake
+handshake_of asked number = record { access = record { user = asked.user; stage2 = asked.stage2 }; salt = salt_of asked.nonce number; id = number }

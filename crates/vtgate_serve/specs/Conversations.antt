@@ -5,13 +5,13 @@ use Rattle.std.specs.Io.KnownBytes.{Appends, Consumes, IsAtEnd}
 use Rattle.journal.specs.Views.{PassView}
 use Rattle.shard_run.specs.declared.Entry.{Entry}
 use Rattle.shard_run.specs.Runs.{Opening}
-use Rattle.shard_contents.specs.declared.limits.Limits.{Limits}
+use Rattle.shard_law.specs.declared.limits.Limits.{Limits}
 use Rattle.vtgate_lines.specs.Lines.{HasNoEnd}
 use Rattle.vtgate_lines.specs.Printed.{line}
-use Rattle.session_replies.specs.Devices.{AppendsFront}
-use Rattle.administration.specs.declared.reply.AdminReply.{AdminReply}
-use Rattle.administration.specs.Told.{AdministratorView, IsTold}
-use Rattle.administration.specs.Words.{reply_text}
+use Rattle.conversation.specs.Devices.{AppendsFront}
+use Rattle.admin.specs.declared.reply.AdminReply.{AdminReply}
+use Rattle.admin.specs.AdminAnswers.{AdministratorView, IsAdminReply}
+use Rattle.admin.specs.Words.{reply_text}
 
 -- what the controller has: its pass, and the workflow of the sharded keyspace, if there is one
 pub record Controller : Type 0 where
@@ -32,10 +32,10 @@ pub record IsDoable (words : List ℕ) : Type 0 where
 pub data AreAnswered (o : Opening) (most : Limits) (from : Controller) : List ℕ → List ℕ → Controller → Type 0 where
   none : AreAnswered o most from [] [] from
   next : {came told words : List ℕ} {mid now : Controller} {reply : AdminReply} → AreAnswered o most from came told mid → IsDoable words
-      → IsTold o most words mid.pass now.pass reply mid.workflow now.workflow → AreAnswered o most from (came ++ line words) (told ++ reply_text reply) now
+      → IsAdminReply o most words mid.pass now.pass reply mid.workflow now.workflow → AreAnswered o most from (came ++ line words) (told ++ reply_text reply) now
 
 -- Of the bytes that came, each line is answered that has ended, and that was written. A rest that hasn't ended isn't a line.
-pub record AllTold (o : Opening) (most : Limits) (from : Controller) (came rest : List ℕ) (taken then : Option (List ℕ)) (now : Controller) : Type 0 where
+pub record AllAnswered (o : Opening) (most : Limits) (from : Controller) (came rest : List ℕ) (taken then : Option (List ℕ)) (now : Controller) : Type 0 where
   pub lines : List ℕ
   pub told : List ℕ
   pub split : came ≡ lines ++ rest
@@ -49,7 +49,7 @@ pub record HasAnsweredAll (o : Opening) (most : Limits) (from now : Controller) 
   pub rest : List ℕ
   pub consumed : Consumes unread left came
   pub end : IsAtEnd left
-  pub told : AllTold o most from came rest taken then now
+  pub told : AllAnswered o most from came rest taken then now
 
 -- A conversation that broke off: after a line that was told, after one that was answered and not told whole, or at one that has another byte,
 -- which was answered `unknown`. Nothing after that was done.
@@ -57,7 +57,7 @@ pub data BreaksOff (o : Opening) (most : Limits) (from : Controller) (came : Lis
   unasked : (lines told rest : List ℕ) → came ≡ lines ++ rest → AreAnswered o most from lines told now → Appends taken then told
       → BreaksOff o most from came taken then now
   untold : (lines told words rest : List ℕ) (mid : Controller) (reply : AdminReply) (between : Option (List ℕ)) → came ≡ lines ++ (line words ++ rest)
-      → AreAnswered o most from lines told mid → IsDoable words → IsTold o most words mid.pass now.pass reply mid.workflow now.workflow
+      → AreAnswered o most from lines told mid → IsDoable words → IsAdminReply o most words mid.pass now.pass reply mid.workflow now.workflow
       → Appends taken between told → AppendsFront between then (reply_text reply) → BreaksOff o most from came taken then now
   unread : (lines told words rest : List ℕ) (between : Option (List ℕ)) → came ≡ lines ++ (line words ++ rest) → AreAnswered o most from lines told now
       → HasNoEnd words → IsFalse (list_all is_word_byte words) → Appends taken between told → AppendsFront between then (line (codes "unknown"))

@@ -3,17 +3,17 @@ use Rattle.std.specs.Prelude.{ℕ, List, codes}
 use Rattle.std.specs.Io.KnownBytes.{Appends}
 use Rattle.keyrange.specs.declared.KeyRange.{KeyRange}
 use Rattle.vschema.specs.declared.schema.VSchema.{VSchema}
-use Rattle.empty_opening.specs.Empty.{FitRanges}
+use Rattle.opening.specs.Empty.{FitRanges}
 use Rattle.vtgate_lines.specs.Partitions.{NamesPartition}
 use Rattle.vtgate_lines.specs.Printed.{line}
-use Rattle.vtgate_input.specs.Inputs.{Known, HasDeclared}
+use Rattle.vtgate_setup.specs.Inputs.{Known, HasDeclared}
 
 abbrev pub listening_text : List ℕ
 listening_text = line (codes "listening")
 
 -- The input was read to its end and declares a VSchema, which was served over the ranges that the word of the shards tells; and that it
 -- listened was printed, and nothing else.
-pub record HasServed (shards : List ℕ) (unread rest taken now : Known) : Type 0 where
+pub record HasRunServer (shards : List ℕ) (unread rest taken now : Known) : Type 0 where
   pub schema : VSchema
   pub ranges : List KeyRange
   pub read : HasDeclared unread rest schema

@@ -1,13 +1,13 @@
 //! The admin port.
 ghost use Rattle.std.specs.Prelude.{◌≡◌, ◌≤◌, None, IfOk, length};
 ghost use Rattle.std.specs.Io.{ReadsAtMost};
-ghost use Rattle.empty_opening.specs.Empty.{sharded_keyspace};
-ghost use Rattle.administration.specs.Told.{keyspace_of};
+ghost use Rattle.opening.specs.Empty.{sharded_keyspace};
+ghost use Rattle.admin.specs.AdminAnswers.{keyspace_of};
 
-use crate::conversation::talk;
-use crate::progress::Progress;
+use crate::admin_client::talk;
+use crate::progress::ServeProgress;
 use crate::waits::is_made_again;
-use administration::Administrator;
+use admin::Administrator;
 use journal::{Naming, Pass};
 use log::Log;
 use route_engine::{Engine, Gate};
@@ -40,14 +40,14 @@ const SWITCH: &[u8] = b"switch";
 struct Lines<'s, R: Clock> {
     rt: &'s R,
     stream: &'s TcpStream,
-    progress: &'s Progress,
+    progress: &'s ServeProgress,
     failures: u64,
 }
 
 // Reads, unless all is served or the client says nothing for too long.
 fn read_until(
     mut stream: &TcpStream,
-    progress: &Progress,
+    progress: &ServeProgress,
     buffer: &mut [u8],
 ) -> Result<usize, DeviceFailed>
     ensures { ReadsAtMost result buffer.new }
@@ -94,14 +94,14 @@ impl<R: Clock> Source for Lines<'_, R> {
 #[derive(Drop)]
 struct Answers<'s> {
     stream: &'s TcpStream,
-    progress: &'s Progress,
+    progress: &'s ServeProgress,
     failures: u64,
 }
 
 // Writes some of the bytes, unless all is served or the client takes nothing for too long, and tells how many.
 fn write_some(
     mut stream: &TcpStream,
-    progress: &Progress,
+    progress: &ServeProgress,
     bytes: &[u8],
 ) -> Result<usize, DeviceFailed>
     ensures { IfOk result (λ n. n ≤ length bytes.now) }
@@ -120,7 +120,11 @@ fn write_some(
     Err(DeviceFailed)
 }
 
-fn write_until(stream: &TcpStream, progress: &Progress, bytes: &[u8]) -> Result<(), DeviceFailed> {
+fn write_until(
+    stream: &TcpStream,
+    progress: &ServeProgress,
+    bytes: &[u8],
+) -> Result<(), DeviceFailed> {
     let mut rest = bytes;
     for _ in 0..u64::MAX {
         if rest.is_empty() {
@@ -157,7 +161,7 @@ fn serve_one<W: World + Send + Sync, J: Naming + Send + Sync, G: Gate, R: Wait +
     administrator: &mut Administrator<W, J>,
     pass: &mut Pass<ShardLaw<W>, J>,
     stream: &TcpStream,
-    progress: &Progress,
+    progress: &ServeProgress,
 )
     requires home { keyspace_of administrator.old ≡ sharded_keyspace engine.now }
     ensures keyspace { keyspace_of administrator.new ≡ keyspace_of administrator.old }
@@ -198,7 +202,7 @@ pub fn serve_admin<W: World + Send + Sync, J: Naming + Send + Sync, G: Gate, R: 
     administrator: &mut Administrator<W, J>,
     pass: &mut Pass<ShardLaw<W>, J>,
     listener: &TcpListener,
-    progress: &Progress,
+    progress: &ServeProgress,
 )
     requires home { keyspace_of administrator.old ≡ sharded_keyspace engine.now }
 {

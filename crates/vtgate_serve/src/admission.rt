@@ -1,17 +1,16 @@
 //! Whom a server lets in, and what its salts are made of.
 ghost use Rattle.std.specs.Prelude.{◌≡◌, IfOk, IfErr};
-ghost use Rattle.vtgate_input.specs.Statuses.{status_of};
+ghost use Rattle.vtgate_setup.specs.Statuses.{status_of};
 
-use serve_lines::Asked;
 use session::Access;
 use std::alloc::Global;
 use vt_value::Items;
-use vtgate_input::{FAILURE, Fault};
+use vtgate_setup::{FAILURE, RunFault, ServeArgs};
 
 /// What the words ask for, and whom they let in.
 #[derive(Drop)]
 pub struct Admission<'w> {
-    pub(crate) asked: &'w Asked<'w>,
+    pub(crate) asked: &'w ServeArgs<'w>,
     pub(crate) access: Access,
     ghost user: { access.user ≡ asked.now.user },
     ghost stage2: { access.stage2 ≡ asked.now.stage2 },
@@ -20,7 +19,7 @@ pub struct Admission<'w> {
 // Promise: The server lets in the user and the password that its words tell, and greets by their nonce
 // With: serve_connection
 /// The admission that the words ask for. Refuses only for want of memory.
-pub fn admission_of<'w>(alloc: Global, asked: &'w Asked<'w>) -> Result<Admission<'w>, Fault>
+pub fn admission_of<'w>(alloc: Global, asked: &'w ServeArgs<'w>) -> Result<Admission<'w>, RunFault>
     ensures asked { IfOk result (λ a. a.asked.now ≡ asked.now) }
     ensures fault { IfErr result (λ f. status_of f ≡ FAILURE) }
 {
@@ -32,6 +31,6 @@ pub fn admission_of<'w>(alloc: Global, asked: &'w Asked<'w>) -> Result<Admission
                 stage2: asked.stage2,
             },
         }),
-        Err(_) => Err(Fault::Failed),
+        Err(_) => Err(RunFault::Failed),
     }
 }

@@ -1,13 +1,13 @@
 //! What the shards hold, and how much of their limits is left.
 
 use crate::events::Held;
-use crate::progress::Progress;
+use crate::progress::ServeProgress;
 use crate::{cutover, events};
-use administration::widest_limits;
+use admin::widest_limits;
 use journal::{Naming, SLOTS};
 use log::{Level, Log, log_enabled};
 use route_engine::{Engine, Gate};
-use serving::{Part, Seated};
+use serving::{Seated, ShardReference};
 use shard::{Shard, World};
 use shard_run::Mode;
 use std::sync::Wait;
@@ -80,7 +80,7 @@ impl Marks {
 fn held_by<'a, W: World + Send + Sync, J: Naming + Send + Sync, R: Wait>(
     rt: &R,
     keyspace: &'a [u8],
-    part: &Part<Shard<W, J>>,
+    part: &ShardReference<Shard<W, J>>,
 ) -> Option<Held<'a>> {
     let state = part.shard().lock(rt);
     let is_frozen = match state.mode() {
@@ -102,7 +102,7 @@ fn held_by<'a, W: World + Send + Sync, J: Naming + Send + Sync, R: Wait>(
 fn tell_keyspace<W: World + Send + Sync, J: Naming + Send + Sync, R: Wait + Log>(
     rt: &R,
     keyspace: &[u8],
-    parts: &[Part<Shard<W, J>>],
+    parts: &[ShardReference<Shard<W, J>>],
     marks: &mut Marks,
 ) {
     for part in parts {
@@ -137,7 +137,7 @@ pub fn tell_all<W: World + Send + Sync, J: Naming + Send + Sync, G: Gate, R: Wai
 pub fn watch<W: World + Send + Sync, J: Naming + Send + Sync, G: Gate, R: Wait + Clock + Log>(
     rt: &R,
     engine: &Engine<W, J, G>,
-    progress: &Progress,
+    progress: &ServeProgress,
 ) {
     if tells_each(rt) {
         progress.begin_watch();

@@ -42,7 +42,7 @@ pub fn begin(stream: &TcpStream) {
 
 /// Where a client's bytes come from.
 #[derive(Drop)]
-pub struct Requests<'s, W: World, J: Naming, R: Clock> {
+pub struct RequestReader<'s, W: World, J: Naming, R: Clock> {
     pub rt: &'s R,
     pub stream: &'s TcpStream,
     pub login: &'s Login<'s>,
@@ -104,7 +104,7 @@ fn read_command(mut stream: &TcpStream, buffer: &mut [u8]) -> Result<usize, Unre
     Err(Unread::Failed)
 }
 
-impl<W: World, J: Naming, R: Clock + Log> Requests<'_, W, J, R> {
+impl<W: World, J: Naming, R: Clock + Log> RequestReader<'_, W, J, R> {
     // What is told before the client is waited for: the statements that it has an answer to. And since when it is waited for.
     fn begin_read(&mut self) -> Option<Instant>
         ensures { self.new.failures ≡ self.old.failures }
@@ -146,7 +146,7 @@ impl<W: World, J: Naming, R: Clock + Log> Requests<'_, W, J, R> {
     }
 }
 
-impl<W: World, J: Naming, R: Clock + Log> Source for Requests<'_, W, J, R> {
+impl<W: World, J: Naming, R: Clock + Log> Source for RequestReader<'_, W, J, R> {
     ghost unread = { λ _. None };
 
     ghost failures = { λ s. s.failures };
@@ -180,14 +180,14 @@ fn is_ok(packet: &[u8]) -> bool {
 
 /// Where a client's replies go. The first OK lets the client in, which may then say nothing for longer.
 #[derive(Drop)]
-pub struct Replies<'s, S: Sink> {
+pub struct ReplyWriter<'s, S: Sink> {
     pub stream: &'s TcpStream,
     pub login: &'s Login<'s>,
     pub sink: S,
     pub outgoing: Outgoing<'s>,
 }
 
-impl<'s, S: Sink> Sink for Replies<'s, S> {
+impl<'s, S: Sink> Sink for ReplyWriter<'s, S> {
     ghost taken = { λ r. S.taken r.sink };
 
     ghost failures = { λ r. S.failures r.sink };

@@ -2,15 +2,15 @@
 ghost use Rattle.std.specs.Prelude.{◌≡◌, ◌≤◌, ◌^◌, ◌++◌, ℕ, List, IsSome, IfOk, Err};
 ghost use Rattle.std.specs.Io.KnownBytes.{Appends, Consumes, IsAtEnd};
 ghost use Rattle.shard_calls.specs.Alone.{NoOthers};
-ghost use Rattle.session.specs.Alone.{Alone, MeansAlone, alone_terms, alone_first};
-ghost use Rattle.session_replies.specs.Devices.{read_failures_after, write_failures_after};
-ghost use Rattle.session_replies.specs.Outcomes.{Means, PassAndTransaction, none_open, terms_of};
-ghost use Rattle.session_replies.specs.Faults.{HasBrokenOff, IsUnfinished};
-ghost use Rattle.session_replies.specs.Talk.{IsByInput, Talk};
-ghost use Rattle.vtgate_serve.specs.Admitted.{hello_of};
+ghost use Rattle.session.specs.Alone.{Alone, MeansAlone, alone_context, alone_first};
+ghost use Rattle.conversation.specs.Devices.{read_failures_after, write_failures_after};
+ghost use Rattle.conversation.specs.Means.{Means, PassAndTransaction, none_open, context_of};
+ghost use Rattle.conversation.specs.Faults.{HasBrokenOff, IsUnfinished};
+ghost use Rattle.conversation.specs.Talk.{IsByInput, Talk};
+ghost use Rattle.vtgate_serve.specs.Admitted.{handshake_of};
 
 use crate::admission::Admission;
-use crate::client::{Replies, Requests, begin, end};
+use crate::client::{ReplyWriter, RequestReader, begin, end};
 use crate::events;
 use crate::events::Passed;
 use crate::logins::{Login, Logins};
@@ -18,9 +18,9 @@ use crate::statements::statement_log;
 use client_traffic::{Detail, Incoming, Outgoing, Replied};
 use journal::{Naming, Pass};
 use log::{Level, Log, log_enabled};
+use mysql_handshake::salt_of;
 use route_engine::{Engine, Gate};
-use serve_lines::salt_of;
-use session::{End, SessionFault, Sink, Source, Standing, Writer, serve};
+use session::{ConnectionState, End, SessionFault, Sink, Source, Writer, serve};
 use shard::{ShardLaw, World};
 use std::alloc::Global;
 use std::net::{SocketAddr, TcpStream};
@@ -82,28 +82,28 @@ pub fn serve_connection<
     ensures talk { IfOk result (λ end. (read : List ℕ) × (written : List ℕ)
         × Consumes (I.unread source.old) (I.unread source.new) read × Appends (O.taken sink.old) (O.taken sink.new) written
         × ((now : PassAndTransaction) × (now.pass ≡ pass.new)
-        × Talk (2 ^ 20) (terms_of W.opening (hello_of admission.now.asked.now number)) (Means W.opening W.limits) Standing.New (none_open pass.old) read written end now)) }
+        × Talk (2 ^ 20) (context_of W.opening (handshake_of admission.now.asked.now number)) (Means W.opening W.limits) ConnectionState.New (none_open pass.old) read written end now)) }
     // With no other session's commit between, it is a conversation with one database.
     ensures alone { IfOk result (λ end. NoOthers pass.old pass.new → (read : List ℕ) × (written : List ℕ)
         × Consumes (I.unread source.old) (I.unread source.new) read × Appends (O.taken sink.old) (O.taken sink.new) written
         × ((now : Alone W.opening) × (now.kept.pass ≡ pass.new)
-        × Talk (2 ^ 20) (alone_terms W.opening (hello_of admission.now.asked.now number)) (MeansAlone W.opening W.limits) Standing.New (alone_first W.opening pass.old) read written end now)) }
+        × Talk (2 ^ 20) (alone_context W.opening (handshake_of admission.now.asked.now number)) (MeansAlone W.opening W.limits) ConnectionState.New (alone_first W.opening pass.old) read written end now)) }
     ensures at_end { IfOk result (λ end. IsByInput end → IsAtEnd (I.unread source.new)) }
     // If the source failed, each payload that was read whole is answered, and nothing else was written.
     ensures read { result ≡ Err SessionFault.Read → (read : List ℕ) × (written : List ℕ)
         × Consumes (I.unread source.old) (I.unread source.new) read × Appends (O.taken sink.old) (O.taken sink.new) written
         × ((now : PassAndTransaction) × (now.pass ≡ pass.new)
-        × IsUnfinished (2 ^ 20) (terms_of W.opening (hello_of admission.now.asked.now number)) (Means W.opening W.limits) Standing.New (none_open pass.old) read written now) }
+        × IsUnfinished (2 ^ 20) (context_of W.opening (handshake_of admission.now.asked.now number)) (Means W.opening W.limits) ConnectionState.New (none_open pass.old) read written now) }
     // A piece that was read and for which there is no memory counts as not read.
     ensures memory { result ≡ Err SessionFault.Memory → (read : List ℕ) × (piece : List ℕ) × (written : List ℕ)
         × Consumes (I.unread source.old) (I.unread source.new) (read ++ piece) × Appends (O.taken sink.old) (O.taken sink.new) written
         × ((now : PassAndTransaction) × (now.pass ≡ pass.new)
-        × IsUnfinished (2 ^ 20) (terms_of W.opening (hello_of admission.now.asked.now number)) (Means W.opening W.limits) Standing.New (none_open pass.old) read written now) }
+        × IsUnfinished (2 ^ 20) (context_of W.opening (handshake_of admission.now.asked.now number)) (Means W.opening W.limits) ConnectionState.New (none_open pass.old) read written now) }
     // If the sink failed, a front of the payloads is answered, each once, and the sink took a front of the replies.
     ensures write { result ≡ Err SessionFault.Write → (read : List ℕ) × (written : List ℕ)
         × Consumes (I.unread source.old) (I.unread source.new) read × Appends (O.taken sink.old) (O.taken sink.new) written
         × ((now : PassAndTransaction) × (now.pass ≡ pass.new)
-        × HasBrokenOff (2 ^ 20) (terms_of W.opening (hello_of admission.now.asked.now number)) (Means W.opening W.limits) Standing.New (none_open pass.old) read written now) }
+        × HasBrokenOff (2 ^ 20) (context_of W.opening (handshake_of admission.now.asked.now number)) (Means W.opening W.limits) ConnectionState.New (none_open pass.old) read written now) }
     ensures source_count { I.failures source.new ≡ read_failures_after result (I.failures source.old) }
     ensures sink_count { O.failures sink.new ≡ write_failures_after result (O.failures sink.old) }
 {
@@ -150,7 +150,7 @@ pub fn serve_socket<
     let detail = detail_of(rt);
     let replied = Replied::new();
     let login = Login::begin(rt, logins);
-    let mut source = Requests {
+    let mut source = RequestReader {
         rt,
         stream: &stream,
         login: &login,
@@ -159,7 +159,7 @@ pub fn serve_socket<
         statements: statement_log(alloc, engine, number, &replied),
         silence: None,
     };
-    let mut sink = Replies {
+    let mut sink = ReplyWriter {
         stream: &stream,
         login: &login,
         sink: Writer::new(&stream),

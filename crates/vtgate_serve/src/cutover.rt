@@ -1,13 +1,13 @@
 //! When each part of a cutover came, as a thread sees it that looks again and again while one is under way.
 
 use crate::events;
-use crate::progress::Progress;
+use crate::progress::ServeProgress;
 use crate::statements::sharded_partitions;
 use buffer::Buffer;
 use journal::Naming;
 use log::Log;
 use route_engine::{Engine, Gate};
-use serving::{Part, Serving};
+use serving::{Serving, ShardReference};
 use shard::{Shard, World};
 use shard_run::Mode;
 use std::sync::Wait;
@@ -86,7 +86,7 @@ struct Modes {
 }
 
 // The modes of shards, each locked for a moment.
-fn modes_of<W: World, J: Naming, R: Wait>(rt: &R, parts: &[Part<Shard<W, J>>]) -> Modes {
+fn modes_of<W: World, J: Naming, R: Wait>(rt: &R, parts: &[ShardReference<Shard<W, J>>]) -> Modes {
     let mut modes = Modes {
         is_frozen: false,
         is_retired: false,
@@ -103,8 +103,8 @@ fn modes_of<W: World, J: Naming, R: Wait>(rt: &R, parts: &[Part<Shard<W, J>>]) -
 
 // Whether these are the parts of one partition: another has other shards.
 fn are_same<W: World, J: Naming>(
-    parts: &[Part<Shard<W, J>>],
-    others: &[Part<Shard<W, J>>],
+    parts: &[ShardReference<Shard<W, J>>],
+    others: &[ShardReference<Shard<W, J>>],
 ) -> bool {
     for (part, other) in parts.iter().zip(others) {
         if part.slot() != other.slot() {
@@ -119,7 +119,7 @@ fn look<W: World, J: Naming, R: Wait>(
     rt: &R,
     serving: &Serving<Shard<W, J>>,
     buffer: &Buffer,
-    parts: &[Part<Shard<W, J>>],
+    parts: &[ShardReference<Shard<W, J>>],
     turn: u64,
     now: Duration,
     times: &mut Times,
@@ -136,7 +136,7 @@ fn times_of<W: World, J: Naming, R: Wait + Clock>(
     rt: &R,
     serving: &Serving<Shard<W, J>>,
     buffer: &Buffer,
-    progress: &Progress,
+    progress: &ServeProgress,
 ) -> Times {
     let parts = serving.current().parts();
     let turn = buffer.turn(rt);
@@ -159,7 +159,7 @@ fn times_of<W: World, J: Naming, R: Wait + Clock>(
 pub fn watch<W: World + Send + Sync, J: Naming + Send + Sync, G: Gate, R: Wait + Clock + Log>(
     rt: &R,
     engine: &Engine<W, J, G>,
-    progress: &Progress,
+    progress: &ServeProgress,
 ) {
     let Some(serving) = sharded_partitions(engine) else {
         return;

@@ -1,20 +1,19 @@
 //! What a server tells of itself: each event is a record, with its fields.
 
 use crate::cutover::Times;
-use administration::widest_limits;
+use admin::widest_limits;
 use client_traffic::{Answered, Incoming, Outgoing};
 use connection_workers::NotRun;
 use keyrange::KeyRange;
 use log::kv::{Primitive, Source, Value, VisitSource};
 use log::{Level, Log, Metadata, Record, error, info, kv, warn};
 use schema_place::Place;
-use serve_lines::Asked;
 use session::{End, SessionFault};
 use std::fmt::Display;
 use std::net::SocketAddr;
 use std::time::{Clock, Duration, Instant};
 use std::{fmt, str};
-use vtgate_input::Fault;
+use vtgate_setup::{RunFault, ServeArgs};
 
 /// The version of the program.
 const VERSION: &str = "unreleased";
@@ -115,7 +114,7 @@ fn tell<R: Log, K: Source>(rt: &R, level: Level, event: &str, fields: &K) {
 /// What is told once clients can connect: the words, the number of tables, and the limits of a shard.
 #[derive(Clone, Copy)]
 pub struct Start<'a> {
-    pub asked: &'a Asked<'a>,
+    pub asked: &'a ServeArgs<'a>,
     pub tables: u64,
     pub rows: u64,
     pub entries: u64,
@@ -182,13 +181,13 @@ pub fn faulty<R: Log>(rt: &R, number: u8, place: &Place) {
 }
 
 /// It didn't start.
-pub fn failed<R: Log>(rt: &R, fault: &Fault) {
+pub fn failed<R: Log>(rt: &R, fault: &RunFault) {
     match fault {
         // The fault was told with its place.
-        Fault::Schema(_) => {}
-        Fault::WrongWords => error!(rt; why = "words"; "failed"),
-        Fault::OutOfMemory => error!(rt; why = "memory"; "failed"),
-        Fault::CannotBind => {}
+        RunFault::Schema(_) => {}
+        RunFault::WrongWords => error!(rt; why = "words"; "failed"),
+        RunFault::OutOfMemory => error!(rt; why = "memory"; "failed"),
+        RunFault::CannotBind => {}
         _ => error!(rt; why = "device"; "failed"),
     }
 }

@@ -1,14 +1,14 @@
 //! `vtgate serve`: connections over TCP, and with them the admin port.
 #![tactic(auto)]
 
+mod acceptor;
+mod admin_client;
 mod admin_port;
 mod admission;
 mod census;
 mod client;
 mod connection;
-mod conversation;
 mod cutover;
-mod entrance;
 mod events;
 mod keepalive;
 mod lines;
@@ -20,8 +20,8 @@ mod serve;
 mod statements;
 mod waits;
 
+pub use admin_client::{BrokenOff, LONGEST_LINE, talk};
 pub use admission::{Admission, admission_of};
 pub use connection::serve_connection;
-pub use conversation::{BrokenOff, LONGEST_LINE, talk};
 pub use ports::Ports;
-pub use serve::{Setting, run_serve, serve_opened, setting_of};
+pub use serve::{ServeConfig, config_of, run_serve, serve_opened};

@@ -2,25 +2,24 @@
 ghost use denote.Param.Send.{IsSync};
 ghost use Rattle.std.specs.Prelude.{◌≡◌, [], IfErr, OnOk};
 ghost use Rattle.std.specs.Io.KnownBytes.{Appends};
-ghost use Rattle.empty_opening.specs.Empty.{sharded_keyspace};
-ghost use Rattle.administration.specs.Told.{keyspace_of};
-ghost use Rattle.vtgate_input.specs.Statuses.{status_of};
+ghost use Rattle.opening.specs.Empty.{sharded_keyspace};
+ghost use Rattle.admin.specs.AdminAnswers.{keyspace_of};
+ghost use Rattle.vtgate_setup.specs.Statuses.{status_of};
 ghost use Rattle.vtgate_serve.specs.inner.Accepted.{last_of};
 ghost use Rattle.vtgate_serve.specs.Served.{listening_text};
 
+use crate::acceptor::Acceptor;
 use crate::admin_port::serve_admin;
 use crate::admission::Admission;
 use crate::connection::{Connection, serve_socket};
-use crate::entrance::Acceptor;
 use crate::events::Start;
-use crate::progress::Progress;
+use crate::progress::ServeProgress;
 use crate::{census, events};
-use administration::{Administrator, widest_limits};
+use admin::{Administrator, widest_limits};
 use connection_workers::run;
 use journal::{Naming, Opener, Pass};
 use log::Log;
 use route_engine::{Engine, Gate};
-use serve_lines::Asked;
 use session::Sink;
 use shard::{ShardLaw, World};
 use std::alloc::Global;
@@ -30,7 +29,7 @@ use std::sync::atomic::{AtomicU64, Ordering};
 use std::thread;
 use std::thread::Threads;
 use std::time::{Clock, Duration};
-use vtgate_input::{FAILURE, Fault};
+use vtgate_setup::{FAILURE, RunFault, ServeArgs};
 
 /// How many connections wait for a worker.
 pub(crate) const QUEUED: usize = 64;
@@ -50,14 +49,14 @@ fn bind_port<R: Log + Net<Listener = TcpListener, Stream = TcpStream>>(
     rt: &R,
     port: &'static str,
     address: &str,
-) -> Result<TcpListener, Fault>
+) -> Result<TcpListener, RunFault>
     ensures fault { IfErr result (λ f. status_of f ≡ FAILURE) }
 {
     match TcpListener::bind(rt, address) {
         Ok(listener) => Ok(listener),
         Err(reason) => {
             events::unbound(rt, port, address, &reason);
-            Err(Fault::CannotBind)
+            Err(RunFault::CannotBind)
         }
     }
 }
@@ -67,7 +66,7 @@ pub fn bind<R: Log + Net<Listener = TcpListener, Stream = TcpStream>>(
     rt: &R,
     address: &str,
     admin: &str,
-) -> Result<Ports, Fault>
+) -> Result<Ports, RunFault>
     ensures fault { IfErr result (λ f. status_of f ≡ FAILURE) }
 {
     let clients = bind_port(rt, "clients", address)?;
@@ -76,7 +75,7 @@ pub fn bind<R: Log + Net<Listener = TcpListener, Stream = TcpStream>>(
 }
 
 /// After how many connections it ends.
-fn last_connection(asked: &Asked<'_>) -> u32
+fn last_connection(asked: &ServeArgs<'_>) -> u32
     ensures { result ≡ last_of asked.now.connections }
 {
     if asked.connections == 0 {
@@ -87,13 +86,13 @@ fn last_connection(asked: &Asked<'_>) -> u32
 }
 
 // Tells that it listens.
-fn tell_listening<O: Sink>(output: &mut O) -> Result<(), Fault>
+fn tell_listening<O: Sink>(output: &mut O) -> Result<(), RunFault>
     ensures told { OnOk result (Appends (O.taken output.old) (O.taken output.new) listening_text) }
     ensures fault { IfErr result (λ f. status_of f ≡ FAILURE) }
 {
     match output.write(LISTENING) {
         Ok(()) => Ok(()),
-        Err(_) => Err(Fault::Failed),
+        Err(_) => Err(RunFault::Failed),
     }
 }
 
@@ -108,7 +107,7 @@ fn serve_clients<
     alloc: Global,
     engine: &Engine<W, J, G>,
     admission: &Admission<'_>,
-    progress: &Progress,
+    progress: &ServeProgress,
     acceptor: Acceptor<'_, W, J>,
 ) {
     let asked = admission.asked;
@@ -137,8 +136,8 @@ fn serve_operators<W: World + Send + Sync, J: Naming + Send + Sync, G: Gate, R: 
     administrator: &mut Administrator<W, J>,
     pass: &mut Pass<ShardLaw<W>, J>,
     listener: &TcpListener,
-    progress: &Progress,
-) -> Result<(), Fault>
+    progress: &ServeProgress,
+) -> Result<(), RunFault>
     requires home { keyspace_of administrator.old ≡ sharded_keyspace engine.now }
     ensures fault { IfErr result (λ f. status_of f ≡ FAILURE) }
 {
@@ -146,7 +145,7 @@ fn serve_operators<W: World + Send + Sync, J: Naming + Send + Sync, G: Gate, R: 
     if progress.is_served() {
         Ok(())
     } else {
-        Err(Fault::Failed)
+        Err(RunFault::Failed)
     }
 }
 
@@ -163,17 +162,17 @@ fn serve_both<
     admission: &Admission<'_>,
     acceptor: Acceptor<'_, W, J>,
     operators: &TcpListener,
-    progress: &Progress,
+    progress: &ServeProgress,
     administrator: &mut Administrator<W, J>,
     controller: &mut Pass<ShardLaw<W>, J>,
-) -> Result<(), Fault>
+) -> Result<(), RunFault>
     requires home { keyspace_of administrator.old ≡ sharded_keyspace engine.now }
     ensures fault { IfErr result (λ f. status_of f ≡ FAILURE) }
 {
     thread::scope(
         thread::scope_env(),
         rt,
-        move |scope| -> Result<(), Fault>
+        move |scope| -> Result<(), RunFault>
             requires { IsSync R.row × IsSync G.row × (keyspace_of administrator.now ≡ sharded_keyspace engine.now) }
             ensures { IfErr result (λ f. status_of f ≡ FAILURE) }
         {
@@ -185,7 +184,7 @@ fn serve_both<
                 )
                 .is_err()
             {
-                return Err(Fault::Failed);
+                return Err(RunFault::Failed);
             }
             if census::is_logged(rt) {
                 let _ = scope.spawn(
@@ -262,12 +261,12 @@ fn serve_opened_ports<
     engine: &Engine<W, J, G>,
     admission: &Admission<'_>,
     ports: &'p Ports,
-    progress: &'p Progress,
+    progress: &'p ServeProgress,
     opener: Opener<ShardLaw<W>, J>,
     pass: Pass<ShardLaw<W>, J>,
     mut administrator: Administrator<W, J>,
     mut controller: Pass<ShardLaw<W>, J>,
-) -> Result<(), Fault>
+) -> Result<(), RunFault>
     requires home { keyspace_of administrator ≡ sharded_keyspace engine.now }
     requires unopened { opener ≡ 0 }
     requires unseen { pass.seen ≡ [] }
@@ -291,7 +290,7 @@ fn serve_opened_ports<
 // Tells that clients can connect, and to what.
 fn tell_started<W: World + Send + Sync, J: Naming + Send + Sync, G: Gate, R: Log>(
     rt: &R,
-    asked: &Asked<'_>,
+    asked: &ServeArgs<'_>,
     engine: &Engine<W, J, G>,
 ) {
     let limits = widest_limits();
@@ -323,7 +322,7 @@ pub fn serve_ports<
     administrator: Administrator<W, J>,
     controller: Pass<ShardLaw<W>, J>,
     output: &mut O,
-) -> Result<(), Fault>
+) -> Result<(), RunFault>
     requires home { keyspace_of administrator ≡ sharded_keyspace engine.now }
     requires unopened { opener ≡ 0 }
     requires unseen { pass.seen ≡ [] }
@@ -332,11 +331,11 @@ pub fn serve_ports<
 {
     let asked = admission.asked;
     if !can_start(rt, threads_beside(rt, asked.workers)) {
-        return Err(Fault::Failed);
+        return Err(RunFault::Failed);
     }
     tell_listening(output)?;
     tell_started(rt, asked, engine);
-    let progress = Progress::new(asked.workers);
+    let progress = ServeProgress::new(asked.workers);
     serve_opened_ports(
         rt,
         alloc,

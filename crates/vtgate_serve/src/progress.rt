@@ -29,7 +29,7 @@ const BETWEEN_LOOKS: u64 = 50;
 
 /// How far serving is, and the logins that are under way.
 #[derive(Drop)]
-pub struct Progress {
+pub struct ServeProgress {
     stage: AtomicU64,
     /// Whether a line that asks for a cutover is being answered, and whether its shards are looked at meanwhile.
     switching: AtomicU64,
@@ -38,10 +38,10 @@ pub struct Progress {
     pub logins: Logins,
 }
 
-impl Progress {
+impl ServeProgress {
     /// Nothing was done yet, for so many workers.
-    pub fn new(workers: u32) -> Progress {
-        Progress {
+    pub fn new(workers: u32) -> ServeProgress {
+        ServeProgress {
             stage: AtomicU64::new(UNDER_WAY),
             switching: AtomicU64::new(NO_SWITCH),
             has_watcher: AtomicU64::new(0),

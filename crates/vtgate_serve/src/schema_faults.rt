@@ -2,14 +2,14 @@
 
 use crate::events;
 use log::{Level, Log, log_enabled};
-use schema_place::{Place, place_of};
+use schema_place::{Place, ordinal_of};
 use std::alloc::Global;
 use std::str;
-use vtgate_input::Fault;
+use vtgate_setup::RunFault;
 
 /// Logs the fault that a VSchema's text has, if that is why a run has failed.
-pub fn tell<R: Log>(rt: &R, alloc: Global, fault: &Fault, text: &[u8]) {
-    let Fault::Schema(fault) = fault else {
+pub fn tell<R: Log>(rt: &R, alloc: Global, fault: &RunFault, text: &[u8]) {
+    let RunFault::Schema(fault) = fault else {
         return;
     };
     let Some(number) = fault.number() else {
@@ -17,7 +17,7 @@ pub fn tell<R: Log>(rt: &R, alloc: Global, fault: &Fault, text: &[u8]) {
     };
     if log_enabled!(rt; Level::Error) {
         let text = str::from_utf8(text).unwrap_or("");
-        let place = place_of(alloc, text, number).unwrap_or(Place::whole(alloc));
+        let place = ordinal_of(alloc, text, number).unwrap_or(Place::whole(alloc));
         events::faulty(rt, number, &place);
     }
 }

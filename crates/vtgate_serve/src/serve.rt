@@ -4,24 +4,23 @@ ghost use Rattle.std.specs.Io.KnownBytes.{Appends};
 ghost use Rattle.keyrange.specs.declared.KeyRange.{KeyRange};
 ghost use Rattle.vschema.specs.WellFormed.{is_vschema};
 ghost use Rattle.journal.specs.Views.{new_pass};
-ghost use Rattle.shard_contents.specs.Shards.{most_limits};
-ghost use Rattle.empty_opening.specs.Empty.{opening_of, sharded_keyspace, FitRanges};
-ghost use Rattle.administration.specs.Told.{keyspace_of};
-ghost use Rattle.serve_lines.specs.Asking.{Asking, Asks};
-ghost use Rattle.vtgate_input.specs.Inputs.{HasDeclared};
-ghost use Rattle.vtgate_input.specs.Statuses.{IsWrong, TellsNone, status_of};
+ghost use Rattle.shard_law.specs.Entries.{most_limits};
+ghost use Rattle.opening.specs.Empty.{opening_of, sharded_keyspace, FitRanges};
+ghost use Rattle.admin.specs.AdminAnswers.{keyspace_of};
+ghost use Rattle.vtgate_setup.specs.ServeArgs.{ServeArgsView, IsServeCommand};
+ghost use Rattle.vtgate_setup.specs.Inputs.{HasDeclared};
+ghost use Rattle.vtgate_setup.specs.Statuses.{IsWrong, TellsNone, status_of};
 ghost use Rattle.vtgate_lines.specs.Partitions.{NamesPartition};
-ghost use Rattle.vtgate_serve.specs.Served.{HasServed, listening_text};
+ghost use Rattle.vtgate_serve.specs.Served.{HasRunServer, listening_text};
 
 use crate::admission::{Admission, admission_of};
 use crate::ports::{Ports, bind, serve_ports};
 use crate::{events, schema_faults};
-use administration::{Administrator, administered_router, widest_limits};
+use admin::{Administrator, administered_router, widest_limits};
 use journal::{Naming, Opened, Opener, Pass};
 use keyrange::KeyRange;
 use log::Log;
 use route_engine::{Engine, Gate, Open};
-use serve_lines::{Asked, Word, read_words};
 use session::{Sink, Source};
 use shard::{ShardLaw, World};
 use std::alloc::Global;
@@ -31,28 +30,29 @@ use std::sync::Wait;
 use std::thread::Threads;
 use std::time::Clock;
 use vschema::{Hashing, VSchema};
-use vtgate_input::{
-    FAILURE, Fault, SUCCESS, USAGE, WRONG_WORDS, ranges_of, read_schema_or_text, refuse_plainly,
+use vtgate_setup::{
+    FAILURE, RunFault, SUCCESS, ServeArgs, USAGE, WRONG_WORDS, Word, ranges_of,
+    read_schema_or_text, read_words, refuse_plainly,
 };
 
 /// What a server is told: whom it lets in, as the words ask, and its ports.
 #[derive(Drop)]
-pub struct Setting<'s> {
+pub struct ServeConfig<'s> {
     pub admission: Admission<'s>,
     pub ports: Ports,
 }
 
 /// What a server is told that serves on the ports.
-pub fn setting_of<'s>(
+pub fn config_of<'s>(
     alloc: Global,
-    asked: &'s Asked<'s>,
+    asked: &'s ServeArgs<'s>,
     ports: Ports,
-) -> Result<Setting<'s>, Fault>
+) -> Result<ServeConfig<'s>, RunFault>
     ensures asked { IfOk result (λ s. s.admission.asked.now ≡ asked.now) }
     ensures fault { IfErr result (λ f. status_of f ≡ FAILURE) }
 {
     match admission_of(alloc, asked) {
-        Ok(admission) => Ok(Setting { admission, ports }),
+        Ok(admission) => Ok(ServeConfig { admission, ports }),
         Err(fault) => Err(fault),
     }
 }
@@ -71,9 +71,9 @@ fn serve_router<
     administrator: Administrator<W, J>,
     opener: Opener<ShardLaw<W>, J>,
     mut pass: Pass<ShardLaw<W>, J>,
-    setting: &Setting<'_>,
+    config: &ServeConfig<'_>,
     output: &mut O,
-) -> Result<(), Fault>
+) -> Result<(), RunFault>
     requires home { keyspace_of administrator ≡ sharded_keyspace engine.now }
     requires unopened { opener ≡ 0 }
     requires unseen { pass ≡ new_pass [] None }
@@ -85,15 +85,15 @@ fn serve_router<
             rt,
             alloc,
             engine,
-            &setting.admission,
-            &setting.ports,
+            &config.admission,
+            &config.ports,
             opener,
             pass,
             administrator,
             controller,
             output,
         ),
-        Err(_) => Err(Fault::Failed),
+        Err(_) => Err(RunFault::Failed),
     }
 }
 
@@ -111,9 +111,9 @@ pub fn serve_opened<
     ranges: &[KeyRange],
     opened: Opened<ShardLaw<W>>,
     gate: G,
-    setting: &Setting<'_>,
+    config: &ServeConfig<'_>,
     output: &mut O,
-) -> Result<(), Fault>
+) -> Result<(), RunFault>
     requires name { opened ≡ J.table }
     requires opening { W.opening ≡ opening_of schema ranges.now }
     requires limits { W.limits ≡ most_limits }
@@ -122,7 +122,7 @@ pub fn serve_opened<
     ensures told { OnOk result (Appends (O.taken output.old) (O.taken output.new) listening_text) }
     ensures fault { IfErr result (λ f. status_of f ≡ FAILURE) }
 {
-    let asked = setting.admission.asked;
+    let asked = config.admission.asked;
     let waiting = u64::from(asked.buffer);
     let limits = widest_limits();
     match administered_router::<W, J, G>(alloc, schema, ranges, limits, opened, waiting, gate) {
@@ -133,10 +133,10 @@ pub fn serve_opened<
             administrator,
             opener,
             pass,
-            setting,
+            config,
             output,
         ),
-        Err(_) => Err(Fault::Failed),
+        Err(_) => Err(RunFault::Failed),
     }
 }
 
@@ -146,9 +146,9 @@ fn serve_in_world<W: World + Send + Sync, R: Threads + Wait + Sync + Clock + Log
     alloc: Global,
     schema: VSchema,
     ranges: &[KeyRange],
-    setting: &Setting<'_>,
+    config: &ServeConfig<'_>,
     output: &mut O,
-) -> Result<(), Fault>
+) -> Result<(), RunFault>
     requires opening { W.opening ≡ opening_of schema ranges.now }
     requires limits { W.limits ≡ most_limits }
     requires schema { IsTrue (is_vschema schema) }
@@ -157,9 +157,9 @@ fn serve_in_world<W: World + Send + Sync, R: Threads + Wait + Sync + Clock + Log
     ensures fault { IfErr result (λ f. status_of f ≡ FAILURE) }
 {
     let Ok(opened) = Opened::<ShardLaw<W>>::new(alloc) else {
-        return Err(Fault::Failed);
+        return Err(RunFault::Failed);
     };
-    serve_opened::<W, Brand, Open, R, O>(rt, alloc, schema, ranges, opened, Open, setting, output)
+    serve_opened::<W, Brand, Open, R, O>(rt, alloc, schema, ranges, opened, Open, config, output)
 }
 
 // Binds the ports, and serves over the VSchema and the ranges.
@@ -169,20 +169,20 @@ fn serve_over<
 >(
     rt: &R,
     alloc: Global,
-    asked: &Asked<'_>,
+    asked: &ServeArgs<'_>,
     schema: VSchema,
     ranges: &[KeyRange],
     output: &mut O,
-) -> Result<(), Fault>
+) -> Result<(), RunFault>
     requires schema { IsTrue (is_vschema schema) }
     requires ranges { FitRanges schema ranges.now }
     ensures told { OnOk result (Appends (O.taken output.old) (O.taken output.new) listening_text) }
     ensures fault { IfErr result (λ f. status_of f ≡ FAILURE) }
 {
     let ports = bind(rt, asked.address, asked.admin)?;
-    match setting_of(alloc, asked, ports) {
+    match config_of(alloc, asked, ports) {
         Err(fault) => Err(fault),
-        Ok(setting) => serve_in_world::<Brand, R, O>(rt, alloc, schema, ranges, &setting, output),
+        Ok(config) => serve_in_world::<Brand, R, O>(rt, alloc, schema, ranges, &config, output),
     }
 }
 
@@ -193,7 +193,7 @@ fn read_told<R: Log, I: Source>(
     hashing: &Hashing,
     ranges: &[KeyRange],
     input: &mut I,
-) -> Result<VSchema, Fault>
+) -> Result<VSchema, RunFault>
     requires { (word : List ℕ) × NamesPartition word ranges.now }
     ensures read { IfOk result (λ schema. HasDeclared (I.unread input.old) (I.unread input.new) schema) }
     ensures formed { IfOk result (λ schema. IsTrue (is_vschema schema)) }
@@ -216,11 +216,11 @@ fn served<
     rt: &R,
     alloc: Global,
     hashing: &Hashing,
-    asked: &Asked<'_>,
+    asked: &ServeArgs<'_>,
     input: &mut I,
     output: &mut O,
-) -> Result<(), Fault>
-    ensures ok { OnOk result (HasServed asked.now.shards (I.unread input.old) (I.unread input.new) (O.taken output.old) (O.taken output.new)) }
+) -> Result<(), RunFault>
+    ensures ok { OnOk result (HasRunServer asked.now.shards (I.unread input.old) (I.unread input.new) (O.taken output.old) (O.taken output.new)) }
     ensures untouched { TellsNone asked.now.shards → (input.new ≡ input.old) × (output.new ≡ output.old) }
     ensures fault { IfErr result (λ f. status_of f ≡ WRONG_WORDS → IsWrong asked.now.shards (I.unread input.old) (I.unread input.new)) }
 {
@@ -239,12 +239,12 @@ fn run_asked<
     rt: &R,
     alloc: Global,
     hashing: &Hashing,
-    asked: &Asked<'_>,
+    asked: &ServeArgs<'_>,
     input: &mut I,
     output: &mut O,
     errors: &mut E,
 ) -> u8
-    ensures served { result ≡ SUCCESS → HasServed asked.now.shards (I.unread input.old) (I.unread input.new) (O.taken output.old) (O.taken output.new) }
+    ensures served { result ≡ SUCCESS → HasRunServer asked.now.shards (I.unread input.old) (I.unread input.new) (O.taken output.old) (O.taken output.new) }
     // A wrong word is refused before anything is read.
     ensures untouched { TellsNone asked.now.shards → input.new ≡ input.old }
     ensures status { result ≤ 2 }
@@ -276,15 +276,15 @@ pub fn run_serve<
     output: &mut O,
     errors: &mut E,
 ) -> u8
-    ensures serve { (asking : Asking) → Asks words.now asking → result ≡ SUCCESS
-        → HasServed asking.shards (I.unread input.old) (I.unread input.new) (O.taken output.old) (O.taken output.new) }
+    ensures serve { (asking : ServeArgsView) → IsServeCommand words.now asking → result ≡ SUCCESS
+        → HasRunServer asking.shards (I.unread input.old) (I.unread input.new) (O.taken output.old) (O.taken output.new) }
     // A wrong word is refused before anything is read.
-    ensures unserved { (asking : Asking) → Asks words.now asking → TellsNone asking.shards → (result ≢ SUCCESS) × (input.new ≡ input.old) }
+    ensures unserved { (asking : ServeArgsView) → IsServeCommand words.now asking → TellsNone asking.shards → (result ≢ SUCCESS) × (input.new ≡ input.old) }
     // The status 2 has its cause, if the words are those of `serve` too.
-    ensures cause { (asking : Asking) → Asks words.now asking → result ≡ WRONG_WORDS
+    ensures cause { (asking : ServeArgsView) → IsServeCommand words.now asking → result ≡ WRONG_WORDS
         → IsWrong asking.shards (I.unread input.old) (I.unread input.new) }
     ensures status { result ≤ 2 }
-    ensures wrong { ((asking : Asking) → Asks words.now asking → ⊥)
+    ensures wrong { ((asking : ServeArgsView) → IsServeCommand words.now asking → ⊥)
         → (result ≡ WRONG_WORDS) × (input.new ≡ input.old) × (output.new ≡ output.old) }
 {
     let Some(asked) = read_words(words) else {

@@ -3,10 +3,10 @@
 use crate::events;
 use crate::events::Statement;
 use client_traffic::{Incoming, Replied};
-use empty_opening::sharded_keyspace;
 use journal::Naming;
 use keyrange::KeyRange;
 use log::Log;
+use opening::sharded_keyspace;
 use route_engine::{Engine, Gate};
 use serving::Serving;
 use shard::{Shard, World};

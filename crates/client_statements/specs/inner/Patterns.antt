@@ -2,10 +2,10 @@
 use Rattle.std.specs.Prelude.{◌≡◌, ℕ, ◌+◌, Bool, false, ◌==◌, ◌&&◌, List, [], ◌∷◌}
 use Rattle.client_statements.specs.declared.likes.Piece.{Piece}
 use Rattle.client_statements.specs.declared.likes.Piece.TheVariants.{Any, One, Byte}
-use Rattle.client_statements.specs.Likes.{pieces, fits}
+use Rattle.client_statements.specs.Likes.{pieces, like_fits}
 
 abbrev pub FitSame : List Piece → List Piece → Type 0
-FitSame ps qs = (name : List ℕ) → fits ps name ≡ fits qs name
+FitSame ps qs = (name : List ℕ) → like_fits ps name ≡ like_fits qs name
 
 -- a pattern was read as these
 abbrev pub IsReadAs : List ℕ → List Piece → Type 0

@@ -1,12 +1,12 @@
 -- The rows that LIKE computes: whether pieces fit what stands from each place of a text on. No public clause cites this file.
 use Rattle.std.specs.Prelude.{ℕ, Bool, ◌&&◌, List, [], ◌∷◌}
 use Rattle.client_statements.specs.declared.likes.Piece.{Piece}
-use Rattle.client_statements.specs.Likes.{is_any, fits_step, fits}
+use Rattle.client_statements.specs.Likes.{is_any, fits_step, like_fits}
 
 -- from each place on, the end too
 abbrev pub row_of : List Piece → List ℕ → List Bool
-row_of ps [] = fits ps [] ∷ []
-row_of ps (c ∷ text) = fits ps (c ∷ text) ∷ row_of ps text
+row_of ps [] = like_fits ps [] ∷ []
+row_of ps (c ∷ text) = like_fits ps (c ∷ text) ∷ row_of ps text
 
 -- the row of one more piece, before a byte, by what the pieces fit from here and from the next place on, and by the next places' row
 abbrev pub onto_row : Piece → ℕ → Bool → List Bool → List Bool → List Bool

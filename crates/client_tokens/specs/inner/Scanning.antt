@@ -1,8 +1,8 @@
 -- Reading tokens from left to right. No public clause cites this file: the code is shown to be as it says, and it to agree with the definitions.
 use Rattle.std.specs.Prelude.{ℕ, zero, suc, ◌+◌, ◌==◌, Bool, false, not, ◌&&◌, List, [], ◌∷◌, take, drop, Option, Some, None, option_map, if◌then◌else◌}
 use Rattle.client_tokens.specs.Keywords.{keyword_of}
-use Rattle.client_tokens.specs.declared.body.Place.{Place}
-use Rattle.client_tokens.specs.declared.body.Place.TheVariants.{Inside, BehindQuote, BehindBackslash}
+use Rattle.client_tokens.specs.declared.body.TextState.{TextState}
+use Rattle.client_tokens.specs.declared.body.TextState.TheVariants.{Inside, AfterQuote, AfterBackslash}
 use Rattle.client_tokens.specs.declared.token.Sign as S
 use Rattle.client_tokens.specs.declared.token.Sign.TheVariants.{Equal, Comma, Dot, LeftParenthesis, RightParenthesis, Semicolon}
 use Rattle.client_tokens.specs.declared.token.Token.{Token}
@@ -24,18 +24,18 @@ remark_len (b ∷ bytes) =
     if (b == 0x2A) && first_passes (λ c. c == 0x2F) bytes then Some 2 else option_map suc (remark_len bytes)
 
 -- the place in a text after a byte, unless the text ended before it
-abbrev pub after_byte : ℕ → Place → ℕ → Option Place
-after_byte quote Inside b = if b == quote then Some BehindQuote else if b == 0x5C then Some BehindBackslash else Some Inside
-after_byte quote BehindQuote b = if b == quote then Some Inside else None
-after_byte quote BehindBackslash b = Some Inside
+abbrev pub after_byte : ℕ → TextState → ℕ → Option TextState
+after_byte quote Inside b = if b == quote then Some AfterQuote else if b == 0x5C then Some AfterBackslash else Some Inside
+after_byte quote AfterQuote b = if b == quote then Some Inside else None
+after_byte quote AfterBackslash b = Some Inside
 
-abbrev pub closed : ℕ → Place → Option ℕ
+abbrev pub closed : ℕ → TextState → Option ℕ
 closed n Inside = None
-closed n BehindQuote = Some n
-closed n BehindBackslash = None
+closed n AfterQuote = Some n
+closed n AfterBackslash = None
 
 -- how many bytes a text has after its first quote, if it is closed: n of them before these
-unfoldable pub text_len : ℕ → ℕ → Place → List ℕ → Option ℕ
+unfoldable pub text_len : ℕ → ℕ → TextState → List ℕ → Option ℕ
 text_len quote n place [] = closed n place
 text_len quote n place (b ∷ bytes) = elim (after_byte quote place b) [ Some next ↦ text_len quote (n + 1) next bytes | None ↦ Some n ]
 

@@ -15,7 +15,7 @@ EachWas P [] = Unit {0}
 EachWas P (x ∷ xs) = P x × EachWas P xs
 
 -- What a worker took: connections, each of which was served, and then its one stop.
-pub record HasServed {T : Type 0} (before after : List (Job T)) (served : T → Type 0) : Type 0 where
+pub record HasServedConnections {T : Type 0} (before after : List (Job T)) (served : T → Type 0) : Type 0 where
   pub taken : List T
   pub own : after ≡ (before ++ map Serve taken) ++ (Stop ∷ [])
   pub each : EachWas served taken

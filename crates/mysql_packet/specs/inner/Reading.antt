@@ -1,7 +1,7 @@
 -- How a whole payload lies at the front of a stream: so many full parts, and then a shorter one.
 use Rattle.std.specs.Prelude.{◌≡◌, ℕ, zero, suc, ◌+◌, ◌*◌, ◌^◌, ◌<◌, ◌≤◌, List, ◌++◌, length, take, drop, Some, MatchOption}
 use Rattle.mysql_packet.specs.Frames.{full, frame, header, header_fault, packets, AreBegun, IsPartial, Splits, IsRefusedAfter}
-use Rattle.mysql_packet.specs.declared.framer.Fault.{Fault}
+use Rattle.mysql_packet.specs.declared.framer.HeaderFault.{HeaderFault}
 use Rattle.mysql_packet.specs.declared.front.Front.{Front}
 use Rattle.mysql_packet.specs.declared.front.Front.TheVariants.{Waits, Refused, Whole}
 use Rattle.mysql_packet.specs.declared.front.Taken.{Taken}
@@ -30,7 +30,7 @@ pub record HasPayload (limit first come len : ℕ) (bytes : List ℕ) : Type 0 w
   pub in_range : (first < 256) × (len < full)
 
 -- full parts, and a header that is refused
-pub record HasFault (limit : ℕ) (fault : Fault) (bytes : List ℕ) : Type 0 where
+pub record HasFault (limit : ℕ) (fault : HeaderFault) (bytes : List ℕ) : Type 0 where
   pub first : ℕ
   pub parts : List (List ℕ)
   pub len : ℕ

@@ -39,10 +39,10 @@ abbrev pub head_rows : {O : Type 0} → (O → List Row) → Head O → List Row
 head_rows to_come head = rows_from head.row (to_come head.input)
 
 abbrev pub head_row : {O : Type 0} → List (Head O) → ℕ → Option Row
-head_row heads place = slice_index_or (map (λ h. h.row) heads) place None
+head_row heads ordinal = slice_index_or (map (λ h. h.row) heads) ordinal None
 
 -- the first of the least rows
-pub record IsFirst {O : Type 0} (lt : Row → Row → Bool) (heads : List (Head O)) (place : ℕ) : Type 0 where
-  pub within : place < length heads
-  pub before : (j : ℕ) → j < place → earlier lt (head_row heads place) (head_row heads j) ≡ true
-  pub behind : (j : ℕ) → place < j → j < length heads → earlier lt (head_row heads j) (head_row heads place) ≡ false
+pub record IsFirst {O : Type 0} (lt : Row → Row → Bool) (heads : List (Head O)) (ordinal : ℕ) : Type 0 where
+  pub within : ordinal < length heads
+  pub before : (j : ℕ) → j < ordinal → earlier lt (head_row heads ordinal) (head_row heads j) ≡ true
+  pub trailing : (j : ℕ) → ordinal < j → j < length heads → earlier lt (head_row heads j) (head_row heads ordinal) ≡ false

@@ -12,7 +12,7 @@ use Rattle.vschema.specs.TypedStatement.{typed_statement}
 use Rattle.journal.specs.Views.{PassView}
 use Rattle.shard_run.specs.declared.Entry.{Entry}
 use Rattle.shard_run.specs.Runs.{Opening}
-use Rattle.shard_contents.specs.declared.limits.Limits.{Limits}
+use Rattle.shard_law.specs.declared.limits.Limits.{Limits}
 use Rattle.shard_calls.specs.declared.reply.Reply.{Reply}
 use Rattle.shard_calls.specs.Answers.{counted, HasGone, MayReadRefuse, Gives, MayWriteRefuse}
 

@@ -5,10 +5,10 @@ use Rattle.vschema.specs.declared.schema.Typed.TheVariants as typed
 use Rattle.vschema.specs.declared.changes.Write.{Write}
 use Rattle.vschema.specs.TypedWrites.{IsTypedWrite}
 use Rattle.shard_run.specs.Runs.{Opening}
-use Rattle.shard_calls.specs.Transactions.{Step, Transaction}
+use Rattle.shard_calls.specs.Transactions.{TransactionStatement, Transaction}
 
 -- its write is what some statement means
-abbrev pub IsTypedStep : Opening → Step → Type 0
+abbrev pub IsTypedStep : Opening → TransactionStatement → Type 0
 IsTypedStep o step = (w : Write) → step.typed ≡ typed.Write w → IsTypedWrite o.schema w
 
 abbrev pub AreTyped : Opening → Option Transaction → Type 0

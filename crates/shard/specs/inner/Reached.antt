@@ -3,14 +3,14 @@ use Rattle.std.specs.Prelude.{◌≡◌, ◌≢◌, ◌⊎◌, ℕ, Bool, true, 
 use Rattle.vt_value.specs.Values.{Row}
 use Rattle.vschema.specs.declared.schema.VSchema.{VSchema}
 use Rattle.keyrange.specs.Ranges.{is_before}
-use Rattle.shard_run.specs.declared.Shard.{Shard}
+use Rattle.shard_run.specs.declared.ShardRecord.{ShardRecord}
 use Rattle.shard_run.specs.Runs.{Run, Opening}
 use Rattle.shard_run.specs.Copies.{table_at, has_copied_all}
 use Rattle.shard_law.specs.Legal.{IsTableOf}
 use Rattle.shard_law.specs.Law.{rows_copied}
 use Rattle.shard_contents.specs.Progress.{last_row}
-use Rattle.shard_contents.specs.declared.forward.Step.{Step}
-use Rattle.shard_contents.specs.declared.forward.Step.TheVariants.{Copied}
+use Rattle.shard_contents.specs.declared.target_steps.TargetStep.{TargetStep}
+use Rattle.shard_contents.specs.declared.target_steps.TargetStep.TheVariants.{Copied}
 
 -- one table's name is before the other's
 abbrev pub is_named_before : VSchema → ℕ → ℕ → Bool
@@ -27,12 +27,12 @@ pub record HasReached (schema : VSchema) (keyspace : ℕ) (whole : ℕ → Bool)
   pub nothing : (m : ℕ) → m ≢ n → whole m ≡ false → ends m ≡ None
 
 -- What the last Copy from a source tells of which tables are wholly copied, and of the last rows of the others.
-pub data Tells (schema : VSchema) (keyspace source : ℕ) (whole : ℕ → Bool) (ends : ℕ → Option Row) : Option Step → Type 0 where
+pub data Tells (schema : VSchema) (keyspace source : ℕ) (whole : ℕ → Bool) (ends : ℕ → Option Row) : Option TargetStep → Type 0 where
   none : ((n : ℕ) → whole n ≡ false) → ((n : ℕ) → ends n ≡ None) → Tells schema keyspace source whole ends None
   copied : (n place : ℕ) (last : Bool) (row : Option Row) → HasReached schema keyspace whole ends n last row
       → Tells schema keyspace source whole ends (Some (Copied source n place last row))
 
-abbrev pub IsLastCopy : Opening → Run → Shard → ℕ → Option Step → Type 0
+abbrev pub IsLastCopy : Opening → Run → ShardRecord → ℕ → Option TargetStep → Type 0
 IsLastCopy o run target source step =
     Tells o.schema target.place.keyspace source (has_copied_all run target.slot source) (λ n. last_row (rows_copied run target.slot source n)) step
 

@@ -11,40 +11,41 @@ use Rattle.vschema.specs.declared.schema.Query.{Query}
 use Rattle.planner.specs.declared.plans.Plan.{Plan}
 use Rattle.planner.specs.Plans.{piece_of, CanJoin, Finishes}
 use Rattle.journal.specs.Views.{PassView, new_pass}
-use Rattle.shard_run.specs.declared.Shard.{Shard}
+use Rattle.shard_run.specs.declared.ShardRecord.{ShardRecord}
 use Rattle.shard_run.specs.declared.Entry.{Entry}
 use Rattle.shard_run.specs.Runs.{Opening}
-use Rattle.shard_contents.specs.declared.outcomes.Read.{Read}
-use Rattle.shard_contents.specs.declared.outcomes.Read.TheVariants.{Rows, NotServing}
+use Rattle.shard_contents.specs.declared.outcomes.ReadOutcome.{ReadOutcome}
+use Rattle.shard_contents.specs.declared.outcomes.ReadOutcome.TheVariants.{Rows, NotServing}
 use Rattle.shard_law.specs.Legal.{IsOnItsSlot}
 use Rattle.vschema.specs.declared.schema.Place.{Place}
 use Rattle.serving.specs.Partitions.{Seat, IsPartition}
-use Rattle.shard_contents.specs.Shards.{HasLooked, Answers}
+use Rattle.shard_law.specs.Entries.{HasLooked}
+use Rattle.shard_contents.specs.Shards.{AnswersQuery}
 use Rattle.shard_calls.specs.declared.reply.ShardRead.{ShardRead}
 use Rattle.vschema.specs.declared.changes.Write.{Write}
 use Rattle.sql_eval.specs.Writes.{written_table}
 use Rattle.planner.specs.Routes.{table_at, write_route}
-use Rattle.shard_contents.specs.declared.limits.Limits.{Limits}
-use Rattle.shard_contents.specs.declared.outcomes.Committed.{Committed}
-use Rattle.shard_contents.specs.declared.outcomes.Committed.TheVariants as c
+use Rattle.shard_law.specs.declared.limits.Limits.{Limits}
+use Rattle.shard_contents.specs.declared.outcomes.CommitOutcome.{CommitOutcome}
+use Rattle.shard_contents.specs.declared.outcomes.CommitOutcome.TheVariants as c
 use Rattle.shard_calls.specs.declared.reply.Answer.TheVariants.{Count}
 use Rattle.shard_calls.specs.Answers.{needed, HasGoneOn, HasGone, HasServed, HasWritten, IsHeldUp, is_writable}
 
 -- a shard's slot and place, the query that it is asked, and the pass by which it is read
-pub record Asked : Type 0 where
+pub record ShardRequest : Type 0 where
   pub slot : ℕ
   pub place : Place
   pub query : Query
   pub pass : PassView Entry
 
 -- its slot, the pass once it was read, and what it gave
-pub record Given : Type 0 where
+pub record ShardReply : Type 0 where
   pub slot : ℕ
   pub pass : PassView Entry
-  pub outcome : Result Read Refusal
+  pub outcome : Result ReadOutcome Refusal
 
 -- each shard that the plan needs is asked its piece, by a pass that has seen the run
-abbrev pub asked : Table → Plan → List Entry → Seat → Asked
+abbrev pub asked : Table → Plan → List Entry → Seat → ShardRequest
 asked t p before seat = record {
   slot = seat.0;
   place = record { keyspace = t.keyspace; range = seat.1 };
@@ -57,64 +58,64 @@ abbrev pub AreConsecutive : ℕ → List ℕ → Type 0
 AreConsecutive n [] = Unit {0}
 AreConsecutive n (x ∷ xs) = (x ≡ n) × AreConsecutive (n + 1) xs
 
-abbrev pub all_asked : Table → Plan → List Entry → List Seat → List Asked
+abbrev pub all_asked : Table → Plan → List Entry → List Seat → List ShardRequest
 all_asked t p before seats = map (asked t p before) (needed t p.route seats)
 
 -- the shard of this slot and place was read at one look, unless a growth was refused
-pub record IsReadingOf (o : Opening) (a : Asked) (g : Given) : Type 0 where
+pub record IsReadingOf (o : Opening) (a : ShardRequest) (g : ShardReply) : Type 0 where
   pub slot : g.slot ≡ a.slot
-  pub shard : Shard
+  pub shard : ShardRecord
   pub stands : IsOnItsSlot o g.pass.seen shard
   pub served : HasServed o g.pass.seen shard
   pub on_slot : shard.slot ≡ a.slot
   pub in_place : shard.place ≡ a.place
   pub looked : HasLooked o a.slot a.pass g.pass
-  pub read : IfOk g.outcome (Answers o g.pass.seen shard a.query)
+  pub read : IfOk g.outcome (AnswersQuery o g.pass.seen shard a.query)
   pub refused : IfErr g.outcome (λ e. e ≡ OutOfMemory)
 
-abbrev pub rows_of_read : Read → List Row
+abbrev pub rows_of_read : ReadOutcome → List Row
 rows_of_read (Rows r) = r.rows
 rows_of_read NotServing = []
 
-abbrev pub entries_of_read : Read → ℕ
+abbrev pub entries_of_read : ReadOutcome → ℕ
 entries_of_read (Rows r) = r.entries
 entries_of_read NotServing = 0
 
-abbrev pub has_rows : Read → Bool
+abbrev pub has_rows : ReadOutcome → Bool
 has_rows (Rows r) = true
 has_rows NotServing = false
 
-abbrev pub outcome_rows : Result Read Refusal → List Row
+abbrev pub outcome_rows : Result ReadOutcome Refusal → List Row
 outcome_rows (Ok r) = rows_of_read r
 outcome_rows (Err e) = []
 
-abbrev pub entries_in : Result Read Refusal → ℕ
+abbrev pub entries_in : Result ReadOutcome Refusal → ℕ
 entries_in (Ok r) = entries_of_read r
 entries_in (Err e) = 0
 
-abbrev pub is_read : Result Read Refusal → Bool
+abbrev pub is_read : Result ReadOutcome Refusal → Bool
 is_read (Ok r) = has_rows r
 is_read (Err e) = false
 
 -- the rows that a shard gave, and what the reply tells of it
-abbrev pub given_rows : Given → List Row
+abbrev pub given_rows : ShardReply → List Row
 given_rows g = outcome_rows g.outcome
 
-abbrev pub given_read : Given → ShardRead
+abbrev pub given_read : ShardReply → ShardRead
 given_read g = record { slot = g.slot; entries = entries_in g.outcome }
 
-abbrev pub given_looks : Given → List (ℕ × ℕ)
+abbrev pub given_looks : ShardReply → List (ℕ × ℕ)
 given_looks g = g.pass.looks
 
 -- The pass has seen what the readings' passes have seen, their looks are added to its own, and each gave rows.
-pub record IsGathered (o : Opening) (gs : List Given) (p now : PassView Entry) : Type 0 where
+pub record IsGathered (o : Opening) (gs : List ShardReply) (p now : PassView Entry) : Type 0 where
   pub gone : HasGoneOn o p (flat_map given_looks gs) now
   pub seen : AllByRecursion (λ g. IsPrefix g.pass.seen now.seen) gs
   pub answered : AllByRecursion (λ g. is_read g.outcome ≡ true) gs
 
 -- one of the shards doesn't serve, and the pass has seen what the reading's pass has seen
-pub record IsStalled (gs : List Given) (now : PassView Entry) : Type 0 where
-  pub given : Given
+pub record IsStalled (gs : List ShardReply) (now : PassView Entry) : Type 0 where
+  pub given : ShardReply
   pub there : Contains gs given
   pub held_up : given.outcome ≡ Ok NotServing
   pub seen : IsPrefix given.pass.seen now.seen
@@ -125,7 +126,7 @@ pub record IsScattered (o : Opening) (t : Table) (plan : Plan) (p : PassView Ent
   pub partition : IsPartition seats
   pub since : PassView Entry
   pub gone : HasGone o p since
-  pub gs : List Given
+  pub gs : List ShardReply
   pub given : AllZip (IsReadingOf o) (all_asked t plan since.seen seats) gs
   pub gathered : IsGathered o gs since now
   pub pieces_are : pieces ≡ map given_rows gs
@@ -150,7 +151,7 @@ pub record IsFinished (o : Opening) (t : Table) (plan : Plan) (p : PassView Entr
   pub finished : Finishes plan.finish (flat_map (λ l. l) pieces) rows
 
 -- a count, or the write again if its shard took no commits
-abbrev pub tried : Committed → Result ℕ Write
+abbrev pub tried : CommitOutcome → Result ℕ Write
 tried (c.Count n) = Ok n
 tried (c.Frozen w) = Err w
 tried (c.NotServing w) = Err w

@@ -8,7 +8,7 @@ use Rattle.vschema.specs.declared.changes.RowChange.{RowChange}
 use Rattle.vschema.specs.Database.{Database}
 use Rattle.sql_eval.specs.Writes.{changes_of}
 use Rattle.shard_run.specs.Openings.{row_count}
-use Rattle.shard_contents.specs.declared.limits.Limits.{Limits}
+use Rattle.shard_law.specs.declared.limits.Limits.{Limits}
 use Rattle.shard_contents.specs.Commits.{inserted_rows}
 
 -- the limits by counts alone: entries of all kinds, stored entries and rows before the write, of which only an INSERT adds rows

@@ -1,6 +1,6 @@
 -- Room for a Copy by counts.
 use Rattle.std.specs.Prelude.{ℕ, ◌+◌, ◌^◌, ◌&&◌, nat_lt, nat_le, Bool}
-use Rattle.shard_contents.specs.declared.limits.Limits.{Limits}
+use Rattle.shard_law.specs.declared.limits.Limits.{Limits}
 
 -- the limits by counts alone: entries of all kinds, the rows before the Copy, and its own
 abbrev pub has_room_to_copy : Limits → ℕ → ℕ → ℕ → Bool

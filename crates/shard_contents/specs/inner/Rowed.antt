@@ -4,11 +4,11 @@ use Rattle.vt_value.specs.Values.{Row}
 use Rattle.vschema.specs.declared.schema.VSchema.{VSchema}
 use Rattle.keyrange.specs.Ranges.{is_before}
 use Rattle.shard_run.specs.Copies.{table_at}
-use Rattle.shard_contents.specs.declared.forward.Step.{Step}
-use Rattle.shard_contents.specs.declared.forward.Step.TheVariants.{Followed, Copied}
+use Rattle.shard_contents.specs.declared.target_steps.TargetStep.{TargetStep}
+use Rattle.shard_contents.specs.declared.target_steps.TargetStep.TheVariants.{Followed, Copied}
 
 -- the last row that the step copied of the table from the source
-abbrev pub row_of : ℕ → ℕ → Step → Option Row
+abbrev pub row_of : ℕ → ℕ → TargetStep → Option Row
 row_of source table (Followed from place) = None
 row_of source table (Copied from of place last row) = if (from == source) && (of == table) then row else None
 

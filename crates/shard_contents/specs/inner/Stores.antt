@@ -7,8 +7,8 @@ use Rattle.vschema.specs.declared.changes.RowChange.TheVariants.{Added, Replaced
 use Rattle.vschema.specs.Schema.{key_of}
 use Rattle.vschema.specs.Database.{same_row, without}
 use Rattle.sql_eval.specs.Conditions.{is_kept}
-use Rattle.shard_contents.specs.declared.behind.Wanted.{Wanted}
-use Rattle.shard_contents.specs.declared.behind.Wanted.TheVariants.{All, Kept, Keyed}
+use Rattle.shard_contents.specs.declared.transaction_rows.RowSelection.{RowSelection}
+use Rattle.shard_contents.specs.declared.transaction_rows.RowSelection.TheVariants.{All, Kept, Keyed}
 
 -- what a change leaves of the rows of its table
 abbrev pub row_after : RowChange → List Row → List Row
@@ -17,7 +17,7 @@ row_after (Replaced n old new) rows = without old rows ++ new ∷ []
 row_after (Removed n row) rows = without row rows
 
 -- the row is one that a statement looks at
-abbrev pub is_wanted : Wanted → Row → Bool
-is_wanted All row = true
-is_wanted (Kept condition) row = is_kept condition.now row
-is_wanted (Keyed t new) row = list_any (λ n. same_row (key_of t.now n) (key_of t.now row)) new.now
+abbrev pub is_selected : RowSelection → Row → Bool
+is_selected All row = true
+is_selected (Kept condition) row = is_kept condition.now row
+is_selected (Keyed t new) row = list_any (λ n. same_row (key_of t.now n) (key_of t.now row)) new.now

@@ -4,8 +4,8 @@ use Rattle.std.specs.List.{list_any}
 use Rattle.std.specs.Ordering.{is_lt}
 use Rattle.std.specs.Cmp.Lexicographic.{slice_cmp}
 use Rattle.vt_value.specs.Values.{Row, value_cmp, same_row}
-use Rattle.shard_store.specs.declared.gone.LentRow.{LentRow}
-use Rattle.shard_store.specs.declared.gone.Gap.{Gap}
+use Rattle.shard_store.specs.declared.removed_rows.LentRow.{LentRow}
+use Rattle.shard_store.specs.declared.removed_rows.Gap.{Gap}
 use Rattle.shard_store.specs.inner.Overlays.{lent_key}
 
 -- the key is before the row's, if a row is given

@@ -10,7 +10,7 @@ use Rattle.sql_eval.specs.Conditions.{truth_at}
 use Rattle.shard_store.specs.Slots.{rows_in}
 use Rattle.shard_store.specs.Tables.{TableView, begins_with}
 use Rattle.shard_store.specs.Chosen.{slots_chosen, fits}
-use Rattle.shard_store.specs.declared.fixed.Fixed.{Fixed}
+use Rattle.shard_store.specs.declared.equalities.Fixed.{Fixed}
 use Rattle.shard_store.specs.declared.walk.ChosenSlots.{ChosenSlots}
 
 -- rows, and the column by whose values they are looked up
@@ -33,12 +33,12 @@ passes own row = list_all (λ c. is_true (truth_at row c.now)) own
 
 -- the column is the first by whose values a table's rows are stored
 abbrev pub IsFirstKey : ℕ → List ℕ → Type 0
-IsFirstKey column places = (0 < length places) × (slice_index places 0 ≡ column)
+IsFirstKey column ordinals = (0 < length ordinals) × (slice_index ordinals 0 ≡ column)
 
 -- a table's rows in slots are looked up by their first key column
 abbrev pub StoredBy : ℕ → Option (Bor TableView) → Type 0
 StoredBy column None = Unit {0}
-StoredBy column (Some t) = IsFirstKey column t.now.places
+StoredBy column (Some t) = IsFirstKey column t.now.ordinals
 
 abbrev pub stored_rows : Option (Bor TableView) → List Row
 stored_rows None = []
@@ -47,7 +47,7 @@ stored_rows (Some t) = rows_in t.now.slots
 -- those of them that have a value there
 abbrev pub stored_with : Value → Option (Bor TableView) → List Row
 stored_with v None = []
-stored_with v (Some t) = filter (begins_with t.now.places v) (rows_in t.now.slots)
+stored_with v (Some t) = filter (begins_with t.now.ordinals v) (rows_in t.now.slots)
 
 abbrev pub rows_lent : List (Bor Row) → List Row
 rows_lent rows = map (λ r. r.now) rows

@@ -14,5 +14,5 @@ rows_left (Chosen rows) = slots_chosen rows
 
 -- rows that come with their slots are at their keys
 abbrev pub AreKeyed : List ℕ → SlotsLeft → Type 0
-AreKeyed places (All slots) = AllByRecursion (IsAtItsKey places) slots
-AreKeyed places (Chosen rows) = ⊤
+AreKeyed ordinals (All slots) = AllByRecursion (IsAtItsKey ordinals) slots
+AreKeyed ordinals (Chosen rows) = ⊤

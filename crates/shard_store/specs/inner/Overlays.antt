@@ -5,7 +5,7 @@ use Rattle.std.specs.declared.cmp.Ordering.{Ordering}
 use Rattle.std.specs.Cmp.Lexicographic.{slice_cmp}
 use Rattle.vt_value.specs.Values.{Row, value_cmp, same_row}
 use Rattle.shard_store.specs.Tables.{key_at}
-use Rattle.shard_store.specs.declared.gone.LentRow.{LentRow}
+use Rattle.shard_store.specs.declared.removed_rows.LentRow.{LentRow}
 
 -- the row's values in the columns
 abbrev pub lent_key : LentRow → Row

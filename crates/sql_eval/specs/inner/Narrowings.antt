@@ -5,7 +5,7 @@ use Rattle.std.specs.Ordering.{nat_cmp}
 use Rattle.std.specs.BTreeMap.{get}
 use Rattle.sql_tree.specs.declared.Item.{Item}
 use Rattle.vschema.specs.declared.schema.Query.{Query}
-use Rattle.sql_eval.specs.Narrowing.{item_code, same_item, distinct_items, narrowed, whole_items, whole_places, ShowsAt}
+use Rattle.sql_eval.specs.Narrowing.{item_code, same_item, distinct_items, narrowed, whole_items, whole_ordinals, ShowsAt}
 use Rattle.sql_eval.specs.declared.narrowed.Seen.{Seen}
 use Rattle.sql_eval.specs.declared.narrowed.Whole.{Whole}
 
@@ -20,7 +20,7 @@ are_apart (i ∷ items) = not (has_item i items) && are_apart items
 -- each item so far is once among the distinct ones, at its place, by its number
 pub record IsSeen (items : List (Item ℕ)) (s : Seen) : Type 0 where
   pub distinct : s.items ≡ distinct_items items
-  pub shown : map (slice_get s.items) s.places ≡ map Some items
+  pub shown : map (slice_get s.items) s.ordinals ≡ map Some items
   pub known : (i : Item ℕ) (p : ℕ) → get nat_cmp s.by_code (item_code i) ≡ Some p → slice_get s.items p ≡ Some i
   pub unknown : (i : Item ℕ) → get nat_cmp s.by_code (item_code i) ≡ None → has_item i s.items ≡ false
 
@@ -30,4 +30,4 @@ whole_query q w = record q { items = whole_items w q.items }
 
 pub record IsNarrowing (q : Query) (w : Option Whole) : Type 0 where
   pub narrow : q ≡ narrowed (whole_query q w)
-  pub shows : ShowsAt (whole_query q w) (whole_places w)
+  pub shows : ShowsAt (whole_query q w) (whole_ordinals w)

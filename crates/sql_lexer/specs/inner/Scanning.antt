@@ -3,8 +3,8 @@ use Rattle.std.specs.Prelude.{ℕ, zero, suc, ◌+◌, ◌==◌, nat_le, Bool, f
 use Rattle.std.specs.List.{find}
 use Rattle.vt_value.specs.declared.value.Comparison.{Comparison}
 use Rattle.vt_value.specs.declared.value.Comparison.TheVariants.{Eq, Ne, Lt, Le, Gt, Ge}
-use Rattle.sql_lexer.specs.declared.body.Place.{Place}
-use Rattle.sql_lexer.specs.declared.body.Place.TheVariants.{Inside, BehindQuote, BehindBackslash}
+use Rattle.sql_lexer.specs.declared.body.TextState.{TextState}
+use Rattle.sql_lexer.specs.declared.body.TextState.TheVariants.{Inside, AfterQuote, AfterBackslash}
 use Rattle.sql_lexer.specs.declared.token.Keyword as K
 use Rattle.sql_lexer.specs.declared.token.Sign as S
 use Rattle.sql_lexer.specs.declared.token.Sign.TheVariants.{LeftParenthesis, RightParenthesis, Comma, Semicolon, Star, Minus, Dot}
@@ -51,18 +51,18 @@ quoted_at bytes =
     then Some (Quoted, run is_word_byte bytes + 2) else None
 
 -- the place in a text after a byte, unless the text ended before it
-abbrev pub after_byte : Place → ℕ → Option Place
-after_byte Inside b = if b == 0x27 then Some BehindQuote else if b == 0x5C then Some BehindBackslash else Some Inside
-after_byte BehindQuote b = if b == 0x27 then Some Inside else None
-after_byte BehindBackslash b = Some Inside
+abbrev pub after_byte : TextState → ℕ → Option TextState
+after_byte Inside b = if b == 0x27 then Some AfterQuote else if b == 0x5C then Some AfterBackslash else Some Inside
+after_byte AfterQuote b = if b == 0x27 then Some Inside else None
+after_byte AfterBackslash b = Some Inside
 
-abbrev pub closed : ℕ → Place → Option ℕ
+abbrev pub closed : ℕ → TextState → Option ℕ
 closed n Inside = None
-closed n BehindQuote = Some n
-closed n BehindBackslash = None
+closed n AfterQuote = Some n
+closed n AfterBackslash = None
 
 -- how many bytes a text has after its first quote, if it is closed: n of them before these
-unfoldable pub text_len : ℕ → Place → List ℕ → Option ℕ
+unfoldable pub text_len : ℕ → TextState → List ℕ → Option ℕ
 text_len n place [] = closed n place
 text_len n place (b ∷ bytes) = elim (after_byte place b) [ Some next ↦ text_len (n + 1) next bytes | None ↦ Some n ]
 

@@ -18,7 +18,7 @@ use Rattle.sql_tree.specs.declared.Item.TheVariants as shown
 use Rattle.sql_tree.specs.declared.SelectList.{SelectList}
 use Rattle.sql_tree.specs.declared.SelectList.TheVariants.{All, Items}
 use Rattle.sql_tree.specs.declared.Key.{Key}
-use Rattle.sql_tree.specs.declared.Limit.{Limit}
+use Rattle.sql_tree.specs.declared.LimitClause.{LimitClause}
 use Rattle.sql_tree.specs.declared.Assignment.{Assignment}
 use Rattle.sql_tree.specs.declared.CharacterSet.{CharacterSet}
 use Rattle.sql_tree.specs.declared.CharacterSet.TheVariants as charset
@@ -98,12 +98,12 @@ abbrev pub qualified_by : Name → Read Name → Read ColumnName
 qualified_by table read = read >>= λ name. Some (record { table = Some table; name = name.0 }, name.1)
 
 -- a name, and after a dot the one that it qualifies
-unfoldable pub behind_name_at : Name → Lexemes → Read ColumnName
-behind_name_at bytes (sign Dot ∷ rest) = qualified_by bytes (name_at rest)
-behind_name_at bytes rest = Some (record { table = None; name = bytes }, rest)
+unfoldable pub after_name_at : Name → Lexemes → Read ColumnName
+after_name_at bytes (sign Dot ∷ rest) = qualified_by bytes (name_at rest)
+after_name_at bytes rest = Some (record { table = None; name = bytes }, rest)
 
 unfoldable pub column_at : Lexemes → Read ColumnName
-column_at ts = name_at ts >>= λ name. behind_name_at name.0 name.1
+column_at ts = name_at ts >>= λ name. after_name_at name.0 name.1
 
 unfoldable pub number_at : Lexemes → Read ℕ
 number_at [] = None
@@ -134,7 +134,7 @@ literal_at ts = natural_at ts
 
 unfoldable pub operand_at : Lexemes → Read (Operand ColumnName)
 operand_at [] = None
-operand_at (identifier bytes ∷ rest) = behind_name_at bytes rest >>= λ column. Some (Column column.0, column.1)
+operand_at (identifier bytes ∷ rest) = after_name_at bytes rest >>= λ column. Some (Column column.0, column.1)
 operand_at ts = literal_at ts >>= λ v. Some (Literal v.0, v.1)
 
 -- (x,..)
@@ -242,8 +242,8 @@ joined_on_at ts = do
   table ← name_at ts
   rest ← on_at table.1
   left ← column_at rest
-  behind ← equals_at left.1
-  right ← column_at behind
+  trailing ← equals_at left.1
+  right ← column_at trailing
   Some (record { table = table.0; left = left.0; right = right.0 }, right.1)
 
 unfoldable pub join_at : Lexemes → Read (Option JoinOn)
@@ -276,7 +276,7 @@ unfoldable pub offset_at : Lexemes → Read ℕ
 offset_at (keyword k.Offset ∷ rest) = number_at rest
 offset_at ts = Some (0, ts)
 
-unfoldable pub limit_at : Lexemes → Read (Option Limit)
+unfoldable pub limit_at : Lexemes → Read (Option LimitClause)
 limit_at (keyword k.Limit ∷ rest) = do
   count ← number_at rest
   offset ← offset_at count.1

@@ -3,7 +3,7 @@ use Rattle.std.specs.Prelude.{Bool, not, ◌&&◌, Option, Some, None, Result, O
 use Rattle.vt_value.specs.declared.value.Value.{Value}
 use Rattle.vt_value.specs.declared.refusal.Refusal.{Refusal}
 use Rattle.vt_value.specs.Values.{is_null}
-use Rattle.vschema_document.specs.declared.column.Column.{Column}
+use Rattle.vschema_json.specs.declared.column.Column.{Column}
 use Rattle.vschema.specs.declared.changes.Write.{Write}
 use Rattle.vschema.specs.declared.write_checks.StoredCheck.{StoredCheck}
 use Rattle.vschema.specs.declared.write_checks.StoredCheck.TheVariants.{OtherKind, WrongNull, OutOfRange, TooLong}

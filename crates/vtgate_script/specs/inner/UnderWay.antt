@@ -10,21 +10,21 @@ use Rattle.shard_run.specs.declared.Entry.{Entry}
 use Rattle.shard_run.specs.Runs.{Run, Opening}
 use Rattle.shard_calls.specs.declared.reply.Answer.{Answer}
 use Rattle.shard_calls.specs.declared.reply.Reply.{Reply}
-use Rattle.shard_contents.specs.Shards.{commit_of}
+use Rattle.shard_law.specs.Entries.{commit_of}
 use Rattle.shard_calls.specs.Pendings.{OpenView, IsOf}
-use Rattle.session_replies.specs.Outcomes.{PassAndTransaction, IsKept, HasRows}
+use Rattle.conversation.specs.Means.{PassAndTransaction, IsKept, HasRows}
 use Rattle.session.specs.inner.TypedSteps.{AreTyped}
 use Rattle.vtgate_lines.specs.Printed.{refusal_text}
-use Rattle.vtgate_script.specs.Scripted.{Session, Progress, Prints, PrintsAt, met, answer_text}
+use Rattle.vtgate_script.specs.Scripted.{Session, ScriptProgress, Prints, PrintsAt, met, answer_text}
 
 -- a session's pass, and what is kept of its open transaction
-pub record Kept : Type 0 where
+pub record KeptState : Type 0 where
   pub pass : PassView Entry
   pub tx : Option OpenView
 
 pub record KeptSession : Type 0 where
   pub name : List ℕ
-  pub kept : Kept
+  pub kept : KeptState
 
 -- what is kept of what a script has come to
 pub record KeptProgress : Type 0 where
@@ -35,7 +35,7 @@ pub record KeptProgress : Type 0 where
 abbrev pub nothing_kept : KeptProgress
 nothing_kept = record { sessions = []; seen = [] }
 
-abbrev pub IsKeptOf : Opening → Kept → PassAndTransaction → Type 0
+abbrev pub IsKeptOf : Opening → KeptState → PassAndTransaction → Type 0
 IsKeptOf o k s = IsKept o k.pass k.tx s × AreTyped o s.tx
 
 -- it is kept of these sessions, in their order
@@ -45,21 +45,21 @@ AreKept o [] (s ∷ ss) = ⊥
 AreKept o (k ∷ ks) [] = ⊥
 AreKept o (k ∷ ks) (s ∷ ss) = (k.name ≡ s.name) × IsKeptOf o k.kept s.state × AreKept o ks ss
 
-pub record IsProgressOf (o : Opening) (k : KeptProgress) (s : Progress) : Type 0 where
+pub record IsProgressOf (o : Opening) (k : KeptProgress) (s : ScriptProgress) : Type 0 where
   pub sessions : AreKept o k.sessions s.sessions
   pub seen : k.seen ≡ s.seen
 
 -- the pass is a session's, has seen no more than all lines, and what is kept stands for a transaction of it
-abbrev pub IsBehind : Opening → Run → KeptSession → Type 0
-IsBehind o seen s = IsSome s.kept.pass.session × IsPrefix s.kept.pass.seen seen × IsOf o s.kept.tx s.kept.pass
+abbrev pub HasSeenLess : Opening → Run → KeptSession → Type 0
+HasSeenLess o seen s = IsSome s.kept.pass.session × IsPrefix s.kept.pass.seen seen × IsOf o s.kept.tx s.kept.pass
 
 -- what is printed for a statement after all that was seen, from what is kept to what is kept then
-abbrev pub PrintsFrom : Opening → Run → Kept → List ℕ → List ℕ → Kept → Type 0
+abbrev pub PrintsFrom : Opening → Run → KeptState → List ℕ → List ℕ → KeptState → Type 0
 PrintsFrom o seen k sql text then =
     (s : PassAndTransaction) → IsKeptOf o k s → (now : PassAndTransaction) × IsKeptOf o then now × Prints o (met seen s) sql text now
 
 -- the same, while no other session commits
-abbrev pub PrintsHere : Opening → Run → Kept → List ℕ → List ℕ → Kept → Type 0
+abbrev pub PrintsHere : Opening → Run → KeptState → List ℕ → List ℕ → KeptState → Type 0
 PrintsHere o seen k sql text then =
     (s : PassAndTransaction) → IsKeptOf o k s → (now : PassAndTransaction) × IsKeptOf o then now × PrintsAt o (met seen s) sql text now
 
@@ -75,11 +75,11 @@ pub record IsKnown (opened : ℕ) (seen : Run) (sessions : List KeptSession) : T
   pub unopened : (n : ℕ) → opened ≤ n → filter (by_session commit_of n) seen ≡ []
 
 -- the session of the name is at the place; if there was none, it was opened there
-pub data HasOpened (s : KeptProgress) (name : List ℕ) (place : ℕ) : KeptProgress → Type 0 where
-  was : place < length s.sessions → ((d : KeptSession) → (slice_index_or s.sessions place d).name ≡ name) → HasOpened s name place s
-  opened : AllByRecursion (λ x. x.name ≢ name) s.sessions → place ≡ length s.sessions
-      → HasOpened s name place
-      (record s { sessions = s.sessions ++ record { name = name; kept = record { pass = new_pass s.seen (Some place); tx = None } } ∷ [] })
+pub data HasOpened (s : KeptProgress) (name : List ℕ) (ordinal : ℕ) : KeptProgress → Type 0 where
+  was : ordinal < length s.sessions → ((d : KeptSession) → (slice_index_or s.sessions ordinal d).name ≡ name) → HasOpened s name ordinal s
+  opened : AllByRecursion (λ x. x.name ≢ name) s.sessions → ordinal ≡ length s.sessions
+      → HasOpened s name ordinal
+      (record s { sessions = s.sessions ++ record { name = name; kept = record { pass = new_pass s.seen (Some ordinal); tx = None } } ∷ [] })
 
 -- what is printed of an answer; if there is no memory for its rows, that
 abbrev pub IsShown : Answer → List ℕ → Type 0

@@ -18,5 +18,5 @@ pub loop-rest-preserved : goal.loop-rest-preserved
 loop-rest-preserved c =
     let held : is_held_mode (take c.part_len-count.result c.loop-rest.rest.now) ≡ true = sym c.is_held_mode.ensures ∙ c.if-not-is_held_mode.false in
     let some : c.part_len-count.result < length c.loop-rest.rest.now = omega arith in
-    rw c.behind-rest.ensures
+    rw c.text_after-rest.ensures
     (sym (held_more c.loop-rest.rest.now c.part_len-count.result c.part_len-count.ensures.value some held) ∙ c.loop-rest.invariant)

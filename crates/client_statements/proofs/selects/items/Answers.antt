@@ -2,7 +2,7 @@ use Rattle.std.proofs.Common.{◌≡◌, ◌+◌, ◌-◌, ◌<◌, ◌∙◌, �
 use Rattle.std.proofs.lemmas.Result.{err_from_is_err_and}
 use Rattle.sql_lexer.specs.inner.Results.{Fails}
 use Rattle.client_tokens.specs.Pieces.{lexemes_of}
-use Rattle.client_statements.specs.declared.statement.Item.{Item}
+use Rattle.client_statements.specs.declared.statement.SelectItem.{SelectItem}
 use Rattle.client_statements.specs.Grammar.{items_at, ends_select, begins_with_comma}
 use Rattle.client_statements.proofs.Lists.{item_fails, last_item, wrong_after_item, more_items, no_items}
 use Rattle.client_statements.proofs.selects.items.Goals as goal
@@ -18,30 +18,30 @@ pub returns-then-ends_select : goal.returns-then-ends_select
 returns-then-ends_select c =
     let n = length c.args.tokens.now - c.loop.counter in
     let some : 0 < n = omega arith in
-    let ends : ends_select (lexemes_of c.args.text.now c.in_ok-item.behind.now) ≡ true = sym c.ends_select.ensures ∙ c.if-ends_select.true in
+    let ends : ends_select (lexemes_of c.args.text.now c.in_ok-item.trailing.now) ≡ true = sym c.ends_select.ensures ∙ c.if-ends_select.true in
     sym c.loop.invariant
-    ∙ last_item c.args.text.now c.loop.items c.loop.rest.now c.in_ok-item.item c.in_ok-item.behind.now c.in_ok-item.ensures n some ends
-    ∙ ap (λ (xs : List Item). Some xs) (sym c.in_ok-push.ensures.ok)
+    ∙ last_item c.args.text.now c.loop.items c.loop.rest.now c.in_ok-item.item c.in_ok-item.trailing.now c.in_ok-item.ensures n some ends
+    ∙ ap (λ (xs : List SelectItem). Some xs) (sym c.in_ok-push.ensures.ok)
 
 pub returns-then-not-begins_with_comma : goal.returns-then-not-begins_with_comma
 returns-then-not-begins_with_comma c =
     let n = length c.args.tokens.now - c.loop.counter in
-    let ends : ends_select (lexemes_of c.args.text.now c.in_ok-item.behind.now) ≡ false = sym c.ends_select.ensures ∙ c.if-ends_select.false in
-    let comma : begins_with_comma (lexemes_of c.args.text.now c.in_ok-item.behind.now) ≡ false =
+    let ends : ends_select (lexemes_of c.args.text.now c.in_ok-item.trailing.now) ≡ false = sym c.ends_select.ensures ∙ c.if-ends_select.false in
+    let comma : begins_with_comma (lexemes_of c.args.text.now c.in_ok-item.trailing.now) ≡ false =
     sym (c.begins_with_comma.ensures c.args.text.now) ∙ c.if-not-begins_with_comma.true in
     sym c.loop.invariant
-    ∙ wrong_after_item c.args.text.now c.loop.items c.loop.rest.now c.in_ok-item.item c.in_ok-item.behind.now c.in_ok-item.ensures n ends comma
+    ∙ wrong_after_item c.args.text.now c.loop.items c.loop.rest.now c.in_ok-item.item c.in_ok-item.trailing.now c.in_ok-item.ensures n ends comma
 
 pub loop-preserved : goal.loop-preserved
 loop-preserved c =
     let n = length c.args.tokens.now - c.loop.counter in
     let m = length c.args.tokens.now - (c.loop.counter + 1) in
     let one : n ≡ suc m = omega arith in
-    let ends : ends_select (lexemes_of c.args.text.now c.in_ok-item.behind.now) ≡ false = sym c.ends_select.ensures ∙ c.if-ends_select.false in
-    let comma : begins_with_comma (lexemes_of c.args.text.now c.in_ok-item.behind.now) ≡ true =
+    let ends : ends_select (lexemes_of c.args.text.now c.in_ok-item.trailing.now) ≡ false = sym c.ends_select.ensures ∙ c.if-ends_select.false in
+    let comma : begins_with_comma (lexemes_of c.args.text.now c.in_ok-item.trailing.now) ≡ true =
     sym (c.begins_with_comma.ensures c.args.text.now) ∙ c.if-not-begins_with_comma.false in
     rw (c.in_ok-push.ensures.ok, c.after-rest.ensures)
-    (sym (more_items c.args.text.now c.loop.items c.loop.rest.now c.in_ok-item.item c.in_ok-item.behind.now c.in_ok-item.ensures n m one ends comma)
+    (sym (more_items c.args.text.now c.loop.items c.loop.rest.now c.in_ok-item.item c.in_ok-item.trailing.now c.in_ok-item.ensures n m one ends comma)
     ∙ c.loop.invariant)
 
 pub returns : goal.returns

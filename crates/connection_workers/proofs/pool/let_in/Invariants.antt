@@ -8,6 +8,6 @@ abbrev pub invariant-loop : goal.invariant-loop
 invariant-loop g l = record {
   puts : (view l.pass).puts ≡ true;
   of : IsPassOf l.pool.queue l.pass;
-  let_in : LetIn g.E.Entrance.gives l.fn.entrance l.entrance (view l.fn.pass).put (view l.pass).put;
+  let_in : LetIn g.E.ConnectionSource.gives l.fn.entrance l.entrance (view l.fn.pass).put (view l.pass).put;
   next : (goal.iterator-loop g).can_next l.iterator' × (goal.iterator-loop g).is_finite l.iterator';
 }

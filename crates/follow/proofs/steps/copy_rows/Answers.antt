@@ -1,6 +1,6 @@
 use Rattle.std.proofs.Common.{inr}
 use Rattle.shard_run.specs.declared.Event.TheVariants.{Copy}
-use Rattle.follow.specs.inner.Given.{rows}
+use Rattle.follow.specs.inner.NextEntries.{rows}
 use Rattle.follow.proofs.Onward.{still, has_looked}
 use Rattle.follow.proofs.Turns.{took, looked_once}
 use Rattle.follow.proofs.Moves.{on_ok_as, on_err_as, if_err_as, either_way, full_copy}

@@ -6,7 +6,7 @@ use Rattle.vschema.specs.Database.{changed_table}
 use Rattle.shard_contents.proofs.Legality.{legal_is}
 use Rattle.shard_run.specs.declared.Follow as F
 use Rattle.shard_run.specs.declared.Event.TheVariants.{Follow}
-use Rattle.follow.specs.inner.Given.{entry}
+use Rattle.follow.specs.inner.NextEntries.{entry}
 use Rattle.follow.proofs.Onward.{still, has_looked}
 use Rattle.follow.proofs.Turns.{took, looked_once}
 use Rattle.follow.proofs.Moves.{entry_there, follow_next, on_ok_as, on_err_as, if_err_as, either_way, full_follow}

@@ -1,5 +1,5 @@
 use Rattle.std.proofs.Common.{subst}
-use Rattle.follow.specs.inner.Given.{IsTakeable, nothing}
+use Rattle.follow.specs.inner.NextEntries.{IsTakeable, nothing}
 use Rattle.follow.proofs.Moves.{err_as, rows_next}
 use Rattle.follow.proofs.steps.take.Goals as goal
 

@@ -1,7 +1,7 @@
 use Rattle.std.proofs.Common.{◌≡◌, ◌⊎◌, ◌≤◌, true, sym, subst, rules}
 use Rattle.vt_value.specs.declared.refusal.Refusal.TheVariants.{OutOfMemory, ShardFull}
-use Rattle.shard_run.specs.declared.Shard.{Shard}
-use Rattle.shard_run.specs.Runs.{held}
+use Rattle.shard_run.specs.declared.ShardRecord.{ShardRecord}
+use Rattle.shard_run.specs.Runs.{shard_rows}
 use Rattle.shard_run.specs.Openings.{row_count}
 use Rattle.shard_law.specs.Law.{SourcesApart}
 use Rattle.follow.specs.declared.steps.Step.TheVariants.{Followed}
@@ -13,7 +13,7 @@ pub returns-in_err-done-clause-err : goal.returns-in_err-done-clause-err
 returns-in_err-done-clause-err g c =
     let yes : c.follows.result ≡ true = search rules in
     err_as c.from_residual.result c.in_err-done.field-0.0 _ c.from_residual.ensures.1
-    (subst (λ (s : Shard). (c.in_err-done.field-0.0 ≡ OutOfMemory) ⊎ ((c.in_err-done.field-0.0 ≡ ShardFull) × IsFull g.W.World.opening g.W.World.limits s c.come_forward.new.pass.seen))
+    (subst (λ (s : ShardRecord). (c.in_err-done.field-0.0 ≡ OutOfMemory) ⊎ ((c.in_err-done.field-0.0 ≡ ShardFull) × IsFull g.W.World.opening g.W.World.limits s c.come_forward.new.pass.seen))
     (c.follows.ensures yes).0 c.in_err-done.ensures.err)
 
 pub returns-clause-followed_within : goal.returns-clause-followed_within
@@ -23,5 +23,5 @@ returns-clause-followed_within g c e apart =
     let yes : c.follows.result ≡ true = search rules in
     let same = (c.follows.ensures yes).0 in
     let is : c.in_ok-done.done ≡ Followed = cc e in
-    subst (λ (s : Shard). row_count (held o run s) ≤ g.W.World.limits.rows) same
+    subst (λ (s : ShardRecord). row_count (shard_rows o run s) ≤ g.W.World.limits.rows) same
     (c.in_ok-done.ensures.followed_within is (subst (SourcesApart o run) (sym same) apart))

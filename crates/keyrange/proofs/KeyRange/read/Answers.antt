@@ -55,4 +55,4 @@ returns-else-is_before-clause-named c range n =
     let b : c.as_slice.result.now ≡ range.begin = cc in
     let e : c.as_slice-2.result.now ≡ end.0 = cc in
     let before : c.is_before.result ≡ is_before range.begin end.0 = cc in
-    absurd (true≢false (sym end.1.behind ∙ sym before ∙ c.if-is_before.false))
+    absurd (true≢false (sym end.1.trailing ∙ sym before ∙ c.if-is_before.false))

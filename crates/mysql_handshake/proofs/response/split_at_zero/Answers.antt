@@ -11,7 +11,7 @@ pub returns-clause-only : goal.returns-clause-only
 returns-clause-only c text rest none whole =
     let front = c.split_at.result.0.now in
     let back = c.split_at.result.1.now in
-    let behind : List ℕ = take (length back - 1) (drop 1 back) in
-    let found : c.args.bytes.now ≡ front ++ (0x00 ∷ behind) = grind (arith, common_steps) in
+    let trailing : List ℕ = take (length back - 1) (drop 1 back) in
+    let found : c.args.bytes.now ≡ front ++ (0x00 ∷ trailing) = grind (arith, common_steps) in
     let first : HasNoZero front = subst HasNoZero (sym c.split_at.ensures.front) c.in_ok-at.ensures.first in
-    zero_splits front text behind rest first none (sym found ∙ whole)
+    zero_splits front text trailing rest first none (sym found ∙ whole)

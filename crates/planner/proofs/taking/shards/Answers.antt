@@ -3,10 +3,10 @@ use Rattle.std.proofs.lemmas.Grind.{common_steps}
 use Rattle.std.specs.Prelude.{zip}
 use Rattle.keyrange.specs.declared.KeyRange.{KeyRange}
 use Rattle.vschema.specs.declared.schema.Table.{Table}
-use Rattle.vschema.specs.Resolved.{places_from}
+use Rattle.vschema.specs.Resolved.{ordinals_from}
 use Rattle.planner.specs.declared.routes.Route.{Route}
 use Rattle.planner.specs.declared.routes.Route.TheVariants.{Unsharded}
-use Rattle.planner.specs.Routes.{is_sharded, takes, taken_places}
+use Rattle.planner.specs.Routes.{is_sharded, takes, taken_ordinals}
 use Rattle.planner.proofs.taking.shards.Goals as goal
 
 none_taken : (t : Table) (ranges : List (ℕ × KeyRange)) → map (λ p. p.0) (filter (λ p. is_sharded Unsharded && takes t Unsharded p.1) ranges) ≡ []
@@ -17,5 +17,5 @@ pub returns-clause-unsharded : goal.returns-clause-unsharded
 returns-clause-unsharded c = λ unsharded.
     let t = c.args.table.now in
     let ranges = c.args.ranges.now in
-    let all : c.loop-place.places.items ≡ taken_places t c.args.route.now ranges = grind (arith, common_steps) in
-    all ∙ ap (λ (r : Route). taken_places t r ranges) unsharded ∙ none_taken t (zip (places_from 0 ranges) ranges)
+    let all : c.loop-ordinal.ordinals.items ≡ taken_ordinals t c.args.route.now ranges = grind (arith, common_steps) in
+    all ∙ ap (λ (r : Route). taken_ordinals t r ranges) unsharded ∙ none_taken t (zip (ordinals_from 0 ranges) ranges)

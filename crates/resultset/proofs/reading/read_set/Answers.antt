@@ -16,7 +16,7 @@ returns-in_err-rows-clause-again c =
     let columns = c.in_ok-columns.ensures.again set.columns typed (definitions_stand c.args.end set status c.args.head.now c.args.payloads.now head e c.in-Some.count counted) in
     c.in_err-rows.ensures.again set.rows
     (rows_fit c.args.end set status c.args.head.now c.args.payloads.now head e c.in-Some.count counted c.as_slice.result.now (c.as_slice.ensures ∙ columns) fits.1)
-    (rows_stand c.args.end set status c.args.head.now c.args.payloads.now head e c.in-Some.count counted c.packets_behind_definitions-behind.result c.packets_behind_definitions-behind.ensures))
+    (rows_stand c.args.end set status c.args.head.now c.args.payloads.now head e c.in-Some.count counted c.packets_after_definitions-trailing.result c.packets_after_definitions-trailing.ensures))
 
 pub returns-clause-again : goal.returns-clause-again
 returns-clause-again c = λ set status fits typed head e.
@@ -26,5 +26,5 @@ returns-clause-again c = λ set status fits typed head e.
     let rows =
     c.in_ok-rows.ensures.again set.rows
     (rows_fit c.args.end set status c.args.head.now c.args.payloads.now head e c.in-Some.count counted c.as_slice.result.now (c.as_slice.ensures ∙ columns) fits.1)
-    (rows_stand c.args.end set status c.args.head.now c.args.payloads.now head e c.in-Some.count counted c.packets_behind_definitions-behind.result c.packets_behind_definitions-behind.ensures) in
+    (rows_stand c.args.end set status c.args.head.now c.args.payloads.now head e c.in-Some.count counted c.packets_after_definitions-trailing.result c.packets_after_definitions-trailing.ensures) in
     same_set c.args.end set status c.args.head.now c.args.payloads.now head e c.in-Some.count counted c.in_ok-columns.columns c.in_ok-rows.rows columns rows

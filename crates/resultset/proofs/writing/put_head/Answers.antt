@@ -1,6 +1,6 @@
 use Rattle.std.proofs.Common.{◌≡◌, ◌+◌, [], ◌++◌, length, map, ap, ◌∙◌, arith}
 use Rattle.mysql_packet.specs.Numbers.{length_encoded}
-use Rattle.resultset.specs.Encoding.{definition_payload, behind_definitions}
+use Rattle.resultset.specs.Encoding.{definition_payload, after_definitions}
 use Rattle.resultset.proofs.Payloads.{has_put_none, puts_one, puts_more, front_kept, on_err, more_ok, more_next, last_err, head_shape}
 use Rattle.resultset.proofs.writing.put_head.Goals as goal
 
@@ -17,8 +17,8 @@ returns c =
     in
     let shape = head_shape c.args.end c.args.status c.args.columns.now c.deref.result.now count in
     record {
-      ok = more_ok c.put_definitions_end.result _ (behind_definitions c.args.end c.args.status) _ _ _ _ _ defined shape c.put_definitions_end.ensures.ok;
-      next = more_next c.put_definitions_end.result _ (behind_definitions c.args.end c.args.status) _ _ _ _ defined shape c.put_definitions_end.ensures.next;
+      ok = more_ok c.put_definitions_end.result _ (after_definitions c.args.end c.args.status) _ _ _ _ _ defined shape c.put_definitions_end.ensures.ok;
+      next = more_next c.put_definitions_end.result _ (after_definitions c.args.end c.args.status) _ _ _ _ defined shape c.put_definitions_end.ensures.next;
       err = last_err c.put_definitions_end.result _ _ _ _ _ defined c.put_definitions_end.ensures.err;
       memory = c.put_definitions_end.ensures.memory;
       capacity = omega (arith, defined.capacity, c.put_definitions_end.ensures.capacity);

@@ -1,4 +1,4 @@
-use Rattle.session_replies.proofs.Conversations.{fed_by}
+use Rattle.conversation.proofs.Conversations.{fed_by}
 use Rattle.session.proofs.session_core.feed_parts.Goals as goal
 
 pub returns-in-Ok-answer_fed-clause-answers : goal.returns-in-Ok-answer_fed-clause-answers

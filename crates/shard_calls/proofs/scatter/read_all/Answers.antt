@@ -1,8 +1,8 @@
 use denote.Param.{param}
 use denote.Exit.{no}
 use denote.Param.Send.{param_send, arg_send}
-use Rattle.shard_calls.specs.contracts.scatter.Job as job
-use Rattle.shard_calls.specs.contracts.scatter.Done as done
+use Rattle.shard_calls.specs.contracts.scatter.ReadJob as job
+use Rattle.shard_calls.specs.contracts.scatter.ReadResult as done
 use Rattle.std.proofs.Common.{◌∙◌, sym}
 use Rattle.shard_calls.proofs.Sent.{job_send, done_send}
 use Rattle.shard_calls.proofs.Workers.{pairs}

@@ -2,12 +2,12 @@ use Rattle.std.proofs.Common.{◌≡◌, ◌∙◌, List, Bor, ap, filter, false
 use Rattle.std.specs.List.{AllByRecursion}
 use Rattle.vt_value.specs.Values.{Row}
 use Rattle.shard_store.specs.inner.Joined.{has_value, Rises, rows_lent}
-use Rattle.shard_store.proofs.RisingRows.{is_below_value, below_point, rises_behind, none_below, others_dropped}
+use Rattle.shard_store.proofs.RisingRows.{is_below_value, below_point, rises_after, none_below, others_dropped}
 use Rattle.shard_store.proofs.by_value.from_value.Goals as goal
 
 pub returns-clause-sorted : goal.returns-clause-sorted
 returns-clause-sorted c =
-    subst (Rises c.args.column) (sym c.split_at.ensures.back) (rises_behind c.args.column c.partition_point-start.result c.args.rows.now c.requires)
+    subst (Rises c.args.column) (sym c.split_at.ensures.back) (rises_after c.args.column c.partition_point-start.result c.args.rows.now c.requires)
 
 pub returns-clause-at_least : goal.returns-clause-at_least
 returns-clause-at_least c =

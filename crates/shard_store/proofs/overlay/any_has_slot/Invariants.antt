@@ -8,5 +8,5 @@ use Rattle.shard_store.proofs.overlay.any_has_slot.Given as goal
 -- the other new rows decide it
 abbrev pub invariant-loop-row : goal.invariant-loop-row
 invariant-loop-row l =
-    list_any (λ n. list_any (has_key l.stored.places (key_at l.stored.places n)) (left_of l.gone (rows_in l.stored.slots))) (drop l.row-index l.new)
-    ≡ list_any (λ n. list_any (has_key l.stored.places (key_at l.stored.places n)) (left_of l.gone (rows_in l.stored.slots))) l.new
+    list_any (λ n. list_any (has_key l.stored.ordinals (key_at l.stored.ordinals n)) (left_of l.gone (rows_in l.stored.slots))) (drop l.row-index l.new)
+    ≡ list_any (λ n. list_any (has_key l.stored.ordinals (key_at l.stored.ordinals n)) (left_of l.gone (rows_in l.stored.slots))) l.new

@@ -5,7 +5,7 @@ use Rattle.sql_eval.specs.KeyOrder.{key_cmp}
 use Rattle.sql_eval.proofs.duplicates.key_order.Given as goal
 
 -- the columns so far don't decide
-abbrev pub invariant-loop-place : goal.invariant-loop-place
-invariant-loop-place l =
-    slice_cmp value_cmp (map (value_at l.a) (drop l.place-index l.table.primary_key)) (map (value_at l.b) (drop l.place-index l.table.primary_key))
+abbrev pub invariant-loop-ordinal : goal.invariant-loop-ordinal
+invariant-loop-ordinal l =
+    slice_cmp value_cmp (map (value_at l.a) (drop l.ordinal-index l.table.primary_key)) (map (value_at l.b) (drop l.ordinal-index l.table.primary_key))
     ≡ key_cmp l.table l.a l.b

@@ -19,8 +19,8 @@ returns-clause-ok g c =
       front.0,
       front.1,
       subst (λ (keys : List (Key ℕ)). IsSorted (row_cmp keys) front.0) c.as_slice.ensures front.2,
-      is ∙ ap (λ f. map (columns_of c.args.places.now) (sliced limit (filter (is_kept f) rows))) c.plain-all.ensures
-          ∙ ap (λ l. map (columns_of c.args.places.now) (sliced limit l)) (no_condition rows ∙ front.3)
-          ∙ ap (map (columns_of c.args.places.now)) (sliced_front limit c.args.most front.0 c.requires),
+      is ∙ ap (λ f. map (columns_of c.args.ordinals.now) (sliced limit (filter (is_kept f) rows))) c.plain-all.ensures
+          ∙ ap (λ l. map (columns_of c.args.ordinals.now) (sliced limit l)) (no_condition rows ∙ front.3)
+          ∙ ap (map (columns_of c.args.ordinals.now)) (sliced_front limit c.args.most front.0 c.requires),
     ))
     c.shown.ensures.ok

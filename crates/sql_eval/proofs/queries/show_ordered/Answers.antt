@@ -16,7 +16,7 @@ returns-clause-ok g c =
       rows,
       c.in_ok-rows.ensures.permutation,
       subst (λ (keys : List (Key ℕ)). IsSorted (row_cmp keys) rows) c.as_slice.ensures c.in_ok-rows.ensures.sorted,
-      is ∙ ap (λ f. map (columns_of c.args.places.now) (sliced c.args.query.now.limit (filter (is_kept f) rows))) c.plain-all.ensures
-          ∙ ap (λ l. map (columns_of c.args.places.now) (sliced c.args.query.now.limit l)) (no_condition rows),
+      is ∙ ap (λ f. map (columns_of c.args.ordinals.now) (sliced c.args.query.now.limit (filter (is_kept f) rows))) c.plain-all.ensures
+          ∙ ap (λ l. map (columns_of c.args.ordinals.now) (sliced c.args.query.now.limit l)) (no_condition rows),
     ))
     c.shown.ensures.ok

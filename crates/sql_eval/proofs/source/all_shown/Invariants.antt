@@ -6,8 +6,8 @@ use Rattle.sql_eval.proofs.source.all_shown.Given as goal
 -- the rows so far, with those still to come, are all
 abbrev pub invariant-loop-row : goal.invariant-loop-row
 invariant-loop-row g l =
-    l.list ++ map (columns_of l.places) (filter (is_kept l.condition) (g.S.RowSource.to_come l.rows))
-    ≡ map (columns_of l.fn.places) (filter (is_kept l.fn.condition) (g.S.RowSource.to_come l.fn.rows))
+    l.list ++ map (columns_of l.ordinals) (filter (is_kept l.condition) (g.S.RowSource.to_come l.rows))
+    ≡ map (columns_of l.fn.ordinals) (filter (is_kept l.fn.condition) (g.S.RowSource.to_come l.fn.rows))
 
 abbrev pub decreases-loop-row : goal.decreases-loop-row
 decreases-loop-row g l = length (filter (is_kept l.condition) (g.S.RowSource.to_come l.rows))

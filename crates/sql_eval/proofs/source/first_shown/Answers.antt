@@ -12,6 +12,6 @@ loop-preserved g c =
     let first = rw c.in-Some.is at c.next_passing.ensures in
     let at = sym c.loop.invariant.1 ∙ first in (
       c.in_ok-push.ensures.ok ∙ (λ i. c.loop.invariant.0 i ++ c.in_ok-project_row.ensures.ok i ∷ [])
-          ∙ sym (shown_more (columns_of c.args.places.now) all left c.in-Some.row.now c.loop.counter at),
+          ∙ sym (shown_more (columns_of c.args.ordinals.now) all left c.in-Some.row.now c.loop.counter at),
       sym (drop_next all left c.in-Some.row.now c.loop.counter at),
     )

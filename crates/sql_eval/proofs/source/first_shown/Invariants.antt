@@ -6,5 +6,5 @@ use Rattle.sql_eval.proofs.source.first_shown.Given as goal
 -- what is shown is of the rows that have been lent
 abbrev pub invariant-loop : goal.invariant-loop
 invariant-loop g l =
-    (l.list ≡ map (columns_of l.places) (take l.counter (filter (is_kept l.fn.condition) (g.S.RowSource.to_come l.fn.rows))))
+    (l.list ≡ map (columns_of l.ordinals) (take l.counter (filter (is_kept l.fn.condition) (g.S.RowSource.to_come l.fn.rows))))
     × (filter (is_kept l.condition) (g.S.RowSource.to_come l.rows) ≡ drop l.counter (filter (is_kept l.fn.condition) (g.S.RowSource.to_come l.fn.rows)))

@@ -8,9 +8,9 @@ returns-else-has-clause-ok c =
     let none = rw c.as_slice.ensures at c.in_ok-has-in-Insert.ensures.ok in
     let added = rw c.as_slice-in-Insert.ensures at c.added.ensures.ok in
     IfOk-weaker c.added.result _ _
-    (λ changes is. inserts c.args.table.now c.args.write.now c.in-Insert.place c.in-Insert.new c.args.rows.now changes c.in-Insert.is (sym none ∙ c.if-has.false) is) added
+    (λ changes is. inserts c.args.table.now c.args.write.now c.in-Insert.ordinal c.in-Insert.new c.args.rows.now changes c.in-Insert.is (sym none ∙ c.if-has.false) is) added
 
 pub returns-in-Delete-clause-ok : goal.returns-in-Delete-clause-ok
 returns-in-Delete-clause-ok c =
     IfOk-weaker c.removed.result _ _
-    (λ changes is. deletes c.args.table.now c.args.write.now c.in-Delete.place c.in-Delete.condition c.args.rows.now changes c.in-Delete.is is) c.removed.ensures.ok
+    (λ changes is. deletes c.args.table.now c.args.write.now c.in-Delete.ordinal c.in-Delete.condition c.args.rows.now changes c.in-Delete.is is) c.removed.ensures.ok

@@ -5,5 +5,5 @@ use Rattle.sql_eval.proofs.writes.updated.Given as goal
 -- the list so far, with what the other rows give, is all
 abbrev pub invariant-loop-row : goal.invariant-loop-row
 invariant-loop-row l =
-    l.changes ++ flat_map (row_updates l.place l.assignments l.condition) (drop l.row-index l.rows)
-    ≡ flat_map (row_updates l.place l.assignments l.condition) l.rows
+    l.changes ++ flat_map (row_updates l.ordinal l.assignments l.condition) (drop l.row-index l.rows)
+    ≡ flat_map (row_updates l.ordinal l.assignments l.condition) l.rows

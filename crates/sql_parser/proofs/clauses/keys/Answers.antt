@@ -38,10 +38,10 @@ loop-after-preserved c =
     let text = c.args.text.now in
     let rest = lexemes_of text c.loop-after.rest.now in
     let after = lexemes_of text c.in-Some.after.now in
-    let behind = lexemes_of text c.in_ok-next.after.now in
+    let trailing = lexemes_of text c.in_ok-next.after.now in
     let b = shrinks ReadsKey _ _ (key_sound after _ c.in_ok-next.ensures) in
     rw c.in_ok-push-2.ensures.ok
-    (goes_on is_comma sort_key_at _ _ rest after c.in_ok-next.next behind (sym (c.in-Some.ensures text)) c.in_ok-next.ensures b c.loop-after.invariant)
+    (goes_on is_comma sort_key_at _ _ rest after c.in_ok-next.next trailing (sym (c.in-Some.ensures text)) c.in_ok-next.ensures b c.loop-after.invariant)
 
 pub returns : goal.returns
 returns c =

@@ -35,10 +35,10 @@ ands-loop-after-preserved n c =
     let text = c.args.text.now in
     let rest = lexemes_of text c.loop-after.rest.now in
     let after = lexemes_of text c.in-Some.after.now in
-    let behind = lexemes_of text c.in_ok-next.after.now in
+    let trailing = lexemes_of text c.in_ok-next.after.now in
     let b = shrinks (ReadsNot c.args.depth) _ _ (not_sound c.args.depth after _ c.in_ok-next.ensures) in
     rw c.in_ok-push-2.ensures.ok
-    (goes_on is_and (not_at c.args.depth) _ _ rest after c.in_ok-next.next behind (sym (c.in-Some.ensures text)) c.in_ok-next.ensures b c.loop-after.invariant)
+    (goes_on is_and (not_at c.args.depth) _ _ rest after c.in_ok-next.next trailing (sym (c.in-Some.ensures text)) c.in_ok-next.ensures b c.loop-after.invariant)
 
 pub ands-returns : goal.ands-returns
 ands-returns n c =
@@ -70,10 +70,10 @@ ors-loop-after-preserved n c =
     let text = c.args.text.now in
     let rest = lexemes_of text c.loop-after.rest.now in
     let after = lexemes_of text c.in-Some.after.now in
-    let behind = lexemes_of text c.in_ok-next.after.now in
+    let trailing = lexemes_of text c.in_ok-next.after.now in
     let b = shrinks (ReadsAnd c.args.depth) _ _ (and_sound c.args.depth after _ c.in_ok-next.ensures) in
     rw c.in_ok-push-2.ensures.ok
-    (goes_on is_or (and_at c.args.depth) _ _ rest after c.in_ok-next.next behind (sym (c.in-Some.ensures text)) c.in_ok-next.ensures b c.loop-after.invariant)
+    (goes_on is_or (and_at c.args.depth) _ _ rest after c.in_ok-next.next trailing (sym (c.in-Some.ensures text)) c.in_ok-next.ensures b c.loop-after.invariant)
 
 pub ors-returns : goal.ors-returns
 ors-returns n c =

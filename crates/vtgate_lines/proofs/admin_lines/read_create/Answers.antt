@@ -5,7 +5,7 @@ use Rattle.vtgate_lines.proofs.admin_lines.read_create.Goals as goal
 
 pub returns-in_default-from_utf8-clause-none : goal.returns-in_default-from_utf8-clause-none
 returns-in_default-from_utf8-clause-none c = λ sources targets is.
-    let split = rw c.in-Some.is at c.behind.ensures in
+    let split = rw c.in-Some.is at c.bytes_after.ensures in
     let written = is.written in
     let lists : c.in-Some.lists.now ≡ is.from ++ (32 ∷ is.into) = cc (split, written) in
     let ascii = subst (λ (t : List ℕ). AreAscii t) (sym lists) (lists_ascii is.from is.into sources targets is.named is.replaced_by) in

@@ -1,6 +1,6 @@
 use Rattle.std.proofs.Common.{sym}
 use Rattle.std.proofs.lemmas.Result.{err_from_is_err_and}
-use Rattle.vtgate_input.specs.Statuses as w
+use Rattle.vtgate_setup.specs.Statuses as w
 use Rattle.vtgate_script.proofs.plan.planned.Goals as goal
 
 pub returns-in-Ok-clause-ok : goal.returns-in-Ok-clause-ok

@@ -1,4 +1,4 @@
-use Rattle.vtgate_input.proofs.Fits.{fits}
+use Rattle.vtgate_setup.proofs.Fits.{fits}
 use Rattle.vtgate_script.specs.Wrong as w
 use Rattle.vtgate_script.proofs.script.begin.Goals as goal
 

@@ -1,5 +1,5 @@
-use Rattle.shard_contents.specs.Shards.{most_limits}
-use Rattle.empty_opening.specs.Empty.{opening_of}
+use Rattle.shard_law.specs.Entries.{most_limits}
+use Rattle.opening.specs.Empty.{opening_of}
 use Rattle.vtgate_script.proofs.script.run_over.Given as goal
 
 -- the world of this VSchema and these ranges, without rows

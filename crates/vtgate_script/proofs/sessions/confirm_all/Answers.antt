@@ -5,8 +5,8 @@ use Rattle.std.proofs.lemmas.Bool.{cases_eq}
 use mathlib.Core.List.{IsPrefix}
 use Rattle.journal.specs.Views.{PassView}
 use Rattle.shard_run.specs.declared.Entry.{Entry}
-use Rattle.vtgate_script.specs.inner.UnderWay.{KeptSession, KnowsOwn, IsBehind}
-use Rattle.vtgate_script.proofs.Places.{behind_at}
+use Rattle.vtgate_script.specs.inner.UnderWay.{KeptSession, KnowsOwn, HasSeenLess}
+use Rattle.vtgate_script.proofs.Places.{past_at}
 use Rattle.vtgate_script.proofs.Knowing.{same_set, knows_one_more}
 use Rattle.vtgate_script.proofs.sessions.confirm_all.Goals as goal
 
@@ -18,8 +18,8 @@ confirm-requires g c =
     let at : x ≡ get_or xs c.loop-i.i x = c.index_mut.ensures.value ∙ ap (λ (ys : List KeptSession). get_or ys c.loop-i.i x) inv.same in
     let same = ap (λ (ys : List KeptSession). length ys) inv.same in
     let low : c.loop-i.i < length xs = omega (arith, c.loop-i.sessions.ok.0, same) in
-    let behind = behind_at g.W.World.opening c.args.all.now.seen xs c.loop-i.i x c.requires.behind low in
-    record { behind = subst (λ (q : PassView Entry). IsPrefix x.kept.pass.seen q.seen) (sym inv.all) (subst (λ (s : KeptSession). IsPrefix s.kept.pass.seen c.args.all.now.seen) (sym at) behind.1) }
+    let trailing = past_at g.W.World.opening c.args.all.now.seen xs c.loop-i.i x c.requires.trailing low in
+    record { trailing = subst (λ (q : PassView Entry). IsPrefix x.kept.pass.seen q.seen) (sym inv.all) (subst (λ (s : KeptSession). IsPrefix s.kept.pass.seen c.args.all.now.seen) (sym at) trailing.1) }
 
 pub loop-i-preserved : goal.loop-i-preserved
 loop-i-preserved g c =

@@ -1,6 +1,6 @@
 use Rattle.std.proofs.Common.{◌≡◌, length}
-use Rattle.empty_opening.specs.Empty.{sharded_keyspace}
-use Rattle.administration.specs.Told.{keyspace_of}
+use Rattle.opening.specs.Empty.{sharded_keyspace}
+use Rattle.admin.specs.AdminAnswers.{keyspace_of}
 use Rattle.vtgate_script.proofs.Scripts.{AreRun}
 use Rattle.vtgate_script.proofs.sessions.run_lines.Given as goal
 

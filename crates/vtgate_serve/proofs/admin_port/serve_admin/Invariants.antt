@@ -1,6 +1,6 @@
 use Rattle.std.proofs.Common.{◌≡◌}
-use Rattle.empty_opening.specs.Empty.{sharded_keyspace}
-use Rattle.administration.specs.Told.{keyspace_of}
+use Rattle.opening.specs.Empty.{sharded_keyspace}
+use Rattle.admin.specs.AdminAnswers.{keyspace_of}
 use Rattle.vtgate_serve.proofs.admin_port.serve_admin.Given as goal
 
 -- the administrator stays that of the engine's sharded keyspace

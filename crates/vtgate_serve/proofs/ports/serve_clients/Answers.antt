@@ -11,9 +11,9 @@ use Rattle.route_engine.specs.contracts.engine.Engine as engine
 use Rattle.route_engine.proofs.Shared.{engine_sync}
 use Rattle.vtgate_serve.specs.contracts.connection.Connection as connection
 use Rattle.vtgate_serve.specs.contracts.admission.Admission as admission
-use Rattle.vtgate_serve.specs.contracts.progress.Progress as progress
+use Rattle.vtgate_serve.specs.contracts.progress.ServeProgress as progress
 use Rattle.vtgate_serve.proofs.admission.Admission.TheSendSync as sent_admission
-use Rattle.vtgate_serve.proofs.progress.Progress.TheSendSync as sent_progress
+use Rattle.vtgate_serve.proofs.progress.ServeProgress.TheSendSync as sent_progress
 use Rattle.vtgate_serve.proofs.Sent.{captures_sync, connection_send}
 use Rattle.vtgate_serve.proofs.ports.serve_clients.Goals as goal
 

@@ -6,32 +6,32 @@ use Rattle.aggregate.proofs.KeyListLemmas.{has_mapped, inserted_mapped, placed_m
 use Rattle.aggregate.proofs.groups.Groups.open.Goals as goal
 
 pub returns-in_ok-push-clause-keys : goal.returns-in_ok-push-clause-keys
-returns-in_ok-push-clause-keys c = inserted_mapped (record { values = c.args.values }) _ _ c.in_ok-place.ensures.keys
+returns-in_ok-push-clause-keys c = inserted_mapped (record { values = c.args.values }) _ _ c.in_ok-ordinal.ensures.keys
 
 pub returns-else-added-clause-keys : goal.returns-else-added-clause-keys
-returns-else-added-clause-keys c = inserted_mapped (record { values = c.args.values }) _ _ c.in_ok-place.ensures.keys
+returns-else-added-clause-keys c = inserted_mapped (record { values = c.args.values }) _ _ c.in_ok-ordinal.ensures.keys
 
-pub returns-in_ok-push-clause-place : goal.returns-in_ok-push-clause-place
-returns-in_ok-push-clause-place c = placed_mapped (record { values = c.args.values }) c.insert_full.new.self.keys c.in_ok-place.place c.in_ok-place.ensures.stored
+pub returns-in_ok-push-clause-ordinal : goal.returns-in_ok-push-clause-ordinal
+returns-in_ok-push-clause-ordinal c = placed_mapped (record { values = c.args.values }) c.insert_full.new.self.keys c.in_ok-ordinal.ordinal c.in_ok-ordinal.ensures.stored
 
-pub returns-else-added-clause-place : goal.returns-else-added-clause-place
-returns-else-added-clause-place c = placed_mapped (record { values = c.args.values }) c.insert_full.new.self.keys c.in_ok-place.place c.in_ok-place.ensures.stored
+pub returns-else-added-clause-ordinal : goal.returns-else-added-clause-ordinal
+returns-else-added-clause-ordinal c = placed_mapped (record { values = c.args.values }) c.insert_full.new.self.keys c.in_ok-ordinal.ordinal c.in_ok-ordinal.ensures.stored
 
 pub returns-in_ok-push-clause-distinct : goal.returns-in_ok-push-clause-distinct
-returns-in_ok-push-clause-distinct c = distinct_mapped _ c.in_ok-place.ensures.unique
+returns-in_ok-push-clause-distinct c = distinct_mapped _ c.in_ok-ordinal.ensures.unique
 
 pub returns-else-added-clause-distinct : goal.returns-else-added-clause-distinct
-returns-else-added-clause-distinct c = distinct_mapped _ c.in_ok-place.ensures.unique
+returns-else-added-clause-distinct c = distinct_mapped _ c.in_ok-ordinal.ensures.unique
 
 pub returns-in_ok-push-clause-parts : goal.returns-in_ok-push-clause-parts
 returns-in_ok-push-clause-parts c =
     let lists = part_lists c.args.self.now in
-    let new = not_true _ (sym c.if-added.true ∙ c.in_ok-place.ensures.added) in
+    let new = not_true _ (sym c.if-added.true ∙ c.in_ok-ordinal.ensures.added) in
     ap (map (λ p. p.items)) c.in_ok-push.ensures.items ∙ map-append (λ p. p.items) c.args.self.now.parts.items _
     ∙ ap (λ (p : List ColumnPart). lists ++ p ∷ []) c.in_ok-empty_parts.ensures.ok
     ∙ with_new _ _ _ (sym (has_mapped (record { values = c.args.values }) c.args.self.now.keys.keys) ∙ new)
 
 pub returns-else-added-clause-parts : goal.returns-else-added-clause-parts
 returns-else-added-clause-parts c =
-    let found = not_false _ (sym c.if-added.false ∙ c.in_ok-place.ensures.added) in
+    let found = not_false _ (sym c.if-added.false ∙ c.in_ok-ordinal.ensures.added) in
     with_old _ _ _ (sym (has_mapped (record { values = c.args.values }) c.args.self.now.keys.keys) ∙ found)

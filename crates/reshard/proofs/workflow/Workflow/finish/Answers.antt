@@ -1,8 +1,8 @@
 use Rattle.std.proofs.Common.{rules, ◌≡◌, map, ap, ◌∙◌}
 use Rattle.reshard.specs.declared.cutover.CutoverStep.TheVariants.{Release}
 use Rattle.reshard.specs.Workflows.{WorkflowView}
-use Rattle.cutover_steps.specs.Takings.{Taking}
-use Rattle.cutover_steps.proofs.Onward.{onward_trans}
+use Rattle.reshard_cutover.specs.TargetSources.{TargetWithSources}
+use Rattle.reshard_cutover.proofs.Onward.{onward_trans}
 use Rattle.reshard.proofs.Through.{further_trans, further_switched, switched_at_end, published_at_end, begun_still, finished}
 use Rattle.reshard.proofs.workflow.Workflow.finish.Goals as goal
 
@@ -20,7 +20,7 @@ returns-then-eq-clause-finished g c =
     (published_at_end o mid now c.loop.pass c.switch_after-step.new.pass step h last)
     (map (λ s. s.member.which) c.as_slice.result.now) (map (λ t. (t.member.which, map (λ s. s.which) t.sources.items)) c.as_slice-then-eq.result.now)
     (ap (map (λ s. s.member.which)) c.as_slice.ensures.value ∙ ap (λ (w : WorkflowView). w.sources) c.self.view_is)
-    (ap (map {B = Taking} (λ t. (t.member.which, map (λ s. s.which) t.sources.items))) c.as_slice-then-eq.ensures.value ∙ ap (λ (w : WorkflowView). w.targets) c.self.view_is)
+    (ap (map {B = TargetWithSources} (λ t. (t.member.which, map (λ s. s.which) t.sources.items))) c.as_slice-then-eq.ensures.value ∙ ap (λ (w : WorkflowView). w.targets) c.self.view_is)
     c.confirm_cutover.ensures.through
 
 pub loop-preserved : goal.loop-preserved

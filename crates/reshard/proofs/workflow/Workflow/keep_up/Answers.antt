@@ -1,7 +1,7 @@
 use Rattle.std.proofs.Common.{◌≡◌, ℕ, List, map, refl, ap, ◌∙◌, subst, arith}
-use Rattle.reshard_beginning.specs.declared.fault.ReshardFault.TheVariants.{Refused}
-use Rattle.reshard_beginning.specs.Begun.{IsMoveRefusal}
-use Rattle.cutover_steps.specs.Takings.{Taking}
+use Rattle.reshard_cutover.specs.declared.fault.ReshardFault.TheVariants.{Refused}
+use Rattle.reshard_cutover.specs.FirstMoves.{IsMoveRefusal}
+use Rattle.reshard_cutover.specs.TargetSources.{TargetWithSources}
 use Rattle.reshard.specs.Workflows.{WorkflowView}
 use Rattle.reshard.proofs.Nexts.{from_move}
 use Rattle.reshard.proofs.Switches.{stopped}
@@ -25,8 +25,8 @@ returns-in-Err-clause-refused g c =
     let none : w.retired ≡ 0 = omega (arith, a, n) in
     let e = Refused c.in-Err.refusal in
     let ts =
-    ap (map {B = Taking} (λ t. (t.member.which, map (λ s. s.which) t.sources.items))) c.as_slice-targets.ensures.value ∙ ap (λ (w : WorkflowView). w.targets) c.self.view_is in
+    ap (map {B = TargetWithSources} (λ t. (t.member.which, map (λ s. s.which) t.sources.items))) c.as_slice-targets.ensures.value ∙ ap (λ (w : WorkflowView). w.targets) c.self.view_is in
     let cause = from_move o most w.sources w.targets p at e c.come_level.ensures.onward.later
-    (subst (λ (l : List Taking). IsMoveRefusal o most l at e) ts c.in-Err.ensures.refused) in
+    (subst (λ (l : List TargetWithSources). IsMoveRefusal o most l at e) ts c.in-Err.ensures.refused) in
     stopped o most w w c.give_up.new.self p at c.give_up.new.pass e c.come_level.ensures.onward cause none refl c.give_up.ensures.now c.give_up.ensures.serve
     c.give_up.ensures.thawed

@@ -10,7 +10,7 @@ invariant_of-self g c =
     let fit = c.in_ok-taken.ensures.fit in (
       record {
         opens = was.opens;
-        ground = was.ground;
+        config = was.config;
         seats_free = was.seats_free;
         split = fit.split;
         seated = fit.seated;
@@ -18,9 +18,9 @@ invariant_of-self g c =
         home = fit.home;
       },
       prepared_rest (λ s. s.member.which) (λ t. (t.member.which, map (λ s. s.which) t.sources.items)) c.in_ok-taken.taken.again.sources.items
-          c.in_ok-taken.taken.again.targets.items c.in_ok-taken.taken.again.course.retired (into_iter_items c.into_iter.result)
+          c.in_ok-taken.taken.again.targets.items c.in_ok-taken.taken.again.progress.retired (into_iter_items c.into_iter.result)
           (c.into_iter.ensures.rest ∙ c.in_ok-taken.ensures.named),
-      some_same (λ b. b.value) c.in_ok-taken.taken.memory.next.value (AreOf c.self.inside.ground.keyspace) c.unless_published.result c.unless_published.ensures.same
+      some_same (λ b. b.value) c.in_ok-taken.taken.memory.next.value (AreOf c.self.inside.config.keyspace) c.unless_published.result c.unless_published.ensures.same
           c.in_ok-taken.ensures.next,
       λ _ e. c.unless_published.ensures.there e,
     )

@@ -1,12 +1,12 @@
 use Rattle.std.proofs.Common.{List, map, sym, ap, subst, ◌∙◌}
-use Rattle.shard_run.specs.declared.Shard.{Shard}
+use Rattle.shard_run.specs.declared.ShardRecord.{ShardRecord}
 use Rattle.follow.specs.Turns.{EachInTurn}
-use Rattle.cutover_steps.specs.Looks.{HasLookedOnlyAt}
+use Rattle.reshard_cutover.specs.Looks.{HasLookedOnlyAt}
 use Rattle.shard_run.specs.declared.Event.TheVariants.{Serve}
-use Rattle.cutover_steps.specs.Steps.{IsTargetOf}
+use Rattle.reshard_cutover.specs.Steps.{IsTargetOf}
 use Rattle.reshard.specs.Workflows.{WorkflowView}
-use Rattle.cutover_steps.proofs.Retiring.{map_at, item_of}
-use Rattle.cutover_steps.proofs.Onward.{stepped_after}
+use Rattle.reshard_cutover.proofs.Retiring.{map_at, item_of}
+use Rattle.reshard_cutover.proofs.Onward.{stepped_after}
 use Rattle.reshard.proofs.Nexts.{view_within, view_there}
 use Rattle.reshard.proofs.workflow.Workflow.serve_next.Goals as goal
 
@@ -33,7 +33,7 @@ returns-clause-served g c =
       stepped_after g.W.World.opening c.args.pass.now c.confirm_retired.new.pass c.serve.new.pass t.member.which Serve c.confirm_retired.ensures.onward
           c.serve.ensures.served,
       c.confirm_retired.new.pass,
-      subst (λ (l : List Shard). EachInTurn (λ s. HasLookedOnlyAt s.slot) l c.args.pass.now c.confirm_retired.new.pass)
+      subst (λ (l : List ShardRecord). EachInTurn (λ s. HasLookedOnlyAt s.slot) l c.args.pass.now c.confirm_retired.new.pass)
           (ap (map (λ s. s.member.which)) c.as_slice.ensures.value ∙ ap (λ (w : WorkflowView). w.sources) c.self.view_is) c.confirm_retired.ensures.looked,
       c.serve.ensures.alone,
     )

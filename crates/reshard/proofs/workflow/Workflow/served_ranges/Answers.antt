@@ -13,7 +13,7 @@ returns-clause-ok g c =
     let own =
     c.as_slice-4.ensures.value ∙ c.in_ok-own.ensures.ok
     ∙ ap₂ (λ (a b : List KeyRange). a ++ b)
-    (ap (map (λ s. s.member.which.place.range)) (c.behind_first.ensures ∙ ap (drop c.self.inside.retired) c.as_slice.ensures.value))
+    (ap (map (λ s. s.member.which.place.range)) (c.without_first.ensures ∙ ap (drop c.self.inside.retired) c.as_slice.ensures.value))
     (ap (map (λ t. t.member.which.place.range)) (c.first.ensures ∙ ap (take c.self.inside.served) c.as_slice-2.ensures.value)) in
     IfOk-weaker c.next_ranges.result _ _
     (λ ranges h.

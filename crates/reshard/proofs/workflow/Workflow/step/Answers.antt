@@ -1,8 +1,8 @@
 use Rattle.std.proofs.Common.{◌≡◌, ◌⊎◌, rules, inr}
-use Rattle.reshard_beginning.specs.declared.fault.ReshardFault.TheVariants.{Refused}
+use Rattle.reshard_cutover.specs.declared.fault.ReshardFault.TheVariants.{Refused}
 use Rattle.reshard.specs.declared.workflow.Stage.TheVariants.{Following}
-use Rattle.reshard_beginning.specs.Begun.{IsMoveRefusal, IsNoStepFirst}
-use Rattle.reshard_beginning.proofs.Unfit.{residual}
+use Rattle.reshard_cutover.specs.FirstMoves.{IsMoveRefusal, IsNoStepFirst}
+use Rattle.reshard_create.proofs.Unfit.{residual}
 use Rattle.reshard.proofs.workflow.Workflow.step.Goals as goal
 
 pub returns-in_err-step-clause-refused : goal.returns-in_err-step-clause-refused

@@ -2,7 +2,7 @@ use Rattle.std.proofs.Common.{◌≡◌, ◌+◌, ◌≤◌, Bool, true, length,
 use Rattle.std.proofs.lemmas.List.{length-map}
 use Rattle.reshard.specs.declared.workflow.Stage.TheVariants.{Switched}
 use Rattle.reshard.specs.Workflows.{WorkflowView}
-use Rattle.cutover_steps.specs.Takings.{Taking}
+use Rattle.reshard_cutover.specs.TargetSources.{TargetWithSources}
 use Rattle.reshard.specs.Cutover.{retired, served, published, released}
 use Rattle.reshard.proofs.workflow.Workflow.switch_after.Goals as goal
 
@@ -37,7 +37,7 @@ returns-then-not-self-clause-switched g c =
     let a2 = c.if-self-len-2.false in
     let b2 = c.len-2.ensures in
     let d2 = c.self.inside.targets.ok.0 in
-    let e2 = length-map {B = Taking} c.self.inside.targets.items (λ t. (t.member.which, Rattle.std.proofs.Common.map (λ s. s.which) t.sources.items)) in
+    let e2 = length-map {B = TargetWithSources} c.self.inside.targets.items (λ t. (t.member.which, Rattle.std.proofs.Common.map (λ s. s.which) t.sources.items)) in
     let v2 = ap (λ (w : WorkflowView). length w.targets) c.self.view_is in
     let n2 = ap (λ (w : WorkflowView). w.served) c.self.view_is in
     published (sym (ap (λ (w : WorkflowView). w.published) c.self.view_is) ∙ c.if-not-self.true) (omega (arith, a, b, d, e, v, n))
@@ -55,7 +55,7 @@ returns-clause-switched g c =
     let a2 = c.if-self-len-2.false in
     let b2 = c.len-2.ensures in
     let d2 = c.self.inside.targets.ok.0 in
-    let e2 = length-map {B = Taking} c.self.inside.targets.items (λ t. (t.member.which, Rattle.std.proofs.Common.map (λ s. s.which) t.sources.items)) in
+    let e2 = length-map {B = TargetWithSources} c.self.inside.targets.items (λ t. (t.member.which, Rattle.std.proofs.Common.map (λ s. s.which) t.sources.items)) in
     let v2 = ap (λ (w : WorkflowView). length w.targets) c.self.view_is in
     let n2 = ap (λ (w : WorkflowView). w.served) c.self.view_is in
     released (sym (ap (λ (w : WorkflowView). w.published) c.self.view_is) ∙ c.if-not-self.false) (omega (arith, a, b, d, e, v, n))

@@ -5,19 +5,19 @@ use Rattle.journal.proofs.Fronts.{prefix_self}
 use Rattle.vt_value.specs.declared.refusal.Refusal.{Refusal}
 use Rattle.vt_value.specs.declared.refusal.Refusal.TheVariants.{ShardFull}
 use Rattle.follow.specs.declared.steps.Step.{Step}
-use Rattle.reshard_beginning.specs.declared.fault.ReshardFault.TheVariants.{Refused}
-use Rattle.reshard_beginning.specs.Begun.{HasMovedFirst, IsMoveRefusal, IsOneStepFirst}
+use Rattle.reshard_cutover.specs.declared.fault.ReshardFault.TheVariants.{Refused}
+use Rattle.reshard_cutover.specs.FirstMoves.{HasMovedFirst, IsMoveRefusal, IsOneStepFirst}
 use Rattle.reshard.specs.Workflows.{WorkflowView}
-use Rattle.cutover_steps.specs.Takings.{Taking}
+use Rattle.reshard_cutover.specs.TargetSources.{TargetWithSources}
 use Rattle.reshard.specs.declared.cutover.CutoverStep.{CutoverStep}
 use Rattle.reshard.specs.declared.cutover.CutoverStep.TheVariants.{Retire}
 use Rattle.follow.specs.declared.steps.Step.TheVariants.{Level}
 use Rattle.std.specs.List.{AllByRecursion}
 use Rattle.follow.specs.Turns.{EachInTurn}
-use Rattle.cutover_steps.specs.Looks.{HasLookedOnlyAt, IsWithinRows}
+use Rattle.reshard_cutover.specs.Looks.{HasLookedOnlyAt, IsWithinRows}
 use Rattle.reshard.specs.Cutover.{IsSwitchRefusal, overfull, HasFoundReady, DoesNoMore, MayRetireFirst}
 use Rattle.reshard.proofs.Nexts.{from_move, refusal_within}
-use Rattle.reshard_beginning.proofs.Unfit.{residual_same}
+use Rattle.reshard_cutover.proofs.Residual.{residual_same}
 use Rattle.reshard.proofs.Switches.{froze_after, copied_after, followed_after, memory_refused, room_refused, refused_as, may_retire}
 use Rattle.reshard.proofs.workflow.Workflow.switch_before.Goals.{then-all_fit, else-all_fit}
 use Rattle.reshard.proofs.workflow.Workflow.switch_before.Goals as goal
@@ -54,11 +54,11 @@ returns-in_err-move_first-clause-refused g c =
     let e = c.in_err-move_first.field-0.0 in
     let now = c.move_first.new.pass in
     let ts =
-    ap (map {B = Taking} (λ t. (t.member.which, map (λ s. s.which) t.sources.items))) c.as_slice.ensures.value ∙ ap (λ (w : WorkflowView). w.targets) c.self.view_is in
+    ap (map {B = TargetWithSources} (λ t. (t.member.which, map (λ s. s.which) t.sources.items))) c.as_slice.ensures.value ∙ ap (λ (w : WorkflowView). w.targets) c.self.view_is in
     residual_same c.from_residual-in_err-move_first.result e _ c.from_residual-in_err-move_first.ensures.1
     (refused_as o most c.args.self.now w1 true c.args.pass.now now (Refused e) c.in_ok-prepare.ensures.now
     (from_move o most w1.sources w1.targets c.args.pass.now now (Refused e) c.move_first.ensures.onward.later
-    (subst (λ (l : List Taking). IsMoveRefusal o most l now (Refused e)) ts c.in_err-move_first.ensures.refused)))
+    (subst (λ (l : List TargetWithSources). IsMoveRefusal o most l now (Refused e)) ts c.in_err-move_first.ensures.refused)))
 
 pub returns-in-Copied-clause-step : goal.returns-in-Copied-clause-step
 returns-in-Copied-clause-step g c =
@@ -66,7 +66,7 @@ returns-in-Copied-clause-step g c =
     let w1 = c.prepare.new.self in
     let now = c.move_first.new.pass in
     let ts =
-    ap (map {B = Taking} (λ t. (t.member.which, map (λ s. s.which) t.sources.items))) c.as_slice.ensures.value ∙ ap (λ (w : WorkflowView). w.targets) c.self.view_is in
+    ap (map {B = TargetWithSources} (λ t. (t.member.which, map (λ s. s.which) t.sources.items))) c.as_slice.ensures.value ∙ ap (λ (w : WorkflowView). w.targets) c.self.view_is in
     let a = c.if-self-len.false in
     let b = c.len.ensures in
     let d = c.self.inside.sources.ok.0 in
@@ -74,8 +74,8 @@ returns-in-Copied-clause-step g c =
     let v = ap (λ (w : WorkflowView). length w.sources) c.self.view_is in
     let n = ap (λ (w : WorkflowView). w.frozen) c.self.view_is in
     copied_after o c.args.self.now w1 w1 c.args.pass.now now c.in_ok-prepare.ensures.now (omega (arith, a, b, d, e, v, n))
-    (subst (λ (l : List Taking). HasMovedFirst o l c.args.pass.now now Rattle.follow.specs.declared.steps.Step.TheVariants.Copied) ts
-    (subst (λ (s : Step). HasMovedFirst o (map {B = Taking} (λ t. (t.member.which, map (λ s. s.which) t.sources.items)) c.as_slice.result.now) c.args.pass.now now s)
+    (subst (λ (l : List TargetWithSources). HasMovedFirst o l c.args.pass.now now Rattle.follow.specs.declared.steps.Step.TheVariants.Copied) ts
+    (subst (λ (s : Step). HasMovedFirst o (map {B = TargetWithSources} (λ t. (t.member.which, map (λ s. s.which) t.sources.items)) c.as_slice.result.now) c.args.pass.now now s)
     c.in-Copied.is c.in_ok-move_first.ensures.moved)) refl
 
 pub returns-in-Followed-clause-step : goal.returns-in-Followed-clause-step
@@ -84,7 +84,7 @@ returns-in-Followed-clause-step g c =
     let w1 = c.prepare.new.self in
     let now = c.move_first.new.pass in
     let ts =
-    ap (map {B = Taking} (λ t. (t.member.which, map (λ s. s.which) t.sources.items))) c.as_slice.ensures.value ∙ ap (λ (w : WorkflowView). w.targets) c.self.view_is in
+    ap (map {B = TargetWithSources} (λ t. (t.member.which, map (λ s. s.which) t.sources.items))) c.as_slice.ensures.value ∙ ap (λ (w : WorkflowView). w.targets) c.self.view_is in
     let a = c.if-self-len.false in
     let b = c.len.ensures in
     let d = c.self.inside.sources.ok.0 in
@@ -92,8 +92,8 @@ returns-in-Followed-clause-step g c =
     let v = ap (λ (w : WorkflowView). length w.sources) c.self.view_is in
     let n = ap (λ (w : WorkflowView). w.frozen) c.self.view_is in
     followed_after o c.args.self.now w1 w1 c.args.pass.now now c.in_ok-prepare.ensures.now (omega (arith, a, b, d, e, v, n))
-    (subst (λ (l : List Taking). HasMovedFirst o l c.args.pass.now now Rattle.follow.specs.declared.steps.Step.TheVariants.Followed) ts
-    (subst (λ (s : Step). HasMovedFirst o (map {B = Taking} (λ t. (t.member.which, map (λ s. s.which) t.sources.items)) c.as_slice.result.now) c.args.pass.now now s)
+    (subst (λ (l : List TargetWithSources). HasMovedFirst o l c.args.pass.now now Rattle.follow.specs.declared.steps.Step.TheVariants.Followed) ts
+    (subst (λ (s : Step). HasMovedFirst o (map {B = TargetWithSources} (λ t. (t.member.which, map (λ s. s.which) t.sources.items)) c.as_slice.result.now) c.args.pass.now now s)
     c.in-Followed.is c.in_ok-move_first.ensures.moved)) refl
 
 pub returns-in-Copied-clause-once : goal.returns-in-Copied-clause-once
@@ -101,10 +101,10 @@ returns-in-Copied-clause-once g c =
     let p = c.args.pass.now in
     let now = c.move_first.new.pass in
     let ts =
-    ap (map {B = Taking} (λ t. (t.member.which, map (λ s. s.which) t.sources.items))) c.as_slice.ensures.value ∙ ap (λ (w : WorkflowView). w.targets) c.self.view_is
+    ap (map {B = TargetWithSources} (λ t. (t.member.which, map (λ s. s.which) t.sources.items))) c.as_slice.ensures.value ∙ ap (λ (w : WorkflowView). w.targets) c.self.view_is
     ∙ ap (λ (w : WorkflowView). w.targets) c.in_ok-prepare.ensures.now in
-    subst (λ (l : List Taking). IsOneStepFirst l p now Rattle.follow.specs.declared.steps.Step.TheVariants.Copied) ts
-    (subst (λ (s : Step). IsOneStepFirst (map {B = Taking} (λ t. (t.member.which, map (λ s. s.which) t.sources.items)) c.as_slice.result.now) p now s)
+    subst (λ (l : List TargetWithSources). IsOneStepFirst l p now Rattle.follow.specs.declared.steps.Step.TheVariants.Copied) ts
+    (subst (λ (s : Step). IsOneStepFirst (map {B = TargetWithSources} (λ t. (t.member.which, map (λ s. s.which) t.sources.items)) c.as_slice.result.now) p now s)
     c.in-Copied.is c.in_ok-move_first.ensures.once)
 
 pub returns-in-Followed-clause-once : goal.returns-in-Followed-clause-once
@@ -112,10 +112,10 @@ returns-in-Followed-clause-once g c =
     let p = c.args.pass.now in
     let now = c.move_first.new.pass in
     let ts =
-    ap (map {B = Taking} (λ t. (t.member.which, map (λ s. s.which) t.sources.items))) c.as_slice.ensures.value ∙ ap (λ (w : WorkflowView). w.targets) c.self.view_is
+    ap (map {B = TargetWithSources} (λ t. (t.member.which, map (λ s. s.which) t.sources.items))) c.as_slice.ensures.value ∙ ap (λ (w : WorkflowView). w.targets) c.self.view_is
     ∙ ap (λ (w : WorkflowView). w.targets) c.in_ok-prepare.ensures.now in
-    subst (λ (l : List Taking). IsOneStepFirst l p now Rattle.follow.specs.declared.steps.Step.TheVariants.Followed) ts
-    (subst (λ (s : Step). IsOneStepFirst (map {B = Taking} (λ t. (t.member.which, map (λ s. s.which) t.sources.items)) c.as_slice.result.now) p now s)
+    subst (λ (l : List TargetWithSources). IsOneStepFirst l p now Rattle.follow.specs.declared.steps.Step.TheVariants.Followed) ts
+    (subst (λ (s : Step). IsOneStepFirst (map {B = TargetWithSources} (λ t. (t.member.which, map (λ s. s.which) t.sources.items)) c.as_slice.result.now) p now s)
     c.in-Followed.is c.in_ok-move_first.ensures.once)
 
 pub returns-clause-once : goal.returns-clause-once
@@ -126,19 +126,19 @@ returns-clause-once g c =
     let now = c.all_fit.new.pass in
     let back = ap (λ (w : WorkflowView). w.targets) c.in_ok-prepare.ensures.now in
     let ts =
-    ap (map {B = Taking} (λ t. (t.member.which, map (λ s. s.which) t.sources.items))) c.as_slice.ensures.value ∙ ap (λ (w : WorkflowView). w.targets) c.self.view_is ∙ back in
+    ap (map {B = TargetWithSources} (λ t. (t.member.which, map (λ s. s.which) t.sources.items))) c.as_slice.ensures.value ∙ ap (λ (w : WorkflowView). w.targets) c.self.view_is ∙ back in
     let ts2 =
-    ap (map {B = Taking} (λ t. (t.member.which, map (λ s. s.which) t.sources.items))) c.as_slice-2.ensures.value ∙ ap (λ (w : WorkflowView). w.targets) c.self.view_is
+    ap (map {B = TargetWithSources} (λ t. (t.member.which, map (λ s. s.which) t.sources.items))) c.as_slice-2.ensures.value ∙ ap (λ (w : WorkflowView). w.targets) c.self.view_is
     ∙ back in
-    let level = subst (λ (l : List Taking). IsOneStepFirst l p q Level) ts
-    (subst (λ (s : Step). IsOneStepFirst (map {B = Taking} (λ t. (t.member.which, map (λ s. s.which) t.sources.items)) c.as_slice.result.now) p q s)
+    let level = subst (λ (l : List TargetWithSources). IsOneStepFirst l p q Level) ts
+    (subst (λ (s : Step). IsOneStepFirst (map {B = TargetWithSources} (λ t. (t.member.which, map (λ s. s.which) t.sources.items)) c.as_slice.result.now) p q s)
     c.in-Level.is c.in_ok-move_first.ensures.once) in
     elim c.if-all_fit.branch [
       | then-all_fit w' ↦
           subst (λ r. IfOk r (λ r. MatchOption r (HasFoundReady w p now) (DoesNoMore w p now))) (sym w'.result-is) (
             q,
             level,
-            subst (λ (l : List Taking). EachInTurn (λ (t : Taking). HasLookedOnlyAt t.0.slot) l q now) ts2 (c.all_fit.ensures.looked w'.if-all_fit.true),
+            subst (λ (l : List TargetWithSources). EachInTurn (λ (t : TargetWithSources). HasLookedOnlyAt t.0.slot) l q now) ts2 (c.all_fit.ensures.looked w'.if-all_fit.true),
           )
       | else-all_fit w' ↦ subst (λ r. IfOk r (λ r. MatchOption r (HasFoundReady w p now) (DoesNoMore w p now))) (sym w'.result-is) tt
     ]
@@ -151,7 +151,7 @@ returns-clause-refused g c =
     let q = c.move_first.new.pass in
     let now = c.all_fit.new.pass in
     let ts =
-    ap (map {B = Taking} (λ t. (t.member.which, map (λ s. s.which) t.sources.items))) c.as_slice-2.ensures.value ∙ ap (λ (w : WorkflowView). w.targets) c.self.view_is in
+    ap (map {B = TargetWithSources} (λ t. (t.member.which, map (λ s. s.which) t.sources.items))) c.as_slice-2.ensures.value ∙ ap (λ (w : WorkflowView). w.targets) c.self.view_is in
     elim c.if-all_fit.branch [
       | then-all_fit w ↦ subst (λ r. IfErr r (λ (e : Refusal). IsSwitchRefusal o most c.args.self.now.sources c.args.self.now.targets c.args.pass.now now (Refused e))) (sym w.result-is) tt
       | else-all_fit w ↦
@@ -159,7 +159,7 @@ returns-clause-refused g c =
           (refused_as o most c.args.self.now w1 true c.args.pass.now now (Refused ShardFull) c.in_ok-prepare.ensures.now
           (refusal_within o most w1.sources w1.targets q c.args.pass.now now now c.in_ok-move_first.ensures.onward.later (prefix_self now.seen) (Refused ShardFull)
           (let h = c.all_fit.ensures.many w.if-all_fit.false in
-          overfull h.0 (subst (λ (l : List Taking). Rattle.std.specs.Prelude.Contains l h.0) ts h.1) h.2)))
+          overfull h.0 (subst (λ (l : List TargetWithSources). Rattle.std.specs.Prelude.Contains l h.0) ts h.1) h.2)))
     ]
 
 pub returns-clause-ready : goal.returns-clause-ready
@@ -172,9 +172,9 @@ returns-clause-ready g c =
     let q = c.move_first.new.pass in
     let now = c.all_fit.new.pass in
     let ts =
-    ap (map {B = Taking} (λ t. (t.member.which, map (λ s. s.which) t.sources.items))) c.as_slice.ensures.value ∙ ap (λ (w : WorkflowView). w.targets) c.self.view_is in
+    ap (map {B = TargetWithSources} (λ t. (t.member.which, map (λ s. s.which) t.sources.items))) c.as_slice.ensures.value ∙ ap (λ (w : WorkflowView). w.targets) c.self.view_is in
     let ts2 =
-    ap (map {B = Taking} (λ t. (t.member.which, map (λ s. s.which) t.sources.items))) c.as_slice-2.ensures.value ∙ ap (λ (w : WorkflowView). w.targets) c.self.view_is in
+    ap (map {B = TargetWithSources} (λ t. (t.member.which, map (λ s. s.which) t.sources.items))) c.as_slice-2.ensures.value ∙ ap (λ (w : WorkflowView). w.targets) c.self.view_is in
     let a = c.if-self-len.false in
     let b = c.len.ensures in
     let d = c.self.inside.sources.ok.0 in
@@ -182,14 +182,14 @@ returns-clause-ready g c =
     let v = ap (λ (w : WorkflowView). length w.sources) c.self.view_is in
     let n = ap (λ (w : WorkflowView). w.frozen) c.self.view_is in
     let made = c.in_ok-prepare.ensures.now in
-    let level = subst (λ (l : List Taking). HasMovedFirst o l p q Level) ts
-    (subst (λ (s : Step). HasMovedFirst o (map {B = Taking} (λ t. (t.member.which, map (λ s. s.which) t.sources.items)) c.as_slice.result.now) p q s)
+    let level = subst (λ (l : List TargetWithSources). HasMovedFirst o l p q Level) ts
+    (subst (λ (s : Step). HasMovedFirst o (map {B = TargetWithSources} (λ t. (t.member.which, map (λ s. s.which) t.sources.items)) c.as_slice.result.now) p q s)
     c.in-Level.is c.in_ok-move_first.ensures.moved) in
     elim c.if-all_fit.branch [
       | then-all_fit w' ↦
           subst (λ r. IfOk r (λ r. MatchOption r (MayRetireFirst o most w p now) (λ (step : CutoverStep). step ≡ Retire → ⊥))) (sym w'.result-is)
           (may_retire o most w w1 p q now made (omega (arith, a, b, d, e, v, n)) level c.all_fit.ensures.onward
-          (subst (λ (l : List Taking). AllByRecursion (λ t. IsWithinRows o most t.0 q now) l) ts2 (c.all_fit.ensures.few w'.if-all_fit.true)) c.move_first.ensures.onward.later)
+          (subst (λ (l : List TargetWithSources). AllByRecursion (λ t. IsWithinRows o most t.0 q now) l) ts2 (c.all_fit.ensures.few w'.if-all_fit.true)) c.move_first.ensures.onward.later)
       | else-all_fit w' ↦
           subst (λ r. IfOk r (λ r. MatchOption r (MayRetireFirst o most w p now) (λ (step : CutoverStep). step ≡ Retire → ⊥))) (sym w'.result-is) tt
     ]

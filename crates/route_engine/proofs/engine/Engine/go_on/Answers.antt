@@ -1,5 +1,5 @@
 use Rattle.std.proofs.Common.{Bool, ap, sym, ◌∙◌}
-use Rattle.shard_calls.specs.inner.Within.{stays_open}
+use Rattle.shard_calls.specs.inner.InTransactions.{stays_open}
 use Rattle.route_engine.proofs.Leading as l
 use Rattle.route_engine.proofs.engine.Engine.go_on.Goals as goal
 

@@ -22,7 +22,7 @@ answer-answered-requires-clause-keyspace g c κs within =
     let o = g.W.World.opening in
     let there = subst (λ (v : VSchema). c.args.query.table < length v.tables) (sym c.self.view_is) c.requires.there in
     let t = is_table o c.self.inside.schema c.self.invariant.schema_is c.args.query.table there
-    c.index-as_slice-place.result (c.index-as_slice-place.is ∙ ap (λ (l : List Table). get_or l c.args.query.table c.index-as_slice-place.result) c.as_slice.ensures) in
+    c.index-as_slice-ordinal.result (c.index-as_slice-ordinal.is ∙ ap (λ (l : List Table). get_or l c.args.query.table c.index-as_slice-ordinal.result) c.as_slice.ensures) in
     let below = keyspace_below o.schema c.self.invariant.formed c.args.query.table in
     let schema : c.args.self.now ≡ o.schema = sym c.self.view_is ∙ c.self.invariant.schema_is in
     let n = ap (λ (x : Table). x.keyspace) t in
@@ -32,23 +32,23 @@ answer-answered-requires-clause-keyspace g c κs within =
 pub answer-answered-requires-clause-fit : goal.answer-answered-requires-clause-fit
 answer-answered-requires-clause-fit g c κs within = λ pieces reads now is.
     joined g.W.World.opening c.self.invariant.opens c.self.inside.schema c.self.invariant.schema_is c.args.query c.requires.joins
-    (subst (λ (v : VSchema). c.args.query.table < length v.tables) (sym c.self.view_is) c.requires.there) c.index-as_slice-place.result
-    (c.index-as_slice-place.is ∙ ap (λ (l : List Table). get_or l c.args.query.table c.index-as_slice-place.result) c.as_slice.ensures)
+    (subst (λ (v : VSchema). c.args.query.table < length v.tables) (sym c.self.view_is) c.requires.there) c.index-as_slice-ordinal.result
+    (c.index-as_slice-ordinal.is ∙ ap (λ (l : List Table). get_or l c.args.query.table c.index-as_slice-ordinal.result) c.as_slice.ensures)
     c.in_ok-plan.plan c.in_ok-plan.ensures.exact c.in_ok-plan.ensures.right c.args.pass.now now pieces reads is
 
 pub answer-answered-requires-clause-order : goal.answer-answered-requires-clause-order
 answer-answered-requires-clause-order g c κs within = λ pieces reads now is.
     arranged g.W.World.opening c.self.invariant.opens c.self.inside.schema c.self.invariant.schema_is c.args.query c.requires.joins
-    (subst (λ (v : VSchema). c.args.query.table < length v.tables) (sym c.self.view_is) c.requires.there) c.index-as_slice-place.result
-    (c.index-as_slice-place.is ∙ ap (λ (l : List Table). get_or l c.args.query.table c.index-as_slice-place.result) c.as_slice.ensures)
+    (subst (λ (v : VSchema). c.args.query.table < length v.tables) (sym c.self.view_is) c.requires.there) c.index-as_slice-ordinal.result
+    (c.index-as_slice-ordinal.is ∙ ap (λ (l : List Table). get_or l c.args.query.table c.index-as_slice-ordinal.result) c.as_slice.ensures)
     c.in_ok-plan.plan c.in_ok-plan.ensures.exact c.in_ok-plan.ensures.right c.args.pass.now now pieces reads is c.in_ok-plan.ensures.order
 
 pub returns-in-Ok-clause-ok : goal.returns-in-Ok-clause-ok
 returns-in-Ok-clause-ok g c =
     let done = c.in-Ok.ensures.ok in
     selected g.W.World.opening c.self.invariant.opens c.self.inside.schema c.self.invariant.schema_is c.args.query c.requires.joins
-    (subst (λ (v : VSchema). c.args.query.table < length v.tables) (sym c.self.view_is) c.requires.there) c.index-as_slice-place.result
-    (c.index-as_slice-place.is ∙ ap (λ (l : List Table). get_or l c.args.query.table c.index-as_slice-place.result) c.as_slice.ensures)
+    (subst (λ (v : VSchema). c.args.query.table < length v.tables) (sym c.self.view_is) c.requires.there) c.index-as_slice-ordinal.result
+    (c.index-as_slice-ordinal.is ∙ ap (λ (l : List Table). get_or l c.args.query.table c.index-as_slice-ordinal.result) c.as_slice.ensures)
     c.in_ok-plan.plan c.in_ok-plan.ensures.exact c.in_ok-plan.ensures.right c.args.pass.now c.answer-answered.new.pass
     done.pieces c.in-Ok.read.1 done.scattered c.in-Ok.read.0 done.finished c.shown_by-shown.result.0 (c.shown_by-shown.ensures.items ∙ ap (λ (p : Plan). p.items) c.in_ok-plan.ensures.exact)
     c.shown_by-shown.result.1 (c.shown_by-shown.ensures.qualified ∙ ap (λ (p : Plan). p.qualified) c.in_ok-plan.ensures.exact)
@@ -57,7 +57,7 @@ pub returns-in-Err-clause-err : goal.returns-in-Err-clause-err
 returns-in-Err-clause-err g c =
     let there = subst (λ (v : VSchema). c.args.query.table < length v.tables) (sym c.self.view_is) c.requires.there in
     let t = is_table g.W.World.opening c.self.inside.schema c.self.invariant.schema_is c.args.query.table there
-    c.index-as_slice-place.result (c.index-as_slice-place.is ∙ ap (λ (l : List Table). get_or l c.args.query.table c.index-as_slice-place.result) c.as_slice.ensures) in
+    c.index-as_slice-ordinal.result (c.index-as_slice-ordinal.is ∙ ap (λ (l : List Table). get_or l c.args.query.table c.index-as_slice-ordinal.result) c.as_slice.ensures) in
     let exact = subst (λ (v : VSchema). c.in_ok-plan.plan ≡ planned (table_at v c.args.query.table) c.args.query) c.self.invariant.schema_is c.in_ok-plan.ensures.exact in
-    not_read g.W.World.opening c.args.query c.index-as_slice-place.result c.in_ok-plan.plan t exact c.args.pass.now c.answer-answered.new.pass
+    not_read g.W.World.opening c.args.query c.index-as_slice-ordinal.result c.in_ok-plan.plan t exact c.args.pass.now c.answer-answered.new.pass
     c.in-Err.ensures.gone c.in-Err.refusal c.in-Err.ensures.err

@@ -3,7 +3,7 @@ use Rattle.journal.specs.Views.{PassView}
 use Rattle.shard_run.specs.declared.Entry.{Entry}
 use Rattle.serving.specs.Partitions.{Seat}
 use Rattle.shard.specs.Seats.{place_at}
-use Rattle.shard_contents.specs.Shards.{ShardView}
+use Rattle.shard_law.specs.Entries.{ShardView}
 use Rattle.shard_contents.specs.Transactions.{PendingView, IsPendingOf}
 use Rattle.shard.proofs.Found.{found_past}
 use Rattle.shard.proofs.locked.Shard.commit_in.Goals as goal

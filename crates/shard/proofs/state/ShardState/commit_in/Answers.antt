@@ -5,9 +5,9 @@ use Rattle.journal.specs.Runs.{NumbersBelow}
 use Rattle.vschema.specs.declared.changes.RowChange.{RowChange}
 use Rattle.vschema.specs.Database.{Database, SameRows, all_applied}
 use Rattle.shard_run.specs.declared.Entry.{Entry}
-use Rattle.shard_run.specs.Runs.{mode, is_serving, stored_changes}
-use Rattle.shard_contents.specs.declared.limits.Limits.{Limits}
-use Rattle.shard_contents.specs.Shards.{commit_of, seat_view}
+use Rattle.shard_run.specs.Runs.{mode, answers_queries, stored_changes}
+use Rattle.shard_law.specs.declared.limits.Limits.{Limits}
+use Rattle.shard_law.specs.Entries.{commit_of, seat_view}
 use Rattle.shard_contents.specs.Transactions as t
 use Rattle.shard_contents.proofs.States.{same_contents, names_none, lives_if}
 use Rattle.shard_contents.proofs.Earlier.{all_had_next, all_had_same}
@@ -77,7 +77,7 @@ pub invariant_of-self : goal.invariant_of-self
 invariant_of-self g c =
     let p = c.prepare_in.ensures in (
       same_contents _ _ c.self.inside.seat c.self.inside.contents c.prepare_in.new.self c.self.invariant.0 p.shard p.rows p.mode p.stored p.steps p.same_limits,
-      subst (λ s. Rattle.shard_contents.specs.Shards.Names g.W.World.opening c.self.inside.seat.seen s c.self.inside.targets) (sym p.shard) c.self.invariant.1,
+      subst (λ s. Rattle.shard_contents.specs.Shards.RetiredFor g.W.World.opening c.self.inside.seat.seen s c.self.inside.targets) (sym p.shard) c.self.invariant.1,
       all_had_same _ _ _ _ c.self.inside.sorted p.stored p.rows c.self.invariant.2,
     )
 
@@ -89,7 +89,7 @@ invariant_of-self-2 g c =
     let e = c.in_ok-prepared.prepared.entry in (
       is.is_now,
       names_none g.W.World.opening c.append.new.self.seen c.take.new.self.shard c.self.inside.targets
-          (lives_if (mode g.W.World.opening c.append.new.self.seen c.take.new.self.shard.slot) (ap is_serving is.serves_now)),
+          (lives_if (mode g.W.World.opening c.append.new.self.seen c.take.new.self.shard.slot) (ap answers_queries is.serves_now)),
       all_had_same _ _ _ _ c.self.inside.sorted (t.stored ∙ ap (λ (x : List Entry). x ++ e ∷ []) ok.stored) refl
           (all_had_next c.self.inside.contents.stored.items e c.self.inside.contents.store.rows c.take.new.self.store.rows c.self.inside.sorted
           (subst (λ (x : List RowChange). SameRows c.take.new.self.store.rows (all_applied x c.self.inside.contents.store.rows))

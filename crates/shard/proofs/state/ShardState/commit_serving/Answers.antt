@@ -8,12 +8,13 @@ use Rattle.shard_run.specs.declared.Mode.TheVariants.{Serving}
 use Rattle.shard_law.proofs.Typed.{table_there}
 use Rattle.shard_contents.proofs.States.{after_look, names_after_look, same_contents, holds_of, lives_if, names_none}
 use Rattle.shard_contents.specs.Commits.{IsPlaced}
-use Rattle.shard_contents.specs.Shards.{ShardView, Holds, IsAfter, Names, commit_of}
+use Rattle.shard_law.specs.Entries.{ShardView, commit_of}
+use Rattle.shard_contents.specs.Shards.{Holds, IsAfter, RetiredFor}
 use Rattle.shard_contents.specs.declared.contents.Contents.{Contents}
-use Rattle.shard_contents.specs.declared.limits.Limits.{Limits}
-use Rattle.shard_run.specs.declared.Shard.{Shard}
+use Rattle.shard_law.specs.declared.limits.Limits.{Limits}
+use Rattle.shard_run.specs.declared.ShardRecord.{ShardRecord}
 use Rattle.shard_law.specs.Legal.{IsOnItsSlot}
-use Rattle.shard_run.specs.Runs.{Opening, Run, mode, is_serving, held_changes, stored_changes}
+use Rattle.shard_run.specs.Runs.{Opening, Run, mode, answers_queries, held_changes, stored_changes}
 use Rattle.vschema.specs.declared.changes.Write.{Write}
 use Rattle.vschema.specs.declared.changes.RowChange.{RowChange}
 use Rattle.journal.specs.Runs.{NumbersBelow}
@@ -28,13 +29,13 @@ pub append-requires-send-L-Entry : goal.append-requires-send-L-Entry
 append-requires-send-L-Entry g c κs within = search (entry_send, sendable)
 
 -- what the state's view says of its fields
-inside : (o : Opening) (seen : Run) (s : Shard) (v : ShardView) → record { seen = seen; shard = s } ≡ v → mode o v.seen v.shard.slot ≡ Serving
+inside : (o : Opening) (seen : Run) (s : ShardRecord) (v : ShardView) → record { seen = seen; shard = s } ≡ v → mode o v.seen v.shard.slot ≡ Serving
     → mode o seen s.slot ≡ Serving
 inside o seen s v view serving = subst (λ (x : ShardView). mode o x.seen x.shard.slot ≡ Serving) (sym view) serving
 
 holding : (o : Opening) (most : Limits) (seat : SeatView Entry) (c : Contents) → IsAfter o most seat c → mode o seat.seen c.shard.slot ≡ Serving
     → Holds o most seat.seen c
-holding o most seat c is serving = holds_of o most seat.seen c is.keeps (lives_if (mode o seat.seen c.shard.slot) (ap is_serving serving))
+holding o most seat c is serving = holds_of o most seat.seen c is.keeps (lives_if (mode o seat.seen c.shard.slot) (ap answers_queries serving))
 
 pub prepare-requires-clause-there : goal.prepare-requires-clause-there
 prepare-requires-clause-there g c =
@@ -52,7 +53,7 @@ pub prepare-requires-clause-within : goal.prepare-requires-clause-within
 prepare-requires-clause-within g c =
     let h = (holding g.W.World.opening g.W.World.limits c.self.inside.seat c.self.inside.contents c.self.invariant.0
     (inside g.W.World.opening _ _ _ c.self.view_is c.requires.serving)).within
-    (ap is_serving (inside g.W.World.opening _ _ _ c.self.view_is c.requires.serving)) in
+    (ap answers_queries (inside g.W.World.opening _ _ _ c.self.view_is c.requires.serving)) in
     let k = ap (λ (l : Limits). l.rows) c.self.invariant.0.limits in
     omega (arith, h, k)
 
@@ -65,7 +66,7 @@ invariant_of-self g c =
           (after_look _ _ c.self.inside.seat c.look-entries.new.self c.args.pass.now c.self.inside.contents c.self.inside.targets l.seen
           (ap (λ (s : SeatView Entry). s.slot) l.seat) is)
           p.shard p.rows p.mode p.stored p.steps p.same_limits,
-      subst (λ (s : Shard). Names g.W.World.opening c.look-entries.new.self.seen s c.self.inside.targets) (sym p.shard)
+      subst (λ (s : ShardRecord). RetiredFor g.W.World.opening c.look-entries.new.self.seen s c.self.inside.targets) (sym p.shard)
           (names_after_look _ _ c.self.inside.seat c.look-entries.new.self c.args.pass.now c.self.inside.contents c.self.inside.targets l.seen
           (ap (λ (s : SeatView Entry). s.slot) l.seat) is c.self.invariant.1),
       all_had_same _ _ _ _ c.self.inside.sorted p.stored p.rows c.self.invariant.2,
@@ -94,7 +95,7 @@ given o c p w changes session schema of now seen_as schemas changed view shards 
     let same : now.shard ≡ c.shard = ap (λ (x : ShardView). x.shard) (sym view) ∙ shards in
     record {
       changed = ap (λ (v : VSchema). changes_of v w c.store.rows) (sym schemas) ∙ changed;
-      placed = subst (λ (s : Shard). IsPlaced o.schema s.place w) same placed;
+      placed = subst (λ (s : ShardRecord). IsPlaced o.schema s.place w) same placed;
       mine = sym sessions ∙ mine;
     }
 
@@ -138,7 +139,7 @@ invariant_of-self-2 g c =
     let t = c.take.ensures in
     let e = c.in_ok-prepared.prepared.entry in (
       is.is_now,
-      names_none g.W.World.opening c.append.new.self.seen c.take.new.self.shard c.self.inside.targets (lives_if (mode g.W.World.opening c.append.new.self.seen c.take.new.self.shard.slot) (ap is_serving is.serves_now)),
+      names_none g.W.World.opening c.append.new.self.seen c.take.new.self.shard c.self.inside.targets (lives_if (mode g.W.World.opening c.append.new.self.seen c.take.new.self.shard.slot) (ap answers_queries is.serves_now)),
       all_had_same _ _ _ _ c.self.inside.sorted (t.stored ∙ ap (λ (l : List Entry). l ++ e ∷ []) ok.stored) refl
           (all_had_next c.self.inside.contents.stored.items e c.self.inside.contents.store.rows c.take.new.self.store.rows c.self.inside.sorted
           (subst (λ (l : List RowChange). SameRows c.take.new.self.store.rows (all_applied l c.self.inside.contents.store.rows))

@@ -4,13 +4,14 @@ use Rattle.vschema.specs.declared.changes.RowChange.{RowChange}
 use Rattle.vschema.specs.declared.changes.RowChange.TheVariants.{Added}
 use Rattle.vschema.specs.Database.{Database, SameRows, all_applied}
 use Rattle.journal.specs.Views.{SeatView, PassView}
-use Rattle.shard_run.specs.declared.Shard.{Shard}
+use Rattle.shard_run.specs.declared.ShardRecord.{ShardRecord}
 use Rattle.shard_run.specs.declared.Entry.{Entry}
 use Rattle.shard_run.specs.declared.Event.TheVariants.{Copy}
 use Rattle.shard_run.specs.Runs.{mode, held_changes}
-use Rattle.shard_contents.specs.declared.forward.Step.{Step}
+use Rattle.shard_contents.specs.declared.target_steps.TargetStep.{TargetStep}
 use Rattle.shard_contents.specs.Kept.{keep}
-use Rattle.shard_contents.specs.Shards.{MayFollow, Names}
+use Rattle.shard_law.specs.Entries.{MayFollow}
+use Rattle.shard_contents.specs.Shards.{RetiredFor}
 use Rattle.shard_contents.proofs.Looks.{following_lives}
 use Rattle.shard_contents.proofs.States.{looked, same_contents, names_none}
 use Rattle.shard_contents.proofs.Earlier.{all_had_none}
@@ -81,7 +82,7 @@ invariant_of-self-in_err-prepared g c =
     let p = c.prepare_copy.ensures in
     let l = looked _ _ c.self.inside.seat c.look-entries.new.self c.args.pass.now _ _ c.look-entries.ensures.seen c.look-entries.ensures.seat c.self.invariant in (
       same_contents _ _ c.look-entries.new.self c.self.inside.contents c.prepare_copy.new.self l.is p.shard p.rows p.mode p.stored p.steps p.same_limits,
-      subst (λ (s : Shard). Names g.W.World.opening c.look-entries.new.self.seen s c.self.inside.targets) (sym p.shard) l.names,
+      subst (λ (s : ShardRecord). RetiredFor g.W.World.opening c.look-entries.new.self.seen s c.self.inside.targets) (sym p.shard) l.names,
       all_had_none _ _ _ c.clear.ensures,
     )
 
@@ -119,12 +120,12 @@ invariant_of-self-2 g c =
           (subst (λ (db : Database). SameRows c.take_copy.new.self.store.rows (all_applied (map (Added taken.table) taken.rows) db)) ok.rows
           (subst (λ (l : List RowChange). SameRows c.take_copy.new.self.store.rows (all_applied l c.prepare_copy.new.self.store.rows)) (ap (λ (e : Entry). held_changes e.event) ok.entry) t.rows))
           (t.mode ∙ ok.mode) (ap (λ v. v.items) t.stored ∙ ok.stored)
-          (t.steps ∙ ap (keep c.in_ok-prepared.prepared.step) ok.steps ∙ ap (λ (s : Step). keep s had.steps.items) ok.step)
+          (t.steps ∙ ap (keep c.in_ok-prepared.prepared.step) ok.steps ∙ ap (λ (s : TargetStep). keep s had.steps.items) ok.step)
           (t.limits ∙ ok.same_limits) (omega (arith, count, few)),
       names_none o c.append.new.self.seen c.take_copy.new.self.shard c.self.inside.targets
           (following_lives (mode o c.append.new.self.seen c.take_copy.new.self.shard.slot)
           (ap (λ (r : List Entry). mode o r c.take_copy.new.self.shard.slot) ends
-          ∙ ap (λ (s : Shard). mode o (a.seen.0 ++ record { shard = had.shard; event = Copy taken } ∷ []) s.slot) shard_is
+          ∙ ap (λ (s : ShardRecord). mode o (a.seen.0 ++ record { shard = had.shard; event = Copy taken } ∷ []) s.slot) shard_is
           ∙ k.mode_copies o most seat had is follows a.seen.0 a.seen.1.alone taken)),
       all_had_none _ _ _ c.clear.ensures,
     )

@@ -1,9 +1,9 @@
 use Rattle.std.proofs.Common.{ℕ, sym, ap, ◌∙◌}
 use Rattle.std.specs.Prelude.{nat_le}
-use Rattle.shard_run.specs.Runs.{mode, held}
+use Rattle.shard_run.specs.Runs.{mode, shard_rows}
 use Rattle.shard_run.specs.Openings.{row_count}
-use Rattle.shard_contents.specs.declared.limits.Limits.{Limits}
-use Rattle.shard_contents.specs.Shards.{ShardView}
+use Rattle.shard_law.specs.declared.limits.Limits.{Limits}
+use Rattle.shard_law.specs.Entries.{ShardView}
 use Rattle.shard_contents.proofs.Bags.{row_count-same}
 use Rattle.shard_contents.proofs.States.{holds_of}
 use Rattle.shard.proofs.state.ShardState.fits.Goals as goal
@@ -18,5 +18,5 @@ returns g c =
     (λ retired. c.requires.lives (ap (λ (v : ShardView). mode o v.seen v.shard.slot) (sym c.self.view_is) ∙ retired)) in
     c.has_at_most.ensures
     ∙ ap (λ (n : ℕ). nat_le n had.limits.rows)
-    (row_count-same had.store.rows (held o seen had.shard) has.rows ∙ ap (λ (v : ShardView). row_count (held o v.seen v.shard)) c.self.view_is)
-    ∙ ap (λ (l : Limits). nat_le (row_count (held o c.args.self.now.seen c.args.self.now.shard)) l.rows) is.limits
+    (row_count-same had.store.rows (shard_rows o seen had.shard) has.rows ∙ ap (λ (v : ShardView). row_count (shard_rows o v.seen v.shard)) c.self.view_is)
+    ∙ ap (λ (l : Limits). nat_le (row_count (shard_rows o c.args.self.now.seen c.args.self.now.shard)) l.rows) is.limits

@@ -4,14 +4,15 @@ use Rattle.std.specs.List.{AllByRecursion}
 use Rattle.vschema.specs.declared.changes.RowChange.{RowChange}
 use Rattle.vschema.specs.Database.{SameRows, Database, changed_table, all_applied}
 use Rattle.journal.specs.Views.{SeatView, PassView}
-use Rattle.shard_run.specs.declared.Shard.{Shard}
+use Rattle.shard_run.specs.declared.ShardRecord.{ShardRecord}
 use Rattle.shard_run.specs.declared.Entry.{Entry}
 use Rattle.shard_run.specs.declared.Event.TheVariants.{Follow}
-use Rattle.shard_run.specs.Runs.{mode, held}
-use Rattle.shard_contents.specs.declared.limits.Limits.{Limits}
+use Rattle.shard_run.specs.Runs.{mode, shard_rows}
+use Rattle.shard_law.specs.declared.limits.Limits.{Limits}
 use Rattle.shard_contents.specs.Kept.{keep}
-use Rattle.shard_contents.specs.declared.forward.Step.TheVariants.{Followed}
-use Rattle.shard_contents.specs.Shards.{ShardView, MayFollow, Names}
+use Rattle.shard_contents.specs.declared.target_steps.TargetStep.TheVariants.{Followed}
+use Rattle.shard_law.specs.Entries.{ShardView, MayFollow}
+use Rattle.shard_contents.specs.Shards.{RetiredFor}
 use Rattle.shard_contents.proofs.Looks.{following_lives}
 use Rattle.shard_contents.proofs.States.{looked, same_contents, names_none}
 use Rattle.shard_contents.proofs.Earlier.{all_had_none}
@@ -49,7 +50,7 @@ invariant_of-self-in_err-step g c =
     let p = c.prepare_follow.ensures in
     let l = looked _ _ c.self.inside.seat c.look-entries.new.self c.args.pass.now _ _ c.look-entries.ensures.seen c.look-entries.ensures.seat c.self.invariant in (
       same_contents _ _ c.look-entries.new.self c.self.inside.contents c.prepare_follow.new.self l.is p.shard p.rows p.mode p.stored p.steps p.same_limits,
-      subst (λ (s : Shard). Names g.W.World.opening c.look-entries.new.self.seen s c.self.inside.targets) (sym p.shard) l.names,
+      subst (λ (s : ShardRecord). RetiredFor g.W.World.opening c.look-entries.new.self.seen s c.self.inside.targets) (sym p.shard) l.names,
       all_had_none _ _ _ c.clear.ensures,
     )
 
@@ -88,12 +89,12 @@ invariant_of-self-2 g c =
           (subst (λ (l : List RowChange). SameRows c.take_step.new.self.store.rows (all_applied l c.prepare_follow.new.self.store.rows)) changes t.rows))
           (t.mode ∙ ok.mode)
           (t.stored ∙ ap (λ (l : List Entry). l ++ c.in_ok-step.step.entry ∷ []) ok.stored ∙ ap (λ (e : Entry). had.stored.items ++ e ∷ []) ok.entry)
-          (t.steps ∙ ap (keep (Followed c.args.taken.source c.args.taken.place)) ok.steps)
+          (t.steps ∙ ap (keep (Followed c.args.taken.source c.args.taken.log_position)) ok.steps)
           (t.limits ∙ ok.same_limits) (omega (arith, count, few)),
       names_none o c.append.new.self.seen c.take_step.new.self.shard c.self.inside.targets
           (following_lives (mode o c.append.new.self.seen c.take_step.new.self.shard.slot)
           (ap (λ (r : List Entry). mode o r c.take_step.new.self.shard.slot) ends
-          ∙ ap (λ (s : Shard). mode o (a.seen.0 ++ record { shard = had.shard; event = Follow c.args.taken } ∷ []) s.slot) shard_is
+          ∙ ap (λ (s : ShardRecord). mode o (a.seen.0 ++ record { shard = had.shard; event = Follow c.args.taken } ∷ []) s.slot) shard_is
           ∙ f.mode_follows o most seat had is follows a.seen.0 a.seen.1.alone c.args.taken)),
       all_had_none _ _ _ c.clear.ensures,
     )
@@ -153,6 +154,6 @@ returns-clause-rows g c apart =
     l.seat l.pass c.args.self.now c.self.view_is c.requires.following taken c.requires.next c.look-entries.result (vec_len had.stored)
     (subst (λ (x : List RowChange). has_room_for had.limits c.look-entries.result (vec_len had.stored) (row_count had.store.rows) x ≡ true)
     c.as_slice-changes.ensures (sym c.has_room_for.ensures ∙ c.if-not-has_room_for.false)) in
-    subst (λ (s : Shard). row_count (held o c.append.new.pass.seen s) ≤ most.rows) shard_is
+    subst (λ (s : ShardRecord). row_count (shard_rows o c.append.new.pass.seen s) ≤ most.rows) shard_is
     (follow_within o most c.self.invariant.0.opens run (legal_is o run a.seen.1.legal) had.shard taken may c.append.new.pass.seen ends
     (subst (SourcesApart o c.append.new.pass.seen) (sym shard_is) apart) there (omega (arith, count, fits)))

@@ -2,10 +2,10 @@ use Rattle.std.proofs.Common.{◌≡◌, ◌+◌, ◌-◌, ◌<◌, ◌≤◌, �
 use Rattle.std.specs.Prelude.{if◌then◌else◌}
 use Rattle.std.proofs.lemmas.List.{take_more}
 use Rattle.journal.specs.Runs.{IsLegal}
-use Rattle.shard_contents.specs.declared.forward.Step.{Step}
+use Rattle.shard_contents.specs.declared.target_steps.TargetStep.{TargetStep}
 use Rattle.shard_contents.specs.Kept.{is_copy_from}
 use Rattle.shard_contents.specs.Progress.{steps_on}
-use Rattle.shard_contents.specs.Shards.{ShardView, MayFollow}
+use Rattle.shard_law.specs.Entries.{ShardView, MayFollow}
 use Rattle.shard_contents.proofs.Legality.{legal_is}
 use Rattle.shard_contents.proofs.Progress.{copy_told, last_copy, last_copy-push, take_whole}
 use Rattle.shard.specs.inner.Reached.{IsLastCopy}
@@ -13,12 +13,12 @@ use Rattle.shard.proofs.Reaches.{last_copy_tells}
 use Rattle.shard.proofs.state.ShardState.last_copy.Goals as goal
 
 -- what the first `end` steps tell, of which this one is the last
-told : (source : ℕ) (steps : List Step) (end : ℕ) (x : Step) → 0 < end → end ≤ length steps → x ≡ get_or steps (end - 1) x
+told : (source : ℕ) (steps : List TargetStep) (end : ℕ) (x : TargetStep) → 0 < end → end ≤ length steps → x ≡ get_or steps (end - 1) x
     → last_copy source None (take end steps) ≡ (if is_copy_from source x then Some x else last_copy source None (take (end - 1) steps))
 told source steps end x some within is =
     let on : end ≡ (end - 1) + 1 = omega (arith, some) in
     ap (λ n. last_copy source None (take n steps)) on
-    ∙ ap (last_copy source None) (take_more steps (end - 1) x (omega (arith, some, within)) ∙ ap (λ (y : Step). take (end - 1) steps ++ y ∷ []) (sym is))
+    ∙ ap (last_copy source None) (take_more steps (end - 1) x (omega (arith, some, within)) ∙ ap (λ (y : TargetStep). take (end - 1) steps ++ y ∷ []) (sym is))
     ∙ last_copy-push source None (take (end - 1) steps) x
 
 pub loop-end-init : goal.loop-end-init

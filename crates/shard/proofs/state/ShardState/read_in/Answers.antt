@@ -6,7 +6,7 @@ use Rattle.vschema.specs.Sources.{source_rows, source_tables, SourcesThere}
 use Rattle.sql_eval.specs.Groups.{CanBeSummed}
 use Rattle.sql_eval.specs.Queries.{Allowed}
 use Rattle.shard_run.specs.Runs.{stored_on}
-use Rattle.shard_contents.specs.Shards.{seat_view}
+use Rattle.shard_law.specs.Entries.{seat_view}
 use Rattle.shard_contents.specs.Transactions.{touched_all, PendingView}
 use Rattle.shard_contents.specs.Transactions as t
 use Rattle.shard.proofs.HeldRows.{few_sources}
@@ -28,23 +28,23 @@ returns-in_err-touch-clause-err g c =
     let p = err_from_is_err_and c.from_residual-in_err-touch.result c.from_residual-in_err-touch.ensures.1 in
     rw (p.1, p.2, c.in_err-touch.ensures.err) t.no_memory
 
-pub select_behind-requires-clause-there : goal.select_behind-requires-clause-there
-select_behind-requires-clause-there g c =
+pub select_in_transaction-requires-clause-there : goal.select_in_transaction-requires-clause-there
+select_in_transaction-requires-clause-there g c =
     let e = c.in_ok-entries.ensures in
     let long = l.tables g.W.World.opening g.W.World.limits c.self.inside.seat c.self.inside.contents c.self.invariant.0 _ c.self.view_is c.args.self.now.shard e.shard
     c.args.tx.now e.clear e.seen.legal in
     subst (λ (count : ℕ). SourcesThere count c.args.query.now) (sym long) c.requires.there
 
-pub select_behind-requires-clause-few : goal.select_behind-requires-clause-few
-select_behind-requires-clause-few g c =
+pub select_in_transaction-requires-clause-few : goal.select_in_transaction-requires-clause-few
+select_in_transaction-requires-clause-few g c =
     let e = c.in_ok-entries.ensures in
     let few = l.few g.W.World.opening g.W.World.limits c.self.inside.seat c.self.inside.contents c.self.invariant.0 _ c.self.view_is c.args.self.now.shard e.shard
     c.args.tx.now e.clear e.seen.legal in
     let sources = few_sources c.args.query.now c.self.inside.contents.store.rows few in
     omega (arith, sources)
 
-pub select_behind-requires-clause-summed : goal.select_behind-requires-clause-summed
-select_behind-requires-clause-summed g c aggregated few =
+pub select_in_transaction-requires-clause-summed : goal.select_in_transaction-requires-clause-summed
+select_in_transaction-requires-clause-summed g c aggregated few =
     let e = c.in_ok-entries.ensures in
     let own : c.as_slice.result.now ≡ c.args.tx.now.changes = c.as_slice.ensures.value ∙ ap (λ (x : PendingView). x.changes) c.tx.view_is in
     let rows = c.self.inside.contents.store.rows in

@@ -3,8 +3,8 @@ use Rattle.vschema.specs.declared.schema.VSchema.{VSchema}
 use Rattle.vschema.specs.Database.{rows_of}
 use Rattle.journal.specs.Runs.{IsLegal}
 use Rattle.shard_run.specs.Copies.{table_at}
-use Rattle.shard_run.specs.Runs.{mode, is_serving, stored_on}
-use Rattle.shard_contents.specs.Shards.{ShardView, MayFollow}
+use Rattle.shard_run.specs.Runs.{mode, answers_queries, stored_on}
+use Rattle.shard_law.specs.Entries.{ShardView, MayFollow}
 use Rattle.shard_contents.specs.Copying.{IsCopyFor}
 use Rattle.shard_contents.proofs.Legality.{legal_is}
 use Rattle.shard_contents.proofs.States.{holds_of, lives_if}
@@ -16,7 +16,7 @@ first_wanted-requires-clause-there g c =
     let o = g.W.World.opening in
     let seat = c.self.inside.seat in
     let had = c.self.inside.contents in
-    let serves = subst (λ (x : ShardView). is_serving (mode o x.seen x.shard.slot) ≡ true) (sym c.self.view_is) c.requires.serves in
+    let serves = subst (λ (x : ShardView). answers_queries (mode o x.seen x.shard.slot) ≡ true) (sym c.self.view_is) c.requires.serves in
     let has = holds_of o g.W.World.limits seat.seen had c.self.invariant.0.keeps (lives_if (mode o seat.seen had.shard.slot) serves) in
     let tables = has.tables in
     let there = c.requires.there in
@@ -36,12 +36,12 @@ returns-clause-copy g c =
     let first = first_as c.args.place.now c.index-as_slice-next.result (table_at o.schema n) c.args.next.now.after c.args.next.now.after (rows_of had.store.rows n)
     (rows_of had.store.rows n) c.in_ok-rows.rows.items table refl refl c.in_ok-rows.ensures.ok in
     let legal = legal_is o seat.seen (subst (λ (x : ShardView). IsLegal (MayFollow o) x.seen) (sym view) c.requires.legal) in
-    let serves = subst (λ (x : ShardView). is_serving (mode o x.seen x.shard.slot) ≡ true) (sym view) c.requires.serves in (
+    let serves = subst (λ (x : ShardView). answers_queries (mode o x.seen x.shard.slot) ≡ true) (sym view) c.requires.serves in (
       refl,
       subst (λ (x : ShardView). IsCopyFor o x.seen x.shard c.args.place.now c.args.next.now.after
-          (record { source = c.slot-source.result; table = n; place = c.stored-stored.result; rows = c.from_vec.result })) view
+          (record { source = c.slot-source.result; table = n; log_position = c.stored-stored.result; rows = c.from_vec.result })) view
           (copy_for o g.W.World.limits seat had c.self.invariant.0 c.requires.formed legal serves n c.args.place.now c.args.next.now.after c.in_ok-rows.rows.items
-          (record { source = c.slot-source.result; table = n; place = c.stored-stored.result; rows = c.from_vec.result }) first
+          (record { source = c.slot-source.result; table = n; log_position = c.stored-stored.result; rows = c.from_vec.result }) first
           (c.slot-source.ensures.slot ∙ ap (λ (x : ShardView). x.shard.slot) (sym view)) refl
           (c.stored-stored.ensures ∙ ap (λ (x : ShardView). length (stored_on x.shard.slot x.seen)) (sym view)) c.from_vec.ensures),
     )

@@ -23,7 +23,7 @@ returns-in_err-changes-clause-err g c =
     let why = l.err_of
     (λ e. (e ≡ OutOfMemory)
     ⊎ ((e ≡ DuplicateKey) × (changes_of c.args.schema.now c.in_ok-write.write (all_applied c.as_slice.result.now c.self.inside.contents.store.rows) ≡ Err DuplicateKey)))
-    c.changes_behind-made.result c.in_err-changes.field-0.0 c.in_err-changes.ensures.err c.changes_behind-made.ensures.err in
+    c.changes_in_transaction-made.result c.in_err-changes.field-0.0 c.in_err-changes.ensures.err c.changes_in_transaction-made.ensures.err in
     rw (p.1, p.2)
     (subst (λ (w : Write). IsWriteRefusal o c.args.self.now.shard c.check.new.self.seen c.args.tx.now w c.in_err-changes.field-0.0) c.in_ok-write.ensures.ok.1
     (l.write_refused o g.W.World.limits c.self.inside.seat c.self.inside.contents c.self.invariant.0 _ c.self.view_is c.args.self.now.shard c.check.ensures.shard
@@ -43,7 +43,7 @@ returns-clause-written g c =
     let over : changes_of c.args.schema.now c.in_ok-write.write (all_applied c.as_slice.result.now c.self.inside.contents.store.rows) ≡ Ok c.in_ok-changes.changes =
     l.ok_of
     (λ more. changes_of c.args.schema.now c.in_ok-write.write (all_applied c.as_slice.result.now c.self.inside.contents.store.rows) ≡ Ok more)
-    c.changes_behind-made.result c.in_ok-changes.changes made.0 c.changes_behind-made.ensures.ok in
+    c.changes_in_transaction-made.result c.in_ok-changes.changes made.0 c.changes_in_transaction-made.ensures.ok in
     subst (λ (w : Write). HasWrittenIn o c.args.self.now.shard c.args.tx.now c.check.new.self.seen w c.len-2.result c.add.new.self)
     (made.1 ∙ c.in_ok-write.ensures.ok.1)
     (l.written o g.W.World.limits c.self.inside.seat c.self.inside.contents c.self.invariant.0 _ c.self.view_is c.args.self.now.shard c.check.ensures.shard

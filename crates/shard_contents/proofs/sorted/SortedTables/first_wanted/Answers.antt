@@ -2,7 +2,7 @@ use Rattle.std.proofs.Common.{Option, subst}
 use Rattle.vt_value.specs.Values.{Row}
 use Rattle.vschema.specs.Database.{rows_of}
 use Rattle.shard_contents.specs.inner.Placed.{AreFirst}
-use Rattle.shard_contents.specs.Copying.{is_wanted}
+use Rattle.shard_contents.specs.Copying.{is_left_to_copy}
 use Rattle.shard_contents.proofs.Earlier.{had_now, first_permuted}
 use Rattle.std.proofs.lemmas.List.Sorted.{IsPermutation-sym}
 use Rattle.shard_contents.proofs.sorted.SortedTables.first_wanted.Goals as goal
@@ -24,5 +24,5 @@ returns-clause-ok c =
     let t = c.args.table.now in
     let all = rows_of c.args.contents.now.store.rows c.args.next.now.table in
     let rows = c.in_ok-sorted.sorted.rows in
-    subst (λ (x : Option Row). AreFirst t (is_wanted c.args.place.now t x) all c.in_ok-first.first.items) c.as_ref.ensures.value
+    subst (λ (x : Option Row). AreFirst t (is_left_to_copy c.args.place.now t x) all c.in_ok-first.first.items) c.as_ref.ensures.value
     (first_permuted t _ rows all c.in_ok-first.first.items (IsPermutation-sym rows all c.in_ok-sorted.ensures.ok.rows) c.in_ok-first.ensures.ok)

@@ -9,7 +9,7 @@ pub returns-clause-taken : goal.returns-clause-taken
 returns-clause-taken c =
     let all = c.as_slice.result.now in
     let t = c.remove.result in
-    let at = position-Some (λ (x : EarlierTable). x.table == c.args.place) all c.in_ok-at.at t (sym c.place_of.ensures ∙ c.in_ok-at.was) in
+    let at = position-Some (λ (x : EarlierTable). x.table == c.args.place) all c.in_ok-at.at t (sym c.ordinal_of.ensures ∙ c.in_ok-at.was) in
     let is : t ≡ get_or all c.in_ok-at.at t = c.remove.ensures.value ∙ ap (λ (l : List EarlierTable). get_or l c.in_ok-at.at t) (sym c.as_slice.ensures.value) in (
       eqb-true t.table c.args.place (ap (λ (x : EarlierTable). x.table == c.args.place) is ∙ at.1),
       λ stored now had.

@@ -13,11 +13,11 @@ returns-in-Some-clause-ok c =
     let a = c.args.first.now in
     let column = c.args.self.now.column in
     let across = c.joins_by.ensures c.if-not-joins_by.false in
-    let place = across.1 ∙ ap (λ (r : ColumnRows). j.width + r.column) c.self.view_is in
+    let ordinal = across.1 ∙ ap (λ (r : ColumnRows). j.width + r.column) c.self.view_is in
     IfOk-weaker c.with.result _ _
     (λ rows is. ap (filter (is_pair j a)) is
     ∙ filter_weaker (is_pair j a) (has_value column c.in-Some.value.now)
-    (λ b pair. subst (λ (v : Value). has_value column v b ≡ true) (sym c.in-Some.ensures) (partner_has j column a b across.0 place pair)) c.args.self.now.rows)
+    (λ b pair. subst (λ (v : Value). has_value column v b ≡ true) (sym c.in-Some.ensures) (partner_has j column a b across.0 ordinal pair)) c.args.self.now.rows)
     c.with.ensures.ok
 
 pub returns-in-None-clause-ok : goal.returns-in-None-clause-ok

@@ -19,8 +19,8 @@ returns-then-branch-clause-ok c =
     let f : Row → Row → Bool = λ n r. same_row (key_of t n) (key_of t r) in
     let xs = left_of c.self.inside.gone (rows_in c.self.inside.stored.now.slots) in
     let ys = rows_lent c.self.inside.others.items in
-    let told : (a b : Row) → same_row (key_at c.self.inside.stored.now.places a) (key_at c.self.inside.stored.now.places b) ≡ f a b =
-    λ a b. subst (λ (v : ChangedView). same_row (key_at v.places a) (key_at v.places b) ≡ f a b) (sym c.self.view_is) (c.requires a b) in
+    let told : (a b : Row) → same_row (key_at c.self.inside.stored.now.ordinals a) (key_at c.self.inside.stored.now.ordinals b) ≡ f a b =
+    λ a b. subst (λ (v : ChangedView). same_row (key_at v.ordinals a) (key_at v.ordinals b) ≡ f a b) (sym c.self.view_is) (c.requires a b) in
     let there : any_two f xs new ≡ true =
     sym (c.in_ok-any_has_slot.ensures.ok ∙ (λ i. list_any (λ n. list_any (λ r. told n r i) xs) new)) ∙ c.if-branch.true in
     sym (ap (λ (v : ChangedView). any_two f v.rows new) (sym c.self.view_is) ∙ two_lists f xs ys new ∙ ap (λ b. b || any_two f ys new) there)
@@ -33,8 +33,8 @@ returns-clause-ok c =
     let xs = left_of c.self.inside.gone (rows_in c.self.inside.stored.now.slots) in
     let ys = rows_lent c.self.inside.others.items in
     let sorted = rows_lent c.in_ok-sorted.sorted.items in
-    let told : (a b : Row) → same_row (key_at c.self.inside.stored.now.places a) (key_at c.self.inside.stored.now.places b) ≡ f a b =
-    λ a b. subst (λ (v : ChangedView). same_row (key_at v.places a) (key_at v.places b) ≡ f a b) (sym c.self.view_is) (c.requires a b) in
+    let told : (a b : Row) → same_row (key_at c.self.inside.stored.now.ordinals a) (key_at c.self.inside.stored.now.ordinals b) ≡ f a b =
+    λ a b. subst (λ (v : ChangedView). same_row (key_at v.ordinals a) (key_at v.ordinals b) ≡ f a b) (sym c.self.view_is) (c.requires a b) in
     let none : any_two f xs new ≡ false =
     sym (c.in_ok-any_has_slot.ensures.ok ∙ (λ i. list_any (λ n. list_any (λ r. told n r i) xs) new)) ∙ c.if-branch.false in
     c.any_lent_has_key.ensures

@@ -5,10 +5,10 @@ use Rattle.shard_store.proofs.slots.Slots.walks.Goals as goal
 pub loop-value-preserved : goal.loop-value-preserved
 loop-value-preserved c =
     more_walked (λ v. rows_in (slots_with v c.args.self.now)) c.loop-value.last c.value-item.result c.args.sorted.now c.loop-value.value-index c.loop-value.walks.items
-    c.is_behind.result _ c.loop-value-test.true c.value-item.is c.is_behind.ensures c.loop-value.invariant _ _ c.if-not-is_behind.false c.in_ok-rows_with.ensures.ok
+    c.comes_after.result _ c.loop-value-test.true c.value-item.is c.comes_after.ensures c.loop-value.invariant _ _ c.if-not-comes_after.false c.in_ok-rows_with.ensures.ok
     c.in_ok-push.ensures.items
 
-pub loop-value-preserved-then-not-is_behind : goal.loop-value-preserved-then-not-is_behind
-loop-value-preserved-then-not-is_behind c =
+pub loop-value-preserved-then-not-comes_after : goal.loop-value-preserved-then-not-comes_after
+loop-value-preserved-then-not-comes_after c =
     none_walked (λ v. rows_in (slots_with v c.args.self.now)) c.loop-value.last c.value-item.result c.args.sorted.now c.loop-value.value-index c.loop-value.walks.items
-    c.is_behind.result _ c.loop-value-test.true c.value-item.is c.is_behind.ensures c.loop-value.invariant c.if-not-is_behind.true
+    c.comes_after.result _ c.loop-value-test.true c.value-item.is c.comes_after.ensures c.loop-value.invariant c.if-not-comes_after.true

@@ -16,7 +16,7 @@ loop-change-init c =
           (reached_first c.args.self.now.rows c.args.changes.items);
       keys = subst (AllByRecursion (HasItsKey c.args.self.now)) (sym gives) c.requires.keys;
       room = subst (HasRoomFor c.args.self.now) (sym gives) c.requires.room;
-      places = refl;
+      ordinals = refl;
     }
 
 pub apply_one-requires-clause-key : goal.apply_one-requires-clause-key
@@ -34,10 +34,10 @@ loop-change-preserved c = record {
   reached = reached_next c.loop-change.self.rows c.apply_one.new.self.rows c.in-Some.change (into_iter_items c.loop-change.change-iterator) (into_iter_items c.next.new.self)
       (all_applied (changes_in c.args.changes.items) c.args.self.now.rows) c.in-Some.ensures.steps.0 c.loop-change.invariant.reached c.apply_one.ensures.rows;
   keys = keys_others c.loop-change.self c.apply_one.new.self (into_iter_items c.loop-change.change-iterator) (into_iter_items c.next.new.self) c.in-Some.change
-      c.in-Some.ensures.steps.0 c.apply_one.ensures.places c.loop-change.invariant.keys;
+      c.in-Some.ensures.steps.0 c.apply_one.ensures.ordinals c.loop-change.invariant.keys;
   room = room-others c.loop-change.self c.apply_one.new.self (into_iter_items c.loop-change.change-iterator) (into_iter_items c.next.new.self) c.in-Some.change
       c.in-Some.ensures.steps.0 c.loop-change.invariant.room c.apply_one.ensures.room;
-  places = c.apply_one.ensures.places ∙ c.loop-change.invariant.places;
+  ordinals = c.apply_one.ensures.ordinals ∙ c.loop-change.invariant.ordinals;
 }
 
 pub returns : goal.returns
@@ -48,5 +48,5 @@ returns c =
       rows = subst (λ (s : StoreView). SameRows s.rows (all_applied (changes_in c.args.changes.items) c.args.self.now.rows)) (sym c.sweep.ensures)
           (reached_last c.loop-change.self.rows (into_iter_items c.loop-change.change-iterator) (all_applied (changes_in c.args.changes.items) c.args.self.now.rows) none
           c.loop-change.invariant.reached);
-      places = ap (λ (s : StoreView). s.places) c.sweep.ensures ∙ c.loop-change.invariant.places;
+      ordinals = ap (λ (s : StoreView). s.ordinals) c.sweep.ensures ∙ c.loop-change.invariant.ordinals;
     }

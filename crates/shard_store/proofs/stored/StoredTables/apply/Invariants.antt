@@ -13,5 +13,5 @@ invariant-loop-change l =
       reached : Reached l.self.rows (into_iter_items l.change-iterator) (all_applied (changes_in l.fn.changes.items) l.fn.self.rows);
       keys : AllByRecursion (HasItsKey l.self) (into_iter_items l.change-iterator);
       room : HasRoomFor l.self (into_iter_items l.change-iterator);
-      places : l.self.places ≡ l.fn.self.places;
+      ordinals : l.self.ordinals ≡ l.fn.self.ordinals;
     }

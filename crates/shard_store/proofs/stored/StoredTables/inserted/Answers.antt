@@ -9,17 +9,17 @@ use Rattle.shard_store.proofs.stored.StoredTables.inserted.Goals as goal
 
 pub returns-in-Ok-true-clause-err : goal.returns-in-Ok-true-clause-err
 returns-in-Ok-true-clause-err c =
-    inr (insert_refused c.args.table.now c.args.write.now c.args.place c.args.new.now (rows_of c.args.self.now.rows c.args.place) c.requires
+    inr (insert_refused c.args.table.now c.args.write.now c.args.ordinal c.args.new.now (rows_of c.args.self.now.rows c.args.ordinal) c.requires
     (sym c.in-Ok-true.ensures.ok ∙ c.in-Ok-true.field-0-test))
 
 pub returns-in-Ok-false-clause-ok : goal.returns-in-Ok-false-clause-ok
 returns-in-Ok-false-clause-ok c =
     subst (λ (x : Result (List RowChange) Refusal). IfOk c.change_local.result (λ changes. x ≡ Ok changes))
-    (insert_of_none c.args.table.now c.args.write.now c.args.place c.args.new.now (rows_of c.args.self.now.rows c.args.place) c.requires
+    (insert_of_none c.args.table.now c.args.write.now c.args.ordinal c.args.new.now (rows_of c.args.self.now.rows c.args.ordinal) c.requires
     (sym c.in-Ok-false.ensures.ok ∙ c.in-Ok-false.field-0-test)) c.change_local.ensures.ok
 
 pub returns-in-Ok-false-clause-err : goal.returns-in-Ok-false-clause-err
 returns-in-Ok-false-clause-err c =
     subst (λ (x : Result (List RowChange) Refusal). IfErr c.change_local.result (λ e. (e ≡ OutOfMemory) ⊎ (x ≡ Err e)))
-    (insert_of_none c.args.table.now c.args.write.now c.args.place c.args.new.now (rows_of c.args.self.now.rows c.args.place) c.requires
+    (insert_of_none c.args.table.now c.args.write.now c.args.ordinal c.args.new.now (rows_of c.args.self.now.rows c.args.ordinal) c.requires
     (sym c.in-Ok-false.ensures.ok ∙ c.in-Ok-false.field-0-test)) c.change_local.ensures.err

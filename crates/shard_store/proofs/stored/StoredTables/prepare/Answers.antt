@@ -16,6 +16,6 @@ reserve_all-requires c =
 pub returns-in-Ok-clause-ready : goal.returns-in-Ok-clause-ready
 returns-in-Ok-clause-ready c = record {
   same = λ db. ap (λ (l : List RowChange). all_applied l db) c.in_ok-keyed.ensures.changes ∙ same_split c.args.changes.now db;
-  keys = keys_stay c.args.self.now c.reserve_all.new.self c.in-Ok.ensures.places c.in_ok-keyed.keyed.items c.in_ok-keyed.ensures.keys;
+  keys = keys_stay c.args.self.now c.reserve_all.new.self c.in-Ok.ensures.ordinals c.in_ok-keyed.keyed.items c.in_ok-keyed.ensures.keys;
   room = subst (HasRoomFor c.reserve_all.new.self) c.as_slice.ensures.value c.in-Ok.ensures.ok;
 }

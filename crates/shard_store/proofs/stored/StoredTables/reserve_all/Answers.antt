@@ -10,7 +10,7 @@ pub loop-change-preserved : goal.loop-change-preserved
 loop-change-preserved c =
     record {
       rows = c.reserve_for.ensures.rows ∙ c.loop-change.invariant.rows;
-      places = c.reserve_for.ensures.places ∙ c.loop-change.invariant.places;
+      ordinals = c.reserve_for.ensures.ordinals ∙ c.loop-change.invariant.ordinals;
       room =
           room_next c.loop-change.self c.reserve_for.new.self c.args.keyed.now c.loop-change.change-index c.change-item.result
           (omega (arith, c.loop-change-test.true)) c.change-item.is c.reserve_for.ensures.room c.in_ok-reserve_for.ensures.ok c.loop-change.invariant.room;

@@ -9,6 +9,6 @@ abbrev pub invariant-loop-change : goal.invariant-loop-change
 invariant-loop-change l =
     record {
       rows : l.self.rows ≡ l.fn.self.rows;
-      places : l.self.places ≡ l.fn.self.places;
+      ordinals : l.self.ordinals ≡ l.fn.self.ordinals;
       room : AllByRecursion (λ c. length l.keyed ≤ room_of l.self (changed_table (change_in c))) (take l.change-index l.keyed);
     }

@@ -9,8 +9,8 @@ use Rattle.shard_store.proofs.table.StoredTable.add.Goals as goal
 
 pub add-requires : goal.add-requires
 add-requires c =
-    free_slot c.self.inside.places c.args.key.now c.self.inside.slots c.self.invariant.keyed c.len-before.ensures.ascend
-    (subst (λ (t : TableView). list_any (has_key t.places c.args.key.now.values) (rows_in t.slots) ≡ false) (sym c.self.view_is) c.requires.absent)
+    free_slot c.self.inside.ordinals c.args.key.now c.self.inside.slots c.self.invariant.keyed c.len-before.ensures.ascend
+    (subst (λ (t : TableView). list_any (has_key t.ordinals c.args.key.now.values) (rows_in t.slots) ≡ false) (sym c.self.view_is) c.requires.absent)
     (subst (λ (t : TableView). IsSome (slot_at t.slots c.args.key.now)) (sym c.self.view_is) c.requires.slot)
 
 pub overflow_add-self : goal.overflow_add-self
@@ -22,8 +22,8 @@ overflow_add-self c =
 
 pub invariant_of-self : goal.invariant_of-self
 invariant_of-self c = record {
-  keyed = keyed_added c.self.inside.places c.args.key.now c.args.row c.self.inside.slots c.add.new.self c.add.ensures.slots
-      (subst (λ (t : TableView). c.args.key.now.values ≡ key_at t.places c.args.row) (sym c.self.view_is) c.requires.at) c.self.invariant.keyed;
+  keyed = keyed_added c.self.inside.ordinals c.args.key.now c.args.row c.self.inside.slots c.add.new.self c.add.ensures.slots
+      (subst (λ (t : TableView). c.args.key.now.values ≡ key_at t.ordinals c.args.row) (sym c.self.view_is) c.requires.at) c.self.invariant.keyed;
   counted =
       let more = length_permutation (rows_in c.add.new.self) (rows_in c.self.inside.slots ++ c.args.row ∷ []) c.add.ensures.rows in
       let n = length-append (rows_in c.self.inside.slots) (c.args.row ∷ []) in

@@ -11,7 +11,7 @@ use Rattle.shard_store.proofs.table.StoredTable.chosen.Goals as goal
 pub returns-clause-ok : goal.returns-clause-ok
 returns-clause-ok c =
     let k = is_kept c.args.condition.now in
-    let column = slice_index c.args.self.now.places 0 in
+    let column = slice_index c.args.self.now.ordinals 0 in
     let values = c.first_values-values.result in
     IfOk-weaker c.chosen_by.result _ _
     (λ rows is. ap (filter k) is

@@ -1,17 +1,17 @@
 use Rattle.std.proofs.Common.{◌≡◌, filter, subst, sym}
 use Rattle.std.specs.Prelude.{slice_index}
 use Rattle.vt_value.specs.Values.{value_at}
-use Rattle.shard_store.specs.declared.fixed.Fixed.{Fixed}
+use Rattle.shard_store.specs.declared.equalities.Fixed.{Fixed}
 use Rattle.shard_store.specs.Slots.{rows_in}
 use Rattle.shard_store.specs.Chosen.{fits}
 use Rattle.shard_store.proofs.table.StoredTable.chosen_of.Goals as goal
 
 pub returns-in_ok-rows-in-One-clause-ok : goal.returns-in_ok-rows-in-One-clause-ok
 returns-in_ok-rows-in-One-clause-ok c =
-    subst (λ (f : Fixed). c.in_ok-rows-in-One.rows ≡ filter (λ row. fits f (value_at row (slice_index c.args.self.now.places 0))) (rows_in c.args.self.now.slots))
+    subst (λ (f : Fixed). c.in_ok-rows-in-One.rows ≡ filter (λ row. fits f (value_at row (slice_index c.args.self.now.ordinals 0))) (rows_in c.args.self.now.slots))
     (sym c.in-One.is) c.in_ok-rows-in-One.ensures.ok
 
 pub returns-in_ok-rows-in-Among-clause-ok : goal.returns-in_ok-rows-in-Among-clause-ok
 returns-in_ok-rows-in-Among-clause-ok c =
-    subst (λ (f : Fixed). c.in_ok-rows-in-Among.rows ≡ filter (λ row. fits f (value_at row (slice_index c.args.self.now.places 0))) (rows_in c.args.self.now.slots))
+    subst (λ (f : Fixed). c.in_ok-rows-in-Among.rows ≡ filter (λ row. fits f (value_at row (slice_index c.args.self.now.ordinals 0))) (rows_in c.args.self.now.slots))
     (sym c.in-Among.is) c.in_ok-rows-in-Among.ensures.ok

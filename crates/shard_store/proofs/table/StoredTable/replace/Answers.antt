@@ -9,12 +9,12 @@ use Rattle.shard_store.proofs.table.StoredTable.replace.Goals as goal
 pub add-requires : goal.add-requires
 add-requires c =
     let rows = rows_in c.remove.new.self.slots in
-    let same = sym c.remove.ensures.places in
+    let same = sym c.remove.ensures.ordinals in
     record {
       at = subst (λ (ps : List ℕ). c.args.key.now.values ≡ key_at ps c.args.new) same c.requires.fits.at;
       slot = c.remove.ensures.kept c.args.key.now c.requires.fits.slot;
       absent = subst (λ (ps : List ℕ). list_any (has_key ps c.args.key.now.values) rows ≡ false) same
-          (list_any-IsPermutation (has_key c.args.self.now.places c.args.key.now.values) rows (without c.args.old.now (rows_in c.args.self.now.slots)) c.remove.ensures.rows
+          (list_any-IsPermutation (has_key c.args.self.now.ordinals c.args.key.now.values) rows (without c.args.old.now (rows_in c.args.self.now.slots)) c.remove.ensures.rows
           ∙ c.requires.fits.absent);
     }
 

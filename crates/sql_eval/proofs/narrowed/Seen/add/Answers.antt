@@ -3,10 +3,10 @@ use Rattle.sql_eval.proofs.NarrowLemmas.{seen_again, seen_first}
 use Rattle.sql_eval.proofs.narrowed.Seen.add.Goals as goal
 
 pub returns-in_ok-push-in-Some-clause-ok : goal.returns-in_ok-push-in-Some-clause-ok
-returns-in_ok-push-in-Some-clause-ok c = λ before is. rw c.in_ok-push-in-Some.ensures.ok (seen_again before c.args.self.now c.args.item.now c.in-Some.place is (search rules))
+returns-in_ok-push-in-Some-clause-ok c = λ before is. rw c.in_ok-push-in-Some.ensures.ok (seen_again before c.args.self.now c.args.item.now c.in-Some.ordinal is (search rules))
 
 pub returns-in_ok-push-in-None-2-clause-ok : goal.returns-in_ok-push-in-None-2-clause-ok
 returns-in_ok-push-in-None-2-clause-ok c = λ before is.
-    rw (c.in_ok-push-in-None.ensures.ok, c.in_ok-push-in-None-2.ensures.ok, c.copy_item.ensures, c.len-place.ensures)
+    rw (c.in_ok-push-in-None.ensures.ok, c.in_ok-push-in-None-2.ensures.ok, c.copy_item.ensures, c.len-ordinal.ensures)
     (seen_first before c.args.self.now c.args.item.now c.insert.new.self is (search rules)
-    (λ n. c.in_ok-insert-in-None.ensures.updates.0 n ∙ rw (c.item_code-code.ensures, c.len-place.ensures) refl))
+    (λ n. c.in_ok-insert-in-None.ensures.updates.0 n ∙ rw (c.item_code-code.ensures, c.len-ordinal.ensures) refl))

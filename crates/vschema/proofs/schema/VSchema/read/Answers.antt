@@ -2,9 +2,9 @@ use Rattle.std.proofs.Common.{◌≡◌, None, ap, sym, subst, ◌∙◌}
 use Rattle.std.specs.Prelude.{IsTrue}
 use Rattle.serde_json.specs.View.{view}
 use Rattle.vschema.specs.Formed.{is_formed}
-use Rattle.vschema_document.specs.Faults.{first_fault}
+use Rattle.vschema_json.specs.Faults.{first_fault}
 use Rattle.vschema.specs.Meant.{meant}
-use Rattle.vschema_document.proofs.Formats.{document_good}
+use Rattle.vschema_json.proofs.Formats.{document_good}
 use Rattle.vschema.proofs.Lawful.{meant_is_formed}
 use Rattle.vschema.proofs.schema.VSchema.read.Goals as goal
 

@@ -12,4 +12,4 @@ pub returns-clause-own : goal.returns-clause-own
 returns-clause-own g c =
     subst (KnowsOwn c.args.all.now.seen) c.self.view_is
     (λ n e.
-    c.confirm.ensures.own n e (subst (λ (s : KeptSession). IsPrefix s.kept.pass.seen c.args.all.now.seen) (sym c.self.view_is) c.requires.behind))
+    c.confirm.ensures.own n e (subst (λ (s : KeptSession). IsPrefix s.kept.pass.seen c.args.all.now.seen) (sym c.self.view_is) c.requires.trailing))

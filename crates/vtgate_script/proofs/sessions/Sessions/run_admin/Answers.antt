@@ -3,9 +3,9 @@ use Rattle.std.specs.Io.KnownBytes.{Appends}
 use Rattle.journal.specs.Views.{PassView}
 use Rattle.shard_run.specs.declared.Entry.{Entry}
 use Rattle.shard_run.specs.Runs.{Run}
-use Rattle.shard_contents.specs.declared.limits.Limits.{Limits}
+use Rattle.shard_law.specs.declared.limits.Limits.{Limits}
 use Rattle.shard_calls.specs.Alone.{NoCommits}
-use Rattle.administration.specs.Told.{IsTold}
+use Rattle.admin.specs.AdminAnswers.{IsAdminReply}
 use Rattle.vtgate_script.specs.inner.UnderWay.{KeptSession, KeptProgress}
 use Rattle.vtgate_script.proofs.Printing.{on_ok}
 use Rattle.vtgate_script.proofs.Places.{all_further}
@@ -15,7 +15,7 @@ use Rattle.vtgate_script.proofs.sessions.Sessions.run_admin.Goals as goal
 pub confirm_all-requires : goal.confirm_all-requires
 confirm_all-requires g c =
     record {
-      behind = all_further g.W.World.opening c.self.inside.all.seen c.administer-reply.new.pass.seen c.self.inside.sessions.items
+      trailing = all_further g.W.World.opening c.self.inside.all.seen c.administer-reply.new.pass.seen c.self.inside.sessions.items
           c.administer-reply.ensures.onward.later c.self.invariant.1;
     }
 
@@ -47,6 +47,6 @@ returns-clause-told g c =
       ap₂ (λ (ys : List KeptSession) (r : Run). let k : KeptProgress = record { sessions = ys; seen = r } in k) c.confirm_all.ensures.sessions
           (ap (λ (p : PassView Entry). p.seen) c.confirm_all.ensures.all)
           ∙ ap (λ (k : KeptProgress). record k { seen = now.seen }) c.self.view_is,
-      subst (λ (l : Limits). IsTold g.W.World.opening l c.args.words.now c.self.inside.all now c.administer-reply.result c.args.administrator.now
+      subst (λ (l : Limits). IsAdminReply g.W.World.opening l c.args.words.now c.self.inside.all now c.administer-reply.result c.args.administrator.now
           c.administer-reply.new.administrator) c.requires.limits c.administer-reply.ensures.told,
     ))

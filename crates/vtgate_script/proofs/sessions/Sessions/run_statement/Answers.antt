@@ -8,7 +8,7 @@ returns-in-Ok-run_at g c =
       runs = (
         r.0,
         r.2,
-        has_run g.W.World.opening c.args.self.now c.place_or_open.new.self c.run_at.new.self c.args.name.now c.args.sql.now r.0 c.in-Ok.place r.1
+        has_run g.W.World.opening c.args.self.now c.ordinal_or_open.new.self c.run_at.new.self c.args.name.now c.args.sql.now r.0 c.in-Ok.ordinal r.1
             c.in-Ok.ensures r.3 r.4,
       );
       fault = tt;

@@ -11,10 +11,10 @@ use Rattle.route_engine.specs.contracts.engine.Engine as engine
 use Rattle.shard_calls.proofs.Sent.{captures_send}
 use Rattle.route_engine.proofs.Shared.{engine_sync}
 use Rattle.vtgate_serve.specs.contracts.admission.Admission as admission
-use Rattle.vtgate_serve.specs.contracts.entrance.Acceptor as acceptor
-use Rattle.vtgate_serve.specs.contracts.progress.Progress as progress
+use Rattle.vtgate_serve.specs.contracts.acceptor.Acceptor as acceptor
+use Rattle.vtgate_serve.specs.contracts.progress.ServeProgress as progress
 use Rattle.vtgate_serve.proofs.admission.Admission.TheSendSync as sent_admission
-use Rattle.vtgate_serve.proofs.progress.Progress.TheSendSync as sent_progress
+use Rattle.vtgate_serve.proofs.progress.ServeProgress.TheSendSync as sent_progress
 use Rattle.vtgate_serve.proofs.Sent.{acceptor_send}
 use Rattle.vtgate_serve.proofs.ports.fn.serve_both.scope.Goals as goal
 

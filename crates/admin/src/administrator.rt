@@ -1,0 +1,157 @@
+//! Admin lines, each read and answered.
+ghost use Rattle.std.specs.Prelude.{◌≡◌, IsTrue};
+ghost use Rattle.vschema.specs.WellFormed.{is_vschema};
+ghost use Rattle.journal.specs.Runs.{IsLegal};
+ghost use Rattle.shard_law.specs.Entries.{MayFollow};
+ghost use Rattle.follow.specs.Steps.{IsOnward};
+ghost use Rattle.admin.specs.AdminAnswers.{IsAnswered, IsAnsweredWithout};
+
+use crate::calls::{advance, cancel, complete, create, resume, step, switch};
+use crate::reply::AdminReply;
+use crate::status::{empty_status, status};
+use buffer::Buffer;
+use journal::{Naming, Pass};
+use reshard::{ReshardFault, Workflow};
+use serving::Serving;
+use shard::{Shard, ShardLaw, World};
+use std::alloc::Global;
+use std::marker::Model;
+use std::sync::Wait;
+use vschema::VSchema;
+use vtgate_lines::{AdminLine, read_admin_line};
+
+fn refused(fault: ReshardFault) -> AdminReply
+    ensures { result ≡ AdminReply.Refused fault }
+{
+    AdminReply::Refused(fault)
+}
+
+// Answers a line over a workflow.
+fn answer_over<W: World, J: Naming>(
+    workflow: &mut Workflow<W, J>,
+    rt: &impl Wait,
+    alloc: Global,
+    pass: &mut Pass<ShardLaw<W>, J>,
+    schema: &VSchema,
+    serving: &Serving<Shard<W, J>>,
+    buffer: &Buffer,
+    words: &[u8],
+) -> AdminReply
+    requires schema { schema.now ≡ W.opening.schema }
+    requires formed { IsTrue (is_vschema W.opening.schema) }
+    requires legal { IsLegal (MayFollow W.opening) pass.old.seen }
+    requires home { serving.now ≡ workflow.old.keyspace }
+    ensures answered { IsAnswered W.opening W.limits words.now workflow.old workflow.new pass.old pass.new result }
+    ensures onward { IsOnward W.opening pass.old pass.new }
+{
+    let line = match read_admin_line(alloc, words) {
+        Ok(line) => line,
+        Err(refusal) => return refused(ReshardFault::Refused(refusal)),
+    };
+    match line {
+        AdminLine::Status => status(alloc, workflow, serving),
+        AdminLine::Create(sources, targets) => {
+            create(
+                workflow, rt, alloc, pass, schema, serving, &sources, &targets,
+            )
+        }
+        AdminLine::Step => step(workflow, rt, alloc, pass, schema),
+        AdminLine::Switch => switch(workflow, rt, alloc, pass, schema, serving, buffer),
+        AdminLine::Advance => advance(workflow, rt, alloc, pass, schema, serving, buffer),
+        AdminLine::Resume => resume(workflow, rt, pass, schema, serving, buffer),
+        AdminLine::Cancel => cancel(workflow, rt, pass, buffer),
+        AdminLine::Complete => complete(workflow, rt, pass),
+        AdminLine::Unknown => AdminReply::Unknown,
+    }
+}
+
+// Answers a line if there is no sharded keyspace.
+fn answer_without(alloc: Global, words: &[u8]) -> AdminReply
+    ensures { IsAnsweredWithout words.now result }
+{
+    let line = match read_admin_line(alloc, words) {
+        Ok(line) => line,
+        Err(refusal) => return refused(ReshardFault::Refused(refusal)),
+    };
+    match line {
+        AdminLine::Status => empty_status(alloc),
+        AdminLine::Create(_, _) => refused(ReshardFault::WrongSource),
+        AdminLine::Step => refused(ReshardFault::WrongState),
+        AdminLine::Switch => refused(ReshardFault::WrongState),
+        AdminLine::Advance => refused(ReshardFault::WrongState),
+        AdminLine::Resume => refused(ReshardFault::WrongState),
+        AdminLine::Cancel => refused(ReshardFault::WrongState),
+        AdminLine::Complete => refused(ReshardFault::WrongState),
+        AdminLine::Unknown => AdminReply::Unknown,
+    }
+}
+
+/// Answers admin lines over the workflow of the sharded keyspace. Without such a keyspace it has none. Contracts see the workflow's view.
+#[derive(Drop)]
+pub struct Administrator<W: World, J: Naming> {
+    workflow: Option<Workflow<W, J>>,
+}
+
+impl<W: World, J: Naming> Model for Administrator<W, J> {
+    ghost use Rattle.admin.specs.AdminAnswers.{AdministratorView};
+
+    ghost Value = { AdministratorView };
+
+    ghost view = { λ a. a.workflow };
+}
+
+impl<W: World, J: Naming> Administrator<W, J> {
+    ghost use Rattle.std.specs.Prelude.{◌≡◌, IfSome, IsTrue, MatchOption};
+    ghost use Rattle.vschema.specs.WellFormed.{is_vschema};
+    ghost use Rattle.admin.specs.AdminAnswers.{IsAdminReply, keyspace_of};
+
+    // Promise: An admin line does exactly what its words ask for over the workflow of the sharded keyspace, and its answer tells it: what
+    // was done, which step was taken, or why not, by its number; other words are unknown and do nothing, and neither does a line that can't
+    // be read for want of memory. `status` tells the ranges of some partition of the keyspace, or, in the midst of a
+    // cutover, those of the shards that serve then, in their order, and how far the workflow is.
+    // Without a sharded keyspace there is no workflow. The answer's line takes no memory, so that what was done can be told
+    // With: Administrator::answer, AdminReply::line
+    /// Over the workflow of the sharded keyspace, or, without such a keyspace, none.
+    pub fn new(workflow: Option<Workflow<W, J>>) -> Administrator<W, J>
+        ensures { result ≡ workflow }
+    {
+        Administrator { workflow }
+    }
+
+    /// Its workflow, which another may go on with.
+    pub fn into_workflow(self) -> Option<Workflow<W, J>>
+        ensures { result ≡ self }
+    {
+        let Administrator { workflow } = self;
+        workflow
+    }
+
+    /// Reads the words of an admin line, does what they ask for, and tells what was done, or why it wasn't. If there is no memory to
+    /// read them, the workflow stands as it stood. The partitions are those of the sharded keyspace, if there is one.
+    pub fn answer(
+        &mut self,
+        rt: &impl Wait,
+        alloc: Global,
+        pass: &mut Pass<ShardLaw<W>, J>,
+        schema: &VSchema,
+        serving: Option<&Serving<Shard<W, J>>>,
+        buffer: &Buffer,
+        words: &[u8],
+    ) -> AdminReply
+        requires schema { schema.now ≡ W.opening.schema }
+        requires formed { IsTrue (is_vschema W.opening.schema) }
+        requires home { IfSome self.old (λ w. MatchOption serving ⊥ (λ s. s.now ≡ w.keyspace)) }
+        ensures told { IsAdminReply W.opening W.limits words.now pass.old pass.new result self.old self.new }
+        ensures keyspace { keyspace_of self.new ≡ keyspace_of self.old }
+        ensures onward { IsOnward W.opening pass.old pass.new }
+    {
+        let _ = pass.session();
+        let Some(workflow) = &mut self.workflow else {
+            return answer_without(alloc, words);
+        };
+        let Some(serving) = serving else {
+            return answer_without(alloc, words);
+        };
+        answer_over(workflow, rt, alloc, pass, schema, serving, buffer, words)
+    }
+}

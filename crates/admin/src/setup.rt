@@ -1,0 +1,96 @@
+//! Opens a router with empty tables together with the administrator of its sharded keyspace, over one journal.
+ghost use Rattle.std.specs.Prelude.{◌≡◌, ◌≤◌, ◌^◌, [], None, IsTrue, IfOk, IfErr, drop, length};
+ghost use Rattle.vschema.specs.WellFormed.{is_vschema};
+ghost use Rattle.journal.specs.Views.{fresh_seats, new_pass};
+ghost use Rattle.shard_run.specs.Openings.{IsOpening};
+ghost use Rattle.opening.specs.Empty.{empty_shards, opening_of, FitRanges};
+ghost use Rattle.admin.specs.Idle.{opening_workflow};
+
+use crate::administrator::Administrator;
+use journal::{Naming, Opened, Opener, Pass, ShardSeat};
+use keyrange::KeyRange;
+use opening::sharded_keyspace;
+use reshard::{ReshardConfig, Workflow};
+use route_engine::{Engine, Gate};
+use router::empty_router;
+use shard::{Limits, ShardLaw, World};
+use std::alloc::Global;
+use vschema::VSchema;
+use vt_value::Refusal;
+
+// The administrator of the sharded keyspace over the free slots, without a workflow.
+fn idle_administrator<W: World, J: Naming>(
+    alloc: Global,
+    schema: &VSchema,
+    ranges: &[KeyRange],
+    limits: Limits,
+    free: Vec<ShardSeat<ShardLaw<W>, J>>,
+) -> Administrator<W, J>
+    requires opens { IsOpening W.opening }
+    requires opening { W.opening ≡ opening_of schema.now ranges.now }
+    requires limits { W.limits ≡ limits }
+    requires most_rows { limits.rows ≤ 2 ^ 20 }
+    requires most_stored { limits.stored ≤ 2 ^ 20 }
+    requires free { free.items ≡ drop (length (empty_shards schema.now ranges.now)) (fresh_seats 64) }
+    ensures { result ≡ opening_workflow schema.now ranges.now }
+{
+    let _ = ranges;
+    match sharded_keyspace(schema) {
+        Some(keyspace) => {
+            let config = ReshardConfig { keyspace, limits };
+            Administrator::new(Some(Workflow::new(alloc, config, free)))
+        }
+        None => {
+            drop(free);
+            Administrator::new(None)
+        }
+    }
+}
+
+// Promise: A router is opened with the administrator of its sharded keyspace, which has no workflow and the slots that no shard has
+/// The engine over a VSchema and the ranges of its sharded keyspace, whose tables are empty, in the journal that was opened; the
+/// administrator of its sharded keyspace, which has no workflow and the slots that none of the shards stands on; the opener of its sessions,
+/// and a first pass, which has seen nothing. Each shard has these limits, and so many statements may wait in its buffer. It refuses only for
+/// want of memory.
+pub fn administered_router<W: World + Send + Sync, J: Naming + Send + Sync, G: Gate>(
+    alloc: Global,
+    schema: VSchema,
+    ranges: &[KeyRange],
+    limits: Limits,
+    opened: Opened<ShardLaw<W>>,
+    buffer_size: u64,
+    gate: G,
+) -> Result<
+    (
+        Engine<W, J, G>,
+        Administrator<W, J>,
+        Opener<ShardLaw<W>, J>,
+        Pass<ShardLaw<W>, J>,
+    ),
+    Refusal,
+>
+    requires name { opened ≡ J.table }
+    requires opening { W.opening ≡ opening_of schema ranges.now }
+    requires limits { W.limits ≡ limits }
+    requires most_rows { limits.rows ≤ 2 ^ 20 }
+    requires most_stored { limits.stored ≤ 2 ^ 20 }
+    requires schema { IsTrue (is_vschema schema) }
+    requires ranges { FitRanges schema ranges.now }
+    ensures schema { IfOk result (λ r. r.0 ≡ schema) }
+    ensures administrator { IfOk result (λ r. r.1 ≡ opening_workflow schema ranges.now) }
+    ensures opener { IfOk result (λ r. r.2 ≡ 0) }
+    ensures pass { IfOk result (λ r. r.3 ≡ new_pass [] None) }
+    ensures err { IfErr result (λ e. e ≡ Refusal.OutOfMemory) }
+{
+    let (engine, opener, pass, free) = empty_router::<W, J, G>(
+        alloc,
+        schema,
+        ranges,
+        limits,
+        opened,
+        buffer_size,
+        gate,
+    )?;
+    let administrator = idle_administrator(alloc, engine.schema(), ranges, limits, free);
+    Ok((engine, administrator, opener, pass))
+}

@@ -1,5 +1,0 @@
-use Rattle.administration.proofs.RouterHomes.{at_home}
-use Rattle.administration.proofs.administering.administer.Goals as goal
-
-pub answer-requires-clause-home : goal.answer-requires-clause-home
-answer-requires-clause-home g c = at_home (λ s. s.now) _ _ _ c.requires.home c.sharded_partitions-serving.ensures.some

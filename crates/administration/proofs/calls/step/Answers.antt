@@ -1,9 +1,0 @@
-use Rattle.administration.specs.Told as told
-use Rattle.administration.proofs.Outcomes.{move_refused}
-use Rattle.administration.proofs.calls.step.Goals as goal
-
-pub returns-in-Ok-clause-moved : goal.returns-in-Ok-clause-moved
-returns-in-Ok-clause-moved g c = let e = c.in-Ok.ensures in told.done e.was e.moved e.once c.step.ensures.same
-
-pub returns-in-Err-clause-moved : goal.returns-in-Err-clause-moved
-returns-in-Err-clause-moved g c = let e = c.in-Err.ensures in move_refused _ _ _ _ _ _ c.in-Err.fault e.refused e.nothing e.same

@@ -1,7 +1,0 @@
-use Rattle.shard_contents.specs.Shards.{most_limits}
-use Rattle.empty_opening.specs.Empty.{opening_of}
-use Rattle.connection_tests.proofs.loopback.serve_shop.Given as goal
-
--- the world of this VSchema and these ranges
-abbrev pub ghosts-serve_in_world : goal.ghosts-serve_in_world
-ghosts-serve_in_world g a = record { opening = opening_of a.schema a.ranges.now; limits = most_limits }

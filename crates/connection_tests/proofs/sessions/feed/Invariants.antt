@@ -1,7 +1,0 @@
-use Rattle.std.proofs.Common.{IsSome}
-use Rattle.shard_calls.specs.Pendings.{IsOf}
-use Rattle.connection_tests.proofs.sessions.feed.Given as goal
-
--- the pass is a session's, and what the session keeps is of it
-abbrev pub invariant-loop-piece : goal.invariant-loop-piece
-invariant-loop-piece g l = IsSome l.pass.session × IsOf g.W.World.opening l.core.tx l.pass

@@ -1,0 +1,12 @@
+pub mod Columns
+pub mod Means
+pub mod ConnectionStates
+pub mod Packets
+pub mod Logins
+pub mod SessionContext
+pub mod GivesText
+pub mod Talk
+pub mod Sessions
+pub mod Faults
+pub mod Devices
+pub mod inner

@@ -1,0 +1,4 @@
+pub mod Replies
+pub mod Means
+pub mod Sessions
+pub mod Tellings

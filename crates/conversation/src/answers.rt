@@ -1,0 +1,243 @@
+//! Writes what a piece of the input is answered: the greeting, a reply for each payload, and the refusal of a fault.
+ghost use Rattle.std.specs.Prelude.{◌≡◌, ◌+◌, ◌≤◌, ℕ, List, [], None, length, IsSome, IfOk, OnOk, OnErr};
+ghost use Rattle.std.specs.Io.KnownBytes.{Appends};
+ghost use Rattle.std.specs.List.{concat};
+ghost use mathlib.Core.List.{IsPrefix};
+ghost use Rattle.mysql_packet.specs.declared.framer.Payload.{Payload};
+ghost use Rattle.mysql_packet.specs.Frames.{frame};
+ghost use Rattle.mysql_handshake.specs.Handshakes.{greeting_payload};
+ghost use Rattle.conversation.specs.declared.connection_state.Phase.{Phase};
+ghost use Rattle.conversation.specs.declared.connection_state.ConnectionState.{ConnectionState};
+ghost use Rattle.conversation.specs.Devices.{AppendsFront, failures_after};
+ghost use Rattle.conversation.specs.Faults.{IsCutOff};
+ghost use Rattle.shard_calls.specs.Pendings.{IsOf};
+ghost use Rattle.conversation.specs.Means.{Means, context_of};
+ghost use Rattle.conversation.specs.inner.Means.{LeadsKept};
+ghost use Rattle.conversation.specs.Packets.{refusal_bytes};
+ghost use Rattle.conversation.specs.ConnectionStates.{end_of};
+ghost use Rattle.conversation.specs.Talk.{AnswersPayload, Greets, Replies};
+ghost use Rattle.conversation.specs.Sessions.{AnswersFed};
+ghost use Rattle.conversation.specs.inner.Replies.{reply_bytes};
+
+use crate::access::Handshake;
+use crate::connection_state::{ConnectionState, Phase};
+use crate::devices::{DeviceFailed, Sink};
+use crate::end::End;
+use crate::reply::{REPLY_ROOM, put_refusal, put_reply};
+use bytes::BytesMut;
+use journal::{Naming, Pass};
+use mysql_handshake::put_greeting;
+use mysql_packet::{Fed, HeaderFault, Payload};
+use resultset::Chunks;
+use route_engine::{Engine, Gate, Tx};
+use shard::{ShardLaw, World};
+use std::alloc::Global;
+use std::sync::Wait;
+use std::thread::Threads;
+use vt_value::Items;
+
+/// Writes the chunks, one after another.
+fn write_chunks<S: Sink>(chunks: &[Items<u8>], sink: &mut S) -> Result<(), DeviceFailed>
+    ensures bytes { OnOk result (Appends (S.taken sink.old) (S.taken sink.new) (concat chunks.now)) }
+    ensures front { OnErr result (AppendsFront (S.taken sink.old) (S.taken sink.new) (concat chunks.now)) }
+    ensures count { S.failures sink.new ≡ failures_after result (S.failures sink.old) }
+{
+    for chunk in chunks {
+        sink.write(chunk.as_slice())?;
+    }
+    Ok(())
+}
+
+/// Writes a reply: its rows in their chunks, or what lies in the buffer.
+fn write_reply<S: Sink>(
+    rows: Option<Chunks>,
+    reply: &[u8],
+    sink: &mut S,
+) -> Result<(), DeviceFailed>
+    ensures bytes { OnOk result (Appends (S.taken sink.old) (S.taken sink.new) (reply_bytes rows reply.now)) }
+    ensures front { OnErr result (AppendsFront (S.taken sink.old) (S.taken sink.new) (reply_bytes rows reply.now)) }
+    ensures count { S.failures sink.new ≡ failures_after result (S.failures sink.old) }
+{
+    match rows {
+        None => sink.write(reply),
+        Some(chunks) => write_chunks(chunks.as_slice(), sink),
+    }
+}
+
+/// Writes what is written for one payload, once it is known whole, and tells how the session then stands.
+fn answer<W: World + Send + Sync, J: Naming + Send + Sync, G: Gate, S: Sink>(
+    rt: &(impl Threads + Wait + Sync),
+    alloc: Global,
+    engine: &Engine<W, J, G>,
+    pass: &mut Pass<ShardLaw<W>, J>,
+    tx: &mut Tx<W, J>,
+    handshake: &Handshake,
+    phase: Phase,
+    payload: &Payload,
+    reply: &mut BytesMut,
+    sink: &mut S,
+) -> Result<ConnectionState, DeviceFailed>
+    requires room { REPLY_ROOM ≤ length reply.old.items + reply.old.spare }
+    requires session { IsSome pass.old.session }
+    requires tx { IsOf W.opening tx.old pass.old }
+    ensures answers { IfOk result (λ connection_state. (out : List ℕ) × Appends (S.taken sink.old) (S.taken sink.new) out
+        × LeadsKept W.opening pass.old tx.old pass.new tx.new
+        (λ s now. AnswersPayload (context_of W.opening handshake.now) (Means W.opening W.limits) phase s payload.now out connection_state now)) }
+    ensures cut { OnErr result ((out : List ℕ) × (connection_state : ConnectionState) × AppendsFront (S.taken sink.old) (S.taken sink.new) out
+        × LeadsKept W.opening pass.old tx.old pass.new tx.new
+        (λ s now. AnswersPayload (context_of W.opening handshake.now) (Means W.opening W.limits) phase s payload.now out connection_state now)) }
+    ensures count { S.failures sink.new ≡ failures_after result (S.failures sink.old) }
+    ensures room { REPLY_ROOM ≤ length reply.new.items + reply.new.spare }
+    ensures tx { IsOf W.opening tx.new pass.new }
+    ensures session { pass.new.session ≡ pass.old.session }
+{
+    reply.clear();
+    let (connection_state, rows) = put_reply(
+        rt, alloc, engine, pass, tx, handshake, phase, payload, reply,
+    );
+    match write_reply(rows, reply.as_slice(), sink) {
+        Ok(()) => Ok(connection_state),
+        Err(failed) => Err(failed),
+    }
+}
+
+/// Writes what is written for the payloads from the phase on, until the session ends.
+fn answer_all<W: World + Send + Sync, J: Naming + Send + Sync, G: Gate, S: Sink>(
+    rt: &(impl Threads + Wait + Sync),
+    alloc: Global,
+    engine: &Engine<W, J, G>,
+    pass: &mut Pass<ShardLaw<W>, J>,
+    tx: &mut Tx<W, J>,
+    handshake: &Handshake,
+    begin: Phase,
+    payloads: &[Payload],
+    reply: &mut BytesMut,
+    sink: &mut S,
+) -> Result<ConnectionState, DeviceFailed>
+    requires room { REPLY_ROOM ≤ length reply.old.items + reply.old.spare }
+    requires session { IsSome pass.old.session }
+    requires tx { IsOf W.opening tx.old pass.old }
+    ensures replies { IfOk result (λ connection_state. (out : List ℕ) × Appends (S.taken sink.old) (S.taken sink.new) out
+        × LeadsKept W.opening pass.old tx.old pass.new tx.new
+        (λ s now. Replies (context_of W.opening handshake.now) (Means W.opening W.limits) begin s payloads.now out connection_state now)) }
+    ensures cut { OnErr result ((done : List Payload) × (out : List ℕ) × (connection_state : ConnectionState) × IsPrefix done payloads.now
+        × AppendsFront (S.taken sink.old) (S.taken sink.new) out
+        × LeadsKept W.opening pass.old tx.old pass.new tx.new
+        (λ s now. Replies (context_of W.opening handshake.now) (Means W.opening W.limits) begin s done out connection_state now)) }
+    ensures count { S.failures sink.new ≡ failures_after result (S.failures sink.old) }
+    ensures room { REPLY_ROOM ≤ length reply.new.items + reply.new.spare }
+    ensures tx { IsOf W.opening tx.new pass.new }
+    ensures session { pass.new.session ≡ pass.old.session }
+{
+    let mut phase = begin;
+    for payload in payloads {
+        match answer(
+            rt, alloc, engine, pass, tx, handshake, phase, payload, reply, sink,
+        )? {
+            ConnectionState::New => unreachable!(),
+            ConnectionState::At(next) => phase = next,
+            ConnectionState::Ended(end) => return Ok(ConnectionState::Ended(end)),
+        }
+    }
+    Ok(ConnectionState::At(phase))
+}
+
+fn put_handshake(handshake: &Handshake, reply: &mut BytesMut)
+    requires empty { reply.old.items ≡ [] }
+    requires room { REPLY_ROOM ≤ reply.old.spare }
+    ensures bytes { reply.new.items ≡ frame 0 (greeting_payload handshake.now.id handshake.now.salt) }
+    ensures room { REPLY_ROOM ≤ length reply.new.items + reply.new.spare }
+{
+    let _ = put_greeting(handshake.id, &handshake.salt, reply).unwrap();
+}
+
+fn answer_fault<S: Sink>(
+    fault: HeaderFault,
+    reply: &mut BytesMut,
+    sink: &mut S,
+) -> Result<(), DeviceFailed>
+    requires { REPLY_ROOM ≤ length reply.old.items + reply.old.spare }
+    ensures refusal { OnOk result (Appends (S.taken sink.old) (S.taken sink.new) (refusal_bytes fault.number fault.refusal)) }
+    ensures cut { OnErr result (AppendsFront (S.taken sink.old) (S.taken sink.new) (refusal_bytes fault.number fault.refusal)) }
+    ensures count { S.failures sink.new ≡ failures_after result (S.failures sink.old) }
+    ensures room { REPLY_ROOM ≤ length reply.new.items + reply.new.spare }
+{
+    reply.clear();
+    put_refusal(fault.number.wrapping_add(1), fault.refusal, reply);
+    sink.write(reply.as_slice())
+}
+
+/// Writes the greeting, if the session is new, and tells what the session awaits then.
+fn greet<S: Sink>(
+    handshake: &Handshake,
+    begin: ConnectionState,
+    reply: &mut BytesMut,
+    sink: &mut S,
+) -> Result<Phase, DeviceFailed>
+    requires room { REPLY_ROOM ≤ length reply.old.items + reply.old.spare }
+    requires open_session { end_of begin ≡ None }
+    ensures greets { IfOk result (λ phase. (front : List ℕ) × Appends (S.taken sink.old) (S.taken sink.new) front × Greets handshake.now begin front phase) }
+    ensures cut { OnErr result ((front : List ℕ) × (phase : Phase) × AppendsFront (S.taken sink.old) (S.taken sink.new) front
+        × Greets handshake.now begin front phase) }
+    ensures count { S.failures sink.new ≡ failures_after result (S.failures sink.old) }
+    ensures room { REPLY_ROOM ≤ length reply.new.items + reply.new.spare }
+{
+    match begin {
+        ConnectionState::Ended(_) => unreachable!(),
+        ConnectionState::At(phase) => Ok(phase),
+        ConnectionState::New => {
+            reply.clear();
+            put_handshake(handshake, reply);
+            match sink.write(reply.as_slice()) {
+                Ok(()) => Ok(Phase::Response),
+                Err(failed) => Err(failed),
+            }
+        }
+    }
+}
+
+/// Writes what is written for the payloads that a piece gave, and the refusal of its fault after them; in a session that is new,
+/// after the greeting.
+pub fn answer_fed<W: World + Send + Sync, J: Naming + Send + Sync, G: Gate, S: Sink>(
+    rt: &(impl Threads + Wait + Sync),
+    alloc: Global,
+    engine: &Engine<W, J, G>,
+    pass: &mut Pass<ShardLaw<W>, J>,
+    tx: &mut Tx<W, J>,
+    handshake: &Handshake,
+    begin: ConnectionState,
+    fed: &Fed,
+    reply: &mut BytesMut,
+    sink: &mut S,
+) -> Result<ConnectionState, DeviceFailed>
+    requires room { REPLY_ROOM ≤ length reply.old.items + reply.old.spare }
+    requires session { IsSome pass.old.session }
+    requires tx { IsOf W.opening tx.old pass.old }
+    requires open_session { end_of begin ≡ None }
+    ensures answers { IfOk result (λ connection_state. (out : List ℕ) × Appends (S.taken sink.old) (S.taken sink.new) out
+        × LeadsKept W.opening pass.old tx.old pass.new tx.new
+        (λ s now. AnswersFed (context_of W.opening handshake.now) (Means W.opening W.limits) begin s fed.now out connection_state now)) }
+    ensures cut { OnErr result ((written : List ℕ) × Appends (S.taken sink.old) (S.taken sink.new) written
+        × LeadsKept W.opening pass.old tx.old pass.new tx.new
+        (λ s now. IsCutOff (context_of W.opening handshake.now) (Means W.opening W.limits) begin s fed.now written now)) }
+    ensures count { S.failures sink.new ≡ failures_after result (S.failures sink.old) }
+    ensures room { REPLY_ROOM ≤ length reply.new.items + reply.new.spare }
+    ensures tx { IsOf W.opening tx.new pass.new }
+    ensures session { pass.new.session ≡ pass.old.session }
+{
+    let phase = greet(handshake, begin, reply, sink)?;
+    let payloads = fed.payloads.as_slice();
+    match answer_all(
+        rt, alloc, engine, pass, tx, handshake, phase, payloads, reply, sink,
+    )? {
+        ConnectionState::New => unreachable!(),
+        ConnectionState::Ended(end) => Ok(ConnectionState::Ended(end)),
+        ConnectionState::At(next) => match fed.fault {
+            None => Ok(ConnectionState::At(next)),
+            Some(fault) => {
+                answer_fault(fault, reply, sink)?;
+                Ok(ConnectionState::Ended(End::Broken))
+            }
+        },
+    }
+}

@@ -1,0 +1,44 @@
+//! What a client is told of its statement, whose rows are shown as they are encoded.
+
+use operators::ShownRows;
+use resultset::Column;
+use std::marker::Model;
+use vt_value::{Items, Refusal};
+
+/// A result set whose rows are still to be shown. Contracts see the result set.
+#[derive(Drop)]
+pub struct ShownSet {
+    pub columns: Items<Column>,
+    pub rows: ShownRows,
+}
+
+impl Model for ShownSet {
+    ghost use Rattle.resultset.specs.declared.ResultSet.{ResultSet};
+
+    ghost Value = { ResultSet };
+
+    ghost view = { λ s. record { columns = s.columns; rows = s.rows } };
+}
+
+/// An outcome whose rows are still to be shown.
+#[derive(Drop)]
+pub enum ClientReplyKind {
+    Rows(ShownSet),
+    Count(u64),
+    Refused(Refusal),
+}
+
+/// What a statement gives its client. Contracts see the outcome.
+#[derive(Drop)]
+pub struct ClientReply {
+    pub reply_kind: ClientReplyKind,
+}
+
+impl Model for ClientReply {
+    ghost use Rattle.resultset.specs.declared.Outcome.{Outcome};
+    ghost use Rattle.conversation.specs.inner.Tellings.{outcome_of_reply};
+
+    ghost Value = { Outcome };
+
+    ghost view = { λ t. outcome_of_reply t.reply_kind };
+}

@@ -1,0 +1,362 @@
+//! The definitions of a reply's columns: names, types and flags, of tables, joins and aggregates.
+ghost use Rattle.std.specs.Prelude.{◌≡◌, ◌==◌, IfOk, IfErr, Some, None, false, slice_index_or, if◌then◌else◌};
+ghost use Rattle.std.specs.List.{list_any};
+ghost use Rattle.vschema.specs.Schema.{no_table};
+ghost use Rattle.sql_tree.specs.Printing.{item_text};
+ghost use Rattle.conversation.specs.Columns.{shown_kind, base_flags, flags_of, no_keyspace, no_column, column_at, Defines, DefinesAt, name_at, named_item, item_kind, item_flags, DefinesAggregate, owner_of, DefinesItem, AllDefined, AreColumns};
+
+use resultset::{Column as ResultColumn, Kind};
+use sql_tree::{ColumnName, Item, Name, print_item};
+use std::alloc::Global;
+use vschema::{Column, ColumnType, Columns, Join, Table, VSchema};
+use vt_value::{Items, Refusal};
+
+fn kind_of(kind: ColumnType) -> Kind
+    ensures { result ≡ shown_kind kind }
+{
+    match kind {
+        ColumnType::BigInt => Kind::BigInt,
+        ColumnType::BigIntUnsigned => Kind::BigIntUnsigned,
+        ColumnType::VarBinary(most) => Kind::VarBinary(most),
+    }
+}
+
+fn base_flags(kind: ColumnType) -> u16
+    ensures { result ≡ base_flags kind }
+{
+    match kind {
+        ColumnType::BigInt | ColumnType::VarBinary(_) => 128,
+        ColumnType::BigIntUnsigned => 160,
+    }
+}
+
+fn has_ordinal(ordinals: &[usize], ordinal: usize) -> bool
+    ensures { result ≡ list_any (λ key. key == ordinal) ordinals.now }
+{
+    ordinals.iter().any(|key| *key == ordinal)
+}
+
+fn flags_of(table: &Table, ordinal: usize, column: &Column) -> u16
+    ensures { result ≡ flags_of table.now ordinal column.now }
+{
+    let base = base_flags(column.kind);
+    if has_ordinal(table.primary_key.as_slice(), ordinal) {
+        base + 3
+    } else if column.nullable {
+        base
+    } else {
+        base + 1
+    }
+}
+
+fn keyspace_name<'a>(schema: &'a VSchema, table: &Table) -> &'a [u8]
+    ensures { result.now ≡ (slice_index_or schema.now.keyspaces table.now.keyspace no_keyspace).name }
+{
+    match schema.keyspaces.as_slice().get(table.keyspace) {
+        Some(keyspace) => keyspace.name.as_slice(),
+        None => &[],
+    }
+}
+
+fn copy_name(alloc: Global, name: &[u8]) -> Result<Name, Refusal>
+    ensures ok { IfOk result (λ n. n ≡ name.now) }
+    ensures err { IfErr result (λ e. e ≡ Refusal.OutOfMemory) }
+{
+    let copied = Items::from_slice(alloc, name)?;
+    Ok(copied)
+}
+
+fn define(
+    alloc: Global,
+    schema: &VSchema,
+    table: &Table,
+    ordinal: usize,
+    column: &Column,
+) -> Result<ResultColumn, Refusal>
+    ensures ok { IfOk result (Defines schema.now table.now ordinal column.now) }
+    ensures err { IfErr result (λ e. e ≡ Refusal.OutOfMemory) }
+{
+    Ok(ResultColumn {
+        schema: copy_name(alloc, keyspace_name(schema, table))?,
+        table: copy_name(alloc, table.name.as_slice())?,
+        name: copy_name(alloc, column.name.as_slice())?,
+        org_name: copy_name(alloc, column.name.as_slice())?,
+        kind: kind_of(column.kind),
+        flags: flags_of(table, ordinal, column),
+    })
+}
+
+fn missing_column(alloc: Global) -> Column
+    ensures { result ≡ no_column }
+{
+    Column {
+        name: Items::new(alloc),
+        kind: ColumnType::BigInt,
+        nullable: true,
+    }
+}
+
+fn missing_table(alloc: Global) -> Table
+    ensures { result ≡ no_table }
+{
+    Table {
+        name: Items::new(alloc),
+        keyspace: 0,
+        columns: Columns::new(alloc),
+        primary_key: Items::new(alloc),
+        vindex: None,
+    }
+}
+
+fn define_at(
+    alloc: Global,
+    schema: &VSchema,
+    table: &Table,
+    ordinal: usize,
+) -> Result<ResultColumn, Refusal>
+    ensures ok { IfOk result (DefinesAt schema.now table.now ordinal) }
+    ensures err { IfErr result (λ e. e ≡ Refusal.OutOfMemory) }
+{
+    match table.columns.as_slice().get(ordinal) {
+        Some(column) => define(alloc, schema, table, ordinal, column),
+        None => define(alloc, schema, table, ordinal, &missing_column(alloc)),
+    }
+}
+
+fn type_at(table: &Table, ordinal: usize) -> ColumnType
+    ensures { result ≡ (column_at table.now ordinal).kind }
+{
+    match table.columns.as_slice().get(ordinal) {
+        Some(column) => column.kind,
+        None => ColumnType::BigInt,
+    }
+}
+
+fn bare_name_at(alloc: Global, table: &Table, ordinal: usize) -> Result<Name, Refusal>
+    ensures ok { IfOk result (λ n. n ≡ (column_at table.now ordinal).name) }
+    ensures err { IfErr result (λ e. e ≡ Refusal.OutOfMemory) }
+{
+    match table.columns.as_slice().get(ordinal) {
+        Some(column) => copy_name(alloc, column.name.as_slice()),
+        None => Ok(Items::new(alloc)),
+    }
+}
+
+fn qualifier(alloc: Global, table: &Table, qualified: bool) -> Result<Option<Name>, Refusal>
+    ensures ok { IfOk result (λ n. n ≡ (if qualified then Some table.now.name else None)) }
+    ensures err { IfErr result (λ e. e ≡ Refusal.OutOfMemory) }
+{
+    if !qualified {
+        return Ok(None);
+    }
+    let name = copy_name(alloc, table.name.as_slice())?;
+    Ok(Some(name))
+}
+
+fn name_at(
+    alloc: Global,
+    table: &Table,
+    qualified: bool,
+    ordinal: usize,
+) -> Result<ColumnName, Refusal>
+    ensures ok { IfOk result (λ n. n ≡ name_at table.now qualified ordinal) }
+    ensures err { IfErr result (λ e. e ≡ Refusal.OutOfMemory) }
+{
+    let name = bare_name_at(alloc, table, ordinal)?;
+    let table = qualifier(alloc, table, qualified)?;
+    Ok(ColumnName { table, name })
+}
+
+fn named_item(
+    alloc: Global,
+    table: &Table,
+    qualified: bool,
+    item: &Item<usize>,
+) -> Result<Item<ColumnName>, Refusal>
+    ensures ok { IfOk result (λ i. i ≡ named_item table.now qualified item.now) }
+    ensures err { IfErr result (λ e. e ≡ Refusal.OutOfMemory) }
+{
+    match item {
+        Item::Column(ordinal) => {
+            let name = name_at(alloc, table, qualified, *ordinal)?;
+            Ok(Item::Column(name))
+        }
+        Item::CountRows => Ok(Item::CountRows),
+        Item::Count(ordinal) => {
+            let name = name_at(alloc, table, qualified, *ordinal)?;
+            Ok(Item::Count(name))
+        }
+        Item::Sum(ordinal) => {
+            let name = name_at(alloc, table, qualified, *ordinal)?;
+            Ok(Item::Sum(name))
+        }
+        Item::Min(ordinal) => {
+            let name = name_at(alloc, table, qualified, *ordinal)?;
+            Ok(Item::Min(name))
+        }
+        Item::Max(ordinal) => {
+            let name = name_at(alloc, table, qualified, *ordinal)?;
+            Ok(Item::Max(name))
+        }
+    }
+}
+
+fn item_kind(table: &Table, item: &Item<usize>) -> Kind
+    ensures { result ≡ item_kind table.now item.now }
+{
+    match item {
+        Item::CountRows | Item::Count(_) => Kind::Count,
+        Item::Sum(_) => Kind::Sum,
+        Item::Column(ordinal) | Item::Min(ordinal) | Item::Max(ordinal) => kind_of(type_at(
+            table, *ordinal,
+        )),
+    }
+}
+
+fn item_flags(table: &Table, item: &Item<usize>) -> u16
+    ensures { result ≡ item_flags table.now item.now }
+{
+    match item {
+        Item::CountRows | Item::Count(_) => 129,
+        Item::Sum(_) => 128,
+        Item::Column(ordinal) | Item::Min(ordinal) | Item::Max(ordinal) => {
+            base_flags(type_at(table, *ordinal))
+        }
+    }
+}
+
+fn printed_item(
+    alloc: Global,
+    table: &Table,
+    qualified: bool,
+    item: &Item<usize>,
+) -> Result<Vec<u8>, Refusal>
+    ensures ok { IfOk result (λ text. text.items ≡ item_text (named_item table.now qualified item.now)) }
+    ensures err { IfErr result (λ e. e ≡ Refusal.OutOfMemory) }
+{
+    let named = named_item(alloc, table, qualified, item)?;
+    print_item(alloc, &named)
+}
+
+fn define_aggregate(
+    alloc: Global,
+    table: &Table,
+    qualified: bool,
+    item: &Item<usize>,
+) -> Result<ResultColumn, Refusal>
+    ensures ok { IfOk result (DefinesAggregate table.now qualified item.now) }
+    ensures err { IfErr result (λ e. e ≡ Refusal.OutOfMemory) }
+{
+    let printed = printed_item(alloc, table, qualified, item)?;
+    Ok(ResultColumn {
+        schema: Items::new(alloc),
+        table: Items::new(alloc),
+        name: Items::from_vec(printed),
+        org_name: Items::new(alloc),
+        kind: item_kind(table, item),
+        flags: item_flags(table, item),
+    })
+}
+
+fn define_second(
+    alloc: Global,
+    schema: &VSchema,
+    table: usize,
+    ordinal: usize,
+) -> Result<ResultColumn, Refusal>
+    ensures ok { IfOk result (DefinesAt schema.now (slice_index_or schema.now.tables table no_table) ordinal) }
+    ensures err { IfErr result (λ e. e ≡ Refusal.OutOfMemory) }
+{
+    match schema.tables.as_slice().get(table) {
+        Some(table) => define_at(alloc, schema, table, ordinal),
+        None => define_at(alloc, schema, &missing_table(alloc), ordinal),
+    }
+}
+
+// The definition of the column at a place of the rows of a table, or of its pairs with another's.
+fn define_shown(
+    alloc: Global,
+    schema: &VSchema,
+    table: &Table,
+    join: Option<Join>,
+    ordinal: usize,
+) -> Result<ResultColumn, Refusal>
+    ensures ok { IfOk result (DefinesAt schema.now (owner_of schema.now table.now join ordinal).0 (owner_of schema.now table.now join ordinal).1) }
+    ensures err { IfErr result (λ e. e ≡ Refusal.OutOfMemory) }
+{
+    match join {
+        None => define_at(alloc, schema, table, ordinal),
+        Some(join) => {
+            if ordinal < join.width {
+                define_at(alloc, schema, table, ordinal)
+            } else {
+                define_second(alloc, schema, join.table, ordinal - join.width)
+            }
+        }
+    }
+}
+
+fn define_item(
+    alloc: Global,
+    schema: &VSchema,
+    table: &Table,
+    join: Option<Join>,
+    qualified: bool,
+    item: &Item<usize>,
+) -> Result<ResultColumn, Refusal>
+    ensures ok { IfOk result (DefinesItem schema.now table.now join qualified item.now) }
+    ensures err { IfErr result (λ e. e ≡ Refusal.OutOfMemory) }
+{
+    match item {
+        Item::Column(ordinal) => define_shown(alloc, schema, table, join, *ordinal),
+        _ => define_aggregate(alloc, table, qualified, item),
+    }
+}
+
+fn flag_at(flags: &[bool], ordinal: usize) -> bool
+    ensures { result ≡ slice_index_or flags.now ordinal false }
+{
+    match flags.get(ordinal) {
+        Some(flag) => *flag,
+        None => false,
+    }
+}
+
+fn define_all(
+    alloc: Global,
+    schema: &VSchema,
+    table: &Table,
+    join: Option<Join>,
+    wanted: &[Item<usize>],
+    qualified: &[bool],
+) -> Result<Items<ResultColumn>, Refusal>
+    ensures ok { IfOk result (AllDefined schema.now table.now join qualified.now 0 wanted.now) }
+    ensures err { IfErr result (λ e. e ≡ Refusal.OutOfMemory) }
+{
+    let mut columns = Items::new(alloc);
+    for item in wanted {
+        let named_whole = flag_at(qualified, columns.len());
+        let column = define_item(alloc, schema, table, join, named_whole, item)?;
+        columns.push(column)?;
+    }
+    Ok(columns)
+}
+
+/// The definitions of the columns that these items are, of the table at a place of the VSchema or of its pairs with another. `qualified` tells
+/// for each whether it was written with its table's name.
+pub fn columns_of(
+    alloc: Global,
+    schema: &VSchema,
+    table: usize,
+    join: Option<Join>,
+    items: &[Item<usize>],
+    qualified: &[bool],
+) -> Result<Items<ResultColumn>, Refusal>
+    ensures ok { IfOk result (AreColumns schema.now table join items.now qualified.now) }
+    ensures err { IfErr result (λ e. e ≡ Refusal.OutOfMemory) }
+{
+    match schema.tables.as_slice().get(table) {
+        Some(table) => define_all(alloc, schema, table, join, items, qualified),
+        None => define_all(alloc, schema, &missing_table(alloc), join, items, qualified),
+    }
+}

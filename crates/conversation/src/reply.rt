@@ -1,0 +1,398 @@
+//! The reply to a statement: what its text gives its client, and the packets that tell it.
+ghost use Rattle.std.specs.Prelude.{◌≡◌, ℕ, ◌+◌, ◌≤◌, ◌⊎◌, true, false, [], length, Some, None, is_some, IsSome, IfOk, IfErr, Option};
+ghost use Rattle.std.specs.List.{concat};
+ghost use Rattle.shard_calls.specs.Pendings.{IsOf};
+ghost use Rattle.mysql_packet.specs.Frames.{frame};
+ghost use Rattle.mysql_packet.specs.declared.framer.Payload.{Payload};
+ghost use Rattle.mysql_message.specs.Messages.{query, command_of, ok_payload, err_payload, statistics_payload};
+ghost use Rattle.resultset.specs.declared.Outcome.{Outcome};
+ghost use Rattle.resultset.specs.Encoding.{encoded, after_rows};
+ghost use Rattle.conversation.specs.Means.{Means, context_of};
+ghost use Rattle.conversation.specs.inner.Means.{LeadsKept, IsRows};
+ghost use Rattle.conversation.specs.Logins.{keyspace_named};
+ghost use Rattle.conversation.specs.Packets.{reply_number};
+ghost use Rattle.conversation.specs.SessionContext.{status_flags};
+ghost use Rattle.conversation.specs.Talk.{AnswersPayload, set_end_of};
+ghost use Rattle.conversation.specs.inner.Replies.{reply_bytes};
+
+use crate::access::Handshake;
+use crate::client_reply::{ClientReply, ClientReplyKind, ShownSet};
+use crate::connection_state::{ConnectionState, Phase, Settings, first_number};
+use crate::end::End;
+use crate::login::{keyspace_named, put_answer, put_response};
+use crate::texts::given;
+use bytes::BytesMut;
+use journal::{Naming, Pass};
+use mysql_handshake::{DEPRECATE_EOF, is_set};
+use mysql_message::{Command, put_eof, put_err, put_ok, put_set_end, put_statistics, read_command};
+use mysql_packet::Payload;
+use resultset::{Chunks, SetEnd, encode_rows};
+use route_engine::{Engine, Gate, Tx};
+use shard::{ShardLaw, World};
+use std::alloc::Global;
+use std::sync::Wait;
+use std::thread::Threads;
+use vschema::VSchema;
+use vt_value::Refusal;
+
+/// SERVER_STATUS_AUTOCOMMIT.
+const AUTOCOMMIT: u16 = 2;
+
+/// SERVER_STATUS_IN_TRANS.
+const IN_TRANSACTION: u16 = 1;
+
+/// The room that a reply's buffer has at least: a greeting, an OK or an ERR packet fits in it.
+pub const REPLY_ROOM: usize = 84;
+
+pub fn put_refusal(number: u8, refusal: Refusal, reply: &mut BytesMut)
+    requires empty { reply.old.items ≡ [] }
+    requires room { REPLY_ROOM ≤ reply.old.spare }
+    ensures bytes { reply.new.items ≡ frame number (err_payload refusal) }
+    ensures room { REPLY_ROOM ≤ length reply.new.items + reply.new.spare }
+{
+    let _ = put_err(number, refusal, reply).unwrap();
+}
+
+/// The status flags of a reply: whether a statement outside a transaction commits by itself, and whether a transaction is open.
+fn status_flags(commits: bool, is_open: bool) -> u16
+    ensures { result ≡ status_flags commits is_open }
+{
+    let autocommit = if commits { AUTOCOMMIT } else { 0 };
+    let in_transaction = if is_open { IN_TRANSACTION } else { 0 };
+    autocommit + in_transaction
+}
+
+fn status_of<W: World, J: Naming>(commits: bool, tx: &Tx<W, J>) -> u16
+    ensures { result ≡ status_flags commits (is_some tx.now) }
+{
+    status_flags(commits, tx.is_open())
+}
+
+/// An OK that counts no rows.
+pub fn put_pong(number: u8, status: u16, reply: &mut BytesMut)
+    requires empty { reply.old.items ≡ [] }
+    requires room { REPLY_ROOM ≤ reply.old.spare }
+    ensures bytes { reply.new.items ≡ frame number (ok_payload 0 status) }
+    ensures room { REPLY_ROOM ≤ length reply.new.items + reply.new.spare }
+{
+    let _ = put_ok(number, 0, status, reply).unwrap();
+}
+
+fn put_count(number: u8, count: u64, status: u16, reply: &mut BytesMut)
+    requires empty { reply.old.items ≡ [] }
+    requires room { REPLY_ROOM ≤ reply.old.spare }
+    ensures bytes { reply.new.items ≡ frame number (ok_payload count status) }
+    ensures room { REPLY_ROOM ≤ length reply.new.items + reply.new.spare }
+{
+    let _ = put_ok(number, count, status, reply).unwrap();
+}
+
+fn set_end_of(capabilities: u32) -> SetEnd
+    ensures { result ≡ set_end_of capabilities }
+{
+    if is_set(DEPRECATE_EOF, capabilities) {
+        SetEnd::OkPacket
+    } else {
+        SetEnd::EofPackets
+    }
+}
+
+/// The packets of a result set, whose rows are shown as they are encoded, and dropped then. Refuses only for want of memory.
+fn chunks_of(
+    alloc: Global,
+    set: ShownSet,
+    end: SetEnd,
+    number: u8,
+    status: u16,
+) -> Result<Chunks, Refusal>
+    ensures ok { IfOk result (λ chunks. concat chunks ≡ encoded end (Outcome.Rows set) number status) }
+    ensures err { IfErr result (λ e. e ≡ Refusal.OutOfMemory) }
+{
+    let ShownSet { columns, rows } = set;
+    let rows = rows.pulled(alloc)?;
+    let mut chunks = Chunks::new(alloc);
+    let _next = encode_rows(
+        alloc,
+        columns.as_slice(),
+        rows,
+        number,
+        status,
+        end,
+        &mut chunks,
+    )?;
+    Ok(chunks)
+}
+
+/// The reply of a result set, or, if there is no memory for it, the refusal that says so.
+fn put_rows(
+    alloc: Global,
+    set: ShownSet,
+    end: SetEnd,
+    number: u8,
+    status: u16,
+    reply: &mut BytesMut,
+) -> Option<Chunks>
+    requires empty { reply.old.items ≡ [] }
+    requires room { REPLY_ROOM ≤ reply.old.spare }
+    ensures bytes { (reply_bytes result reply.new.items ≡ encoded end (Outcome.Rows set) number status)
+        ⊎ (reply_bytes result reply.new.items ≡ encoded end (Outcome.Refused Refusal.OutOfMemory) number status) }
+    ensures room { REPLY_ROOM ≤ length reply.new.items + reply.new.spare }
+{
+    match chunks_of(alloc, set, end, number, status) {
+        Ok(chunks) => Some(chunks),
+        Err(_) => {
+            put_refusal(number, Refusal::OutOfMemory, reply);
+            None
+        }
+    }
+}
+
+/// The reply to a statement, in chunks if it has rows. If there is no memory for them, it is the refusal that says so; a count always
+/// has room.
+fn put_outcome(
+    alloc: Global,
+    outcome: ClientReply,
+    end: SetEnd,
+    number: u8,
+    status: u16,
+    reply: &mut BytesMut,
+) -> Option<Chunks>
+    requires empty { reply.old.items ≡ [] }
+    requires room { REPLY_ROOM ≤ reply.old.spare }
+    ensures bytes { (reply_bytes result reply.new.items ≡ encoded end outcome number status)
+        ⊎ (IsRows outcome × (reply_bytes result reply.new.items ≡ encoded end (Outcome.Refused Refusal.OutOfMemory) number status)) }
+    ensures room { REPLY_ROOM ≤ length reply.new.items + reply.new.spare }
+{
+    match outcome.reply_kind {
+        ClientReplyKind::Rows(set) => put_rows(alloc, set, end, number, status, reply),
+        ClientReplyKind::Count(count) => {
+            put_count(number, count, status, reply);
+            None
+        }
+        ClientReplyKind::Refused(refusal) => {
+            put_refusal(number, refusal, reply);
+            None
+        }
+    }
+}
+
+/// The reply to the name of a keyspace, and how the session then stands: an OK, and it is in use; or that there is none of that name.
+fn put_selected(
+    schema: &VSchema,
+    settings: Settings,
+    name: &[u8],
+    number: u8,
+    status: u16,
+    reply: &mut BytesMut,
+) -> ConnectionState
+    requires empty { reply.old.items ≡ [] }
+    requires room { REPLY_ROOM ≤ reply.old.spare }
+    ensures known { (ordinal : ℕ) → keyspace_named schema.now.keyspaces name.now ≡ Some ordinal → (reply.new.items ≡ frame number (ok_payload 0 status))
+        × (result ≡ ConnectionState.At (Phase.Commands (record settings { keyspace = Some ordinal }))) }
+    ensures unknown { keyspace_named schema.now.keyspaces name.now ≡ None → (reply.new.items ≡ frame number (err_payload Refusal.UnknownKeyspace))
+        × (result ≡ ConnectionState.At (Phase.Commands settings)) }
+    ensures room { REPLY_ROOM ≤ length reply.new.items + reply.new.spare }
+{
+    match keyspace_named(schema, name) {
+        Some(ordinal) => {
+            put_pong(number, status, reply);
+            ConnectionState::At(Phase::Commands(Settings {
+                capabilities: settings.capabilities,
+                autocommit: settings.autocommit,
+                keyspace: Some(ordinal),
+            }))
+        }
+        None => {
+            put_refusal(number, Refusal::UnknownKeyspace, reply);
+            ConnectionState::At(Phase::Commands(settings))
+        }
+    }
+}
+
+/// The line that answers COM_STATISTICS.
+fn put_line(number: u8, reply: &mut BytesMut)
+    requires empty { reply.old.items ≡ [] }
+    requires room { REPLY_ROOM ≤ reply.old.spare }
+    ensures bytes { reply.new.items ≡ frame number statistics_payload }
+    ensures room { REPLY_ROOM ≤ length reply.new.items + reply.new.spare }
+{
+    let _ = put_statistics(number, reply).unwrap();
+}
+
+/// The packet that ends a result set, alone.
+fn put_end(end: SetEnd, number: u8, status: u16, reply: &mut BytesMut)
+    requires empty { reply.old.items ≡ [] }
+    requires room { REPLY_ROOM ≤ reply.old.spare }
+    ensures bytes { reply.new.items ≡ frame number (after_rows end status) }
+    ensures room { REPLY_ROOM ≤ length reply.new.items + reply.new.spare }
+{
+    match end {
+        SetEnd::EofPackets => {
+            let _ = put_eof(number, status, reply).unwrap();
+        }
+        SetEnd::OkPacket => {
+            let _ = put_set_end(number, status, reply).unwrap();
+        }
+    }
+}
+
+/// The reply to COM_SET_OPTION: texts of several statements are never taken.
+fn put_option(several: bool, end: SetEnd, number: u8, status: u16, reply: &mut BytesMut)
+    requires empty { reply.old.items ≡ [] }
+    requires room { REPLY_ROOM ≤ reply.old.spare }
+    ensures several { several ≡ true → reply.new.items ≡ frame number (err_payload Refusal.NotSupported) }
+    ensures one { several ≡ false → reply.new.items ≡ frame number (after_rows end status) }
+    ensures room { REPLY_ROOM ≤ length reply.new.items + reply.new.spare }
+{
+    if several {
+        put_refusal(number, Refusal::NotSupported, reply);
+    } else {
+        put_end(end, number, status, reply);
+    }
+}
+
+/// The reply to a query, and how the session then stands.
+fn put_query<W: World + Send + Sync, J: Naming + Send + Sync, G: Gate>(
+    rt: &(impl Threads + Wait + Sync),
+    alloc: Global,
+    engine: &Engine<W, J, G>,
+    pass: &mut Pass<ShardLaw<W>, J>,
+    tx: &mut Tx<W, J>,
+    handshake: &Handshake,
+    settings: Settings,
+    text: &[u8],
+    number: u8,
+    reply: &mut BytesMut,
+) -> (ConnectionState, Option<Chunks>)
+    requires empty { reply.old.items ≡ [] }
+    requires room { REPLY_ROOM ≤ reply.old.spare }
+    requires session { IsSome pass.old.session }
+    requires tx { IsOf W.opening tx.old pass.old }
+    ensures answers { (payload : Payload) → payload.first ≡ 0 → number ≡ reply_number payload → command_of payload.bytes ≡ Some (query text.now)
+        → LeadsKept W.opening pass.old tx.old pass.new tx.new
+        (λ s now. AnswersPayload (context_of W.opening handshake.now) (Means W.opening W.limits) (Phase.Commands settings) s payload (reply_bytes result.1 reply.new.items) result.0 now) }
+    ensures tx { IsOf W.opening tx.new pass.new }
+    ensures room { REPLY_ROOM ≤ length reply.new.items + reply.new.spare }
+    ensures session { pass.new.session ≡ pass.old.session }
+{
+    let (outcome, then) = given(rt, alloc, engine, pass, tx, handshake, settings, text);
+    let end = set_end_of(settings.capabilities);
+    let status = status_of(then.autocommit, tx);
+    let rows = put_outcome(alloc, outcome, end, number, status, reply);
+    (ConnectionState::At(Phase::Commands(then)), rows)
+}
+
+/// The reply to a command whose numbers are right, and how the session then stands. A reply of rows lies in chunks, each other in the buffer.
+fn put_command<W: World + Send + Sync, J: Naming + Send + Sync, G: Gate>(
+    rt: &(impl Threads + Wait + Sync),
+    alloc: Global,
+    engine: &Engine<W, J, G>,
+    pass: &mut Pass<ShardLaw<W>, J>,
+    tx: &mut Tx<W, J>,
+    handshake: &Handshake,
+    settings: Settings,
+    payload: &Payload,
+    reply: &mut BytesMut,
+) -> (ConnectionState, Option<Chunks>)
+    requires empty { reply.old.items ≡ [] }
+    requires room { REPLY_ROOM ≤ reply.old.spare }
+    requires session { IsSome pass.old.session }
+    requires tx { IsOf W.opening tx.old pass.old }
+    requires number { payload.now.first ≡ 0 }
+    ensures answers { LeadsKept W.opening pass.old tx.old pass.new tx.new
+        (λ s now. AnswersPayload (context_of W.opening handshake.now) (Means W.opening W.limits) (Phase.Commands settings) s payload.now (reply_bytes result.1 reply.new.items) result.0 now) }
+    ensures tx { IsOf W.opening tx.new pass.new }
+    ensures room { REPLY_ROOM ≤ length reply.new.items + reply.new.spare }
+    ensures session { pass.new.session ≡ pass.old.session }
+{
+    let number = payload.last.wrapping_add(1);
+    let next = ConnectionState::At(Phase::Commands(settings));
+    match read_command(payload.bytes.as_slice()) {
+        Err(refusal) => {
+            put_refusal(number, refusal, reply);
+            (next, None)
+        }
+        Ok(Command::Quit) => (ConnectionState::Ended(End::Quit), None),
+        Ok(Command::Ping) => {
+            put_pong(number, status_of(settings.autocommit, tx), reply);
+            (next, None)
+        }
+        Ok(Command::InitDb(name)) => {
+            let status = status_of(settings.autocommit, tx);
+            let chosen = put_selected(engine.schema(), settings, name, number, status, reply);
+            (chosen, None)
+        }
+        Ok(Command::Query(text)) => put_query(
+            rt, alloc, engine, pass, tx, handshake, settings, text, number, reply,
+        ),
+        Ok(Command::Statistics) => {
+            put_line(number, reply);
+            (next, None)
+        }
+        Ok(Command::MultiStatements(several)) => {
+            let end = set_end_of(settings.capabilities);
+            let status = status_of(settings.autocommit, tx);
+            put_option(several, end, number, status, reply);
+            (next, None)
+        }
+        Ok(Command::Reset) => {
+            *tx = Tx::new();
+            put_pong(number, status_flags(true, false), reply);
+            let first = Settings::at_first(settings.capabilities, settings.keyspace);
+            (ConnectionState::At(Phase::Commands(first)), None)
+        }
+    }
+}
+
+/// What is written for one payload in the phase, and how the session then stands. A reply of rows lies in chunks, each other in the buffer.
+pub fn put_reply<W: World + Send + Sync, J: Naming + Send + Sync, G: Gate>(
+    rt: &(impl Threads + Wait + Sync),
+    alloc: Global,
+    engine: &Engine<W, J, G>,
+    pass: &mut Pass<ShardLaw<W>, J>,
+    tx: &mut Tx<W, J>,
+    handshake: &Handshake,
+    phase: Phase,
+    payload: &Payload,
+    reply: &mut BytesMut,
+) -> (ConnectionState, Option<Chunks>)
+    requires empty { reply.old.items ≡ [] }
+    requires room { REPLY_ROOM ≤ reply.old.spare }
+    requires session { IsSome pass.old.session }
+    requires tx { IsOf W.opening tx.old pass.old }
+    ensures answers { LeadsKept W.opening pass.old tx.old pass.new tx.new
+        (λ s now. AnswersPayload (context_of W.opening handshake.now) (Means W.opening W.limits) phase s payload.now (reply_bytes result.1 reply.new.items) result.0 now) }
+    ensures tx { IsOf W.opening tx.new pass.new }
+    ensures room { REPLY_ROOM ≤ length reply.new.items + reply.new.spare }
+    ensures session { pass.new.session ≡ pass.old.session }
+{
+    if payload.first != first_number(phase) {
+        put_refusal(
+            payload.first.wrapping_add(1),
+            Refusal::PacketsOutOfOrder,
+            reply,
+        );
+        return (ConnectionState::Ended(End::Broken), None);
+    }
+    match phase {
+        Phase::Response => (
+            put_response(
+                handshake,
+                engine.schema(),
+                payload,
+                status_of(true, tx),
+                reply,
+            ),
+            None,
+        ),
+        Phase::Switch(login) => (
+            put_answer(handshake, login, payload, status_of(true, tx), reply),
+            None,
+        ),
+        Phase::Commands(settings) => {
+            put_command(
+                rt, alloc, engine, pass, tx, handshake, settings, payload, reply,
+            )
+        }
+    }
+}

@@ -1,0 +1,351 @@
+//! What a text gives its client: over the tables, in a transaction that is opened first if autocommit is off; or what it asks of the server.
+ghost use Rattle.std.specs.Prelude.{List, ◌≡◌, ◌↔◌, ◌⊎◌, ℕ, true, false, Some, None, is_some, IsSome, IsNone, IfOk, IfErr, IfSome, Option, codes};
+ghost use Rattle.shard_calls.specs.Pendings.{IsOf};
+ghost use Rattle.sql_tree.specs.declared.Statement.{Statement};
+ghost use Rattle.resultset.specs.declared.Outcome.{Outcome};
+ghost use Rattle.client_statements.specs.declared.statement.ClientStatement.{ClientStatement};
+ghost use Rattle.conversation.specs.declared.access.Handshake.{Handshake};
+ghost use Rattle.conversation.specs.declared.connection_state.Settings.{Settings};
+ghost use Rattle.conversation.specs.Columns.{AreColumns};
+ghost use Rattle.conversation.specs.Means.{Means, Shows, HasRows, context_of};
+ghost use Rattle.conversation.specs.GivesText.{opens_one, OpensOne, RunsText, AnswersClient, GivesText};
+ghost use Rattle.conversation.specs.inner.Means.{LeadsKept, GivesNoRows, IsReading, AnswersAsked, opens_read};
+ghost use Rattle.conversation.specs.inner.Tellings.{turns_on};
+
+use crate::access::Handshake;
+use crate::client_reply::{ClientReply, ClientReplyKind, ShownSet};
+use crate::columns::columns_of;
+use crate::connection_state::Settings;
+use crate::local_answers::{done, local_answer, not_run, refused, turns_on};
+use client_statements::{ClientStatement, read};
+use journal::{Naming, Pass};
+use route_engine::{Answer, Engine, Gate, Selected, Tx};
+use shard::{ShardLaw, World};
+use sql_parser::parse;
+use sql_tree::Statement;
+use std::alloc::Global;
+use std::sync::Wait;
+use std::thread::Threads;
+use vschema::VSchema;
+use vt_value::Refusal;
+
+fn result_set(alloc: Global, schema: &VSchema, selected: Selected) -> Result<ShownSet, Refusal>
+    ensures columns { IfOk result (λ set. AreColumns schema.now selected.table selected.join selected.items selected.qualified set.columns) }
+    ensures rows { IfOk result (λ set. set.rows ≡ selected.rows) }
+    ensures err { IfErr result (λ e. e ≡ Refusal.OutOfMemory) }
+{
+    let columns = columns_of(
+        alloc,
+        schema,
+        selected.table,
+        selected.join,
+        selected.items.as_slice(),
+        selected.qualified.as_slice(),
+    )?;
+    Ok(ShownSet {
+        columns,
+        rows: selected.rows,
+    })
+}
+
+/// An answer as its client is told it, or, if there is no memory for rows, the refusal that says so.
+fn shown(alloc: Global, schema: &VSchema, answer: Answer) -> ClientReply
+    ensures { Shows schema.now answer result ⊎ (HasRows answer × (result ≡ Outcome.Refused Refusal.OutOfMemory)) }
+{
+    match answer {
+        Answer::Count(count) => ClientReply {
+            reply_kind: ClientReplyKind::Count(count),
+        },
+        Answer::Rows(selected) => match result_set(alloc, schema, selected) {
+            Ok(set) => ClientReply {
+                reply_kind: ClientReplyKind::Rows(set),
+            },
+            Err(refusal) => ClientReply {
+                reply_kind: ClientReplyKind::Refused(refusal),
+            },
+        },
+    }
+}
+
+/// What the text of a statement gives its client.
+fn outcome_of<W: World + Send + Sync, J: Naming + Send + Sync, G: Gate>(
+    rt: &(impl Threads + Wait + Sync),
+    alloc: Global,
+    engine: &Engine<W, J, G>,
+    pass: &mut Pass<ShardLaw<W>, J>,
+    tx: &mut Tx<W, J>,
+    text: &[u8],
+) -> ClientReply
+    requires session { IsSome pass.old.session }
+    requires tx { IsOf W.opening tx.old pass.old }
+    ensures means { LeadsKept W.opening pass.old tx.old pass.new tx.new (λ s now. Means W.opening W.limits s text.now result now) }
+    ensures tx { IsOf W.opening tx.new pass.new }
+    ensures session { pass.new.session ≡ pass.old.session }
+{
+    match engine.execute(rt, alloc, pass, tx, text) {
+        Ok(reply) => shown(alloc, engine.schema(), reply.answer),
+        Err(refusal) => ClientReply {
+            reply_kind: ClientReplyKind::Refused(refusal),
+        },
+    }
+}
+
+/// Runs BEGIN if none is open, or COMMIT, which give no rows.
+fn run_command<W: World + Send + Sync, J: Naming + Send + Sync, G: Gate>(
+    rt: &(impl Threads + Wait + Sync),
+    alloc: Global,
+    engine: &Engine<W, J, G>,
+    pass: &mut Pass<ShardLaw<W>, J>,
+    tx: &mut Tx<W, J>,
+    command: &[u8],
+) -> Result<(), Refusal>
+    requires session { IsSome pass.old.session }
+    requires tx { IsOf W.opening tx.old pass.old }
+    requires no_rows { GivesNoRows command.now tx.old }
+    ensures ok { IfOk result (λ _. LeadsKept W.opening pass.old tx.old pass.new tx.new (λ s now. Means W.opening W.limits s command.now (Outcome.Count 0) now)) }
+    ensures err { IfErr result (λ why. LeadsKept W.opening pass.old tx.old pass.new tx.new (λ s now. Means W.opening W.limits s command.now (Outcome.Refused why) now)) }
+    ensures tx { IsOf W.opening tx.new pass.new }
+    ensures session { pass.new.session ≡ pass.old.session }
+{
+    match engine.execute(rt, alloc, pass, tx, command) {
+        Ok(reply) => {
+            drop(reply);
+            Ok(())
+        }
+        Err(why) => Err(why),
+    }
+}
+
+/// What a text gives after BEGIN, or BEGIN's refusal.
+fn after_begin<W: World + Send + Sync, J: Naming + Send + Sync, G: Gate>(
+    rt: &(impl Threads + Wait + Sync),
+    alloc: Global,
+    engine: &Engine<W, J, G>,
+    pass: &mut Pass<ShardLaw<W>, J>,
+    tx: &mut Tx<W, J>,
+    text: &[u8],
+) -> ClientReply
+    requires session { IsSome pass.old.session }
+    requires tx { IsOf W.opening tx.old pass.old }
+    requires closed { tx.old ≡ None }
+    ensures runs { (handshake : Handshake) (set : Settings) → set.autocommit ≡ false → OpensOne text.now → LeadsKept W.opening pass.old tx.old pass.new tx.new
+        (λ s now. RunsText (context_of W.opening handshake) (Means W.opening W.limits) set s text.now result now) }
+    ensures tx { IsOf W.opening tx.new pass.new }
+    ensures session { pass.new.session ≡ pass.old.session }
+{
+    match run_command(rt, alloc, engine, pass, tx, b"BEGIN") {
+        Ok(()) => outcome_of(rt, alloc, engine, pass, tx, text),
+        Err(why) => refused(why),
+    }
+}
+
+/// Whether a statement opens a transaction, if autocommit is off and none is open.
+fn opens_one(statement: &Statement) -> bool
+    ensures { result ≡ opens_one statement.now }
+{
+    matches!(
+        statement,
+        Statement::Select(_) | Statement::Insert(_) | Statement::Update(_) | Statement::Delete(_)
+    )
+}
+
+/// The same of a text that was read; one without a tree opens none.
+fn opens_read(parsed: &Result<Statement, Refusal>) -> Result<bool, Refusal>
+    ensures { result ≡ opens_read parsed.now }
+{
+    match parsed {
+        Ok(statement) => Ok(opens_one(statement)),
+        Err(Refusal::OutOfMemory) => Err(Refusal::OutOfMemory),
+        Err(_) => Ok(false),
+    }
+}
+
+/// Whether a text is such a statement. It is read again to be run.
+fn text_opens_one(alloc: Global, text: &[u8]) -> Result<bool, Refusal>
+    ensures opens { IfOk result (λ opens. opens ≡ true ↔ OpensOne text.now) }
+    ensures err { IfErr result (λ why. why ≡ Refusal.OutOfMemory) }
+{
+    let parsed = parse(alloc, text);
+    let opens = opens_read(&parsed);
+    drop(parsed);
+    opens
+}
+
+/// Whether a transaction is opened before the text is run.
+fn opens_first<W: World, J: Naming>(
+    alloc: Global,
+    commits: bool,
+    tx: &Tx<W, J>,
+    text: &[u8],
+) -> Result<bool, Refusal>
+    ensures opens { IfOk result (λ opens. opens ≡ true ↔ ((commits ≡ false) × (tx.now ≡ None) × OpensOne text.now)) }
+    ensures err { IfErr result (λ why. (why ≡ Refusal.OutOfMemory) × (commits ≡ false) × (tx.now ≡ None)) }
+{
+    if commits || tx.is_open() {
+        return Ok(false);
+    }
+    text_opens_one(alloc, text)
+}
+
+/// What a text gives that is run over the tables.
+fn run_text<W: World + Send + Sync, J: Naming + Send + Sync, G: Gate>(
+    rt: &(impl Threads + Wait + Sync),
+    alloc: Global,
+    engine: &Engine<W, J, G>,
+    pass: &mut Pass<ShardLaw<W>, J>,
+    tx: &mut Tx<W, J>,
+    settings: Settings,
+    text: &[u8],
+) -> ClientReply
+    requires session { IsSome pass.old.session }
+    requires tx { IsOf W.opening tx.old pass.old }
+    ensures runs { (handshake : Handshake) → LeadsKept W.opening pass.old tx.old pass.new tx.new
+        (λ s now. RunsText (context_of W.opening handshake) (Means W.opening W.limits) settings s text.now result now) }
+    ensures tx { IsOf W.opening tx.new pass.new }
+    ensures session { pass.new.session ≡ pass.old.session }
+{
+    match opens_first(alloc, settings.autocommit, tx, text) {
+        Ok(true) => after_begin(rt, alloc, engine, pass, tx, text),
+        Ok(false) => outcome_of(rt, alloc, engine, pass, tx, text),
+        Err(why) => refused(why),
+    }
+}
+
+/// What turning autocommit on gives, and what then holds for commands. It commits an open transaction, and stays off if that is refused.
+fn turned_on<W: World + Send + Sync, J: Naming + Send + Sync, G: Gate>(
+    rt: &(impl Threads + Wait + Sync),
+    alloc: Global,
+    engine: &Engine<W, J, G>,
+    pass: &mut Pass<ShardLaw<W>, J>,
+    tx: &mut Tx<W, J>,
+    settings: Settings,
+) -> (ClientReply, Settings)
+    requires session { IsSome pass.old.session }
+    requires tx { IsOf W.opening tx.old pass.old }
+    requires off { settings.autocommit ≡ false }
+    ensures gives { (handshake : Handshake) → LeadsKept W.opening pass.old tx.old pass.new tx.new
+        (λ s now. AnswersClient (context_of W.opening handshake) (Means W.opening W.limits) settings s (ClientStatement.Set (Some true)) result.0 result.1 now) }
+    ensures tx { IsOf W.opening tx.new pass.new }
+    ensures session { pass.new.session ≡ pass.old.session }
+{
+    if !tx.is_open() {
+        return (done(), settings.with_autocommit(true));
+    }
+    match run_command(rt, alloc, engine, pass, tx, b"COMMIT") {
+        Ok(()) => (done(), settings.with_autocommit(true)),
+        Err(why) => (refused(why), settings),
+    }
+}
+
+/// What a statement gives that asks something of the server, and what then holds for commands.
+fn statement_outcome<W: World + Send + Sync, J: Naming + Send + Sync, G: Gate>(
+    rt: &(impl Threads + Wait + Sync),
+    alloc: Global,
+    engine: &Engine<W, J, G>,
+    pass: &mut Pass<ShardLaw<W>, J>,
+    tx: &mut Tx<W, J>,
+    handshake: &Handshake,
+    settings: Settings,
+    statement: &ClientStatement,
+) -> (ClientReply, Settings)
+    requires session { IsSome pass.old.session }
+    requires tx { IsOf W.opening tx.old pass.old }
+    ensures gives { LeadsKept W.opening pass.old tx.old pass.new tx.new
+        (λ s now. AnswersClient (context_of W.opening handshake.now) (Means W.opening W.limits) settings s statement.now result.0 result.1 now) }
+    ensures tx { IsOf W.opening tx.new pass.new }
+    ensures session { pass.new.session ≡ pass.old.session }
+{
+    if turns_on(settings, statement) {
+        return turned_on(rt, alloc, engine, pass, tx, settings);
+    }
+    match statement {
+        ClientStatement::Begin => {
+            let begun = outcome_of(rt, alloc, engine, pass, tx, b"BEGIN");
+            (begun, settings)
+        }
+        _ => local_answer(alloc, engine.schema(), handshake, settings, statement),
+    }
+}
+
+/// What is given by what a text asks of the server, and what then holds for commands; if that is nothing, it is refused for why it wasn't run.
+fn answer_read<W: World + Send + Sync, J: Naming + Send + Sync, G: Gate>(
+    rt: &(impl Threads + Wait + Sync),
+    alloc: Global,
+    engine: &Engine<W, J, G>,
+    pass: &mut Pass<ShardLaw<W>, J>,
+    tx: &mut Tx<W, J>,
+    handshake: &Handshake,
+    settings: Settings,
+    why: Refusal,
+    asks: &Option<ClientStatement>,
+) -> (ClientReply, Settings)
+    requires session { IsSome pass.old.session }
+    requires tx { IsOf W.opening tx.old pass.old }
+    ensures gives { (text : List ℕ) → IsReading text asks.now → LeadsKept W.opening pass.old tx.old pass.new tx.new
+        (λ s now. AnswersAsked (context_of W.opening handshake.now) (Means W.opening W.limits) settings s text (Outcome.Refused why) result.0 result.1 now) }
+    ensures tx { IsOf W.opening tx.new pass.new }
+    ensures session { pass.new.session ≡ pass.old.session }
+{
+    match asks {
+        Some(statement) => {
+            statement_outcome(rt, alloc, engine, pass, tx, handshake, settings, statement)
+        }
+        None => (refused(why), settings),
+    }
+}
+
+/// What a text gives that isn't run, and what then holds for commands: what it asks of the server, or its refusal.
+fn asked<W: World + Send + Sync, J: Naming + Send + Sync, G: Gate>(
+    rt: &(impl Threads + Wait + Sync),
+    alloc: Global,
+    engine: &Engine<W, J, G>,
+    pass: &mut Pass<ShardLaw<W>, J>,
+    tx: &mut Tx<W, J>,
+    handshake: &Handshake,
+    settings: Settings,
+    text: &[u8],
+    why: Refusal,
+) -> (ClientReply, Settings)
+    requires session { IsSome pass.old.session }
+    requires tx { IsOf W.opening tx.old pass.old }
+    ensures gives { LeadsKept W.opening pass.old tx.old pass.new tx.new
+        (λ s now. AnswersAsked (context_of W.opening handshake.now) (Means W.opening W.limits) settings s text.now (Outcome.Refused why) result.0 result.1 now) }
+    ensures tx { IsOf W.opening tx.new pass.new }
+    ensures session { pass.new.session ≡ pass.old.session }
+{
+    match read(alloc, text) {
+        Ok(asks) => {
+            let answered = answer_read(
+                rt, alloc, engine, pass, tx, handshake, settings, why, &asks,
+            );
+            drop(asks);
+            answered
+        }
+        Err(_) => (refused(Refusal::OutOfMemory), settings),
+    }
+}
+
+/// What a text gives its client, and what then holds for commands.
+pub fn given<W: World + Send + Sync, J: Naming + Send + Sync, G: Gate>(
+    rt: &(impl Threads + Wait + Sync),
+    alloc: Global,
+    engine: &Engine<W, J, G>,
+    pass: &mut Pass<ShardLaw<W>, J>,
+    tx: &mut Tx<W, J>,
+    handshake: &Handshake,
+    settings: Settings,
+    text: &[u8],
+) -> (ClientReply, Settings)
+    requires session { IsSome pass.old.session }
+    requires tx { IsOf W.opening tx.old pass.old }
+    ensures gives { LeadsKept W.opening pass.old tx.old pass.new tx.new
+        (λ s now. GivesText (context_of W.opening handshake.now) (Means W.opening W.limits) settings s text.now result.0 result.1 now) }
+    ensures tx { IsOf W.opening tx.new pass.new }
+    ensures session { pass.new.session ≡ pass.old.session }
+{
+    let outcome = run_text(rt, alloc, engine, pass, tx, settings, text);
+    match not_run(&outcome) {
+        None => (outcome, settings),
+        Some(why) => asked(rt, alloc, engine, pass, tx, handshake, settings, text, why),
+    }
+}

@@ -1,7 +1,0 @@
-use Rattle.shard_run.specs.Runs.{mode}
-use Rattle.cutover_steps.proofs.Modes.{not_serving}
-use Rattle.cutover_steps.proofs.steps.serves.Goals as goal
-
-pub returns-in_default-clause-no : goal.returns-in_default-clause-no
-returns-in_default-clause-no g c e is =
-    not_serving (mode g.W.World.opening c.args.state.now.seen c.args.state.now.shard.slot) c.mode.result c.mode.ensures c.in_default.not-Serving is

@@ -1,6 +1,0 @@
-use Rattle.std.proofs.Common.{◌≡◌, map}
-use Rattle.cutover_steps.proofs.stored.note_retired.Given as goal
-
--- the shards stay
-abbrev pub invariant-loop-at : goal.invariant-loop-at
-invariant-loop-at g l = map (λ s. s.member.which) l.sources ≡ map (λ s. s.member.which) l.fn.sources

@@ -1,4 +1,0 @@
-pub mod inner
-pub mod Steps
-pub mod Takings
-pub mod Looks

@@ -1,6 +1,0 @@
-//! What a program begins with that has a VSchema and key ranges, and no rows.
-#![tactic(auto)]
-
-mod opening;
-
-pub use opening::{empty_tables, opening_shards, ranges_fit, sharded_keyspace};

@@ -1,6 +1,0 @@
-use Rattle.std.proofs.Common.{◌≡◌, [], replicate}
-use Rattle.reshard_beginning.proofs.creating.empty_store.Given as goal
-
--- as many empty tables so far
-abbrev pub invariant-loop-table : goal.invariant-loop-table
-invariant-loop-table l = l.store.rows ≡ replicate l.table-index []

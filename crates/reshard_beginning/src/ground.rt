@@ -1,8 +1,0 @@
-use shard::Limits;
-
-/// What is fixed for all workflows of a controller: the keyspace, by its place in the VSchema, and what each of its shards may hold.
-#[derive(Clone, Copy)]
-pub struct Ground {
-    pub keyspace: usize,
-    pub limits: Limits,
-}

@@ -1,0 +1,13 @@
+pub mod Lists
+pub mod Rising
+pub mod Looks
+pub mod Parts
+pub mod Ranges
+pub mod Named
+pub mod Splits
+pub mod Blank
+pub mod Making
+pub mod Begins
+pub mod Unfit
+pub mod Seats
+pub mod Those

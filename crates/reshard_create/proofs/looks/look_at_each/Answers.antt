@@ -1,0 +1,23 @@
+use Rattle.std.proofs.Common.{subst}
+use Rattle.std.specs.List.{AllByRecursion}
+use Rattle.shard_contents.proofs.Progress.{take_whole}
+use Rattle.reshard_cutover.proofs.Onward.{onward_trans}
+use Rattle.reshard_create.specs.Begun.{IsNotFollowing}
+use Rattle.reshard_create.specs.inner.Created.{HasSeen}
+use Rattle.reshard_create.proofs.Looks.{seen_next}
+use Rattle.reshard_create.proofs.looks.look_at_each.Goals as goal
+
+pub loop-part-preserved : goal.loop-part-preserved
+loop-part-preserved g c =
+    let o = g.W.World.opening in
+    record {
+      onward = onward_trans o c.args.pass.now c.loop-part.pass c.look_at.new.pass c.loop-part.invariant.onward c.look_at.ensures.onward;
+      seen =
+          seen_next o c.args.pass.now c.loop-part.pass c.look_at.new.pass c.args.keyspace IsNotFollowing c.args.parts.now c.loop-part.part-index c.part-item.result
+          c.loop-part-test.true c.part-item.is c.loop-part.invariant.onward.later c.look_at.ensures.onward.later c.look_at.ensures.seen c.loop-part.invariant.seen;
+    }
+
+pub returns-clause-seen : goal.returns-clause-seen
+returns-clause-seen g c =
+    subst (AllByRecursion (HasSeen g.W.World.opening c.args.pass.now c.loop-part.pass c.args.keyspace IsNotFollowing))
+    (take_whole c.loop-part.part-index c.args.parts.now c.loop-part-test.false) c.loop-part.invariant.seen

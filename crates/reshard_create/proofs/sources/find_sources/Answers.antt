@@ -1,0 +1,60 @@
+use Rattle.std.proofs.Common.{◌==◌, List, length, map, sym, ap, subst, ◌∙◌}
+use Rattle.std.proofs.lemmas.Bool.{eqb-true, false≢true}
+use Rattle.keyrange.specs.declared.KeyRange.{KeyRange}
+use Rattle.serving.specs.Partitions.{AreOf}
+use Rattle.follow.proofs.Moves.{at_some, at_not_some, if_some}
+use Rattle.reshard_create.specs.Begun.{none_named}
+use Rattle.reshard_create.proofs.Unfit.{no_items, residual, create_memory, sources_are, not_all_there, one_away, taken_home, tested}
+use Rattle.reshard_create.proofs.sources.find_sources.Goals as goal
+
+pub returns-then-is_empty-clause-err : goal.returns-then-is_empty-clause-err
+returns-then-is_empty-clause-err g c free =
+    none_named (no_items c.args.sources.now (eqb-true (length c.args.sources.now) 0 (sym c.is_empty.ensures ∙ c.if-is_empty.true)))
+
+pub returns-then-len-sources-clause-err : goal.returns-then-len-sources-clause-err
+returns-then-len-sources-clause-err g c free =
+    not_all_there g.W.World.opening c.args.keyspace c.args.sources.now c.args.targets.now c.requires.parts.0 c.args.chosen.now.taken.items
+    c.args.chosen.now.rest.items c.requires.parts.1 c.args.pass.now c.look_at_each.new.pass c.look_at_each-then-len-sources.new.pass free c.as_slice.result.now
+    c.as_slice-then-len-sources.result.now c.as_slice.ensures.value c.as_slice-then-len-sources.ensures.value c.look_at_each.ensures.onward.later c.look_at_each-then-len-sources.ensures.onward.later
+    c.look_at_each.ensures.seen c.look_at_each-then-len-sources.ensures.seen (λ e. c.if-len-sources.true (c.len.ensures ∙ c.args.chosen.now.taken.ok.0 ∙ e))
+
+pub sources_of-requires-clause-home : goal.sources_of-requires-clause-home
+sources_of-requires-clause-home g c =
+    subst (AreOf c.args.keyspace) (sym c.as_slice-2.ensures.value)
+    (taken_home g.W.World.opening c.args.keyspace c.args.sources.now c.args.targets.now c.requires.parts.0 c.args.chosen.now.taken.items c.args.chosen.now.rest.items
+    c.requires.parts.1)
+
+pub returns-in_err-found-clause-err : goal.returns-in_err-found-clause-err
+returns-in_err-found-clause-err g c =
+    residual c.from_residual.result c.in_err-found.field-0.0 _ c.from_residual.ensures.1
+    (λ free. create_memory g.W.World.opening c.args.pass.now c.sources_of.new.pass c.args.keyspace free c.args.sources.now c.args.targets.now
+    c.in_err-found.field-0.0 c.in_err-found.ensures.err)
+
+pub returns-in_default-clause-err : goal.returns-in_default-clause-err
+returns-in_default-clause-err g c free =
+    let w = at_not_some _ _ c.in_ok-found.field-0 c.in_default.not-Some c.in_ok-found.ensures.found in
+    one_away g.W.World.opening c.args.keyspace c.args.sources.now c.args.targets.now c.requires.parts.0 c.args.chosen.now.taken.items c.args.chosen.now.rest.items
+    c.requires.parts.1 c.args.pass.now c.sources_of.new.pass free c.as_slice-2.result.now c.as_slice-2.ensures.value w.0 w.1 w.2
+
+pub returns-in-Ok-clause-are : goal.returns-in-Ok-clause-are
+returns-in-Ok-clause-are g c =
+    let w = at_some _ _ c.in_ok-found.field-0 c.in-Some.found c.in-Some.is c.in_ok-found.ensures.found in
+    sources_are g.W.World.opening c.args.keyspace c.args.sources.now c.args.targets.now c.requires.parts.0 c.args.chosen.now.taken.items c.args.chosen.now.rest.items
+    c.requires.parts.1 (λ s. s.member.which) c.args.pass.now c.sources_of.new.pass c.in-Some.found.items
+    (λ e. absurd (false≢true (sym c.if-is_empty.false ∙ c.is_empty.ensures ∙ ap (λ (l : List KeyRange). length l == 0) e)))
+    (sym (c.len.ensures ∙ c.args.chosen.now.taken.ok.0) ∙ c.if-len-sources.false) (w.0 ∙ c.as_slice-2.ensures.value, w.1)
+    (if_some _ c.in_ok-found.field-0 c.in-Some.found c.in-Some.is c.in_ok-found.ensures.served)
+
+pub returns-in-Err-clause-err : goal.returns-in-Err-clause-err
+returns-in-Err-clause-err g c free =
+    let w = at_some _ _ c.in_ok-found.field-0 c.in-Some.found c.in-Some.is c.in_ok-found.ensures.found in
+    let are =
+    sources_are g.W.World.opening c.args.keyspace c.args.sources.now c.args.targets.now c.requires.parts.0 c.args.chosen.now.taken.items c.args.chosen.now.rest.items
+    c.requires.parts.1 (λ s. s.member.which) c.args.pass.now c.sources_of.new.pass c.in-Some.found.items
+    (λ e. absurd (false≢true (sym c.if-is_empty.false ∙ c.is_empty.ensures ∙ ap (λ (l : List KeyRange). length l == 0) e)))
+    (sym (c.len.ensures ∙ c.args.chosen.now.taken.ok.0) ∙ c.if-len-sources.false) (w.0 ∙ c.as_slice-2.ensures.value, w.1)
+    (if_some _ c.in_ok-found.field-0 c.in-Some.found c.in-Some.is c.in_ok-found.ensures.served) in
+    tested g.W.World.opening c.args.keyspace c.args.sources.now c.args.targets.now c.requires.parts.0 c.args.chosen.now.taken.items c.args.chosen.now.rest.items
+    c.requires.parts.1 c.args.pass.now c.sources_of.new.pass free (map (λ s. s.member.which) c.in-Some.found.items)
+    (sym (c.len.ensures ∙ c.args.chosen.now.taken.ok.0) ∙ c.if-len-sources.false) are c.in-Err.fault c.as_slice-3.result.now c.as_slice-3.ensures.value
+    c.in-Err.ensures.err

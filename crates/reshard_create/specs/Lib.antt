@@ -1,0 +1,5 @@
+pub mod inner
+pub mod Choices
+pub mod Configs
+pub mod Splits
+pub mod Begun

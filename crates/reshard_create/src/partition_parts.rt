@@ -1,0 +1,108 @@
+//! Which parts of a partition are named, and the ranges once targets take their place.
+ghost use Rattle.std.specs.Prelude.{◌≡◌, ◌++◌, ◌∷◌, [], ◌↔◌, IsTrue, not, true, IfOk, IfErr, OnOk, Contains, map, false};
+ghost use Rattle.reshard_create.specs.Choices.{DoNotOverlap};
+ghost use Rattle.reshard_create.specs.inner.Created.{AreNamed};
+ghost use Rattle.keyrange.specs.Ranges.{Overlap};
+ghost use Rattle.std.specs.List.{AllByRecursion};
+
+use keyrange::KeyRange;
+use reshard_cutover::copy_part;
+use serving::{Seated, ShardReference};
+use std::alloc::Global;
+use vt_value::Refusal;
+
+/// The parts of a partition whose ranges are named, and the others.
+#[derive(Drop)]
+pub struct ChosenParts<S: Seated + Drop> {
+    pub taken: Vec<ShardReference<S>>,
+    pub rest: Vec<ShardReference<S>>,
+}
+
+impl<S: Seated + Drop> ChosenParts<S> {
+    // Adds a part to the ones or the others.
+    fn add(&mut self, part: ShardReference<S>, named: bool) -> Result<(), Refusal>
+        ensures named { OnOk result (named ≡ true → (self.new.taken.items ≡ self.old.taken.items ++ part ∷ []) × (self.new.rest.items ≡ self.old.rest.items)) }
+        ensures other { OnOk result (named ≡ false → (self.new.taken.items ≡ self.old.taken.items) × (self.new.rest.items ≡ self.old.rest.items ++ part ∷ [])) }
+        ensures err { IfErr result (λ e. e ≡ Refusal.OutOfMemory) }
+    {
+        if named {
+            self.taken.push(part)?;
+        } else {
+            self.rest.push(part)?;
+        }
+        Ok(())
+    }
+}
+
+// Whether the range is one of these.
+fn is_among(range: &KeyRange, ranges: &[KeyRange]) -> bool
+    ensures yes { result ≡ true → Contains ranges.now range.now }
+    ensures no { result ≡ false → Contains ranges.now range.now → ⊥ }
+{
+    for other in ranges {
+        if other == range {
+            return true;
+        }
+    }
+    false
+}
+
+/// Tells the parts whose ranges are named from the others.
+pub fn choose<S: Seated + Drop>(
+    alloc: Global,
+    parts: &[ShardReference<S>],
+    ranges: &[KeyRange],
+) -> Result<ChosenParts<S>, Refusal>
+    ensures ok { IfOk result (λ c. AreNamed ranges.now parts.now c.taken.items c.rest.items) }
+    ensures taken { IfOk result (λ c. AllByRecursion (Contains parts.now) c.taken.items) }
+    ensures rest { IfOk result (λ c. AllByRecursion (Contains parts.now) c.rest.items) }
+    ensures err { IfErr result (λ e. e ≡ Refusal.OutOfMemory) }
+{
+    let mut chosen = ChosenParts {
+        taken: Vec::new(alloc),
+        rest: Vec::new(alloc),
+    };
+    for part in parts {
+        let named = is_among(&part.range(), ranges);
+        chosen.add(copy_part(part)?, named)?;
+    }
+    Ok(chosen)
+}
+
+fn overlaps_any(range: &KeyRange, others: &[KeyRange]) -> bool
+    ensures no { result ≡ false → AllByRecursion (λ other. Overlap other range.now → ⊥) others.now }
+    ensures yes { result ≡ true → AllByRecursion (λ other. Overlap other range.now → ⊥) others.now → ⊥ }
+{
+    others.iter().any(|other| other.overlaps(range))
+}
+
+/// Whether two of the ranges overlap.
+pub fn any_overlap(ranges: &[KeyRange]) -> bool
+    ensures { IsTrue (not result) ↔ DoNotOverlap ranges.now }
+{
+    for i in 0..ranges.len() {
+        if overlaps_any(&ranges[i], &ranges[..i]) {
+            return true;
+        }
+    }
+    false
+}
+
+/// The ranges of the parts, and the targets after them.
+pub fn next_ranges<S: Seated + Drop>(
+    alloc: Global,
+    parts: &[ShardReference<S>],
+    targets: &[KeyRange],
+) -> Result<Vec<KeyRange>, Refusal>
+    ensures ok { IfOk result (λ r. r.items ≡ map (λ p. p.1) parts.now ++ targets.now) }
+    ensures err { IfErr result (λ e. e ≡ Refusal.OutOfMemory) }
+{
+    let mut ranges = Vec::new(alloc);
+    for part in parts {
+        ranges.push(part.range())?;
+    }
+    for target in targets {
+        ranges.push(*target)?;
+    }
+    Ok(ranges)
+}

@@ -1,0 +1,381 @@
+//! A workflow begins: the shards that it replaces, and its targets.
+ghost use Rattle.shard_run.specs.declared.ShardRecord as which;
+ghost use Rattle.std.specs.Prelude.{◌≡◌, ◌-◌, ◌+◌, ◌≤◌, ◌<◌, ◌^◌, ◌++◌, ◌∷◌, ◌⊎◌, [], ℕ, List, IfOk, IfErr, OnOk, OnErr, MatchOption, map, reverse, length, replicate, vec_len, vec_capacity};
+ghost use Rattle.std.specs.List.{AllByRecursion};
+ghost use Rattle.keyrange.specs.Names.{IsNamed};
+ghost use Rattle.journal.specs.Runs.{IsLegal};
+ghost use Rattle.shard_run.specs.Openings.{IsOpening};
+ghost use Rattle.shard_law.specs.Entries.{MayFollow};
+ghost use Rattle.follow.specs.Steps.{IsOnward};
+ghost use Rattle.reshard_cutover.specs.Overlapping.{AreThose};
+ghost use Rattle.reshard_create.specs.Splits.{target_seats, AreOverlapped};
+ghost use Rattle.shard.specs.Seats.{seat_of};
+ghost use Rattle.reshard_create.specs.Configs.{IsFree, IsReshardConfig};
+ghost use Rattle.reshard_create.specs.Begun.{IsServing, IsAway};
+ghost use Rattle.reshard_create.specs.inner.Created.{IsSourceState, IsSeenAt, HasSeen, HasGrown, IsMade, IsMadeOf};
+
+use crate::config::ReshardConfig;
+use crate::looks::stands;
+use crate::seats_back::{give_back, put, seat_back};
+use follow::WorkflowShard;
+use journal::{Naming, Pass, ShardSeat};
+use keyrange::KeyRange;
+use reshard_cutover::{SourceShard, TargetShard, serves};
+use serving::ShardReference;
+use shard::{Limits, Shard, ShardLaw, ShardState, Store, World};
+use shard_run::Mode;
+use std::alloc::Global;
+use std::sync::{Arc, Wait};
+use vschema::{Place, VSchema};
+use vt_value::{Items, Refusal};
+
+// What a look at the shard of a slot and place shows: it serves; or it is frozen or retired; or it is another, or follows.
+#[derive(Drop)]
+enum SourceState {
+    Serves(shard_run::ShardRecord),
+    DoesNot,
+    Another,
+}
+
+/// A copy of what names a shard.
+pub fn copy_shard(
+    alloc: Global,
+    shard: &shard_run::ShardRecord,
+) -> Result<shard_run::ShardRecord, Refusal>
+    ensures ok { IfOk result (λ copy. copy ≡ shard.now) }
+    ensures err { IfErr result (λ e. e ≡ Refusal.OutOfMemory) }
+{
+    let sources = Items::from_slice(alloc, shard.sources.as_slice())?;
+    Ok(shard_run::ShardRecord {
+        slot: shard.slot,
+        place: Place {
+            keyspace: shard.place.keyspace,
+            range: shard.place.range,
+        },
+        sources,
+    })
+}
+
+/// Another handle of the member, whose shard is shared.
+pub fn copy_member<W: World, J: Naming>(
+    alloc: Global,
+    member: &WorkflowShard<W, J>,
+) -> Result<WorkflowShard<W, J>, Refusal>
+    ensures ok { IfOk result (λ copy. copy.which ≡ member.now.which) }
+    ensures shard { IfOk result (λ copy. copy.shard.value ≡ member.now.shard.value) }
+    ensures err { IfErr result (λ e. e ≡ Refusal.OutOfMemory) }
+{
+    let shard = Arc::try_clone(&member.shard)?;
+    let which = copy_shard(alloc, &member.which)?;
+    Ok(WorkflowShard { which, shard })
+}
+
+// One look at the shard of a part.
+fn try_source<W: World, J: Naming>(
+    state: &mut ShardState<W, J>,
+    alloc: Global,
+    pass: &mut Pass<ShardLaw<W>, J>,
+    slot: usize,
+    place: &Place,
+) -> Result<SourceState, Refusal>
+    requires legal { IsLegal (MayFollow W.opening) pass.old.seen }
+    ensures source_state { IfOk result (IsSourceState W.opening pass.new.seen slot place.now) }
+    ensures onward { IsOnward W.opening pass.old pass.new }
+    ensures err { IfErr result (λ e. e ≡ Refusal.OutOfMemory) }
+{
+    if !stands(state, pass, slot, place) {
+        return Ok(SourceState::Another);
+    }
+    if !serves(state) {
+        return Ok(SourceState::DoesNot);
+    }
+    let which = copy_shard(alloc, state.shard())?;
+    Ok(SourceState::Serves(which))
+}
+
+// Looks once at the shard of a part under its lock.
+fn look_once<W: World, J: Naming>(
+    rt: &impl Wait,
+    alloc: Global,
+    pass: &mut Pass<ShardLaw<W>, J>,
+    part: &ShardReference<Shard<W, J>>,
+    slot: usize,
+    place: &Place,
+) -> Result<SourceState, Refusal>
+    requires legal { IsLegal (MayFollow W.opening) pass.old.seen }
+    ensures source_state { IfOk result (IsSourceState W.opening pass.new.seen slot place.now) }
+    ensures onward { IsOnward W.opening pass.old pass.new }
+    ensures err { IfErr result (λ e. e ≡ Refusal.OutOfMemory) }
+{
+    try_source(&mut part.shard().lock(rt), alloc, pass, slot, place)
+}
+
+fn member_of<W: World, J: Naming>(
+    part: &ShardReference<Shard<W, J>>,
+    which: shard_run::ShardRecord,
+) -> Result<WorkflowShard<W, J>, Refusal>
+    ensures ok { IfOk result (λ m. m.which ≡ which) }
+    ensures err { IfErr result (λ e. e ≡ Refusal.OutOfMemory) }
+{
+    let shard = Arc::try_clone(part.shard())?;
+    Ok(WorkflowShard { which, shard })
+}
+
+// The shard of a part, if it serves and isn't frozen.
+pub(crate) fn source_of<W: World, J: Naming>(
+    rt: &impl Wait,
+    alloc: Global,
+    pass: &mut Pass<ShardLaw<W>, J>,
+    keyspace: usize,
+    part: &ShardReference<Shard<W, J>>,
+) -> Result<Option<WorkflowShard<W, J>>, Refusal>
+    requires legal { IsLegal (MayFollow W.opening) pass.old.seen }
+    ensures found { IfOk result (λ r. MatchOption r (HasSeen W.opening pass.old pass.new keyspace IsAway part.now)
+        (λ m. IsSeenAt W.opening pass.old pass.new keyspace IsServing part.now m.which)) }
+    ensures onward { IsOnward W.opening pass.old pass.new }
+    ensures err { IfErr result (λ e. e ≡ Refusal.OutOfMemory) }
+{
+    let place = Place {
+        keyspace,
+        range: part.range(),
+    };
+    let slot = part.slot();
+    for _ in rt.forever() {
+        match look_once(rt, alloc, pass, part, slot, &place)? {
+            SourceState::Serves(which) => {
+                let member = member_of(part, which)?;
+                return Ok(Some(member));
+            }
+            SourceState::DoesNot => return Ok(None),
+            SourceState::Another => {}
+        }
+    }
+    unreachable!()
+}
+
+/// Sources that a target takes from, and their slots.
+#[derive(Drop)]
+pub struct TargetSources<W: World, J: Naming> {
+    pub slots: Items<usize>,
+    pub members: Vec<WorkflowShard<W, J>>,
+}
+
+impl<W: World, J: Naming> TargetSources<W, J> {
+    fn add(&mut self, alloc: Global, member: &WorkflowShard<W, J>) -> Result<(), Refusal>
+        ensures slots { OnOk result (self.new.slots ≡ self.old.slots ++ member.now.which.slot ∷ []) }
+        ensures members { OnOk result (map (λ m. m.which) self.new.members.items ≡ map (λ m. m.which) self.old.members.items ++ member.now.which ∷ []) }
+        ensures err { IfErr result (λ e. e ≡ Refusal.OutOfMemory) }
+    {
+        self.slots.push(member.which.slot)?;
+        self.members.push(copy_member(alloc, member)?)?;
+        Ok(())
+    }
+}
+
+impl<W: World, J: Naming> TargetSources<W, J> {
+    // Adds the source if it overlaps the range.
+    fn consider(
+        &mut self,
+        alloc: Global,
+        range: &KeyRange,
+        member: &WorkflowShard<W, J>,
+    ) -> Result<(), Refusal>
+        requires { self.old.slots ≡ map (λ s. s.slot) (map (λ m. m.which) self.old.members.items) }
+        ensures slots { OnOk result (self.new.slots ≡ map (λ s. s.slot) (map (λ m. m.which) self.new.members.items)) }
+        ensures grown { OnOk result (HasGrown range.now member.now.which (map (λ m. m.which) self.old.members.items) (map (λ m. m.which) self.new.members.items)) }
+        ensures err { IfErr result (λ e. e ≡ Refusal.OutOfMemory) }
+    {
+        if !member.which.place.range.overlaps(range) {
+            return Ok(());
+        }
+        self.add(alloc, member)?;
+        Ok(())
+    }
+}
+
+/// Those of the sources that overlap the range.
+pub fn overlapping_sources<W: World, J: Naming>(
+    alloc: Global,
+    range: &KeyRange,
+    sources: &[SourceShard<W, J>],
+) -> Result<TargetSources<W, J>, Refusal>
+    ensures slots { IfOk result (λ own. own.slots ≡ map (λ s. s.slot) (map (λ m. m.which) own.members.items)) }
+    ensures own { IfOk result (λ own. AreOverlapped (map (λ s. s.member.which) sources.now) range.now (map (λ m. m.which) own.members.items)) }
+    ensures those { IfOk result (λ own. AreThose range.now (map (λ s. s.member.which) sources.now) (map (λ m. m.which) own.members.items)) }
+    ensures err { IfErr result (λ e. e ≡ Refusal.OutOfMemory) }
+{
+    let mut own = TargetSources {
+        slots: Items::new(alloc),
+        members: Vec::new(alloc),
+    };
+    for source in sources {
+        own.consider(alloc, range, &source.member)?;
+    }
+    Ok(own)
+}
+
+// A store of the tables, which are empty.
+fn empty_store(alloc: Global, schema: &VSchema) -> Result<Store, Refusal>
+    ensures ok { IfOk result (λ store. store.rows ≡ replicate (length schema.now.tables) []) }
+    ensures err { IfErr result (λ e. e ≡ Refusal.OutOfMemory) }
+{
+    let mut store = Store::new(alloc);
+    for table in schema.tables.as_slice() {
+        store.push_table(alloc, table)?;
+    }
+    Ok(store)
+}
+
+// The state of a target's shard under its lock, or its seat again.
+fn shared<W: World, J: Naming>(
+    rt: &impl Wait,
+    alloc: Global,
+    state: ShardState<W, J>,
+) -> Result<Arc<Shard<W, J>, Global>, ShardSeat<ShardLaw<W>, J>>
+    ensures seat { IfOk result (λ shard. shard.value ≡ seat_of state.shard) }
+    ensures free { IfErr result (IsFree W.opening) }
+    ensures slot { IfErr result (λ seat. seat.slot ≡ state.shard.slot) }
+{
+    let slot = state.slot();
+    match Arc::new(alloc, Shard::new(state)) {
+        Ok(shard) => Ok(shard),
+        Err(failed) => Err(seat_back(rt, failed.value, slot)),
+    }
+}
+
+// The shard of a target on the last of the free slots, which is told, without rows, under its lock.
+fn open_shard<W: World, J: Naming>(
+    rt: &impl Wait,
+    alloc: Global,
+    free: &mut Vec<ShardSeat<ShardLaw<W>, J>>,
+    which: &mut shard_run::ShardRecord,
+    schema: &VSchema,
+    limits: Limits,
+) -> Result<Arc<Shard<W, J>, Global>, Refusal>
+    requires opens { IsOpening W.opening }
+    requires keyspace { which.old.place.keyspace < length W.opening.schema.keyspaces }
+    requires free { AllByRecursion (IsFree W.opening) free.old.items }
+    requires some { 0 < vec_len free.old }
+    requires range { IsNamed which.old.place.range }
+    requires sources { which.old.sources ≡ [] → ⊥ }
+    requires schema { schema.now ≡ W.opening.schema }
+    requires limits { limits ≡ W.limits }
+    requires most_rows { limits.rows ≤ 2 ^ 20 }
+    requires most_stored { limits.stored ≤ 2 ^ 20 }
+    ensures seat { IfOk result (λ shard. shard.value ≡ seat_of which.new) }
+    ensures place { which.new.place ≡ which.old.place }
+    ensures sources { which.new.sources ≡ which.old.sources }
+    ensures free { AllByRecursion (IsFree W.opening) free.new.items }
+    ensures taken { OnOk result (map (λ s. s.slot) free.old.items ≡ map (λ s. s.slot) free.new.items ++ which.new.slot ∷ []) }
+    ensures kept { OnErr result (map (λ s. s.slot) free.new.items ≡ map (λ s. s.slot) free.old.items) }
+    ensures room { vec_capacity free.old ≤ vec_capacity free.new }
+    ensures err { IfErr result (λ e. e ≡ Refusal.OutOfMemory) }
+{
+    let store = empty_store(alloc, schema)?;
+    let mut copy = copy_shard(alloc, which)?;
+    let seat = free.pop().unwrap();
+    let slot = seat.slot();
+    copy.slot = slot;
+    which.slot = slot;
+    let state = ShardState::new(alloc, seat, copy, store, Mode::Following, limits);
+    match shared(rt, alloc, state) {
+        Ok(shard) => Ok(shard),
+        Err(seat) => {
+            put(free, seat);
+            Err(Refusal::OutOfMemory)
+        }
+    }
+}
+
+// A target of this range on a free slot, with those of the sources that overlap it.
+fn make_target<W: World, J: Naming>(
+    rt: &impl Wait,
+    alloc: Global,
+    free: &mut Vec<ShardSeat<ShardLaw<W>, J>>,
+    schema: &VSchema,
+    config: ReshardConfig,
+    sources: &[SourceShard<W, J>],
+    range: KeyRange,
+) -> Result<TargetShard<W, J>, Refusal>
+    requires opens { IsOpening W.opening }
+    requires schema { schema.now ≡ W.opening.schema }
+    requires config { IsReshardConfig W.opening W.limits config }
+    requires free { AllByRecursion (IsFree W.opening) free.old.items }
+    requires some { 0 < vec_len free.old }
+    requires range { IsNamed range }
+    requires covered { (own : List which.ShardRecord) → AreOverlapped (map (λ s. s.member.which) sources.now) range own → own ≡ [] → ⊥ }
+    ensures target { IfOk result (λ t. IsMade (map (λ s. s.member.which) sources.now) config.keyspace range (t.member.which, map (λ s. s.which) t.sources.items)) }
+    ensures seat { IfOk result (λ t. t.member.shard.value ≡ seat_of t.member.which) }
+    ensures free { AllByRecursion (IsFree W.opening) free.new.items }
+    ensures taken { IfOk result (λ t. map (λ s. s.slot) free.old.items ≡ map (λ s. s.slot) free.new.items ++ t.member.which.slot ∷ []) }
+    ensures kept { OnErr result (map (λ s. s.slot) free.new.items ≡ map (λ s. s.slot) free.old.items) }
+    ensures room { vec_capacity free.old ≤ vec_capacity free.new }
+    ensures err { IfErr result (λ e. e ≡ Refusal.OutOfMemory) }
+{
+    let own = overlapping_sources(alloc, &range, sources)?;
+    let mut target = PlannedTarget {
+        which: shard_run::ShardRecord {
+            slot: 0,
+            place: Place {
+                keyspace: config.keyspace,
+                range,
+            },
+            sources: own.slots,
+        },
+        members: own.members,
+    };
+    let shard = open_shard(rt, alloc, free, &mut target.which, schema, config.limits)?;
+    Ok(TargetShard {
+        member: WorkflowShard {
+            which: target.which,
+            shard,
+        },
+        sources: target.members,
+    })
+}
+
+// A target that has no shard yet.
+#[derive(Drop)]
+struct PlannedTarget<W: World, J: Naming> {
+    which: shard_run::ShardRecord,
+    members: Vec<WorkflowShard<W, J>>,
+}
+
+// A target of each range, on the last of the free slots.
+pub(crate) fn make_targets<W: World, J: Naming>(
+    rt: &impl Wait,
+    alloc: Global,
+    free: &mut Vec<ShardSeat<ShardLaw<W>, J>>,
+    schema: &VSchema,
+    config: ReshardConfig,
+    sources: &[SourceShard<W, J>],
+    ranges: &[KeyRange],
+) -> Result<Vec<TargetShard<W, J>>, Refusal>
+    requires opens { IsOpening W.opening }
+    requires schema { schema.now ≡ W.opening.schema }
+    requires config { IsReshardConfig W.opening W.limits config }
+    requires free { AllByRecursion (IsFree W.opening) free.old.items }
+    requires enough { length ranges.now ≤ vec_len free.old }
+    requires ranges { AllByRecursion IsNamed ranges.now }
+    requires covered { AllByRecursion (λ r. (own : List which.ShardRecord) → AreOverlapped (map (λ s. s.member.which) sources.now) r own → own ≡ [] → ⊥) ranges.now }
+    ensures targets { IfOk result (λ ts. (map (λ t. t.member.which.place.range) ts.items ≡ ranges.now)
+        × AllByRecursion (IsMadeOf (map (λ s. s.member.which) sources.now) config.keyspace) (map (λ t. (t.member.which, map (λ s. s.which) t.sources.items)) ts.items)) }
+    ensures seats { IfOk result (λ ts. map (λ t. t.member.shard.value) ts.items
+        ≡ target_seats (map (λ t. (t.member.which, map (λ s. s.which) t.sources.items)) ts.items)) }
+    ensures free { AllByRecursion (IsFree W.opening) free.new.items }
+    ensures taken { IfOk result (λ ts. map (λ s. s.slot) free.old.items ≡ map (λ s. s.slot) free.new.items ++ reverse (map (λ t. t.member.which.slot) ts.items)) }
+    ensures kept { OnErr result (map (λ s. s.slot) free.new.items ≡ map (λ s. s.slot) free.old.items) }
+    ensures err { IfErr result (λ e. e ≡ Refusal.OutOfMemory) }
+{
+    let mut made = Vec::with_capacity(alloc, ranges.len())?;
+    for range in ranges {
+        match make_target(rt, alloc, free, schema, config, sources, *range) {
+            Ok(target) => made.push(target)?,
+            Err(refusal) => {
+                give_back(rt, free, made);
+                return Err(refusal);
+            }
+        }
+    }
+    Ok(made)
+}

@@ -1,0 +1,9 @@
+pub mod Onward
+pub mod Retiring
+pub mod Thaws
+pub mod Served
+pub mod Modes
+pub mod Residual
+pub mod Moving
+pub mod Permuted
+pub mod Prepares

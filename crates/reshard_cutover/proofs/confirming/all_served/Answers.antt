@@ -1,0 +1,23 @@
+use Rattle.std.proofs.Common.{map, take}
+use Rattle.shard_law.proofs.Lists.{all-weaker}
+use Rattle.shard_run.specs.declared.Event.TheVariants.{Serve}
+use Rattle.reshard_cutover.specs.Looks.{HasBegunToServe}
+use Rattle.reshard_cutover.specs.TargetSources.{TargetWithSources}
+use Rattle.reshard_cutover.proofs.Onward.{onward_trans, entry_later}
+use Rattle.reshard_cutover.proofs.Retiring.{all_map_next}
+use Rattle.reshard_cutover.proofs.confirming.all_served.Goals as goal
+
+pub loop-target-preserved : goal.loop-target-preserved
+loop-target-preserved g c =
+    let q = c.loop-target.pass in
+    let now = c.confirm_served.new.pass in
+    record {
+      onward = onward_trans g.W.World.opening c.args.pass.now q now c.loop-target.invariant.onward c.confirm_served.ensures.onward;
+      served =
+          all_map_next (λ (t : TargetWithSources). HasBegunToServe now.seen t.0) (λ t. (t.member.which, map (λ s. s.which) t.sources.items)) c.args.targets.now
+          c.loop-target.target-index c.target-item.result c.loop-target-test.true c.target-item.is
+          (all-weaker (λ (t : TargetWithSources). HasBegunToServe q.seen t.0) (λ (t : TargetWithSources). HasBegunToServe now.seen t.0)
+          (λ t h. entry_later q.seen now.seen t.0 Serve c.confirm_served.ensures.onward.later h)
+          (map (λ t. (t.member.which, map (λ s. s.which) t.sources.items)) (take c.loop-target.target-index c.args.targets.now)) c.loop-target.invariant.served)
+          c.confirm_served.ensures.served;
+    }

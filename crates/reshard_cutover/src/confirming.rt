@@ -1,0 +1,210 @@
+//! What earlier calls did is looked at again under the locks: which sources are retired, and which targets serve.
+ghost use Rattle.std.specs.Prelude.{◌≡◌, true, List, Contains, IsTrue, map};
+ghost use Rattle.std.specs.List.{AllByRecursion};
+ghost use Rattle.journal.specs.Runs.{IsLegal};
+ghost use Rattle.shard_run.specs.Openings.{IsOpening};
+ghost use Rattle.shard_law.specs.Entries.{MayFollow};
+ghost use Rattle.follow.specs.Steps.{IsOnward};
+ghost use Rattle.follow.specs.Turns.{EachInTurn};
+ghost use Rattle.reshard_cutover.specs.Steps.{has_source, IsRetired, AreRetired};
+ghost use Rattle.reshard_cutover.specs.Looks.{HasLookedOnlyAt, IsGone, HasBegunToServe, HaveServed, IsCutOver};
+
+use crate::steps::{SourceShard, is_source_of, serves};
+use crate::target::TargetShard;
+use follow::WorkflowShard;
+use journal::{Naming, Pass};
+use shard::{ShardLaw, ShardState, World};
+use shard_run::ShardRecord;
+use std::sync::Wait;
+
+// Whether the source is retired for the target, and has stored as many entries as it is said to have.
+fn try_retired_for<W: World, J: Naming>(
+    state: &mut ShardState<W, J>,
+    source: &SourceShard<W, J>,
+    target: &ShardRecord,
+    pass: &mut Pass<ShardLaw<W>, J>,
+) -> bool
+    requires legal { IsLegal (MayFollow W.opening) pass.old.seen }
+    ensures retired { result ≡ true → (targets : List ShardRecord) × IsRetired pass.new.seen (source.now.member.which, source.now.stored) targets × Contains targets target.now }
+    ensures alone { HasLookedOnlyAt source.now.member.which.slot pass.old pass.new }
+    ensures onward { IsOnward W.opening pass.old pass.new }
+{
+    if !state.is(&source.member.which) {
+        return false;
+    }
+    let _ = state.look(pass);
+    state.is_retired_for(target, source.stored)
+}
+
+// Looks until the source is retired for the target.
+fn confirm<W: World, J: Naming>(
+    rt: &impl Wait,
+    source: &SourceShard<W, J>,
+    target: &ShardRecord,
+    pass: &mut Pass<ShardLaw<W>, J>,
+)
+    requires legal { IsLegal (MayFollow W.opening) pass.old.seen }
+    ensures retired { (targets : List ShardRecord) × IsRetired pass.new.seen (source.now.member.which, source.now.stored) targets × Contains targets target.now }
+    ensures alone { HasLookedOnlyAt source.now.member.which.slot pass.old pass.new }
+    ensures onward { IsOnward W.opening pass.old pass.new }
+{
+    for _ in rt.forever() {
+        if try_retired_for(&mut source.member.shard.lock(rt), source, target, pass) {
+            return;
+        }
+    }
+    unreachable!()
+}
+
+// Confirms that a source is retired for the target, if it is one of the target's.
+fn confirm_own<W: World, J: Naming>(
+    rt: &impl Wait,
+    source: &SourceShard<W, J>,
+    target: &ShardRecord,
+    pass: &mut Pass<ShardLaw<W>, J>,
+)
+    requires legal { IsLegal (MayFollow W.opening) pass.old.seen }
+    ensures retired { IsTrue (has_source source.now.member.which.slot target.now)
+        → (targets : List ShardRecord) × IsRetired pass.new.seen (source.now.member.which, source.now.stored) targets × Contains targets target.now }
+    ensures alone { HasLookedOnlyAt source.now.member.which.slot pass.old pass.new }
+    ensures onward { IsOnward W.opening pass.old pass.new }
+{
+    if is_source_of(target, source.member.which.slot) {
+        confirm(rt, source, target, pass);
+    }
+}
+
+/// Looks until each source of the target is retired for it. Takes no memory.
+pub fn confirm_retired<W: World, J: Naming>(
+    rt: &impl Wait,
+    sources: &[SourceShard<W, J>],
+    target: &ShardRecord,
+    pass: &mut Pass<ShardLaw<W>, J>,
+)
+    requires opens { IsOpening W.opening }
+    requires legal { IsLegal (MayFollow W.opening) pass.old.seen }
+    ensures retired { AreRetired pass.new.seen target.now (map (λ s. (s.member.which, s.stored)) sources.now) }
+    ensures looked { EachInTurn (λ s. HasLookedOnlyAt s.slot) (map (λ s. s.member.which) sources.now) pass.old pass.new }
+    ensures onward { IsOnward W.opening pass.old pass.new }
+{
+    for source in sources {
+        confirm_own(rt, source, target, pass);
+    }
+}
+
+// Whether the source is retired.
+fn try_gone<W: World, J: Naming>(
+    state: &mut ShardState<W, J>,
+    which: &ShardRecord,
+    pass: &mut Pass<ShardLaw<W>, J>,
+) -> bool
+    requires legal { IsLegal (MayFollow W.opening) pass.old.seen }
+    ensures gone { result ≡ true → IsGone pass.new.seen which.now }
+    ensures onward { IsOnward W.opening pass.old pass.new }
+{
+    let _ = state.look(pass);
+    state.is(which) && state.is_retired()
+}
+
+// Looks until the source is retired.
+fn confirm_gone<W: World, J: Naming>(
+    rt: &impl Wait,
+    member: &WorkflowShard<W, J>,
+    pass: &mut Pass<ShardLaw<W>, J>,
+)
+    requires legal { IsLegal (MayFollow W.opening) pass.old.seen }
+    ensures gone { IsGone pass.new.seen member.now.which }
+    ensures onward { IsOnward W.opening pass.old pass.new }
+{
+    for _ in rt.forever() {
+        if try_gone(&mut member.shard.lock(rt), &member.which, pass) {
+            return;
+        }
+    }
+    unreachable!()
+}
+
+// Whether the target serves.
+fn try_served<W: World, J: Naming>(
+    state: &mut ShardState<W, J>,
+    which: &ShardRecord,
+    pass: &mut Pass<ShardLaw<W>, J>,
+) -> bool
+    requires opens { IsOpening W.opening }
+    requires legal { IsLegal (MayFollow W.opening) pass.old.seen }
+    ensures served { result ≡ true → HasBegunToServe pass.new.seen which.now }
+    ensures onward { IsOnward W.opening pass.old pass.new }
+{
+    let _ = state.look(pass);
+    if !state.is(which) {
+        return false;
+    }
+    if which.sources.as_slice().is_empty() {
+        return false;
+    }
+    serves(state)
+}
+
+// Looks until the target serves.
+fn confirm_served<W: World, J: Naming>(
+    rt: &impl Wait,
+    member: &WorkflowShard<W, J>,
+    pass: &mut Pass<ShardLaw<W>, J>,
+)
+    requires opens { IsOpening W.opening }
+    requires legal { IsLegal (MayFollow W.opening) pass.old.seen }
+    ensures served { HasBegunToServe pass.new.seen member.now.which }
+    ensures onward { IsOnward W.opening pass.old pass.new }
+{
+    for _ in rt.forever() {
+        if try_served(&mut member.shard.lock(rt), &member.which, pass) {
+            return;
+        }
+    }
+    unreachable!()
+}
+
+fn all_gone<W: World, J: Naming>(
+    rt: &impl Wait,
+    sources: &[SourceShard<W, J>],
+    pass: &mut Pass<ShardLaw<W>, J>,
+)
+    requires legal { IsLegal (MayFollow W.opening) pass.old.seen }
+    ensures gone { AllByRecursion (IsGone pass.new.seen) (map (λ s. s.member.which) sources.now) }
+    ensures onward { IsOnward W.opening pass.old pass.new }
+{
+    for source in sources {
+        confirm_gone(rt, &source.member, pass);
+    }
+}
+
+fn all_served<W: World, J: Naming>(
+    rt: &impl Wait,
+    targets: &[TargetShard<W, J>],
+    pass: &mut Pass<ShardLaw<W>, J>,
+)
+    requires opens { IsOpening W.opening }
+    requires legal { IsLegal (MayFollow W.opening) pass.old.seen }
+    ensures served { HaveServed pass.new.seen (map (λ t. (t.member.which, map (λ s. s.which) t.sources.items)) targets.now) }
+    ensures onward { IsOnward W.opening pass.old pass.new }
+{
+    for target in targets {
+        confirm_served(rt, &target.member, pass);
+    }
+}
+
+/// Looks until each source is retired and each target serves. Takes no memory.
+pub fn confirm_cutover<W: World, J: Naming>(
+    rt: &impl Wait,
+    sources: &[SourceShard<W, J>],
+    targets: &[TargetShard<W, J>],
+    pass: &mut Pass<ShardLaw<W>, J>,
+)
+    requires opens { IsOpening W.opening }
+    requires legal { IsLegal (MayFollow W.opening) pass.old.seen }
+    ensures through { IsCutOver pass.new.seen (map (λ s. s.member.which) sources.now) (map (λ t. (t.member.which, map (λ s. s.which) t.sources.items)) targets.now) }
+    ensures onward { IsOnward W.opening pass.old pass.new }
+{
+    all_gone(rt, sources, pass);
+    all_served(rt, targets, pass);
+}

@@ -1,0 +1,84 @@
+//! Whether the targets have no more rows than shards that serve may have.
+ghost use Rattle.std.specs.Prelude.{◌≡◌, ◌<◌, ◌≤◌, true, false, Some, Contains, map};
+ghost use Rattle.std.specs.List.{AllByRecursion};
+ghost use Rattle.journal.specs.Runs.{IsLegal};
+ghost use Rattle.shard_run.specs.Runs.{shard_rows};
+ghost use Rattle.shard_run.specs.Openings.{row_count};
+ghost use Rattle.shard_law.specs.Entries.{MayFollow};
+ghost use Rattle.follow.specs.Steps.{IsOnward};
+ghost use Rattle.follow.specs.Turns.{EachInTurn};
+ghost use Rattle.reshard_cutover.specs.TargetSources.{TargetWithSources};
+ghost use Rattle.reshard_cutover.specs.Looks.{HasLookedOnlyAt, IsOverfull, IsWithinRows};
+
+use crate::steps::follows;
+use crate::target::TargetShard;
+use follow::WorkflowShard;
+use journal::{Naming, Pass};
+use shard::{ShardLaw, ShardState, World};
+use shard_run::ShardRecord;
+use std::sync::Wait;
+
+// Whether the target fits, if the state is its own and it follows.
+fn try_fits<W: World, J: Naming>(
+    state: &mut ShardState<W, J>,
+    which: &ShardRecord,
+    pass: &mut Pass<ShardLaw<W>, J>,
+) -> Option<bool>
+    requires legal { IsLegal (MayFollow W.opening) pass.old.seen }
+    ensures many { result ≡ Some false → W.limits.rows < row_count (shard_rows W.opening pass.new.seen which.now) }
+    ensures few { result ≡ Some true → row_count (shard_rows W.opening pass.new.seen which.now) ≤ W.limits.rows }
+    ensures alone { HasLookedOnlyAt which.now.slot pass.old pass.new }
+    ensures onward { IsOnward W.opening pass.old pass.new }
+{
+    if !state.is(which) {
+        return None;
+    }
+    let _ = state.look(pass);
+    if follows(state) {
+        Some(state.fits())
+    } else {
+        None
+    }
+}
+
+// Whether a target's rows fit, asked under its lock; it tries until the target follows.
+fn fits<W: World, J: Naming>(
+    rt: &impl Wait,
+    member: &WorkflowShard<W, J>,
+    pass: &mut Pass<ShardLaw<W>, J>,
+) -> bool
+    requires legal { IsLegal (MayFollow W.opening) pass.old.seen }
+    ensures many { result ≡ false → W.limits.rows < row_count (shard_rows W.opening pass.new.seen member.now.which) }
+    ensures few { result ≡ true → row_count (shard_rows W.opening pass.new.seen member.now.which) ≤ W.limits.rows }
+    ensures alone { HasLookedOnlyAt member.now.which.slot pass.old pass.new }
+    ensures onward { IsOnward W.opening pass.old pass.new }
+{
+    for _ in rt.forever() {
+        if let Some(fits) = try_fits(&mut member.shard.lock(rt), &member.which, pass) {
+            return fits;
+        }
+    }
+    unreachable!()
+}
+
+// Promise: Before the first source retires, each target is looked at: yes is answered only if each had no more rows than a shard that
+// serves may have, and no only if one had more
+/// Whether each of the targets has no more rows than a shard that serves may have. Takes no memory.
+pub fn all_fit<W: World, J: Naming>(
+    rt: &impl Wait,
+    targets: &[TargetShard<W, J>],
+    pass: &mut Pass<ShardLaw<W>, J>,
+) -> bool
+    requires legal { IsLegal (MayFollow W.opening) pass.old.seen }
+    ensures many { result ≡ false → (t : TargetWithSources) × Contains (map (λ t. (t.member.which, map (λ s. s.which) t.sources.items)) targets.now) t × IsOverfull W.opening W.limits t.0 pass.old pass.new }
+    ensures few { result ≡ true → AllByRecursion (λ t. IsWithinRows W.opening W.limits t.0 pass.old pass.new) (map {B = TargetWithSources} (λ t. (t.member.which, map (λ s. s.which) t.sources.items)) targets.now) }
+    ensures looked { result ≡ true → EachInTurn (λ t. HasLookedOnlyAt t.0.slot) (map {B = TargetWithSources} (λ t. (t.member.which, map (λ s. s.which) t.sources.items)) targets.now) pass.old pass.new }
+    ensures onward { IsOnward W.opening pass.old pass.new }
+{
+    for target in targets {
+        if !fits(rt, &target.member, pass) {
+            return false;
+        }
+    }
+    true
+}

@@ -1,0 +1,329 @@
+//! The steps that change a shard's mode. A lock can't tell which shard it holds and in which mode the controller left it, so both are
+//! tested under it; if they differ, which no run of one controller meets, the lock is taken again.
+ghost use Rattle.std.specs.Prelude.{◌≡◌, ◌≤◌, ◌^◌, ◌∷◌, [], true, false, IsTrue, IfOk, IfErr, IfSome, MatchOption, OnOk, OnErr, length, map};
+ghost use Rattle.journal.specs.Runs.{IsLegal};
+ghost use Rattle.shard_run.specs.declared.Event.{Event};
+ghost use Rattle.shard_run.specs.Runs.{mode, stored_on, entries_on};
+ghost use Rattle.shard_run.specs.Openings.{IsOpening};
+ghost use Rattle.shard_law.specs.Entries.{MayFollow};
+ghost use Rattle.follow.specs.Steps.{IsOnward, HasStepped};
+ghost use Rattle.follow.specs.Turns.{HasLookedAt};
+ghost use Rattle.reshard_cutover.specs.Looks.{HasLookedForOneChange, HasLookedOnlyAt};
+ghost use Rattle.reshard_cutover.specs.Steps.{has_source, AreRetired, IsTargetOf, FitTargets};
+ghost use Rattle.reshard_cutover.specs.inner.Steps.{IsUpTo, AreFollowed};
+
+use follow::WorkflowShard;
+use journal::{Naming, Pass};
+use shard::{MOST_ENTRIES, Shard, ShardLaw, ShardState, World};
+use shard_run::Mode;
+use std::sync::Wait;
+use vschema::VSchema;
+use vt_value::{Items, Refusal};
+
+/// A source of a workflow, and how many entries it had stored when it was looked at, frozen.
+#[derive(Drop)]
+pub struct SourceShard<W: World, J: Naming> {
+    pub member: WorkflowShard<W, J>,
+    pub stored: u64,
+}
+
+/// Whether the shard serves and isn't frozen.
+pub fn serves<W: World, J: Naming>(state: &ShardState<W, J>) -> bool
+    ensures yes { result ≡ true → mode W.opening state.now.seen state.now.shard.slot ≡ Mode.Serving }
+    ensures no { result ≡ false → mode W.opening state.now.seen state.now.shard.slot ≡ Mode.Serving → ⊥ }
+{
+    match state.mode() {
+        Mode::Serving => true,
+        _ => false,
+    }
+}
+
+// Freezes the shard, if it is this one and serves.
+fn try_freeze<W: World, J: Naming>(
+    state: &mut ShardState<W, J>,
+    which: &shard_run::ShardRecord,
+    pass: &mut Pass<ShardLaw<W>, J>,
+) -> Result<Option<u64>, Refusal>
+    requires legal { IsLegal (MayFollow W.opening) pass.old.seen }
+    ensures ok { IfOk result (λ r. IfSome r (λ stored. HasStepped W.opening which.now Event.Freeze pass.old pass.new
+        × (stored ≡ length (stored_on which.now.slot pass.new.seen)))) }
+    ensures looked { IfOk result (λ r. MatchOption r (pass.new ≡ pass.old) (λ _. HasLookedForOneChange which.now.slot pass.old pass.new)) }
+    ensures full { IfErr result (λ e. (e ≡ Refusal.ShardFull) × (2 ^ 40 ≤ length (entries_on which.now.slot pass.new.seen))) }
+    ensures refused { OnErr result (HasLookedAt (which.now.slot ∷ []) pass.old pass.new) }
+    ensures onward { IsOnward W.opening pass.old pass.new }
+{
+    if !state.is(which) {
+        return Ok(None);
+    }
+    if !serves(state) {
+        return Ok(None);
+    }
+    let entries = state.look(pass);
+    if entries >= MOST_ENTRIES {
+        return Err(Refusal::ShardFull);
+    }
+    let stored = state.stored();
+    state.freeze(pass);
+    Ok(Some(stored))
+}
+
+// Promise: A step of a cutover is exactly one entry of its shard, made after a look under its lock: a freeze (refused only at 2^40
+// entries), a thaw, a retirement for targets that together hold the shard's place, when it has stored just so many entries, and a target
+// that serves once its sources, of which there may be several, are retired for it and it has copied all tables and followed all that they
+// stored. A freeze looks at its shard three times, and nowhere else, so its pass freezes no other, and that one once. A retirement, and a target that
+// serves, look at their shard alone, so they change no other's mode
+// With: thaw, retire, serve
+/// Freezes the shard, and answers how many entries it has stored. Refuses if it has too many entries; then nothing was appended. Takes no
+/// memory.
+pub fn freeze<W: World, J: Naming>(
+    rt: &impl Wait,
+    shard: &Shard<W, J>,
+    which: &shard_run::ShardRecord,
+    pass: &mut Pass<ShardLaw<W>, J>,
+) -> Result<u64, Refusal>
+    requires legal { IsLegal (MayFollow W.opening) pass.old.seen }
+    ensures ok { OnOk result (HasStepped W.opening which.now Event.Freeze pass.old pass.new) }
+    ensures stored { IfOk result (λ stored. stored ≡ length (stored_on which.now.slot pass.new.seen)) }
+    ensures once { OnOk result (HasLookedForOneChange which.now.slot pass.old pass.new) }
+    ensures full { IfErr result (λ e. (e ≡ Refusal.ShardFull) × (2 ^ 40 ≤ length (entries_on which.now.slot pass.new.seen))) }
+    ensures refused { OnErr result (HasLookedAt (which.now.slot ∷ []) pass.old pass.new) }
+    ensures onward { OnErr result (IsOnward W.opening pass.old pass.new) }
+{
+    for _ in rt.forever() {
+        let frozen = try_freeze(&mut shard.lock(rt), which, pass)?;
+        if let Some(stored) = frozen {
+            return Ok(stored);
+        }
+    }
+    unreachable!()
+}
+
+fn is_frozen<W: World, J: Naming>(state: &ShardState<W, J>) -> bool
+    ensures { result ≡ true → mode W.opening state.now.seen state.now.shard.slot ≡ Mode.Frozen }
+{
+    state.mode() == Mode::Frozen
+}
+
+// Thaws the shard, if it is this one and frozen.
+fn try_thaw<W: World, J: Naming>(
+    state: &mut ShardState<W, J>,
+    which: &shard_run::ShardRecord,
+    pass: &mut Pass<ShardLaw<W>, J>,
+) -> bool
+    requires legal { IsLegal (MayFollow W.opening) pass.old.seen }
+    ensures thawed { result ≡ true → HasStepped W.opening which.now Event.Thaw pass.old pass.new }
+    ensures onward { IsOnward W.opening pass.old pass.new }
+{
+    let _ = state.look(pass);
+    if !state.is(which) {
+        return false;
+    }
+    if !is_frozen(state) {
+        return false;
+    }
+    state.thaw(pass);
+    true
+}
+
+/// Thaws the shard. Takes no memory.
+pub fn thaw<W: World, J: Naming>(
+    rt: &impl Wait,
+    shard: &Shard<W, J>,
+    which: &shard_run::ShardRecord,
+    pass: &mut Pass<ShardLaw<W>, J>,
+)
+    requires legal { IsLegal (MayFollow W.opening) pass.old.seen }
+    ensures { HasStepped W.opening which.now Event.Thaw pass.old pass.new }
+{
+    for _ in rt.forever() {
+        if try_thaw(&mut shard.lock(rt), which, pass) {
+            return;
+        }
+    }
+    unreachable!()
+}
+
+// Retires the shard, if it is this one, frozen, and has stored so many entries; else the targets come back.
+fn try_retire<W: World, J: Naming>(
+    state: &mut ShardState<W, J>,
+    which: &shard_run::ShardRecord,
+    pass: &mut Pass<ShardLaw<W>, J>,
+    targets: Items<shard_run::ShardRecord>,
+    stored: u64,
+) -> Result<(), Items<shard_run::ShardRecord>>
+    requires legal { IsLegal (MayFollow W.opening) pass.old.seen }
+    requires fit { FitTargets which.now targets }
+    ensures retired { OnOk result (HasStepped W.opening which.now (Event.Retire targets) pass.old pass.new) }
+    ensures stored { OnOk result (stored ≡ length (stored_on which.now.slot pass.new.seen)) }
+    ensures alone { HasLookedOnlyAt which.now.slot pass.old pass.new }
+    ensures onward { OnErr result (IsOnward W.opening pass.old pass.new) }
+    ensures back { IfErr result (λ t. t ≡ targets) }
+{
+    if !state.is(which) {
+        return Err(targets);
+    }
+    let _ = state.look(pass);
+    if is_frozen(state) {
+        let now = state.stored();
+        if now == stored {
+            state.retire(pass, targets);
+            return Ok(());
+        }
+    }
+    Err(targets)
+}
+
+/// Retires the shard, which has stored so many entries, for its targets, whose list was made before. Takes no memory.
+pub fn retire<W: World, J: Naming>(
+    rt: &impl Wait,
+    shard: &Shard<W, J>,
+    which: &shard_run::ShardRecord,
+    pass: &mut Pass<ShardLaw<W>, J>,
+    targets: Items<shard_run::ShardRecord>,
+    stored: u64,
+)
+    requires legal { IsLegal (MayFollow W.opening) pass.old.seen }
+    requires fit { FitTargets which.now targets }
+    ensures retired { HasStepped W.opening which.now (Event.Retire targets) pass.old pass.new }
+    ensures stored { stored ≡ length (stored_on which.now.slot pass.new.seen) }
+    ensures alone { HasLookedOnlyAt which.now.slot pass.old pass.new }
+{
+    let mut targets = targets;
+    for _ in rt.forever() {
+        match try_retire(&mut shard.lock(rt), which, pass, targets, stored) {
+            Ok(()) => return,
+            Err(again) => targets = again,
+        }
+    }
+    unreachable!()
+}
+
+pub(crate) fn follows<W: World, J: Naming>(state: &ShardState<W, J>) -> bool
+    ensures { result ≡ true → mode W.opening state.now.seen state.now.shard.slot ≡ Mode.Following }
+{
+    state.mode() == Mode::Following
+}
+
+// Whether the target has copied each table of its keyspace from the source, and stands after all that it has stored.
+fn is_up_to<W: World, J: Naming>(
+    state: &ShardState<W, J>,
+    schema: &VSchema,
+    source: &SourceShard<W, J>,
+) -> bool
+    requires schema { schema.now ≡ W.opening.schema }
+    requires lives { mode W.opening state.now.seen state.now.shard.slot ≡ Mode.Retired → ⊥ }
+    ensures { result ≡ true → IsUpTo W.opening state.now.seen state.now.shard (source.now.member.which, source.now.stored) }
+{
+    let slot = source.member.which.slot;
+    if state.next_table(schema, slot).is_some() {
+        return false;
+    }
+    match state.position_in(slot) {
+        Some(stands_after) => stands_after == u128::from(source.stored),
+        None => true,
+    }
+}
+
+/// Whether the target takes from the shard on this slot.
+pub fn is_source_of(target: &shard_run::ShardRecord, slot: usize) -> bool
+    ensures { result ≡ has_source slot target.now }
+{
+    target.sources.as_slice().contains(&slot)
+}
+
+// Whether the source is none of the target's, or the target is level with it.
+fn is_done_with<W: World, J: Naming>(
+    state: &ShardState<W, J>,
+    schema: &VSchema,
+    source: &SourceShard<W, J>,
+) -> bool
+    requires schema { schema.now ≡ W.opening.schema }
+    requires lives { mode W.opening state.now.seen state.now.shard.slot ≡ Mode.Retired → ⊥ }
+    ensures { result ≡ true → IsTrue (has_source source.now.member.which.slot state.now.shard)
+        → IsUpTo W.opening state.now.seen state.now.shard (source.now.member.which, source.now.stored) }
+{
+    let slot = source.member.which.slot;
+    if is_source_of(state.shard(), slot) {
+        is_up_to(state, schema, source)
+    } else {
+        true
+    }
+}
+
+// Whether the target is level with those of these sources that are its own.
+fn is_level<W: World, J: Naming>(
+    state: &ShardState<W, J>,
+    schema: &VSchema,
+    sources: &[SourceShard<W, J>],
+) -> bool
+    requires schema { schema.now ≡ W.opening.schema }
+    requires lives { mode W.opening state.now.seen state.now.shard.slot ≡ Mode.Retired → ⊥ }
+    ensures { result ≡ true → AreFollowed W.opening state.now.seen state.now.shard (map (λ s. (s.member.which, s.stored)) sources.now) }
+{
+    for source in sources {
+        if !is_done_with(state, schema, source) {
+            return false;
+        }
+    }
+    true
+}
+
+// Serves the target, if it is this one, follows, is level with its sources, and has no more rows than a shard that serves may have.
+fn try_serve<W: World, J: Naming>(
+    state: &mut ShardState<W, J>,
+    target: &shard_run::ShardRecord,
+    pass: &mut Pass<ShardLaw<W>, J>,
+    schema: &VSchema,
+    sources: &[SourceShard<W, J>],
+) -> bool
+    requires opens { IsOpening W.opening }
+    requires schema { schema.now ≡ W.opening.schema }
+    requires legal { IsLegal (MayFollow W.opening) pass.old.seen }
+    requires of_sources { IsTargetOf (map (λ s. s.member.which) sources.now) target.now }
+    requires retired { AreRetired pass.old.seen target.now (map (λ s. (s.member.which, s.stored)) sources.now) }
+    ensures served { result ≡ true → HasStepped W.opening target.now Event.Serve pass.old pass.new }
+    ensures alone { HasLookedOnlyAt target.now.slot pass.old pass.new }
+    ensures onward { IsOnward W.opening pass.old pass.new }
+{
+    if !state.is(target) {
+        return false;
+    }
+    let _ = state.look(pass);
+    if follows(state) && is_level(state, schema, sources) && state.fits() {
+        state.serve(pass);
+        true
+    } else {
+        false
+    }
+}
+
+/// Serves a target that has copied and followed all that its sources have stored, and has no more rows than a shard that serves may have,
+/// once its sources are retired for it. Takes no memory.
+pub fn serve<W: World, J: Naming>(
+    rt: &impl Wait,
+    target: &WorkflowShard<W, J>,
+    pass: &mut Pass<ShardLaw<W>, J>,
+    schema: &VSchema,
+    sources: &[SourceShard<W, J>],
+)
+    requires opens { IsOpening W.opening }
+    requires schema { schema.now ≡ W.opening.schema }
+    requires legal { IsLegal (MayFollow W.opening) pass.old.seen }
+    requires of_sources { IsTargetOf (map (λ s. s.member.which) sources.now) target.now.which }
+    requires retired { AreRetired pass.old.seen target.now.which (map (λ s. (s.member.which, s.stored)) sources.now) }
+    ensures served { HasStepped W.opening target.now.which Event.Serve pass.old pass.new }
+    ensures alone { HasLookedOnlyAt target.now.which.slot pass.old pass.new }
+{
+    for _ in rt.forever() {
+        if try_serve(
+            &mut target.shard.lock(rt),
+            &target.which,
+            pass,
+            schema,
+            sources,
+        ) {
+            return;
+        }
+    }
+    unreachable!()
+}

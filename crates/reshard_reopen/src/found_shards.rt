@@ -1,0 +1,225 @@
+//! The shards of a workflow that stopped, each looked at once under its lock.
+ghost use Rattle.shard_run.specs.declared.ShardRecord as which;
+ghost use Rattle.std.specs.Prelude.{◌≡◌, IfOk, IfErr, IfSome, map};
+ghost use Rattle.journal.specs.Runs.{IsLegal};
+ghost use Rattle.shard_run.specs.Runs.{mode};
+ghost use Rattle.shard_law.specs.Entries.{MayFollow};
+ghost use Rattle.follow.specs.Steps.{IsOnward};
+ghost use Rattle.shard.specs.Seats.{seat_of};
+ghost use Rattle.reshard_reopen.specs.Rebuilt.{IsFound, AreFound};
+ghost use Rattle.reshard_reopen.specs.inner.Snapshots.{IsSnapshot};
+
+use follow::WorkflowShard;
+use journal::{Naming, Pass};
+use reshard_create::copy_shard;
+use serving::ShardReference;
+use shard::{Shard, ShardLaw, ShardState, World};
+use shard_run::Mode;
+use std::alloc::Global;
+use std::sync::{Arc, Wait};
+use vschema::Place;
+use vt_value::{Items, Refusal};
+
+/// A shard, its mode in the run, the targets that it named, if it is retired, how many entries it has stored, if it is frozen, and whether
+/// its rows are gone, or its workflow was given up.
+#[derive(Drop)]
+pub(crate) struct FoundShard<W: World, J: Naming> {
+    pub(crate) member: WorkflowShard<W, J>,
+    pub(crate) mode: Mode,
+    pub(crate) named: Items<shard_run::ShardRecord>,
+    pub(crate) stored: u64,
+    pub(crate) dropped: bool,
+    pub(crate) given_up: bool,
+}
+
+// What one look at a shard tells of it.
+#[derive(Drop)]
+struct ShardSnapshot {
+    which: shard_run::ShardRecord,
+    mode: Mode,
+    named: Items<shard_run::ShardRecord>,
+    stored: u64,
+    dropped: bool,
+    given_up: bool,
+}
+
+// The mode that the run tells, which doesn't know whether rows are gone.
+fn mode_of<W: World, J: Naming>(state: &ShardState<W, J>) -> Mode
+    ensures { result ≡ mode W.opening state.now.seen state.now.shard.slot }
+{
+    match state.mode() {
+        Mode::Dropped => Mode::Retired,
+        other => other,
+    }
+}
+
+fn is_dropped<W: World, J: Naming>(state: &ShardState<W, J>) -> bool {
+    state.mode() == Mode::Dropped
+}
+
+// How many entries it has stored, if it is frozen.
+fn stored_of<W: World, J: Naming>(state: &ShardState<W, J>) -> u64 {
+    if state.mode() == Mode::Frozen {
+        state.stored()
+    } else {
+        0
+    }
+}
+
+// Copies of these shards.
+fn copy_shards(
+    alloc: Global,
+    shards: &[shard_run::ShardRecord],
+) -> Result<Items<shard_run::ShardRecord>, Refusal>
+    ensures ok { IfOk result (λ copies. copies ≡ shards.now) }
+    ensures err { IfErr result (λ e. e ≡ Refusal.OutOfMemory) }
+{
+    let mut copies = Items::new(alloc);
+    for shard in shards {
+        copies.push(copy_shard(alloc, shard)?)?;
+    }
+    Ok(copies)
+}
+
+// One look, if it is the shard of this slot and place.
+fn look_at<W: World, J: Naming>(
+    state: &mut ShardState<W, J>,
+    alloc: Global,
+    pass: &mut Pass<ShardLaw<W>, J>,
+    slot: usize,
+    place: &Place,
+) -> Result<Option<ShardSnapshot>, Refusal>
+    requires legal { IsLegal (MayFollow W.opening) pass.old.seen }
+    ensures seen { IfOk result (λ r. IfSome r (λ g. IsSnapshot W.opening pass.new.seen slot place.now g.which g.mode g.named)) }
+    ensures onward { IsOnward W.opening pass.old pass.new }
+    ensures err { IfErr result (λ e. e ≡ Refusal.OutOfMemory) }
+{
+    let _ = state.look(pass);
+    if !state.stands_at(slot, place) {
+        return Ok(None);
+    }
+    let which = copy_shard(alloc, state.shard())?;
+    let named = copy_shards(alloc, state.named())?;
+    Ok(Some(ShardSnapshot {
+        which,
+        mode: mode_of(state),
+        named,
+        stored: stored_of(state),
+        dropped: is_dropped(state),
+        given_up: state.is_given_up(),
+    }))
+}
+
+// Looks at the shard of a part under its lock.
+fn look_locked<W: World, J: Naming>(
+    rt: &impl Wait,
+    alloc: Global,
+    pass: &mut Pass<ShardLaw<W>, J>,
+    part: &ShardReference<Shard<W, J>>,
+    slot: usize,
+    place: &Place,
+) -> Result<Option<ShardSnapshot>, Refusal>
+    requires legal { IsLegal (MayFollow W.opening) pass.old.seen }
+    ensures seen { IfOk result (λ r. IfSome r (λ g. IsSnapshot W.opening pass.new.seen slot place.now g.which g.mode g.named)) }
+    ensures onward { IsOnward W.opening pass.old pass.new }
+    ensures err { IfErr result (λ e. e ≡ Refusal.OutOfMemory) }
+{
+    look_at(&mut part.shard().lock(rt), alloc, pass, slot, place)
+}
+
+fn found_of<W: World, J: Naming>(
+    part: &ShardReference<Shard<W, J>>,
+    snapshot: ShardSnapshot,
+) -> Result<FoundShard<W, J>, Refusal>
+    ensures which { IfOk result (λ f. f.member.which ≡ snapshot.which) }
+    ensures mode { IfOk result (λ f. f.mode ≡ snapshot.mode) }
+    ensures named { IfOk result (λ f. f.named ≡ snapshot.named) }
+    ensures shard { IfOk result (λ f. f.member.shard.value ≡ part.now) }
+    ensures err { IfErr result (λ e. e ≡ Refusal.OutOfMemory) }
+{
+    let shard = Arc::try_clone(part.shard())?;
+    let ShardSnapshot {
+        which,
+        mode,
+        named,
+        stored,
+        dropped,
+        given_up,
+    } = snapshot;
+    Ok(FoundShard {
+        member: WorkflowShard { which, shard },
+        mode,
+        named,
+        stored,
+        dropped,
+        given_up,
+    })
+}
+
+// The shard of a part. A lock can't tell which shard it holds, so that is tested; if it is another, which no run meets, it is taken again.
+fn find<W: World, J: Naming>(
+    rt: &impl Wait,
+    alloc: Global,
+    pass: &mut Pass<ShardLaw<W>, J>,
+    part: &ShardReference<Shard<W, J>>,
+) -> Result<FoundShard<W, J>, Refusal>
+    requires legal { IsLegal (MayFollow W.opening) pass.old.seen }
+    ensures found { IfOk result (λ f. IsFound W.opening pass.old pass.new (f.member.which, f.mode, f.named)) }
+    ensures seat { IfOk result (λ f. seat_of f.member.which ≡ part.now) }
+    ensures shard { IfOk result (λ f. f.member.shard.value ≡ part.now) }
+    ensures onward { IsOnward W.opening pass.old pass.new }
+    ensures err { IfErr result (λ e. e ≡ Refusal.OutOfMemory) }
+{
+    let place = Place {
+        keyspace: part.keyspace(),
+        range: part.range(),
+    };
+    let slot = part.slot();
+    for _ in rt.forever() {
+        if let Some(snapshot) = look_locked(rt, alloc, pass, part, slot, &place)? {
+            let found = found_of(part, snapshot)?;
+            return Ok(found);
+        }
+    }
+    unreachable!()
+}
+
+/// The shards of the parts, and the mode that a look at each finds.
+pub(crate) fn find_all<W: World, J: Naming>(
+    rt: &impl Wait,
+    alloc: Global,
+    pass: &mut Pass<ShardLaw<W>, J>,
+    parts: &[ShardReference<Shard<W, J>>],
+) -> Result<Vec<FoundShard<W, J>>, Refusal>
+    requires legal { IsLegal (MayFollow W.opening) pass.old.seen }
+    ensures found { IfOk result (λ found. AreFound W.opening pass.old pass.new parts.now (map (λ f. (f.member.which, f.mode, f.named)) found.items)) }
+    ensures shards { IfOk result (λ found. map (λ f. f.member.shard.value) found.items ≡ parts.now) }
+    ensures onward { IsOnward W.opening pass.old pass.new }
+    ensures err { IfErr result (λ e. e ≡ Refusal.OutOfMemory) }
+{
+    let mut found = Vec::new(alloc);
+    for part in parts {
+        found.push(find(rt, alloc, pass, part)?)?;
+    }
+    Ok(found)
+}
+
+/// Whether the rows of one of them are gone.
+pub(crate) fn any_dropped<W: World, J: Naming>(found: &[FoundShard<W, J>]) -> bool {
+    for one in found {
+        if one.dropped {
+            return true;
+        }
+    }
+    false
+}
+
+/// Whether the workflow of one of them was given up.
+pub(crate) fn any_given_up<W: World, J: Naming>(found: &[FoundShard<W, J>]) -> bool {
+    for one in found {
+        if one.given_up {
+            return true;
+        }
+    }
+    false
+}

@@ -1,7 +1,0 @@
-pub mod Prepares
-pub mod Courses
-pub mod Others
-pub mod Founds
-pub mod Refits
-pub mod Taken
-pub mod Names

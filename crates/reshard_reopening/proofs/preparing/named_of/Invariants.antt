@@ -1,7 +1,0 @@
-use Rattle.std.proofs.Common.{◌≡◌, filter, map, take}
-use Rattle.cutover_steps.specs.Steps.{has_source}
-use Rattle.reshard_reopening.proofs.preparing.named_of.Given as goal
-
--- of the targets so far
-abbrev pub invariant-loop-target : goal.invariant-loop-target
-invariant-loop-target g l = l.named ≡ filter (has_source l.source) (map (λ t. t.member.which) (take l.target-index l.targets))

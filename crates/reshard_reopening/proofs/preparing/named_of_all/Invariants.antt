@@ -1,7 +1,0 @@
-use Rattle.std.proofs.Common.{◌≡◌, map, take}
-use Rattle.cutover_steps.specs.Steps.{named_for}
-use Rattle.reshard_reopening.proofs.preparing.named_of_all.Given as goal
-
--- for the sources so far
-abbrev pub invariant-loop-source : goal.invariant-loop-source
-invariant-loop-source g l = l.all.items ≡ map (λ s. named_for s.member.which (map (λ t. t.member.which) l.targets)) (take l.source-index l.sources)

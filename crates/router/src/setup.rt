@@ -1,0 +1,339 @@
+//! Opens a router with empty tables: makes a shard for each range, and the engine over them.
+ghost use Rattle.std.specs.Prelude.{◌≡◌, ◌==◌, ℕ, ◌<◌, ◌≤◌, ◌^◌, [], None, IsTrue, IfOk, IfErr, Contains, length, map, filter, take, drop, slice_index_or};
+ghost use Rattle.std.specs.List.{range_with_len};
+ghost use Rattle.vschema.specs.WellFormed.{is_vschema};
+ghost use Rattle.journal.specs.Views.{fresh_seats, new_pass};
+ghost use Rattle.shard_run.specs.declared.ShardRecord as which;
+ghost use Rattle.shard_run.specs.Runs.{first_rows};
+ghost use Rattle.shard_run.specs.Openings.{IsOpening};
+ghost use Rattle.shard_law.specs.Entries.{most_limits, opening_shards};
+ghost use Rattle.shard.specs.Seats.{seat_of};
+ghost use Rattle.opening.specs.Empty.{opening_of, FitRanges};
+
+use buffer::Buffer;
+use journal::{Naming, Opened, Opener, Pass, ShardSeat};
+use keyrange::KeyRange;
+use opening::opening_shards;
+use route_engine::{Engine, Gate};
+use serving::{Partition, Serving, ShardReference};
+use shard::{Limits, MOST_ROWS, MOST_STORED, Shard, ShardLaw, ShardState, Store, World};
+use shard_run::Mode;
+use std::alloc::Global;
+use std::sync::Arc;
+use vschema::{Place, Table, VSchema};
+use vt_value::{Items, Refusal};
+
+// A store of these tables, without rows.
+fn empty_store(alloc: Global, tables: &[Table]) -> Result<Store, Refusal>
+    ensures ok { IfOk result (λ store. store.rows ≡ map (λ t. []) tables.now) }
+    ensures err { IfErr result (λ e. e ≡ Refusal.OutOfMemory) }
+{
+    let mut store = Store::new(alloc);
+    for table in tables {
+        store.push_table(alloc, table)?;
+    }
+    Ok(store)
+}
+
+fn copy_place(place: &Place) -> Place
+    ensures { result ≡ place.now }
+{
+    Place {
+        keyspace: place.keyspace,
+        range: place.range,
+    }
+}
+
+fn copy_shard(
+    alloc: Global,
+    shard: &shard_run::ShardRecord,
+) -> Result<shard_run::ShardRecord, Refusal>
+    ensures ok { IfOk result (λ copy. copy ≡ shard.now) }
+    ensures err { IfErr result (λ e. e ≡ Refusal.OutOfMemory) }
+{
+    Ok(shard_run::ShardRecord {
+        slot: shard.slot,
+        place: copy_place(&shard.place),
+        sources: Items::from_slice(alloc, shard.sources.as_slice())?,
+    })
+}
+
+// An opening shard whose tables are empty, with the seat of its slot.
+fn empty_shard<W: World, J: Naming>(
+    alloc: Global,
+    tables: &[Table],
+    limits: Limits,
+    seat: ShardSeat<ShardLaw<W>, J>,
+    shard: &shard_run::ShardRecord,
+) -> Result<Arc<Shard<W, J>, Global>, Refusal>
+    requires opens { IsOpening W.opening }
+    requires limits { W.limits ≡ limits }
+    requires most_rows { limits.rows ≤ 2 ^ 20 }
+    requires most_stored { limits.stored ≤ 2 ^ 20 }
+    requires rows { first_rows W.opening shard.now ≡ map (λ t. []) tables.now }
+    requires opening { Contains (opening_shards W.opening) shard.now }
+    requires seat { seat ≡ record { seen = []; slot = shard.now.slot } }
+    ensures seat { IfOk result (λ held. held.value ≡ seat_of shard.now) }
+    ensures err { IfErr result (λ e. e ≡ Refusal.OutOfMemory) }
+{
+    let store = empty_store(alloc, tables)?;
+    let copy = copy_shard(alloc, shard)?;
+    let state = ShardState::new(alloc, seat, copy, store, Mode::Serving, limits);
+    Ok(Arc::new(alloc, Shard::new(state))?)
+}
+
+/// The limits of a shard that may hold the most.
+pub fn widest_limits() -> Limits
+    ensures { result ≡ most_limits }
+{
+    Limits {
+        rows: MOST_ROWS,
+        stored: MOST_STORED,
+    }
+}
+
+// The opening shards, each with the seat of its slot.
+fn empty_shards<W: World, J: Naming>(
+    alloc: Global,
+    tables: &[Table],
+    limits: Limits,
+    shards: &[shard_run::ShardRecord],
+    seats: Vec<ShardSeat<ShardLaw<W>, J>>,
+) -> Result<Vec<Arc<Shard<W, J>, Global>>, Refusal>
+    requires opens { IsOpening W.opening }
+    requires limits { W.limits ≡ limits }
+    requires most_rows { limits.rows ≤ 2 ^ 20 }
+    requires most_stored { limits.stored ≤ 2 ^ 20 }
+    requires rows { (s : which.ShardRecord) → Contains (opening_shards W.opening) s → first_rows W.opening s ≡ map (λ t. []) tables.now }
+    requires opening { opening_shards W.opening ≡ shards.now }
+    requires slots { (i : ℕ) (d : which.ShardRecord) → i < length shards.now → (slice_index_or shards.now i d).slot ≡ i }
+    requires few { length shards.now ≤ 64 }
+    requires seats { seats.items ≡ take (length shards.now) (fresh_seats 64) }
+    ensures ok { IfOk result (λ held. map (λ h. h.value) held.items ≡ map seat_of shards.now) }
+    ensures err { IfErr result (λ e. e ≡ Refusal.OutOfMemory) }
+{
+    let mut seats = seats.into_iter();
+    let mut held = Vec::new(alloc);
+    for shard in shards {
+        let seat = seats.next().unwrap();
+        held.push(empty_shard(alloc, tables, limits, seat, shard)?)?;
+    }
+    Ok(held)
+}
+
+// The opening shards, and the seats after theirs.
+fn shards_and_seats<W: World, J: Naming>(
+    alloc: Global,
+    tables: &[Table],
+    limits: Limits,
+    shards: &[shard_run::ShardRecord],
+    seats: Vec<ShardSeat<ShardLaw<W>, J>>,
+) -> Result<
+    (
+        Vec<Arc<Shard<W, J>, Global>>,
+        Vec<ShardSeat<ShardLaw<W>, J>>,
+    ),
+    Refusal,
+>
+    requires opens { IsOpening W.opening }
+    requires limits { W.limits ≡ limits }
+    requires most_rows { limits.rows ≤ 2 ^ 20 }
+    requires most_stored { limits.stored ≤ 2 ^ 20 }
+    requires rows { (s : which.ShardRecord) → Contains (opening_shards W.opening) s → first_rows W.opening s ≡ map (λ t. []) tables.now }
+    requires opening { opening_shards W.opening ≡ shards.now }
+    requires slots { (i : ℕ) (d : which.ShardRecord) → i < length shards.now → (slice_index_or shards.now i d).slot ≡ i }
+    requires few { length shards.now ≤ 64 }
+    requires seats { seats.items ≡ fresh_seats 64 }
+    ensures held { IfOk result (λ r. map (λ h. h.value) r.0.items ≡ map seat_of shards.now) }
+    ensures free { IfOk result (λ r. r.1.items ≡ drop (length shards.now) (fresh_seats 64)) }
+    ensures err { IfErr result (λ e. e ≡ Refusal.OutOfMemory) }
+{
+    let mut seats = seats;
+    let free = seats.split_off(shards.len())?;
+    match empty_shards(alloc, tables, limits, shards, seats) {
+        Ok(held) => Ok((held, free)),
+        Err(refusal) => {
+            drop(free);
+            Err(refusal)
+        }
+    }
+}
+
+// The parts of a keyspace, in the order of its shards.
+fn keyspace_parts<W: World, J: Naming>(
+    alloc: Global,
+    keyspace: usize,
+    shards: &[shard_run::ShardRecord],
+    held: &[Arc<Shard<W, J>, Global>],
+) -> Result<Vec<ShardReference<Shard<W, J>>>, Refusal>
+    requires held { map (λ h. h.value) held.now ≡ map seat_of shards.now }
+    ensures ok { IfOk result (λ parts. parts.items ≡ map seat_of (filter (λ s. s.place.keyspace == keyspace) shards.now)) }
+    ensures err { IfErr result (λ e. e ≡ Refusal.OutOfMemory) }
+{
+    let mut parts = Vec::new(alloc);
+    for (i, shard) in shards.iter().enumerate() {
+        if shard.place.keyspace == keyspace {
+            parts.push(ShardReference::new(Arc::try_clone(&held[i])?))?;
+        }
+    }
+    Ok(parts)
+}
+
+// The partitions of each keyspace, in the order of the VSchema, which begin with the opening's.
+fn opening_keyspaces<W: World, J: Naming>(
+    alloc: Global,
+    keyspaces: usize,
+    shards: &[shard_run::ShardRecord],
+    held: &[Arc<Shard<W, J>, Global>],
+) -> Result<Vec<Serving<Shard<W, J>>>, Refusal>
+    requires opens { IsOpening W.opening }
+    requires opening { opening_shards W.opening ≡ shards.now }
+    requires each { keyspaces ≡ length W.opening.schema.keyspaces }
+    requires held { map (λ h. h.value) held.now ≡ map seat_of shards.now }
+    ensures each { IfOk result (λ all. all.items ≡ range_with_len 0 keyspaces) }
+    ensures err { IfErr result (λ e. e ≡ Refusal.OutOfMemory) }
+{
+    let mut all = Vec::new(alloc);
+    for keyspace in 0..keyspaces {
+        let parts = keyspace_parts(alloc, keyspace, shards, held)?;
+        let opening = Partition::new(keyspace, parts);
+        all.push(Serving::new(alloc, keyspace, opening)?)?;
+    }
+    Ok(all)
+}
+
+// The opening shards, the partitions of so many keyspaces, which begin with the opening's, and the seats after those of the shards.
+fn held_and_served<W: World, J: Naming>(
+    alloc: Global,
+    tables: &[Table],
+    limits: Limits,
+    keyspaces: usize,
+    shards: &[shard_run::ShardRecord],
+    seats: Vec<ShardSeat<ShardLaw<W>, J>>,
+) -> Result<
+    (
+        Vec<Arc<Shard<W, J>, Global>>,
+        Vec<Serving<Shard<W, J>>>,
+        Vec<ShardSeat<ShardLaw<W>, J>>,
+    ),
+    Refusal,
+>
+    requires opens { IsOpening W.opening }
+    requires limits { W.limits ≡ limits }
+    requires most_rows { limits.rows ≤ 2 ^ 20 }
+    requires most_stored { limits.stored ≤ 2 ^ 20 }
+    requires each { keyspaces ≡ length W.opening.schema.keyspaces }
+    requires rows { (s : which.ShardRecord) → Contains (opening_shards W.opening) s → first_rows W.opening s ≡ map (λ t. []) tables.now }
+    requires opening { opening_shards W.opening ≡ shards.now }
+    requires slots { (i : ℕ) (d : which.ShardRecord) → i < length shards.now → (slice_index_or shards.now i d).slot ≡ i }
+    requires few { length shards.now ≤ 64 }
+    requires seats { seats.items ≡ fresh_seats 64 }
+    ensures held { IfOk result (λ r. map (λ h. h.value) r.0.items ≡ map seat_of shards.now) }
+    ensures each { IfOk result (λ r. r.1.items ≡ range_with_len 0 keyspaces) }
+    ensures free { IfOk result (λ r. r.2.items ≡ drop (length shards.now) (fresh_seats 64)) }
+    ensures err { IfErr result (λ e. e ≡ Refusal.OutOfMemory) }
+{
+    let (held, free) = shards_and_seats(alloc, tables, limits, shards, seats)?;
+    match opening_keyspaces(alloc, keyspaces, shards, held.as_slice()) {
+        Ok(all) => Ok((held, all, free)),
+        Err(refusal) => {
+            drop(held);
+            drop(free);
+            Err(refusal)
+        }
+    }
+}
+
+/// The shards of an opening without rows, in the journal that was opened, the partitions that each keyspace begins with, the opener of
+/// their sessions, a first pass, which has seen nothing, and the seats of the slots on which none of these shards stands.
+pub fn opened_seats<W: World, J: Naming>(
+    alloc: Global,
+    schema: &VSchema,
+    ranges: &[KeyRange],
+    limits: Limits,
+    opened: Opened<ShardLaw<W>>,
+) -> Result<
+    (
+        Vec<Arc<Shard<W, J>, Global>>,
+        Vec<Serving<Shard<W, J>>>,
+        Opener<ShardLaw<W>, J>,
+        Pass<ShardLaw<W>, J>,
+        Vec<ShardSeat<ShardLaw<W>, J>>,
+    ),
+    Refusal,
+>
+    requires name { opened ≡ J.table }
+    requires opening { W.opening ≡ opening_of schema.now ranges.now }
+    requires limits { W.limits ≡ limits }
+    requires most_rows { limits.rows ≤ 2 ^ 20 }
+    requires most_stored { limits.stored ≤ 2 ^ 20 }
+    requires schema { IsTrue (is_vschema schema.now) }
+    requires ranges { FitRanges schema.now ranges.now }
+    ensures opens { IfOk result (λ r. IsOpening W.opening) }
+    ensures held { IfOk result (λ r. map (λ h. h.value) r.0.items ≡ map seat_of (opening_shards W.opening)) }
+    ensures each { IfOk result (λ r. r.1.items ≡ range_with_len 0 (length schema.now.keyspaces)) }
+    ensures opener { IfOk result (λ r. r.2 ≡ 0) }
+    ensures pass { IfOk result (λ r. r.3 ≡ new_pass [] None) }
+    ensures free { IfOk result (λ r. r.4.items ≡ drop (length (opening_shards W.opening)) (fresh_seats 64)) }
+    ensures err { IfErr result (λ e. e ≡ Refusal.OutOfMemory) }
+{
+    let shards = opening_shards(alloc, schema, ranges)?;
+    let (seats, opener, pass) = opened.named::<J>(alloc)?;
+    let tables = schema.tables.as_slice();
+    let keyspaces = schema.keyspaces.len();
+    let made = held_and_served(alloc, tables, limits, keyspaces, shards.as_slice(), seats);
+    drop(shards);
+    match made {
+        Ok((held, all, free)) => Ok((held, all, opener, pass, free)),
+        Err(refusal) => {
+            drop(opener);
+            drop(pass);
+            Err(refusal)
+        }
+    }
+}
+
+// Promise: The engine over a well-formed VSchema and ranges that fit, with no rows: each opening shard on the seat of its slot; the opener
+// of its sessions, a pass that has seen nothing, and the seats that no shard is on
+// With: opened_seats
+/// The engine over a VSchema and the ranges of its sharded keyspace, whose tables are empty, in the journal that was opened; the opener
+/// of its sessions, a first pass, which has seen nothing, and the seats of the slots on which none of its shards stands. Each shard has these
+/// limits, and so many statements may wait in its buffer. It refuses only for want of memory.
+pub fn empty_router<W: World + Send + Sync, J: Naming + Send + Sync, G: Gate>(
+    alloc: Global,
+    schema: VSchema,
+    ranges: &[KeyRange],
+    limits: Limits,
+    opened: Opened<ShardLaw<W>>,
+    buffer_size: u64,
+    gate: G,
+) -> Result<
+    (
+        Engine<W, J, G>,
+        Opener<ShardLaw<W>, J>,
+        Pass<ShardLaw<W>, J>,
+        Vec<ShardSeat<ShardLaw<W>, J>>,
+    ),
+    Refusal,
+>
+    requires name { opened ≡ J.table }
+    requires opening { W.opening ≡ opening_of schema ranges.now }
+    requires limits { W.limits ≡ limits }
+    requires most_rows { limits.rows ≤ 2 ^ 20 }
+    requires most_stored { limits.stored ≤ 2 ^ 20 }
+    requires schema { IsTrue (is_vschema schema) }
+    requires ranges { FitRanges schema ranges.now }
+    ensures schema { IfOk result (λ r. r.0 ≡ schema) }
+    ensures opener { IfOk result (λ r. r.1 ≡ 0) }
+    ensures pass { IfOk result (λ r. r.2 ≡ new_pass [] None) }
+    ensures opens { IfOk result (λ r. IsOpening W.opening) }
+    ensures free { IfOk result (λ r. r.3.items ≡ drop (length (opening_shards W.opening)) (fresh_seats 64)) }
+    ensures err { IfErr result (λ e. e ≡ Refusal.OutOfMemory) }
+{
+    let (held, keyspaces, opener, pass, free) = opened_seats::<W, J>(
+        alloc, &schema, ranges, limits, opened,
+    )?;
+    drop(held);
+    let engine = Engine::new(schema, keyspaces, Buffer::new(buffer_size), gate);
+    Ok((engine, opener, pass, free))
+}

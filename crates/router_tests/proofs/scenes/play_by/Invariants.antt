@@ -1,6 +1,0 @@
-use Rattle.empty_opening.specs.Empty.{opening_of}
-use Rattle.router_tests.proofs.scenes.play_by.Given as goal
-
--- the world of this VSchema and these ranges, within these limits
-abbrev pub ghosts-play_in_world : goal.ghosts-play_in_world
-ghosts-play_in_world g a = record { opening = opening_of a.schema a.ranges.now; limits = a.limits }

@@ -1,4 +1,0 @@
-pub mod Numbers
-pub mod Printables
-pub mod Digests
-pub mod TenWords

@@ -1,3 +1,0 @@
-pub mod Salts
-pub mod Words
-pub mod Asking

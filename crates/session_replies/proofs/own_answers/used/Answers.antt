@@ -1,9 +1,0 @@
-use Rattle.std.proofs.Common.{sym}
-use Rattle.session_replies.specs.Given as x
-use Rattle.session_replies.proofs.own_answers.used.Goals as goal
-
-pub returns-in-Some : goal.returns-in-Some
-returns-in-Some c = λ hello. rw c.done.ensures (x.used (sym c.in-Some.ensures))
-
-pub returns-in-None : goal.returns-in-None
-returns-in-None c = λ hello. rw c.refused.ensures (x.not_used (sym c.in-None.ensures))

@@ -1,4 +1,0 @@
-pub mod Replies
-pub mod Outcomes
-pub mod Sessions
-pub mod Tellings

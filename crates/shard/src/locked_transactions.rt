@@ -1,0 +1,122 @@
+//! What a transaction does on its one shard, under the shard's lock.
+ghost use Rattle.std.specs.Prelude.{◌≡◌, ◌<◌, ℕ, Some, IsSome, MatchResult, length};
+ghost use Rattle.vschema.specs.Sources.{SourcesThere};
+ghost use Rattle.sql_eval.specs.Writes.{written_table};
+ghost use Rattle.journal.specs.Runs.{NumbersBelow};
+ghost use Rattle.shard_run.specs.declared.ShardRecord as which;
+ghost use Rattle.shard_run.specs.Runs.{entries_on, mode};
+ghost use Rattle.shard_law.specs.Legal.{IsOnItsSlot};
+ghost use Rattle.shard_law.specs.Entries.{commit_of, HasLooked};
+ghost use Rattle.shard.specs.Seats.{place_at};
+ghost use Rattle.shard_contents.specs.Transactions.{IsClear, IsPendingOf, HasReadIn, HasWrittenIn, IsStopped, IsReadRefusal, IsWriteRefusal, HasCommittedAll, IsCommitAllRefusal};
+
+use crate::locked::Shard;
+use crate::world::{ShardLaw, World};
+use journal::{Naming, Pass};
+use shard_contents::{Pending, Reading};
+use shard_run::Mode;
+use std::alloc::Global;
+use std::sync::Wait;
+use vschema::{Query, VSchema, Write};
+use vt_value::Refusal;
+
+impl<W: World, J: Naming> Shard<W, J> {
+    /// Looks once under the shard's lock, as `ShardState::check`. Slot and place are tested as `read` tests them.
+    pub fn check(
+        &self,
+        rt: &impl Wait,
+        pass: &mut Pass<ShardLaw<W>, J>,
+        tx: &Pending,
+    ) -> Result<u64, Refusal>
+        ensures check { (s : which.ShardRecord) × IsOnItsSlot W.opening pass.new.seen s × (s.slot ≡ self.now.0) × (s.place ≡ place_at self.now) × HasLooked W.opening self.now.0 pass.old pass.new
+            × MatchResult result (λ n. (n ≡ length (entries_on self.now.0 pass.new.seen)) × IsClear W.opening s pass.new.seen tx.now)
+            (IsStopped W.opening s pass.new.seen tx.now) }
+        ensures past { mode W.opening pass.new.seen self.now.0 ≡ Mode.Following → ⊥ }
+    {
+        for _ in rt.forever() {
+            let mut state = self.state.lock(rt);
+            if state.is_found_at(self.slot, &self.place) {
+                return state.check(pass, tx);
+            }
+        }
+        unreachable!()
+    }
+
+    /// What a query gives in a transaction under the shard's lock, as `ShardState::read_in`.
+    pub fn read_in(
+        &self,
+        rt: &impl Wait,
+        alloc: Global,
+        pass: &mut Pass<ShardLaw<W>, J>,
+        tx: &mut Pending,
+        query: &Query,
+    ) -> Result<Reading, Refusal>
+        requires there { SourcesThere (length W.opening.schema.tables) query.now }
+        requires tied { (s : which.ShardRecord) → s.slot ≡ self.now.0 → s.place ≡ place_at self.now → IsPendingOf W.opening s tx.old pass.old }
+        requires session { IsSome pass.old.session }
+        requires above { (n : ℕ) → pass.old.session ≡ Some n → NumbersBelow commit_of n pass.old.statements pass.old.seen }
+        ensures read { (s : which.ShardRecord) × IsOnItsSlot W.opening pass.new.seen s × (s.slot ≡ self.now.0) × (s.place ≡ place_at self.now) × HasLooked W.opening self.now.0 pass.old pass.new
+            × MatchResult result (λ r. HasReadIn W.opening s tx.old pass.new.seen query.now r.rows r.entries tx.new)
+            (λ e. IsReadRefusal W.opening s pass.new.seen tx.old e × (tx.new ≡ tx.old)) }
+        ensures past { mode W.opening pass.new.seen self.now.0 ≡ Mode.Following → ⊥ }
+    {
+        for _ in rt.forever() {
+            let mut state = self.state.lock(rt);
+            if state.is_found_at(self.slot, &self.place) {
+                return state.read_in(alloc, pass, tx, query);
+            }
+        }
+        unreachable!()
+    }
+
+    /// Makes the changes of a write in a transaction under the shard's lock, as `ShardState::write_in`.
+    pub fn write_in(
+        &self,
+        rt: &impl Wait,
+        alloc: Global,
+        pass: &mut Pass<ShardLaw<W>, J>,
+        tx: &mut Pending,
+        schema: &VSchema,
+        write: Write,
+    ) -> Result<u64, Refusal>
+        requires schema { schema.now ≡ W.opening.schema }
+        requires there { written_table write < length W.opening.schema.tables }
+        ensures written { (s : which.ShardRecord) × IsOnItsSlot W.opening pass.new.seen s × (s.slot ≡ self.now.0) × (s.place ≡ place_at self.now) × HasLooked W.opening self.now.0 pass.old pass.new
+            × MatchResult result (λ count. HasWrittenIn W.opening s tx.old pass.new.seen write count tx.new)
+            (λ e. IsWriteRefusal W.opening s pass.new.seen tx.old write e × (tx.new ≡ tx.old)) }
+        ensures past { mode W.opening pass.new.seen self.now.0 ≡ Mode.Following → ⊥ }
+    {
+        for _ in rt.forever() {
+            let mut state = self.state.lock(rt);
+            if state.is_found_at(self.slot, &self.place) {
+                return state.write_in(alloc, pass, tx, schema, write);
+            }
+        }
+        unreachable!()
+    }
+
+    /// Commits a transaction under the shard's lock, as `ShardState::commit_in`.
+    pub fn commit_in(
+        &self,
+        rt: &impl Wait,
+        alloc: Global,
+        pass: &mut Pass<ShardLaw<W>, J>,
+        tx: &mut Pending,
+    ) -> Result<(), Refusal>
+        requires tied { (s : which.ShardRecord) → s.slot ≡ self.now.0 → s.place ≡ place_at self.now → IsPendingOf W.opening s tx.old pass.old }
+        requires session { IsSome pass.old.session }
+        requires above { (n : ℕ) → pass.old.session ≡ Some n → NumbersBelow commit_of n pass.old.statements pass.old.seen }
+        ensures commit { (s : which.ShardRecord) × IsOnItsSlot W.opening pass.new.seen s × (s.slot ≡ self.now.0) × (s.place ≡ place_at self.now)
+            × MatchResult result (λ _. HasCommittedAll W.opening W.limits s pass.old tx.old pass.new)
+            (λ e. HasLooked W.opening self.now.0 pass.old pass.new × IsCommitAllRefusal W.opening W.limits s pass.new.seen tx.old e × (tx.new ≡ tx.old)) }
+        ensures past { mode W.opening pass.new.seen self.now.0 ≡ Mode.Following → ⊥ }
+    {
+        for _ in rt.forever() {
+            let mut state = self.state.lock(rt);
+            if state.is_found_at(self.slot, &self.place) {
+                return state.commit_in(alloc, pass, tx);
+            }
+        }
+        unreachable!()
+    }
+}

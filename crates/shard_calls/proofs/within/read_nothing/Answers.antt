@@ -1,5 +1,0 @@
-use Rattle.std.proofs.Common.{[]}
-use Rattle.shard_calls.proofs.within.read_nothing.Goals as goal
-
-pub returns-clause-rows : goal.returns-clause-rows
-returns-clause-rows c = rw c.new.ensures (c.in_ok-places.ensures.ok.answers [] c.in_ok-rows.rows (rw c.query.ensures at c.in_ok-rows.ensures.ok))

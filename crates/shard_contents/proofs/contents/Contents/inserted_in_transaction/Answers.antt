@@ -1,0 +1,31 @@
+use Rattle.std.proofs.Common.{◌≡◌, ◌⊎◌, ◌∙◌, List, Result, Ok, Err, inr, sym, subst}
+use Rattle.std.specs.Prelude.{IfOk, IfErr}
+use Rattle.vt_value.specs.declared.refusal.Refusal.{Refusal}
+use Rattle.vt_value.specs.declared.refusal.Refusal.TheVariants.{OutOfMemory}
+use Rattle.vschema.specs.declared.changes.RowChange.{RowChange}
+use Rattle.vschema.specs.Database.{rows_of, all_applied}
+use Rattle.shard_store.proofs.KeptRows.{insert_refused, insert_of_none}
+use Rattle.shard_contents.proofs.contents.Contents.inserted_in_transaction.Goals as goal
+
+pub returns-in-Ok-true-clause-err : goal.returns-in-Ok-true-clause-err
+returns-in-Ok-true-clause-err c =
+    let t = c.args.table.now in
+    let rows = rows_of (all_applied c.args.changes.now c.args.self.now.store.rows) c.args.ordinal in
+    inr (insert_refused t c.args.write.now c.args.ordinal c.args.new.now rows c.requires.insert
+    (sym c.in_ok-overlaid.ensures.ok ∙ sym c.in-Ok-true.ensures.ok ∙ c.in-Ok-true.field-0-test))
+
+pub returns-in-Ok-false-clause-ok : goal.returns-in-Ok-false-clause-ok
+returns-in-Ok-false-clause-ok c =
+    let t = c.args.table.now in
+    let rows = rows_of (all_applied c.args.changes.now c.args.self.now.store.rows) c.args.ordinal in
+    subst (λ (x : Result (List RowChange) Refusal). IfOk c.change_local.result (λ changes. x ≡ Ok changes))
+    (insert_of_none t c.args.write.now c.args.ordinal c.args.new.now rows c.requires.insert
+    (sym c.in_ok-overlaid.ensures.ok ∙ sym c.in-Ok-false.ensures.ok ∙ c.in-Ok-false.field-0-test)) c.change_local.ensures.ok
+
+pub returns-in-Ok-false-clause-err : goal.returns-in-Ok-false-clause-err
+returns-in-Ok-false-clause-err c =
+    let t = c.args.table.now in
+    let rows = rows_of (all_applied c.args.changes.now c.args.self.now.store.rows) c.args.ordinal in
+    subst (λ (x : Result (List RowChange) Refusal). IfErr c.change_local.result (λ e. (e ≡ OutOfMemory) ⊎ (x ≡ Err e)))
+    (insert_of_none t c.args.write.now c.args.ordinal c.args.new.now rows c.requires.insert
+    (sym c.in_ok-overlaid.ensures.ok ∙ sym c.in-Ok-false.ensures.ok ∙ c.in-Ok-false.field-0-test)) c.change_local.ensures.err

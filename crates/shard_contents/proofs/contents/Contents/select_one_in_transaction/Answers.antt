@@ -1,0 +1,20 @@
+use Rattle.std.proofs.Common.{◌≤◌, ◌^◌, length, sym, subst, arith}
+use Rattle.vschema.specs.Database.{rows_of, all_applied}
+use Rattle.sql_eval.specs.Groups.{CanBeSummed}
+use Rattle.sql_eval.specs.Conditions.{is_kept}
+use Rattle.sql_eval.proofs.Sums.{filter_summed}
+use Rattle.shard_contents.proofs.Wanted.{longer}
+use Rattle.shard_contents.proofs.contents.Contents.select_one_in_transaction.Goals as goal
+
+pub select-requires : goal.select-requires
+select-requires c =
+    let db = c.args.self.now.store.rows in
+    let n = c.args.query.now.table in
+    let rows = rows_of (all_applied c.args.changes.now db) n in
+    let most = longer c.args.changes.now db n c.requires.there in
+    let few : length rows ≤ 2 ^ 60 = omega (arith, most, c.row_count_of.ensures, c.if-row_count_of-changes-gt-MOST_ROWS.false) in
+    record {
+      summed = λ aggregated.
+          subst CanBeSummed (sym c.in_ok-overlaid.ensures.ok)
+          (filter_summed (is_kept c.args.query.now.filter) rows (c.requires.summed aggregated few));
+    }

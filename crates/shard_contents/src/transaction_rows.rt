@@ -1,0 +1,377 @@
+//! What a transaction sees: the rows that the shard holds, with the transaction's own changes. Of these only the changes of rows that a
+//! statement looks at are done, over the rows as they are stored, so no table is copied.
+ghost use Rattle.std.specs.Prelude.{◌≡◌, ◌⊎◌, ◌==◌, ◌<◌, ◌≤◌, ◌^◌, ◌++◌, ◌∷◌, [], List, true, filter, Ok, Err, OnOk, IfOk, IfErr, length};
+ghost use Rattle.std.specs.List.{list_any};
+ghost use Rattle.vt_value.specs.declared.value.Value.{Value as V};
+ghost use Rattle.vschema.specs.Checks.{is_aggregated};
+ghost use Rattle.vschema.specs.Schema.{key_of};
+ghost use Rattle.vschema.specs.Database.{rows_of, all_applied, changed_table, same_row, without};
+ghost use Rattle.vschema.specs.Sources.{pairs_of, source_rows, source_tables, SourcesThere};
+ghost use Rattle.sql_eval.specs.Conditions.{is_kept};
+ghost use Rattle.sql_eval.specs.Groups.{CanBeSummed};
+ghost use Rattle.sql_eval.specs.Queries.{IsAnswer};
+ghost use Rattle.sql_eval.specs.Writes.{written_table, changes_of, changes_over};
+ghost use Rattle.shard_contents.specs.inner.Stores.{row_after, is_selected};
+
+use crate::contents::{Contents, written_table};
+use crate::store::changed_table;
+use shard_store::{Overlay, StoredTables, same_key, select_joined};
+use sql_eval::{change_local, keeps};
+use sql_tree::Condition;
+use std::alloc::Global;
+use vschema::{Join, Query, RowChange, Table, VSchema, Write};
+use vt_value::{Items, Refusal, Row};
+
+// More rows than memory can hold. The sums of a query are known to fit up to here.
+const MOST_ROWS: usize = 1 << 60;
+
+// So many new rows are compared with each of a transaction's changes. For more, all changes are done, and the keys are looked up.
+const FEW_NEW: usize = 8;
+
+/// Which rows a statement looks at.
+#[derive(Clone, Copy)]
+pub enum RowSelection<'a> {
+    /// All.
+    All,
+    /// Those whose condition is true.
+    Kept(&'a Option<Condition<usize>>),
+    /// Those that have the primary key of one of these.
+    Keyed(&'a Table, &'a [Row]),
+}
+
+// Whether a row has the primary key of one of these.
+fn has_key_of(table: &Table, row: &Row, new: &[Row]) -> bool
+    ensures { result ≡ list_any (λ n. same_row (key_of table.now n) (key_of table.now row.now)) new.now }
+{
+    new.iter().any(|n| same_key(table, n, row))
+}
+
+impl<'a> RowSelection<'a> {
+    fn wants(self, row: &Row) -> bool
+        ensures { result ≡ is_selected self.entry row.now }
+    {
+        match self {
+            RowSelection::All => true,
+            RowSelection::Kept(condition) => keeps(condition, row),
+            RowSelection::Keyed(table, new) => has_key_of(table, row, new),
+        }
+    }
+}
+
+/// Whether one of the changes is of the table at a place.
+pub fn changes_any(ordinal: usize, changes: &[RowChange]) -> bool
+    ensures { result ≡ list_any (λ c. changed_table c == ordinal) changes.now }
+{
+    changes
+        .iter()
+        .any(|change| changed_table(change) == ordinal)
+}
+
+// Whether one of the changes is of a table that the query is over.
+fn changes_source(query: &Query, changes: &[RowChange]) -> bool
+    ensures { result ≡ list_any (λ n. list_any (λ c. changed_table c == n) changes.now) (source_tables query.now) }
+{
+    if changes_any(query.table, changes) {
+        return true;
+    }
+    match query.join {
+        Some(join) => changes_any(join.table, changes),
+        None => false,
+    }
+}
+
+// Adds a row, if it is wanted.
+fn add_wanted<'a>(
+    rows: &mut Overlay<'a>,
+    wanted: RowSelection<'_>,
+    row: &'a Row,
+) -> Result<(), Refusal>
+    ensures ok { OnOk result (filter (is_selected wanted.entry) rows.new.rows ≡ filter (is_selected wanted.entry) (rows.old.rows ++ row.now ∷ [])) }
+    ensures err { IfErr result (λ e. e ≡ Refusal.OutOfMemory) }
+{
+    if wanted.wants(row) {
+        return rows.add(row);
+    }
+    Ok(())
+}
+
+// Removes the first row that is this one, if it is wanted.
+fn remove_wanted<'a>(
+    alloc: Global,
+    rows: &mut Overlay<'a>,
+    wanted: RowSelection<'_>,
+    row: &'a Row,
+) -> Result<(), Refusal>
+    ensures ok { OnOk result (filter (is_selected wanted.entry) rows.new.rows ≡ filter (is_selected wanted.entry) (without row.now rows.old.rows)) }
+    ensures err { IfErr result (λ e. e ≡ Refusal.OutOfMemory) }
+{
+    if wanted.wants(row) {
+        return rows.remove(alloc, row);
+    }
+    Ok(())
+}
+
+// Does what a change does to the wanted rows.
+fn change_wanted<'a>(
+    alloc: Global,
+    rows: &mut Overlay<'a>,
+    wanted: RowSelection<'_>,
+    change: &'a RowChange,
+) -> Result<(), Refusal>
+    ensures ok { OnOk result (filter (is_selected wanted.entry) rows.new.rows ≡ filter (is_selected wanted.entry) (row_after change.now rows.old.rows)) }
+    ensures err { IfErr result (λ e. e ≡ Refusal.OutOfMemory) }
+{
+    match change {
+        RowChange::Added(_, row) => add_wanted(rows, wanted, row),
+        RowChange::Replaced(_, old, new) => {
+            remove_wanted(alloc, rows, wanted, old)?;
+            add_wanted(rows, wanted, new)
+        }
+        RowChange::Removed(_, row) => remove_wanted(alloc, rows, wanted, row),
+    }
+}
+
+// Rows of the table at a place, of which the wanted ones are those that the changes leave.
+fn overlaid_rows<'a>(
+    alloc: Global,
+    store: &'a StoredTables,
+    ordinal: usize,
+    changes: &'a [RowChange],
+    wanted: RowSelection<'_>,
+) -> Result<Overlay<'a>, Refusal>
+    requires { ordinal < length store.now.rows }
+    ensures ok { IfOk result (λ overlaid. filter (is_selected wanted.entry) overlaid.rows ≡ filter (is_selected wanted.entry) (rows_of (all_applied changes.now store.now.rows) ordinal)) }
+    ensures err { IfErr result (λ e. e ≡ Refusal.OutOfMemory) }
+{
+    let mut overlaid = store.overlay(alloc, ordinal)?;
+    for change in changes {
+        if changed_table(change) == ordinal {
+            change_wanted(alloc, &mut overlaid, wanted, change)?;
+        }
+    }
+    Ok(overlaid)
+}
+
+// The rows of the table at a place that the changes leave.
+fn all_overlaid<'a>(
+    alloc: Global,
+    store: &'a StoredTables,
+    ordinal: usize,
+    changes: &'a [RowChange],
+) -> Result<Overlay<'a>, Refusal>
+    requires { ordinal < length store.now.rows }
+    ensures ok { IfOk result (λ overlaid. overlaid.rows ≡ rows_of (all_applied changes.now store.now.rows) ordinal) }
+    ensures err { IfErr result (λ e. e ≡ Refusal.OutOfMemory) }
+{
+    overlaid_rows(alloc, store, ordinal, changes, RowSelection::All)
+}
+
+// Rows of the table at a place, of which those that have the primary key of a new one are those that the changes leave.
+fn keyed_overlaid<'a>(
+    alloc: Global,
+    store: &'a StoredTables,
+    ordinal: usize,
+    changes: &'a [RowChange],
+    table: &Table,
+    new: &[Row],
+) -> Result<Overlay<'a>, Refusal>
+    requires { ordinal < length store.now.rows }
+    ensures ok { IfOk result (λ overlaid. list_any (λ n. list_any (λ r. same_row (key_of table.now n) (key_of table.now r)) overlaid.rows) new.now
+        ≡ list_any (λ n. list_any (λ r. same_row (key_of table.now n) (key_of table.now r)) (rows_of (all_applied changes.now store.now.rows) ordinal)) new.now) }
+    ensures err { IfErr result (λ e. e ≡ Refusal.OutOfMemory) }
+{
+    overlaid_rows(
+        alloc,
+        store,
+        ordinal,
+        changes,
+        RowSelection::Keyed(table, new),
+    )
+}
+
+fn are_many(new: &[Row]) -> bool {
+    new.len() > FEW_NEW
+}
+
+// Rows of the table at a place, which have the primary key of a new one if the rows that the changes leave have it.
+fn rows_for<'a>(
+    alloc: Global,
+    store: &'a StoredTables,
+    ordinal: usize,
+    changes: &'a [RowChange],
+    table: &Table,
+    new: &[Row],
+) -> Result<Overlay<'a>, Refusal>
+    requires { ordinal < length store.now.rows }
+    ensures ok { IfOk result (λ overlaid. list_any (λ n. list_any (λ r. same_row (key_of table.now n) (key_of table.now r)) overlaid.rows) new.now
+        ≡ list_any (λ n. list_any (λ r. same_row (key_of table.now n) (key_of table.now r)) (rows_of (all_applied changes.now store.now.rows) ordinal)) new.now) }
+    ensures err { IfErr result (λ e. e ≡ Refusal.OutOfMemory) }
+{
+    if are_many(new) {
+        return all_overlaid(alloc, store, ordinal, changes);
+    }
+    keyed_overlaid(alloc, store, ordinal, changes, table, new)
+}
+
+impl Contents {
+    // What a query over one table gives over its rows with these changes done.
+    fn select_one_in_transaction(
+        &self,
+        alloc: Global,
+        query: &Query,
+        changes: &[RowChange],
+    ) -> Result<Items<Row>, Refusal>
+        requires there { query.now.table < length self.now.store.rows }
+        requires few { length (rows_of self.now.store.rows query.now.table) ≤ 2 ^ 60 }
+        requires summed { is_aggregated query.now ≡ true → length (rows_of (all_applied changes.now self.now.store.rows) query.now.table) ≤ 2 ^ 60
+            → CanBeSummed (rows_of (all_applied changes.now self.now.store.rows) query.now.table) }
+        ensures ok { IfOk result (IsAnswer query.now (rows_of (all_applied changes.now self.now.store.rows) query.now.table)) }
+        ensures err { IfErr result (λ e. e ≡ Refusal.OutOfMemory) }
+    {
+        if self.store.row_count_of(query.table) + changes.len() > MOST_ROWS {
+            return Err(Refusal::OutOfMemory);
+        }
+        let wanted = RowSelection::Kept(&query.filter);
+        let overlaid = overlaid_rows(alloc, &self.store, query.table, changes, wanted)?;
+        overlaid.select(alloc, query)
+    }
+
+    // What a query over two tables gives over their rows with these changes done.
+    fn select_pairs_in_transaction(
+        &self,
+        alloc: Global,
+        query: &Query,
+        join: Join,
+        changes: &[RowChange],
+    ) -> Result<Items<Row>, Refusal>
+        requires first { query.now.table < length self.now.store.rows }
+        requires second { join.table < length self.now.store.rows }
+        requires summed { is_aggregated query.now ≡ true
+            → length (pairs_of join (rows_of (all_applied changes.now self.now.store.rows) query.now.table) (rows_of (all_applied changes.now self.now.store.rows) join.table)) ≤ 2 ^ 60
+            → CanBeSummed (pairs_of join (rows_of (all_applied changes.now self.now.store.rows) query.now.table) (rows_of (all_applied changes.now self.now.store.rows) join.table)) }
+        ensures ok { IfOk result (IsAnswer query.now (pairs_of join (rows_of (all_applied changes.now self.now.store.rows) query.now.table) (rows_of (all_applied changes.now self.now.store.rows) join.table))) }
+        ensures err { IfErr result (λ e. e ≡ Refusal.OutOfMemory) }
+    {
+        let firsts = overlaid_rows(alloc, &self.store, query.table, changes, RowSelection::All)?;
+        let seconds = overlaid_rows(alloc, &self.store, join.table, changes, RowSelection::All)?;
+        select_joined(alloc, query, join, firsts.all(), seconds.all())
+    }
+
+    /// What the query gives over the rows with these changes done. None of them is done if none is of a table that it is over.
+    pub fn select_in_transaction(
+        &self,
+        alloc: Global,
+        query: &Query,
+        changes: &[RowChange],
+    ) -> Result<Items<Row>, Refusal>
+        requires there { SourcesThere (length self.now.store.rows) query.now }
+        requires few { length (source_rows query.now self.now.store.rows) ≤ 2 ^ 60 }
+        requires summed { is_aggregated query.now ≡ true → length (source_rows query.now (all_applied changes.now self.now.store.rows)) ≤ 2 ^ 60
+            → CanBeSummed (source_rows query.now (all_applied changes.now self.now.store.rows)) }
+        ensures ok { IfOk result (IsAnswer query.now (source_rows query.now (all_applied changes.now self.now.store.rows))) }
+        ensures err { IfErr result (λ e. e ≡ Refusal.OutOfMemory) }
+    {
+        if !changes_source(query, changes) {
+            return self.store.select(alloc, query);
+        }
+        match query.join {
+            Some(join) => self.select_pairs_in_transaction(alloc, query, join, changes),
+            None => self.select_one_in_transaction(alloc, query, changes),
+        }
+    }
+
+    // What a write without new rows does.
+    fn changed_in_transaction(
+        &self,
+        alloc: Global,
+        table: &Table,
+        write: &Write,
+        ordinal: usize,
+        condition: &Option<Condition<usize>>,
+        changes: &[RowChange],
+    ) -> Result<Items<RowChange>, Refusal>
+        requires there { ordinal < length self.now.store.rows }
+        requires kept { (rows : List (List V)) → changes_over table.now write.now (filter (is_kept condition.now) rows) ≡ changes_over table.now write.now rows }
+        ensures ok { IfOk result (λ more. changes_over table.now write.now (rows_of (all_applied changes.now self.now.store.rows) ordinal) ≡ Ok more) }
+        ensures err { IfErr result (λ e. (e ≡ Refusal.OutOfMemory)
+            ⊎ (changes_over table.now write.now (rows_of (all_applied changes.now self.now.store.rows) ordinal) ≡ Err e)) }
+    {
+        let wanted = RowSelection::Kept(condition);
+        let overlaid = overlaid_rows(alloc, &self.store, ordinal, changes, wanted)?;
+        let kept = overlaid.kept(alloc, condition)?;
+        change_local(alloc, table, write, kept.as_slice())
+    }
+
+    // What a write with new rows does.
+    fn inserted_in_transaction(
+        &self,
+        alloc: Global,
+        table: &Table,
+        write: &Write,
+        ordinal: usize,
+        new: &[Row],
+        changes: &[RowChange],
+    ) -> Result<Items<RowChange>, Refusal>
+        requires there { ordinal < length self.now.store.rows }
+        requires insert { write.now ≡ Write.Insert ordinal new.now }
+        ensures ok { IfOk result (λ more. changes_over table.now write.now (rows_of (all_applied changes.now self.now.store.rows) ordinal) ≡ Ok more) }
+        ensures err { IfErr result (λ e. (e ≡ Refusal.OutOfMemory)
+            ⊎ (changes_over table.now write.now (rows_of (all_applied changes.now self.now.store.rows) ordinal) ≡ Err e)) }
+    {
+        let overlaid = rows_for(alloc, &self.store, ordinal, changes, table, new)?;
+        match overlaid.has_any_key(alloc, table, new) {
+            Ok(true) => Err(Refusal::DuplicateKey),
+            Ok(false) => change_local(alloc, table, write, &[]),
+            Err(e) => Err(e),
+        }
+    }
+
+    // What a write does to the rows of its table with these changes done.
+    fn changes_over(
+        &self,
+        alloc: Global,
+        table: &Table,
+        write: &Write,
+        changes: &[RowChange],
+    ) -> Result<Items<RowChange>, Refusal>
+        requires there { written_table write.now < length self.now.store.rows }
+        ensures ok { IfOk result (λ more. changes_over table.now write.now (rows_of (all_applied changes.now self.now.store.rows) (written_table write.now)) ≡ Ok more) }
+        ensures err { IfErr result (λ e. (e ≡ Refusal.OutOfMemory)
+            ⊎ (changes_over table.now write.now (rows_of (all_applied changes.now self.now.store.rows) (written_table write.now)) ≡ Err e)) }
+    {
+        match write {
+            Write::Insert(ordinal, new) => {
+                self.inserted_in_transaction(alloc, table, write, *ordinal, new.as_slice(), changes)
+            }
+            Write::Update(ordinal, _, condition) => {
+                self.changed_in_transaction(alloc, table, write, *ordinal, condition, changes)
+            }
+            Write::Delete(ordinal, condition) => {
+                self.changed_in_transaction(alloc, table, write, *ordinal, condition, changes)
+            }
+        }
+    }
+
+    /// The changes of the write over the rows with these changes done, unless it has a primary key that is there already. None of them is
+    /// done if none is of the write's table.
+    pub fn changes_in_transaction(
+        &self,
+        alloc: Global,
+        schema: &VSchema,
+        write: &Write,
+        changes: &[RowChange],
+    ) -> Result<Items<RowChange>, Refusal>
+        requires there { written_table write.now < length schema.now.tables }
+        requires tables { length self.now.store.rows ≡ length schema.now.tables }
+        ensures ok { IfOk result (λ more. changes_of schema.now write.now (all_applied changes.now self.now.store.rows) ≡ Ok more) }
+        ensures err { IfErr result (λ e. (e ≡ Refusal.OutOfMemory)
+            ⊎ ((e ≡ Refusal.DuplicateKey) × (changes_of schema.now write.now (all_applied changes.now self.now.store.rows) ≡ Err Refusal.DuplicateKey))) }
+    {
+        let ordinal = written_table(write);
+        let table = &schema.tables.as_slice()[ordinal];
+        if !changes_any(ordinal, changes) {
+            return self.store.changes(alloc, table, write);
+        }
+        self.changes_over(alloc, table, write, changes)
+    }
+}

@@ -1,0 +1,182 @@
+//! The rows of a table, without a promise that their keys differ: a row lies in the slot of its key, or in a list if another row has that slot.
+ghost use Rattle.std.specs.Prelude.{◌≡◌, ◌+◌, ◌<◌, ◌≤◌, ◌++◌, ◌∷◌, [], IfOk, IfErr, OnOk, IsPermutation, length, position};
+ghost use Rattle.vschema.specs.Database.{same_row, without};
+ghost use Rattle.shard_store.specs.Slots.{rows_in};
+ghost use Rattle.shard_store.specs.Tables.{key_at};
+
+use crate::key::RowKey;
+use crate::table::StoredTable;
+use crate::walk::AllRows;
+use sql_eval::{SliceRows, same_row};
+use std::alloc::Global;
+use std::marker::Model;
+use vt_value::{Items, Refusal, Row};
+
+// The place of the first row that is this one.
+fn ordinal_of(rows: &[Row], row: &Row) -> Option<usize>
+    ensures { result ≡ position (λ r. same_row row.now r) rows.now }
+{
+    rows.iter().position(|r| same_row(row, r))
+}
+
+// Gives up the slots of these keys that have no row.
+fn sweep_slots(stored: &mut StoredTable, keys: &mut Vec<RowKey>)
+    ensures rows { rows_in stored.new.slots ≡ rows_in stored.old.slots }
+    ensures ordinals { stored.new.ordinals ≡ stored.old.ordinals }
+{
+    while let Some(key) = keys.pop() {
+        stored.sweep(&key);
+    }
+}
+
+/// The rows of a table in any number, also of one key: each in the slot of its key, or outside the slots if another row has its key
+/// or the key has no slot. Contracts see a `RowsView`.
+#[derive(Drop)]
+pub struct TableRows {
+    pub(crate) stored: StoredTable,
+    pub(crate) unslotted: Vec<Row>,
+    // keys of removed rows, whose slots are to be given up
+    pub(crate) freed: Vec<RowKey>,
+}
+
+impl Model for TableRows {
+    ghost use Rattle.std.specs.Prelude.{◌++◌, ◌-◌, vec_len, vec_capacity};
+    ghost use Rattle.shard_store.specs.Slots.{rows_in};
+    ghost use Rattle.shard_store.specs.Stores.{RowsView};
+
+    ghost Value = { RowsView };
+
+    ghost view = { λ t. record { rows = rows_in t.stored.slots ++ t.unslotted.items; ordinals = t.stored.ordinals; room = vec_capacity t.unslotted - vec_len t.unslotted } };
+}
+
+impl TableRows {
+    /// No rows, of a table whose key columns are at these places.
+    pub fn new(alloc: Global, ordinals: Items<usize>) -> TableRows
+        ensures rows { result.rows ≡ [] }
+        ensures ordinals { result.ordinals ≡ ordinals }
+    {
+        TableRows {
+            stored: StoredTable::new(alloc, ordinals),
+            unslotted: Vec::new(alloc),
+            freed: Vec::new(alloc),
+        }
+    }
+
+    /// The key of a row of this table. Refuses for want of memory.
+    pub fn key_of(&self, alloc: Global, row: &Row) -> Result<RowKey, Refusal>
+        ensures ok { IfOk result (λ key. key.values ≡ key_at self.now.ordinals row.now) }
+        ensures err { IfErr result (λ e. e ≡ Refusal.OutOfMemory) }
+    {
+        self.stored.key_of(alloc, row)
+    }
+
+    /// How many rows the table has.
+    pub fn row_count(&self) -> usize
+        ensures { result ≡ length self.now.rows }
+    {
+        self.stored.row_count() + self.unslotted.len()
+    }
+
+    /// All rows: those in slots, in the order of their keys, and then the others.
+    pub fn all(&self) -> AllRows<'_>
+        ensures { result ≡ self.now.rows }
+    {
+        AllRows {
+            slots: self.stored.rows(),
+            unslotted: SliceRows::new(self.unslotted.as_slice()),
+        }
+    }
+
+    // Makes memory for so many more rows without slots.
+    fn reserve(&mut self, additional: usize) -> Result<(), Refusal>
+        ensures rows { self.new.rows ≡ self.old.rows }
+        ensures ordinals { self.new.ordinals ≡ self.old.ordinals }
+        ensures room { self.old.room ≤ self.new.room }
+        ensures ok { OnOk result (additional ≤ self.new.room) }
+        ensures err { IfErr result (λ e. e ≡ Refusal.OutOfMemory) }
+    {
+        self.unslotted.reserve(additional)?;
+        Ok(())
+    }
+
+    // Makes a slot for a key, if it has none.
+    fn reserve_slot(&mut self, alloc: Global, key: &RowKey) -> Result<(), Refusal>
+        ensures rows { self.new.rows ≡ self.old.rows }
+        ensures ordinals { self.new.ordinals ≡ self.old.ordinals }
+        ensures room { self.new.room ≡ self.old.room }
+        ensures err { IfErr result (λ e. e ≡ Refusal.OutOfMemory) }
+    {
+        self.stored.reserve(alloc, key)
+    }
+
+    /// Makes memory for so many more rows without slots, and a slot for a key. Refuses for want of memory; the rows stay as they are.
+    pub fn make_room(
+        &mut self,
+        alloc: Global,
+        key: &RowKey,
+        additional: usize,
+    ) -> Result<(), Refusal>
+        ensures rows { self.new.rows ≡ self.old.rows }
+        ensures ordinals { self.new.ordinals ≡ self.old.ordinals }
+        ensures room { self.old.room ≤ self.new.room }
+        ensures ok { OnOk result (additional ≤ self.new.room) }
+        ensures err { IfErr result (λ e. e ≡ Refusal.OutOfMemory) }
+    {
+        self.reserve(additional)?;
+        self.reserve_slot(alloc, key)
+    }
+
+    /// Adds a row. Takes no memory.
+    pub fn add(&mut self, key: &RowKey, row: Row)
+        requires key { key.now.values ≡ key_at self.old.ordinals row }
+        requires room { 0 < self.old.room }
+        ensures rows { IsPermutation self.new.rows (self.old.rows ++ row ∷ []) }
+        ensures ordinals { self.new.ordinals ≡ self.old.ordinals }
+        ensures room { self.old.room ≤ self.new.room + 1 }
+    {
+        if self.stored.is_free(key) {
+            self.stored.add(key, row);
+        } else {
+            self.unslotted.push_reserved(row);
+        }
+    }
+
+    /// Removes a row, if it is there; the slot of its key stays. Takes no memory.
+    pub fn remove(&mut self, key: &RowKey, row: &Row)
+        requires { key.now.values ≡ key_at self.old.ordinals row.now }
+        ensures rows { IsPermutation self.new.rows (without row.now self.old.rows) }
+        ensures ordinals { self.new.ordinals ≡ self.old.ordinals }
+        ensures room { self.old.room ≤ self.new.room }
+    {
+        if self.stored.holds(key, row) {
+            self.stored.remove(key, row);
+        } else if let Some(ordinal) = ordinal_of(self.unslotted.as_slice(), row) {
+            self.unslotted.remove(ordinal);
+        }
+    }
+
+    /// Makes memory to remember so many more keys of removed rows. Refuses for want of memory; the rows stay as they are.
+    pub fn reserve_freed(&mut self, additional: usize) -> Result<(), Refusal>
+        ensures unchanged { self.new ≡ self.old }
+        ensures err { IfErr result (λ e. e ≡ Refusal.OutOfMemory) }
+    {
+        self.freed.reserve(additional)?;
+        Ok(())
+    }
+
+    /// Remembers the key of a removed row, whose slot is to be given up by `sweep`, if there is memory for that. Takes no memory.
+    pub fn free(&mut self, key: RowKey)
+        ensures { self.new ≡ self.old }
+    {
+        if self.freed.len() < self.freed.capacity() {
+            self.freed.push_reserved(key);
+        }
+    }
+
+    /// Gives up the slots of removed rows if no other row has come into them. Takes no memory.
+    pub fn sweep(&mut self)
+        ensures { self.new ≡ self.old }
+    {
+        sweep_slots(&mut self.stored, &mut self.freed);
+    }
+}

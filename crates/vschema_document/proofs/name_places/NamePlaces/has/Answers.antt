@@ -1,6 +1,0 @@
-use Rattle.std.proofs.Common.{is_some, ap, ◌∙◌}
-use Rattle.vschema_document.proofs.Named.{placed_any}
-use Rattle.vschema_document.proofs.name_places.NamePlaces.has.Goals as goal
-
-pub returns : goal.returns
-returns c = c.is_some.ensures ∙ ap is_some c.place_of.ensures ∙ placed_any c.args.name.now c.args.self.now

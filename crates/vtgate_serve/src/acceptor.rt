@@ -1,0 +1,127 @@
+//! The connections that clients open.
+ghost use Rattle.std.specs.Prelude.{◌≡◌, ◌≤◌, ◌<◌, ◌+◌, [], IfSome, IfNone};
+ghost use Rattle.vtgate_serve.specs.Accepted.{Accepts, AcceptsNoMore};
+
+use crate::connection::Connection;
+use crate::events;
+use crate::logins::Logins;
+use crate::ports::QUEUED;
+use crate::progress::ServeProgress;
+use connection_workers::ConnectionSource;
+use journal::{Naming, Opener, Pass};
+use log::Log;
+use shard::{ShardLaw, World};
+use std::net::{SocketAddr, TcpListener, TcpStream};
+use std::sync::Wait;
+use std::thread;
+use std::time::{Clock, Duration, Instant};
+
+/// How long it sleeps after a client could not be accepted, in milliseconds.
+const AFTER_FAILURE: u64 = 20;
+
+/// Accepts clients, numbers their connections from 1, and opens a session for each and no other.
+#[derive(Drop)]
+pub struct Acceptor<'l, W: World, J: Naming> {
+    listener: &'l TcpListener,
+    opener: Opener<ShardLaw<W>, J>,
+    pass: Pass<ShardLaw<W>, J>,
+    progress: &'l ServeProgress,
+    accepted: u32,
+    last: u32,
+    full_since: Option<Instant>,
+    // Promise: The server has opened at most as many sessions as it has accepted connections, from none on
+    ghost opened: { opener ≤ accepted },
+}
+
+impl<'l, W: World, J: Naming> Acceptor<'l, W, J> {
+    /// None is accepted yet, and `last` will be. No session was opened, and nobody has committed.
+    pub fn new(
+        listener: &'l TcpListener,
+        progress: &'l ServeProgress,
+        opener: Opener<ShardLaw<W>, J>,
+        pass: Pass<ShardLaw<W>, J>,
+        last: u32,
+    ) -> Acceptor<'l, W, J>
+        requires unopened { opener ≡ 0 }
+        requires unseen { pass.seen ≡ [] }
+        ensures none { result.accepted ≡ 0 }
+        ensures last { result.last ≡ last }
+    {
+        Acceptor {
+            listener,
+            opener,
+            pass,
+            progress,
+            accepted: 0,
+            last,
+            full_since: None,
+        }
+    }
+
+    /// How many connections were accepted.
+    pub fn accepted(&self) -> u32 {
+        self.accepted
+    }
+
+    // The next connection, unless it can have no session: then it is closed.
+    fn connection(&mut self, stream: TcpStream, peer: SocketAddr) -> Option<Connection<W, J>>
+        requires room { self.old.accepted < 4294967295 }
+        ensures one_more { self.new.accepted ≡ self.old.accepted + 1 }
+        ensures last { self.new.last ≡ self.old.last }
+        ensures number { IfSome result (λ c. c.number ≡ self.new.accepted) }
+    {
+        self.accepted = self.accepted.saturating_add(1);
+        let pass = self.opener.open(&mut self.pass).ok()?;
+        Some(Connection::new(self.accepted, stream, peer, pass))
+    }
+}
+
+/// Tells that the queue of connections is full, if it has become so.
+fn tell_full<R: Clock + Log>(rt: &R, logins: &Logins, full_since: &mut Option<Instant>) {
+    let waiting = logins.waiting();
+    if full_since.is_none() && waiting > QUEUED as u64 {
+        *full_since = Instant::now(rt).ok();
+        events::queue_full(rt, waiting);
+    }
+}
+
+/// Tells that the queue has places again, if it was full.
+fn tell_free<R: Clock + Log>(rt: &R, logins: &Logins, full_since: &mut Option<Instant>) {
+    if full_since.is_some() && logins.waiting() <= QUEUED as u64 / 2 {
+        events::queue_free(rt, events::since(rt, *full_since));
+        *full_since = None;
+    }
+}
+
+impl<'l, W: World, J: Naming, R: Wait + Clock + Log> ConnectionSource<Connection<W, J>, R>
+    for Acceptor<'l, W, J> {
+    ghost use Rattle.vtgate_serve.specs.Accepted.{Accepts, AcceptsNoMore};
+
+    // Promise: Connections are numbered in the order in which they are accepted, each with a number of its own, up to the one that the words
+    // tell
+    ghost gives = { λ a c b. Accepts a.accepted a.last c.number b.accepted b.last };
+
+    ghost ends = { λ a b. AcceptsNoMore a.accepted a.last b.accepted b.last };
+
+    fn next(&mut self, rt: &R) -> Option<Connection<W, J>> {
+        for _ in rt.forever() {
+            if self.accepted >= self.last {
+                return None;
+            }
+            match self.listener.accept() {
+                Ok((stream, peer)) => {
+                    tell_free(rt, &self.progress.logins, &mut self.full_since);
+                    if let Some(connection) = self.connection(stream, peer) {
+                        self.progress.logins.wait();
+                        tell_full(rt, &self.progress.logins, &mut self.full_since);
+                        return Some(connection);
+                    }
+                }
+                Err(_) => {
+                    let _ = thread::sleep(rt, Duration::from_millis(AFTER_FAILURE));
+                }
+            }
+        }
+        unreachable!()
+    }
+}

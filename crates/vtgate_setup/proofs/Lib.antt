@@ -1,0 +1,4 @@
+pub mod Fits
+pub mod Digests
+pub mod Numbers
+pub mod TenWords

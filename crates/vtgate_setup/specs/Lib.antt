@@ -1,0 +1,4 @@
+pub mod Inputs
+pub mod Statuses
+pub mod ServeArgs
+pub mod Words
