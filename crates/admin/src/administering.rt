@@ -6,11 +6,11 @@ ghost use Rattle.admin.specs.AdminAnswers.{IsAdminReply, keyspace_of};
 
 use crate::administrator::Administrator;
 use crate::reply::AdminReply;
-use journal::{Naming, Pass};
+use journal::Naming;
 use opening::sharded_keyspace;
 use route_engine::{Engine, Gate};
 use serving::Serving;
-use shard::{Shard, ShardLaw, World};
+use shard::{Shard, ShardPass, World};
 use std::alloc::Global;
 use std::sync::Wait;
 
@@ -32,7 +32,7 @@ pub fn administer<W: World + Send + Sync, J: Naming + Send + Sync, G: Gate>(
     alloc: Global,
     engine: &Engine<W, J, G>,
     administrator: &mut Administrator<W, J>,
-    pass: &mut Pass<ShardLaw<W>, J>,
+    pass: &mut ShardPass<W, J>,
     words: &[u8],
 ) -> AdminReply
     requires home { keyspace_of administrator.old ≡ sharded_keyspace engine.now }

@@ -10,10 +10,10 @@ use crate::calls::{advance, cancel, complete, create, resume, step, switch};
 use crate::reply::AdminReply;
 use crate::status::{empty_status, status};
 use buffer::Buffer;
-use journal::{Naming, Pass};
+use journal::Naming;
 use reshard::{ReshardFault, Workflow};
 use serving::Serving;
-use shard::{Shard, ShardLaw, World};
+use shard::{Shard, ShardPass, World};
 use std::alloc::Global;
 use std::marker::Model;
 use std::sync::Wait;
@@ -31,7 +31,7 @@ fn answer_over<W: World, J: Naming>(
     workflow: &mut Workflow<W, J>,
     rt: &impl Wait,
     alloc: Global,
-    pass: &mut Pass<ShardLaw<W>, J>,
+    pass: &mut ShardPass<W, J>,
     schema: &VSchema,
     serving: &Serving<Shard<W, J>>,
     buffer: &Buffer,
@@ -132,7 +132,7 @@ impl<W: World, J: Naming> Administrator<W, J> {
         &mut self,
         rt: &impl Wait,
         alloc: Global,
-        pass: &mut Pass<ShardLaw<W>, J>,
+        pass: &mut ShardPass<W, J>,
         schema: &VSchema,
         serving: Option<&Serving<Shard<W, J>>>,
         buffer: &Buffer,

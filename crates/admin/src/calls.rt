@@ -10,11 +10,11 @@ ghost use Rattle.admin.specs.AdminAnswers.{HasCreated, AnswersStep, HasCutOver, 
 
 use crate::reply::AdminReply;
 use buffer::Buffer;
-use journal::{Naming, Pass};
+use journal::Naming;
 use keyrange::KeyRange;
 use reshard::Workflow;
 use serving::Serving;
-use shard::{Shard, ShardLaw, World};
+use shard::{Shard, ShardPass, World};
 use std::alloc::Global;
 use std::sync::Wait;
 use vschema::VSchema;
@@ -24,7 +24,7 @@ pub(crate) fn create<W: World, J: Naming>(
     workflow: &mut Workflow<W, J>,
     rt: &impl Wait,
     alloc: Global,
-    pass: &mut Pass<ShardLaw<W>, J>,
+    pass: &mut ShardPass<W, J>,
     schema: &VSchema,
     serving: &Serving<Shard<W, J>>,
     sources: &[KeyRange],
@@ -48,7 +48,7 @@ pub(crate) fn step<W: World, J: Naming>(
     workflow: &mut Workflow<W, J>,
     rt: &impl Wait,
     alloc: Global,
-    pass: &mut Pass<ShardLaw<W>, J>,
+    pass: &mut ShardPass<W, J>,
     schema: &VSchema,
 ) -> AdminReply
     requires schema { schema.now ≡ W.opening.schema }
@@ -68,7 +68,7 @@ pub(crate) fn switch<W: World, J: Naming>(
     workflow: &mut Workflow<W, J>,
     rt: &impl Wait,
     alloc: Global,
-    pass: &mut Pass<ShardLaw<W>, J>,
+    pass: &mut ShardPass<W, J>,
     schema: &VSchema,
     serving: &Serving<Shard<W, J>>,
     buffer: &Buffer,
@@ -91,7 +91,7 @@ pub(crate) fn advance<W: World, J: Naming>(
     workflow: &mut Workflow<W, J>,
     rt: &impl Wait,
     alloc: Global,
-    pass: &mut Pass<ShardLaw<W>, J>,
+    pass: &mut ShardPass<W, J>,
     schema: &VSchema,
     serving: &Serving<Shard<W, J>>,
     buffer: &Buffer,
@@ -113,7 +113,7 @@ pub(crate) fn advance<W: World, J: Naming>(
 pub(crate) fn resume<W: World, J: Naming>(
     workflow: &mut Workflow<W, J>,
     rt: &impl Wait,
-    pass: &mut Pass<ShardLaw<W>, J>,
+    pass: &mut ShardPass<W, J>,
     schema: &VSchema,
     serving: &Serving<Shard<W, J>>,
     buffer: &Buffer,
@@ -134,7 +134,7 @@ pub(crate) fn resume<W: World, J: Naming>(
 pub(crate) fn cancel<W: World, J: Naming>(
     workflow: &mut Workflow<W, J>,
     rt: &impl Wait,
-    pass: &mut Pass<ShardLaw<W>, J>,
+    pass: &mut ShardPass<W, J>,
     buffer: &Buffer,
 ) -> AdminReply
     requires legal { IsLegal (MayFollow W.opening) pass.old.seen }
@@ -151,7 +151,7 @@ pub(crate) fn cancel<W: World, J: Naming>(
 pub(crate) fn complete<W: World, J: Naming>(
     workflow: &mut Workflow<W, J>,
     rt: &impl Wait,
-    pass: &mut Pass<ShardLaw<W>, J>,
+    pass: &mut ShardPass<W, J>,
 ) -> AdminReply
     requires legal { IsLegal (MayFollow W.opening) pass.old.seen }
     ensures completed { HasCompleted W.opening workflow.old workflow.new pass.old pass.new result }

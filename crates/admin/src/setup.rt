@@ -7,13 +7,13 @@ ghost use Rattle.opening.specs.Empty.{empty_shards, opening_of, FitRanges};
 ghost use Rattle.admin.specs.Idle.{opening_workflow};
 
 use crate::administrator::Administrator;
-use journal::{Naming, Opened, Opener, Pass, ShardSeat};
+use journal::{Naming, Opened, Opener, ShardSeat};
 use keyrange::KeyRange;
 use opening::sharded_keyspace;
 use reshard::{ReshardConfig, Workflow};
 use route_engine::{Engine, Gate};
 use router::empty_router;
-use shard::{Limits, ShardLaw, World};
+use shard::{Limits, ShardLaw, ShardPass, World};
 use std::alloc::Global;
 use vschema::VSchema;
 use vt_value::Refusal;
@@ -65,7 +65,7 @@ pub fn administered_router<W: World + Send + Sync, J: Naming + Send + Sync, G: G
         Engine<W, J, G>,
         Administrator<W, J>,
         Opener<ShardLaw<W>, J>,
-        Pass<ShardLaw<W>, J>,
+        ShardPass<W, J>,
     ),
     Refusal,
 >

@@ -4,10 +4,10 @@ use crate::line::{Line, Measured};
 use crate::sessions::run_sessions;
 use crate::statement::Statement;
 use crate::texts::read_text;
-use journal::{Naming, Opener, Pass};
+use journal::{Naming, Opener};
 use keyrange::KeyRange;
 use route_engine::{Engine, Open};
-use shard::{ShardLaw, World};
+use shard::{ShardLaw, ShardPass, World};
 use std::alloc::Global;
 use std::str;
 use std::sync::Wait;
@@ -21,7 +21,7 @@ use vt_value::Refusal;
 pub struct Router<'r, W: World, J: Naming> {
     pub engine: Engine<W, J, Open>,
     pub opener: Opener<ShardLaw<W>, J>,
-    pub first: Pass<ShardLaw<W>, J>,
+    pub first: ShardPass<W, J>,
     pub ranges: &'r [KeyRange],
 }
 

@@ -3,9 +3,9 @@ ghost use Rattle.std.specs.Prelude.{◌≡◌, None, IsSome};
 
 use crate::line::Line;
 use crate::statement::Statement;
-use journal::{Naming, Opener, Pass};
+use journal::{Naming, Opener};
 use route_engine::{Answer, Engine, Open, Tx};
-use shard::{ShardLaw, World};
+use shard::{ShardLaw, ShardPass, World};
 use std::alloc::{AllocError, Global};
 use std::sync::Wait;
 use std::thread::{Threads, map_vec};
@@ -15,7 +15,7 @@ use vt_value::Refusal;
 #[derive(Drop)]
 struct Session<'e, W: World, J: Naming> {
     engine: &'e Engine<W, J, Open>,
-    pass: Pass<ShardLaw<W>, J>,
+    pass: ShardPass<W, J>,
     number: u64,
     ghost known: { IsSome pass.session },
 }
@@ -33,7 +33,7 @@ fn told<W: World + Send + Sync, J: Naming + Send + Sync>(
     rt: &(impl Threads + Wait + Sync),
     alloc: Global,
     engine: &Engine<W, J, Open>,
-    pass: &mut Pass<ShardLaw<W>, J>,
+    pass: &mut ShardPass<W, J>,
     tx: &mut Tx<W, J>,
     text: &[u8],
 ) -> Result<u64, Refusal>
@@ -84,7 +84,7 @@ fn open_sessions<'e, W: World + Send + Sync, J: Naming + Send + Sync>(
     alloc: Global,
     engine: &'e Engine<W, J, Open>,
     opener: &mut Opener<ShardLaw<W>, J>,
-    first: &mut Pass<ShardLaw<W>, J>,
+    first: &mut ShardPass<W, J>,
     line: Line<'_>,
 ) -> Result<Vec<Session<'e, W, J>>, Refusal> {
     let mut sessions = Vec::new(alloc);
@@ -130,7 +130,7 @@ pub fn run_sessions<W: World + Send + Sync, J: Naming + Send + Sync, R: Threads 
     alloc: Global,
     engine: &Engine<W, J, Open>,
     opener: &mut Opener<ShardLaw<W>, J>,
-    first: &mut Pass<ShardLaw<W>, J>,
+    first: &mut ShardPass<W, J>,
     line: Line<'_>,
     statement: &Statement<'_>,
 ) -> Result<u64, Refusal> {

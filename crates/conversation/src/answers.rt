@@ -25,12 +25,12 @@ use crate::devices::{DeviceFailed, Sink};
 use crate::end::End;
 use crate::reply::{REPLY_ROOM, put_refusal, put_reply};
 use bytes::BytesMut;
-use journal::{Naming, Pass};
+use journal::Naming;
 use mysql_handshake::put_greeting;
 use mysql_packet::{Fed, HeaderFault, Payload};
 use resultset::Chunks;
 use route_engine::{Engine, Gate, Tx};
-use shard::{ShardLaw, World};
+use shard::{ShardPass, World};
 use std::alloc::Global;
 use std::sync::Wait;
 use std::thread::Threads;
@@ -69,7 +69,7 @@ fn answer<W: World + Send + Sync, J: Naming + Send + Sync, G: Gate, S: Sink>(
     rt: &(impl Threads + Wait + Sync),
     alloc: Global,
     engine: &Engine<W, J, G>,
-    pass: &mut Pass<ShardLaw<W>, J>,
+    pass: &mut ShardPass<W, J>,
     tx: &mut Tx<W, J>,
     handshake: &Handshake,
     phase: Phase,
@@ -106,7 +106,7 @@ fn answer_all<W: World + Send + Sync, J: Naming + Send + Sync, G: Gate, S: Sink>
     rt: &(impl Threads + Wait + Sync),
     alloc: Global,
     engine: &Engine<W, J, G>,
-    pass: &mut Pass<ShardLaw<W>, J>,
+    pass: &mut ShardPass<W, J>,
     tx: &mut Tx<W, J>,
     handshake: &Handshake,
     begin: Phase,
@@ -202,7 +202,7 @@ pub fn answer_fed<W: World + Send + Sync, J: Naming + Send + Sync, G: Gate, S: S
     rt: &(impl Threads + Wait + Sync),
     alloc: Global,
     engine: &Engine<W, J, G>,
-    pass: &mut Pass<ShardLaw<W>, J>,
+    pass: &mut ShardPass<W, J>,
     tx: &mut Tx<W, J>,
     handshake: &Handshake,
     begin: ConnectionState,

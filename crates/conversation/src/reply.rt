@@ -22,13 +22,13 @@ use crate::end::End;
 use crate::login::{keyspace_named, put_answer, put_response};
 use crate::texts::given;
 use bytes::BytesMut;
-use journal::{Naming, Pass};
+use journal::Naming;
 use mysql_handshake::{DEPRECATE_EOF, is_set};
 use mysql_message::{Command, put_eof, put_err, put_ok, put_set_end, put_statistics, read_command};
 use mysql_packet::Payload;
 use resultset::{Chunks, SetEnd, encode_rows};
 use route_engine::{Engine, Gate, Tx};
-use shard::{ShardLaw, World};
+use shard::{ShardPass, World};
 use std::alloc::Global;
 use std::sync::Wait;
 use std::thread::Threads;
@@ -256,7 +256,7 @@ fn put_query<W: World + Send + Sync, J: Naming + Send + Sync, G: Gate>(
     rt: &(impl Threads + Wait + Sync),
     alloc: Global,
     engine: &Engine<W, J, G>,
-    pass: &mut Pass<ShardLaw<W>, J>,
+    pass: &mut ShardPass<W, J>,
     tx: &mut Tx<W, J>,
     handshake: &Handshake,
     settings: Settings,
@@ -287,7 +287,7 @@ fn put_command<W: World + Send + Sync, J: Naming + Send + Sync, G: Gate>(
     rt: &(impl Threads + Wait + Sync),
     alloc: Global,
     engine: &Engine<W, J, G>,
-    pass: &mut Pass<ShardLaw<W>, J>,
+    pass: &mut ShardPass<W, J>,
     tx: &mut Tx<W, J>,
     handshake: &Handshake,
     settings: Settings,
@@ -349,7 +349,7 @@ pub fn put_reply<W: World + Send + Sync, J: Naming + Send + Sync, G: Gate>(
     rt: &(impl Threads + Wait + Sync),
     alloc: Global,
     engine: &Engine<W, J, G>,
-    pass: &mut Pass<ShardLaw<W>, J>,
+    pass: &mut ShardPass<W, J>,
     tx: &mut Tx<W, J>,
     handshake: &Handshake,
     phase: Phase,

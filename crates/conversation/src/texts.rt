@@ -18,9 +18,9 @@ use crate::columns::columns_of;
 use crate::connection_state::Settings;
 use crate::local_answers::{done, local_answer, not_run, refused, turns_on};
 use client_statements::{ClientStatement, read};
-use journal::{Naming, Pass};
+use journal::Naming;
 use route_engine::{Answer, Engine, Gate, Selected, Tx};
-use shard::{ShardLaw, World};
+use shard::{ShardPass, World};
 use sql_parser::parse;
 use sql_tree::Statement;
 use std::alloc::Global;
@@ -72,7 +72,7 @@ fn outcome_of<W: World + Send + Sync, J: Naming + Send + Sync, G: Gate>(
     rt: &(impl Threads + Wait + Sync),
     alloc: Global,
     engine: &Engine<W, J, G>,
-    pass: &mut Pass<ShardLaw<W>, J>,
+    pass: &mut ShardPass<W, J>,
     tx: &mut Tx<W, J>,
     text: &[u8],
 ) -> ClientReply
@@ -95,7 +95,7 @@ fn run_command<W: World + Send + Sync, J: Naming + Send + Sync, G: Gate>(
     rt: &(impl Threads + Wait + Sync),
     alloc: Global,
     engine: &Engine<W, J, G>,
-    pass: &mut Pass<ShardLaw<W>, J>,
+    pass: &mut ShardPass<W, J>,
     tx: &mut Tx<W, J>,
     command: &[u8],
 ) -> Result<(), Refusal>
@@ -121,7 +121,7 @@ fn after_begin<W: World + Send + Sync, J: Naming + Send + Sync, G: Gate>(
     rt: &(impl Threads + Wait + Sync),
     alloc: Global,
     engine: &Engine<W, J, G>,
-    pass: &mut Pass<ShardLaw<W>, J>,
+    pass: &mut ShardPass<W, J>,
     tx: &mut Tx<W, J>,
     text: &[u8],
 ) -> ClientReply
@@ -192,7 +192,7 @@ fn run_text<W: World + Send + Sync, J: Naming + Send + Sync, G: Gate>(
     rt: &(impl Threads + Wait + Sync),
     alloc: Global,
     engine: &Engine<W, J, G>,
-    pass: &mut Pass<ShardLaw<W>, J>,
+    pass: &mut ShardPass<W, J>,
     tx: &mut Tx<W, J>,
     settings: Settings,
     text: &[u8],
@@ -216,7 +216,7 @@ fn turned_on<W: World + Send + Sync, J: Naming + Send + Sync, G: Gate>(
     rt: &(impl Threads + Wait + Sync),
     alloc: Global,
     engine: &Engine<W, J, G>,
-    pass: &mut Pass<ShardLaw<W>, J>,
+    pass: &mut ShardPass<W, J>,
     tx: &mut Tx<W, J>,
     settings: Settings,
 ) -> (ClientReply, Settings)
@@ -242,7 +242,7 @@ fn statement_outcome<W: World + Send + Sync, J: Naming + Send + Sync, G: Gate>(
     rt: &(impl Threads + Wait + Sync),
     alloc: Global,
     engine: &Engine<W, J, G>,
-    pass: &mut Pass<ShardLaw<W>, J>,
+    pass: &mut ShardPass<W, J>,
     tx: &mut Tx<W, J>,
     handshake: &Handshake,
     settings: Settings,
@@ -272,7 +272,7 @@ fn answer_read<W: World + Send + Sync, J: Naming + Send + Sync, G: Gate>(
     rt: &(impl Threads + Wait + Sync),
     alloc: Global,
     engine: &Engine<W, J, G>,
-    pass: &mut Pass<ShardLaw<W>, J>,
+    pass: &mut ShardPass<W, J>,
     tx: &mut Tx<W, J>,
     handshake: &Handshake,
     settings: Settings,
@@ -299,7 +299,7 @@ fn asked<W: World + Send + Sync, J: Naming + Send + Sync, G: Gate>(
     rt: &(impl Threads + Wait + Sync),
     alloc: Global,
     engine: &Engine<W, J, G>,
-    pass: &mut Pass<ShardLaw<W>, J>,
+    pass: &mut ShardPass<W, J>,
     tx: &mut Tx<W, J>,
     handshake: &Handshake,
     settings: Settings,
@@ -330,7 +330,7 @@ pub fn given<W: World + Send + Sync, J: Naming + Send + Sync, G: Gate>(
     rt: &(impl Threads + Wait + Sync),
     alloc: Global,
     engine: &Engine<W, J, G>,
-    pass: &mut Pass<ShardLaw<W>, J>,
+    pass: &mut ShardPass<W, J>,
     tx: &mut Tx<W, J>,
     handshake: &Handshake,
     settings: Settings,

@@ -19,8 +19,8 @@ ghost use Rattle.follow.specs.Turns.{IsOneStep, IsOneStepWith, IsNoStep, IsNoSte
 ghost use Rattle.follow.specs.inner.NextEntries.{IsNextForTarget, IsOneLook, NoneLeft, IsNextEntry, IsTakeable, HasTaken};
 
 use crate::workflow_shard::WorkflowShard;
-use journal::{Naming, Pass};
-use shard::{ShardLaw, ShardState, World};
+use journal::Naming;
+use shard::{ShardPass, ShardState, World};
 use shard_run::{Copied, Follow, Mode, ShardRecord};
 use std::alloc::Global;
 use std::sync::Wait;
@@ -118,7 +118,7 @@ fn next_for<W: World, J: Naming>(
 fn try_next_for<W: World, J: Naming>(
     state: &mut ShardState<W, J>,
     alloc: Global,
-    pass: &mut Pass<ShardLaw<W>, J>,
+    pass: &mut ShardPass<W, J>,
     schema: &VSchema,
     source: &ShardRecord,
     target: &ShardState<W, J>,
@@ -146,7 +146,7 @@ fn try_next_for<W: World, J: Naming>(
 fn next_from<W: World, J: Naming>(
     rt: &impl Wait,
     alloc: Global,
-    pass: &mut Pass<ShardLaw<W>, J>,
+    pass: &mut ShardPass<W, J>,
     schema: &VSchema,
     source: &WorkflowShard<W, J>,
     target: &ShardState<W, J>,
@@ -181,7 +181,7 @@ fn next_from<W: World, J: Naming>(
 fn follow_entry<W: World, J: Naming>(
     state: &mut ShardState<W, J>,
     alloc: Global,
-    pass: &mut Pass<ShardLaw<W>, J>,
+    pass: &mut ShardPass<W, J>,
     schema: &VSchema,
     entry: &Follow,
 ) -> Result<(), Refusal>
@@ -204,7 +204,7 @@ fn follow_entry<W: World, J: Naming>(
 fn copy_rows<W: World, J: Naming>(
     state: &mut ShardState<W, J>,
     alloc: Global,
-    pass: &mut Pass<ShardLaw<W>, J>,
+    pass: &mut ShardPass<W, J>,
     rows: Copied,
 ) -> Result<(), Refusal>
     requires following { mode W.opening state.old.seen state.old.shard.slot ≡ Mode.Following }
@@ -223,7 +223,7 @@ fn copy_rows<W: World, J: Naming>(
 fn take<W: World, J: Naming>(
     state: &mut ShardState<W, J>,
     alloc: Global,
-    pass: &mut Pass<ShardLaw<W>, J>,
+    pass: &mut ShardPass<W, J>,
     schema: &VSchema,
     given: NextEntry,
 ) -> Result<Step, Refusal>
@@ -256,7 +256,7 @@ fn take<W: World, J: Naming>(
 fn come_forward<W: World, J: Naming>(
     rt: &impl Wait,
     alloc: Global,
-    pass: &mut Pass<ShardLaw<W>, J>,
+    pass: &mut ShardPass<W, J>,
     schema: &VSchema,
     source: &WorkflowShard<W, J>,
     state: &mut ShardState<W, J>,
@@ -284,7 +284,7 @@ fn come_forward<W: World, J: Naming>(
 fn try_step<W: World, J: Naming>(
     rt: &impl Wait,
     alloc: Global,
-    pass: &mut Pass<ShardLaw<W>, J>,
+    pass: &mut ShardPass<W, J>,
     schema: &VSchema,
     source: &WorkflowShard<W, J>,
     target: &ShardRecord,
@@ -330,7 +330,7 @@ fn try_step<W: World, J: Naming>(
 pub fn bring_forward<W: World, J: Naming>(
     rt: &impl Wait,
     alloc: Global,
-    pass: &mut Pass<ShardLaw<W>, J>,
+    pass: &mut ShardPass<W, J>,
     schema: &VSchema,
     source: &WorkflowShard<W, J>,
     target: &WorkflowShard<W, J>,
@@ -369,7 +369,7 @@ pub fn bring_forward<W: World, J: Naming>(
 pub fn bring_forward_with<W: World, J: Naming>(
     rt: &impl Wait,
     alloc: Global,
-    pass: &mut Pass<ShardLaw<W>, J>,
+    pass: &mut ShardPass<W, J>,
     schema: &VSchema,
     sources: &[WorkflowShard<W, J>],
     target: &WorkflowShard<W, J>,

@@ -13,12 +13,12 @@ ghost use Rattle.reshard_create.specs.Begun.{HasBegun, IsCreateRefusal};
 
 use crate::workflow::{Stage, Workflow};
 use follow::Step;
-use journal::{Naming, Pass, ShardSeat};
+use journal::{Naming, ShardSeat};
 use keyrange::KeyRange;
 use reshard_create::{ReshardConfig, begin};
 use reshard_cutover::{ReshardFault, move_first};
 use serving::Serving;
-use shard::{Shard, ShardLaw, World};
+use shard::{Shard, ShardLaw, ShardPass, World};
 use std::alloc::Global;
 use std::sync::Wait;
 use vschema::VSchema;
@@ -88,7 +88,7 @@ impl<W: World, J: Naming> Workflow<W, J> {
         &mut self,
         rt: &impl Wait,
         alloc: Global,
-        pass: &mut Pass<ShardLaw<W>, J>,
+        pass: &mut ShardPass<W, J>,
         schema: &VSchema,
         serving: &Serving<Shard<W, J>>,
         sources: &[KeyRange],
@@ -145,7 +145,7 @@ impl<W: World, J: Naming> Workflow<W, J> {
         &mut self,
         rt: &impl Wait,
         alloc: Global,
-        pass: &mut Pass<ShardLaw<W>, J>,
+        pass: &mut ShardPass<W, J>,
         schema: &VSchema,
     ) -> Result<Step, ReshardFault>
         requires schema { schema.now ≡ W.opening.schema }

@@ -7,9 +7,9 @@ ghost use Rattle.follow.specs.Steps.{IsOnward};
 ghost use Rattle.reshard_cutover.specs.Looks.{IsOutOfUse};
 
 use crate::workflow::{Stage, Workflow};
-use journal::{Naming, Pass};
+use journal::Naming;
 use reshard_cutover::{ReshardFault, drop_all};
-use shard::{ShardLaw, World};
+use shard::{ShardPass, World};
 use std::sync::Wait;
 
 impl<W: World, J: Naming> Workflow<W, J> {
@@ -30,7 +30,7 @@ impl<W: World, J: Naming> Workflow<W, J> {
     pub fn complete(
         &mut self,
         rt: &impl Wait,
-        pass: &mut Pass<ShardLaw<W>, J>,
+        pass: &mut ShardPass<W, J>,
     ) -> Result<(), ReshardFault>
         requires legal { IsLegal (MayFollow W.opening) pass.old.seen }
         ensures was { OnOk result (self.old.stage ≡ Stage.Switched) }

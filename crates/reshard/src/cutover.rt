@@ -18,12 +18,12 @@ ghost use Rattle.reshard_cutover.specs.Looks.{HasLookedOnlyAt, HasLookedForOneCh
 
 use crate::workflow::{Stage, Workflow};
 use buffer::Buffer;
-use journal::{Naming, Pass};
+use journal::Naming;
 use reshard_cutover::{
     confirm_retired, freeze, named_of_all, next_partition, note_stored, retire, serve, unfreeze_all,
 };
 use serving::Serving;
-use shard::{Shard, ShardLaw, World};
+use shard::{Shard, ShardPass, World};
 use std::alloc::Global;
 use std::sync::Wait;
 use vschema::VSchema;
@@ -76,7 +76,7 @@ impl<W: World, J: Naming> Workflow<W, J> {
     pub(crate) fn freeze_next(
         &mut self,
         rt: &impl Wait,
-        pass: &mut Pass<ShardLaw<W>, J>,
+        pass: &mut ShardPass<W, J>,
     ) -> Result<(), Refusal>
         requires begun { self.old.stage ≡ Stage.None → ⊥ }
         requires legal { IsLegal (MayFollow W.opening) pass.old.seen }
@@ -99,7 +99,7 @@ impl<W: World, J: Naming> Workflow<W, J> {
     }
 
     // Retires the next source for its targets.
-    pub(crate) fn retire_next(&mut self, rt: &impl Wait, pass: &mut Pass<ShardLaw<W>, J>)
+    pub(crate) fn retire_next(&mut self, rt: &impl Wait, pass: &mut ShardPass<W, J>)
         requires legal { IsLegal (MayFollow W.opening) pass.old.seen }
         requires some { self.old.retired < length self.old.sources }
         requires prepared { self.old.prepared ≡ true }
@@ -125,7 +125,7 @@ impl<W: World, J: Naming> Workflow<W, J> {
     pub(crate) fn serve_next(
         &mut self,
         rt: &impl Wait,
-        pass: &mut Pass<ShardLaw<W>, J>,
+        pass: &mut ShardPass<W, J>,
         schema: &VSchema,
     )
         requires schema { schema.now ≡ W.opening.schema }
@@ -154,12 +154,7 @@ impl<W: World, J: Naming> Workflow<W, J> {
     }
 
     // Each source that is frozen is thawed, and the statements that wait go on.
-    pub(crate) fn give_up(
-        &mut self,
-        rt: &impl Wait,
-        pass: &mut Pass<ShardLaw<W>, J>,
-        buffer: &Buffer,
-    )
+    pub(crate) fn give_up(&mut self, rt: &impl Wait, pass: &mut ShardPass<W, J>, buffer: &Buffer)
         requires legal { IsLegal (MayFollow W.opening) pass.old.seen }
         requires begun { self.old.stage ≡ Stage.None → ⊥ }
         requires none { self.old.retired ≡ 0 }

@@ -10,9 +10,9 @@ ghost use Rattle.reshard_cutover.specs.Looks.{HasThawed, IsServingAgain};
 
 use crate::workflow::{Stage, Workflow};
 use buffer::Buffer;
-use journal::{Naming, Pass};
+use journal::Naming;
 use reshard_cutover::{ReshardFault, TargetShard, unfreeze_all};
-use shard::{ShardLaw, World};
+use shard::{ShardPass, World};
 use std::sync::Wait;
 
 // Marks each target, so that no controller takes it up again.
@@ -58,7 +58,7 @@ impl<W: World, J: Naming> Workflow<W, J> {
     pub fn cancel(
         &mut self,
         rt: &impl Wait,
-        pass: &mut Pass<ShardLaw<W>, J>,
+        pass: &mut ShardPass<W, J>,
         buffer: &Buffer,
     ) -> Result<(), ReshardFault>
         requires legal { IsLegal (MayFollow W.opening) pass.old.seen }

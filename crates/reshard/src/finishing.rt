@@ -9,10 +9,10 @@ ghost use Rattle.reshard.specs.Cutover.{HasFinished, IsResumed, HasStoppedLater,
 use crate::cutover::CutoverStep;
 use crate::workflow::{Stage, Workflow};
 use buffer::Buffer;
-use journal::{Naming, Pass};
+use journal::Naming;
 use reshard_cutover::{ReshardFault, confirm_cutover};
 use serving::Serving;
-use shard::{Shard, ShardLaw, World};
+use shard::{Shard, ShardPass, World};
 use std::alloc::Global;
 use std::sync::Wait;
 use vschema::VSchema;
@@ -31,7 +31,7 @@ impl<W: World, J: Naming> Workflow<W, J> {
     fn finish(
         &mut self,
         rt: &impl Wait,
-        pass: &mut Pass<ShardLaw<W>, J>,
+        pass: &mut ShardPass<W, J>,
         schema: &VSchema,
         serving: &Serving<Shard<W, J>>,
         buffer: &Buffer,
@@ -59,7 +59,7 @@ impl<W: World, J: Naming> Workflow<W, J> {
         &mut self,
         rt: &impl Wait,
         alloc: Global,
-        pass: &mut Pass<ShardLaw<W>, J>,
+        pass: &mut ShardPass<W, J>,
         schema: &VSchema,
         serving: &Serving<Shard<W, J>>,
         buffer: &Buffer,
@@ -94,7 +94,7 @@ impl<W: World, J: Naming> Workflow<W, J> {
         &mut self,
         rt: &impl Wait,
         alloc: Global,
-        pass: &mut Pass<ShardLaw<W>, J>,
+        pass: &mut ShardPass<W, J>,
         schema: &VSchema,
         serving: &Serving<Shard<W, J>>,
         buffer: &Buffer,
@@ -134,7 +134,7 @@ impl<W: World, J: Naming> Workflow<W, J> {
     pub fn resume(
         &mut self,
         rt: &impl Wait,
-        pass: &mut Pass<ShardLaw<W>, J>,
+        pass: &mut ShardPass<W, J>,
         schema: &VSchema,
         serving: &Serving<Shard<W, J>>,
         buffer: &Buffer,

@@ -12,9 +12,9 @@ ghost use Rattle.reshard.specs.Cutover.{HasStopped};
 use crate::workflow::{Stage, Workflow};
 use buffer::Buffer;
 use follow::Step;
-use journal::{Naming, Pass};
+use journal::Naming;
 use reshard_cutover::{ReshardFault, TargetShard, move_first};
-use shard::{ShardLaw, ShardState, World};
+use shard::{ShardPass, ShardState, World};
 use shard_run::Mode;
 use std::alloc::Global;
 use std::sync::Wait;
@@ -52,7 +52,7 @@ fn most_followed<W: World, J: Naming>(rt: &impl Wait, targets: &[TargetShard<W, 
 fn come_level<W: World, J: Naming>(
     rt: &impl Wait,
     alloc: Global,
-    pass: &mut Pass<ShardLaw<W>, J>,
+    pass: &mut ShardPass<W, J>,
     schema: &VSchema,
     targets: &[TargetShard<W, J>],
     most: u64,
@@ -87,7 +87,7 @@ impl<W: World, J: Naming> Workflow<W, J> {
         &mut self,
         rt: &impl Wait,
         alloc: Global,
-        pass: &mut Pass<ShardLaw<W>, J>,
+        pass: &mut ShardPass<W, J>,
         schema: &VSchema,
         buffer: &Buffer,
     ) -> Result<(), ReshardFault>

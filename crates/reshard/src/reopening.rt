@@ -7,11 +7,11 @@ ghost use Rattle.reshard.specs.Reopened.{IsReopened, has_any, stage_at};
 ghost use Rattle.reshard_reopen.specs.Rebuilt.{IsReopenRefusal};
 
 use crate::workflow::{Stage, Workflow};
-use journal::{Naming, Pass};
+use journal::Naming;
 use reshard_cutover::ReshardFault;
 use reshard_reopen::{reopen_workflow, stands_on};
 use serving::{Partition, Serving, ShardReference};
-use shard::{Shard, ShardLaw, World};
+use shard::{Shard, ShardPass, World};
 use std::alloc::Global;
 use std::sync::Wait;
 
@@ -64,7 +64,7 @@ impl<W: World, J: Naming> Workflow<W, J> {
         &mut self,
         rt: &impl Wait,
         alloc: Global,
-        pass: &mut Pass<ShardLaw<W>, J>,
+        pass: &mut ShardPass<W, J>,
         serving: &Serving<Shard<W, J>>,
         sources: &[ShardReference<Shard<W, J>>],
         targets: &[ShardReference<Shard<W, J>>],

@@ -10,10 +10,10 @@ use crate::cutover::CutoverStep;
 use crate::workflow::{Stage, Workflow};
 use buffer::Buffer;
 use follow::Step;
-use journal::{Naming, Pass};
+use journal::Naming;
 use reshard_cutover::{ReshardFault, all_fit, move_first};
 use serving::Serving;
-use shard::{Shard, ShardLaw, World};
+use shard::{Shard, ShardPass, World};
 use std::alloc::Global;
 use std::sync::Wait;
 use vschema::VSchema;
@@ -24,7 +24,7 @@ impl<W: World, J: Naming> Workflow<W, J> {
     pub(crate) fn switch_after(
         &mut self,
         rt: &impl Wait,
-        pass: &mut Pass<ShardLaw<W>, J>,
+        pass: &mut ShardPass<W, J>,
         schema: &VSchema,
         serving: &Serving<Shard<W, J>>,
         buffer: &Buffer,
@@ -61,7 +61,7 @@ impl<W: World, J: Naming> Workflow<W, J> {
         &mut self,
         rt: &impl Wait,
         alloc: Global,
-        pass: &mut Pass<ShardLaw<W>, J>,
+        pass: &mut ShardPass<W, J>,
         schema: &VSchema,
     ) -> Result<Option<CutoverStep>, Refusal>
         requires begun { self.old.stage ≡ Stage.None → ⊥ }
@@ -98,7 +98,7 @@ impl<W: World, J: Naming> Workflow<W, J> {
         &mut self,
         rt: &impl Wait,
         alloc: Global,
-        pass: &mut Pass<ShardLaw<W>, J>,
+        pass: &mut ShardPass<W, J>,
         schema: &VSchema,
         serving: &Serving<Shard<W, J>>,
         buffer: &Buffer,
@@ -154,7 +154,7 @@ impl<W: World, J: Naming> Workflow<W, J> {
         &mut self,
         rt: &impl Wait,
         alloc: Global,
-        pass: &mut Pass<ShardLaw<W>, J>,
+        pass: &mut ShardPass<W, J>,
         schema: &VSchema,
         serving: &Serving<Shard<W, J>>,
         buffer: &Buffer,

@@ -9,9 +9,9 @@ ghost use Rattle.follow.specs.Steps.{IsOnward};
 ghost use Rattle.reshard_create.specs.Begun.{IsNotFollowing};
 ghost use Rattle.reshard_create.specs.inner.Created.{IsSighted, HasSeen};
 
-use journal::{Naming, Pass};
+use journal::Naming;
 use serving::ShardReference;
-use shard::{Shard, ShardLaw, ShardState, World};
+use shard::{Shard, ShardPass, ShardState, World};
 use shard_run::Mode;
 use std::sync::Wait;
 use vschema::Place;
@@ -29,7 +29,7 @@ fn follows<W: World, J: Naming>(state: &ShardState<W, J>) -> bool
 // One look: whether it is the shard of the slot and place, and doesn't follow.
 pub(crate) fn stands<W: World, J: Naming>(
     state: &mut ShardState<W, J>,
-    pass: &mut Pass<ShardLaw<W>, J>,
+    pass: &mut ShardPass<W, J>,
     slot: usize,
     place: &Place,
 ) -> bool
@@ -48,7 +48,7 @@ pub(crate) fn stands<W: World, J: Naming>(
 // Whether the shard of a part stands there, asked under its lock.
 fn stands_once<W: World, J: Naming>(
     rt: &impl Wait,
-    pass: &mut Pass<ShardLaw<W>, J>,
+    pass: &mut ShardPass<W, J>,
     part: &ShardReference<Shard<W, J>>,
     slot: usize,
     place: &Place,
@@ -63,7 +63,7 @@ fn stands_once<W: World, J: Naming>(
 // Looks at the shard of the part, until it is found there and doesn't follow. Takes no memory.
 fn look_at<W: World, J: Naming>(
     rt: &impl Wait,
-    pass: &mut Pass<ShardLaw<W>, J>,
+    pass: &mut ShardPass<W, J>,
     keyspace: usize,
     part: &ShardReference<Shard<W, J>>,
 )
@@ -87,7 +87,7 @@ fn look_at<W: World, J: Naming>(
 // Looks at the shard of each of the parts. Takes no memory.
 pub(crate) fn look_at_each<W: World, J: Naming>(
     rt: &impl Wait,
-    pass: &mut Pass<ShardLaw<W>, J>,
+    pass: &mut ShardPass<W, J>,
     keyspace: usize,
     parts: &[ShardReference<Shard<W, J>>],
 )

@@ -18,11 +18,11 @@ use crate::looks::look_at_each;
 use crate::partition_parts::choose;
 use crate::sources::find_sources;
 use crate::targets::make_targets;
-use journal::{Naming, Pass, ShardSeat};
+use journal::{Naming, ShardSeat};
 use keyrange::KeyRange;
 use reshard_cutover::{ReshardFault, SourceShard, TargetShard};
 use serving::{Partition, ShardReference};
-use shard::{Shard, ShardLaw, World};
+use shard::{Shard, ShardLaw, ShardPass, World};
 use std::alloc::Global;
 use std::sync::Wait;
 use vschema::VSchema;
@@ -83,7 +83,7 @@ struct WorkflowSources<W: World, J: Naming> {
 fn survey<W: World, J: Naming>(
     rt: &impl Wait,
     alloc: Global,
-    pass: &mut Pass<ShardLaw<W>, J>,
+    pass: &mut ShardPass<W, J>,
     keyspace: usize,
     free: usize,
     current: &Partition<Shard<W, J>>,
@@ -122,7 +122,7 @@ fn survey<W: World, J: Naming>(
 pub fn begin<W: World, J: Naming>(
     rt: &impl Wait,
     alloc: Global,
-    pass: &mut Pass<ShardLaw<W>, J>,
+    pass: &mut ShardPass<W, J>,
     schema: &VSchema,
     free: &mut Vec<ShardSeat<ShardLaw<W>, J>>,
     config: ReshardConfig,

@@ -13,11 +13,11 @@ ghost use Rattle.reshard_create.specs.inner.Created.{AreToldApart, HasSeen};
 use crate::looks::look_at_each;
 use crate::partition_parts::{ChosenParts, any_overlap, next_ranges};
 use crate::targets::source_of;
-use journal::{Naming, Pass};
+use journal::Naming;
 use keyrange::{KeyRange, covers_once};
 use reshard_cutover::{ReshardFault, SourceShard};
 use serving::ShardReference;
-use shard::{Shard, ShardLaw, World};
+use shard::{Shard, ShardPass, World};
 use std::alloc::Global;
 use std::sync::Wait;
 use vt_value::Refusal;
@@ -26,7 +26,7 @@ use vt_value::Refusal;
 pub(crate) fn sources_of<W: World, J: Naming>(
     rt: &impl Wait,
     alloc: Global,
-    pass: &mut Pass<ShardLaw<W>, J>,
+    pass: &mut ShardPass<W, J>,
     keyspace: usize,
     parts: &[ShardReference<Shard<W, J>>],
 ) -> Result<Option<Vec<SourceShard<W, J>>>, Refusal>
@@ -75,7 +75,7 @@ pub(crate) fn test_targets<W: World, J: Naming>(
 pub(crate) fn find_sources<W: World, J: Naming>(
     rt: &impl Wait,
     alloc: Global,
-    pass: &mut Pass<ShardLaw<W>, J>,
+    pass: &mut ShardPass<W, J>,
     keyspace: usize,
     chosen: &ChosenParts<Shard<W, J>>,
     sources: &[KeyRange],

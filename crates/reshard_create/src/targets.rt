@@ -18,11 +18,11 @@ use crate::config::ReshardConfig;
 use crate::looks::stands;
 use crate::seats_back::{give_back, put, seat_back};
 use follow::WorkflowShard;
-use journal::{Naming, Pass, ShardSeat};
+use journal::{Naming, ShardSeat};
 use keyrange::KeyRange;
 use reshard_cutover::{SourceShard, TargetShard, serves};
 use serving::ShardReference;
-use shard::{Limits, Shard, ShardLaw, ShardState, Store, World};
+use shard::{Limits, Shard, ShardLaw, ShardPass, ShardState, Store, World};
 use shard_run::Mode;
 use std::alloc::Global;
 use std::sync::{Arc, Wait};
@@ -74,7 +74,7 @@ pub fn copy_member<W: World, J: Naming>(
 fn try_source<W: World, J: Naming>(
     state: &mut ShardState<W, J>,
     alloc: Global,
-    pass: &mut Pass<ShardLaw<W>, J>,
+    pass: &mut ShardPass<W, J>,
     slot: usize,
     place: &Place,
 ) -> Result<SourceState, Refusal>
@@ -97,7 +97,7 @@ fn try_source<W: World, J: Naming>(
 fn look_once<W: World, J: Naming>(
     rt: &impl Wait,
     alloc: Global,
-    pass: &mut Pass<ShardLaw<W>, J>,
+    pass: &mut ShardPass<W, J>,
     part: &ShardReference<Shard<W, J>>,
     slot: usize,
     place: &Place,
@@ -125,7 +125,7 @@ fn member_of<W: World, J: Naming>(
 pub(crate) fn source_of<W: World, J: Naming>(
     rt: &impl Wait,
     alloc: Global,
-    pass: &mut Pass<ShardLaw<W>, J>,
+    pass: &mut ShardPass<W, J>,
     keyspace: usize,
     part: &ShardReference<Shard<W, J>>,
 ) -> Result<Option<WorkflowShard<W, J>>, Refusal>

@@ -12,8 +12,8 @@ ghost use Rattle.reshard_cutover.specs.Looks.{HasLookedOnlyAt, IsGone, HasBegunT
 use crate::steps::{SourceShard, is_source_of, serves};
 use crate::target::TargetShard;
 use follow::WorkflowShard;
-use journal::{Naming, Pass};
-use shard::{ShardLaw, ShardState, World};
+use journal::Naming;
+use shard::{ShardPass, ShardState, World};
 use shard_run::ShardRecord;
 use std::sync::Wait;
 
@@ -22,7 +22,7 @@ fn try_retired_for<W: World, J: Naming>(
     state: &mut ShardState<W, J>,
     source: &SourceShard<W, J>,
     target: &ShardRecord,
-    pass: &mut Pass<ShardLaw<W>, J>,
+    pass: &mut ShardPass<W, J>,
 ) -> bool
     requires legal { IsLegal (MayFollow W.opening) pass.old.seen }
     ensures retired { result ≡ true → (targets : List ShardRecord) × IsRetired pass.new.seen (source.now.member.which, source.now.stored) targets × Contains targets target.now }
@@ -41,7 +41,7 @@ fn confirm<W: World, J: Naming>(
     rt: &impl Wait,
     source: &SourceShard<W, J>,
     target: &ShardRecord,
-    pass: &mut Pass<ShardLaw<W>, J>,
+    pass: &mut ShardPass<W, J>,
 )
     requires legal { IsLegal (MayFollow W.opening) pass.old.seen }
     ensures retired { (targets : List ShardRecord) × IsRetired pass.new.seen (source.now.member.which, source.now.stored) targets × Contains targets target.now }
@@ -61,7 +61,7 @@ fn confirm_own<W: World, J: Naming>(
     rt: &impl Wait,
     source: &SourceShard<W, J>,
     target: &ShardRecord,
-    pass: &mut Pass<ShardLaw<W>, J>,
+    pass: &mut ShardPass<W, J>,
 )
     requires legal { IsLegal (MayFollow W.opening) pass.old.seen }
     ensures retired { IsTrue (has_source source.now.member.which.slot target.now)
@@ -79,7 +79,7 @@ pub fn confirm_retired<W: World, J: Naming>(
     rt: &impl Wait,
     sources: &[SourceShard<W, J>],
     target: &ShardRecord,
-    pass: &mut Pass<ShardLaw<W>, J>,
+    pass: &mut ShardPass<W, J>,
 )
     requires opens { IsOpening W.opening }
     requires legal { IsLegal (MayFollow W.opening) pass.old.seen }
@@ -96,7 +96,7 @@ pub fn confirm_retired<W: World, J: Naming>(
 fn try_gone<W: World, J: Naming>(
     state: &mut ShardState<W, J>,
     which: &ShardRecord,
-    pass: &mut Pass<ShardLaw<W>, J>,
+    pass: &mut ShardPass<W, J>,
 ) -> bool
     requires legal { IsLegal (MayFollow W.opening) pass.old.seen }
     ensures gone { result ≡ true → IsGone pass.new.seen which.now }
@@ -110,7 +110,7 @@ fn try_gone<W: World, J: Naming>(
 fn confirm_gone<W: World, J: Naming>(
     rt: &impl Wait,
     member: &WorkflowShard<W, J>,
-    pass: &mut Pass<ShardLaw<W>, J>,
+    pass: &mut ShardPass<W, J>,
 )
     requires legal { IsLegal (MayFollow W.opening) pass.old.seen }
     ensures gone { IsGone pass.new.seen member.now.which }
@@ -128,7 +128,7 @@ fn confirm_gone<W: World, J: Naming>(
 fn try_served<W: World, J: Naming>(
     state: &mut ShardState<W, J>,
     which: &ShardRecord,
-    pass: &mut Pass<ShardLaw<W>, J>,
+    pass: &mut ShardPass<W, J>,
 ) -> bool
     requires opens { IsOpening W.opening }
     requires legal { IsLegal (MayFollow W.opening) pass.old.seen }
@@ -149,7 +149,7 @@ fn try_served<W: World, J: Naming>(
 fn confirm_served<W: World, J: Naming>(
     rt: &impl Wait,
     member: &WorkflowShard<W, J>,
-    pass: &mut Pass<ShardLaw<W>, J>,
+    pass: &mut ShardPass<W, J>,
 )
     requires opens { IsOpening W.opening }
     requires legal { IsLegal (MayFollow W.opening) pass.old.seen }
@@ -167,7 +167,7 @@ fn confirm_served<W: World, J: Naming>(
 fn all_gone<W: World, J: Naming>(
     rt: &impl Wait,
     sources: &[SourceShard<W, J>],
-    pass: &mut Pass<ShardLaw<W>, J>,
+    pass: &mut ShardPass<W, J>,
 )
     requires legal { IsLegal (MayFollow W.opening) pass.old.seen }
     ensures gone { AllByRecursion (IsGone pass.new.seen) (map (λ s. s.member.which) sources.now) }
@@ -181,7 +181,7 @@ fn all_gone<W: World, J: Naming>(
 fn all_served<W: World, J: Naming>(
     rt: &impl Wait,
     targets: &[TargetShard<W, J>],
-    pass: &mut Pass<ShardLaw<W>, J>,
+    pass: &mut ShardPass<W, J>,
 )
     requires opens { IsOpening W.opening }
     requires legal { IsLegal (MayFollow W.opening) pass.old.seen }
@@ -198,7 +198,7 @@ pub fn confirm_cutover<W: World, J: Naming>(
     rt: &impl Wait,
     sources: &[SourceShard<W, J>],
     targets: &[TargetShard<W, J>],
-    pass: &mut Pass<ShardLaw<W>, J>,
+    pass: &mut ShardPass<W, J>,
 )
     requires opens { IsOpening W.opening }
     requires legal { IsLegal (MayFollow W.opening) pass.old.seen }

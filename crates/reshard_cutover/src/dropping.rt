@@ -9,8 +9,8 @@ ghost use Rattle.reshard_cutover.specs.Looks.{IsOutOfUse};
 
 use crate::steps::SourceShard;
 use follow::WorkflowShard;
-use journal::{Naming, Pass};
-use shard::{ShardLaw, ShardState, World};
+use journal::Naming;
+use shard::{ShardPass, ShardState, World};
 use shard_run::{Mode, ShardRecord};
 use std::sync::Wait;
 
@@ -18,7 +18,7 @@ use std::sync::Wait;
 fn try_drop<W: World, J: Naming>(
     state: &mut ShardState<W, J>,
     which: &ShardRecord,
-    pass: &mut Pass<ShardLaw<W>, J>,
+    pass: &mut ShardPass<W, J>,
 ) -> bool
     requires legal { IsLegal (MayFollow W.opening) pass.old.seen }
     ensures out { result ≡ true → mode W.opening pass.new.seen which.now.slot ≡ Mode.Retired }
@@ -42,7 +42,7 @@ fn try_drop<W: World, J: Naming>(
 fn drop_rows<W: World, J: Naming>(
     rt: &impl Wait,
     member: &WorkflowShard<W, J>,
-    pass: &mut Pass<ShardLaw<W>, J>,
+    pass: &mut ShardPass<W, J>,
 )
     requires legal { IsLegal (MayFollow W.opening) pass.old.seen }
     ensures out { mode W.opening pass.new.seen member.now.which.slot ≡ Mode.Retired }
@@ -60,7 +60,7 @@ fn drop_rows<W: World, J: Naming>(
 pub fn drop_all<W: World, J: Naming>(
     rt: &impl Wait,
     sources: &[SourceShard<W, J>],
-    pass: &mut Pass<ShardLaw<W>, J>,
+    pass: &mut ShardPass<W, J>,
 )
     requires legal { IsLegal (MayFollow W.opening) pass.old.seen }
     ensures out { AllByRecursion (λ s. IsOutOfUse W.opening s pass.old pass.new) (map (λ s. s.member.which) sources.now) }

@@ -13,8 +13,8 @@ ghost use Rattle.reshard_cutover.specs.Looks.{HasLookedOnlyAt, IsOverfull, IsWit
 use crate::steps::follows;
 use crate::target::TargetShard;
 use follow::WorkflowShard;
-use journal::{Naming, Pass};
-use shard::{ShardLaw, ShardState, World};
+use journal::Naming;
+use shard::{ShardPass, ShardState, World};
 use shard_run::ShardRecord;
 use std::sync::Wait;
 
@@ -22,7 +22,7 @@ use std::sync::Wait;
 fn try_fits<W: World, J: Naming>(
     state: &mut ShardState<W, J>,
     which: &ShardRecord,
-    pass: &mut Pass<ShardLaw<W>, J>,
+    pass: &mut ShardPass<W, J>,
 ) -> Option<bool>
     requires legal { IsLegal (MayFollow W.opening) pass.old.seen }
     ensures many { result ≡ Some false → W.limits.rows < row_count (shard_rows W.opening pass.new.seen which.now) }
@@ -45,7 +45,7 @@ fn try_fits<W: World, J: Naming>(
 fn fits<W: World, J: Naming>(
     rt: &impl Wait,
     member: &WorkflowShard<W, J>,
-    pass: &mut Pass<ShardLaw<W>, J>,
+    pass: &mut ShardPass<W, J>,
 ) -> bool
     requires legal { IsLegal (MayFollow W.opening) pass.old.seen }
     ensures many { result ≡ false → W.limits.rows < row_count (shard_rows W.opening pass.new.seen member.now.which) }
@@ -67,7 +67,7 @@ fn fits<W: World, J: Naming>(
 pub fn all_fit<W: World, J: Naming>(
     rt: &impl Wait,
     targets: &[TargetShard<W, J>],
-    pass: &mut Pass<ShardLaw<W>, J>,
+    pass: &mut ShardPass<W, J>,
 ) -> bool
     requires legal { IsLegal (MayFollow W.opening) pass.old.seen }
     ensures many { result ≡ false → (t : TargetWithSources) × Contains (map (λ t. (t.member.which, map (λ s. s.which) t.sources.items)) targets.now) t × IsOverfull W.opening W.limits t.0 pass.old pass.new }

@@ -11,8 +11,8 @@ ghost use Rattle.reshard_cutover.specs.FirstMoves.{HasMovedFirst, IsMoveRefusal,
 use crate::fault::ReshardFault;
 use crate::target::TargetShard;
 use follow::{Step, bring_forward_with};
-use journal::{Naming, Pass};
-use shard::{ShardLaw, World};
+use journal::Naming;
+use shard::{ShardPass, World};
 use std::alloc::Global;
 use std::sync::Wait;
 use vschema::VSchema;
@@ -22,7 +22,7 @@ use vt_value::Refusal;
 pub fn move_first<W: World, J: Naming>(
     rt: &impl Wait,
     alloc: Global,
-    pass: &mut Pass<ShardLaw<W>, J>,
+    pass: &mut ShardPass<W, J>,
     schema: &VSchema,
     targets: &[TargetShard<W, J>],
 ) -> Result<Step, Refusal>

@@ -13,8 +13,8 @@ ghost use Rattle.reshard_cutover.specs.Steps.{has_source, AreRetired, IsTargetOf
 ghost use Rattle.reshard_cutover.specs.inner.Steps.{IsUpTo, AreFollowed};
 
 use follow::WorkflowShard;
-use journal::{Naming, Pass};
-use shard::{MOST_ENTRIES, Shard, ShardLaw, ShardState, World};
+use journal::Naming;
+use shard::{MOST_ENTRIES, Shard, ShardPass, ShardState, World};
 use shard_run::Mode;
 use std::sync::Wait;
 use vschema::VSchema;
@@ -42,7 +42,7 @@ pub fn serves<W: World, J: Naming>(state: &ShardState<W, J>) -> bool
 fn try_freeze<W: World, J: Naming>(
     state: &mut ShardState<W, J>,
     which: &shard_run::ShardRecord,
-    pass: &mut Pass<ShardLaw<W>, J>,
+    pass: &mut ShardPass<W, J>,
 ) -> Result<Option<u64>, Refusal>
     requires legal { IsLegal (MayFollow W.opening) pass.old.seen }
     ensures ok { IfOk result (λ r. IfSome r (λ stored. HasStepped W.opening which.now Event.Freeze pass.old pass.new
@@ -79,7 +79,7 @@ pub fn freeze<W: World, J: Naming>(
     rt: &impl Wait,
     shard: &Shard<W, J>,
     which: &shard_run::ShardRecord,
-    pass: &mut Pass<ShardLaw<W>, J>,
+    pass: &mut ShardPass<W, J>,
 ) -> Result<u64, Refusal>
     requires legal { IsLegal (MayFollow W.opening) pass.old.seen }
     ensures ok { OnOk result (HasStepped W.opening which.now Event.Freeze pass.old pass.new) }
@@ -108,7 +108,7 @@ fn is_frozen<W: World, J: Naming>(state: &ShardState<W, J>) -> bool
 fn try_thaw<W: World, J: Naming>(
     state: &mut ShardState<W, J>,
     which: &shard_run::ShardRecord,
-    pass: &mut Pass<ShardLaw<W>, J>,
+    pass: &mut ShardPass<W, J>,
 ) -> bool
     requires legal { IsLegal (MayFollow W.opening) pass.old.seen }
     ensures thawed { result ≡ true → HasStepped W.opening which.now Event.Thaw pass.old pass.new }
@@ -130,7 +130,7 @@ pub fn thaw<W: World, J: Naming>(
     rt: &impl Wait,
     shard: &Shard<W, J>,
     which: &shard_run::ShardRecord,
-    pass: &mut Pass<ShardLaw<W>, J>,
+    pass: &mut ShardPass<W, J>,
 )
     requires legal { IsLegal (MayFollow W.opening) pass.old.seen }
     ensures { HasStepped W.opening which.now Event.Thaw pass.old pass.new }
@@ -147,7 +147,7 @@ pub fn thaw<W: World, J: Naming>(
 fn try_retire<W: World, J: Naming>(
     state: &mut ShardState<W, J>,
     which: &shard_run::ShardRecord,
-    pass: &mut Pass<ShardLaw<W>, J>,
+    pass: &mut ShardPass<W, J>,
     targets: Items<shard_run::ShardRecord>,
     stored: u64,
 ) -> Result<(), Items<shard_run::ShardRecord>>
@@ -178,7 +178,7 @@ pub fn retire<W: World, J: Naming>(
     rt: &impl Wait,
     shard: &Shard<W, J>,
     which: &shard_run::ShardRecord,
-    pass: &mut Pass<ShardLaw<W>, J>,
+    pass: &mut ShardPass<W, J>,
     targets: Items<shard_run::ShardRecord>,
     stored: u64,
 )
@@ -272,7 +272,7 @@ fn is_level<W: World, J: Naming>(
 fn try_serve<W: World, J: Naming>(
     state: &mut ShardState<W, J>,
     target: &shard_run::ShardRecord,
-    pass: &mut Pass<ShardLaw<W>, J>,
+    pass: &mut ShardPass<W, J>,
     schema: &VSchema,
     sources: &[SourceShard<W, J>],
 ) -> bool
@@ -302,7 +302,7 @@ fn try_serve<W: World, J: Naming>(
 pub fn serve<W: World, J: Naming>(
     rt: &impl Wait,
     target: &WorkflowShard<W, J>,
-    pass: &mut Pass<ShardLaw<W>, J>,
+    pass: &mut ShardPass<W, J>,
     schema: &VSchema,
     sources: &[SourceShard<W, J>],
 )

@@ -10,8 +10,8 @@ ghost use Rattle.reshard_cutover.specs.Looks.{HasLookedOnlyAt, HasThawed, IsServ
 
 use crate::steps::SourceShard;
 use follow::WorkflowShard;
-use journal::{Naming, Pass};
-use shard::{ShardLaw, ShardState, World};
+use journal::Naming;
+use shard::{ShardPass, ShardState, World};
 use shard_run::{Mode, ShardRecord};
 use std::sync::Wait;
 
@@ -19,7 +19,7 @@ use std::sync::Wait;
 fn try_unfreeze<W: World, J: Naming>(
     state: &mut ShardState<W, J>,
     which: &ShardRecord,
-    pass: &mut Pass<ShardLaw<W>, J>,
+    pass: &mut ShardPass<W, J>,
 ) -> bool
     requires legal { IsLegal (MayFollow W.opening) pass.old.seen }
     ensures serves { result ≡ true → mode W.opening pass.new.seen which.now.slot ≡ Mode.Serving }
@@ -45,7 +45,7 @@ fn try_unfreeze<W: World, J: Naming>(
 fn unfreeze<W: World, J: Naming>(
     rt: &impl Wait,
     member: &WorkflowShard<W, J>,
-    pass: &mut Pass<ShardLaw<W>, J>,
+    pass: &mut ShardPass<W, J>,
 )
     requires legal { IsLegal (MayFollow W.opening) pass.old.seen }
     ensures thawed { HasThawed W.opening member.now.which pass.old pass.new }
@@ -66,7 +66,7 @@ fn unfreeze<W: World, J: Naming>(
 pub fn unfreeze_all<W: World, J: Naming>(
     rt: &impl Wait,
     sources: &[SourceShard<W, J>],
-    pass: &mut Pass<ShardLaw<W>, J>,
+    pass: &mut ShardPass<W, J>,
 )
     requires legal { IsLegal (MayFollow W.opening) pass.old.seen }
     ensures serve { AllByRecursion (λ s. IsServingAgain W.opening s pass.old pass.new) (map (λ s. s.member.which) sources.now) }

@@ -10,10 +10,10 @@ ghost use Rattle.reshard_reopen.specs.Rebuilt.{IsFound, AreFound};
 ghost use Rattle.reshard_reopen.specs.inner.Snapshots.{IsSnapshot};
 
 use follow::WorkflowShard;
-use journal::{Naming, Pass};
+use journal::Naming;
 use reshard_create::copy_shard;
 use serving::ShardReference;
-use shard::{Shard, ShardLaw, ShardState, World};
+use shard::{Shard, ShardPass, ShardState, World};
 use shard_run::Mode;
 use std::alloc::Global;
 use std::sync::{Arc, Wait};
@@ -85,7 +85,7 @@ fn copy_shards(
 fn look_at<W: World, J: Naming>(
     state: &mut ShardState<W, J>,
     alloc: Global,
-    pass: &mut Pass<ShardLaw<W>, J>,
+    pass: &mut ShardPass<W, J>,
     slot: usize,
     place: &Place,
 ) -> Result<Option<ShardSnapshot>, Refusal>
@@ -114,7 +114,7 @@ fn look_at<W: World, J: Naming>(
 fn look_locked<W: World, J: Naming>(
     rt: &impl Wait,
     alloc: Global,
-    pass: &mut Pass<ShardLaw<W>, J>,
+    pass: &mut ShardPass<W, J>,
     part: &ShardReference<Shard<W, J>>,
     slot: usize,
     place: &Place,
@@ -160,7 +160,7 @@ fn found_of<W: World, J: Naming>(
 fn find<W: World, J: Naming>(
     rt: &impl Wait,
     alloc: Global,
-    pass: &mut Pass<ShardLaw<W>, J>,
+    pass: &mut ShardPass<W, J>,
     part: &ShardReference<Shard<W, J>>,
 ) -> Result<FoundShard<W, J>, Refusal>
     requires legal { IsLegal (MayFollow W.opening) pass.old.seen }
@@ -188,7 +188,7 @@ fn find<W: World, J: Naming>(
 pub(crate) fn find_all<W: World, J: Naming>(
     rt: &impl Wait,
     alloc: Global,
-    pass: &mut Pass<ShardLaw<W>, J>,
+    pass: &mut ShardPass<W, J>,
     parts: &[ShardReference<Shard<W, J>>],
 ) -> Result<Vec<FoundShard<W, J>>, Refusal>
     requires legal { IsLegal (MayFollow W.opening) pass.old.seen }

@@ -11,10 +11,10 @@ ghost use Rattle.reshard_reopen.specs.inner.Snapshots.{IsBoth};
 use crate::cutover_progress::CutoverProgress;
 use crate::found_shards::{FoundShard, any_dropped, any_given_up, find_all};
 use crate::rebuild::{RebuiltWorkflow, rebuild_workflow};
-use journal::{Naming, Pass};
+use journal::Naming;
 use reshard_cutover::{ReshardFault, SourceShard, TargetShard, named_of_all, next_partition};
 use serving::{Partition, ShardReference};
-use shard::{Shard, ShardLaw, World};
+use shard::{Shard, ShardPass, World};
 use std::alloc::Global;
 use std::sync::Wait;
 use vt_value::{Items, Refusal};
@@ -29,7 +29,7 @@ struct FoundShards<W: World, J: Naming> {
 fn find_both<W: World, J: Naming>(
     rt: &impl Wait,
     alloc: Global,
-    pass: &mut Pass<ShardLaw<W>, J>,
+    pass: &mut ShardPass<W, J>,
     from: &[ShardReference<Shard<W, J>>],
     into: &[ShardReference<Shard<W, J>>],
 ) -> Result<FoundShards<W, J>, Refusal>
@@ -59,7 +59,7 @@ fn is_over<W: World, J: Naming>(progress: CutoverProgress, both: &FoundShards<W,
 fn find_again<W: World, J: Naming>(
     rt: &impl Wait,
     alloc: Global,
-    pass: &mut Pass<ShardLaw<W>, J>,
+    pass: &mut ShardPass<W, J>,
     keyspace: usize,
     parts: &[ShardReference<Shard<W, J>>],
     from: &[ShardReference<Shard<W, J>>],
@@ -145,7 +145,7 @@ pub struct ReopenedWorkflow<W: World, J: Naming> {
 pub fn reopen_workflow<W: World, J: Naming>(
     rt: &impl Wait,
     alloc: Global,
-    pass: &mut Pass<ShardLaw<W>, J>,
+    pass: &mut ShardPass<W, J>,
     keyspace: usize,
     parts: &[ShardReference<Shard<W, J>>],
     from: &[ShardReference<Shard<W, J>>],

@@ -14,11 +14,11 @@ ghost use Rattle.shard_calls.specs.Pendings.{IsOf};
 ghost use Rattle.shard_calls.specs.inner.InTransactions.{kept_by, NeedsNoSeat, IsSeatOf, NeedsOther, GoesOnIn, IsRefusedStep};
 
 use crate::engine::Engine;
-use journal::{Naming, Pass};
+use journal::Naming;
 use operators::ShownRows;
 use planner::{Route, route_of, write_route};
 use serving::Partition;
-use shard::{Pending, Shard, ShardLaw, World, written_table};
+use shard::{Pending, Shard, ShardPass, World, written_table};
 use shard_calls::{
     Answer, Bound, Gate, Reply, Selected, ShardRead, counted, look_at_each, only_needed, read_at,
     read_first, read_nothing,
@@ -97,7 +97,7 @@ impl<W: World + Send + Sync, J: Naming + Send + Sync, G: Gate> Engine<W, J, G> {
         &self,
         rt: &impl Wait,
         alloc: Global,
-        pass: &mut Pass<ShardLaw<W>, J>,
+        pass: &mut ShardPass<W, J>,
         bound: &mut Option<Bound<W, J>>,
         pending: &mut Pending,
         query: &Narrowed,
@@ -149,7 +149,7 @@ impl<W: World + Send + Sync, J: Naming + Send + Sync, G: Gate> Engine<W, J, G> {
         &self,
         rt: &impl Wait,
         alloc: Global,
-        pass: &mut Pass<ShardLaw<W>, J>,
+        pass: &mut ShardPass<W, J>,
         bound: &mut Option<Bound<W, J>>,
         pending: &mut Pending,
         query: &Narrowed,
@@ -182,7 +182,7 @@ impl<W: World + Send + Sync, J: Naming + Send + Sync, G: Gate> Engine<W, J, G> {
         &self,
         rt: &impl Wait,
         alloc: Global,
-        pass: &mut Pass<ShardLaw<W>, J>,
+        pass: &mut ShardPass<W, J>,
         bound: &mut Option<Bound<W, J>>,
         pending: &mut Pending,
         query: Query,
@@ -230,7 +230,7 @@ impl<W: World + Send + Sync, J: Naming + Send + Sync, G: Gate> Engine<W, J, G> {
         &self,
         rt: &impl Wait,
         alloc: Global,
-        pass: &mut Pass<ShardLaw<W>, J>,
+        pass: &mut ShardPass<W, J>,
         bound: &mut Option<Bound<W, J>>,
         pending: &mut Pending,
         statement: Typed,

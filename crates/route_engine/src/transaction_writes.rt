@@ -11,9 +11,9 @@ ghost use Rattle.shard_calls.specs.Pendings.{IsOf};
 ghost use Rattle.shard_calls.specs.inner.InTransactions.{GoesOnIn, IsRefusedStep};
 
 use crate::engine::Engine;
-use journal::{Naming, Pass};
+use journal::Naming;
 use planner::{Route, write_route};
-use shard::{Pending, ShardLaw, World, written_table};
+use shard::{Pending, ShardPass, World, written_table};
 use shard_calls::{
     Answer, Bound, Gate, Reply, commit_at, counted, look_at_each, write_at, write_first,
 };
@@ -28,7 +28,7 @@ impl<W: World + Send + Sync, J: Naming + Send + Sync, G: Gate> Engine<W, J, G> {
         &self,
         rt: &impl Wait,
         alloc: Global,
-        pass: &mut Pass<ShardLaw<W>, J>,
+        pass: &mut ShardPass<W, J>,
         bound: &mut Option<Bound<W, J>>,
         pending: &mut Pending,
         write: Write,
@@ -90,7 +90,7 @@ impl<W: World + Send + Sync, J: Naming + Send + Sync, G: Gate> Engine<W, J, G> {
         &self,
         rt: &impl Wait,
         alloc: Global,
-        pass: &mut Pass<ShardLaw<W>, J>,
+        pass: &mut ShardPass<W, J>,
         bound: &mut Option<Bound<W, J>>,
         pending: &mut Pending,
         write: Write,
@@ -128,7 +128,7 @@ impl<W: World + Send + Sync, J: Naming + Send + Sync, G: Gate> Engine<W, J, G> {
         &self,
         rt: &impl Wait,
         alloc: Global,
-        pass: &mut Pass<ShardLaw<W>, J>,
+        pass: &mut ShardPass<W, J>,
         bound: &Option<Bound<W, J>>,
         pending: &mut Pending,
     ) -> Result<Reply, Refusal>

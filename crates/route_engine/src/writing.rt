@@ -10,10 +10,10 @@ ghost use Rattle.shard_calls.specs.Answers.{HasWritten, MayWriteRefuse};
 ghost use Rattle.shard_calls.specs.inner.Scatter.{tried, IsTried};
 
 use crate::engine::Engine;
-use journal::{Naming, Pass};
+use journal::Naming;
 use planner::{Route, write_route};
 use serving::Partition;
-use shard::{CommitOutcome, Shard, ShardLaw, World, written_table};
+use shard::{CommitOutcome, Shard, ShardPass, World, written_table};
 use shard_calls::{Answer, Gate, Reply, counted, look_at_each, only_needed, shard_of};
 use std::alloc::Global;
 use std::sync::Wait;
@@ -38,7 +38,7 @@ impl<W: World + Send + Sync, J: Naming + Send + Sync, G: Gate> Engine<W, J, G> {
         &self,
         rt: &impl Wait,
         alloc: Global,
-        pass: &mut Pass<ShardLaw<W>, J>,
+        pass: &mut ShardPass<W, J>,
         partition: &Partition<Shard<W, J>>,
         table: &Table,
         route: &Route,
@@ -79,7 +79,7 @@ impl<W: World + Send + Sync, J: Naming + Send + Sync, G: Gate> Engine<W, J, G> {
         &self,
         rt: &impl Wait,
         alloc: Global,
-        pass: &mut Pass<ShardLaw<W>, J>,
+        pass: &mut ShardPass<W, J>,
         table: &Table,
         route: &Route,
         write: Write,
@@ -116,7 +116,7 @@ impl<W: World + Send + Sync, J: Naming + Send + Sync, G: Gate> Engine<W, J, G> {
         &self,
         rt: &impl Wait,
         alloc: Global,
-        pass: &mut Pass<ShardLaw<W>, J>,
+        pass: &mut ShardPass<W, J>,
         write: Write,
     ) -> Result<Reply, Refusal>
         requires typed { IsTypedWrite W.opening.schema write }

@@ -11,12 +11,12 @@ ghost use Rattle.shard.specs.Seats.{seat_of};
 ghost use Rattle.opening.specs.Empty.{opening_of, FitRanges};
 
 use buffer::Buffer;
-use journal::{Naming, Opened, Opener, Pass, ShardSeat};
+use journal::{Naming, Opened, Opener, ShardSeat};
 use keyrange::KeyRange;
 use opening::opening_shards;
 use route_engine::{Engine, Gate};
 use serving::{Partition, Serving, ShardReference};
-use shard::{Limits, MOST_ROWS, MOST_STORED, Shard, ShardLaw, ShardState, Store, World};
+use shard::{Limits, MOST_ROWS, MOST_STORED, Shard, ShardLaw, ShardPass, ShardState, Store, World};
 use shard_run::Mode;
 use std::alloc::Global;
 use std::sync::Arc;
@@ -257,7 +257,7 @@ pub fn opened_seats<W: World, J: Naming>(
         Vec<Arc<Shard<W, J>, Global>>,
         Vec<Serving<Shard<W, J>>>,
         Opener<ShardLaw<W>, J>,
-        Pass<ShardLaw<W>, J>,
+        ShardPass<W, J>,
         Vec<ShardSeat<ShardLaw<W>, J>>,
     ),
     Refusal,
@@ -311,7 +311,7 @@ pub fn empty_router<W: World + Send + Sync, J: Naming + Send + Sync, G: Gate>(
     (
         Engine<W, J, G>,
         Opener<ShardLaw<W>, J>,
-        Pass<ShardLaw<W>, J>,
+        ShardPass<W, J>,
         Vec<ShardSeat<ShardLaw<W>, J>>,
     ),
     Refusal,

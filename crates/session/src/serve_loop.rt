@@ -16,9 +16,9 @@ ghost use Rattle.conversation.specs.Talk.{Talk, IsByInput};
 
 use crate::session_core::{COMMAND_LIMIT, Core, begins_with};
 use conversation::{Access, ConnectionState, End, SessionFault, Sink, Source, is_new};
-use journal::{Naming, Pass};
+use journal::Naming;
 use route_engine::{Engine, Gate};
-use shard::{ShardLaw, World};
+use shard::{ShardPass, World};
 use std::alloc::Global;
 use std::sync::Wait;
 use std::thread::Threads;
@@ -56,7 +56,7 @@ fn serve_piece<W: World + Send + Sync, J: Naming + Send + Sync, G: Gate, R: Sour
     rt: &(impl Threads + Wait + Sync),
     alloc: Global,
     engine: &Engine<W, J, G>,
-    pass: &mut Pass<ShardLaw<W>, J>,
+    pass: &mut ShardPass<W, J>,
     core: &mut Core<W, J>,
     buffer: &mut [u8],
     source: &mut R,
@@ -104,7 +104,7 @@ fn serve_on<W: World + Send + Sync, J: Naming + Send + Sync, G: Gate, R: Source,
     rt: &(impl Threads + Wait + Sync),
     alloc: Global,
     engine: &Engine<W, J, G>,
-    pass: &mut Pass<ShardLaw<W>, J>,
+    pass: &mut ShardPass<W, J>,
     core: &mut Core<W, J>,
     buffer: &mut [u8],
     source: &mut R,
@@ -157,7 +157,7 @@ fn serve_whole<W: World + Send + Sync, J: Naming + Send + Sync, G: Gate, R: Sour
     rt: &(impl Threads + Wait + Sync),
     alloc: Global,
     engine: &Engine<W, J, G>,
-    pass: &mut Pass<ShardLaw<W>, J>,
+    pass: &mut ShardPass<W, J>,
     core: Core<W, J>,
     buffer: &mut [u8],
     source: &mut R,
@@ -235,7 +235,7 @@ pub fn serve<W: World + Send + Sync, J: Naming + Send + Sync, G: Gate, R: Source
     rt: &(impl Threads + Wait + Sync),
     alloc: Global,
     engine: &Engine<W, J, G>,
-    pass: &mut Pass<ShardLaw<W>, J>,
+    pass: &mut ShardPass<W, J>,
     access: &Access,
     salt: &[u8; 20],
     id: u32,

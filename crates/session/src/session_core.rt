@@ -20,10 +20,10 @@ use conversation::{
     Access, ConnectionState, End, Handshake, Phase, REPLY_ROOM, SessionFault, Settings, Sink,
     answer_fed, end_of, is_in_commands,
 };
-use journal::{Naming, Pass};
+use journal::Naming;
 use mysql_packet::Framer;
 use route_engine::{Engine, Gate, Tx};
-use shard::{ShardLaw, World};
+use shard::{ShardPass, World};
 use std::alloc::Global;
 use std::marker::Model;
 use std::sync::Wait;
@@ -36,7 +36,7 @@ pub const COMMAND_LIMIT: usize = 1 << 20;
 /// What a piece or a conversation begins with: the engine's opening is a right one, and what the pass has seen is legal.
 pub fn begins_with<W: World + Send + Sync, J: Naming + Send + Sync, G: Gate>(
     engine: &Engine<W, J, G>,
-    pass: &Pass<ShardLaw<W>, J>,
+    pass: &ShardPass<W, J>,
 )
     ensures opens { IsOpening W.opening }
     ensures formed { is_vschema W.opening.schema ≡ true }
@@ -51,7 +51,7 @@ fn feed_parts<W: World + Send + Sync, J: Naming + Send + Sync, G: Gate, S: Sink>
     rt: &(impl Threads + Wait + Sync),
     alloc: Global,
     engine: &Engine<W, J, G>,
-    pass: &mut Pass<ShardLaw<W>, J>,
+    pass: &mut ShardPass<W, J>,
     tx: &mut Tx<W, J>,
     handshake: &Handshake,
     begin: ConnectionState,
@@ -277,7 +277,7 @@ impl<W: World + Send + Sync, J: Naming + Send + Sync> Core<W, J> {
         rt: &(impl Threads + Wait + Sync),
         alloc: Global,
         engine: &Engine<W, J, G>,
-        pass: &mut Pass<ShardLaw<W>, J>,
+        pass: &mut ShardPass<W, J>,
         piece: &[u8],
         sink: &mut S,
     ) -> Result<Option<End>, SessionFault>

@@ -19,8 +19,8 @@ ghost use Rattle.shard_contents.specs.inner.Rowed.{first_named};
 ghost use Rattle.shard.specs.inner.Reached.{IsLastCopy, is_whole};
 
 use crate::state::ShardState;
-use crate::world::{ShardLaw, World};
-use journal::{Naming, Pass};
+use crate::world::{ShardPass, World};
+use journal::Naming;
 use shard_contents::{
     NextTable, SourceProgress, TargetStep, changed_row, changed_table, copied, copy_change,
     first_named, is_reached, restricted_changes, stored_changes,
@@ -333,7 +333,7 @@ impl<W: World, J: Naming> ShardState<W, J> {
     pub fn copy(
         &mut self,
         alloc: Global,
-        pass: &mut Pass<ShardLaw<W>, J>,
+        pass: &mut ShardPass<W, J>,
         taken: Copied,
     ) -> Result<(), Refusal>
         requires following { mode W.opening self.old.seen self.old.shard.slot ≡ Mode.Following }

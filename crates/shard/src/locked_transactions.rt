@@ -11,8 +11,8 @@ ghost use Rattle.shard.specs.Seats.{place_at};
 ghost use Rattle.shard_contents.specs.Transactions.{IsClear, IsPendingOf, HasReadIn, HasWrittenIn, IsStopped, IsReadRefusal, IsWriteRefusal, HasCommittedAll, IsCommitAllRefusal};
 
 use crate::locked::Shard;
-use crate::world::{ShardLaw, World};
-use journal::{Naming, Pass};
+use crate::world::{ShardPass, World};
+use journal::Naming;
 use shard_contents::{Pending, Reading};
 use shard_run::Mode;
 use std::alloc::Global;
@@ -25,7 +25,7 @@ impl<W: World, J: Naming> Shard<W, J> {
     pub fn check(
         &self,
         rt: &impl Wait,
-        pass: &mut Pass<ShardLaw<W>, J>,
+        pass: &mut ShardPass<W, J>,
         tx: &Pending,
     ) -> Result<u64, Refusal>
         ensures check { (s : which.ShardRecord) × IsOnItsSlot W.opening pass.new.seen s × (s.slot ≡ self.now.0) × (s.place ≡ place_at self.now) × HasLooked W.opening self.now.0 pass.old pass.new
@@ -47,7 +47,7 @@ impl<W: World, J: Naming> Shard<W, J> {
         &self,
         rt: &impl Wait,
         alloc: Global,
-        pass: &mut Pass<ShardLaw<W>, J>,
+        pass: &mut ShardPass<W, J>,
         tx: &mut Pending,
         query: &Query,
     ) -> Result<Reading, Refusal>
@@ -74,7 +74,7 @@ impl<W: World, J: Naming> Shard<W, J> {
         &self,
         rt: &impl Wait,
         alloc: Global,
-        pass: &mut Pass<ShardLaw<W>, J>,
+        pass: &mut ShardPass<W, J>,
         tx: &mut Pending,
         schema: &VSchema,
         write: Write,
@@ -100,7 +100,7 @@ impl<W: World, J: Naming> Shard<W, J> {
         &self,
         rt: &impl Wait,
         alloc: Global,
-        pass: &mut Pass<ShardLaw<W>, J>,
+        pass: &mut ShardPass<W, J>,
         tx: &mut Pending,
     ) -> Result<(), Refusal>
         requires tied { (s : which.ShardRecord) → s.slot ≡ self.now.0 → s.place ≡ place_at self.now → IsPendingOf W.opening s tx.old pass.old }

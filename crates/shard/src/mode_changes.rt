@@ -8,15 +8,15 @@ ghost use Rattle.shard_law.specs.Legal.{MayRetire, MayServe};
 ghost use Rattle.shard.specs.Modes.{HasLookedTwice, HasChangedMode};
 
 use crate::state::{ShardState, append_event};
-use crate::world::{ShardLaw, World};
-use journal::{Naming, Pass};
+use crate::world::{ShardPass, World};
+use journal::Naming;
 use shard_run::{Event, Mode, ShardRecord};
 use std::mem::replace;
 use vt_value::Items;
 
 impl<W: World, J: Naming> ShardState<W, J> {
     // Two looks in a row, which the pass keeps.
-    fn look_twice(&mut self, pass: &mut Pass<ShardLaw<W>, J>)
+    fn look_twice(&mut self, pass: &mut ShardPass<W, J>)
         ensures looked { HasLookedTwice W.opening self.old.shard.slot pass.old pass.new }
         ensures seen { self.new.seen ≡ pass.new.seen }
         ensures shard { self.new.shard ≡ self.old.shard }
@@ -32,7 +32,7 @@ impl<W: World, J: Naming> ShardState<W, J> {
     // after the other, which its pass keeps: a pass that has no two looks at one shard in a row has changed no mode
     // With: ShardState::{thaw, retire, serve}
     /// From now on it takes no commits: two looks in a row, which the pass keeps, and then one entry. Takes no memory.
-    pub fn freeze(&mut self, pass: &mut Pass<ShardLaw<W>, J>)
+    pub fn freeze(&mut self, pass: &mut ShardPass<W, J>)
         requires serving { mode W.opening self.old.seen self.old.shard.slot ≡ Mode.Serving }
         requires room { length (entries_on self.old.shard.slot self.old.seen) < 2 ^ 40 }
         ensures changed { HasChangedMode W.opening self.old Event.Freeze pass.old pass.new }
@@ -51,7 +51,7 @@ impl<W: World, J: Naming> ShardState<W, J> {
     }
 
     /// From now on it takes commits again: two looks in a row, and one entry. Takes no memory.
-    pub fn thaw(&mut self, pass: &mut Pass<ShardLaw<W>, J>)
+    pub fn thaw(&mut self, pass: &mut ShardPass<W, J>)
         requires frozen { mode W.opening self.old.seen self.old.shard.slot ≡ Mode.Frozen }
         ensures changed { HasChangedMode W.opening self.old Event.Thaw pass.old pass.new }
         ensures seen { self.new.seen ≡ pass.new.seen }
@@ -69,7 +69,7 @@ impl<W: World, J: Naming> ShardState<W, J> {
 
     /// It gives its rows to the targets, which have it as a source, don't overlap, and together hold its place: two looks in a row, and one
     /// entry. Takes no memory.
-    pub fn retire(&mut self, pass: &mut Pass<ShardLaw<W>, J>, targets: Items<ShardRecord>)
+    pub fn retire(&mut self, pass: &mut ShardPass<W, J>, targets: Items<ShardRecord>)
         requires may { MayRetire W.opening self.old.seen self.old.shard targets }
         ensures changed { HasChangedMode W.opening self.old (Event.Retire targets) pass.old pass.new }
         ensures seen { self.new.seen ≡ pass.new.seen }
@@ -91,7 +91,7 @@ impl<W: World, J: Naming> ShardState<W, J> {
 
     /// A target that follows serves from now on: by what the pass has seen it is level with each source, which is retired for it. Two looks in
     /// a row, and one entry. Takes no memory.
-    pub fn serve(&mut self, pass: &mut Pass<ShardLaw<W>, J>)
+    pub fn serve(&mut self, pass: &mut ShardPass<W, J>)
         requires following { mode W.opening self.old.seen self.old.shard.slot ≡ Mode.Following }
         requires looked { entries_on self.old.shard.slot pass.old.seen ≡ entries_on self.old.shard.slot self.old.seen }
         requires may { MayServe W.opening pass.old.seen self.old.shard }

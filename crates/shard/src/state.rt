@@ -14,8 +14,8 @@ ghost use Rattle.shard_law.specs.Entries.{MayFollow, slot_of, commit_of};
 ghost use Rattle.shard_contents.specs.Shards.{beyond, IsAfter};
 ghost use Rattle.shard_contents.specs.inner.Shards.{is_plain};
 
-use crate::world::{ShardLaw, World};
-use journal::{Naming, Pass, ShardSeat};
+use crate::world::{ShardLaw, ShardPass, World};
+use journal::{Naming, ShardSeat};
 use shard_contents::{
     CommitOutcome, Contents, ReadOutcome, Reading, SortedTables, StatementId, TargetStep,
 };
@@ -71,7 +71,7 @@ fn serves(mode: Mode) -> bool
 pub(crate) fn append_event<W: World, J: Naming>(
     seat: &mut ShardSeat<ShardLaw<W>, J>,
     contents: &mut Contents,
-    pass: &mut Pass<ShardLaw<W>, J>,
+    pass: &mut ShardPass<W, J>,
     event: Event,
     next: Mode,
 ) -> Event
@@ -261,7 +261,7 @@ impl<W: World, J: Naming> ShardState<W, J> {
     }
 
     /// One look, which the pass keeps. Answers how many entries the shard has.
-    pub fn look(&mut self, pass: &mut Pass<ShardLaw<W>, J>) -> u64
+    pub fn look(&mut self, pass: &mut ShardPass<W, J>) -> u64
         ensures seen { IsLater slot_of commit_of (MayFollow W.opening) (seat_view self.old) pass.old self.new.seen }
         ensures count { result ≡ length (entries_on self.old.shard.slot self.new.seen) }
         ensures shard { self.new.shard ≡ self.old.shard }
@@ -276,7 +276,7 @@ impl<W: World, J: Naming> ShardState<W, J> {
     fn read_serving(
         &mut self,
         alloc: Global,
-        pass: &mut Pass<ShardLaw<W>, J>,
+        pass: &mut ShardPass<W, J>,
         query: &Query,
     ) -> Result<Reading, Refusal>
         requires serves { answers_queries (mode W.opening self.old.seen self.old.shard.slot) ≡ true }
@@ -303,7 +303,7 @@ impl<W: World, J: Naming> ShardState<W, J> {
     pub fn read(
         &mut self,
         alloc: Global,
-        pass: &mut Pass<ShardLaw<W>, J>,
+        pass: &mut ShardPass<W, J>,
         query: &Query,
     ) -> Result<ReadOutcome, Refusal>
         ensures seen { IsLater slot_of commit_of (MayFollow W.opening) (seat_view self.old) pass.old self.new.seen }
@@ -326,7 +326,7 @@ impl<W: World, J: Naming> ShardState<W, J> {
     fn commit_serving(
         &mut self,
         alloc: Global,
-        pass: &mut Pass<ShardLaw<W>, J>,
+        pass: &mut ShardPass<W, J>,
         schema: &VSchema,
         write: Write,
     ) -> Result<u64, Refusal>
@@ -372,7 +372,7 @@ impl<W: World, J: Naming> ShardState<W, J> {
     pub fn commit(
         &mut self,
         alloc: Global,
-        pass: &mut Pass<ShardLaw<W>, J>,
+        pass: &mut ShardPass<W, J>,
         schema: &VSchema,
         write: Write,
     ) -> Result<CommitOutcome, Refusal>
@@ -415,7 +415,7 @@ impl<W: World, J: Naming> ShardState<W, J> {
     pub fn follow(
         &mut self,
         alloc: Global,
-        pass: &mut Pass<ShardLaw<W>, J>,
+        pass: &mut ShardPass<W, J>,
         taken: Follow,
     ) -> Result<(), Refusal>
         requires following { mode W.opening self.old.seen self.old.shard.slot ≡ Mode.Following }

@@ -5,8 +5,8 @@ ghost use Rattle.vschema.specs.TypedWrites.{IsTypedWrite};
 ghost use Rattle.sql_eval.specs.Writes.{written_table};
 
 use crate::state::ShardState;
-use crate::world::{ShardLaw, World};
-use journal::{Naming, Pass};
+use crate::world::{ShardPass, World};
+use journal::Naming;
 use shard_contents::{Pending, Reading, StatementId, Touch, with_owned, written_table};
 use shard_run::Mode;
 use std::alloc::Global;
@@ -38,7 +38,7 @@ impl<W: World, J: Naming> ShardState<W, J> {
     // With: ShardState::{read_in, write_in, commit_in}, Shard::{check, read_in, write_in, commit_in}
     /// One look, which the pass keeps. Answers how many entries the shard has then. It refuses if the shard is frozen or doesn't serve;
     /// else if an entry of the shard has changed a table that the transaction touched before it. Takes no memory.
-    pub fn check(&mut self, pass: &mut Pass<ShardLaw<W>, J>, tx: &Pending) -> Result<u64, Refusal>
+    pub fn check(&mut self, pass: &mut ShardPass<W, J>, tx: &Pending) -> Result<u64, Refusal>
         ensures seen { IsLater slot_of commit_of (MayFollow W.opening) (seat_view self.old) pass.old self.new.seen }
         ensures entries { IfOk result (λ n. n ≡ length (entries_on self.old.shard.slot self.new.seen)) }
         ensures clear { OnOk result (IsClear W.opening self.old.shard self.new.seen tx.now) }
@@ -63,7 +63,7 @@ impl<W: World, J: Naming> ShardState<W, J> {
     pub fn read_in(
         &mut self,
         alloc: Global,
-        pass: &mut Pass<ShardLaw<W>, J>,
+        pass: &mut ShardPass<W, J>,
         tx: &mut Pending,
         query: &Query,
     ) -> Result<Reading, Refusal>
@@ -95,7 +95,7 @@ impl<W: World, J: Naming> ShardState<W, J> {
     pub fn write_in(
         &mut self,
         alloc: Global,
-        pass: &mut Pass<ShardLaw<W>, J>,
+        pass: &mut ShardPass<W, J>,
         tx: &mut Pending,
         schema: &VSchema,
         write: Write,
@@ -129,7 +129,7 @@ impl<W: World, J: Naming> ShardState<W, J> {
     pub fn commit_in(
         &mut self,
         alloc: Global,
-        pass: &mut Pass<ShardLaw<W>, J>,
+        pass: &mut ShardPass<W, J>,
         tx: &mut Pending,
     ) -> Result<(), Refusal>
         requires tied { IsPendingOf W.opening self.old.shard tx.old pass.old }

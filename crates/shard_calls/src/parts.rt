@@ -5,10 +5,10 @@ ghost use Rattle.journal.specs.Runs.{IsLegal};
 ghost use Rattle.shard_law.specs.Entries.{MayFollow};
 ghost use Rattle.shard_calls.specs.Answers.{needed, HasGone, WasFound};
 
-use journal::{Naming, Pass};
+use journal::Naming;
 use planner::{Route, single_id, takes_by};
 use serving::{Seated, ShardReference};
-use shard::{Shard, ShardLaw, World};
+use shard::{Shard, ShardPass, World};
 use std::sync::Wait;
 use vschema::Table;
 use vt_value::Refusal;
@@ -48,7 +48,7 @@ pub fn only_needed<'e, S: Seated + Drop>(
 /// Looks at the shard of each part, which the pass keeps. Takes no memory.
 pub fn look_at_each<W: World, J: Naming>(
     rt: &impl Wait,
-    pass: &mut Pass<ShardLaw<W>, J>,
+    pass: &mut ShardPass<W, J>,
     parts: &[ShardReference<Shard<W, J>>],
 )
     requires legal { IsLegal (MayFollow W.opening) pass.old.seen }

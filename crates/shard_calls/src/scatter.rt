@@ -10,11 +10,11 @@ ghost use Rattle.shard_calls.specs.inner.Scatter.{asked, all_asked, IsReadingOf,
 
 use crate::gate::Gate;
 use crate::reply::ShardRead;
-use journal::{Naming, Pass};
+use journal::Naming;
 use operators::{Operator, Rows};
 use planner::{Plan, single_id, takes_by};
 use serving::{Seated, ShardReference};
-use shard::{ReadOutcome, Reading, Shard, ShardLaw, World};
+use shard::{ReadOutcome, Reading, Shard, ShardPass, World};
 use shard_store::{Fixed, fixed_values};
 use sql_tree::Condition;
 use std::alloc::Global;
@@ -31,14 +31,14 @@ pub struct ReadJob<'e, W: World, J: Naming> {
     pub shard: &'e Shard<W, J>,
     pub query: Query,
     pub most: usize,
-    pub pass: Pass<ShardLaw<W>, J>,
+    pub pass: ShardPass<W, J>,
 }
 
 /// What a shard gave, with the pass by which it was read.
 #[derive(Drop)]
 pub struct ReadResult<W: World, J: Naming> {
     pub slot: usize,
-    pub pass: Pass<ShardLaw<W>, J>,
+    pub pass: ShardPass<W, J>,
     pub outcome: Result<ReadOutcome, Refusal>,
 }
 
@@ -109,7 +109,7 @@ fn most_rows(table: &Table, query: &Query) -> usize {
 // What the part's shard is asked under this number, by a pass of its own.
 fn job_for<'e, W: World, J: Naming>(
     alloc: Global,
-    pass: &mut Pass<ShardLaw<W>, J>,
+    pass: &mut ShardPass<W, J>,
     turn: usize,
     part: &'e ShardReference<Shard<W, J>>,
     table: &Table,
@@ -141,7 +141,7 @@ fn job_for<'e, W: World, J: Naming>(
 /// What the shards are asked that the plan needs, each under the next number and by a pass of its own.
 pub fn jobs<'e, W: World, J: Naming>(
     alloc: Global,
-    pass: &mut Pass<ShardLaw<W>, J>,
+    pass: &mut ShardPass<W, J>,
     parts: &'e [ShardReference<Shard<W, J>>],
     table: &Table,
     plan: &Plan,
@@ -260,7 +260,7 @@ pub fn read_all<R: Threads + Wait + Sync, W: World + Send + Sync, J: Naming + Se
 /// doesn't serve. Refuses where a shard refused, and for want of memory.
 pub fn gather<W: World, J: Naming>(
     alloc: Global,
-    pass: &mut Pass<ShardLaw<W>, J>,
+    pass: &mut ShardPass<W, J>,
     done: Vec<ReadResult<W, J>>,
 ) -> Result<Option<Gathered>, Refusal>
     requires legal { IsLegal (MayFollow W.opening) pass.old.seen }

@@ -13,9 +13,9 @@ ghost use Rattle.shard_calls.specs.inner.InTransactions.{ends, closes, stays_ope
 
 use crate::reply::{Reply, ShardRead};
 use crate::tx::Bound;
-use journal::{Naming, Pass};
+use journal::Naming;
 use operators::ShownRows;
-use shard::{Pending, Reading, ShardLaw, World};
+use shard::{Pending, Reading, ShardPass, World};
 use sql_eval::{Narrowed, select_local};
 use std::alloc::Global;
 use std::sync::Wait;
@@ -68,7 +68,7 @@ fn prepared(
 pub fn read_at<W: World, J: Naming>(
     rt: &impl Wait,
     alloc: Global,
-    pass: &mut Pass<ShardLaw<W>, J>,
+    pass: &mut ShardPass<W, J>,
     here: &Bound<W, J>,
     pending: &mut Pending,
     query: &Narrowed,
@@ -104,7 +104,7 @@ pub fn read_at<W: World, J: Naming>(
 pub fn read_first<W: World, J: Naming>(
     rt: &impl Wait,
     alloc: Global,
-    pass: &mut Pass<ShardLaw<W>, J>,
+    pass: &mut ShardPass<W, J>,
     bound: &mut Option<Bound<W, J>>,
     new: Bound<W, J>,
     pending: &mut Pending,
@@ -150,7 +150,7 @@ pub fn read_nothing(
 pub fn write_at<W: World, J: Naming>(
     rt: &impl Wait,
     alloc: Global,
-    pass: &mut Pass<ShardLaw<W>, J>,
+    pass: &mut ShardPass<W, J>,
     here: &Bound<W, J>,
     pending: &mut Pending,
     schema: &VSchema,
@@ -170,7 +170,7 @@ pub fn write_at<W: World, J: Naming>(
 pub fn write_first<W: World, J: Naming>(
     rt: &impl Wait,
     alloc: Global,
-    pass: &mut Pass<ShardLaw<W>, J>,
+    pass: &mut ShardPass<W, J>,
     bound: &mut Option<Bound<W, J>>,
     new: Bound<W, J>,
     pending: &mut Pending,
@@ -201,7 +201,7 @@ pub fn write_first<W: World, J: Naming>(
 pub fn commit_at<W: World, J: Naming>(
     rt: &impl Wait,
     alloc: Global,
-    pass: &mut Pass<ShardLaw<W>, J>,
+    pass: &mut ShardPass<W, J>,
     here: &Bound<W, J>,
     pending: &mut Pending,
 ) -> Result<(), Refusal>

@@ -8,13 +8,13 @@ ghost use Rattle.opening.specs.Empty.{opening_of, FitRanges};
 
 use crate::devices::InterruptedReader;
 use crate::failing::{FailingSink, FailingSource};
-use journal::{Naming, Opened, Opener, Pass};
+use journal::{Naming, Opened, Opener};
 use keyrange::KeyRange;
 use opening::ranges_fit;
 use route_engine::{Engine, Open};
 use router::{empty_router, widest_limits};
 use session::{Access, Core, End, Reader, SessionFault, Sink, Source, Writer, serve};
-use shard::{ShardLaw, World};
+use shard::{ShardLaw, ShardPass, World};
 use std::alloc::Global;
 use std::marker::Brand;
 use std::sync::Wait;
@@ -94,7 +94,7 @@ fn feed<W: World + Send + Sync, J: Naming + Send + Sync, R: Threads + Wait + Syn
     rt: &R,
     alloc: Global,
     engine: &Engine<W, J, Open>,
-    pass: &mut Pass<ShardLaw<W>, J>,
+    pass: &mut ShardPass<W, J>,
     core: &mut Core<W, J>,
     talk: &Fed<'_>,
     sink: &mut Writer<Vec<u8>>,
@@ -126,7 +126,7 @@ fn converse<W: World + Send + Sync, J: Naming + Send + Sync, R: Threads + Wait +
     rt: &R,
     alloc: Global,
     engine: &Engine<W, J, Open>,
-    pass: &mut Pass<ShardLaw<W>, J>,
+    pass: &mut ShardPass<W, J>,
     talk: &Fed<'_>,
     sink: &mut Writer<Vec<u8>>,
 ) -> Result<Ended, Refusal>
@@ -143,7 +143,7 @@ struct Client<'e, W: World, J: Naming, R> {
     rt: &'e R,
     alloc: Global,
     engine: &'e Engine<W, J, Open>,
-    pass: Pass<ShardLaw<W>, J>,
+    pass: ShardPass<W, J>,
     ghost known: { IsSome pass.session },
 }
 
@@ -282,7 +282,7 @@ fn client_of<'e, W: World + Send + Sync, J: Naming + Send + Sync, R: Threads + W
     alloc: Global,
     engine: &'e Engine<W, J, Open>,
     opener: &mut Opener<ShardLaw<W>, J>,
-    seen: &mut Pass<ShardLaw<W>, J>,
+    seen: &mut ShardPass<W, J>,
 ) -> Result<Client<'e, W, J, R>, Refusal> {
     Ok(Client {
         rt,
@@ -311,7 +311,7 @@ fn serve_two<W: World + Send + Sync, J: Naming + Send + Sync, R: Threads + Wait 
     alloc: Global,
     engine: &Engine<W, J, Open>,
     opener: &mut Opener<ShardLaw<W>, J>,
-    seen: &mut Pass<ShardLaw<W>, J>,
+    seen: &mut ShardPass<W, J>,
     talk: Talk<'_>,
     sink: &mut Writer<Vec<u8>>,
     reply: &mut Writer<Vec<u8>>,

@@ -5,11 +5,11 @@ ghost use Rattle.admin.specs.AdminAnswers.{keyspace_of};
 
 use crate::gate::HoldsFirst;
 use admin::Administrator;
-use journal::{Naming, Pass};
+use journal::Naming;
 use reshard::{ReshardConfig, ReshardFault, SourceShard, Stopped, TargetShard, Workflow};
 use route_engine::Engine;
 use serving::ShardReference;
-use shard::{Shard, ShardLaw, World};
+use shard::{Shard, ShardPass, World};
 use std::alloc::Global;
 use std::marker::Model;
 use std::mem::replace;
@@ -66,7 +66,7 @@ fn reopen_workflow<W: World + Send + Sync, J: Naming + Send + Sync>(
     rt: &impl Wait,
     alloc: Global,
     engine: &Engine<W, J, HoldsFirst>,
-    pass: &mut Pass<ShardLaw<W>, J>,
+    pass: &mut ShardPass<W, J>,
     workflow: &mut Workflow<W, J>,
     keyspace: usize,
     found: &mut Found<W, J>,
@@ -97,7 +97,7 @@ fn reopened<W: World + Send + Sync, J: Naming + Send + Sync>(
     rt: &impl Wait,
     alloc: Global,
     engine: &Engine<W, J, HoldsFirst>,
-    pass: &mut Pass<ShardLaw<W>, J>,
+    pass: &mut ShardPass<W, J>,
     workflow: Workflow<W, J>,
 ) -> (Workflow<W, J>, Result<(), ReshardFault>, Found<W, J>)
     ensures home { result.0.keyspace ≡ workflow.keyspace }
@@ -134,7 +134,7 @@ pub(crate) fn reopen<W: World + Send + Sync, J: Naming + Send + Sync>(
     alloc: Global,
     engine: &Engine<W, J, HoldsFirst>,
     administrator: &mut Administrator<W, J>,
-    pass: &mut Pass<ShardLaw<W>, J>,
+    pass: &mut ShardPass<W, J>,
     last: &mut Option<Found<W, J>>,
 ) -> Result<(), ReshardFault>
     requires home { keyspace_of administrator.old ≡ sharded_keyspace engine.now }
@@ -155,7 +155,7 @@ pub(crate) fn reopen_last<W: World + Send + Sync, J: Naming + Send + Sync>(
     rt: &impl Wait,
     alloc: Global,
     engine: &Engine<W, J, HoldsFirst>,
-    pass: &mut Pass<ShardLaw<W>, J>,
+    pass: &mut ShardPass<W, J>,
     last: &Option<Found<W, J>>,
 ) -> Result<(), ReshardFault> {
     let Some(found) = last else {

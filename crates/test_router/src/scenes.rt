@@ -12,10 +12,10 @@ use crate::scene_schema::{halves, read_schema};
 use crate::session::Session;
 use crate::stage::{Stage, ask, play_locked};
 use admin::{Administrator, administered_router};
-use journal::{Naming, Opened, Opener, Pass};
+use journal::{Naming, Opened, Opener};
 use keyrange::KeyRange;
 use route_engine::Engine;
-use shard::{Limits, MOST_ROWS, MOST_STORED, ShardLaw, World};
+use shard::{Limits, MOST_ROWS, MOST_STORED, ShardLaw, ShardPass, World};
 use std::alloc::Global;
 use std::marker::Brand;
 use std::sync::{Arc, Wait};
@@ -114,7 +114,7 @@ fn play_opened<'e, W: World + Send + Sync, J: Naming + Send + Sync, R: Threads +
     engine: &'e Engine<W, J, HoldsFirst>,
     administrator: Administrator<W, J>,
     opener: &mut Opener<ShardLaw<W>, J>,
-    admin: Pass<ShardLaw<W>, J>,
+    admin: ShardPass<W, J>,
     signals: &'e Signals,
     scene: &Scene<'_>,
 ) -> Result<Played, Refusal>

@@ -3,9 +3,9 @@ ghost use Rattle.std.specs.Prelude.{IsSome};
 ghost use Rattle.shard_calls.specs.Pendings.{IsOf};
 
 use crate::gate::HoldsFirst;
-use journal::{Naming, Pass};
+use journal::Naming;
 use route_engine::{Answer, Engine, Reply, Tx};
-use shard::{ShardLaw, World};
+use shard::{ShardPass, World};
 use std::alloc::Global;
 use std::sync::Wait;
 use std::thread::Threads;
@@ -17,12 +17,12 @@ pub(crate) struct Session<'e, W: World, J: Naming, R> {
     pub(crate) rt: &'e R,
     pub(crate) alloc: Global,
     pub(crate) engine: &'e Engine<W, J, HoldsFirst>,
-    pub(crate) pass: Pass<ShardLaw<W>, J>,
+    pub(crate) pass: ShardPass<W, J>,
     ghost known: { IsSome pass.session },
 }
 
 // No transaction of the pass's session is open.
-fn none_open<W: World, J: Naming>(pass: &Pass<ShardLaw<W>, J>) -> Tx<W, J>
+fn none_open<W: World, J: Naming>(pass: &ShardPass<W, J>) -> Tx<W, J>
     ensures { IsOf W.opening result pass.now }
 {
     let _ = pass;

@@ -10,10 +10,10 @@ use crate::gate::{HoldsFirst, Signals, give, wait_for};
 use crate::reopening::{Found, reopen, reopen_last};
 use crate::session::Session;
 use admin::{Administrator, administer};
-use journal::{Naming, Opener, Pass};
+use journal::{Naming, Opener};
 use reshard::ReshardFault;
 use route_engine::Engine;
-use shard::{Shard, ShardLaw, World};
+use shard::{Shard, ShardLaw, ShardPass, World};
 use std::alloc::Global;
 use std::sync::Wait;
 use std::thread;
@@ -34,7 +34,7 @@ pub(crate) struct Stage<'e, W: World, J: Naming, R> {
     pub(crate) engine: &'e Engine<W, J, HoldsFirst>,
     pub(crate) signals: &'e Signals,
     pub(crate) administrator: Administrator<W, J>,
-    pub(crate) admin: Pass<ShardLaw<W>, J>,
+    pub(crate) admin: ShardPass<W, J>,
     pub(crate) sessions: Vec<Session<'e, W, J, R>>,
     // the shards of the workflow whose controller stopped last
     pub(crate) last: Option<Found<W, J>>,

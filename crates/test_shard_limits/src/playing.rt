@@ -4,8 +4,8 @@ ghost use Rattle.test_shard_limits.specs.SmallWorld.{small_schema};
 ghost use Rattle.test_shard_limits.specs.inner.SmallWorld.{small_seat};
 
 use crate::writing::{Small, first_seat, schema, state};
-use journal::{Naming, Opened, Opener, Pass, ShardSeat};
-use shard::{Shard, ShardLaw};
+use journal::{Naming, Opened, Opener, ShardSeat};
+use shard::{Shard, ShardLaw, ShardPass};
 use std::alloc::Global;
 use std::marker::Brand;
 use std::sync::Wait;
@@ -26,7 +26,7 @@ pub(crate) struct Session<'e, J: Naming, R> {
     pub(crate) alloc: Global,
     pub(crate) shard: &'e Shard<Small, J>,
     pub(crate) schema: &'e VSchema,
-    pub(crate) pass: Pass<ShardLaw<Small>, J>,
+    pub(crate) pass: ShardPass<Small, J>,
     ghost here: { shard.now ≡ small_seat },
     ghost known: { schema.now ≡ small_schema },
     ghost numbered: { IsSome pass.session },
@@ -38,7 +38,7 @@ fn act<J: Naming, R: Wait>(
     shard: &Shard<Small, J>,
     schema: &VSchema,
     opener: &mut Opener<ShardLaw<Small>, J>,
-    first: &mut Pass<ShardLaw<Small>, J>,
+    first: &mut ShardPass<Small, J>,
     turn: Turn,
 ) -> Result<bool, Refusal>
     requires here { shard.now ≡ small_seat }
@@ -69,7 +69,7 @@ fn act_by_schema<J: Naming, R: Wait>(
     alloc: Global,
     shard: &Shard<Small, J>,
     opener: &mut Opener<ShardLaw<Small>, J>,
-    first: &mut Pass<ShardLaw<Small>, J>,
+    first: &mut ShardPass<Small, J>,
     turn: Turn,
 ) -> Result<bool, Refusal>
     requires here { shard.now ≡ small_seat }
@@ -83,7 +83,7 @@ fn act_on<J: Naming, R: Wait>(
     alloc: Global,
     seat: ShardSeat<ShardLaw<Small>, J>,
     opener: &mut Opener<ShardLaw<Small>, J>,
-    first: &mut Pass<ShardLaw<Small>, J>,
+    first: &mut ShardPass<Small, J>,
     turn: Turn,
 ) -> Result<bool, Refusal>
     requires { seat ≡ record { seen = []; slot = 0 } }

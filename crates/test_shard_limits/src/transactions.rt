@@ -8,8 +8,8 @@ ghost use Rattle.test_shard_limits.specs.inner.SmallWorld.{IsHere, IsNumbered};
 
 use crate::playing::Session;
 use crate::writing::{Act, Small, query, written};
-use journal::{Naming, Pass};
-use shard::{Pending, ShardLaw};
+use journal::Naming;
+use shard::{Pending, ShardPass};
 use sql_tree::Item;
 use std::alloc::Global;
 use std::sync::Wait;
@@ -17,7 +17,7 @@ use vschema::{Query, Write};
 use vt_value::Refusal;
 
 // A transaction that has done nothing.
-fn begin<J: Naming>(alloc: Global, pass: &Pass<ShardLaw<Small>, J>) -> Pending
+fn begin<J: Naming>(alloc: Global, pass: &ShardPass<Small, J>) -> Pending
     ensures { IsHere result pass.now }
 {
     let _ = pass.session();

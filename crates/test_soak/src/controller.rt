@@ -7,12 +7,12 @@ use crate::lines::{Done, Next, TURNS, script};
 use crate::session::Client;
 use crate::watch::Watch;
 use admin::{AdminReply, Administrator, administer};
-use journal::{Naming, Opener, Pass};
+use journal::{Naming, Opener};
 use rand_core::utils::NextWord;
 use rand_pcg::Pcg32;
 use route_engine::{Engine, Open};
 use serving::Seated;
-use shard::{Shard, ShardLaw, World};
+use shard::{Shard, ShardLaw, ShardPass, World};
 use std::alloc::Global;
 use std::sync::{Arc, Wait};
 use std::thread;
@@ -29,7 +29,7 @@ pub struct Controller<'e, W: World, J: Naming, R> {
     pub engine: &'e Engine<W, J, Open>,
     pub watch: Watch<'e>,
     pub administrator: Administrator<W, J>,
-    pub pass: Pass<ShardLaw<W>, J>,
+    pub pass: ShardPass<W, J>,
     pub shards: Vec<Arc<Shard<W, J>, Global>>,
     pub choices: Pcg32,
     pub by_step: bool,

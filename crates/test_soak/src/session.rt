@@ -3,9 +3,9 @@ ghost use Rattle.std.specs.Prelude.{IsSome};
 ghost use Rattle.shard_calls.specs.Pendings.{IsOf};
 
 use crate::watch::Watch;
-use journal::{Naming, Pass};
+use journal::Naming;
 use route_engine::{Answer, Engine, Open, Tx};
-use shard::{ShardLaw, World};
+use shard::{ShardPass, World};
 use std::alloc::Global;
 use std::sync::Wait;
 use std::thread::Threads;
@@ -18,7 +18,7 @@ const TABLES: u64 = 4;
 /// A session that has run nothing yet: what it has seen of the router, and its book.
 #[derive(Drop)]
 pub struct Client<W: World, J: Naming> {
-    pub pass: Pass<ShardLaw<W>, J>,
+    pub pass: ShardPass<W, J>,
     pub book: SessionModel,
     ghost known: { IsSome pass.session },
 }
@@ -30,13 +30,13 @@ pub struct Session<'e, W: World, J: Naming, R> {
     alloc: Global,
     engine: &'e Engine<W, J, Open>,
     watch: Watch<'e>,
-    pass: Pass<ShardLaw<W>, J>,
+    pass: ShardPass<W, J>,
     book: SessionModel,
     ghost known: { IsSome pass.session },
 }
 
 // No transaction of the pass's session is open.
-fn none_open<W: World, J: Naming>(pass: &Pass<ShardLaw<W>, J>) -> Tx<W, J>
+fn none_open<W: World, J: Naming>(pass: &ShardPass<W, J>) -> Tx<W, J>
     ensures { IsOf W.opening result pass.now }
 {
     let _ = pass;

@@ -11,12 +11,12 @@ use crate::lines::Done;
 use crate::session::{Client, Session, work};
 use crate::watch::Watch;
 use admin::{Administrator, administered_router, widest_limits};
-use journal::{Naming, Opened, Opener, Pass};
+use journal::{Naming, Opened, Opener};
 use keyrange::KeyRange;
 use opening::ranges_fit;
 use rand_pcg::Pcg32;
 use route_engine::{Engine, Open};
-use shard::{ShardLaw, World};
+use shard::{ShardLaw, ShardPass, World};
 use std::alloc::{AllocError, Global};
 use std::marker::Brand;
 use std::sync::Wait;
@@ -175,7 +175,7 @@ fn play_opened<
     engine: &'e Engine<W, J, Open>,
     administrator: Administrator<W, J>,
     opener: &mut Opener<ShardLaw<W>, J>,
-    first: Pass<ShardLaw<W>, J>,
+    first: ShardPass<W, J>,
     plan: Plan<'_>,
     stopped: &'e AtomicU64,
     tally: &mut Tally,

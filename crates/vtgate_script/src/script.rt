@@ -15,11 +15,11 @@ ghost use Rattle.vtgate_script.specs.Wrong.{DeclaresNone, IsWrongScript};
 
 use crate::sessions::{Sessions, run_lines};
 use admin::{Administrator, administered_router, widest_limits};
-use journal::{Naming, Opened, Opener, Pass};
+use journal::{Naming, Opened, Opener};
 use keyrange::KeyRange;
 use route_engine::{Engine, Open};
 use session::{Sink, Source};
-use shard::{ShardLaw, World};
+use shard::{ShardLaw, ShardPass, World};
 use std::alloc::Global;
 use std::marker::Brand;
 use std::sync::Wait;
@@ -37,7 +37,7 @@ fn run_router<W: World + Send + Sync, J: Naming + Send + Sync, R: Threads + Wait
     engine: &Engine<W, J, Open>,
     mut administrator: Administrator<W, J>,
     opener: Opener<ShardLaw<W>, J>,
-    pass: Pass<ShardLaw<W>, J>,
+    pass: ShardPass<W, J>,
     lines: &[u8],
     output: &mut O,
 ) -> Result<(), RunFault>

@@ -16,11 +16,11 @@ ghost use Rattle.vtgate_script.specs.Scripted.{HasPrinted, unknown_text};
 ghost use Rattle.vtgate_script.specs.inner.UnderWay.{KeptSession, HasSeenLess, IsShown, IsOutcomeShown, KnowsOwn, PrintsFrom, nothing_kept};
 
 use admin::{Administrator, administer};
-use journal::{Naming, Opener, Pass};
+use journal::{Naming, Opener};
 use operators::ShownRows;
 use route_engine::{Answer, Engine, Open, Reply, Tx};
 use session::{DeviceFailed, Sink};
-use shard::{ShardLaw, World};
+use shard::{ShardLaw, ShardPass, World};
 use std::alloc::Global;
 use std::marker::Model;
 use std::sync::Wait;
@@ -68,8 +68,8 @@ fn run_after<W: World + Send + Sync, J: Naming + Send + Sync, R: Threads + Wait 
     rt: &R,
     alloc: Global,
     engine: &Engine<W, J, Open>,
-    all: &mut Pass<ShardLaw<W>, J>,
-    pass: &mut Pass<ShardLaw<W>, J>,
+    all: &mut ShardPass<W, J>,
+    pass: &mut ShardPass<W, J>,
     tx: &mut Tx<W, J>,
     sql: &[u8],
     output: &mut O,
@@ -100,7 +100,7 @@ fn run_after<W: World + Send + Sync, J: Naming + Send + Sync, R: Threads + Wait 
 #[derive(Drop)]
 struct ScriptSession<W: World, J: Naming> {
     name: Items<u8>,
-    pass: Pass<ShardLaw<W>, J>,
+    pass: ShardPass<W, J>,
     tx: Tx<W, J>,
 }
 
@@ -129,7 +129,7 @@ impl<W: World, J: Naming> ScriptSession<W, J> {
     }
 
     // Its pass confirms that all lines have seen no commit of it that it hasn't seen.
-    fn confirm(&mut self, all: &mut Pass<ShardLaw<W>, J>)
+    fn confirm(&mut self, all: &mut ShardPass<W, J>)
         requires trailing { IsPrefix self.old.kept.pass.seen all.old.seen }
         ensures same { self.new ≡ self.old }
         ensures all { all.new ≡ all.old }
@@ -143,7 +143,7 @@ impl<W: World, J: Naming> ScriptSession<W, J> {
 fn confirm_all<W: World, J: Naming>(
     opener: &mut Opener<ShardLaw<W>, J>,
     sessions: &mut Vec<ScriptSession<W, J>>,
-    all: &mut Pass<ShardLaw<W>, J>,
+    all: &mut ShardPass<W, J>,
 )
     requires trailing { AllByRecursion (HasSeenLess W.opening all.old.seen) sessions.old.items }
     ensures opener { opener.new ≡ opener.old }
@@ -164,7 +164,7 @@ fn confirm_all<W: World, J: Naming>(
 pub struct Sessions<W: World, J: Naming> {
     sessions: Vec<ScriptSession<W, J>>,
     opener: Opener<ShardLaw<W>, J>,
-    all: Pass<ShardLaw<W>, J>,
+    all: ShardPass<W, J>,
 }
 
 impl<W: World, J: Naming> Model for Sessions<W, J> {
@@ -204,7 +204,7 @@ impl<W: World + Send + Sync, J: Naming + Send + Sync> Sessions<W, J> {
     pub fn new(
         alloc: Global,
         opener: Opener<ShardLaw<W>, J>,
-        pass: Pass<ShardLaw<W>, J>,
+        pass: ShardPass<W, J>,
     ) -> Sessions<W, J>
         requires opener { opener ≡ 0 }
         requires pass { pass.seen ≡ [] }

@@ -8,9 +8,9 @@ use crate::logins::Logins;
 use crate::ports::QUEUED;
 use crate::progress::ServeProgress;
 use connection_workers::ConnectionSource;
-use journal::{Naming, Opener, Pass};
+use journal::{Naming, Opener};
 use log::Log;
-use shard::{ShardLaw, World};
+use shard::{ShardLaw, ShardPass, World};
 use std::net::{SocketAddr, TcpListener, TcpStream};
 use std::sync::Wait;
 use std::thread;
@@ -24,7 +24,7 @@ const AFTER_FAILURE: u64 = 20;
 pub struct Acceptor<'l, W: World, J: Naming> {
     listener: &'l TcpListener,
     opener: Opener<ShardLaw<W>, J>,
-    pass: Pass<ShardLaw<W>, J>,
+    pass: ShardPass<W, J>,
     progress: &'l ServeProgress,
     accepted: u32,
     last: u32,
@@ -39,7 +39,7 @@ impl<'l, W: World, J: Naming> Acceptor<'l, W, J> {
         listener: &'l TcpListener,
         progress: &'l ServeProgress,
         opener: Opener<ShardLaw<W>, J>,
-        pass: Pass<ShardLaw<W>, J>,
+        pass: ShardPass<W, J>,
         last: u32,
     ) -> Acceptor<'l, W, J>
         requires unopened { opener ≡ 0 }

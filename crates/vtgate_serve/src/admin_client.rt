@@ -15,11 +15,11 @@ use crate::census::Marks;
 use crate::lines::ended_line;
 use crate::{census, events};
 use admin::{Administrator, administer};
-use journal::{Naming, Pass};
+use journal::Naming;
 use log::Log;
 use route_engine::{Engine, Gate};
 use session::{Sink, Source};
-use shard::{ShardLaw, World};
+use shard::{ShardPass, World};
 use std::alloc::Global;
 use std::sync::Wait;
 use std::time::{Clock, Instant};
@@ -93,7 +93,7 @@ fn answer<W: World + Send + Sync, J: Naming + Send + Sync, G: Gate, O: Sink>(
     alloc: Global,
     engine: &Engine<W, J, G>,
     administrator: &mut Administrator<W, J>,
-    pass: &mut Pass<ShardLaw<W>, J>,
+    pass: &mut ShardPass<W, J>,
     words: &[u8],
     sink: &mut O,
 ) -> Result<(), BrokenOff>
@@ -119,7 +119,7 @@ fn answer_piece<W: World + Send + Sync, J: Naming + Send + Sync, G: Gate, O: Sin
     alloc: Global,
     engine: &Engine<W, J, G>,
     administrator: &mut Administrator<W, J>,
-    pass: &mut Pass<ShardLaw<W>, J>,
+    pass: &mut ShardPass<W, J>,
     front: &mut Vec<u8>,
     piece: &[u8],
     sink: &mut O,
@@ -152,7 +152,7 @@ fn answer_next<W: World + Send + Sync, J: Naming + Send + Sync, G: Gate, I: Sour
     alloc: Global,
     engine: &Engine<W, J, G>,
     administrator: &mut Administrator<W, J>,
-    pass: &mut Pass<ShardLaw<W>, J>,
+    pass: &mut ShardPass<W, J>,
     front: &mut Vec<u8>,
     buffer: &mut [u8],
     source: &mut I,
@@ -193,7 +193,7 @@ fn answer_all<W: World + Send + Sync, J: Naming + Send + Sync, G: Gate, I: Sourc
     alloc: Global,
     engine: &Engine<W, J, G>,
     administrator: &mut Administrator<W, J>,
-    pass: &mut Pass<ShardLaw<W>, J>,
+    pass: &mut ShardPass<W, J>,
     front: &mut Vec<u8>,
     source: &mut I,
     sink: &mut O,
@@ -239,7 +239,7 @@ pub fn talk<W: World + Send + Sync, J: Naming + Send + Sync, G: Gate, I: Source,
     alloc: Global,
     engine: &Engine<W, J, G>,
     administrator: &mut Administrator<W, J>,
-    pass: &mut Pass<ShardLaw<W>, J>,
+    pass: &mut ShardPass<W, J>,
     source: &mut I,
     sink: &mut O,
 ) -> Result<(), BrokenOff>

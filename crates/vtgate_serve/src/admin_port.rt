@@ -8,11 +8,11 @@ use crate::admin_client::talk;
 use crate::progress::ServeProgress;
 use crate::waits::is_made_again;
 use admin::Administrator;
-use journal::{Naming, Pass};
+use journal::Naming;
 use log::Log;
 use route_engine::{Engine, Gate};
 use session::{DeviceFailed, Sink, Source};
-use shard::{ShardLaw, World};
+use shard::{ShardPass, World};
 use std::alloc::Global;
 use std::io::{Read, Write};
 use std::net::{TcpListener, TcpStream};
@@ -159,7 +159,7 @@ fn serve_one<W: World + Send + Sync, J: Naming + Send + Sync, G: Gate, R: Wait +
     alloc: Global,
     engine: &Engine<W, J, G>,
     administrator: &mut Administrator<W, J>,
-    pass: &mut Pass<ShardLaw<W>, J>,
+    pass: &mut ShardPass<W, J>,
     stream: &TcpStream,
     progress: &ServeProgress,
 )
@@ -200,7 +200,7 @@ pub fn serve_admin<W: World + Send + Sync, J: Naming + Send + Sync, G: Gate, R: 
     alloc: Global,
     engine: &Engine<W, J, G>,
     administrator: &mut Administrator<W, J>,
-    pass: &mut Pass<ShardLaw<W>, J>,
+    pass: &mut ShardPass<W, J>,
     listener: &TcpListener,
     progress: &ServeProgress,
 )

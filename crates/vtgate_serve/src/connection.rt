@@ -16,12 +16,12 @@ use crate::events::Passed;
 use crate::logins::{Login, Logins};
 use crate::statements::statement_log;
 use client_traffic::{Detail, Incoming, Outgoing, Replied};
-use journal::{Naming, Pass};
+use journal::Naming;
 use log::{Level, Log, log_enabled};
 use mysql_handshake::salt_of;
 use route_engine::{Engine, Gate};
 use session::{ConnectionState, End, SessionFault, Sink, Source, Writer, serve};
-use shard::{ShardLaw, World};
+use shard::{ShardPass, World};
 use std::alloc::Global;
 use std::net::{SocketAddr, TcpStream};
 use std::sync::Wait;
@@ -34,7 +34,7 @@ pub struct Connection<W: World, J: Naming> {
     number: u32,
     stream: TcpStream,
     peer: SocketAddr,
-    pass: Pass<ShardLaw<W>, J>,
+    pass: ShardPass<W, J>,
     ghost session: { IsSome pass.session },
 }
 
@@ -43,7 +43,7 @@ impl<W: World, J: Naming> Connection<W, J> {
         number: u32,
         stream: TcpStream,
         peer: SocketAddr,
-        pass: Pass<ShardLaw<W>, J>,
+        pass: ShardPass<W, J>,
     ) -> Connection<W, J>
         requires { IsSome pass.session }
         ensures { result.number ≡ number }
@@ -73,7 +73,7 @@ pub fn serve_connection<
     alloc: Global,
     engine: &Engine<W, J, G>,
     admission: &Admission<'_>,
-    pass: &mut Pass<ShardLaw<W>, J>,
+    pass: &mut ShardPass<W, J>,
     number: u32,
     source: &mut I,
     sink: &mut O,

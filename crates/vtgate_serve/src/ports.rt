@@ -17,11 +17,11 @@ use crate::progress::ServeProgress;
 use crate::{census, events};
 use admin::{Administrator, widest_limits};
 use connection_workers::run;
-use journal::{Naming, Opener, Pass};
+use journal::{Naming, Opener};
 use log::Log;
 use route_engine::{Engine, Gate};
 use session::Sink;
-use shard::{ShardLaw, World};
+use shard::{ShardLaw, ShardPass, World};
 use std::alloc::Global;
 use std::net::{Net, TcpListener, TcpStream};
 use std::sync::Wait;
@@ -134,7 +134,7 @@ fn serve_operators<W: World + Send + Sync, J: Naming + Send + Sync, G: Gate, R: 
     alloc: Global,
     engine: &Engine<W, J, G>,
     administrator: &mut Administrator<W, J>,
-    pass: &mut Pass<ShardLaw<W>, J>,
+    pass: &mut ShardPass<W, J>,
     listener: &TcpListener,
     progress: &ServeProgress,
 ) -> Result<(), RunFault>
@@ -164,7 +164,7 @@ fn serve_both<
     operators: &TcpListener,
     progress: &ServeProgress,
     administrator: &mut Administrator<W, J>,
-    controller: &mut Pass<ShardLaw<W>, J>,
+    controller: &mut ShardPass<W, J>,
 ) -> Result<(), RunFault>
     requires home { keyspace_of administrator.old ≡ sharded_keyspace engine.now }
     ensures fault { IfErr result (λ f. status_of f ≡ FAILURE) }
@@ -263,9 +263,9 @@ fn serve_opened_ports<
     ports: &'p Ports,
     progress: &'p ServeProgress,
     opener: Opener<ShardLaw<W>, J>,
-    pass: Pass<ShardLaw<W>, J>,
+    pass: ShardPass<W, J>,
     mut administrator: Administrator<W, J>,
-    mut controller: Pass<ShardLaw<W>, J>,
+    mut controller: ShardPass<W, J>,
 ) -> Result<(), RunFault>
     requires home { keyspace_of administrator ≡ sharded_keyspace engine.now }
     requires unopened { opener ≡ 0 }
@@ -318,9 +318,9 @@ pub fn serve_ports<
     admission: &Admission<'_>,
     ports: &Ports,
     opener: Opener<ShardLaw<W>, J>,
-    pass: Pass<ShardLaw<W>, J>,
+    pass: ShardPass<W, J>,
     administrator: Administrator<W, J>,
-    controller: Pass<ShardLaw<W>, J>,
+    controller: ShardPass<W, J>,
     output: &mut O,
 ) -> Result<(), RunFault>
     requires home { keyspace_of administrator ≡ sharded_keyspace engine.now }

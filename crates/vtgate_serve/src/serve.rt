@@ -17,12 +17,12 @@ use crate::admission::{Admission, admission_of};
 use crate::ports::{Ports, bind, serve_ports};
 use crate::{events, schema_faults};
 use admin::{Administrator, administered_router, widest_limits};
-use journal::{Naming, Opened, Opener, Pass};
+use journal::{Naming, Opened, Opener};
 use keyrange::KeyRange;
 use log::Log;
 use route_engine::{Engine, Gate, Open};
 use session::{Sink, Source};
-use shard::{ShardLaw, World};
+use shard::{ShardLaw, ShardPass, World};
 use std::alloc::Global;
 use std::marker::Brand;
 use std::net::{Net, TcpListener, TcpStream};
@@ -70,7 +70,7 @@ fn serve_router<
     engine: &Engine<W, J, G>,
     administrator: Administrator<W, J>,
     opener: Opener<ShardLaw<W>, J>,
-    mut pass: Pass<ShardLaw<W>, J>,
+    mut pass: ShardPass<W, J>,
     config: &ServeConfig<'_>,
     output: &mut O,
 ) -> Result<(), RunFault>
