@@ -12,4 +12,4 @@ mod targets;
 pub use config::ReshardConfig;
 pub use new_workflow::{MOST_PARTS, NewWorkflow, begin};
 pub use partition_parts::next_ranges;
-pub use targets::{TargetSources, copy_member, copy_shard, overlapping_sources};
+pub use targets::{TargetSources, copy_member, overlapping_sources};

@@ -6,8 +6,7 @@ ghost use Rattle.keyrange.specs.Ranges.{Overlap};
 ghost use Rattle.std.specs.List.{AllByRecursion};
 
 use keyrange::KeyRange;
-use reshard_cutover::copy_part;
-use serving::{Seated, ShardReference};
+use serving::{Seated, ShardReference, copy_part};
 use std::alloc::Global;
 use vt_value::Refusal;
 

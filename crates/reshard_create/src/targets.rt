@@ -23,6 +23,7 @@ use keyrange::KeyRange;
 use reshard_cutover::{SourceShard, TargetShard, serves};
 use serving::ShardReference;
 use shard::{Limits, Shard, ShardLaw, ShardPass, ShardState, Store, World};
+use shard_contents::copy_shard;
 use shard_run::Mode;
 use std::alloc::Global;
 use std::sync::{Arc, Wait};
@@ -35,25 +36,6 @@ enum SourceState {
     Serves(shard_run::ShardRecord),
     DoesNot,
     Another,
-}
-
-/// A copy of what names a shard.
-pub fn copy_shard(
-    alloc: Global,
-    shard: &shard_run::ShardRecord,
-) -> Result<shard_run::ShardRecord, Refusal>
-    ensures ok { IfOk result (λ copy. copy ≡ shard.now) }
-    ensures err { IfErr result (λ e. e ≡ Refusal.OutOfMemory) }
-{
-    let sources = Items::from_slice(alloc, shard.sources.as_slice())?;
-    Ok(shard_run::ShardRecord {
-        slot: shard.slot,
-        place: Place {
-            keyspace: shard.place.keyspace,
-            range: shard.place.range,
-        },
-        sources,
-    })
 }
 
 /// Another handle of the member, whose shard is shared.

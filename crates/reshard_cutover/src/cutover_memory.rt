@@ -3,11 +3,10 @@ ghost use Rattle.std.specs.Prelude.{◌≡◌, ◌++◌, IfOk, IfErr, IsPermutat
 ghost use Rattle.serving.specs.Partitions.{IsPartition, AreOf};
 ghost use Rattle.reshard_cutover.specs.Steps.{has_source, named_for};
 
-use crate::copies::copy_part;
 use crate::steps::{SourceShard, is_source_of};
 use crate::target::TargetShard;
 use journal::Naming;
-use serving::{Partition, ShardReference};
+use serving::{Partition, ShardReference, copy_part};
 use shard::{Shard, World};
 use shard_contents::copy_shard;
 use std::alloc::Global;

@@ -3,7 +3,6 @@
 #![tactic(auto)]
 
 mod confirming;
-mod copies;
 mod cutover_memory;
 mod dropping;
 mod fault;
@@ -15,7 +14,6 @@ mod target;
 mod thawing;
 
 pub use confirming::{confirm_cutover, confirm_retired};
-pub use copies::copy_part;
 pub use cutover_memory::{named_of_all, next_partition};
 pub use dropping::drop_all;
 pub use fault::ReshardFault;

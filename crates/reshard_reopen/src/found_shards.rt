@@ -11,9 +11,9 @@ ghost use Rattle.reshard_reopen.specs.inner.Snapshots.{IsSnapshot};
 
 use follow::WorkflowShard;
 use journal::Naming;
-use reshard_create::copy_shard;
 use serving::ShardReference;
 use shard::{Shard, ShardPass, ShardState, World};
+use shard_contents::copy_shard;
 use shard_run::Mode;
 use std::alloc::Global;
 use std::sync::{Arc, Wait};

@@ -7,8 +7,7 @@ ghost use Rattle.reshard_reopen.specs.Rebuilt.{others, MayReplace};
 
 use keyrange::covers_once;
 use reshard_create::{MOST_PARTS, next_ranges};
-use reshard_cutover::copy_part;
-use serving::{Seated, ShardReference};
+use serving::{Seated, ShardReference, copy_part};
 use std::alloc::Global;
 use vt_value::Refusal;
 

@@ -17,11 +17,12 @@ use opening::opening_shards;
 use route_engine::{Engine, Gate};
 use serving::{Partition, Serving, ShardReference};
 use shard::{Limits, MOST_ROWS, MOST_STORED, Shard, ShardLaw, ShardPass, ShardState, Store, World};
+use shard_contents::copy_shard;
 use shard_run::Mode;
 use std::alloc::Global;
 use std::sync::Arc;
-use vschema::{Place, Table, VSchema};
-use vt_value::{Items, Refusal};
+use vschema::{Table, VSchema};
+use vt_value::Refusal;
 
 // A store of these tables, without rows.
 fn empty_store(alloc: Global, tables: &[Table]) -> Result<Store, Refusal>
@@ -33,29 +34,6 @@ fn empty_store(alloc: Global, tables: &[Table]) -> Result<Store, Refusal>
         store.push_table(alloc, table)?;
     }
     Ok(store)
-}
-
-fn copy_place(place: &Place) -> Place
-    ensures { result ≡ place.now }
-{
-    Place {
-        keyspace: place.keyspace,
-        range: place.range,
-    }
-}
-
-fn copy_shard(
-    alloc: Global,
-    shard: &shard_run::ShardRecord,
-) -> Result<shard_run::ShardRecord, Refusal>
-    ensures ok { IfOk result (λ copy. copy ≡ shard.now) }
-    ensures err { IfErr result (λ e. e ≡ Refusal.OutOfMemory) }
-{
-    Ok(shard_run::ShardRecord {
-        slot: shard.slot,
-        place: copy_place(&shard.place),
-        sources: Items::from_slice(alloc, shard.sources.as_slice())?,
-    })
 }
 
 // An opening shard whose tables are empty, with the seat of its slot.

@@ -3,11 +3,10 @@ ghost use Rattle.std.specs.Prelude.{◌≡◌, ◌↔◌, IsTrue, IsSome, None, 
 ghost use Rattle.serving.specs.Partitions.{AreOf};
 
 use journal::Naming;
-use serving::{Partition, Seated, ShardReference};
+use serving::{Partition, Seated, ShardReference, copy_part};
 use shard::{Pending, Shard, World};
 use std::alloc::Global;
 use std::marker::Model;
-use std::sync::Arc;
 use vt_value::Refusal;
 
 /// The shard that a transaction is bound to, its keyspace, and the partition by which a statement needed it. Contracts see a `BoundView`.
@@ -28,13 +27,6 @@ impl<W: World, J: Naming> Model for Bound<W, J> {
     ghost view = { λ b. record { keyspace = b.keyspace; seat = b.part; seats = b.partition } };
 
     ghost invariant = { λ b. (b.part.2 ≡ b.keyspace) × AreOf b.keyspace b.partition };
-}
-
-fn copy_part<S: Seated + Drop>(part: &ShardReference<S>) -> Result<ShardReference<S>, Refusal>
-    ensures ok { IfOk result (λ copy. copy ≡ part.now) }
-    ensures err { IfErr result (λ e. e ≡ Refusal.OutOfMemory) }
-{
-    Ok(ShardReference::new(Arc::try_clone(part.shard())?))
 }
 
 fn copy_parts<S: Seated + Drop>(
