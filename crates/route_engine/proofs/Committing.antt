@@ -1,5 +1,5 @@
 -- One try to commit a write on the one shard that it needs by a partition, and what it means over the one database.
-use Rattle.std.proofs.Common.{◌≡◌, ℕ, ◌≤◌, true, false, List, [], ◌∷◌, ◌++◌, length, Ok, Err, refl, sym, ap, subst, ◌∙◌, inl}
+use Rattle.std.proofs.Common.{◌≡◌, ℕ, ◌≤◌, true, false, List, [], ◌∷◌, ◌++◌, length, refl, sym, ap, subst, ◌∙◌, inl}
 use Rattle.std.specs.List.{AllByRecursion}
 use Rattle.std.proofs.lemmas.List.Sorted.{length_permutation}
 use Rattle.vt_value.specs.declared.refusal.Refusal.{Refusal}
@@ -35,6 +35,7 @@ use Rattle.shard_contents.specs.Commits.{IsPlaced, HasCommitted, HasAnswered, Is
 use Rattle.shard_contents.proofs.Legality.{legal_is}
 use Rattle.shard.specs.Seats.{place_at}
 use Rattle.shard_calls.specs.declared.reply.Answer.TheVariants.{Count}
+use Rattle.shard_calls.specs.declared.reply.Tried.TheVariants.{Done}
 use Rattle.shard_calls.specs.Alone as over
 use Rattle.shard_calls.specs.Alone.{GivesOver}
 use Rattle.shard_calls.specs.Answers as a
@@ -55,7 +56,7 @@ module _ (o : Opening) (opens : IsOpening o) (formed : is_vschema o.schema ≡ t
   needed_is : needed t r seats ≡ needed_by o w seats
   needed_is = ap (λ (x : Table). needed x r seats) t_is ∙ ap (λ (x : Route). needed (table_at o.schema (written_table w)) x seats) r_is
 
-  pub nowhere : needed t r seats ≡ [] → IsTried o limits p w (Ok 0) p
+  pub nowhere : needed t r seats ≡ [] → IsTried o limits p w (Done 0) p
   nowhere none =
       written (a.nowhere seats is (sym needed_is ∙ none) ([], stays o p legal)
       (nowhere_over o opens formed p.seen (legal_is o p.seen legal) w is_typed seats is (sym needed_is ∙ none)))

@@ -1,5 +1,5 @@
 -- One try to commit a write on the one shard that it needs by a partition.
-use Rattle.std.proofs.Common.{◌≡◌, ℕ, ◌<◌, ◌≤◌, true, false, ◌==◌, List, [], ◌∷◌, length, filter, Some, Ok, Err, Result, refl, sym, ap, subst, ◌∙◌, inl, inr}
+use Rattle.std.proofs.Common.{◌≡◌, ℕ, ◌<◌, ◌≤◌, true, false, ◌==◌, List, [], ◌∷◌, length, filter, Some, refl, sym, ap, subst, ◌∙◌, inl, inr}
 use Rattle.std.specs.List.{All, AllByRecursion, list_all}
 use Rattle.std.proofs.lemmas.Bool.{and_from, eq-eqb}
 use Rattle.std.proofs.lemmas.List.Sums.{length-filter}
@@ -32,6 +32,8 @@ use Rattle.serving.specs.Partitions.{Seat, IsPartition, ranges}
 use Rattle.shard_law.specs.declared.limits.Limits.{Limits}
 use Rattle.shard_law.specs.Entries.{MayFollow, HasLooked, commit_of}
 use Rattle.shard_contents.specs.Commits.{IsPlaced}
+use Rattle.shard_calls.specs.declared.reply.Tried.{Tried}
+use Rattle.shard_calls.specs.declared.reply.Tried.TheVariants.{Done, Again}
 use Rattle.shard_calls.specs.Answers as a
 use Rattle.shard_calls.specs.Answers.{needed, needed_by, NeedsAlone, HasGone, HasWritten, IsHeldUp, MayWriteRefuse, is_writable}
 use Rattle.shard_calls.specs.inner.Scatter.{IsTried, written, again}
@@ -137,26 +139,26 @@ pub record CameBack (o : Opening) (w w' : Write) (p now : PassView Entry) : Type
   pub gone : HasGone o p now
   pub held : IsHeldUp o (table_at o.schema (written_table w)) (write_route o.schema w) is_writable p.seen now.seen
 
-pub came_back : (o : Opening) (limits : Limits) (w w' : Write) (p now : PassView Entry) (r : Result ℕ Write) → r ≡ Err w' → IsTried o limits p w r now
+pub came_back : (o : Opening) (limits : Limits) (w w' : Write) (p now : PassView Entry) (r : Tried) → r ≡ Again w' → IsTried o limits p w r now
     → CameBack o w w' p now
 came_back o limits w w' p now _ is (written h) = absurd (cc is)
 came_back o limits w w' p now _ is (again gone held) = record { same = same w w' is; gone = gone; held = held }
   where
-    same : (x y : Write) → ◌≡◌ {A = Result ℕ Write} (Err x) (Err y) → y ≡ x
-    same x y e = sym (ap (λ (r : Result ℕ Write). write_of x r) e)
+    same : (x y : Write) → Again x ≡ Again y → y ≡ x
+    same x y e = sym (ap (λ (r : Tried). write_of x r) e)
       where
-        write_of : Write → Result ℕ Write → Write
-        write_of d (Ok n) = d
-        write_of d (Err v) = v
+        write_of : Write → Tried → Write
+        write_of d (Done n) = d
+        write_of d (Again v) = v
 
-pub is_written : (o : Opening) (limits : Limits) (w : Write) (count : ℕ) (p now : PassView Entry) (r : Result ℕ Write) → r ≡ Ok count → IsTried o limits p w r now
+pub is_written : (o : Opening) (limits : Limits) (w : Write) (count : ℕ) (p now : PassView Entry) (r : Tried) → r ≡ Done count → IsTried o limits p w r now
     → HasWritten o limits p w (record { answer = Rattle.shard_calls.specs.declared.reply.Answer.TheVariants.Count count; reads = [] }) now
 is_written o limits w count p now _ is (written {count = n} h) = subst (λ k. HasWritten o limits p w (record { answer = Rattle.shard_calls.specs.declared.reply.Answer.TheVariants.Count k; reads = [] }) now) (same n count is) h
   where
-    same : (x y : ℕ) → ◌≡◌ {A = Result ℕ Write} (Ok x) (Ok y) → x ≡ y
-    same x y e = ap (λ (r : Result ℕ Write). number_or x r) e
+    same : (x y : ℕ) → Done x ≡ Done y → x ≡ y
+    same x y e = ap (λ (r : Tried). number_or x r) e
       where
-        number_or : ℕ → Result ℕ Write → ℕ
-        number_or d (Ok n) = n
-        number_or d (Err v) = d
+        number_or : ℕ → Tried → ℕ
+        number_or d (Done n) = n
+        number_or d (Again v) = d
 is_written o limits w count p now _ is (again gone held) = absurd (cc is)

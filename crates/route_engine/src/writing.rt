@@ -14,20 +14,20 @@ use journal::Naming;
 use planner::{Route, write_route};
 use serving::Partition;
 use shard::{CommitOutcome, Shard, ShardPass, World, written_table};
-use shard_calls::{Answer, Gate, Reply, counted, look_at_each, only_needed, shard_of};
+use shard_calls::{Answer, Gate, Reply, Tried, counted, look_at_each, only_needed, shard_of};
 use std::alloc::Global;
 use std::sync::Wait;
 use vschema::{Table, Write};
 use vt_value::Refusal;
 
 // The count, or the write again if its shard took no commits.
-fn tried(committed: CommitOutcome) -> Result<u64, Write>
+fn tried(committed: CommitOutcome) -> Tried
     ensures { result ≡ tried committed }
 {
     match committed {
-        CommitOutcome::Count(count) => Ok(count),
-        CommitOutcome::Frozen(write) => Err(write),
-        CommitOutcome::NotServing(write) => Err(write),
+        CommitOutcome::Count(count) => Tried::Done(count),
+        CommitOutcome::Frozen(write) => Tried::Again(write),
+        CommitOutcome::NotServing(write) => Tried::Again(write),
     }
 }
 
@@ -43,7 +43,7 @@ impl<W: World + Send + Sync, J: Naming + Send + Sync, G: Gate> Engine<W, J, G> {
         table: &Table,
         route: &Route,
         write: Write,
-    ) -> Result<Result<u64, Write>, Refusal>
+    ) -> Result<Tried, Refusal>
         requires partition { AreOf table.now.keyspace partition.now }
         requires table { table.now ≡ table_at W.opening.schema (written_table write) }
         requires route { route.now ≡ write_route W.opening.schema write }
@@ -64,7 +64,7 @@ impl<W: World + Send + Sync, J: Naming + Send + Sync, G: Gate> Engine<W, J, G> {
             }
             Ok(None) => {
                 drop(write);
-                Ok(Ok(0))
+                Ok(Tried::Done(0))
             }
             Err(refusal) => {
                 drop(write);
@@ -98,8 +98,8 @@ impl<W: World + Send + Sync, J: Naming + Send + Sync, G: Gate> Engine<W, J, G> {
         for _ in rt.forever() {
             let attempt = self.attempt(rt, table.keyspace);
             match self.commit(rt, alloc, pass, attempt.partition(), table, route, write) {
-                Ok(Ok(count)) => return Ok(count),
-                Ok(Err(again)) => write = again,
+                Ok(Tried::Done(count)) => return Ok(count),
+                Ok(Tried::Again(again)) => write = again,
                 Err(refusal) => return Err(refusal),
             }
             if let Err(refusal) = attempt.wait(rt) {

@@ -10,7 +10,7 @@ mod tx;
 
 pub use gate::{Gate, Open};
 pub use parts::{look_at_each, only_needed, shard_of};
-pub use reply::{Answer, Reply, Selected, ShardRead, counted};
+pub use reply::{Answer, Reply, Selected, ShardRead, Tried, counted};
 pub use scatter::{Gathered, ReadJob, ReadResult, gather, jobs, read_all};
 pub use transactions::{
     closes, commit_at, ends, read_at, read_first, read_nothing, stays_open, write_at, write_first,

@@ -4,7 +4,7 @@ ghost use Rattle.std.specs.Prelude.{◌≡◌, []};
 use operators::ShownRows;
 use sql_tree::Item;
 use std::alloc::Global;
-use vschema::Join;
+use vschema::{Join, Write};
 use vt_value::Items;
 
 /// What a query gave: the table or the two that it is over and what it shows, by the places of columns, and its rows.
@@ -23,6 +23,13 @@ pub struct Selected {
 pub enum Answer {
     Rows(Selected),
     Count(u64),
+}
+
+/// What one try to commit a write outside a transaction came to: the count of its rows, or the write again if its shard took no commits.
+#[derive(Drop)]
+pub enum Tried {
+    Done(u64),
+    Again(Write),
 }
 
 /// A shard that a query read, by its slot, and how many entries it had then.

@@ -22,6 +22,8 @@ use Rattle.serving.specs.Partitions.{Seat, IsPartition}
 use Rattle.shard_law.specs.Entries.{HasLooked}
 use Rattle.shard_contents.specs.Shards.{AnswersQuery}
 use Rattle.shard_calls.specs.declared.reply.ShardRead.{ShardRead}
+use Rattle.shard_calls.specs.declared.reply.Tried.{Tried}
+use Rattle.shard_calls.specs.declared.reply.Tried.TheVariants.{Done, Again}
 use Rattle.vschema.specs.declared.changes.Write.{Write}
 use Rattle.sql_eval.specs.Writes.{written_table}
 use Rattle.planner.specs.Routes.{table_at, write_route}
@@ -151,14 +153,14 @@ pub record IsFinished (o : Opening) (t : Table) (plan : Plan) (p : PassView Entr
   pub finished : Finishes plan.finish (flat_map (λ l. l) pieces) rows
 
 -- a count, or the write again if its shard took no commits
-abbrev pub tried : CommitOutcome → Result ℕ Write
-tried (c.Count n) = Ok n
-tried (c.Frozen w) = Err w
-tried (c.NotServing w) = Err w
+abbrev pub tried : CommitOutcome → Tried
+tried (c.Count n) = Done n
+tried (c.Frozen w) = Again w
+tried (c.NotServing w) = Again w
 
 -- What one try to commit a write gives: it is written; or its one shard took no commits at a look, and the write comes back.
-pub data IsTried (o : Opening) (limits : Limits) (p : PassView Entry) (w : Write) : Result ℕ Write → PassView Entry → Type 0 where
+pub data IsTried (o : Opening) (limits : Limits) (p : PassView Entry) (w : Write) : Tried → PassView Entry → Type 0 where
   written : {count : ℕ} {now : PassView Entry} → HasWritten o limits p w (record { answer = Count count; reads = [] }) now
-      → IsTried o limits p w (Ok count) now
+      → IsTried o limits p w (Done count) now
   again : {now : PassView Entry} → HasGone o p now
-      → IsHeldUp o (table_at o.schema (written_table w)) (write_route o.schema w) is_writable p.seen now.seen → IsTried o limits p w (Err w) now
+      → IsHeldUp o (table_at o.schema (written_table w)) (write_route o.schema w) is_writable p.seen now.seen → IsTried o limits p w (Again w) now

@@ -22,11 +22,11 @@ pub commit-requires-clause-typed : goal.commit-requires-clause-typed
 commit-requires-clause-typed g c κs within =
     subst (Rattle.vschema.specs.TypedWrites.IsTypedWrite g.W.World.opening.schema) (sym c.loop.invariant.same) c.requires.typed
 
-pub returns-in-Ok-Ok-clause-ok : goal.returns-in-Ok-Ok-clause-ok
-returns-in-Ok-Ok-clause-ok g c =
-    let done = rw c.loop.invariant.same at c.in-Ok-Ok.ensures.ok in
-    w.written_after g.W.World.opening g.W.World.limits c.args.write c.args.pass.now c.loop.pass c.commit.new.pass c.loop.invariant.gone c.in-Ok-Ok.count
-    (w.is_written g.W.World.opening g.W.World.limits c.args.write c.in-Ok-Ok.count c.loop.pass c.commit.new.pass c.in-Ok-Ok.field-0 c.in-Ok-Ok.field-0-is done)
+pub returns-in-Ok-Done-clause-ok : goal.returns-in-Ok-Done-clause-ok
+returns-in-Ok-Done-clause-ok g c =
+    let done = rw c.loop.invariant.same at c.in-Ok-Done.ensures.ok in
+    w.written_after g.W.World.opening g.W.World.limits c.args.write c.args.pass.now c.loop.pass c.commit.new.pass c.loop.invariant.gone c.in-Ok-Done.count
+    (w.is_written g.W.World.opening g.W.World.limits c.args.write c.in-Ok-Done.count c.loop.pass c.commit.new.pass c.in-Ok-Done.field-0 c.in-Ok-Done.field-0-is done)
 
 pub returns-in-Err-clause-err : goal.returns-in-Err-clause-err
 returns-in-Err-clause-err g c =
@@ -35,14 +35,14 @@ returns-in-Err-clause-err g c =
 
 pub returns-in-Err-wait-clause-err : goal.returns-in-Err-wait-clause-err
 returns-in-Err-wait-clause-err g c =
-    let done = rw c.loop.invariant.same at c.in-Ok-Err.ensures.ok in
-    let back = w.came_back g.W.World.opening g.W.World.limits c.args.write c.in-Ok-Err.again c.loop.pass c.commit.new.pass c.in-Ok-Err.field-0 c.in-Ok-Err.field-0-is done in
+    let done = rw c.loop.invariant.same at c.in-Ok-Again.ensures.ok in
+    let back = w.came_back g.W.World.opening g.W.World.limits c.args.write c.in-Ok-Again.again c.loop.pass c.commit.new.pass c.in-Ok-Again.field-0 c.in-Ok-Again.field-0-is done in
     rw c.in-Err-wait.ensures.full
     (w.refused_after g.W.World.opening g.W.World.limits c.args.write c.args.pass.now c.loop.pass c.commit.new.pass c.loop.invariant.gone _
     (a.buffer_full back.gone back.held))
 
 pub loop-preserved : goal.loop-preserved
 loop-preserved g c =
-    let done = rw c.loop.invariant.same at c.in-Ok-Err.ensures.ok in
-    let back = w.came_back g.W.World.opening g.W.World.limits c.args.write c.in-Ok-Err.again c.loop.pass c.commit.new.pass c.in-Ok-Err.field-0 c.in-Ok-Err.field-0-is done in
+    let done = rw c.loop.invariant.same at c.in-Ok-Again.ensures.ok in
+    let back = w.came_back g.W.World.opening g.W.World.limits c.args.write c.in-Ok-Again.again c.loop.pass c.commit.new.pass c.in-Ok-Again.field-0 c.in-Ok-Again.field-0-is done in
     record { next = tt; finite = tt; gone = gone_on _ _ _ _ c.loop.invariant.gone back.gone; same = back.same }
