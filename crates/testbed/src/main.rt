@@ -9,7 +9,7 @@
 //! |---|---|---|
 //! | those of `test_cases` | | |
 //! | those of `test_connections` | | |
-//! | `pulled`, `threads`, `log`, `limits`, `scene` | the name of a scene of `test_cases`, `test_threads`, `log_tests`, `test_shard_limits` or `test_router` | `ok`, where it went as it is to go |
+//! | `pulled`, `threads`, `log`, `limits`, `scene` | the name of a scene of `test_cases`, `test_threads`, `test_log`, `test_shard_limits` or `test_router` | `ok`, where it went as it is to go |
 //! | `soak` | seconds, a seed, and maybe `counts`, with blanks between them | `nothing lost or doubled`, and what was done where that is asked for |
 //! | `measure` | a VSchema, the ranges of its shards with commas between them, measurements of `bench` | what each gave; standard error has how long it took |
 //!
@@ -31,7 +31,7 @@ fn answer<
     match area {
         "pulled" => test_cases::answer_pulled(alloc, case, told),
         "threads" => test_threads::answer(rt, alloc, case, told),
-        "log" => log_tests::answer(rt, alloc, case, told),
+        "log" => test_log::answer(rt, alloc, case, told),
         "limits" => test_shard_limits::answer(rt, alloc, case, told),
         "scene" => test_router::answer(rt, alloc, case, told),
         "soak" => test_soak::answer(rt, alloc, case, told),
