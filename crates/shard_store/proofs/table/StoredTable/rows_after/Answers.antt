@@ -9,7 +9,7 @@ use Rattle.shard_store.specs.Slots.{rows_in}
 use Rattle.shard_store.specs.Tables.{TableView}
 use Rattle.shard_store.specs.RowsAfter.{comes_after, IsInOrder}
 use Rattle.shard_store.proofs.Keyed.{Keyed}
-use Rattle.shard_store.proofs.RowsAfter.{walk_rows, walk_order, rows_order}
+use Rattle.shard_store.proofs.WalkedRows.{walk_rows, walk_order, rows_order}
 use Rattle.shard_store.proofs.table.StoredTable.rows_after.Goals as goal
 
 pub returns-in-Some-clause-rows : goal.returns-in-Some-clause-rows
