@@ -113,7 +113,7 @@ fn feed<W: World + Send + Sync, J: Naming + Send + Sync, R: Threads + Wait + Syn
 }
 
 // A session that begins so and is fed with this in large pieces.
-fn fed<'a>(beginning: &'a Beginning, input: &'a [u8]) -> Fed<'a> {
+fn in_large_pieces<'a>(beginning: &'a Beginning, input: &'a [u8]) -> Fed<'a> {
     Fed {
         beginning,
         input,
@@ -160,7 +160,7 @@ impl<W: World + Send + Sync, J: Naming + Send + Sync, R: Threads + Wait + Sync> 
     // Writes the replies to one command in the command phase.
     fn command(&mut self, packet: &[u8], reply: &mut Writer<Vec<u8>>) -> Result<(), Refusal> {
         let beginning = Beginning::Commands;
-        match self.converse(&fed(&beginning, packet), reply)? {
+        match self.converse(&in_large_pieces(&beginning, packet), reply)? {
             Ok(_) => Ok(()),
             Err(_) => Err(Refusal::OutOfMemory),
         }
@@ -229,10 +229,10 @@ impl<W: World + Send + Sync, J: Naming + Send + Sync, R: Threads + Wait + Sync> 
         let beginning = Beginning::Commands;
         let (rt, alloc, engine) = (self.rt, self.alloc, self.engine);
         let mut core = core_of(alloc, &beginning)?;
-        let first = fed(&beginning, before);
+        let first = in_large_pieces(&beginning, before);
         let begun = feed(rt, alloc, engine, &mut self.pass, &mut core, &first, sink);
         let deleted = other.command(DELETE_FIRST, reply);
-        let second = fed(&beginning, after);
+        let second = in_large_pieces(&beginning, after);
         let ended = feed(rt, alloc, engine, &mut self.pass, &mut core, &second, sink);
         deleted?;
         Ok(begun.and(ended))
