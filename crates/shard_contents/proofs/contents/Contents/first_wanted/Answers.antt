@@ -16,5 +16,5 @@ returns-then-rows-clause-ok c =
     IfOk-weaker c.first_wanted.result _ _
     (λ first is.
     subst (λ (x : Option Row). AreFirst t (is_left_to_copy c.args.place.now t x) all first.items) c.as_ref-last.ensures.value
-    (first_of c.args.place.now t after (c.in_ok-rows.rows.slots ++ c.in_ok-rows.rows.with_owned) all first.items c.in_ok-rows.ensures.rows is))
+    (first_of c.args.place.now t after (c.in_ok-rows.rows.slots ++ c.in_ok-rows.rows.unslotted) all first.items c.in_ok-rows.ensures.rows is))
     c.first_wanted.ensures.ok
