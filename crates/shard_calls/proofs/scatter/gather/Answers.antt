@@ -14,7 +14,7 @@ pub loop-one-init : goal.loop-one-init
 loop-one-init g c = record {
   gathers =
       begins_at _ _ _ (into_iter_items c.into_iter-one-iterator.result) c.args.done.items _ _ (gives g c)
-      (ap (map (λ r. reverse r.reversed.items)) c.new.ensures.items) c.new-2.ensures c.requires.legal;
+      (ap (map (λ r. reverse r.reversed)) c.new.ensures.items) c.new-2.ensures c.requires.legal;
   long = c.into_iter-one-iterator.ensures.into_iter_gives.1 ∙ c.args.done.ok.0 ∙ ap length (sym (gives g c));
   refused = subst (AllByRecursion (λ d. IfErr d.outcome (λ e. e ≡ OutOfMemory))) (sym (gives g c)) c.requires.refused;
 }

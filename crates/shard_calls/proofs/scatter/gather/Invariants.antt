@@ -9,7 +9,7 @@ use Rattle.shard_calls.proofs.scatter.gather.Given as goal
 abbrev pub invariant-loop-one : goal.invariant-loop-one
 invariant-loop-one g l =
     record {
-      gathers : Gathers g.W.World.opening l.fn.pass l.pass (map (λ r. reverse r.reversed.items) l.gathered.pieces.items) l.gathered.reads
+      gathers : Gathers g.W.World.opening l.fn.pass l.pass (map (λ r. reverse r.reversed) l.gathered.pieces.items) l.gathered.reads
           (map (λ d. record { slot = d.slot; pass = d.pass; outcome = d.outcome }) (into_iter_items l.one-iterator))
           (map (λ d. record { slot = d.slot; pass = d.pass; outcome = d.outcome }) l.fn.done.items);
       long : into_iter_len l.one-iterator ≡ length (into_iter_items l.one-iterator);

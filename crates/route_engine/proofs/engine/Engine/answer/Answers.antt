@@ -14,20 +14,20 @@ given_back P f xs all k d within = subst P (get_or-map f xs k d (f d) within) (a
 pub answer_in_order-requires : goal.answer_in_order-requires
 answer_in_order-requires g c = record {
   order = λ plain.
-      given_back (λ piece. IsSorted (row_cmp c.args.plan.now.finish.order_by) piece) (λ r. reverse r.reversed.items) c.in_ok-pieces.field-0.pieces.items
-      (c.requires.order (map (λ r. reverse r.reversed.items) c.in_ok-pieces.field-0.pieces.items) c.in_ok-pieces.field-0.reads c.scatter_until.new.pass
+      given_back (λ piece. IsSorted (row_cmp c.args.plan.now.finish.order_by) piece) (λ r. reverse r.reversed) c.in_ok-pieces.field-0.pieces.items
+      (c.requires.order (map (λ r. reverse r.reversed) c.in_ok-pieces.field-0.pieces.items) c.in_ok-pieces.field-0.reads c.scatter_until.new.pass
       c.in_ok-pieces.ensures.ok plain);
   fit =
-      subst (CanJoin c.args.plan.now.finish.grouping) (sym (flat_mapped (λ r. reverse r.reversed.items) c.in_ok-pieces.field-0.pieces.items))
-      (c.requires.fit (map (λ r. reverse r.reversed.items) c.in_ok-pieces.field-0.pieces.items) c.in_ok-pieces.field-0.reads c.scatter_until.new.pass
+      subst (CanJoin c.args.plan.now.finish.grouping) (sym (flat_mapped (λ r. reverse r.reversed) c.in_ok-pieces.field-0.pieces.items))
+      (c.requires.fit (map (λ r. reverse r.reversed) c.in_ok-pieces.field-0.pieces.items) c.in_ok-pieces.field-0.reads c.scatter_until.new.pass
       c.in_ok-pieces.ensures.ok);
 }
 
 pub returns-in-Ok-clause-ok : goal.returns-in-Ok-clause-ok
 returns-in-Ok-clause-ok g c = record {
-  pieces = map (λ r. reverse r.reversed.items) c.in_ok-pieces.field-0.pieces.items;
+  pieces = map (λ r. reverse r.reversed) c.in_ok-pieces.field-0.pieces.items;
   scattered = c.in_ok-pieces.ensures.ok;
   finished =
       subst (λ (l : List Row). Finishes c.args.plan.now.finish l c.in-Ok.rows)
-      (flat_mapped (λ r. reverse r.reversed.items) c.in_ok-pieces.field-0.pieces.items) c.in-Ok.ensures.ok;
+      (flat_mapped (λ r. reverse r.reversed) c.in_ok-pieces.field-0.pieces.items) c.in-Ok.ensures.ok;
 }
