@@ -1,6 +1,6 @@
 pub mod Lists
 pub mod Rising
-pub mod Looks
+pub mod SeenShards
 pub mod Parts
 pub mod Ranges
 pub mod Named

@@ -16,7 +16,7 @@ use Rattle.reshard_cutover.specs.Overlapping.{AreThose}
 use Rattle.reshard_create.specs.Splits.{AreOverlapped}
 use Rattle.reshard_create.specs.Begun.{WasSeen, IsServing, IsAway}
 use Rattle.reshard_create.specs.inner.Created.{HasGrown, added, left, IsSighted, IsSourceState, serves, does_not, another, IsMade, IsMadeOf, IsSeenAt}
-use Rattle.reshard_create.proofs.Looks.{seat_is, seen_since, seen_until}
+use Rattle.reshard_create.proofs.SeenShards.{seat_is, seen_since, seen_until}
 use mathlib.Core.List.{IsPrefix}
 use Rattle.journal.specs.Views.{PassView}
 use Rattle.shard_law.proofs.Lists.{all-weaker}

@@ -27,7 +27,7 @@ use Rattle.reshard_create.specs.inner.Created.{AreToldApart, HasSeen}
 use Rattle.reshard_cutover.proofs.Permuted.{all_permuted}
 use Rattle.reshard_create.proofs.Lists.{map_twice, all_map, all_from_map, all_both}
 use Rattle.reshard_create.proofs.Ranges.{same_from_cover, cover_from_same}
-use Rattle.reshard_create.proofs.Looks.{AreShardsAt, shards_at, shards_since, shards_until, seen_until, seen_as, serves_not_follows}
+use Rattle.reshard_create.proofs.SeenShards.{AreShardsAt, shards_at, shards_since, shards_until, seen_until, seen_as, serves_not_follows}
 use Rattle.reshard_create.proofs.Parts.{taken_are, taken_once, all_parts, apart_from_once, once_permuted}
 
 pub no_items : {X : Type 0} (xs : List X) → length xs ≡ 0 → xs ≡ []

@@ -1,6 +1,6 @@
 use Rattle.reshard_cutover.proofs.Onward.{onward_trans}
 use Rattle.reshard_create.specs.Begun.{IsNotFollowing}
-use Rattle.reshard_create.proofs.Looks.{sighted_at}
+use Rattle.reshard_create.proofs.SeenShards.{sighted_at}
 use Rattle.reshard_create.proofs.looks.look_at.Goals as goal
 
 pub returns-then-stands_once-clause-seen : goal.returns-then-stands_once-clause-seen

@@ -4,7 +4,7 @@ use Rattle.shard_contents.proofs.Progress.{take_whole}
 use Rattle.reshard_cutover.proofs.Onward.{onward_trans}
 use Rattle.reshard_create.specs.Begun.{IsNotFollowing}
 use Rattle.reshard_create.specs.inner.Created.{HasSeen}
-use Rattle.reshard_create.proofs.Looks.{seen_next}
+use Rattle.reshard_create.proofs.SeenShards.{seen_next}
 use Rattle.reshard_create.proofs.looks.look_at_each.Goals as goal
 
 pub loop-part-preserved : goal.loop-part-preserved

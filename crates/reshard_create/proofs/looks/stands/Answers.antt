@@ -5,7 +5,7 @@ use Rattle.shard_run.specs.Runs.{Run, mode}
 use Rattle.shard_law.specs.Legal.{IsOnItsSlot}
 use Rattle.reshard_create.specs.Begun.{IsNotFollowing}
 use Rattle.shard.proofs.Found.{of_run}
-use Rattle.reshard_create.proofs.Looks.{opposite}
+use Rattle.reshard_create.proofs.SeenShards.{opposite}
 use Rattle.reshard_create.proofs.looks.stands.Goals as goal
 
 pub returns-clause-sighted : goal.returns-clause-sighted

@@ -3,7 +3,7 @@ use Rattle.shard_contents.proofs.Progress.{take_whole}
 use Rattle.follow.proofs.Moves.{at_some, at_not_some}
 use Rattle.reshard_cutover.proofs.Onward.{onward_trans}
 use Rattle.reshard_create.specs.Begun.{IsAway}
-use Rattle.reshard_create.proofs.Looks.{has_since}
+use Rattle.reshard_create.proofs.SeenShards.{has_since}
 use Rattle.reshard_create.proofs.Making.{picked_next, served_next}
 use Rattle.reshard_create.proofs.sources.sources_of.Goals as goal
 

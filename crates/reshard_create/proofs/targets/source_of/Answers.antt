@@ -3,7 +3,7 @@ use Rattle.vschema.specs.declared.schema.Place.{Place}
 use Rattle.reshard_cutover.proofs.Onward.{onward_trans}
 use Rattle.reshard_create.specs.Begun.{IsServing, IsAway}
 use Rattle.reshard_create.specs.inner.Created.{IsSeenAt}
-use Rattle.reshard_create.proofs.Looks.{sighted_at}
+use Rattle.reshard_create.proofs.SeenShards.{sighted_at}
 use Rattle.reshard_create.proofs.Making.{seen_serving, seen_away}
 use Rattle.reshard_create.proofs.targets.source_of.Goals as goal
 
