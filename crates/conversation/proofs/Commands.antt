@@ -96,7 +96,7 @@ module _ (o : Opening) (l : Limits) where
       → reply.answer ≡ Count 0
   commit_within p tx t _ _ (x.nowhere none over) is = absurd (subst (NeedsNone o) is none)
   commit_within p tx t _ _ (x.on_shard s seats needs all looked serves clear over) is =
-      let none : statement_keyspace o typed.Commit ≡ Some s.ordinal.keyspace = subst (λ (u : Typed). statement_keyspace o u ≡ Some s.ordinal.keyspace) is needs.keyspace in
+      let none : statement_keyspace o typed.Commit ≡ Some s.place.keyspace = subst (λ (u : Typed). statement_keyspace o u ≡ Some s.place.keyspace) is needs.keyspace in
       absurd (cc)
   commit_within p tx _ _ _ (x.commits_nothing none) is = refl
   commit_within p tx _ _ _ (x.commits_reads s used none looked serves clear over) is = refl
