@@ -18,8 +18,7 @@ use Rattle.reshard_cutover.specs.Steps.{named_for}
 use Rattle.reshard_cutover.specs.TargetSources.{TargetWithSources, shards_of}
 use Rattle.reshard.specs.inner.Workflows.{IsPrepared}
 use Rattle.reshard_cutover.specs.FirstMoves.{IsMoveRefusal}
-use Rattle.reshard_create.specs.Begun as begun
-use Rattle.reshard_cutover.specs.FirstMoves as firstmoves_of
+use Rattle.reshard_cutover.specs.FirstMoves as first_moves
 use Rattle.reshard.specs.Cutover.{IsSwitchRefusal, no_memory, no_room, stuck, overfull, HasNoRoom}
 use Rattle.reshard_cutover.specs.Looks.{IsServingAgain}
 use Rattle.reshard_create.proofs.Begins.{map_twice}
@@ -85,8 +84,8 @@ module _ (o : Opening) (most : Limits) (sources : List ShardRecord) (targets : L
 
 module _ (o : Opening) (most : Limits) (sources : List ShardRecord) (targets : List TargetWithSources) (p now : PassView Entry) where
   pub from_move : (e : ReshardFault) → IsPrefix p.seen now.seen → IsMoveRefusal o most targets now e → IsSwitchRefusal o most sources targets p now e
-  from_move _ later begun.no_memory = no_memory
-  from_move _ later (firstmoves_of.full t among is) =
+  from_move _ later first_moves.no_memory = no_memory
+  from_move _ later (first_moves.full t among is) =
       stuck t among (record { run = now.seen; between = record { since = later; until = prefix_self now.seen }; full = is })
 
 pub serving_within : (o : Opening) (p p' now now' : PassView Entry) (sources : List ShardRecord) → IsPrefix p'.seen p.seen → IsPrefix now.seen now'.seen

@@ -20,7 +20,7 @@ use Rattle.reshard.specs.declared.workflow.Stage.TheVariants.{Following, Switchi
 use Rattle.reshard.specs.declared.cutover.CutoverStep.{CutoverStep}
 use Rattle.reshard.specs.declared.cutover.CutoverStep.TheVariants as steps
 use Rattle.reshard_cutover.specs.FirstMoves.{HasMovedFirst}
-use Rattle.reshard_cutover.specs.FirstMoves as firstmoves_of
+use Rattle.reshard_cutover.specs.FirstMoves as first_moves
 use Rattle.reshard_cutover.specs.Steps.{named_for}
 use Rattle.reshard.specs.Workflows.{WorkflowView}
 use Rattle.reshard_cutover.specs.TargetSources.{TargetWithSources, shards_of}
@@ -41,9 +41,9 @@ module _ (o : Opening) (targets : List TargetWithSources) (p q now : PassView En
 
   -- a step of the targets counts from any time before it
   pub first_after : (step : Step) → HasMovedFirst o targets q now step → HasMovedFirst o targets p now step
-  first_after step (firstmoves_of.one before after t is all moved) =
-      firstmoves_of.one before after t is (levels before all) (with_after o t.1 t.0 p q now on step moved)
-  first_after _ (firstmoves_of.all_level all) = firstmoves_of.all_level (levels targets all)
+  first_after step (first_moves.one before after t is all moved) =
+      first_moves.one before after t is (levels before all) (with_after o t.1 t.0 p q now on step moved)
+  first_after _ (first_moves.all_level all) = first_moves.all_level (levels targets all)
 
 module _ (o : Opening) (w now : WorkflowView) (p q r : PassView Entry) (on : IsOnward o p q) where
   since : (step : CutoverStep) → HasSwitched o (record w { prepared = true }) now q r step → HasSwitched o w now p r step
@@ -160,9 +160,9 @@ module _ (o : Opening) (targets : List TargetWithSources) (p q now : PassView En
 
   -- what was level stays so in what the pass sees later
   pub level_later : HasMovedFirst o targets p q Level → HasMovedFirst o targets p now Level
-  level_later (firstmoves_of.one before after t is all moved) =
-      firstmoves_of.one before after t is (levels_later before all) (with_later o t.1 t.0 p q now on moved)
-  level_later (firstmoves_of.all_level all) = firstmoves_of.all_level (levels_later targets all)
+  level_later (first_moves.one before after t is all moved) =
+      first_moves.one before after t is (levels_later before all) (with_later o t.1 t.0 p q now on moved)
+  level_later (first_moves.all_level all) = first_moves.all_level (levels_later targets all)
 
 pub within_between : (o : Opening) (most : Limits) (targets : List TargetWithSources) (p p' now now' : PassView Entry) → IsPrefix p'.seen p.seen → IsPrefix now.seen now'.seen
     → AllByRecursion (λ t. IsWithinRows o most t.0 p now) targets → AllByRecursion (λ t. IsWithinRows o most t.0 p' now') targets
