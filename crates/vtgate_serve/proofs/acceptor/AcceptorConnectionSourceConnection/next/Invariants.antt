@@ -1,5 +1,5 @@
 use Rattle.std.proofs.Common.{◌≡◌, ◌≤◌}
-use Rattle.vtgate_serve.proofs.acceptor.AcceptorEntranceConnection.next.Given as goal
+use Rattle.vtgate_serve.proofs.acceptor.AcceptorConnectionSourceConnection.next.Given as goal
 
 -- connections that could have no session may have been counted
 abbrev pub invariant-loop : goal.invariant-loop
