@@ -46,7 +46,8 @@ impl Incoming {
         }
     }
 
-    fn take_packets(&mut self, bytes: &[u8]) {
+    // Takes packets in pieces.
+    fn take_pieces(&mut self, bytes: &[u8]) {
         let mut rest = bytes;
         for _ in 0..bytes.len() {
             if rest.is_empty() {
@@ -57,6 +58,14 @@ impl Incoming {
             if let Some(part) = part {
                 self.take_part(part);
             }
+        }
+    }
+
+    // Takes packets. Mostly a command comes whole and alone.
+    fn take_packets(&mut self, bytes: &[u8]) {
+        match self.packets.take_whole(bytes) {
+            Some(part) => self.take_part(part),
+            None => self.take_pieces(bytes),
         }
     }
 

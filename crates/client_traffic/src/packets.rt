@@ -73,6 +73,27 @@ impl Packets {
         }
     }
 
+    /// Takes the payload of a packet that these bytes are as a whole, if none has begun; else it takes nothing.
+    pub fn take_whole<'b>(&mut self, bytes: &'b [u8]) -> Option<Part<'b>> {
+        if self.head > 0 {
+            return None;
+        }
+        let [low, middle, high, number, payload @ ..] = bytes else {
+            return None;
+        };
+        let len = usize::from(*low) + usize::from(*middle) * 0x100 + usize::from(*high) * 0x1_0000;
+        if payload.len() != len {
+            return None;
+        }
+        Some(Part {
+            number: *number,
+            len,
+            is_first: true,
+            is_last: true,
+            bytes: payload,
+        })
+    }
+
     /// Takes a byte of a head, or what is there of a payload, and tells it and the bytes that are left. A payload without bytes is a part.
     pub fn take<'b>(&mut self, bytes: &'b [u8]) -> (Option<Part<'b>>, &'b [u8]) {
         if self.head < HEAD {
