@@ -1,7 +1,7 @@
 //! Finding the part of a VSchema that has a fault: a small VSchema that has this part alone has the fault too.
 
 use crate::place::Place;
-use crate::texts::{fault_of, of_keyspace, of_table, with_table};
+use crate::texts::{fault_of, of_keyspace, of_table, with_table, without_tables};
 use serde_json::Value;
 use std::alloc::{AllocError, Global};
 
@@ -118,7 +118,7 @@ fn find_in_keyspace(
     place: &mut Place,
 ) -> Result<(), AllocError> {
     put(&mut place.keyspace, name)?;
-    let bare = of_keyspace(alloc, name, &with_table(alloc, keyspace, None)?)?;
+    let bare = of_keyspace(alloc, name, &without_tables(alloc, keyspace)?)?;
     let tables = keyspace.get("tables").and_then(Value::as_object);
     let Some(tables) = tables else {
         return put(&mut place.member, member_of_keyspace(number, keyspace));
@@ -130,13 +130,11 @@ fn find_in_keyspace(
             unknown.unwrap_or(member_of_keyspace(number, keyspace)),
         );
     }
+    // Whether a table is ill-formed doesn't depend on vindexes. With any other number all vindexes have a known type, whose word is short.
+    let has_vindexes = number != ILL_FORMED;
     for (table, value) in tables {
-        let alone = with_table(
-            alloc,
-            keyspace,
-            Some((table.as_str(), &value.to_string(alloc)?)),
-        )?;
-        if fault_of(alloc, &of_keyspace(alloc, name, &alone)?) == Some(number) {
+        let alone = with_table(alloc, keyspace, table.as_str(), value, has_vindexes)?;
+        if fault_of(alloc, &of_keyspace(alloc, "k", &alone)?) == Some(number) {
             put(&mut place.table, table.as_str())?;
             let member = match unknown_member(value, &OF_TABLE) {
                 Some(unknown) if number == ILL_FORMED => unknown,
@@ -148,7 +146,7 @@ fn find_in_keyspace(
     Ok(())
 }
 
-/// If the text is no JSON.
+/// What a text means, if it is JSON; else where it stops to be.
 fn find_end(alloc: Global, text: &str, place: &mut Place) -> Option<Value> {
     match Value::from_str(alloc, text) {
         Ok(value) => Some(value),
@@ -160,9 +158,9 @@ fn find_end(alloc: Global, text: &str, place: &mut Place) -> Option<Value> {
     }
 }
 
-/// If the fault with this number lies in a VSchema's text: in the first keyspace that has it alone, and there in the first table; else in no
-/// keyspace, as that of two keyspaces with a table of one name.
-pub fn ordinal_of(alloc: Global, text: &str, number: u8) -> Result<Place, AllocError> {
+/// Where the fault with this number lies in a VSchema's text, found in time n log n: in the first keyspace that has it alone, and there in the
+/// first table; else in no keyspace, as that of two keyspaces with a table of one name.
+pub fn place_of(alloc: Global, text: &str, number: u8) -> Result<Place, AllocError> {
     let mut place = Place::whole(alloc);
     let Some(value) = find_end(alloc, text, &mut place) else {
         return Ok(place);

@@ -1,9 +1,9 @@
-//! If the fault of a VSchema lies: which keyspace, table and member have it, or if the text is no JSON.
+//! Where the fault of a VSchema lies: which keyspace, table and member have it, or where the text stops to be JSON.
 #![tactic(auto)]
 
 mod finding;
 mod place;
 mod texts;
 
-pub use finding::ordinal_of;
+pub use finding::place_of;
 pub use place::Place;

@@ -2,13 +2,13 @@
 
 use std::alloc::Global;
 
-/// If a fault lies. What it doesn't lie in is empty, or 0.
+/// Where a fault lies. What it doesn't lie in is empty, or 0.
 #[derive(Drop)]
 pub struct Place {
     pub keyspace: String,
     pub table: String,
     pub member: String,
-    /// If the text is no JSON, from 1 on.
+    /// Where the text stops to be JSON, from 1 on.
     pub line: u64,
     pub column: u64,
 }

@@ -1,6 +1,6 @@
 //! The texts of small VSchemas, which have one part of a larger one.
 
-use serde_json::Value;
+use serde_json::{Map, Value};
 use std::alloc::{AllocError, Global};
 use vschema_json::{first_fault, parse, read_document};
 
@@ -25,17 +25,9 @@ pub(crate) fn of_keyspace(alloc: Global, name: &str, keyspace: &str) -> Result<S
     format!(in alloc; "{{\"keyspaces\":{{{keyspace}}}}}")
 }
 
-/// A keyspace with the other members of one and a single table, or none.
-pub(crate) fn with_table(
-    alloc: Global,
-    keyspace: &Value,
-    table: Option<(&str, &str)>,
-) -> Result<String, AllocError> {
-    let tables = match table {
-        Some((name, text)) => member(alloc, name, text)?,
-        None => String::new(alloc),
-    };
-    let mut text = format!(in alloc; "{{\"tables\":{{{tables}}}")?;
+/// A keyspace with the other members of one and no table.
+pub(crate) fn without_tables(alloc: Global, keyspace: &Value) -> Result<String, AllocError> {
+    let mut text = String::from_str(alloc, "{\"tables\":{}")?;
     if let Some(members) = keyspace.as_object() {
         for (name, value) in members {
             if name.as_str() != "tables" {
@@ -43,6 +35,50 @@ pub(crate) fn with_table(
                 text.push_str(&member(alloc, name.as_str(), &value.to_string(alloc)?)?)?;
             }
         }
+    }
+    text.push_str("}")?;
+    Ok(text)
+}
+
+/// The vindexes that a table names, each once, as an object. An element that names none that is there is left out.
+fn named_vindexes(alloc: Global, vindexes: &Value, table: &Value) -> Result<Value, AllocError> {
+    let mut named = Map::new(alloc);
+    let elements = table.get("column_vindexes").and_then(Value::as_array);
+    if let Some(elements) = elements {
+        for element in elements.as_slice() {
+            if let Some(name) = element.get("name").and_then(Value::as_str) {
+                if let Some(vindex) = vindexes.get(name) {
+                    named.insert(String::from_str(alloc, name)?, vindex.clone()?)?;
+                }
+            }
+        }
+    }
+    Ok(Value::Object(named))
+}
+
+/// A keyspace with one of its tables alone, and with the vindexes that this table names, or none of them. So what is written for all tables
+/// together is about as long as the keyspace.
+pub(crate) fn with_table(
+    alloc: Global,
+    keyspace: &Value,
+    name: &str,
+    table: &Value,
+    has_vindexes: bool,
+) -> Result<String, AllocError> {
+    let alone = member(alloc, name, &table.to_string(alloc)?)?;
+    let mut text = format!(in alloc; "{{\"tables\":{{{alone}}}")?;
+    if let Some(flag) = keyspace.get("sharded") {
+        text.push_str(",\"sharded\":")?;
+        text.push_str(&flag.to_string(alloc)?)?;
+    }
+    if let Some(vindexes) = keyspace.get("vindexes") {
+        let named = if has_vindexes {
+            named_vindexes(alloc, vindexes, table)?
+        } else {
+            Value::Object(Map::new(alloc))
+        };
+        text.push_str(",\"vindexes\":")?;
+        text.push_str(&named.to_string(alloc)?)?;
     }
     text.push_str("}")?;
     Ok(text)

@@ -1,6 +1,6 @@
-//! What the bytes of a connection tell, and if a VSchema's fault lies.
+//! What the bytes of a connection tell, and where a VSchema's fault lies.
 use client_traffic::{Answered, Detail, Incoming, Outgoing, Replied};
-use schema_place::ordinal_of;
+use schema_place::place_of;
 use std::alloc::Global;
 use vt_value::Refusal;
 
@@ -60,7 +60,7 @@ fn is_at(
     table: &str,
     member: &str,
 ) -> Result<bool, Refusal> {
-    let place = ordinal_of(alloc, text, number)?;
+    let place = place_of(alloc, text, number)?;
     Ok(
         place.keyspace.as_str() == keyspace
             && place.table.as_str() == table

@@ -155,7 +155,7 @@ pub fn not_run<R: Log>(rt: &R, why: &NotRun) {
     error!(rt; by = why, connections = 0u32; "end");
 }
 
-/// Which fault a VSchema has, and if it lies.
+/// Which fault a VSchema has, and where it lies.
 #[derive(Clone, Copy)]
 struct FaultPlace<'p> {
     number: u8,

@@ -2,7 +2,7 @@
 
 use crate::events;
 use log::{Level, Log, log_enabled};
-use schema_place::{Place, ordinal_of};
+use schema_place::{Place, place_of};
 use std::alloc::Global;
 use std::str;
 use vtgate_setup::RunFault;
@@ -17,7 +17,7 @@ pub fn tell<R: Log>(rt: &R, alloc: Global, fault: &RunFault, text: &[u8]) {
     };
     if log_enabled!(rt; Level::Error) {
         let text = str::from_utf8(text).unwrap_or("");
-        let place = ordinal_of(alloc, text, number).unwrap_or(Place::whole(alloc));
+        let place = place_of(alloc, text, number).unwrap_or(Place::whole(alloc));
         events::faulty(rt, number, &place);
     }
 }
