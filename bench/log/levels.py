@@ -11,8 +11,9 @@ import subprocess
 import sys
 
 TOP = pathlib.Path(__file__).resolve().parents[2]
-sys.path.insert(0, str(TOP / "bench"))
+sys.path[:0] = [str(TOP / "bench"), str(TOP / "bench" / "instructions")]
 
+import measure  # noqa: E402
 import page  # noqa: E402
 
 USER, PASSWORD, DATABASE = "bench", "some password", "shop"
@@ -20,8 +21,8 @@ LEVELS = ("off", "info", "debug")
 HEAD = """## With a log
 
 Written by `bench/log.sh` on {day}, on a machine of {cores} processors, by the client of `bench/serve.sh`: statements a second, the middle of {rounds} rounds
-of {seconds} seconds. In each round the servers are measured in turn, in an order that turns with the rounds; a ratio is the middle one of the rounds.
-The log's lines go to a file. At `info` a statement has no line; at `debug` each has one, and is planned once more for it.
+of {seconds} seconds. In each round the servers are started anew and measured in turn, in an order that turns with the rounds; a ratio is the middle
+one of the rounds. The log's lines go to a file. At `info` a statement has no line; at `debug` each has one, and is planned once more for it.
 
 | statements | connections | without a log | at `info` | ratio | at `debug` | ratio | lines lost at `debug` |
 |---|---|---|---|---|---|---|---|
@@ -73,17 +74,31 @@ class Server:
 
 
 def measured(words, kind, count):
-    """The rates of each level, round by round, and the share of lines that were lost at the last level."""
-    servers = [Server(words, level) for level in LEVELS]
-    rates = {level: [] for level in LEVELS}
-    try:
-        for round_number in range(words.rounds):
+    """The rates of each level, round by round, and the share of lines that were lost at the last level. Servers are started anew for each round, since where
+    the memory of a process lies makes it some percent faster or slower."""
+    rates, lost = {level: [] for level in LEVELS}, []
+    for round_number in range(words.rounds):
+        servers = [Server(words, level) for level in LEVELS]
+        try:
             turn = round_number % len(LEVELS)
             for place in [*range(turn, len(LEVELS)), *range(turn)]:
                 rates[LEVELS[place]].append(servers[place].rate(kind, count, words.seconds))
-    finally:
-        lost = [server.stop() for server in servers]
-    return rates, lost[-1]
+        finally:
+            shares = [server.stop() for server in servers]
+        lost.append(shares[-1])
+    return rates, statistics.mean(lost)
+
+
+def instructions(program, level):
+    """The instructions of a point SELECT, as callgrind counts them."""
+    os.environ["VTGATE_LOG"] = level
+    return measure.measure(program, 2, 1000, 200, lambda time: f"SELECT * FROM t WHERE id = {time}")
+
+
+def counted(program):
+    """What the levels add to the instructions of a point SELECT, which no load of the machine changes."""
+    off, info, debug = (instructions(program, level) for level in LEVELS)
+    return f"\nA point SELECT takes {off} instructions of the server's process without a log, {info} at `info` and {debug} at `debug`, as callgrind counts them.\n"
 
 
 def row(kind, count, rates, lost):
@@ -111,6 +126,7 @@ def main():
     for kind in words.kinds.split(","):
         for count in words.connections.split(","):
             text += row(kind, count, *measured(words, kind, count))
+    text += counted(words.program)
     print(text, end="")
     if words.document:
         page.put(words.document, "log.sh", text)
