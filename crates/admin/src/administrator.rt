@@ -26,7 +26,7 @@ fn refused(fault: ReshardFault) -> AdminReply
     AdminReply::Refused(fault)
 }
 
-// Answers a line over a workflow.
+// Answers a line over a workflow. It is handed what a workflow's own calls take.
 fn answer_over<W: World, J: Naming>(
     workflow: &mut Workflow<W, J>,
     rt: &impl Wait,
@@ -127,7 +127,8 @@ impl<W: World, J: Naming> Administrator<W, J> {
     }
 
     /// Reads the words of an admin line, does what they ask for, and tells what was done, or why it wasn't. If there is no memory to
-    /// read them, the workflow stands as it stood. The partitions are those of the sharded keyspace, if there is one.
+    /// read them, the workflow stands as it stood. The partitions are those of the sharded keyspace, if there is one. They come one by one with
+    /// the VSchema and the buffer, as the calls of a workflow take them.
     pub fn answer(
         &mut self,
         rt: &impl Wait,

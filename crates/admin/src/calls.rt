@@ -19,7 +19,7 @@ use std::alloc::Global;
 use std::sync::Wait;
 use vschema::VSchema;
 
-/// Begins a workflow.
+/// Begins a workflow. It is handed what `Workflow::create` takes.
 pub(crate) fn create<W: World, J: Naming>(
     workflow: &mut Workflow<W, J>,
     rt: &impl Wait,
@@ -63,7 +63,7 @@ pub(crate) fn step<W: World, J: Naming>(
     }
 }
 
-/// Takes all steps of the cutover.
+/// Takes all steps of the cutover. It is handed what `Workflow::switch_traffic` takes.
 pub(crate) fn switch<W: World, J: Naming>(
     workflow: &mut Workflow<W, J>,
     rt: &impl Wait,
@@ -86,7 +86,7 @@ pub(crate) fn switch<W: World, J: Naming>(
     }
 }
 
-/// Takes one step of the cutover.
+/// Takes one step of the cutover. It is handed what `Workflow::switch_step` takes.
 pub(crate) fn advance<W: World, J: Naming>(
     workflow: &mut Workflow<W, J>,
     rt: &impl Wait,
