@@ -6,7 +6,7 @@ ghost use Rattle.sql_lexer.specs.inner.Results.{AgreesWith};
 ghost use Rattle.sql_tree.specs.declared.Statement.{Statement};
 ghost use Rattle.sql_tree.specs.Printing.{printed};
 ghost use Rattle.sql_parser.specs.Grammar.{Reads, is_setting};
-ghost use Rattle.sql_parser.specs.inner.Reading.{select_at, charset_at, setting_at, control_at, statement_at, is_end, is_text, text_at};
+ghost use Rattle.sql_parser.specs.inner.Reading.{select_statement_at, charset_at, setting_at, control_at, statement_at, is_end, is_text, text_at};
 
 use crate::clauses::{filter, from, group, join, limit, order};
 use crate::counting::has_few_literals;
@@ -24,35 +24,22 @@ use sql_tree::{CharacterSet, Select, Statement};
 use std::alloc::Global;
 use vt_value::{Items, Refusal};
 
-/// What was read so far together with what was read next.
-fn both<'s, A: Drop, B>(
-    first: A,
-    next: Result<(B, &'s [Token]), Refusal>,
-) -> Result<((A, B), &'s [Token]), Refusal>
-    ensures ok { IfOk result (λ x. (x.0.0 ≡ first) × (next.entry ≡ Ok (x.0.1, x.1))) }
-    ensures err { IfErr result (λ e. next.entry ≡ Err e) }
-{
-    let (second, rest) = next?;
-    Ok(((first, second), rest))
-}
-
 /// list FROM name and the clauses after it, after SELECT.
 #[tactic(auto, unfolding(crate::specs::inner::Reading::select_at))]
 fn select<'s>(
     alloc: Global,
     text: &[u8],
     tokens: &'s [Token],
-) -> Result<(Select, &'s [Token]), Refusal>
-    ensures { AgreesWith (λ x. (x.0, lexemes_of text.now x.1.now)) result (select_at (lexemes_of text.now tokens.now)) }
+) -> Result<(Statement, &'s [Token]), Refusal>
+    ensures { AgreesWith (λ x. (x.0, lexemes_of text.now x.1.now)) result (select_statement_at (lexemes_of text.now tokens.now)) }
 {
     let (list, rest) = list(alloc, text, tokens)?;
-    let (parts, rest) = both(list, from(alloc, text, rest))?;
-    let (parts, rest) = both(parts, join(alloc, text, rest))?;
-    let (parts, rest) = both(parts, filter(alloc, text, rest))?;
-    let (parts, rest) = both(parts, group(alloc, text, rest))?;
-    let (parts, rest) = both(parts, order(alloc, text, rest))?;
-    let (parts, rest) = both(parts, limit(text, rest))?;
-    let ((((((list, table), join), filter), group_by), order_by), limit) = parts;
+    let (table, rest) = from(alloc, text, rest)?;
+    let (join, rest) = join(alloc, text, rest)?;
+    let (filter, rest) = filter(alloc, text, rest)?;
+    let (group_by, rest) = group(alloc, text, rest)?;
+    let (order_by, rest) = order(alloc, text, rest)?;
+    let (limit, rest) = limit(text, rest)?;
     let select = Select {
         list,
         table,
@@ -62,7 +49,7 @@ fn select<'s>(
         order_by,
         limit,
     };
-    Ok((select, rest))
+    Ok((Statement::Select(select), rest))
 }
 
 /// identifier | string
@@ -172,10 +159,7 @@ fn statement<'s>(
     ensures { AgreesWith (λ x. (x.0, lexemes_of text.now x.1.now)) result (statement_at (lexemes_of text.now tokens.now)) }
 {
     match tokens {
-        [Token { kind: SELECT, .. }, rest @ ..] => {
-            let (select, rest) = select(alloc, text, rest)?;
-            Ok((Statement::Select(select), rest))
-        }
+        [Token { kind: SELECT, .. }, rest @ ..] => select(alloc, text, rest),
         [
             Token { kind: INSERT, .. },
             Token { kind: INTO, .. },
@@ -226,9 +210,11 @@ fn whole(alloc: Global, text: &[u8], tokens: &[Token]) -> Result<Statement, Refu
     ensures { AgreesWith (λ x. x) result (text_at (lexemes_of text.now tokens.now)) }
 {
     let (statement, rest) = statement(alloc, text, tokens)?;
-    is_text(&statement, rest)
-        .then_some(statement)
-        .ok_or(Refusal::SyntaxError)
+    if is_text(&statement, rest) {
+        Ok(statement)
+    } else {
+        Err(Refusal::SyntaxError)
+    }
 }
 
 // Promise: The tree of a text is given exactly when the whole grammar has one, within its limits, and a syntax error comes only if it

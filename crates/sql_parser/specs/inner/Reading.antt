@@ -361,6 +361,10 @@ control_at (keyword k.Set ∷ keyword k.Names ∷ rest) = charset_at rest >>= λ
 control_at (keyword k.Set ∷ rest) = setting_at rest
 control_at _ = None
 
+-- what select_at reads, as a statement
+abbrev pub select_statement_at : Lexemes → Read Statement
+select_statement_at ts = select_at ts >>= λ x. Some (Select x.0, x.1)
+
 unfoldable pub statement_at : Lexemes → Read Statement
 statement_at (keyword k.Select ∷ rest) = select_at rest >>= λ x. Some (Select x.0, x.1)
 statement_at (keyword k.Insert ∷ keyword k.Into ∷ rest) = insert_at rest >>= λ x. Some (Insert x.0, x.1)
