@@ -1,7 +1,7 @@
 //! Cases, conversations, scenes of threads, soaks and measurements, each a line: its area, a tab, and its fields with tabs between them. Line N of
 //! the output answers line N of the input, so the first line at which they differ is that of a case that fails.
 //!
-//! A case costs nothing to add: `tests/test_cases` has a file for each area, from which `scripts/test_cases --write` makes `stdin` and `stdout`. What it
+//! A case costs nothing to add: `tests/cases` has a file for each area, from which `scripts/cases --write` makes `stdin` and `stdout`. What it
 //! must give comes from outside: a standard's table, another implementation, or a definition worked by hand, and never from this program.
 //! `scripts/cases` prints each case that fails.
 //!
