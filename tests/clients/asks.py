@@ -149,7 +149,7 @@ ASKS = (
     ("go-sql-driver", go("?tls=true"), "ERROR TLS requested but server does not support TLS"),
     ("mysqli", ("php", "-r", MYSQLI + "var_dump($it->savepoint('x'));"), "bool(false)"),
     ("mysqli", ("php", "-r", MYSQLI + "var_dump($it->release_savepoint('x'));"), "bool(false)"),
-    ("mysqli", ("php", "-r", MYSQLI + "var_dump($it->begin_transaction(0, 'name'));"), "bool(false)"),
+    ("mysqli", ("php", "-r", MYSQLI + "var_dump($it->begin_transaction(0, 'name'));"), "bool(true)"),
     ("mysqli", ("php", "-r", MYSQLI + "try { $it->commit(0, 'name'); } catch (Exception $e) { echo $e->getCode(); }"), "1064"),
     ("mysqli", ("php", "-r", MYSQLI + "try { $it->multi_query('SELECT id FROM t; SELECT id FROM t'); } catch (Exception $e) { echo $e->getCode(); }"), "1064"),
     ("mysqli", ("php", "-r", KEPT + "$it->close(); " + KEPT + "echo $it->query('SELECT n FROM u')->num_rows;"), "0"),
