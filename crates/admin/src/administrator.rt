@@ -109,7 +109,7 @@ impl<W: World, J: Naming> Administrator<W, J> {
     // was done, which step was taken, or why not, by its number; other words are unknown and do nothing, and neither does a line that can't
     // be read for want of memory. `status` tells the ranges of some partition of the keyspace, or, in the midst of a
     // cutover, those of the shards that serve then, in their order, and how far the workflow is.
-    // Without a sharded keyspace there is no workflow. The answer's line takes no memory, so that what was done can be told
+    // Without a sharded keyspace there is no workflow. The answer's line takes no memory, so that what was done is always answered
     // With: Administrator::answer, AdminReply::line
     /// Over the workflow of the sharded keyspace, or, without such a keyspace, none.
     pub fn new(workflow: Option<Workflow<W, J>>) -> Administrator<W, J>

@@ -1,4 +1,4 @@
-//! The administration of a router: admin lines over the workflow of its sharded keyspace, what answers them, and a router that is opened
+//! Admin lines over the workflow of a router's sharded keyspace, what answers them, and a router that is opened
 //! with its administrator.
 #![tactic(auto)]
 

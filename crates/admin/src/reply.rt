@@ -97,7 +97,7 @@ fn fault_line(fault: ReshardFault) -> &'static [u8]
 }
 
 impl AdminReply {
-    /// Its line, with the byte 0A that ends it. Takes no memory, so that what was done can always be told.
+    /// Its line, with the byte 0A that ends it. Takes no memory, so that what was done is always answered.
     pub fn line(&self) -> &[u8]
         ensures { result.now ≡ reply_text self.now }
     {

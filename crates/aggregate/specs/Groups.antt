@@ -7,7 +7,7 @@ use Rattle.sql_tree.specs.declared.Item.{Item}
 use Rattle.sql_tree.specs.declared.Item.TheVariants.{Column, CountRows, Count, Sum, Min, Max}
 use Rattle.aggregate.specs.Aggregates.{present, size, total, sum_of, least_of, greatest_of}
 
--- each once, at its first place
+-- each once, at its first position
 abbrev pub distinct : List Row → List Row
 distinct [] = []
 distinct (key ∷ keys) = key ∷ filter (λ other. not (same_row key other)) (distinct keys)
@@ -22,7 +22,7 @@ joined_part (Sum c) parts = sum_of (present parts)
 joined_part (Min c) parts = least_of (present parts)
 joined_part (Max c) parts = greatest_of (present parts)
 
--- those of several aggregates, whose parts stand in one column each from a place on
+-- those of several aggregates, whose parts are in one column each from an ordinal on
 abbrev pub joined_parts : List (Item ℕ) → ℕ → List Row → List Value
 joined_parts [] n rows = []
 joined_parts (a ∷ aggregates) n rows = joined_part a (map (λ row. value_at row n) rows) ∷ joined_parts aggregates (n + 1) rows

@@ -77,7 +77,7 @@ impl ColumnPart {
         }
     }
 
-    /// Joins the part that stands in a place of these values, NULL after the last.
+    /// Joins the part at an ordinal of these values, NULL after the last.
     fn add_at(&mut self, alloc: Global, values: &[Value], ordinal: usize) -> Result<(), Refusal>
         requires { CanHold (with_value self.old (value_at values.now ordinal)) }
         ensures ok { OnOk result (self.new ≡ with_value self.old (value_at values.now ordinal)) }

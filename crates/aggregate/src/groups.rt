@@ -62,7 +62,7 @@ impl Groups {
         Ok(groups)
     }
 
-    /// The place of the group with these values, which is made if there is none.
+    /// The ordinal of the group with these values, which is made if there is none.
     fn open(
         &mut self,
         alloc: Global,
@@ -83,7 +83,7 @@ impl Groups {
         Ok(ordinal)
     }
 
-    /// Joins values to the parts of the group in a place.
+    /// Joins values to the parts of the group at an ordinal.
     fn add_at(&mut self, alloc: Global, ordinal: usize, values: &[Value]) -> Result<(), Refusal>
         requires within { ordinal < length (part_lists self.old) }
         requires holds { CanHoldAll (with_values (slice_index_or (part_lists self.old) ordinal []) values.now) }

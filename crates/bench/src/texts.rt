@@ -18,7 +18,7 @@ fn parse_text(alloc: Global, text: &[u8]) -> Result<u64, Refusal> {
     }
 }
 
-// How many of the ranges a query of the table at a place needs by its plan.
+// How many of the ranges a query of the table at an ordinal needs by its plan.
 fn needed(
     alloc: Global,
     schema: &VSchema,

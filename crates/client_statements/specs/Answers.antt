@@ -100,7 +100,7 @@ type_text (VarBinary most) = codes "varbinary(" ++ decimal most ++ codes ")"
 abbrev pub null_text : Bool → List ℕ
 null_text nullable = if nullable then codes "YES" else codes "NO"
 
--- whether the column at a place is one of the primary key
+-- whether the column at an ordinal is one of the primary key
 abbrev pub key_part_text : Table → ℕ → List ℕ
 key_part_text t ordinal = if list_any (λ key. key == ordinal) t.primary_key then codes "PRI" else []
 
@@ -117,11 +117,11 @@ column_texts full name kind null key =
     then texts (Some name ∷ Some kind ∷ None ∷ Some null ∷ Some key ∷ None ∷ Some [] ∷ Some (codes "select,insert,update") ∷ Some [] ∷ [])
     else texts (Some name ∷ Some kind ∷ Some null ∷ Some key ∷ None ∷ Some [] ∷ [])
 
--- the column at a place of a table
+-- the column at an ordinal of a table
 abbrev pub column_row : Bool → Table → ℕ → Column → Row
 column_row full t ordinal c = column_texts full c.name (type_text c.kind) (null_text c.nullable) (key_part_text t ordinal)
 
--- a row of each column whose name fits, in the table's order, from the column at this place on
+-- a row of each column whose name fits, in the table's order, from the column at this ordinal on
 abbrev pub column_rows : Bool → Option (List ℕ) → Table → ℕ → List Column → List Row
 column_rows full like t ordinal [] = []
 column_rows full like t ordinal (c ∷ columns) =

@@ -20,7 +20,7 @@ use vt_value::{Items, Refusal, Row, Value};
 /// What a session knows of itself.
 #[derive(Debug, Drop)]
 pub struct Facts {
-    /// The keyspace in use, by its place in the VSchema.
+    /// The keyspace in use, by its ordinal in the VSchema.
     pub keyspace: Option<usize>,
     /// The number of the connection.
     pub connection: u32,

@@ -124,7 +124,7 @@ fn column_texts<'a>(
     )
 }
 
-/// The row of the column at a place of a table.
+/// The row of the column at an ordinal of a table.
 fn column_row(
     alloc: Global,
     full: bool,

@@ -20,7 +20,7 @@ fn is_named(keyspace: &Keyspace, name: &[u8]) -> bool
     keyspace.name.as_slice() == name
 }
 
-/// The place of the keyspace of this name.
+/// The ordinal of the keyspace of this name.
 pub fn keyspace_ordinal(schema: &VSchema, name: &[u8]) -> Option<usize>
     ensures { result ≡ keyspace_ordinal schema.now name.now }
 {
@@ -31,7 +31,7 @@ pub fn keyspace_ordinal(schema: &VSchema, name: &[u8]) -> Option<usize>
         .position(|keyspace| is_named(keyspace, name))
 }
 
-/// The name of the keyspace at a place.
+/// The name of the keyspace at an ordinal.
 pub fn keyspace_name(schema: &VSchema, ordinal: usize) -> Option<&[u8]>
     ensures { option_map (λ t. t.now) result ≡ keyspace_name schema.now ordinal }
 {

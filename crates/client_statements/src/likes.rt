@@ -96,7 +96,7 @@ fn step(piece: Piece, byte: u8, skipped: bool, stayed: bool, passed: bool) -> bo
     }
 }
 
-/// Makes of whether pieces fit what stands from each place of a text on whether those with one before them do.
+/// From whether pieces fit a text from each position on, makes whether those with one more piece before them do.
 fn next_row(piece: Piece, text: &[u8], row: &mut [bool])
     requires { length row.old ≡ suc (length text.now) }
     ensures { row.new ≡ next_row piece text.now row.old }
@@ -112,7 +112,7 @@ fn next_row(piece: Piece, text: &[u8], row: &mut [bool])
     }
 }
 
-/// Whether no pieces fit what stands from each place of a text on: they fit the end alone.
+/// Whether no pieces fit a text from each position on: they fit the end alone.
 fn last_row(alloc: Global, text: &[u8]) -> Result<Vec<bool>, AllocError>
     ensures { IfOk result (λ v. v.items ≡ row_of [] text.now) }
 {

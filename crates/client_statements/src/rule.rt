@@ -76,7 +76,7 @@ fn part_len(text: &[u8]) -> usize
     count
 }
 
-/// The bytes after the one at a place.
+/// The bytes after the one at a position.
 fn text_after(text: &[u8], at: usize) -> &[u8]
     requires { at < length text.now }
     ensures { result.now ≡ drop (at + 1) text.now }
@@ -101,7 +101,7 @@ pub fn are_held_modes(text: &[u8]) -> bool
     }
 }
 
-/// How the values of a setting that hold are told.
+/// Which values of a setting hold.
 #[tactic(auto, unfolding(crate::specs::Settings::rule_of))]
 pub fn rule_of(name: &[u8]) -> Option<Rule>
     ensures { result ≡ rule_of name.now }

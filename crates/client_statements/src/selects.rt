@@ -47,7 +47,7 @@ fn called(keyword: Option<Keyword>) -> Result<NamedValue, Refusal>
     }
 }
 
-/// A variable after its scope, which is told with three tokens.
+/// A variable after its scope: three tokens.
 fn scoped(scope: Name, name: Name) -> Result<(NamedValue, usize), Refusal>
     ensures { AgreesWith (λ x. x) result (scoped_variable scope name) }
 {

@@ -1,4 +1,4 @@
--- The tokens of what a client says, with the places of their bytes.
+-- The tokens of what a client says, with the positions of their bytes.
 use Rattle.std.specs.Prelude.{ℕ, ◌+◌, List, [], ◌∷◌, ◌++◌, length, Option, Some, None}
 use Rattle.client_tokens.specs.declared.token.Token.{Token}
 use Rattle.client_tokens.specs.declared.token.TokenKind.{TokenKind}
@@ -9,7 +9,7 @@ abbrev pub onto_tokens : Option TokenKind → ℕ → ℕ → List Token → Lis
 onto_tokens (Some kind) start end tokens = record { kind = kind; start = start; end = end } ∷ tokens
 onto_tokens None start end tokens = tokens
 
--- from this place on a text is these bytes, whose tokens these are
+-- from this position on a text is these bytes, whose tokens these are
 pub data HasTokensFrom : ℕ → List ℕ → List Token → Type 0 where
   end : {at : ℕ} → HasTokensFrom at [] []
   piece : {at : ℕ} {bytes rest : List ℕ} {what : Option TokenKind} {tokens : List Token} → IsPiece bytes rest what

@@ -3,7 +3,7 @@ ghost use Rattle.std.specs.Prelude.{◌≡◌, ◌≤◌, length, IfSome};
 ghost use Rattle.client_tokens.specs.declared.body.TextState.TheVariants.{Inside};
 ghost use Rattle.client_tokens.specs.inner.Scanning.{after_byte, text_len};
 
-/// A place in a text in quotes.
+/// The state of a scan of a text in quotes.
 #[derive(Clone, Copy, Debug, PartialEq, Eq)]
 pub enum TextState {
     Inside,
@@ -13,7 +13,7 @@ pub enum TextState {
     AfterBackslash,
 }
 
-/// The place after a byte, unless the text ended before it.
+/// The state after a byte, unless the text ended before it.
 fn after_byte(quote: u8, state: TextState, byte: u8) -> Option<TextState>
     ensures { result ≡ after_byte quote state byte }
 {

@@ -139,7 +139,7 @@ pub fn line_len(bytes: &[u8]) -> usize
     count
 }
 
-/// The bytes from a place on.
+/// The bytes from a position on.
 pub fn rest_from(bytes: &[u8], at: usize) -> &[u8]
     requires { at ≤ length bytes.now }
     ensures { result.now ≡ drop at bytes.now }

@@ -7,7 +7,7 @@ use crate::token::{Token, TokenKind};
 use std::alloc::{AllocError, Global};
 use vt_value::Items;
 
-/// The bytes of a text from one place up to another, as far as it has them.
+/// The bytes of a text from one position up to another, as far as it has them.
 pub fn bytes_of(text: &[u8], start: usize, end: usize) -> &[u8]
     ensures { result.now ≡ slice_range text.now start end }
 {

@@ -17,7 +17,7 @@ impl Detail {
         self != Detail::Bytes
     }
 
-    /// Whether statements are told one by one.
+    /// Whether statements are logged one by one.
     pub fn has_statements(self) -> bool {
         self == Detail::Statements
     }

@@ -1,4 +1,4 @@
-//! What the bytes of a connection tell of it: the login, how many statements and refusals there were, and of each statement its text and its rows.
+//! What the bytes of a connection show of it: the login, how many statements and refusals there were, and of each statement its text and its rows.
 #![tactic(auto)]
 
 mod detail;

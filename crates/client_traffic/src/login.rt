@@ -1,4 +1,4 @@
-//! By what a client logs in.
+//! What a client logs in with.
 
 use mysql_handshake::{Response, read_response};
 

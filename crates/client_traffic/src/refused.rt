@@ -7,7 +7,7 @@ use vt_value::{REFUSALS, Refusal};
 /// One more than the greatest number of a refusal.
 const NUMBERS: usize = 27;
 
-/// The places in a packet of its payload's first byte, and in one with an error of its code and its message.
+/// The positions in a packet of its payload's first byte, and in one with an error of its code and its message.
 const PAYLOAD: usize = 4;
 
 const CODE: usize = 5;

@@ -29,7 +29,7 @@ module _ {T : Type 0} where
   taken_by by [] = []
   taken_by by (x ∷ taken) = with_first (x.0 == by) x.1 (taken_by by taken)
 
-  -- Of what was taken so far, a pass that was joined took just what it knew that it took; and what either had seen is a beginning of it.
+  -- Of what was taken so far, a pass that was joined took just what it knew that it took; and what either had seen is a prefix of it.
   pub record IsJoined (taken : List (ℕ × T)) (e : Joined T) : Type 0 where
     pub own : taken_by e.number taken ≡ e.own
     pub theirs : StartsWith taken e.taken
@@ -50,7 +50,7 @@ module _ {T : Type 0} where
     pub seen : taken_by pass v.taken ≡ v.own
     pub apart : Each (λ e. e.number ≢ pass) ended
 
-  -- What any pass has seen of what was put and of what was taken are beginnings of these.
+  -- What any pass has seen of what was put and of what was taken are prefixes of these.
   pub record Fits (everything : List T) (order : List (ℕ × T)) (ended : List (Joined T)) (count pass : ℕ) (v : QueueView T) : Type 0 where
     pub puts : v.puts ≡ true → IsAcceptor everything ended count pass v
     pub takes : v.takes ≡ true → IsTaker order ended pass v
@@ -88,7 +88,7 @@ module _ {T : Type 0} where
   abbrev pub Puts : QueueView T → T → QueueView T → Type 0
   Puts v x w = w ≡ record v { put = v.put ++ x ∷ [] }
 
-  -- One was taken: after all that the pass had seen, and perhaps more that others took. What was taken so far is a beginning of what was put
+  -- One was taken: after all that the pass had seen, and perhaps more that others took. What was taken so far is a prefix of what was put
   -- so far, and of it this pass took just what it knows that it took.
   pub record Takes (v : QueueView T) (x : T) (w : QueueView T) : Type 0 where
     pub between : List (ℕ × T)
@@ -100,7 +100,7 @@ module _ {T : Type 0} where
     pub once : taken_by v.number w.taken ≡ w.own
     pub same : w ≡ record v { put = w.put; taken = w.taken; own = w.own }
 
-  -- Several passes compared, by the one that puts: what they saw taken is a beginning of what was put, in one order; of it each pass that was
+  -- Several passes compared, by the one that puts: what they saw taken is a prefix of what was put, in one order; of it each pass that was
   -- joined took just what it knew that it took; and nobody took but the passes that were made.
   pub record IsCompared (v : QueueView T) : Type 0 where
     pub waiting : List T

@@ -1,5 +1,5 @@
-//! Threads that serve connections: one lets them in, and each of several others serves one at a time. Between them stands a queue. What is taken from it
-//! is, in the order of taking, a beginning of what was put, each once.
+//! Threads that serve connections: one lets them in, and each of several others serves one at a time. Between them is a queue. What is taken from it
+//! is, in the order of taking, a prefix of what was put, each once.
 #![tactic(auto)]
 
 mod pool;

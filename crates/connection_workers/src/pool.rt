@@ -230,11 +230,11 @@ fn run_in<
     )
 }
 
-// Promise: Workers are run until the entrance has no more connections: each that it gives is put into the queue, once and in order, and after
+// Promise: Workers are run until the source has no more connections: each that it yields is put into the queue, once and in order, and after
 // them a stop for each worker; a worker serves each connection that it takes, and ends only if it takes a stop
-/// Starts so many workers, then lets in the connections of the entrance, in order, and has `serve` serve each, in one of the workers. Each
+/// Starts so many workers, then lets in the connections of the source, in order, and has `serve` serve each, in one of the workers. Each
 /// waits in a queue of this capacity for a worker that is free; if it is full, the next one is let in once a worker took one. Returns
-/// once the entrance has no more and all are served. Refuses, and serves none, if there is no memory for the queue and if not all
+/// once the source has no more and all are served. Refuses, and serves none, if there is no memory for the queue and if not all
 /// workers could be started.
 pub fn run<
     T: Send + Drop,

@@ -104,8 +104,8 @@ pub type ConnectionQueue<T> = RuledArrayQueue<T, QueueView<T>, Order>;
 /// What a thread knows of it. It has no bytes.
 pub type Known<T> = Pass<T, QueueView<T>>;
 
-// Promise: What is put into the queue of connections stands after what was put before, or is handed back if the queue is full; what is
-// taken is, in the order of taking, a beginning of what was put, and no connection is taken twice; passes that ended are compared in one
+// Promise: What is put into the queue of connections comes after what was put before, or is handed back if the queue is full; what is
+// taken is, in the order of taking, a prefix of what was put, and no connection is taken twice; passes that ended are compared in one
 // order
 // With: new_taker, put, take, absorb
 /// An empty queue, and the pass of the thread that puts. Refuses only for want of memory.

@@ -41,7 +41,7 @@ no_keyspace = record { name = []; sharded = false }
 abbrev pub no_column : C.Column
 no_column = record { name = []; kind = type.BigInt; nullable = true }
 
--- the definition of the column at a place of a table
+-- the definition of the column at an ordinal of a table
 pub record Defines (schema : VSchema) (t : Table) (ordinal : ℕ) (column : C.Column) (defined : R.Column) : Type 0 where
   pub schema_name : defined.schema ≡ (slice_index_or schema.keyspaces t.keyspace no_keyspace).name
   pub table_name : defined.table ≡ t.name
@@ -96,7 +96,7 @@ pub record DefinesAggregate (t : Table) (qualified : Bool) (shown : Item ℕ) (d
   pub kind : defined.kind ≡ item_kind t shown
   pub flags : defined.flags ≡ item_flags t shown
 
--- the table that has the column at a place of a query's rows, and its place there: of a pair, the first table's columns come first
+-- the table that has the column at an ordinal of a query's rows, and its ordinal there: of a pair, the first table's columns come first
 abbrev pub owner_of : VSchema → Table → Option Join → ℕ → Table × ℕ
 owner_of schema t None n = (t, n)
 owner_of schema t (Some j) n = if nat_lt n j.width then (t, n) else (slice_index_or schema.tables j.table no_table, n - j.width)
@@ -118,7 +118,7 @@ AllDefined schema t join qualified n (i ∷ items) [] = ⊥
 AllDefined schema t join qualified n (i ∷ items) (d ∷ defined) =
     DefinesItem schema t join (slice_index_or qualified n false) i d × AllDefined schema t join qualified (n + 1) items defined
 
--- the definitions of the columns that a query over the table at this place, or over its pairs with another, shows
+-- the definitions of the columns that a query over the table at this ordinal, or over its pairs with another, shows
 abbrev pub AreColumns : VSchema → ℕ → Option Join → List (Item ℕ) → List Bool → List R.Column → Type 0
 AreColumns schema table join items qualified defined =
     AllDefined schema (slice_index_or schema.tables table no_table) join qualified 0 items defined

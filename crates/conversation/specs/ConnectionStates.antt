@@ -1,4 +1,4 @@
--- How a session stands.
+-- The states of a session.
 use Rattle.std.specs.Prelude.{ℕ, Bool, true, false, Option, Some, None}
 use Rattle.conversation.specs.declared.end.End.{End}
 use Rattle.conversation.specs.declared.connection_state.Phase.{Phase}

@@ -44,7 +44,7 @@ AllTexts (n ∷ names) (d ∷ defined) = DefinesText n d × AllTexts names defin
 abbrev pub facts_of : Handshake → Settings → Facts
 facts_of handshake set = record { keyspace = set.keyspace; connection = handshake.id; user = handshake.access.user ++ codes "@%"; autocommit = set.autocommit }
 
--- How an answer is told: rows under definitions of texts, or its refusal. If there is no memory to tell rows, that is told in their place.
+-- The outcome of an answer: rows under definitions of texts, or its refusal. If there is no memory for the rows, F1.
 pub data TellsAnswer : ClientAnswer → Outcome → Type 0 where
   rows : {names : List (List ℕ)} {rows : List Row} {columns : List R.Column} → AllTexts names columns
       → TellsAnswer (a.Rows names rows) (Rows (record { columns = columns; rows = rows }))

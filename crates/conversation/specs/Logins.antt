@@ -1,4 +1,4 @@
--- The connection phase: whom a server lets in, and what it writes for what the client tells of itself.
+-- The connection phase: whom a server lets in, and what it writes for the client's response.
 use Rattle.std.specs.Prelude.{◌≡◌, ◌==◌, ◌&&◌, not, ℕ, Bool, true, false, List, [], ◌∷◌, Option, Some, None, bytes_eq, bit_and, is_some, position}
 use Rattle.vt_value.specs.declared.refusal.Refusal.TheVariants.{AccessDenied, UnknownKeyspace, BadHandshake}
 use Rattle.vschema.specs.declared.schema.Keyspace.{Keyspace}
@@ -17,7 +17,7 @@ use Rattle.conversation.specs.declared.connection_state.ConnectionState.TheVaria
 use Rattle.conversation.specs.Packets.{reply_number}
 use Rattle.conversation.specs.ConnectionStates.{settings_at_first}
 
--- the place of the keyspace of this name
+-- the ordinal of the keyspace of this name
 abbrev pub keyspace_named : List Keyspace → List ℕ → Option ℕ
 keyspace_named keyspaces name = position (λ k. bytes_eq k.name name) keyspaces
 

@@ -44,7 +44,7 @@ HasRows (a.Rows selected) = Unit {0}
 HasRows (a.Count n) = ⊥
 
 -- What the text of a statement may give its client: an answer that it may have, or a refusal for its cause; and how it leaves the pass and the
--- transaction. If there is no memory to tell the rows of an answer, that is told in their place: it leaves them as the answer does.
+-- transaction. If there is no memory for the rows of an answer, its outcome is F1, and it leaves them as the answer does.
 pub data Means (o : Opening) (limits : Limits) (s : PassAndTransaction) (text : List ℕ) : Outcome → PassAndTransaction → Type 0 where
   answered : {outcome : Outcome} {now : PassAndTransaction} (reply : Reply) → IsReplyTo o limits s text reply now → Shows o.schema reply.answer outcome
       → Means o limits s text outcome now
@@ -52,6 +52,6 @@ pub data Means (o : Opening) (limits : Limits) (s : PassAndTransaction) (text : 
       → Means o limits s text (Refused OutOfMemory) now
   refused : {r : Refusal} {now : PassAndTransaction} → IsRefusedAt o limits s text r now → Means o limits s text (Refused r) now
 
--- The terms of the router's conversations.
+-- The context of the router's conversations.
 abbrev pub context_of : Opening → Handshake → SessionContext PassAndTransaction
 context_of o handshake = record { handshake = handshake; schema = o.schema; is_open = λ s. is_some s.tx; dropped = λ s. none_open s.pass }

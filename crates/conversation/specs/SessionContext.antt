@@ -1,4 +1,4 @@
--- What a conversation stands on.
+-- What holds in a conversation whatever is asked.
 use Rattle.std.specs.Prelude.{ℕ, ◌+◌, Bool, if◌then◌else◌}
 use Rattle.mysql_message.specs.Messages.{autocommit}
 use Rattle.vschema.specs.declared.schema.VSchema.{VSchema}

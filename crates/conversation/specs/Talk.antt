@@ -76,13 +76,13 @@ pub data Greets (handshake : Handshake) : ConnectionState → List ℕ → Phase
   greets : Greets handshake New (frame 0 (greeting_payload handshake.id handshake.salt)) Response
   goes_on : {at : Phase} → Greets handshake (At at) [] at
 
--- What is written from some standing on. A session that is new greets its client before anything else.
+-- What is written from some state on. A session that is new greets its client before anything else.
 pub data Conversation {S : Type 0} (context : SessionContext S) (May : S → List ℕ → Outcome → S → Type 0) : ConnectionState → S → List Payload → List ℕ → ConnectionState → S → Type 0 where
   new : {s : S} → Conversation context May New s [] [] New s
   begun : {begin connection_state : ConnectionState} {at : Phase} {s t : S} {ps : List Payload} {front out : List ℕ} → Greets context.handshake begin front at
       → Replies context May at s ps out connection_state t → Conversation context May begin s ps (front ++ out) connection_state t
 
--- The whole conversation over the bytes that were read, from some standing on, and its end. A header that is refused has its ERR packet after
+-- The whole conversation over the bytes that were read, from some state on, and its end. A header that is refused has its ERR packet after
 -- the replies, and ends it. If nothing ends it before, the end of the input does: in the command phase between two payloads; else the input is
 -- truncated, within a payload or in the connection phase.
 pub data Talk (limit : ℕ) {S : Type 0} (context : SessionContext S) (May : S → List ℕ → Outcome → S → Type 0) (begin : ConnectionState) (s : S) : List ℕ → List ℕ → End → S → Type 0 where

@@ -1,4 +1,4 @@
-//! What a session greets its client with.
+//! Whom a session lets in, and what it greets its client with.
 use vt_value::Items;
 
 /// Whom a server lets in: the user's name, and SHA1(SHA1(password)), if the user has a password.

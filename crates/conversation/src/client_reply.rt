@@ -1,4 +1,4 @@
-//! What a client is told of its statement, whose rows are shown as they are encoded.
+//! What a client's statement is answered, with rows that are shown as they are encoded.
 
 use operators::ShownRows;
 use resultset::Column;

@@ -273,7 +273,7 @@ fn define_second(
     }
 }
 
-// The definition of the column at a place of the rows of a table, or of its pairs with another's.
+// The definition of the column at an ordinal of the rows of a table, or of its pairs with another's.
 fn define_shown(
     alloc: Global,
     schema: &VSchema,
@@ -342,7 +342,7 @@ fn define_all(
     Ok(columns)
 }
 
-/// The definitions of the columns that these items are, of the table at a place of the VSchema or of its pairs with another. `qualified` tells
+/// The definitions of the columns that these items are, of the table at an ordinal of the VSchema or of its pairs with another. `qualified` tells
 /// for each whether it was written with its table's name.
 pub fn columns_of(
     alloc: Global,

@@ -1,11 +1,11 @@
-//! How a session stands.
+//! The state of a session.
 ghost use Rattle.std.specs.Prelude.{◌≡◌, ◌↔◌, false};
 ghost use Rattle.conversation.specs.ConnectionStates.{first_number, is_in_commands, end_of, settings_at_first, HasGreeted};
 
 use crate::end::End;
 
 /// What is kept of a client's response to the greeting until its answer comes: the capabilities that both sides set, whether its user and
-/// its database are right, and the keyspace that this is, by its place in the VSchema.
+/// its database are right, and the keyspace that this is, by its ordinal in the VSchema.
 #[derive(Clone, Copy, Debug, PartialEq, Eq)]
 pub struct PendingLogin {
     pub capabilities: u32,
@@ -15,7 +15,7 @@ pub struct PendingLogin {
 }
 
 /// What holds for a client's commands: the capabilities that both sides set, whether a statement outside a transaction commits by itself, and
-/// the keyspace in use, by its place in the VSchema.
+/// the keyspace in use, by its ordinal in the VSchema.
 #[derive(Clone, Copy, Debug, PartialEq, Eq)]
 pub struct Settings {
     pub capabilities: u32,

@@ -1,4 +1,4 @@
-//! The bytes that answer a connection: its greeting, its login and its replies; and where it stands.
+//! The bytes that answer a connection: its greeting, its login and its replies; and the connection's state.
 #![tactic(auto)]
 
 mod access;

@@ -43,7 +43,7 @@ pub fn turns_on(settings: Settings, statement: &ClientStatement) -> bool
     }
 }
 
-/// A refusal, as its client is told it.
+/// A refusal as a client's reply.
 pub fn refused(refusal: Refusal) -> ClientReply
     ensures { result ≡ Outcome.Refused refusal }
 {
@@ -86,7 +86,7 @@ fn text_columns(alloc: Global, names: &[Name]) -> Result<Items<Column>, AllocErr
     Ok(columns)
 }
 
-/// Rows of texts, as their client is told them.
+/// Rows of texts as a client's reply.
 fn rows_reply(alloc: Global, names: &[Name], rows: Items<Row>) -> ClientReply
     ensures { TellsAnswer (ClientAnswer.Rows names.now rows) result }
 {

@@ -1,4 +1,4 @@
-//! The connection phase: what is written for what a client tells of itself.
+//! The connection phase: what is written for a client's response, and for its answer to another salt.
 ghost use Rattle.std.specs.Prelude.{◌≡◌, ◌+◌, ◌≤◌, List, [], length, bytes_eq, option_map};
 ghost use Rattle.mysql_packet.specs.Frames.{frame};
 ghost use Rattle.mysql_handshake.specs.Handshakes.{answered_of, auth_switch_payload};
@@ -26,7 +26,7 @@ fn is_named(keyspace: &Keyspace, name: &[u8]) -> bool
     keyspace.name.as_slice() == name
 }
 
-/// The place of the keyspace of this name.
+/// The ordinal of the keyspace of this name.
 pub fn keyspace_named(schema: &VSchema, name: &[u8]) -> Option<usize>
     ensures { result ≡ keyspace_named schema.now.keyspaces name.now }
 {

@@ -48,7 +48,7 @@ fn result_set(alloc: Global, schema: &VSchema, selected: Selected) -> Result<Sho
     })
 }
 
-/// An answer as its client is told it, or, if there is no memory for rows, the refusal that says so.
+/// An answer as a client's reply, or, if there is no memory for rows, the refusal that says so.
 fn shown(alloc: Global, schema: &VSchema, answer: Answer) -> ClientReply
     ensures { Shows schema.now answer result ⊎ (HasRows answer × (result ≡ Outcome.Refused Refusal.OutOfMemory)) }
 {

@@ -5,7 +5,7 @@ use crate::law::Law;
 
 // Promise: All of it is of one run: of what two passes had seen when they met one begins the other, and steps add up
 // With: later_than_later
-/// Of what two passes had seen when they met, one begins with the other: both were beginnings of one run.
+/// Of what two passes had seen when they met, one begins with the other: both were prefixes of one run.
 pub fn runs_agree<L: Law>()
     ensures { RunsAgree L.slot_of L.commit_of L.may_follow }
 {}

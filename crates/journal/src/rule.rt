@@ -8,7 +8,7 @@ use std::marker::PhantomData;
 /// What a seat at the table knows. No value of it is made: it stands in the proofs alone.
 pub struct View<E> {
     pub seen: LinkedList<E>,
-    // A beginning of the run that another seat told of.
+    // A prefix of the run, which another seat has seen.
     pub told: LinkedList<E>,
     pub looks: LinkedList<(u64, u64)>,
     // The slots and the sessions whose entries only this seat appends.

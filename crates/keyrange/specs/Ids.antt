@@ -1,4 +1,4 @@
--- Keyspace ids: byte strings, ordered byte by byte, a proper beginning before the longer one.
+-- Keyspace ids: byte strings, ordered byte by byte, a proper prefix before the longer one.
 use Rattle.std.specs.Prelude.{ℕ, Bool, true, false, nat_lt, IsTrue, List}
 use Rattle.std.specs.Ordering.{nat_cmp}
 use Rattle.std.specs.Cmp.Lexicographic.{slice_cmp}

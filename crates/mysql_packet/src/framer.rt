@@ -61,9 +61,9 @@ fn drop_front(pending: &mut Vec<u8>, used: usize)
 }
 
 impl Framer {
-    // Promise: A framer begins at the beginning of a stream; it tells whether a payload has begun
+    // Promise: A framer begins at the start of a stream; it tells whether a payload has begun
     // With: Framer::is_between_payloads
-    /// At the beginning of a stream, for payloads of at most `limit` bytes.
+    /// At the start of a stream, for payloads of at most `limit` bytes.
     pub fn new(alloc: Global, limit: usize) -> Framer
         ensures value { result ≡ record { limit = limit; rest = []; fault = None } }
         // Nothing has been read.
@@ -85,7 +85,7 @@ impl Framer {
 
     // Promise: However the client's stream is cut, the payloads are those of the whole stream so far, with their first and last numbers
     // Clauses: payloads, limit
-    // Promise: A fault comes only if a refused header stands in a part's place, with that header's number; every later piece gives that
+    // Promise: A fault comes only if a refused header is where a part begins, with that header's number; every later piece gives that
     // fault alone
     // Clauses: fault, stopped, again
     // Promise: If memory is refused, the piece counts as not fed
@@ -100,7 +100,7 @@ impl Framer {
         ensures payloads { IfOk result (λ fed. IsNone fed.fault → (stream : List ℕ) (before : List Payload) →
             HasFramed self.old stream before →
             HasFramed self.new (stream ++ piece.now) (before ++ fed.payloads)) }
-        // A fault comes only if a refused header stands in a part's place after them.
+        // A fault comes only if a refused header is where a part begins after them.
         ensures fault { IfOk result (λ fed. IfSome fed.fault (λ f. (stream : List ℕ) (before : List Payload) →
             HasFramed self.old stream before →
             IsRefusedAfter self.old.limit (stream ++ piece.now) (before ++ fed.payloads) f)) }

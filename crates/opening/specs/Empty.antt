@@ -1,4 +1,4 @@
--- What a program begins with that has a VSchema and key ranges, and no rows.
+-- The opening over a VSchema and key ranges, without rows.
 use Rattle.std.specs.Prelude.{ℕ, ◌+◌, ◌≤◌, not, List, [], ◌∷◌, ◌++◌, length, map, Option, Some, None, IfSome}
 use Rattle.std.specs.List.{AllByRecursion}
 use Rattle.keyrange.specs.declared.KeyRange.{KeyRange}

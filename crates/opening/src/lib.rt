@@ -1,4 +1,4 @@
-//! What a program begins with that has a VSchema and key ranges, and no rows.
+//! The opening of a run over a VSchema and key ranges: its shards, without rows.
 #![tactic(auto)]
 
 mod shards;

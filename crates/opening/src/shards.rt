@@ -24,7 +24,7 @@ fn unsharded_keyspace(schema: &VSchema) -> Option<usize>
     None
 }
 
-/// The place of the keyspace that is sharded; a VSchema has at most one.
+/// The ordinal of the keyspace that is sharded; a VSchema has at most one.
 pub fn sharded_keyspace(schema: &VSchema) -> Option<usize>
     ensures { result ≡ sharded_keyspace schema.now }
 {

@@ -8,7 +8,7 @@ abbrev pub sliced : {X : Type 0} → Option LimitClause → List X → List X
 sliced None xs = xs
 sliced (Some l) xs = take l.count (drop l.offset xs)
 
--- the values of a row in these places
+-- the values of a row at these ordinals
 abbrev pub columns_of : List ℕ → Row → Row
 columns_of ordinals row = map (value_at row) ordinals
 
@@ -17,7 +17,7 @@ abbrev pub first_is : {X : Type 0} → (X → Bool) → List X → Bool
 first_is test [] = false
 first_is test (x ∷ xs) = test x
 
--- rows by the columns in these places, or as they are
+-- rows by the columns at these ordinals, or as they are
 abbrev pub shown_at : Option (List ℕ) → List Row → List Row
 shown_at None rows = rows
 shown_at (Some ordinals) rows = map (columns_of ordinals) rows

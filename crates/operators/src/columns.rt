@@ -18,7 +18,7 @@ fn copy_at(alloc: Global, row: &Row, ordinal: usize) -> Result<Value, Refusal>
     }
 }
 
-/// The values of a row in these places, NULL after its end. Refuses only for want of memory.
+/// The values of a row at these ordinals, NULL after its end. Refuses only for want of memory.
 pub fn project_row(alloc: Global, ordinals: &[usize], row: &Row) -> Result<Row, Refusal>
     ensures ok { IfOk result (λ shown. shown ≡ columns_of ordinals.now row.now) }
     ensures err { IfErr result (λ e. e ≡ Refusal.OutOfMemory) }
@@ -30,7 +30,7 @@ pub fn project_row(alloc: Global, ordinals: &[usize], row: &Row) -> Result<Row, 
     Ok(values)
 }
 
-// Whether these are the first places, each in its turn.
+// Whether these are the first ordinals, each in its turn.
 fn are_in_turn(ordinals: &[usize]) -> bool
     ensures { result ≡ true → ordinals.now ≡ range_with_len 0 (length ordinals.now) }
 {
@@ -42,14 +42,14 @@ fn are_in_turn(ordinals: &[usize]) -> bool
     true
 }
 
-// Whether all values of a row are in these places, in their order.
+// Whether all values of a row are at these ordinals, in their order.
 fn shows_whole(ordinals: &[usize], row: &Row) -> bool
     ensures { result ≡ true → columns_of ordinals.now row.now ≡ row.now }
 {
     ordinals.len() == row.len() && are_in_turn(ordinals)
 }
 
-/// The columns of an input's rows in given places. A row of which all are shown, in their order, is passed on as it is.
+/// The columns of an input's rows at given ordinals. A row of which all are shown, in their order, is passed on as it is.
 #[derive(Drop)]
 pub struct Project<O> {
     input: O,
@@ -58,7 +58,7 @@ pub struct Project<O> {
 }
 
 impl<O: Operator> Project<O> {
-    /// Of each row of the input the values in these places, NULL after its end.
+    /// Of each row of the input the values at these ordinals, NULL after its end.
     pub fn new(input: O, ordinals: Items<usize>) -> Project<O>
         ensures rows { ⟦<Project<O> as Operator>⟧.to_come result ≡ map (columns_of ordinals) (O.to_come input) }
         ensures fresh { ⟦<Project<O> as Operator>⟧.has_failed result ≡ O.has_failed input }

@@ -10,7 +10,7 @@ use vt_value::{Refusal, Row};
 #[derive(Drop)]
 pub struct Concat<O> {
     inputs: Vec<O>,
-    /// The place of the input whose rows come now.
+    /// The ordinal of the input whose rows come now.
     current: usize,
 }
 

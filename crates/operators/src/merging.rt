@@ -64,7 +64,7 @@ fn comes_before(keys: &[Key<usize>], a: &Option<Row>, b: &Option<Row>) -> bool
     }
 }
 
-/// The place of the first of the least rows.
+/// The ordinal of the first of the least rows.
 fn first<O>(keys: &[Key<usize>], heads: &[Head<O>]) -> usize
     requires { 0 < length heads.now }
     ensures { IsFirst (row_lt keys.now) heads.now result }

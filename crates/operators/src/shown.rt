@@ -9,7 +9,7 @@ use std::alloc::Global;
 use std::marker::Model;
 use vt_value::{Items, Refusal, Row};
 
-/// Rows of which the columns in given places are shown, or all. What is shown of a row is made once it is pulled, so that what is held are
+/// Rows of which the columns at given ordinals are shown, or all. What is shown of a row is made once it is pulled, so that what is held are
 /// the rows as they were read. Contracts see the rows as they are shown.
 #[derive(Drop)]
 pub struct ShownRows {
@@ -28,9 +28,9 @@ impl Model for ShownRows {
 }
 
 impl ShownRows {
-    // Promise: Of rows the columns in given places are shown, each row as it is pulled; what is held are the rows as they were read
+    // Promise: Of rows the columns at given ordinals are shown, each row as it is pulled; what is held are the rows as they were read
     // With: ShownRows::len, ShownRows::whole, ShownRows::pulled, ShownRows::into_rows, PulledRows::next
-    /// Of each of these rows the values in these places, NULL after its end, or the row as it is if there are no places. Takes no memory.
+    /// Of each of these rows the values at these ordinals, NULL after its end, or the row as it is if there are no ordinals. Takes no memory.
     pub fn new(rows: Items<Row>, ordinals: Option<Items<usize>>) -> ShownRows
         ensures { result ≡ shown_at ordinals rows }
     {

@@ -25,7 +25,7 @@ impl Rows {
     }
 
     // Promise: What each operator gives is what its inputs have: one input after the other, an arrangement that the keys allow, the slice
-    // of a limit, the columns in given places
+    // of a limit, the columns at given ordinals
     // With: Concat::new, MergeSort::new, Limit::new, Project::new, Rows::from_vec
     // Clauses: rows, fresh, permutation, sorted, ok, err
     /// Gives these rows. Refuses only for want of memory.

@@ -50,7 +50,7 @@ pushed_groups q = record q { items = map item.Column q.group_by ++ aggregates_of
 abbrev pub pushed : Query → Query
 pushed q = if is_aggregated q then pushed_groups q else pushed_rows q
 
--- the keys, by the places of their columns in the pieces' rows, from a place on
+-- the keys, by the ordinals of their columns in the pieces' rows, from an ordinal on
 abbrev pub keys_from : ℕ → List (Key ℕ) → List (Key ℕ)
 keys_from n [] = []
 keys_from n (k ∷ keys) = record { column = n; descending = k.descending } ∷ keys_from (n + 1) keys

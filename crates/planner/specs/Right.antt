@@ -23,7 +23,7 @@ abbrev pub rows_of_shards : List ShardRows → Database
 rows_of_shards [] = []
 rows_of_shards (shard ∷ shards) = union shard.1 (rows_of_shards shards)
 
--- A shard may stand in the keyspace: its rows lie in its range, and the tables of these places may hold each of their own.
+-- A shard may stand in the keyspace: its rows lie in its range, and the tables of these ordinals may hold each of their own.
 pub record LiesInPlace (schema : VSchema) (keyspace : ℕ) (tables : List ℕ) (shard : ShardRows) : Type 0 where
   pub placed : restrict schema (record { keyspace = keyspace; range = shard.0 }) shard.1 ≡ shard.1
   pub storable : AllByRecursion (λ n. AllByRecursion (λ row. is_storable (table_at schema n) row ≡ true) (rows_of shard.1 n)) tables

@@ -178,7 +178,7 @@ is_sharded (route.EqualUnique v) = true
 is_sharded (route.In values) = true
 is_sharded route.Scatter = true
 
--- The places of the sharded keyspace's ranges that the route takes, in their order. The shard of the unsharded keyspace is none of them.
+-- The ordinals of the sharded keyspace's ranges that the route takes, in their order. The shard of the unsharded keyspace is none of them.
 abbrev pub taken_ordinals : Table → Route → List KeyRange → List ℕ
 taken_ordinals t r ranges =
     map (λ p. p.0) (filter (λ p. is_sharded r && takes t r p.1) (zip (ordinals_from 0 ranges) ranges))

@@ -11,7 +11,7 @@ use sql_eval::show;
 use std::alloc::Global;
 use vt_value::{Items, Refusal, Row};
 
-/// What `limit` leaves of the rows, each by the columns in these places. No row after these is pulled.
+/// What `limit` leaves of the rows, each by the columns at these ordinals. No row after these is pulled.
 fn slice<O: Operator>(
     alloc: Global,
     rows: O,

@@ -5,7 +5,7 @@ ghost use Rattle.planner.specs.Routes.{kind_in, second_kind, second_key, keys_on
 use crate::routes::type_at;
 use vschema::{ColumnType, ColumnVindex, Join, Table};
 
-/// A column that decides the shard of a row, by its place, and its type.
+/// A column that decides the shard of a row, by its ordinal, and its type.
 #[derive(Clone, Copy, Debug, PartialEq, Eq)]
 pub struct KeyColumn {
     pub column: usize,

@@ -51,7 +51,7 @@ fn one_has_among(keys: Keys, members: &[Condition<usize>]) -> bool
     false
 }
 
-/// A shard of a table with a vindex, told by its range, and the columns that decide the shard.
+/// A shard of a table with a vindex, by its range, and the columns that decide the shard.
 #[derive(Clone, Copy)]
 struct Home<'h> {
     table: &'h Table,
@@ -72,7 +72,7 @@ fn is_same_value(a: &Value, b: &Value) -> bool
     }
 }
 
-// What is known of a value: the member at a place, where it has this value.
+// What is known of a value: the member at an ordinal, if it has this value.
 fn known_at<'k>(known: &'k [InValue], at: usize, value: &Value) -> Option<&'k InValue>
     ensures { IfSome result (λ member. member.now.value ≡ value.now) }
 {
@@ -242,7 +242,7 @@ fn shard_condition(
 }
 
 impl Plan {
-    // Promise: Each shard's piece, the finish of the pieces' answers, a write's route, the places of a route among ranges, and whether a
+    // Promise: Each shard's piece, the finish of the pieces' answers, a write's route, the ordinals of a route among ranges, and whether a
     // route takes a range, also by an id that was made before, are as written
     // With: Finish::{answer, answer_in_order}, write_route, shards, takes, single_id, takes_by, copy_items
     /// The query that the shard of a range answers: the piece, under IN with the members of that conjunct cut to the shard's own.

@@ -154,7 +154,7 @@ fn first_ordinals(alloc: Global, items: &[Item<usize>]) -> Result<Items<usize>, 
     Ok(ordinals)
 }
 
-// The keys, by places that follow those of the items.
+// The keys, by ordinals that follow those of the items.
 fn keys_after(
     alloc: Global,
     items: &[Item<usize>],

@@ -11,9 +11,9 @@ use vt_value::Items;
 pub struct Finish {
     /// How the groups of the pieces are joined, if the query is aggregated.
     pub grouping: Option<Grouping>,
-    /// The columns of the answer, by their places in the rows of the pieces, or of the joined groups.
+    /// The columns of the answer, by their ordinals in the rows of the pieces, or of the joined groups.
     pub columns: Items<usize>,
-    /// The sort keys, by the places of their columns in these rows.
+    /// The sort keys, by the ordinals of their columns in these rows.
     pub order_by: Items<Key<usize>>,
     /// What is left of the sorted rows, all of them without one.
     pub limit: Option<LimitClause>,

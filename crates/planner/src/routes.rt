@@ -29,7 +29,7 @@ pub enum Route {
     Scatter,
 }
 
-/// The type of the column at a place, BIGINT if the table has no such column.
+/// The type of the column at an ordinal, BIGINT if the table has no such column.
 pub fn type_at(table: &Table, ordinal: usize) -> ColumnType
     ensures { result ≡ type_at table.now ordinal }
 {

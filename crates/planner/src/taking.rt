@@ -115,7 +115,7 @@ fn takes_sharded(table: &Table, route: &Route, range: &KeyRange) -> bool
     }
 }
 
-/// The places of the sharded keyspace's ranges that the route of a statement on the table takes, in their order: none for a table of the
+/// The ordinals of the sharded keyspace's ranges that the route of a statement on the table takes, in their order: none for a table of the
 /// unsharded keyspace. Refuses only for want of memory.
 pub fn shards(
     alloc: Global,

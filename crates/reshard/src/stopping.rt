@@ -1,4 +1,4 @@
-//! A controller stops, and leaves what another needs to take its workflow up.
+//! A controller stops, and leaves what another needs to reopen its workflow.
 ghost use Rattle.std.specs.Prelude.{◌≡◌, map};
 ghost use Rattle.std.specs.List.{AllByRecursion};
 ghost use Rattle.shard_run.specs.Openings.{IsOpening};

@@ -1,4 +1,4 @@
--- What a workflow stands on: what is fixed for all of a keyspace, and the slots that no shard ever stood on.
+-- What is fixed for all workflows of a keyspace, and the slots that no shard was ever on.
 use Rattle.std.specs.Prelude.{◌≡◌, ◌<◌, ◌≤◌, ◌^◌, false, [], length}
 use Rattle.journal.specs.Views.{SeatView}
 use Rattle.shard_run.specs.declared.Entry.{Entry}

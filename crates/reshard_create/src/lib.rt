@@ -1,4 +1,4 @@
-//! How a workflow begins: which shards it replaces, whether its targets may take their place, and the targets.
+//! How a workflow begins: which shards it replaces, whether its targets may replace these, and the targets.
 #![tactic(auto)]
 
 mod config;

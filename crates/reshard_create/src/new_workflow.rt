@@ -31,7 +31,7 @@ use vt_value::Refusal;
 /// A partition has at most so many parts.
 pub const MOST_PARTS: usize = 64;
 
-/// Sources, the targets that take their place, and the parts that stay.
+/// Sources, the targets that replace them, and the parts that stay.
 #[derive(Drop)]
 pub struct NewWorkflow<W: World, J: Naming> {
     pub sources: Vec<SourceShard<W, J>>,

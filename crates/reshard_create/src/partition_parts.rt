@@ -1,4 +1,4 @@
-//! Which parts of a partition are named, and the ranges once targets take their place.
+//! Which parts of a partition are named, and the ranges once targets replace them.
 ghost use Rattle.std.specs.Prelude.{◌≡◌, ◌++◌, ◌∷◌, [], ◌↔◌, IsTrue, not, true, IfOk, IfErr, OnOk, Contains, map, false};
 ghost use Rattle.reshard_create.specs.Choices.{DoNotOverlap};
 ghost use Rattle.reshard_create.specs.inner.Created.{AreNamed};

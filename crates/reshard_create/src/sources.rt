@@ -1,4 +1,4 @@
-//! Which shards a workflow replaces, and whether these targets may take their place.
+//! Which shards a workflow replaces, and whether these targets may replace them.
 ghost use Rattle.std.specs.Prelude.{◌≡◌, ◌⊎◌, ◌++◌, ℕ, List, IfOk, IfErr, IfSome, OnOk, MatchOption, Contains, map, length};
 ghost use Rattle.std.specs.List.{AllByRecursion};
 ghost use Rattle.keyrange.specs.Ranges.{Cover};

@@ -1,4 +1,4 @@
-//! A workflow begins: the shards that it replaces, and its targets.
+//! Makes the targets of a workflow, on free slots, each with the sources that overlap it.
 ghost use Rattle.shard_run.specs.declared.ShardRecord as which;
 ghost use Rattle.std.specs.Prelude.{◌≡◌, ◌-◌, ◌+◌, ◌≤◌, ◌<◌, ◌^◌, ◌++◌, ◌∷◌, ◌⊎◌, [], ℕ, List, IfOk, IfErr, OnOk, OnErr, MatchOption, map, reverse, length, replicate, vec_len, vec_capacity};
 ghost use Rattle.std.specs.List.{AllByRecursion};
@@ -225,7 +225,7 @@ fn shared<W: World, J: Naming>(
     }
 }
 
-// The shard of a target on the last of the free slots, which is told, without rows, under its lock.
+// The shard of a target, without rows, under its lock, and the last of the free slots, which it has.
 fn open_shard<W: World, J: Naming>(
     rt: &impl Wait,
     alloc: Global,

@@ -1,4 +1,4 @@
-//! What a workflow is made again of whose controller stopped.
+//! Makes a workflow again whose controller stopped, from a look at each of its shards.
 ghost use Rattle.std.specs.Prelude.{◌≡◌, ◌⊎◌, ◌≤◌, ◌++◌, true, IfOk, IfErr, drop, length, map};
 ghost use Rattle.journal.specs.Runs.{IsLegal};
 ghost use Rattle.serving.specs.Partitions.{IsPartition, AreOf};

@@ -1,4 +1,4 @@
-//! The statements of an open transaction.
+//! The queries of an open transaction, and the choice between them and its writes.
 ghost use Rattle.std.specs.Prelude.{◌≡◌, ◌⊎◌, ◌<◌, ◌≤◌, ℕ, Some, None, IsSome, IfOk, IfErr, IfSome, IfNone, OnErr, Ok, true, false, length};
 ghost use Rattle.sql_tree.specs.declared.Statement.{Statement};
 ghost use Rattle.vschema.specs.Sources.{SourcesThere, JoinsInPlace};

@@ -1,4 +1,4 @@
-//! A place in a VSchema.
+//! Where in a VSchema something lies: its keyspace, table and member, or a line and a column.
 
 use std::alloc::Global;
 

@@ -1,4 +1,4 @@
-//! What a line tells.
+//! The law that a line has one meaning, proved of all lines: no code calls this function.
 ghost use Rattle.std.specs.Prelude.{◌≡◌, ℕ, List};
 ghost use Rattle.server_log.specs.Lines.{LogEntry, log_line};
 ghost use Rattle.server_log.specs.Unforged.{AreBytes, HasBytes};

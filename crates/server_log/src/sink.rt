@@ -1,4 +1,4 @@
-//! If records go.
+//! Where records go.
 ghost use Rattle.std.specs.Prelude.{ℕ, Some, true, []};
 
 use crate::line::line_of;

@@ -7,7 +7,7 @@ use jiff::Timestamp;
 use jiff::fmt::temporal::DateTimePrinter;
 use std::time::Clock;
 
-/// How many places a second's fraction has.
+/// How many digits a second's fraction has.
 const FRACTION_DIGITS: u8 = 3;
 
 /// Now; if the clock can't be read, the beginning of 1970.

@@ -123,13 +123,14 @@ impl<W: Write> LineWriter<W> {
         }
     }
 
-    // Promise: No line is written before the lines that were lost are told; a line that isn't written counts among them
-    /// Writes a line, after the report of the lines that were lost before it, if some were. Tells how many lines are lost then, and untold.
+    // Promise: No line is written before the lines that were lost are reported; a line that isn't written counts among them
+    /// Writes a line, after the report of the lines that were lost before it, if some were. Returns how many lines are lost then and not
+    /// reported yet.
     pub fn tell(&mut self, alloc: Global, instant: Timestamp, line: &LogLine, lost: u64) -> u64
         ensures written { result ≡ 0 → lost ≡ 0 → Appends (W.contents self.old.device) (W.contents self.new.device) (mended self.old.is_torn line.now) }
         ensures reported { result ≡ 0 → 0 < lost → (bytes : List ℕ) × IsReport instant lost bytes
             × Appends (W.contents self.old.device) (W.contents self.new.device) (mended self.old.is_torn (bytes ++ line.now)) }
-        // If it isn't written, all are untold, or the line alone is: then the report of the others was written.
+        // If it isn't written, all are left to report, or the line alone is: then the report of the others was written.
         ensures untold { result ≢ 0 → (result ≡ min (lost + 1) (2 ^ 64 - 1)) ⊎ ((result ≡ 1) × (bytes : List ℕ) × IsReport instant lost bytes × (more : List ℕ)
             × Appends (W.contents self.old.device) (W.contents self.new.device) (mended self.old.is_torn (bytes ++ more))) }
     {

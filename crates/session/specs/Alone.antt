@@ -76,7 +76,7 @@ IsEnding ShardFull = Unit {0}
 IsEnding _ = ⊥
 
 -- What the text of a statement may tell, and the state after it, which a refusal leaves as it was, or without its transaction. BEGIN in a
--- transaction is refused. If there is no memory to tell the rows of an answer, that is told in their place.
+-- transaction is refused. If there is no memory for the rows of an answer, its outcome is F1.
 pub data MeansOver (schema : VSchema) (s : OneState) (text : List ℕ) : Outcome → OneState → Type 0 where
   answered : {outcome : Outcome} {now : OneState} (answer : Answer) → AnswersNext schema s text answer now → Shows schema answer outcome
       → MeansOver schema s text outcome now
@@ -124,7 +124,7 @@ pub record MeansAlone (o : Opening) (limits : Limits) (s : Alone o) (text : List
 abbrev pub without_transaction : {o : Opening} → Alone o → Alone o
 without_transaction s = record { kept = none_open s.kept.pass; state = record { db = s.state.db; open_one = None }; rows = s.rows; tx = tt }
 
--- the terms of a conversation over it
+-- the context of a conversation over it
 abbrev pub alone_context : (o : Opening) → Handshake → SessionContext (Alone o)
 alone_context o handshake = record { handshake = handshake; schema = o.schema; is_open = λ s. is_some s.state.open_one; dropped = without_transaction }
 

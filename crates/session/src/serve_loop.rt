@@ -272,7 +272,7 @@ pub fn serve<W: World + Send + Sync, J: Naming + Send + Sync, G: Gate, R: Source
         × Consumes (R.unread source.old) (R.unread source.new) read × Appends (S.taken sink.old) (S.taken sink.new) written
         × ((now : PassAndTransaction) × (now.pass ≡ pass.new)
         × HasBrokenOff COMMAND_LIMIT (context_of W.opening (record { access = access.now; salt = salt.now; id = id })) (Means W.opening W.limits) ConnectionState.New (none_open pass.old) read written now) }
-    // That a device failed is told exactly when it did, in this call.
+    // That a device failed is returned exactly when it did, in this call.
     ensures source_count { R.failures source.new ≡ read_failures_after result (R.failures source.old) }
     ensures sink_count { S.failures sink.new ≡ write_failures_after result (S.failures sink.old) }
     // Whatever happened, the pass is still its session's.

@@ -311,7 +311,7 @@ impl<W: World + Send + Sync, J: Naming + Send + Sync> Core<W, J> {
             → HasTalked (context_of W.opening self.old.handshake) (Means W.opening W.limits) begin self.old first bytes out s →
             (written : List ℕ) × Appends (S.taken sink.old) (S.taken sink.new) written × ((now : PassAndTransaction) × IsKept W.opening pass.new self.new.tx now
             × HasBrokenOff self.old.framing.limit (context_of W.opening self.old.handshake) (Means W.opening W.limits) begin first (bytes ++ piece.now) (out ++ written) now) }
-        // That the sink failed is told exactly when it did, in this call.
+        // That the sink failed is returned exactly when it did, in this call.
         ensures count { S.failures sink.new ≡ write_failures_after result (S.failures sink.old) }
         ensures again { IfSome (end_of self.old.connection_state) (λ end. (result ≡ Ok (Some end)) × (self.new ≡ self.old) × (sink.new ≡ sink.old) × (pass.new ≡ pass.old)) }
         ensures next { IsStateAfter self.old self.new }

@@ -1,4 +1,4 @@
--- The seat of a shard in a partition: the slot that it stands on, its range and its keyspace.
+-- The seat of a shard in a partition: the slot that it is on, its range and its keyspace.
 use Rattle.vschema.specs.declared.schema.Place.{Place}
 use Rattle.serving.specs.Partitions.{Seat}
 use Rattle.shard_run.specs.declared.ShardRecord.{ShardRecord}

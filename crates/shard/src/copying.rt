@@ -185,7 +185,7 @@ impl<W: World, J: Naming> ShardState<W, J> {
     }
 
     // Promise: A target tells how far it has come with a source, and where it copies on; a source tells what it has for it next: its entry
-    // at a place, cut to the target's place, or that none is left; else at most 100 rows of a table of that place, in the order of their
+    // at a position, cut to the target's place, or that none is left; else at most 100 rows of a table of that place, in the order of their
     // keys, after the last that was copied, and whether they are the last. What is followed is cut to what is copied
     // With: ShardState::{position_in, copied_changes, entry_for, rows_to_copy}
     /// How far a target that follows has come with a source, by its slot. Refuses for want of memory.
@@ -256,7 +256,7 @@ impl<W: World, J: Naming> ShardState<W, J> {
         })
     }
 
-    /// What the entry that the shard has stored at a place, counted from 0, changes in a target's place. None if it hasn't stored so
+    /// What the entry that the shard has stored at a position, counted from 0, changes in a target's place. None if it hasn't stored so
     /// many. Refuses for want of memory.
     pub fn entry_for(
         &self,

@@ -1,4 +1,4 @@
-//! What a shard tells a controller that finds it: which targets it named as it retired, and whether its workflow was given up.
+//! What a controller learns from a shard that it finds: which targets it named as it retired, and whether its workflow was given up.
 ghost use Rattle.std.specs.Prelude.{◌≡◌, Contains};
 ghost use Rattle.shard_run.specs.declared.Event.{Event};
 ghost use Rattle.shard_run.specs.declared.Mode.{Mode};

@@ -1,4 +1,4 @@
-//! What a retired shard tells of the shards that take its place.
+//! Whether a shard is retired, and for which targets.
 ghost use Rattle.std.specs.Prelude.{◌≡◌, true, List, Contains, length};
 ghost use Rattle.shard_run.specs.declared.Event.{Event};
 ghost use Rattle.shard_run.specs.declared.ShardRecord as which;

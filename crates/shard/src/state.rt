@@ -1,4 +1,4 @@
-//! What stands under a shard's lock. Each call looks at the journal once, and then answers, commits or changes the mode over exactly the rows
+//! The state under a shard's lock. Each call looks at the journal once, and then answers, commits or changes the mode over exactly the rows
 //! that the run leaves on the shard.
 ghost use Rattle.std.specs.Prelude.{◌≡◌, ◌↔◌, IsTrue, ◌⊎◌, ◌+◌, ◌<◌, ◌≤◌, ◌^◌, ◌++◌, ◌∷◌, [], ℕ, true, false, List, Some, IsSome, IfOk, IfErr, MatchOption, None, OnOk, OnErr, Contains, length, vec_len};
 ghost use Rattle.vschema.specs.TypedWrites.{IsTypedWrite};

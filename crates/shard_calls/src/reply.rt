@@ -7,7 +7,7 @@ use std::alloc::Global;
 use vschema::{Join, Write};
 use vt_value::Items;
 
-/// What a query gave: the table or the two that it is over and what it shows, by the places of columns, and its rows.
+/// What a query gave: the table or the two that it is over and what it shows, by the ordinals of columns, and its rows.
 #[derive(Drop)]
 pub struct Selected {
     pub table: usize,

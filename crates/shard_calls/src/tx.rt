@@ -70,7 +70,7 @@ impl<W: World, J: Naming> Bound<W, J> {
         }
     }
 
-    /// The keyspace, by its place in the VSchema.
+    /// The keyspace, by its ordinal in the VSchema.
     pub fn keyspace(&self) -> usize
         ensures { result ≡ self.now.keyspace }
     {

@@ -56,7 +56,7 @@ pub record IsProgress (o : Opening) (run : Run) (target : ShardRecord) (source :
       (λ n. IsNextTable o run target source n.table
       × ((row : Row) → is_copied o.schema run target.slot source n.table row ≡ is_reached (table_at o.schema n.table) n.after row))
 
--- what the entry that a source has stored at a place changes in a target's place
+-- what the entry that a source has stored at a position changes in a target's place
 pub record IsEntryFor (o : Opening) (run : Run) (source : ℕ) (place : Place) (f : F.Follow) : Type 0 where
   pub of_source : f.source ≡ source
   pub entry : Entry

@@ -1,4 +1,4 @@
--- What stands on a slot, which entry may come next, and what a shard's state says of them.
+-- What is on a slot, which entry may come next, and what a shard's state says of them.
 use Rattle.std.specs.Prelude.{◌≡◌, ℕ, ◌+◌, ◌≤◌, ◌^◌, true, false, IsTrue, List, length, Contains, Some, slice_get}
 use Rattle.std.specs.List.{filter}
 use Rattle.vt_value.specs.Values.{Row}

@@ -48,8 +48,8 @@ pub struct Prepared {
     pub count: u64,
 }
 
-// Promise: The place of the table that a write changes
-/// The place of the table that a write changes.
+// Promise: The ordinal of the table that a write changes
+/// The ordinal of the table that a write changes.
 pub fn written_table(write: &Write) -> usize
     ensures { result ≡ written_table write.now }
 {

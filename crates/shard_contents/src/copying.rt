@@ -26,7 +26,7 @@ use std::alloc::Global;
 use vschema::{Place, RowChange, VSchema};
 use vt_value::{Items, Refusal, Row, copy_row};
 
-/// The table that a target copies next from a source, by its place in the VSchema, and the last row of it that the target has.
+/// The table that a target copies next from a source, by its ordinal in the VSchema, and the last row of it that the target has.
 #[derive(Drop)]
 pub struct NextTable {
     pub table: usize,

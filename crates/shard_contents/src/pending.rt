@@ -33,7 +33,7 @@ impl Model for Pending {
     ghost view = { λ p. record { touched = p.touched.items; writes = p.writes.items; changes = p.changes.items } };
 }
 
-// Whether the entry changes a row of the table at a place.
+// Whether the entry changes a row of the table at an ordinal.
 fn changes_table(ordinal: usize, entry: &Entry) -> bool
     ensures { result ≡ changes_table ordinal entry.now }
 {

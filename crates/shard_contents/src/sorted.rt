@@ -88,7 +88,7 @@ fn change(alloc: Global, rows: &mut TableRows, change: &RowChange) -> Result<(),
     }
 }
 
-// Does those of the changes that are of the table at a place, whose rows these are.
+// Does those of the changes that are of the table at an ordinal, whose rows these are.
 fn change_all(
     alloc: Global,
     table: usize,
@@ -107,7 +107,7 @@ fn change_all(
     Ok(())
 }
 
-// Does what entries change of the table at a place, whose rows these are.
+// Does what entries change of the table at an ordinal, whose rows these are.
 fn change_by(
     alloc: Global,
     table: usize,
@@ -191,7 +191,7 @@ impl SortedTable {
     }
 }
 
-// Where among these tables the one at a place of the VSchema is.
+// Where among these tables the one at an ordinal of the VSchema is.
 fn ordinal_of(tables: &[SortedTable], table: usize) -> Option<usize>
     ensures { result ≡ position (λ t. t.table == table) tables.now }
 {
@@ -230,7 +230,7 @@ impl SortedTables {
         self.tables.clear();
     }
 
-    // Takes out the table at a place of the VSchema, if it is there.
+    // Takes out the table at an ordinal of the VSchema, if it is there.
     fn take(&mut self, place: usize) -> Option<SortedTable>
         ensures had { (stored : List entry.Entry) (now : Database) → AllHadRows stored now self.old → AllHadRows stored now self.new }
         ensures taken { IfSome result (λ t. (t.table ≡ place) × ((stored : List entry.Entry) (now : Database) → AllHadRows stored now self.old → HadRows stored now t)) }
@@ -239,7 +239,7 @@ impl SortedTables {
         Some(self.tables.remove(at))
     }
 
-    // Takes out the table at a place, brought forward to what is stored; makes it if it isn't there. If memory is wanting it is gone.
+    // Takes out the table at an ordinal, brought forward to what is stored; makes it if it isn't there. If memory is wanting it is gone.
     fn take_current(
         &mut self,
         alloc: Global,

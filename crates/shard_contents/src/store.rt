@@ -3,7 +3,7 @@ ghost use Rattle.vschema.specs.Database.{changed_table};
 
 use vschema::RowChange;
 
-/// The place of the table that a change is of.
+/// The ordinal of the table that a change is of.
 pub fn changed_table(change: &RowChange) -> usize
     ensures { result ≡ changed_table change.now }
 {

@@ -8,7 +8,7 @@ use vt_value::Row;
 /// A step by which a target came forward with a source, by its slot.
 #[derive(Drop)]
 pub enum TargetStep {
-    /// It took over what the source's stored entry at this place changes.
+    /// It took over what the source's stored entry at this position changes.
     Followed {
         source: usize,
         log_position: u64,

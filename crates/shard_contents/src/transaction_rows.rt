@@ -58,7 +58,7 @@ impl<'a> RowSelection<'a> {
     }
 }
 
-/// Whether one of the changes is of the table at a place.
+/// Whether one of the changes is of the table at an ordinal.
 pub fn changes_any(ordinal: usize, changes: &[RowChange]) -> bool
     ensures { result ≡ list_any (λ c. changed_table c == ordinal) changes.now }
 {
@@ -131,7 +131,7 @@ fn change_wanted<'a>(
     }
 }
 
-// Rows of the table at a place, of which the wanted ones are those that the changes leave.
+// Rows of the table at an ordinal, of which the wanted ones are those that the changes leave.
 fn overlaid_rows<'a>(
     alloc: Global,
     store: &'a StoredTables,
@@ -152,7 +152,7 @@ fn overlaid_rows<'a>(
     Ok(overlaid)
 }
 
-// The rows of the table at a place that the changes leave.
+// The rows of the table at an ordinal that the changes leave.
 fn all_overlaid<'a>(
     alloc: Global,
     store: &'a StoredTables,
@@ -166,7 +166,7 @@ fn all_overlaid<'a>(
     overlaid_rows(alloc, store, ordinal, changes, RowSelection::All)
 }
 
-// Rows of the table at a place, of which those that have the primary key of a new one are those that the changes leave.
+// Rows of the table at an ordinal, of which those that have the primary key of a new one are those that the changes leave.
 fn keyed_overlaid<'a>(
     alloc: Global,
     store: &'a StoredTables,
@@ -193,7 +193,7 @@ fn are_many(new: &[Row]) -> bool {
     new.len() > FEW_NEW
 }
 
-// Rows of the table at a place, which have the primary key of a new one if the rows that the changes leave have it.
+// Rows of the table at an ordinal, which have the primary key of a new one if the rows that the changes leave have it.
 fn rows_for<'a>(
     alloc: Global,
     store: &'a StoredTables,

@@ -4,7 +4,7 @@ use Rattle.vschema.specs.declared.schema.Table.{Table}
 use Rattle.vschema.specs.declared.schema.ColumnVindex.{ColumnVindex}
 use Rattle.vschema.specs.Checks.{has_number}
 
--- the place of the vindex column, in a table that has one
+-- the ordinal of the vindex column, in a table that has one
 abbrev pub vindex_ordinals : Option ColumnVindex → List ℕ
 vindex_ordinals None = []
 vindex_ordinals (Some v) = v.column ∷ []

@@ -9,18 +9,18 @@ use Rattle.shard_store.specs.declared.key.KeyedChange.{KeyedChange}
 use Rattle.shard_store.specs.declared.key.KeyedChange.TheVariants.{Put, Take}
 use Rattle.shard_store.specs.Tables.{key_at}
 
--- a table: its rows, the places of its key columns, and for how many more rows without slots there is memory
+-- a table: its rows, the ordinals of its key columns, and for how many more rows without slots there is memory
 pub record RowsView : Type 0 where
   pub rows : List Row
   pub ordinals : List ℕ
   pub room : ℕ
 
--- a table with changes that it does not have: the rows then, and the places of its key columns
+-- a table with changes that it does not have: the rows then, and the ordinals of its key columns
 pub record ChangedView : Type 0 where
   pub rows : List Row
   pub ordinals : List ℕ
 
--- the rows of all tables, the places of their key columns, and their room
+-- the rows of all tables, the ordinals of their key columns, and their room
 pub record StoreView : Type 0 where
   pub rows : Database
   pub ordinals : List (List ℕ)
@@ -46,7 +46,7 @@ abbrev pub HasItsKey : StoreView → KeyedChange → Type 0
 HasItsKey s (Put n k) = k.key.values ≡ key_at (ordinals_of s n) k.row
 HasItsKey s (Take n k) = k.key.values ≡ key_at (ordinals_of s n) k.row
 
--- the change puts a row into the table at the place
+-- the change puts a row into the table at the ordinal
 abbrev pub puts_into : ℕ → KeyedChange → Bool
 puts_into n (Put m k) = m == n
 puts_into n (Take m k) = false

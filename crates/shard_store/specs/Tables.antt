@@ -8,7 +8,7 @@ use Rattle.vschema.specs.Database.{same_row}
 use Rattle.shard_store.specs.Slots.{Slot, rows_in, slot_at}
 use Rattle.shard_store.specs.declared.key.RowKey.{RowKey}
 
--- a table: its slots, and the places of its key columns
+-- a table: its slots, and the ordinals of its key columns
 pub record TableView : Type 0 where
   pub slots : List Slot
   pub ordinals : List ℕ

@@ -42,7 +42,7 @@ impl<'a> Model for RowsByValue<'a> {
 pub struct RowsFound<'a, 'b> {
     slots: Option<ChosenSlots<'a>>,
     others: &'b [&'a Row],
-    // the place of the next of the others
+    // the ordinal of the next of the others
     next: usize,
 }
 

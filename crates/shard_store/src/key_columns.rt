@@ -20,7 +20,7 @@ fn is_vindex_column(table: &Table, ordinal: usize) -> bool
     }
 }
 
-/// The places of the columns by whose values a table's rows are stored: the vindex column first, so that the rows of one of its
+/// The ordinals of the columns by whose values a table's rows are stored: the vindex column first, so that the rows of one of its
 /// values stand together, and then the others of the primary key. Rows have the same values there if they have the same
 /// primary key. Refuses for want of memory.
 pub fn key_ordinals(alloc: Global, table: &Table) -> Result<Items<usize>, Refusal>

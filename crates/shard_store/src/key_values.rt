@@ -36,7 +36,7 @@ impl Model for KeyValues {
     ghost view = { λ k. listed k.listing };
 }
 
-/// Compares values in their order, one after the other. A proper beginning comes before the longer list.
+/// Compares values in their order, one after the other. A proper prefix comes before the longer list.
 pub(crate) fn compare_values(a: &[Value], b: &[Value]) -> Ordering
     ensures { result ≡ slice_cmp value_cmp a.now b.now }
 {

@@ -32,7 +32,7 @@ use std::marker::Model;
 use vschema::{Query, Table};
 use vt_value::{Items, Refusal, Row};
 
-/// The rows of a table with changes that the table does not have. Contracts see the rows, and the places of the key columns.
+/// The rows of a table with changes that the table does not have. Contracts see the rows, and the ordinals of the key columns.
 #[derive(Drop)]
 pub struct Overlay<'a> {
     stored: &'a StoredTable,
@@ -64,7 +64,7 @@ pub struct RowsLeft<'a, 'b> {
     // keys after the last one that was looked up, none of which is gone
     gap: Option<Gap<'a>>,
     others: &'b [&'a Row],
-    // the place of the next of the others
+    // the ordinal of the next of the others
     next: usize,
 }
 
@@ -99,7 +99,7 @@ impl<'a, 'b> RowSource<'a> for RowsLeft<'a, 'b> {
     }
 }
 
-// The place of the first row that is this one.
+// The ordinal of the first row that is this one.
 fn ordinal_of(rows: &[&Row], row: &Row) -> Option<usize>
     ensures { result ≡ position (λ r. same_row row.now r.now) rows.now }
 {
@@ -294,7 +294,7 @@ impl<'a> Overlay<'a> {
         select_from(alloc, query, rows)
     }
 
-    // Whether a row has the primary key of one of these, if the places of the key columns tell which are the same.
+    // Whether a row has the primary key of one of these, if the ordinals of the key columns tell which are the same.
     fn has_any_keyed(&self, alloc: Global, table: &Table, new: &[Row]) -> Result<bool, Refusal>
         requires { (a b : List V) → same_row (key_at self.now.ordinals a) (key_at self.now.ordinals b) ≡ same_row (key_of table.now a) (key_of table.now b) }
         ensures ok { IfOk result (λ has. has ≡ list_any (λ n. list_any (λ r. same_row (key_of table.now n) (key_of table.now r)) self.now.rows) new.now) }
@@ -321,7 +321,7 @@ impl<'a> Overlay<'a> {
 }
 
 impl StoredTables {
-    /// The rows of the table at a place, without any change. Refuses for want of memory.
+    /// The rows of the table at an ordinal, without any change. Refuses for want of memory.
     pub fn overlay(&self, alloc: Global, ordinal: usize) -> Result<Overlay<'_>, Refusal>
         requires { ordinal < length self.now.rows }
         ensures ok { IfOk result (λ overlay. overlay.rows ≡ rows_of self.now.rows ordinal) }

@@ -12,7 +12,7 @@ use sql_tree::{Condition, Operand};
 use std::alloc::Global;
 use vt_value::{Refusal, Row, Truth};
 
-// Whether an operand is a literal or a column below a place.
+// Whether an operand is a literal or a column below an ordinal.
 fn is_operand_below(operand: &Operand<usize>, width: usize) -> bool
     ensures { IsTrue result → (first second : List V) → operand_value (padded_row width first ++ second) operand.now ≡ operand_value first operand.now }
 {
@@ -22,7 +22,7 @@ fn is_operand_below(operand: &Operand<usize>, width: usize) -> bool
     }
 }
 
-// Whether all columns of a condition are below a place.
+// Whether all columns of a condition are below an ordinal.
 #[cycle(below)]
 fn is_below(condition: &Condition<usize>, width: usize) -> bool
     ensures { IsTrue result → (first second : List V) → truth_at (padded_row width first ++ second) condition.now ≡ truth_at first condition.now }
@@ -49,7 +49,7 @@ fn are_below(members: &[Condition<usize>], width: usize) -> bool
     true
 }
 
-// Adds the conjuncts of a condition whose columns are all below a place.
+// Adds the conjuncts of a condition whose columns are all below an ordinal.
 #[cycle(own)]
 fn push_own<'a>(
     condition: &'a Condition<usize>,
@@ -98,7 +98,7 @@ fn conjuncts_of<'a>(
     Ok(own)
 }
 
-/// The conjuncts of a condition on pairs whose columns are all below a place, and so columns of the first row. Each is true at the first row
+/// The conjuncts of a condition on pairs whose columns are all below an ordinal, and so columns of the first row. Each is true at the first row
 /// of a pair at which the condition is true. Refuses for want of memory.
 pub fn own_conjuncts<'a>(
     alloc: Global,

@@ -161,7 +161,7 @@ impl TableRows {
 }
 
 impl StoredTables {
-    /// All rows of the table at a place.
+    /// All rows of the table at an ordinal.
     pub fn all(&self, ordinal: usize) -> AllRows<'_>
         requires { ordinal < length self.now.rows }
         ensures { result ≡ rows_of self.now.rows ordinal }
@@ -175,7 +175,7 @@ impl StoredTables {
         self.tables.get(ordinal)
     }
 
-    /// How many rows the table at a place has: none after the last table.
+    /// How many rows the table at an ordinal has: none after the last table.
     pub fn row_count_of(&self, ordinal: usize) -> usize
         ensures { result ≡ length (rows_of self.now.rows ordinal) }
     {
@@ -185,7 +185,7 @@ impl StoredTables {
         }
     }
 
-    /// Copies of the rows of the table at a place whose condition is true: none after the last table. Refuses for want of memory.
+    /// Copies of the rows of the table at an ordinal whose condition is true: none after the last table. Refuses for want of memory.
     pub fn kept(
         &self,
         alloc: Global,

@@ -34,7 +34,7 @@ fn order_at(a: &Row, m: usize, b: &Row, n: usize) -> Ordering
     sort_order(value_at(a, m, &null), value_at(b, n, &null))
 }
 
-// Compares the values of two rows in columns, one after the other. A proper beginning comes before the longer list.
+// Compares the values of two rows in columns, one after the other. A proper prefix comes before the longer list.
 fn compare_columns(a: &Row, a_columns: &[usize], b: &Row, b_columns: &[usize]) -> Ordering
     ensures { result ≡ slice_cmp value_cmp (key_at a_columns.now a.now) (key_at b_columns.now b.now) }
 {
@@ -129,7 +129,7 @@ impl<'a> Gap<'a> {
     }
 }
 
-/// Rows that are gone from the slots of a table. Contracts see the places of the key columns, and the rows' values there.
+/// Rows that are gone from the slots of a table. Contracts see the ordinals of the key columns, and the rows' values there.
 #[derive(Drop)]
 pub struct RemovedRows<'a> {
     columns: &'a [usize],
@@ -147,7 +147,7 @@ impl<'a> Model for RemovedRows<'a> {
 }
 
 impl<'a> RemovedRows<'a> {
-    /// None, of a table whose key columns are at these places.
+    /// None, of a table whose key columns are at these ordinals.
     pub fn new(alloc: Global, columns: &'a [usize]) -> RemovedRows<'a>
         ensures columns { result.columns ≡ columns.now }
         ensures keys { result.keys ≡ [] }

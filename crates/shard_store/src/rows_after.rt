@@ -43,7 +43,7 @@ impl TableRows {
 }
 
 impl StoredTables {
-    /// Rows of the table at a place among which are all whose primary key is after that of the last row; all, if none is given. Refuses
+    /// Rows of the table at an ordinal among which are all whose primary key is after that of the last row; all, if none is given. Refuses
     /// for want of memory.
     pub fn rows_after(
         &self,

@@ -114,7 +114,7 @@ impl StoredTables {
         true
     }
 
-    // The key of a row of the table at a place.
+    // The key of a row of the table at an ordinal.
     fn key_of(&self, alloc: Global, ordinal: usize, row: &Row) -> Result<RowKey, Refusal>
         ensures ok { IfOk result (λ key. key.values ≡ key_at (ordinals_of self.now ordinal) row.now) }
         ensures err { IfErr result (λ e. e ≡ Refusal.OutOfMemory) }
@@ -215,7 +215,7 @@ impl StoredTables {
         Ok(keyed)
     }
 
-    // Makes memory for so many more rows of the table at a place, and a slot for a key.
+    // Makes memory for so many more rows of the table at an ordinal, and a slot for a key.
     fn reserve(
         &mut self,
         alloc: Global,
@@ -233,7 +233,7 @@ impl StoredTables {
         self.tables[ordinal].make_room(alloc, key, additional)
     }
 
-    // Makes memory to remember so many more keys of rows that are removed from the table at a place.
+    // Makes memory to remember so many more keys of rows that are removed from the table at an ordinal.
     fn reserve_freed(&mut self, ordinal: usize, additional: usize) -> Result<(), Refusal>
         requires { ordinal < length self.old.rows }
         ensures unchanged { self.new ≡ self.old }
@@ -318,7 +318,7 @@ impl StoredTables {
         }
     }
 
-    // Remembers the key of a row that was removed from the table at a place.
+    // Remembers the key of a row that was removed from the table at an ordinal.
     fn free(&mut self, ordinal: usize, key: RowKey)
         ensures { self.new ≡ self.old }
     {

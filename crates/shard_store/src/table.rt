@@ -20,7 +20,7 @@ use vschema::Table;
 use vt_value::{Items, Refusal, Row, Value, copy};
 
 /// The rows of a table, each in the slot of its own key: the values of the table's key columns. No two rows have the same key.
-/// Contracts see the slots, in the order of the keys, and the places of the key columns.
+/// Contracts see the slots, in the order of the keys, and the ordinals of the key columns.
 #[derive(Drop)]
 pub struct StoredTable {
     slots: Slots,
@@ -38,7 +38,7 @@ impl Model for StoredTable {
     ghost invariant = { λ t. IsStored t.ordinals t.slots t.count };
 }
 
-/// A copy of the value of a row at a place: NULL after its last one. Refuses for want of memory.
+/// A copy of the value of a row at an ordinal: NULL after its last one. Refuses for want of memory.
 fn copy_at(alloc: Global, row: &Row, ordinal: usize) -> Result<Value, Refusal>
     ensures ok { IfOk result (λ v. v ≡ value_at row.now ordinal) }
     ensures err { IfErr result (λ e. e ≡ Refusal.OutOfMemory) }
@@ -71,7 +71,7 @@ fn key_values(alloc: Global, ordinals: &[usize], row: &Row) -> Result<KeyValues,
 }
 
 impl StoredTable {
-    /// A table without rows, whose key columns are at these places.
+    /// A table without rows, whose key columns are at these ordinals.
     pub fn new(alloc: Global, ordinals: Items<usize>) -> StoredTable
         ensures slots { result.slots ≡ [] }
         ensures ordinals { result.ordinals ≡ ordinals }
@@ -83,7 +83,7 @@ impl StoredTable {
         }
     }
 
-    /// The places of the key columns.
+    /// The ordinals of the key columns.
     pub fn key_columns(&self) -> &[usize]
         ensures { result.now ≡ self.now.ordinals }
     {

@@ -12,7 +12,7 @@ use std::alloc::Global;
 use std::marker::Model;
 use vt_value::{Items, Refusal, Row};
 
-// The place of the first row that is this one.
+// The ordinal of the first row that is this one.
 fn ordinal_of(rows: &[Row], row: &Row) -> Option<usize>
     ensures { result ≡ position (λ r. same_row row.now r) rows.now }
 {
@@ -50,7 +50,7 @@ impl Model for TableRows {
 }
 
 impl TableRows {
-    /// No rows, of a table whose key columns are at these places.
+    /// No rows, of a table whose key columns are at these ordinals.
     pub fn new(alloc: Global, ordinals: Items<usize>) -> TableRows
         ensures rows { result.rows ≡ [] }
         ensures ordinals { result.ordinals ≡ ordinals }

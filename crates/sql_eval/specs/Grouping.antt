@@ -20,12 +20,12 @@ shown_ordinal _ = 0
 abbrev pub aggregates_of : List (Item ℕ) → List (Item ℕ)
 aggregates_of items = filter is_aggregate items
 
--- the place of a column among those of GROUP BY, counted from a number on, and another place if it isn't there
+-- the ordinal of a column among those of GROUP BY, counted from a number on, and another number if it isn't there
 abbrev pub group_ordinal_from : ℕ → ℕ → List ℕ → ℕ → ℕ
 group_ordinal_from n other [] c = other
 group_ordinal_from n other (g ∷ columns) c = if g == c then n else group_ordinal_from (n + 1) other columns c
 
--- the places of a query's items in the rows of groups, if the aggregates stand from a place on
+-- the ordinals of a query's items in the rows of groups, if the aggregates stand from an ordinal on
 abbrev pub item_ordinals : ℕ → List ℕ → ℕ → List (Item ℕ) → List ℕ
 item_ordinals other columns n [] = []
 item_ordinals other columns n (i ∷ items) =
@@ -35,18 +35,18 @@ item_ordinals other columns n (i ∷ items) =
 abbrev pub placed_key : ℕ → List ℕ → Key ℕ → Key ℕ
 placed_key other columns k = record { column = group_ordinal_from 0 other columns k.column; descending = k.descending }
 
--- a place after the last value of a group's row
+-- an ordinal after the last value of a group's row
 abbrev pub after_groups : Query → ℕ
 after_groups q = length q.group_by + length q.items
 
 abbrev pub grouping_of : Query → Grouping
 grouping_of q = record { width = length q.group_by; aggregates = aggregates_of q.items; hashing = tt }
 
--- the places of the query's items in a group's row
+-- the ordinals of the query's items in a group's row
 abbrev pub group_columns : Query → List ℕ
 group_columns q = item_ordinals (after_groups q) q.group_by (length q.group_by) q.items
 
--- the sort keys, by the places of their columns in a group's row
+-- the sort keys, by the ordinals of their columns in a group's row
 abbrev pub group_order : Query → List (Key ℕ)
 group_order q = map (placed_key (after_groups q) q.group_by) q.order_by
 
@@ -54,7 +54,7 @@ group_order q = map (placed_key (after_groups q) q.group_by) q.order_by
 abbrev pub grouped : Grouping → List Row → List Row
 grouped g parts = joined_rows g.aggregates g.width parts
 
--- what is shown of rows: their slice in an order that the keys allow, by the columns in these places
+-- what is shown of rows: their slice in an order that the keys allow, by the columns at these ordinals
 abbrev pub IsSortedSlice : List (Key ℕ) → Option LimitClause → List ℕ → List Row → List Row → Type 0
 IsSortedSlice keys limit ordinals rows list =
     (arranged : List Row) × IsPermutation rows arranged × IsSorted (row_cmp keys) arranged

@@ -34,11 +34,11 @@ abbrev pub whole_items : Option Whole → List (Item ℕ) → List (Item ℕ)
 whole_items None items = items
 whole_items (Some w) items = w.items
 
--- where each of them stands among those of the narrowed one; without places each stands where it is
+-- where each of them stands among those of the narrowed one; without ordinals each is where it is
 abbrev pub whole_ordinals : Option Whole → Option (List ℕ)
 whole_ordinals None = None
 whole_ordinals (Some w) = Some w.ordinals
 
--- Over whatever rows: of each answer of the narrowed query the columns in these places are an answer of the query.
+-- Over whatever rows: of each answer of the narrowed query the columns at these ordinals are an answer of the query.
 pub record ShowsAt (q : Query) (ordinals : Option (List ℕ)) : Type 0 where
   pub answers : (rows list : List Row) → IsAnswer (narrowed q) rows list → IsAnswer q rows (shown_at ordinals list)

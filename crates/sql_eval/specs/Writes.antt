@@ -34,7 +34,7 @@ row_updates n assignments filter' row =
     (if same_row row (assigned assignments row) then [] else Replaced n row (assigned assignments row) ∷ [])
     else []
 
--- the place of the table that a write names
+-- the ordinal of the table that a write names
 abbrev pub written_table : Write → ℕ
 written_table (Insert n new) = n
 written_table (Update n assignments filter') = n

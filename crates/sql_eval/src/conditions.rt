@@ -35,7 +35,7 @@ fn pair_at<'v>(
     }
 }
 
-/// The value at a place: `null`, which is NULL, after the last one.
+/// The value at an ordinal: `null`, which is NULL, after the last one.
 pub fn seen_at<'v>(values: Seen<'v>, ordinal: usize, null: &'v Value) -> &'v Value
     requires { null.now ≡ Value.Null }
     ensures { result.now ≡ Rattle.vt_value.specs.Values.value_at (seen values.entry) ordinal }

@@ -221,7 +221,7 @@ fn item_ordinals(
     Ok(ordinals)
 }
 
-/// The places of an aggregated query's items in the rows of its groups. Refuses only for want of memory.
+/// The ordinals of an aggregated query's items in the rows of its groups. Refuses only for want of memory.
 pub fn group_columns(alloc: Global, query: &Query) -> Result<Items<usize>, Refusal>
     ensures ok { IfOk result (λ ordinals. ordinals ≡ group_columns query.now) }
     ensures err { IfErr result (λ e. e ≡ Refusal.OutOfMemory) }
@@ -251,7 +251,7 @@ fn placed_keys(
     Ok(placed)
 }
 
-/// The sort keys of an aggregated query, by the places of their columns in the rows of its groups. Refuses only for want of memory.
+/// The sort keys of an aggregated query, by the ordinals of their columns in the rows of its groups. Refuses only for want of memory.
 pub fn group_order(alloc: Global, query: &Query) -> Result<Items<Key<usize>>, Refusal>
     ensures ok { IfOk result (λ keys. keys ≡ group_order query.now) }
     ensures err { IfErr result (λ e. e ≡ Refusal.OutOfMemory) }

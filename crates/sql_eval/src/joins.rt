@@ -175,7 +175,7 @@ impl<'a, S: PairSource<'a>> Operator for KeptPairs<'a, S> {
     }
 }
 
-// Of these rows, in an order that the keys allow, what the limit leaves, by the columns in these places.
+// Of these rows, in an order that the keys allow, what the limit leaves, by the columns at these ordinals.
 fn shown_pairs<O: Operator>(
     alloc: Global,
     rows: O,

@@ -184,7 +184,7 @@ impl Model for Narrowed {
 
 impl Narrowed {
     // Promise: A query that shows items again and again is run with each of them once: of whatever that may answer over rows, the columns in the
-    // places that are told are what the whole query may answer
+    // ordinals that are given are what the whole query may answer
     // With: Narrowed::query, Narrowed::ordinals, Narrowed::split, Narrowed::shown
     /// The query that shows each item of this one once. Refuses only for want of memory.
     pub fn of(alloc: Global, query: Query) -> Result<Narrowed, Refusal>

@@ -17,7 +17,7 @@ use vt_value::{Refusal, Row};
 #[derive(Drop)]
 pub struct LentRows<'a> {
     rows: Vec<&'a Row>,
-    // the place of the next one
+    // the ordinal of the next one
     next: usize,
 }
 

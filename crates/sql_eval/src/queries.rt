@@ -21,7 +21,7 @@ use std::alloc::Global;
 use vschema::Query;
 use vt_value::{Items, Refusal, Row, Value};
 
-/// The columns that items show, by their places, 0 for an aggregate.
+/// The columns that items show, by their ordinals, 0 for an aggregate.
 pub fn shown_ordinals(alloc: Global, items: &[Item<usize>]) -> Result<Items<usize>, Refusal>
     ensures ok { IfOk result (λ ordinals. ordinals ≡ map shown_ordinal items.now) }
     ensures err { IfErr result (λ e. e ≡ Refusal.OutOfMemory) }
@@ -33,7 +33,7 @@ pub fn shown_ordinals(alloc: Global, items: &[Item<usize>]) -> Result<Items<usiz
     Ok(ordinals)
 }
 
-/// The rows by the columns in these places, each copied.
+/// The rows by the columns at these ordinals, each copied.
 fn project_rows(alloc: Global, rows: &[Row], ordinals: &[usize]) -> Result<Items<Row>, Refusal>
     ensures ok { IfOk result (λ list. list ≡ map (columns_of ordinals.now) rows.now) }
     ensures err { IfErr result (λ e. e ≡ Refusal.OutOfMemory) }
@@ -45,7 +45,7 @@ fn project_rows(alloc: Global, rows: &[Row], ordinals: &[usize]) -> Result<Items
     Ok(list)
 }
 
-/// What is shown of rows: the slice that `limit` leaves of them in an order that the keys allow, each by the columns in these places.
+/// What is shown of rows: the slice that `limit` leaves of them in an order that the keys allow, each by the columns at these ordinals.
 /// Refuses only for want of memory.
 pub fn show(
     alloc: Global,

@@ -1,4 +1,4 @@
-//! The value of a row at a place, and when rows or their keys are equal.
+//! The value of a row at an ordinal, and when rows or their keys are equal.
 ghost use Rattle.std.specs.Prelude.{◌≡◌, zip};
 ghost use Rattle.std.specs.List.{list_any, list_all};
 ghost use Rattle.std.specs.Ordering.{is_eq};
@@ -10,7 +10,7 @@ ghost use Rattle.vschema.specs.Database.{same_row};
 use vschema::Table;
 use vt_value::{Row, Value, sort_order};
 
-/// The value of a row at a place: `null`, which is NULL, after its last one.
+/// The value of a row at an ordinal: `null`, which is NULL, after its last one.
 pub fn value_at<'a>(row: &'a Row, ordinal: usize, null: &'a Value) -> &'a Value
     requires { null.now ≡ Value.Null }
     ensures { result.now ≡ value_at row.now ordinal }

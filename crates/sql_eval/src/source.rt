@@ -146,7 +146,7 @@ fn pass_over<'a, S: RowSource<'a>>(condition: &Filter, rows: &mut S, count: u64)
     }
 }
 
-// Of the first rows whose condition is true, at most so many, the columns in these places. No row after the last of them is asked for.
+// Of the first rows whose condition is true, at most so many, the columns at these ordinals. No row after the last of them is asked for.
 fn first_shown<'a, S: RowSource<'a>>(
     alloc: Global,
     condition: &Filter,
@@ -168,7 +168,7 @@ fn first_shown<'a, S: RowSource<'a>>(
     Ok(list)
 }
 
-// Of each row whose condition is true the columns in these places.
+// Of each row whose condition is true the columns at these ordinals.
 fn all_shown<'a, S: RowSource<'a>>(
     alloc: Global,
     condition: &Filter,
@@ -185,7 +185,7 @@ fn all_shown<'a, S: RowSource<'a>>(
     Ok(list)
 }
 
-/// Of the rows whose condition is true those that `limit` leaves, each by the columns in these places. No other row is copied, and none
+/// Of the rows whose condition is true those that `limit` leaves, each by the columns at these ordinals. No other row is copied, and none
 /// after the last of them is asked for. Refuses only for want of memory.
 pub fn shown<'a, S: RowSource<'a>>(
     alloc: Global,

@@ -1,10 +1,10 @@
--- The tokens of a SQL text, with the places of their bytes. A token is as long as possible, and blanks may stand between tokens.
+-- The tokens of a SQL text, with the positions of their bytes. A token is as long as possible, and blanks may stand between tokens.
 use Rattle.std.specs.Prelude.{◌≡◌, ℕ, ◌+◌, true, List, [], ◌∷◌, ◌++◌, length}
 use Rattle.sql_lexer.specs.declared.token.Token.{Token}
 use Rattle.sql_lexer.specs.declared.token.TokenKind.{TokenKind}
 use Rattle.sql_lexer.specs.Lexemes.{Spells, ends_token, is_blank}
 
--- from this place on a text is these bytes: tokens and blanks
+-- from this position on a text is these bytes: tokens and blanks
 pub data LexesFrom : ℕ → List ℕ → List Token → Type 0 where
   end : {at : ℕ} → LexesFrom at [] []
   blank : {at b : ℕ} {rest : List ℕ} {tokens : List Token} → is_blank b ≡ true → LexesFrom (at + 1) rest tokens → LexesFrom at (b ∷ rest) tokens

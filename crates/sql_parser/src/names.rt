@@ -1,4 +1,4 @@
-//! Names, columns, numbers, and what stands between the items of a list.
+//! Names, columns, numbers, and what comes between the items of a list.
 ghost use Rattle.std.specs.Prelude.{◌≡◌, ℕ, List, option_map};
 ghost use Rattle.std.specs.Option.{option_copied};
 ghost use Rattle.sql_lexer.specs.Lexemes.{lexemes_of};

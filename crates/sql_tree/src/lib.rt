@@ -26,7 +26,7 @@ pub enum Operand<C> {
     Literal(Value),
 }
 
-/// A condition over columns, as `C` says them: by name in a parsed tree, by place once it is resolved. `And` and
+/// A condition over columns, as `C` says them: by name in a parsed tree, by ordinal once it is resolved. `And` and
 /// `Or` have two or more members.
 #[derive(Drop)]
 pub enum Condition<C> {

@@ -115,7 +115,7 @@ pub(crate) fn all_chunks_but_the_last_are_full(alloc: Global) -> Result<bool, Re
     Ok(true)
 }
 
-/// Whether rows that fail are told so.
+/// Whether rows that fail end in a refusal.
 fn is_refused(alloc: Global, rows: Failing, chunks: &mut Chunks) -> Result<bool, Refusal> {
     let columns = columns(alloc)?;
     let end = SetEnd::OkPacket;
@@ -123,7 +123,7 @@ fn is_refused(alloc: Global, rows: Failing, chunks: &mut Chunks) -> Result<bool,
     Ok(done == Err(Refusal::OutOfMemory))
 }
 
-/// Whether rows that fail are told so, and leave the chunks as they were.
+/// Whether rows that fail end in a refusal, and leave the chunks as they were.
 fn leave(alloc: Global, rows: Failing, chunks: &mut Chunks) -> Result<bool, Refusal> {
     let before = joined(alloc, chunks)?;
     let refused = is_refused(alloc, rows, chunks)?;

@@ -7,7 +7,7 @@
 //! | `keyword` | a word | whether it is a keyword |
 //! | `schema` | a VSchema | its keyspaces and tables, or the number of its fault |
 //! | `plan` | ranges, a VSchema, a text of SQL | the line of its plan, or of its refusal |
-//! | `opening` | ranges, a VSchema | slot, place of the keyspace and range of each shard without rows, and how many tables it has |
+//! | `opening` | ranges, a VSchema | slot, ordinal of the keyspace and range of each shard without rows, and how many tables it has |
 //! | `asks` | a text of a client | what it asks of a server |
 //! | `says` | a text of a client | what each of its tokens says, in brackets |
 //! | `like` | a pattern, a name | whether the pattern fits the name |
@@ -24,7 +24,7 @@
 //! | `refusal` | a number | its code, state and message |
 //! | `aggregate` | `count_star`, `count`, `sum`, `min` or `max`, values | what it gives over them |
 //! | `merge` | keys as `0:desc`, the rows of an input, those of another, .. | the rows of their merge |
-//! | `project` | places, rows | the rows of these places |
+//! | `project` | ordinals, rows | the rows by the columns at these ordinals |
 //! | `payloads` | a limit, pieces of a stream | each payload with its first and last number, and the fault |
 //! | `packets` | a number, a payload | the packets, and the next number |
 //! | `command` | a payload | the command |
@@ -49,9 +49,9 @@
 //! | `laws` | none | `hold`, if each law is called without a premise |
 //!
 //! Several tokens, payloads, pieces or values have blanks between them, rows semicolons. Bytes and ids are in hexadecimal, a run of 64 or
-//! more equal bytes as `(07*300)`; no bytes, and an open edge, are told as `.`. In a text, each byte outside 20..7E and the backslash is
+//! more equal bytes as `(07*300)`; no bytes, and an open edge, are written `.`. In a text, each byte outside 20..7E and the backslash is
 //! `\x` and two digits; a VSchema and a word stand as they are. A value is `NULL`, a decimal number, or a text as `x` and hexadecimal. What
-//! isn't there is told as `none`, a syntax error as `refused`, another refusal as `refused` and its number. A line that is no case answers
+//! isn't there is written `none`, a syntax error as `refused`, another refusal as `refused` and its number. A line that is no case answers
 //! `unknown`.
 #![tactic(auto)]
 

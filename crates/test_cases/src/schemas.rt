@@ -38,7 +38,7 @@ fn put_keyspaces(told: &mut CaseAnswer, keyspaces: &[Keyspace]) {
     }
 }
 
-// A table with the places of its keyspace, of its primary key, and of its vindex's column.
+// A table with the ordinals of its keyspace, of its primary key, and of its vindex's column.
 fn put_table(told: &mut CaseAnswer, table: &Table) {
     told.put_text(table.name.as_slice());
     told.put(" of ");

@@ -41,7 +41,7 @@ const TURNS: u32 = 1_000_000;
 /// What a gate and a test tell one another.
 #[derive(Drop)]
 struct Signals {
-    /// A read of place 0 is held.
+    /// A read of turn 0 is held.
     held: AtomicU64,
     /// It may go on.
     let_go: AtomicU64,
@@ -68,7 +68,7 @@ fn wait_for(signal: &AtomicU64) -> bool {
     false
 }
 
-/// Holds the first read of place 0 until it is let go.
+/// Holds the first read of turn 0 until it is let go.
 #[derive(Drop)]
 struct HoldsFirst<'s> {
     signals: &'s Signals,
@@ -188,7 +188,7 @@ fn ask_admin(mut stream: &TcpStream) -> Option<()> {
     expect(stream, b"serving -80 80- none\nunknown\n")
 }
 
-// What two clients and one of the admin port are told, once all are connected.
+// What two clients and one of the admin port are answered, once all are connected.
 fn talk(one: &TcpStream, other: &TcpStream, third: &TcpStream, signals: &Signals) -> Option<()> {
     let first_salt = log_in(one, 1)?;
     let second_salt = log_in(other, 2)?;
@@ -263,7 +263,7 @@ const ASKED: ServeArgs<'static> = ServeArgs {
     nonce: b"n",
 };
 
-// Serves two connections, and tells whether that went well and was told.
+// Serves two connections, and tells whether that went well, with what was answered.
 fn is_served<W: World + Send + Sync, J: Naming + Send + Sync, R: Threads + Wait + Sync + Clock>(
     rt: &R,
     alloc: Global,

@@ -85,7 +85,7 @@ fn put_bracketed(told: &mut CaseAnswer, text: &[u8]) {
     told.put("]");
 }
 
-// Tells what a run leaves over buffers: its status, its output, and what is told of an error.
+// Puts what a run leaves over buffers: its status, its output, and its standard error.
 fn put_run<R: Threads + Wait + Sync + Clock + Net<Listener = TcpListener, Stream = TcpStream>>(
     rt: &R,
     alloc: Global,
@@ -113,7 +113,7 @@ pub(crate) fn whole<
     Ok(())
 }
 
-// Tells the status of a run whose output fails after so many writes, what is told of it, and how many writes are left.
+// Puts the status of a run whose output fails after so many writes, its standard error, and how many writes are left.
 fn put_failing<
     R: Threads + Wait + Sync + Clock + Net<Listener = TcpListener, Stream = TcpStream>,
     I: Source,

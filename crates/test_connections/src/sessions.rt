@@ -193,7 +193,7 @@ impl<W: World + Send + Sync, J: Naming + Send + Sync, R: Threads + Wait + Sync> 
         self.serve(&mut source, sink)
     }
 
-    // The failures of the sink are told as those of the other.
+    // The failures of the sink are counted as those of the other.
     fn serve_failing_sink(
         &mut self,
         input: &[u8],

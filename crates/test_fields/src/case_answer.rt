@@ -4,7 +4,7 @@ use std::alloc::{AllocError, Global};
 use std::fmt::{Display, Write};
 use vt_value::{Refusal, Row, Value};
 
-/// How many equal bytes are told as a run.
+/// How many equal bytes are written as a run.
 const LONG_RUN: usize = 64;
 
 /// The text of an answer. Once a growth was refused the answer has failed.

@@ -4,7 +4,7 @@ use crate::reading::Unanswered;
 use std::io;
 use vt_value::Refusal;
 
-/// Prints the line that answers a case: what was told, or why there is no answer.
+/// Prints the line that answers a case: its answer, or why there is none.
 pub fn print_answer<R: Print>(
     rt: &R,
     answered: Result<(), Unanswered>,

@@ -54,7 +54,7 @@ pub fn small_number(field: &str) -> Result<u8, Unanswered> {
     field.parse::<u8>().ok().ok_or(Unanswered::BadLine)
 }
 
-/// How many, or which place.
+/// How many, or which position.
 pub fn count(field: &str) -> Result<usize, Unanswered> {
     field.parse::<usize>().ok().ok_or(Unanswered::BadLine)
 }

@@ -1,4 +1,4 @@
-//! Scenes of the log: lines of records, a queue that is full, a device that fails, what a connection's bytes tell, and the place of a fault.
+//! Scenes of the log: lines of records, a queue that is full, a device that fails, what a connection's bytes show, and where a VSchema's fault lies.
 #![tactic(auto)]
 
 mod answers;

@@ -13,7 +13,7 @@ pub enum Act<'t> {
     Two(&'t [u8], Result<u64, Refusal>),
     /// The controller stops, and another takes its workflow up from the shards, or is refused.
     Reopen(Result<(), ReshardFault>),
-    /// A controller that has no slots takes up the shards of the workflow whose controller stopped last, or is refused.
+    /// A controller that has no slots reopens the workflow whose controller stopped last, from its shards, or is refused.
     ReopenLast(Result<(), ReshardFault>),
     /// The gate is to hold the next read of the first shard.
     Arm,

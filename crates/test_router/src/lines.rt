@@ -29,7 +29,7 @@ const INTO_63: &[u8] = b"create -80 \
     24-25,25-26,26-27,27-28,28-29,29-2a,2a-2b,2b-2c,2c-2d,2d-2e,2e-2f,2f-30,30-31,31-32,32-33,33-34,34-35,35-36,\
     36-37,37-38,38-39,39-3a,3a-3b,3b-3c,3c-3d,3d-3e,3e-80";
 
-// The refusals of a beginning, before one, while one is under way, and after its end.
+// The refusals of `create`, before a workflow, while one is under way, and after its end.
 const REFUSED: [Act<'static>; 12] = [
     Act::Line(b"create -40 -20,20-40", b"N5\n"),
     Act::Line(b"create -80,-80 -80", b"N5\n"),

@@ -61,7 +61,7 @@ fn put<W: World, J: Naming>(
     Ok(())
 }
 
-// The workflow of these shards is taken up.
+// The workflow of these shards is reopened.
 fn reopen_workflow<W: World + Send + Sync, J: Naming + Send + Sync>(
     rt: &impl Wait,
     alloc: Global,
@@ -150,7 +150,7 @@ pub(crate) fn reopen<W: World + Send + Sync, J: Naming + Send + Sync>(
     done
 }
 
-/// A controller that has no slots takes up the workflow of these shards.
+/// A controller that has no slots reopens the workflow of these shards.
 pub(crate) fn reopen_last<W: World + Send + Sync, J: Naming + Send + Sync>(
     rt: &impl Wait,
     alloc: Global,

@@ -40,16 +40,16 @@ pub struct Scene<'t> {
 /// How a scene went.
 #[derive(Clone, Copy, PartialEq, Eq)]
 pub struct Played {
-    /// The first act that didn't give what it was to give: the number of its part, and its place there.
+    /// The first act that didn't give what it was to give: the number of its part, and its position there.
     pub wrong: Option<(usize, usize)>,
-    /// What the third session was told.
+    /// What the third session was answered.
     pub told: Result<u64, Refusal>,
     /// What was held went on without leave.
     pub in_vain: bool,
 }
 
 impl Played {
-    /// Each act is right, and the third session is told this.
+    /// Each act is right, and the third session is answered this.
     pub fn right(told: u64) -> Played {
         Played {
             wrong: None,
@@ -273,7 +273,7 @@ pub fn plays_within<R: Threads + Wait + Sync>(
     Ok(play(rt, alloc, &scene)? == Played::right(0))
 }
 
-/// Whether they do in the shop, if one statement may wait, and the third session, with them, is told this.
+/// Whether they do in the shop, if one statement may wait, and the third session, with them, is answered this.
 pub fn plays_with<R: Threads + Wait + Sync>(
     rt: &R,
     alloc: Global,

@@ -1,4 +1,4 @@
-//! A session of the router, and what its statements are told.
+//! A session of the router, and what its statements are answered.
 ghost use Rattle.std.specs.Prelude.{IsSome};
 ghost use Rattle.shard_calls.specs.Pendings.{IsOf};
 

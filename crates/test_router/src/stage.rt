@@ -124,7 +124,7 @@ impl<'e, W: World + Send + Sync, J: Naming + Send + Sync, R: Threads + Wait + Sy
         true
     }
 
-    // A controller without slots takes up the shards of the workflow whose controller stopped last.
+    // A controller without slots reopens the workflow whose controller stopped last, from its shards.
     fn reopens_last(&mut self) -> Result<(), ReshardFault> {
         reopen_last(
             self.rt,
@@ -157,7 +157,7 @@ impl<'e, W: World + Send + Sync, J: Naming + Send + Sync, R: Threads + Wait + Sy
         }
     }
 
-    // The place of the first act that doesn't give what it is to give.
+    // The position of the first act that doesn't give what it is to give.
     fn play_part(&mut self, part: &[Act<'_>]) -> Option<usize> {
         for (place, act) in part.iter().enumerate() {
             if !self.is_right(*act) {
@@ -167,7 +167,7 @@ impl<'e, W: World + Send + Sync, J: Naming + Send + Sync, R: Threads + Wait + Sy
         None
     }
 
-    /// The first act that doesn't give what it is to give: the number of its part, and its place there.
+    /// The first act that doesn't give what it is to give: the number of its part, and its position there.
     pub(crate) fn play(&mut self, parts: &[&[Act<'_>]]) -> Option<(usize, usize)> {
         for (number, part) in parts.iter().enumerate() {
             if let Some(place) = self.play_part(part) {
@@ -220,7 +220,7 @@ pub(crate) fn play_locked<
     play_with_lock(rt, stage, low.shard(), signals, parts)
 }
 
-/// What a session is told that asks once it may begin.
+/// What a session is answered that asks once it may begin.
 pub(crate) fn ask<W: World + Send + Sync, J: Naming + Send + Sync, R: Threads + Wait + Sync>(
     mut session: Session<'_, W, J, R>,
     signals: &Signals,

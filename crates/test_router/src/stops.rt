@@ -210,7 +210,7 @@ pub(crate) fn a_workflow_is_reopened_while_there_is_one<R: Threads + Wait + Sync
 
 const WRONG_STATE: Act<'static> = Act::ReopenLast(Err(ReshardFault::WrongState));
 
-// The targets of a workflow that was given up aren't taken up again, and neither are they once a later one with targets of the same ranges has
+// A workflow that was given up isn't reopened from its targets, and neither are they once a later one with targets of the same ranges has
 // retired the source.
 const GIVEN_UP: [Act<'static>; 24] = [
     EVEN,

@@ -10,7 +10,7 @@ use test_fields::{CaseAnswer, Unanswered, number};
 use test_soak_model::{SoakFault, Tally, count};
 use vt_value::Refusal;
 
-/// What is asked for: for so many seconds, worlds by numbers from the seed on, and whether what was done is told.
+/// What is asked for: for so many seconds, worlds by numbers from the seed on, and whether what was done is printed.
 #[derive(Clone, Copy)]
 struct SoakArgs {
     seconds: u64,
@@ -76,7 +76,7 @@ fn put_end(
     Ok(())
 }
 
-/// Soaks for as long as asked, and tells whether what the sessions were told, and the rows at the end, are those of the accepted commands.
+/// Soaks for as long as asked, and tells whether what the sessions were answered, and the rows at the end, are those of the accepted commands.
 pub fn answer<R: Threads + Wait + Clock + Sync>(
     rt: &R,
     alloc: Global,

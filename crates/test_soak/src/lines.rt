@@ -13,7 +13,7 @@ pub const TURNS: [[&str; 2]; 3] = [
 // Targets are brought forward and come to serve.
 const STRAIGHT: &[&str] = &["step", "switch", "complete"];
 
-// A cutover is undone before a source is retired, and taken up again.
+// A cutover is undone before a source is retired, and begun again.
 const UNDONE: &[&str] = &["step", "advance", "resume", "step", "switch", "complete"];
 
 // The workflow is given up.

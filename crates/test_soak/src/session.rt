@@ -1,4 +1,4 @@
-//! A session, which runs what its book chooses.
+//! A session, which runs what its model chooses.
 ghost use Rattle.std.specs.Prelude.{IsSome};
 ghost use Rattle.shard_calls.specs.Pendings.{IsOf};
 
@@ -15,7 +15,7 @@ use vt_value::Refusal;
 /// How many tables there are.
 const TABLES: u64 = 4;
 
-/// A session that has run nothing yet: what it has seen of the router, and its book.
+/// A session that has run nothing yet: what it has seen of the router, and its model.
 #[derive(Drop)]
 pub struct Client<W: World, J: Naming> {
     pub pass: ShardPass<W, J>,
@@ -126,7 +126,7 @@ impl<'e, W: World + Send + Sync, J: Naming + Send + Sync, R: Threads + Wait + Sy
             .end(self.pass.session(), self.pass.statements(), ended);
     }
 
-    // The rows of a table, or their number, are those of the books.
+    // The rows of a table, or their number, are those of the models.
     fn check_table(
         &mut self,
         books: &[SessionModel],
@@ -143,7 +143,7 @@ impl<'e, W: World + Send + Sync, J: Naming + Send + Sync, R: Threads + Wait + Sy
         check_whole(books, &statement, &answer)
     }
 
-    /// The rows that there are, by this session, are those of the books.
+    /// The rows that there are, by this session, are those of the models.
     pub fn check(&mut self, books: &[SessionModel]) -> Result<(), SoakFault> {
         for table in 0..TABLES {
             self.check_table(books, table, Verb::Scatter)?;

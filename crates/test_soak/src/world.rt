@@ -116,7 +116,7 @@ fn sum(books: &[SessionModel], tally: &mut Tally) -> Result<u64, SoakFault> {
     made
 }
 
-// The rows are those of the books, for a session that begins after their end.
+// The rows are those of the models, for a session that begins after their end.
 fn check_rows<W: World + Send + Sync, J: Naming + Send + Sync, R: Threads + Wait + Clock + Sync>(
     controller: &mut Controller<'_, W, J, R>,
     opener: &mut Opener<ShardLaw<W>, J>,

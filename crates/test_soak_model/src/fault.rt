@@ -4,12 +4,12 @@ use reshard_cutover::ReshardFault;
 use std::fmt;
 use vt_value::Refusal;
 
-/// Why a soak ends early: what was told, or is there, isn't what the accepted commands say.
+/// Why a soak ends early: what was answered, or is there, isn't what the accepted commands say.
 #[derive(Clone, Copy)]
 pub enum SoakFault {
     /// There is no memory.
     Memory,
-    /// What is wrong with what a statement was told, and two numbers of it.
+    /// What is wrong with what a statement was answered, and two numbers of it.
     Statement(&'static str, Statement, Option<u64>, Option<u64>),
     /// An admin line wasn't done.
     Line(&'static str, Option<ReshardFault>),

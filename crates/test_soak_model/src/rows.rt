@@ -34,7 +34,7 @@ impl SessionRows {
         }
     }
 
-    /// The id of the key at a place.
+    /// The id of the key at an ordinal.
     pub fn id(&self, ordinal: u64) -> u64 {
         self.first.wrapping_add(ordinal)
     }

@@ -1,4 +1,4 @@
-//! The book of a session: what it says next, what that is to answer, and its rows by its accepted commands.
+//! The model of a session: what it says next, what that is to answer, and its rows by its accepted commands.
 use crate::fault::{SoakFault, same};
 use crate::rows::{KEYS, SessionRows};
 use crate::statement::{Ids, Statement, Verb};
@@ -189,7 +189,7 @@ impl SessionModel {
         self.is_written = false;
     }
 
-    // A statement was accepted, and told this.
+    // A statement was accepted, and answered this.
     fn accept(
         &mut self,
         statement: &Statement,
@@ -228,7 +228,7 @@ impl SessionModel {
         Err(SoakFault::Statement("refused by F", *statement, Some(number), wanted.ok()))
     }
 
-    /// Compares what a statement was told with what it is to be, and does to the rows what it says. It was said in a transaction or not, and
+    /// Compares what a statement was answered with what it is to be, and does to the rows what it says. It was said in a transaction or not, and
     /// one is open after it or not: what wasn't committed is undone.
     pub fn settle(
         &mut self,
@@ -257,7 +257,7 @@ impl SessionModel {
     }
 }
 
-/// A query over a whole table is to tell the rows of the books.
+/// A query over a whole table has to return the rows of the models.
 pub fn check_whole(
     books: &[SessionModel],
     statement: &Statement,

@@ -11,7 +11,7 @@ use std::thread::Threads;
 /// How often a scene looks whether something has happened before it gives up.
 const TURNS: u32 = 1_000_000;
 
-/// What an entrance and the workers tell one another.
+/// What the source of connections and the workers tell one another.
 #[derive(Drop)]
 struct Counts {
     /// How many numbers were given.

@@ -39,7 +39,7 @@ left_ordinal s j = if nat_lt (ordinal_in s j.left) (length s.first.columns) then
 abbrev pub right_ordinal : Scope → JoinOn → ℕ
 right_ordinal s j = if nat_lt (ordinal_in s j.left) (length s.first.columns) then ordinal_in s j.right else ordinal_in s j.left
 
--- the join with the table at this place of the VSchema
+-- the join with the table at this ordinal of the VSchema
 abbrev pub resolved_join : Scope → ℕ → JoinOn → Join
 resolved_join s m j = record {
   table = m;

@@ -1,4 +1,4 @@
--- The VSchema that a text means: if no fault applies, what it declares, with columns by their places.
+-- The VSchema that a text means: if no fault applies, what it declares, with columns by their ordinals.
 use Rattle.std.specs.Prelude.{ℕ, ◌+◌, List, [], ◌∷◌, ◌++◌, map, slice_get, Option, Some, None, option_map, option_and_then, unwrap_or, bytes_eq, Result, Ok, Err}
 use Rattle.serde_json.specs.Data.{Data}
 use Rattle.serde_json.specs.Read as json
@@ -30,7 +30,7 @@ abbrev pub meant_table : DeclaredKeyspace → ℕ → DeclaredTable → Table
 meant_table k n t =
     record { name = t.name; keyspace = n; columns = t.columns; primary_key = map (ordinal_in t) t.primary_key; vindex = option_and_then (vindex_on k t) (slice_get (keys t) 0) }
 
--- the tables of keyspaces whose places begin at a number
+-- the tables of keyspaces whose ordinals begin at a number
 abbrev pub meant_tables : ℕ → List DeclaredKeyspace → List Table
 meant_tables n [] = []
 meant_tables n (k ∷ ks) = map (meant_table k n) k.tables ++ meant_tables (n + 1) ks

@@ -1,4 +1,4 @@
--- Conditions and select lists with columns by their places in the table, or in the pairs of a join.
+-- Conditions and select lists with columns by their ordinals in the table, or in the pairs of a join.
 use Rattle.std.specs.Prelude.{ℕ, ◌+◌, Bool, false, List, [], ◌∷◌, map, is_some, unwrap_or}
 use Rattle.sql_tree.specs.declared.ColumnName.{ColumnName}
 use Rattle.sql_tree.specs.declared.Operand.{Operand}
@@ -16,7 +16,7 @@ use Rattle.vschema.specs.declared.schema.Table.{Table}
 use Rattle.vschema.specs.Schema.{column_ordinal}
 use Rattle.vschema.specs.Scopes.{Scope, scope_columns, ordinal_in}
 
--- the place of a column; that it is there is a check of its own
+-- the ordinal of a column; that it is there is a check of its own
 abbrev pub ordinal : Table → Name → ℕ
 ordinal t name = unwrap_or (column_ordinal t name) 0
 

@@ -27,7 +27,7 @@ row_id t row = id_by t.vindex row
     id_by None r = []
     id_by (Some v) r = keyspace_id v.vindex (value_at r v.column)
 
--- the table at a place that the VSchema doesn't have
+-- the table at an ordinal that the VSchema doesn't have
 abbrev pub no_table : Table
 no_table = record { name = []; keyspace = 0; columns = []; primary_key = []; vindex = None }
 

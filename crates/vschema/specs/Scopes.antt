@@ -25,11 +25,11 @@ table_columns (Some t) = t.columns
 abbrev pub scope_columns : Scope → List Column
 scope_columns s = s.first.columns ++ table_columns s.second
 
--- the place of a column of the second table among these
+-- the ordinal of a column of the second table among these
 abbrev pub second_ordinal : Scope → Name → Option ℕ
 second_ordinal s name = option_map (λ n. length s.first.columns + n) (option_and_then (λ t. column_ordinal t name) s.second)
 
--- the one of two places that is there, if just one is
+-- the one of two ordinals that is there, if just one is
 abbrev pub just_one : Option ℕ → Option ℕ → Option ℕ
 just_one None m = m
 just_one (Some n) None = Some n
@@ -50,6 +50,6 @@ named_ordinal s (Some table) name =
 abbrev pub scope_ordinal : Scope → ColumnName → Option ℕ
 scope_ordinal s c = named_ordinal s c.table c.name
 
--- the place of a column; that it is there is a check of its own
+-- the ordinal of a column; that it is there is a check of its own
 abbrev pub ordinal_in : Scope → ColumnName → ℕ
 ordinal_in s c = unwrap_or (scope_ordinal s c) 0

@@ -61,7 +61,7 @@ abbrev pub kind_of : Option Column → ColumnType
 kind_of None = BigInt
 kind_of (Some c) = c.kind
 
--- the type of the column at a place
+-- the type of the column at an ordinal
 abbrev pub type_at : Table → ℕ → ColumnType
 type_at t n = kind_of (slice_get t.columns n)
 
@@ -72,7 +72,7 @@ HaveOneId first second None (Some w) = ⊥
 HaveOneId first second (Some v) None = ⊥
 HaveOneId first second (Some v) (Some w) = (v.vindex ≡ w.vindex) × (v.column ≡ first) × (w.column ≡ second)
 
--- Rows that are a pair have one keyspace id, so that they lie on one shard. The columns are one of each table, by their places in a pair.
+-- Rows that are a pair have one keyspace id, so that they lie on one shard. The columns are one of each table, by their ordinals in a pair.
 pub record IsInPlace (schema : VSchema) (q : Query) (j : Join) : Type 0 where
   pub plain : is_aggregated q ≡ false
   pub keyspace : (table_at schema j.table).keyspace ≡ (table_at schema q.table).keyspace

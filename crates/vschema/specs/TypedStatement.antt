@@ -25,7 +25,7 @@ join_over scope None j = None
 join_over scope (Some m) None = None
 join_over scope (Some m) (Some j) = Some (resolved_join scope m j)
 
--- the query over its tables, at these places of the VSchema
+-- the query over its tables, at these ordinals of the VSchema
 abbrev pub over : ℕ → Option ℕ → Scope → S.Select → Query
 over n m scope s = record {
   table = n;
@@ -51,7 +51,7 @@ abbrev pub checked_pair : S.Select → ℕ → ℕ → Table → Option Table �
 checked_pair s n m t None = Err UnknownTable
 checked_pair s n m t (Some u) = checked n (Some m) (both_of t u) s
 
--- with the second table at its place
+-- with the second table at its ordinal
 abbrev pub checked_second : VSchema → S.Select → ℕ → Table → Option ℕ → Result Query Refusal
 checked_second schema s n t None = Err UnknownTable
 checked_second schema s n t (Some m) = checked_pair s n m t (slice_get schema.tables m)

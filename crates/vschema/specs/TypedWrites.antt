@@ -54,7 +54,7 @@ whole_row t ordinals values = map (value_for ordinals values) (ordinals_from 0 t
 abbrev pub resolved_assignment : Table → Assignment Name → Assignment ℕ
 resolved_assignment t a = record { column = ordinal t a.column; value = a.value }
 
--- the writes over the table at a place of the VSchema
+-- the writes over the table at an ordinal of the VSchema
 abbrev pub insert_over : ℕ → Table → I.Insert → Write
 insert_over n t s = Insert n (map (whole_row t (insert_ordinals t s.columns)) s.rows)
 

@@ -31,7 +31,7 @@ listed_names (Some names) = names
 abbrev pub insert_names : Insert → List Name
 insert_names s = listed_names s.columns
 
--- the places of INSERT's columns: all of them, in their order, if none is named
+-- the ordinals of INSERT's columns: all of them, in their order, if none is named
 abbrev pub insert_ordinals : Table → Option (List Name) → List ℕ
 insert_ordinals t None = ordinals_from 0 t.columns
 insert_ordinals t (Some names) = map (ordinal t) names

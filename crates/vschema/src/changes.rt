@@ -2,7 +2,7 @@
 use sql_tree::{Assignment, Condition};
 use vt_value::{Items, Row};
 
-/// A write with its names resolved. Its table is told by its place in the VSchema, its columns by their places in the
+/// A write with its names resolved. Its table is given by its ordinal in the VSchema, its columns by their ordinals in the
 /// table.
 #[derive(Drop)]
 pub enum Write {
@@ -12,7 +12,7 @@ pub enum Write {
     Delete(usize, Option<Condition<usize>>),
 }
 
-/// What a write does to one row of the table at a place.
+/// What a write does to one row of the table at an ordinal.
 #[derive(Drop)]
 pub enum RowChange {
     Added(usize, Row),

@@ -69,7 +69,7 @@ impl Columns {
         self.by_name.len()
     }
 
-    /// The place of the column with this name.
+    /// The ordinal of the column with this name.
     pub fn ordinal_of(&self, name: &Name) -> Option<usize>
         ensures { result ≡ ordinal_from (λ c. bytes_eq c.name name.now) 0 self.now }
     {

@@ -1,4 +1,4 @@
-//! Finds numbers of a list in n log n, where a client chooses how long the list is.
+//! Finds numbers of a list in n log n: a client chooses how long the list is.
 ghost use Rattle.std.specs.Prelude.{◌≡◌, ◌==◌, ℕ, IfOk};
 ghost use Rattle.vschema.specs.Schema.{ordinal_from};
 ghost use Rattle.vschema.specs.FirstOrdinals.{first_ordinal};

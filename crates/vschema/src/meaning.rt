@@ -1,4 +1,4 @@
-//! The VSchema that a sound document means: names are resolved to places, once.
+//! The VSchema that a sound document means: names are resolved to ordinals, once.
 ghost use Rattle.std.specs.Prelude.{◌≡◌, ◌++◌, ◌+◌, ◌≤◌, ◌<◌, ◌^◌, false, map, length, slice_get, option_and_then, IfOk, IfErr, IsTrue};
 ghost use Rattle.std.specs.List.{list_any};
 ghost use Rattle.vschema_json.specs.Faults.{keys, table_has, has};

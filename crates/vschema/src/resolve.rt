@@ -1,4 +1,4 @@
-//! Statements with their names resolved: tables and columns become places, and the first refusal that applies is told.
+//! Statements with their names resolved: tables and columns become ordinals, or the first refusal that applies is returned.
 ghost use Rattle.std.specs.Prelude.{◌≡◌, ◌⊎◌, IfOk, IfErr, IfSome, IfNone, map, slice_get, option_map, Ok, Err, Some, None, true, false};
 ghost use Rattle.vschema.specs.Checks.{shows_ungrouped};
 ghost use Rattle.vschema.specs.Scopes.{only, both_of, scope_columns, ordinal_in};
@@ -22,7 +22,7 @@ use std::alloc::Global;
 use vschema_json::ColumnType;
 use vt_value::{Boxed, Items, Refusal, Value, copy};
 
-/// The place of a column; that it is there is a check of its own.
+/// The ordinal of a column; that it is there is a check of its own.
 pub fn ordinal(table: &Table, name: &Name) -> usize
     ensures { result ≡ ordinal table.now name.now }
 {
@@ -228,7 +228,7 @@ fn qualified_in(alloc: Global, list: &SelectList) -> Result<Items<bool>, Refusal
     }
 }
 
-/// The places of these columns.
+/// The ordinals of these columns.
 pub fn resolve_names(alloc: Global, table: &Table, names: &[Name]) -> Result<Items<usize>, Refusal>
     ensures ok { IfOk result (λ r. r ≡ map (ordinal table.now) names.now) }
     ensures err { IfErr result (λ e. e ≡ Refusal.OutOfMemory) }
@@ -279,7 +279,7 @@ fn resolve_keys(
     Ok(resolved)
 }
 
-/// The condition with its columns by their places, if there is one.
+/// The condition with its columns by their ordinals, if there is one.
 pub fn resolve_filter(
     alloc: Global,
     scope: &Scope,
@@ -441,7 +441,7 @@ fn resolve_both(
     resolve_over(alloc, hashing, ordinal, Some(second), &scope, select)
 }
 
-// Resolves a join whose second table is told by its place.
+// Resolves a join whose second table is given by its ordinal.
 fn resolve_alongside(
     alloc: Global,
     schema: &VSchema,
@@ -462,7 +462,7 @@ fn resolve_alongside(
     }
 }
 
-// Resolves a join whose second table is told by its name.
+// Resolves a join whose second table is given by its name.
 fn resolve_pair(
     alloc: Global,
     schema: &VSchema,

@@ -1,4 +1,4 @@
-//! The VSchema and the statements over it, as types. Places stand for names, so nothing is looked up once a statement is resolved.
+//! The VSchema and the statements over it, as types. Ordinals replace names, so nothing is looked up once a statement is resolved.
 ghost use Rattle.std.specs.Prelude.{◌≡◌, IsTrue, length};
 ghost use Rattle.vschema.specs.Formed.{is_formed};
 
@@ -13,7 +13,7 @@ use vindex::AnyVindex;
 use vschema_json::ColumnType;
 use vt_value::Items;
 
-/// The column that decides the shard of a row, by its place, and how; and which of the vindexes of its keyspace that is.
+/// The column that decides the shard of a row, by its ordinal, and how; and which of the vindexes of its keyspace that is.
 #[derive(Clone, Copy, Debug, PartialEq, Eq)]
 pub struct ColumnVindex {
     pub column: usize,
@@ -21,7 +21,7 @@ pub struct ColumnVindex {
     pub number: usize,
 }
 
-/// A table. Its keyspace and the columns of its primary key are told by their places. It has a vindex if its
+/// A table. Its keyspace and the columns of its primary key are given by their ordinals. It has a vindex if its
 /// keyspace is sharded.
 #[derive(Drop)]
 pub struct Table {
@@ -96,7 +96,7 @@ pub struct Keyspace {
     pub sharded: bool,
 }
 
-/// What the router knows of its keyspaces and tables: at least one keyspace and at most one of each sort, names told apart, keys that may
+/// What the router knows of its keyspaces and tables: at least one keyspace and at most one of each sort, names that differ, keys that may
 /// decide a shard, and the limits.
 #[derive(Drop)]
 pub struct VSchema {
@@ -105,7 +105,7 @@ pub struct VSchema {
     pub ghost formed: { IsTrue (is_formed keyspaces tables) },
 }
 
-/// A keyspace, by its place, and a range of its ids.
+/// A keyspace, by its ordinal, and a range of its ids.
 #[derive(Drop)]
 pub struct Place {
     pub keyspace: usize,
@@ -116,19 +116,19 @@ pub struct Place {
 /// the query's table first.
 #[derive(Clone, Copy, Debug, PartialEq, Eq)]
 pub struct Join {
-    /// The second table, by its place in the VSchema.
+    /// The second table, by its ordinal in the VSchema.
     pub table: usize,
     /// How many columns the query's table has.
     pub width: usize,
-    /// The column of the query's table, by its place in a pair.
+    /// The column of the query's table, by its ordinal in a pair.
     pub first: usize,
-    /// The column of the second table, by its place in a pair.
+    /// The column of the second table, by its ordinal in a pair.
     pub second: usize,
     /// The type of the column of the second table.
     pub kind: ColumnType,
 }
 
-/// A query. Its table is told by its place in the VSchema, its columns by their places in the table, or in the pairs of a join.
+/// A query. Its table is given by its ordinal in the VSchema, its columns by their ordinals in the table, or in the pairs of a join.
 /// `group_by` and `order_by` are empty if it has no such clause.
 #[derive(Drop)]
 pub struct Query {

@@ -27,7 +27,7 @@ impl<'s> Model for Scope<'s> {
     ghost view = { λ s. record { first = s.one.now; second = option_map (λ t. t.now) s.other } };
 }
 
-// Just one of two places.
+// Just one of two ordinals.
 fn just_one(first: Option<usize>, second: Option<usize>) -> Option<usize>
     ensures { result ≡ just_one first second }
 {
@@ -38,7 +38,7 @@ fn just_one(first: Option<usize>, second: Option<usize>) -> Option<usize>
     }
 }
 
-// The place of a column, which the table has.
+// The ordinal of a column, which the table has.
 fn ordinal_below(table: &Table, name: &Name) -> Option<usize>
     ensures ordinal { result ≡ ordinal_of table.now name.now }
     ensures below { IfSome result (λ n. n < length table.now.columns) }
@@ -46,7 +46,7 @@ fn ordinal_below(table: &Table, name: &Name) -> Option<usize>
     column_ordinal(table, name)
 }
 
-// The place of a column after those of a first table.
+// The ordinal of a column after those of a first table.
 fn ordinal_after(first: &Table, table: &Table, name: &Name) -> Option<usize>
     ensures { result ≡ option_map (λ n. length first.now.columns + n) (ordinal_of table.now name.now) }
 {
@@ -113,7 +113,7 @@ fn named_ordinal(scope: &Scope, table: &Name, name: &Name) -> Option<usize>
     }
 }
 
-/// The place of a column, if just one is meant.
+/// The ordinal of a column, if just one is meant.
 pub fn scope_ordinal(scope: &Scope, column: &ColumnName) -> Option<usize>
     ensures { result ≡ scope_ordinal scope.now column.now }
 {
@@ -126,7 +126,7 @@ pub fn scope_ordinal(scope: &Scope, column: &ColumnName) -> Option<usize>
     }
 }
 
-/// The place of a column; that it is there is a check of its own.
+/// The ordinal of a column; that it is there is a check of its own.
 pub fn ordinal_in(scope: &Scope, column: &ColumnName) -> usize
     ensures { result ≡ ordinal_in scope.now column.now }
 {
@@ -167,7 +167,7 @@ pub fn column_count(scope: &Scope) -> usize
     }
 }
 
-/// The type of the column at a place.
+/// The type of the column at an ordinal.
 pub fn kind_at(scope: &Scope, ordinal: usize) -> Option<ColumnType>
     ensures { result ≡ option_map (λ c. c.kind) (slice_get (scope_columns scope.now) ordinal) }
 {

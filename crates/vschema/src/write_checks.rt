@@ -94,7 +94,7 @@ fn row_fails(check: StoredCheck, table: &Table, ordinals: &[usize], row: &[Value
     value_fails(check, table, *ordinal, value) || row_fails(check, table, ordinals, row)
 }
 
-/// Whether a value of a row fails, each with the column at its place.
+/// Whether a value of a row fails, each with the column at its ordinal.
 pub fn rows_fail(
     check: StoredCheck,
     table: &Table,
@@ -123,7 +123,7 @@ pub fn assignments_fail(check: StoredCheck, table: &Table, assignments: &[Assign
     false
 }
 
-/// Whether a NOT NULL column isn't at one of these places.
+/// Whether a NOT NULL column isn't at one of these ordinals.
 pub fn leaves_out_column(table: &Table, ordinals: &[usize]) -> bool
     ensures { result ≡ list_any (λ p. not p.1.nullable && not (has_number ordinals.now p.0))
         (zip (ordinals_from 0 table.now.columns) table.now.columns) }

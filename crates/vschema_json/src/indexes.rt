@@ -46,7 +46,7 @@ impl<'t> TableIndex<'t> {
         self.table
     }
 
-    /// The place of the first column with this name.
+    /// The ordinal of the first column with this name.
     pub fn ordinal_of(&self, name: &'t Name) -> Option<usize>
         ensures { result ≡ ordinal_of self.now name.now }
     {
@@ -83,7 +83,7 @@ fn names_of_vindexes(alloc: Global, vindexes: &[DeclaredVindex]) -> Result<Vec<&
     Ok(texts)
 }
 
-// The type of the vindex in this place, if it is known.
+// The type of the vindex at this ordinal, if it is known.
 fn kind_at(vindexes: &[DeclaredVindex], ordinal: Option<usize>) -> Option<AnyVindex>
     ensures { result ≡ option_and_then (λ v. v.kind) (option_and_then (slice_get vindexes.now) ordinal) }
 {

@@ -31,7 +31,7 @@ pub fn vindexes(keyspace: &DeclaredKeyspace) -> &[DeclaredVindex]
     }
 }
 
-/// The place of the first column with this name.
+/// The ordinal of the first column with this name.
 pub fn ordinal_of(table: &DeclaredTable, name: &Name) -> Option<usize>
     ensures { result ≡ ordinal_of table.now name.now }
 {

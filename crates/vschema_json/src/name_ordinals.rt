@@ -1,4 +1,4 @@
-//! Where names stand, found in time logarithmic in how many there are.
+//! The ordinals of names, found in time logarithmic in how many there are.
 ghost use Rattle.std.specs.Prelude.{◌≡◌, ℕ, List, map, IfOk, bytes_eq};
 ghost use Rattle.std.specs.List.{list_any};
 ghost use Rattle.vschema_json.specs.Places.{ordinal_from};

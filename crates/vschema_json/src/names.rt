@@ -12,7 +12,7 @@ pub fn is_name(name: &Name, wanted: &Name) -> bool
     name.as_slice() == wanted.as_slice()
 }
 
-/// The place of the first column with this name.
+/// The ordinal of the first column with this name.
 pub fn ordinal_among(columns: &[Column], name: &Name) -> Option<usize>
     ensures { result ≡ ordinal_from (λ c. bytes_eq c.name name.now) 0 columns.now }
 {

@@ -1,4 +1,4 @@
-//! Whether names stand twice, in time n log n, whatever the names are.
+//! Whether names come twice, in time n log n, whatever the names are.
 ghost use Rattle.std.specs.Prelude.{◌≡◌, ◌++◌, map, IfOk};
 ghost use Rattle.vschema_json.specs.Twice.{has_twice};
 ghost use Rattle.vschema_json.specs.Faults.{all_tables};

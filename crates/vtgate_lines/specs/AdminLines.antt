@@ -1,4 +1,4 @@
--- The lines of the administration.
+-- The lines of the admin port.
 use Rattle.std.specs.Prelude.{◌≡◌, ◌≢◌, ℕ, List, [], ◌∷◌, ◌++◌, codes}
 use Rattle.std.specs.List.{AllByRecursion}
 use Rattle.keyrange.specs.declared.KeyRange.{KeyRange}

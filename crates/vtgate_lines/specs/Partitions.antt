@@ -1,4 +1,4 @@
--- The word that tells the ranges of a keyspace's shards.
+-- The word that names the ranges of a keyspace's shards.
 use Rattle.std.specs.Prelude.{◌≤◌, ℕ, List, [], ◌∷◌, ◌++◌, length, IsPermutation, IsSorted}
 use Rattle.std.specs.Ordering.{nat_cmp}
 use Rattle.std.specs.Cmp.Lexicographic.{slice_cmp}

@@ -34,7 +34,7 @@ insert_name route.None shards = route_name route.None
 insert_name (route.EqualUnique v) shards = route_name (route.EqualUnique v)
 insert_name route.Scatter shards = route_name route.Scatter
 
--- the name of the range at a place, after a blank
+-- the name of the range at an ordinal, after a blank
 abbrev pub range_word : Option KeyRange → List ℕ
 range_word None = []
 range_word (Some range) = codes " " ++ range_text range

@@ -1,4 +1,4 @@
-//! The lines of the administration.
+//! The lines of the admin port.
 ghost use Rattle.std.specs.Prelude.{◌≡◌, ◌≢◌, ◌∷◌, ◌++◌, ℕ, List, codes, IfOk, IfErr, IfSome, IfNone, IsUtf8};
 ghost use Rattle.std.specs.List.{AllByRecursion};
 ghost use Rattle.keyrange.specs.declared.KeyRange.{KeyRange};
@@ -12,7 +12,7 @@ use std::alloc::Global;
 use std::str;
 use vt_value::Refusal;
 
-/// What a line of the administration asks for.
+/// What a line of the admin port asks for.
 #[derive(Drop)]
 pub enum AdminLine {
     /// Which shards serve, and how far a workflow is.

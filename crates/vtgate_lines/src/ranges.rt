@@ -1,4 +1,4 @@
-//! The word that tells the shards of a keyspace: the names of their ranges, with commas between them.
+//! The word that names the shards of a keyspace: the names of their ranges, with commas between them.
 ghost use Rattle.std.specs.Prelude.{◌≡◌, ◌∷◌, [], ◌++◌, false, List, IsTrue, IfOk, IfErr, IfSome, IfNone, IsSomeAnd};
 ghost use Rattle.keyrange.specs.Names.{IsNameOf};
 ghost use Rattle.keyrange.specs.declared.KeyRange.{KeyRange};

@@ -33,7 +33,7 @@ pub fn refusal_line(refusal: Refusal) -> ArrayVec<u8, SHORT_LINE>
     line
 }
 
-/// The line of a count, as `ok 1`. It takes no memory, so what was done can always be told.
+/// The line of a count, as `ok 1`. It takes no memory, so what was done is always printed.
 pub fn count_line(count: u64) -> ArrayVec<u8, SHORT_LINE>
     ensures { result.items ≡ count_text count }
 {

@@ -22,7 +22,7 @@ const FIRST_ROOM: usize = 4096;
 
 const DOUBLINGS: u32 = 32;
 
-// The word at a place of the command line, if there is one.
+// The word at a position of the command line, if there is one.
 fn word<R: Env>(rt: &R, alloc: Global, ordinal: usize) -> Result<Option<Word>, AllocError> {
     let mut room = FIRST_ROOM;
     for _ in 0..DOUBLINGS {

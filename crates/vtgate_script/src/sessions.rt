@@ -217,7 +217,7 @@ impl<W: World + Send + Sync, J: Naming + Send + Sync> Sessions<W, J> {
         }
     }
 
-    // The place of the session of this name.
+    // The ordinal of the session of this name.
     fn ordinal_of(&self, name: &[u8]) -> Option<usize>
         ensures { result ≡ position (λ x. bytes_eq x.name name.now) self.now.sessions }
     {
@@ -247,7 +247,7 @@ impl<W: World + Send + Sync, J: Naming + Send + Sync> Sessions<W, J> {
         Ok(())
     }
 
-    // The place of the session of this name, which is opened if there is none.
+    // The ordinal of the session of this name, which is opened if there is none.
     fn ordinal_or_open(&mut self, alloc: Global, name: &[u8]) -> Result<usize, Refusal>
         ensures { IfOk result (λ ordinal. HasOpened self.old name.now ordinal self.new) }
     {
@@ -259,7 +259,7 @@ impl<W: World + Send + Sync, J: Naming + Send + Sync> Sessions<W, J> {
         Ok(ordinal)
     }
 
-    // Runs a statement of the session at the place.
+    // Runs a statement of the session at the ordinal.
     fn run_at<R: Threads + Wait + Sync, O: Sink>(
         &mut self,
         rt: &R,

@@ -85,7 +85,7 @@ fn tell_full<R: Clock + Log>(rt: &R, logins: &Logins, full_since: &mut Option<In
     }
 }
 
-/// Tells that the queue has places again, if it was full.
+/// Logs that the queue has room again, if it was full.
 fn tell_free<R: Clock + Log>(rt: &R, logins: &Logins, full_since: &mut Option<Instant>) {
     if full_since.is_some() && logins.waiting() <= QUEUED as u64 / 2 {
         events::queue_free(rt, events::since(rt, *full_since));

@@ -105,7 +105,7 @@ fn read_command(mut stream: &TcpStream, buffer: &mut [u8]) -> Result<usize, Unre
 }
 
 impl<W: World, J: Naming, R: Clock + Log> RequestReader<'_, W, J, R> {
-    // What is told before the client is waited for: the statements that it has an answer to. And since when it is waited for.
+    // Logs, before the client is waited for, the statements that it has an answer to. And since when it is waited for.
     fn begin_read(&mut self) -> Option<Instant>
         ensures { self.new.failures ≡ self.old.failures }
     {

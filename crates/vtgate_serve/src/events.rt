@@ -1,4 +1,4 @@
-//! What a server tells of itself: each event is a record, with its fields.
+//! What a server logs: each event is a record, with its fields.
 
 use crate::cutover::Times;
 use admin::widest_limits;
@@ -111,7 +111,7 @@ fn tell<R: Log, K: Source>(rt: &R, level: Level, event: &str, fields: &K) {
     }
 }
 
-/// What is told once clients can connect: the words, the number of tables, and the limits of a shard.
+/// What is logged once clients can connect: the words, the number of tables, and the limits of a shard.
 #[derive(Clone, Copy)]
 pub struct Start<'a> {
     pub asked: &'a ServeArgs<'a>,
@@ -183,7 +183,7 @@ pub fn faulty<R: Log>(rt: &R, number: u8, place: &Place) {
 /// It didn't start.
 pub fn failed<R: Log>(rt: &R, fault: &RunFault) {
     match fault {
-        // The fault was told with its place.
+        // The fault was logged, with where it lies.
         RunFault::Schema(_) => {}
         RunFault::WrongWords => error!(rt; why = "words"; "failed"),
         RunFault::OutOfMemory => error!(rt; why = "memory"; "failed"),
@@ -197,12 +197,12 @@ pub fn unbound<R: Log, E: Display>(rt: &R, port: &'static str, address: &str, re
     error!(rt; port = port, address = address, reason:% = reason; "bind");
 }
 
-/// The queue of connections is full: the one that was accepted waits for a place in it.
+/// The queue of connections is full: the one that was accepted waits until it isn't.
 pub fn queue_full<R: Log>(rt: &R, waiting: u64) {
     warn!(rt; waiting = waiting; "queue_full");
 }
 
-/// The queue of connections has places again.
+/// The queue of connections has room again.
 pub fn queue_free<R: Log>(rt: &R, full: Seconds) {
     info!(rt; seconds:% = full; "queue_free");
 }
@@ -243,7 +243,7 @@ pub fn cut_over<R: Log>(rt: &R, times: Times) {
     tell(rt, Level::Info, "cutover", &times);
 }
 
-/// What is told of statements that came at once, and were answered.
+/// What is logged of statements that came at once, and were answered.
 #[derive(Clone, Copy)]
 pub struct Statement<'p> {
     pub connection: u32,
@@ -294,7 +294,7 @@ fn end_word(served: &Result<End, SessionFault>, is_silent: bool) -> &'static str
     }
 }
 
-/// What is told of a connection once it has ended.
+/// What is logged of a connection once it has ended.
 #[derive(Clone, Copy)]
 pub struct Passed<'p> {
     pub number: u32,
@@ -307,12 +307,12 @@ pub struct Passed<'p> {
     pub time: Seconds,
 }
 
-// Puts a client's bytes; if they aren't UTF-8, that they can't be told.
+// Puts a client's bytes; `?` if they aren't UTF-8.
 fn put_bytes<V: VisitSource>(visitor: &mut V, key: &str, bytes: &[u8]) -> Result<(), kv::Error> {
     put_text(visitor, key, str::from_utf8(bytes).unwrap_or("?"))
 }
 
-// Puts by whom a client logged in, and to which database, as far as it told.
+// Puts the user as whom a client logged in, and the database, as far as it gave them.
 fn put_login<V: VisitSource>(visitor: &mut V, incoming: &Incoming) -> Result<(), kv::Error> {
     let Some(response) = incoming.response() else {
         put_text(visitor, "user", "")?;

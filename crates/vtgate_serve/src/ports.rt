@@ -34,7 +34,7 @@ use vtgate_setup::{FAILURE, RunFault, ServeArgs};
 /// How many connections wait for a worker.
 pub(crate) const QUEUED: usize = 64;
 
-/// What is told once clients can connect.
+/// What is printed once clients can connect.
 const LISTENING: &[u8] = b"listening\n";
 
 /// The two ports, bound.

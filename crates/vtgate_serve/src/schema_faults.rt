@@ -1,4 +1,4 @@
-//! The fault of a VSchema, logged with its place.
+//! The fault of a VSchema, logged with where it lies.
 
 use crate::events;
 use log::{Level, Log, log_enabled};

@@ -35,14 +35,14 @@ use vtgate_setup::{
     read_schema_or_text, read_words, refuse_plainly,
 };
 
-/// What a server is told: whom it lets in, as the words ask, and its ports.
+/// What a server needs: whom it lets in, as the words ask, and its ports.
 #[derive(Drop)]
 pub struct ServeConfig<'s> {
     pub admission: Admission<'s>,
     pub ports: Ports,
 }
 
-/// What a server is told that serves on the ports.
+/// What a server needs that serves on the ports.
 pub fn config_of<'s>(
     alloc: Global,
     asked: &'s ServeArgs<'s>,
@@ -258,9 +258,9 @@ fn run_asked<
 }
 
 /// Serves connections as the words of the command line ask, under the VSchema that the whole input declares, and gives the status 0 after the
-/// last one. The status is 1 if a port can't be bound, which is told, if no thread could be started, if a device fails and if
+/// last one. The status is 1 if a port can't be bound, which is printed, if no thread could be started, if a device fails and if
 /// there is no memory for what it runs over; and 2 if the word of the shards tells no ranges, or more than 63 with an unsharded
-/// keyspace, and if the input declares no VSchema. Words that aren't those of `serve` are wrong: the usage is told, and the status is 2.
+/// keyspace, and if the input declares no VSchema. Words that aren't those of `serve` are wrong: the usage is printed, and the status is 2.
 /// Groups are hashed by the key.
 pub fn run_serve<
     R: Threads + Wait + Sync + Clock + Log + Net<Listener = TcpListener, Stream = TcpStream>,

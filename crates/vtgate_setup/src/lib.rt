@@ -1,4 +1,4 @@
-//! What a run of the program stands on: its whole input, the words of `vtgate serve`, the ranges that its words tell and the VSchema that its input
+//! What a run of the program needs: its whole input, the words of `vtgate serve`, the ranges of its words and the VSchema that its input
 //! declares; and why a run has failed, with its status.
 #![tactic(auto)]
 

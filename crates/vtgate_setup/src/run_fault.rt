@@ -54,7 +54,7 @@ fn put_schema_fault<E: Sink>(errors: &mut E, fault: SchemaFault) {
     }
 }
 
-/// Tells why a run has failed, as `refuse` does, and gives its status; want of memory is told as any other failure.
+/// Prints why a run has failed, as `refuse` does, and returns its status; want of memory is printed as any other failure.
 pub fn refuse_plainly<O: Sink, E: Sink>(fault: RunFault, output: &mut O, errors: &mut E) -> u8
     ensures failed { result ≢ SUCCESS }
     ensures status { result ≡ status_of fault }

@@ -1,4 +1,4 @@
-//! What a run stands on: the ranges that its words tell, and the VSchema that its input declares.
+//! What a run needs: the ranges of its words, and the VSchema that its input declares.
 ghost use Rattle.std.specs.Prelude.{◌≡◌, ◌≤◌, ◌⊎◌, ℕ, List, true, false, not, length, Ok, IsTrue, IfOk, IfErr};
 ghost use Rattle.std.specs.List.{list_any};
 ghost use Rattle.vschema.specs.Meant.{contents, schema_read};

@@ -60,7 +60,7 @@ abbrev pub CanHoldAll : List ColumnPart → Type 0
 CanHoldAll [] = ⊤
 CanHoldAll (p ∷ parts) = CanHold p × CanHoldAll parts
 
--- what is kept of the rows of a group whose parts stand in the columns from a place on
+-- what is kept of the rows of a group whose parts are in the columns from an ordinal on
 abbrev pub group_parts : List (Item ℕ) → ℕ → List Row → List ColumnPart
 group_parts [] n rows = []
 group_parts (a ∷ aggregates) n rows = column_part a (map (λ row. value_at row n) rows) ∷ group_parts aggregates (n + 1) rows

@@ -23,7 +23,7 @@ remark_len [] = None
 remark_len (b ∷ bytes) =
     if (b == 0x2A) && first_passes (λ c. c == 0x2F) bytes then Some 2 else option_map suc (remark_len bytes)
 
--- the place in a text after a byte, unless the text ended before it
+-- the position in a text after a byte, unless the text ended before it
 abbrev pub after_byte : ℕ → TextState → ℕ → Option TextState
 after_byte quote Inside b = if b == quote then Some AfterQuote else if b == 0x5C then Some AfterBackslash else Some Inside
 after_byte quote AfterQuote b = if b == quote then Some Inside else None
@@ -100,7 +100,7 @@ piece_at (b ∷ bytes) =
     else if is_quote b then text_at b bytes
     else mark_at b bytes
 
--- n is at least the count of bytes, which stand at this place of a text
+-- n is at least the count of bytes, which are at this position of a text
 unfoldable pub tokens_at : ℕ → ℕ → List ℕ → Option (List Token)
 tokens_at zero at bytes = Some []
 tokens_at (suc n) at [] = Some []

@@ -1,10 +1,10 @@
--- What is put into the queue of what an entrance gives, and what a worker does with what it takes.
+-- What is put into the queue of what a source yields, and what a worker does with what it takes.
 use Rattle.std.specs.Prelude.{◌≡◌, ℕ, List, [], ◌∷◌, ◌++◌, map, replicate}
 use Rattle.connection_workers.specs.declared.pool.Job.{Job}
 use Rattle.connection_workers.specs.declared.pool.Job.TheVariants.{Serve, Stop}
 use Rattle.connection_workers.specs.Letting.{GaveAll}
 
--- Each connection that the entrance gave was put into the queue, once and in order, and after them a stop for each worker.
+-- Each connection that the source yielded was put into the queue, once and in order, and after them a stop for each worker.
 pub record HasLetIn {E T : Type 0} (gives : E → T → E → Type 0) (ends : E → E → Type 0) (workers : ℕ) (from now : E) (before after : List (Job T)) : Type 0 where
   pub given : List T
   pub all : GaveAll gives ends from now given

@@ -1,4 +1,4 @@
--- The outcome that is told, and statements that aren't told alone.
+-- The outcome of a reply, and the statement that turns autocommit on.
 use Rattle.std.specs.Prelude.{Bool, true, false, not, Some}
 use Rattle.resultset.specs.declared.Outcome.{Outcome}
 use Rattle.resultset.specs.declared.Outcome.TheVariants as o

@@ -1,4 +1,4 @@
--- What a workflow's beginning finds.
+-- What `create` finds.
 use Rattle.std.specs.Prelude.{◌≡◌, ℕ, Bool, ◌+◌, ◌≤◌, ◌++◌, ◌∷◌, [], List, length, map, Contains, count_by}
 use Rattle.std.specs.List.{AllByRecursion}
 use Rattle.keyrange.specs.declared.KeyRange.{KeyRange}

@@ -1,4 +1,4 @@
--- What stands in front of the rows of a result set.
+-- What comes before the rows of a result set.
 use Rattle.std.specs.Prelude.{ℕ, List, ◌∷◌, ◌++◌, length, map}
 use Rattle.mysql_packet.specs.Numbers.{length_encoded}
 use Rattle.resultset.specs.declared.Column.{Column}

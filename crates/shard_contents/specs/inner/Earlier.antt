@@ -7,7 +7,7 @@ use Rattle.vschema.specs.Database.{Database, SameRows, rows_of, all_applied}
 use Rattle.shard_run.specs.declared.Entry.{Entry}
 use Rattle.shard_run.specs.Runs.{stored_changes}
 
--- a table by its place, the number of entries that were stored then, and the rows that it had
+-- a table by its ordinal, the number of entries that were stored then, and the rows that it had
 pub record EarlierTable : Type 0 where
   pub table : ℕ
   pub stored : ℕ

@@ -11,11 +11,11 @@ use Rattle.shard_store.specs.declared.removed_rows.LentRow.{LentRow}
 abbrev pub lent_key : LentRow → Row
 lent_key l = key_at l.columns.now l.row.now
 
--- value by value, a proper beginning before the longer list
+-- value by value, a proper prefix before the longer list
 abbrev pub lent_cmp : LentRow → LentRow → Ordering
 lent_cmp a b = slice_cmp value_cmp (lent_key a) (lent_key b)
 
--- the places of key columns, and the values of rows there
+-- the ordinals of key columns, and the values of rows there
 pub record ColumnKeys : Type 0 where
   pub columns : List ℕ
   pub keys : List Row

@@ -17,7 +17,7 @@ abbrev pub are_apart : List (Item ℕ) → Bool
 are_apart [] = true
 are_apart (i ∷ items) = not (has_item i items) && are_apart items
 
--- each item so far is once among the distinct ones, at its place, by its number
+-- each item so far is once among the distinct ones, at its position, by its number
 pub record IsSeen (items : List (Item ℕ)) (s : Seen) : Type 0 where
   pub distinct : s.items ≡ distinct_items items
   pub shown : map (slice_get s.items) s.ordinals ≡ map Some items

@@ -50,7 +50,7 @@ quoted_at bytes =
     if first_passes is_letter bytes && nat_le (run is_word_byte bytes) max_word && first_passes (λ b. b == 0x60) (drop (run is_word_byte bytes) bytes)
     then Some (Quoted, run is_word_byte bytes + 2) else None
 
--- the place in a text after a byte, unless the text ended before it
+-- the position in a text after a byte, unless the text ended before it
 abbrev pub after_byte : TextState → ℕ → Option TextState
 after_byte Inside b = if b == 0x27 then Some AfterQuote else if b == 0x5C then Some AfterBackslash else Some Inside
 after_byte AfterQuote b = if b == 0x27 then Some Inside else None
@@ -119,7 +119,7 @@ token_at (b ∷ bytes) =
     else if is_digit b then digits_at (b ∷ bytes)
     else mark_at b bytes
 
--- n is at least the count of bytes, which stand at this place of a text
+-- n is at least the count of bytes, which are at this position of a text
 unfoldable pub lex_at : ℕ → ℕ → List ℕ → Option (List Token)
 lex_at zero at bytes = Some []
 lex_at (suc n) at [] = Some []

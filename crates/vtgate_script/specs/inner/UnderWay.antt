@@ -68,13 +68,13 @@ abbrev pub KnowsOwn : Run → KeptSession → Type 0
 KnowsOwn seen s =
     (n : ℕ) → s.kept.pass.session ≡ Some n → filter (by_session commit_of n) seen ≡ filter (by_session commit_of n) s.kept.pass.seen
 
--- So many sessions are opened, each with the number of its place. Of the commits in the run each is of one of them, whose pass has seen it.
+-- So many sessions are opened, each with its ordinal as number. Of the commits in the run each is of one of them, whose pass has seen it.
 pub record IsKnown (opened : ℕ) (seen : Run) (sessions : List KeptSession) : Type 0 where
   pub numbered : (k : ℕ) (d : KeptSession) → k < length sessions → (slice_index_or sessions k d).kept.pass.session ≡ Some k
   pub own : (k : ℕ) (d : KeptSession) → k < length sessions → KnowsOwn seen (slice_index_or sessions k d)
   pub unopened : (n : ℕ) → opened ≤ n → filter (by_session commit_of n) seen ≡ []
 
--- the session of the name is at the place; if there was none, it was opened there
+-- the session of the name is at the ordinal; if there was none, it was opened there
 pub data HasOpened (s : KeptProgress) (name : List ℕ) (ordinal : ℕ) : KeptProgress → Type 0 where
   was : ordinal < length s.sessions → ((d : KeptSession) → (slice_index_or s.sessions ordinal d).name ≡ name) → HasOpened s name ordinal s
   opened : AllByRecursion (λ x. x.name ≢ name) s.sessions → ordinal ≡ length s.sessions
