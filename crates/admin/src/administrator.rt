@@ -105,9 +105,9 @@ impl<W: World, J: Naming> Administrator<W, J> {
     ghost use Rattle.vschema.specs.WellFormed.{is_vschema};
     ghost use Rattle.admin.specs.AdminAnswers.{IsAdminReply, keyspace_of};
 
-    // Promise: An admin line does exactly what its words ask for over the workflow of the sharded keyspace, and its answer tells it: what
+    // Promise: An admin line does exactly what its words ask for over the workflow of the sharded keyspace, and its answer says so: what
     // was done, which step was taken, or why not, by its number; other words are unknown and do nothing, and neither does a line that can't
-    // be read for want of memory. `status` tells the ranges of some partition of the keyspace, or, in the midst of a
+    // be read for want of memory. `status` lists the ranges of some partition of the keyspace, or, in the midst of a
     // cutover, those of the shards that serve then, in their order, and how far the workflow is.
     // Without a sharded keyspace there is no workflow. The answer's line takes no memory, so that what was done is always answered
     // With: Administrator::answer, AdminReply::line

@@ -34,7 +34,7 @@ impl<L: Law, J: Naming> ShardSeat<L, J> {
     ghost use Rattle.journal.specs.Runs.{IsLegal, on_slot};
     ghost use Rattle.journal.specs.Views.{IsLater};
 
-    // Promise: A seat tells its slot; what it has seen is legal
+    // Promise: A seat returns its slot; what it has seen is legal
     /// Its slot, from 0 on. What it has seen is legal.
     pub fn slot(&self) -> usize
         ensures slot { result ≡ self.now.slot }

@@ -61,7 +61,7 @@ fn drop_front(pending: &mut Vec<u8>, used: usize)
 }
 
 impl Framer {
-    // Promise: A framer begins at the start of a stream; it tells whether a payload has begun
+    // Promise: A framer begins at the start of a stream; it returns whether a payload has begun
     // With: Framer::is_between_payloads
     /// At the start of a stream, for payloads of at most `limit` bytes.
     pub fn new(alloc: Global, limit: usize) -> Framer

@@ -83,7 +83,7 @@ impl<W: World, J: Naming> Workflow<W, J> {
     /// Begins a workflow: targets of these ranges, on the last of the free slots, one for each, are to take the place of the shards of
     /// those. Refuses if it has a workflow; if no source is named, one is named twice or isn't a range of the present partition, or
     /// its shard doesn't serve or is frozen; if two targets overlap; if they don't hold what the sources do; if too few slots are
-    /// free; and for want of memory. Then it stands as it stood, and no slot is taken.
+    /// free; and for want of memory. Then it stays as it was, and no slot is taken.
     pub fn create(
         &mut self,
         rt: &impl Wait,

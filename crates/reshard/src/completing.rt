@@ -24,7 +24,7 @@ impl<W: World, J: Naming> Workflow<W, J> {
     }
 
     // Promise: A workflow is completed exactly when its targets serve (else N4): each of its sources is retired, so that no statement
-    // reads it, and there is none. That the sources' rows are given up no clause tells
+    // reads it, and there is none. No clause says that the sources' rows are given up
     /// Ends the workflow, whose targets serve: its sources' rows are dropped, and their slots are used up. Refuses if the targets don't
     /// serve. Takes no memory.
     pub fn complete(

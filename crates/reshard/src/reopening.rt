@@ -52,14 +52,14 @@ impl<W: World, J: Naming> Workflow<W, J> {
     // others follow, and so far it is; each target takes from the sources that overlap it, and those that are retired named it; the memory
     // of the cutover is made; the next partition was published exactly when the present one has a target. Refused only if there is a
     // workflow already, if the shards found aren't those of one with the other parts of some partition, if each source is retired
-    // and each target serves, or if no source is retired (N4), and for want of memory; then it stands as it stood. That N4 is answered of
+    // and each target serves, or if no source is retired (N4), and for want of memory; then it stays as it was. That N4 is answered of
     // the last two only if a source's rows were dropped, and if the workflow was given up, is for tests
     /// Takes up a workflow that another controller stopped, from the shards that are its sources and its targets, each in their order: each
     /// is looked at under its lock. If a source is frozen or retired its cutover has begun, which `resume` ends and `switch_step` goes
     /// on with; else its targets follow. All memory of the cutover is made. Refuses if there is a workflow already; if the shards aren't
     /// the sources and the targets of one, with the other parts of the present partition, as a cutover leaves them; if a source that is
     /// retired didn't name a target that takes from it; if the sources' rows were dropped, or the workflow was given up; and for want of
-    /// memory. Then it stands as it stood. The slots that no shard ever stood on are those that it has.
+    /// memory. Then it stays as it was. The slots that no shard was ever on are those that it has.
     pub fn reopen(
         &mut self,
         rt: &impl Wait,

@@ -11,7 +11,7 @@ use reshard_create::ReshardConfig;
 use reshard_cutover::{SourceShard, TargetShard};
 use shard::{ShardLaw, World};
 
-/// What is left of a controller that stopped: the seats of the slots that no shard ever stood on, and the shards of its workflow. How far
+/// What is left of a controller that stopped: the seats of the slots that no shard was ever on, and the shards of its workflow. How far
 /// that was is forgotten.
 #[derive(Drop)]
 pub struct Stopped<W: World, J: Naming> {

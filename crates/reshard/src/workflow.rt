@@ -21,7 +21,7 @@ pub enum Stage {
     Switched,
 }
 
-/// A controller of splits and merges in one keyspace, one at a time. It has the seats of the slots that no shard ever stood on. Contracts see
+/// A controller of splits and merges in one keyspace, one at a time. It has the seats of the slots that no shard was ever on. Contracts see
 /// a `WorkflowView`.
 #[derive(Drop)]
 pub struct Workflow<W: World, J: Naming> {

@@ -40,7 +40,7 @@ impl LogLine {
         Ok(LogLine { bytes })
     }
 
-    // Promise: Each line of the log has one break, which stands at its end, and otherwise bytes from 20 to 7E alone, whatever a client names itself
+    // Promise: Each line of the log has one break, at its end, and otherwise bytes from 20 to 7E alone, whatever a client names itself
     // With: line_of
     // Clauses: one
     pub fn as_bytes(&self) -> &[u8]
@@ -51,7 +51,7 @@ impl LogLine {
     }
 }
 
-// Promise: A record's line tells the instant, the level, the event and each field in order, each as one word, so that no value ends a word or a line
+// Promise: A record's line has the instant, the level, the event and each field in order, each as one word, so that no value ends a word or a line
 /// The line of a record at an instant: its time in UTC, its level and its event, and as fields those of the spans around it and then its own. A
 /// text that isn't one word of visible bytes stands between quotes. Refuses for want of memory, and if a value can't be shown.
 pub fn line_of<D: Display, K: Source, S: Spans>(

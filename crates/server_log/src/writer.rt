@@ -52,7 +52,7 @@ fn is_part(taken: usize, all: usize) -> bool
     0 < taken && taken < all
 }
 
-// Promise: The report of lost lines tells how many there were
+// Promise: The report of lost lines says how many there were
 /// The line that tells how many lines were lost.
 pub fn report_of(alloc: Global, instant: Timestamp, lost: u64) -> Result<LogLine, AllocError>
     ensures { IfOk result (λ line. IsReport instant lost line) }

@@ -223,13 +223,13 @@ fn begin<W: World, J: Naming>(
 // says
 // Clauses: talk, at_end, session
 // Headline.
-// Promise: With no other session's commit between (shards may copy, follow and change places), the bytes are a conversation with one
+// Promise: With no other session's commit between (shards may copy, follow and be replaced), the bytes are a conversation with one
 // database that knows no shards: each query's rows are an answer over what the commands before it left, each write makes and counts its
 // changes of that, and a refusal leaves it; in a transaction each statement gives what it means after those before it, which COMMIT does
 // all at once, and nothing else does
 // With: Core::feed
 // Clauses: alone
-/// Serves one connection, the one with this id, until it ends: greets its client by the salt, lets in whom `access` tells, reads commands
+/// Serves one connection, the one with this id, until it ends: greets its client by the salt, lets in whom `access` names, reads commands
 /// from the source, and writes their replies to the sink.
 pub fn serve<W: World + Send + Sync, J: Naming + Send + Sync, G: Gate, R: Source, S: Sink>(
     rt: &(impl Threads + Wait + Sync),

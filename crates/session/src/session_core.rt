@@ -253,8 +253,8 @@ impl<W: World + Send + Sync, J: Naming + Send + Sync> Core<W, J> {
     ghost use Rattle.conversation.specs.Sessions.{HasTalked, HasTalkedOn, IsStateAfter};
 
     // Promise: However a client's bytes are cut, exactly the conversation over them is written, from the greeting on: a client is let in by
-    // its user and its answer to the salt, and then by its database, or told why not; each statement has an outcome that its text may have,
-    // in the session's open transaction if one is, each from what the session had seen to what it then has seen; a reply's status tells
+    // its user and its answer to the salt, and then by its database, or refused for the cause; each statement has an outcome that its text may have,
+    // in the session's open transaction if one is, each from what the session had seen to what it then has seen; a reply's status says
     // whether autocommit is on and a transaction is open then; with autocommit off a statement over rows gives, if none is open, what it
     // gives after BEGIN, and turning it on commits an open one as COMMIT does, or is refused as that is and leaves it off; a text that isn't
     // run, and asks something of a server, is answered that by the VSchema and by what the session knows of itself; a client may name each
@@ -265,8 +265,8 @@ impl<W: World + Send + Sync, J: Naming + Send + Sync> Core<W, J> {
     // whole, id
     // Headline.
     // Promise: After a fault: without memory for a piece, it counts as not fed, and pass and sink are as before it; if the sink failed,
-    // a front of the payloads is answered, each once, and the sink took a front of the replies; if the source failed, each payload that
-    // was read whole is answered, and nothing else was written. A device's failure is told exactly when it failed in the call
+    // the first of the payloads are answered, each once, and the sink took a prefix of the replies; if the source failed, each payload that
+    // was read whole is answered, and nothing else was written. A device's failure is returned exactly when it failed in the call
     // With: serve
     // Clauses: memory, write, count, fault, read, source_count, sink_count
     /// Takes the next piece of the input, and writes the replies to the payloads that it completes, each once it is known

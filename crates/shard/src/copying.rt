@@ -184,7 +184,7 @@ impl<W: World, J: Naming> ShardState<W, J> {
         Ok(Some(NextTable { table, after }))
     }
 
-    // Promise: A target tells how far it has come with a source, and where it copies on; a source tells what it has for it next: its entry
+    // Promise: A target returns how far it has come with a source, and from where it copies; a source returns what it has for it next: its entry
     // at a position, cut to the target's place, or that none is left; else at most 100 rows of a table of that place, in the order of their
     // keys, after the last that was copied, and whether they are the last. What is followed is cut to what is copied
     // With: ShardState::{position_in, copied_changes, entry_for, rows_to_copy}

@@ -10,7 +10,7 @@ use journal::Naming;
 use shard_run::ShardRecord;
 
 impl<W: World, J: Naming> ShardState<W, J> {
-    // Promise: A shard that is retired tells the targets that its entry names. Whether a target's workflow was given up no run tells
+    // Promise: A shard that is retired returns the targets that its entry names. No run says whether a target's workflow was given up
     // With: ShardState::{named, give_up}
     /// The targets that a retired shard named.
     pub fn named(&self) -> &[ShardRecord]

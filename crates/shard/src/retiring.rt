@@ -40,7 +40,7 @@ fn is_at_end(contents: &Contents) -> bool
 }
 
 impl<W: World, J: Naming> ShardState<W, J> {
-    // Promise: A shard tells whether it is retired, and for which targets after how many stored entries; a retired one gives up its rows,
+    // Promise: A shard returns whether it is retired, and for which targets after how many stored entries; a retired one gives up its rows,
     // and nothing else of it changes
     // With: ShardState::{is_retired_for, drop_rows}
     /// Whether it is retired, and its rows are still there.

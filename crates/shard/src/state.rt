@@ -38,7 +38,7 @@ pub struct ShardState<W: World, J: Naming> {
     pub(crate) sorted: SortedTables,
     // once it is retired, those that take its place
     pub(crate) targets: Items<ShardRecord>,
-    // whether it is the target of a workflow that was given up, which no run tells
+    // whether it is the target of a workflow that was given up: no run says so
     pub(crate) given_up: bool,
 }
 
@@ -225,7 +225,7 @@ impl<W: World, J: Naming> ShardState<W, J> {
         self.contents.stored.len() as u64
     }
 
-    // Promise: A shard that serves tells how many rows it has
+    // Promise: A shard that serves returns how many rows it has
     /// How many rows a shard that serves has, of all tables.
     pub fn rows(&self) -> u64
         requires serves { answers_queries (mode W.opening self.now.seen self.now.shard.slot) ≡ true }

@@ -32,7 +32,7 @@ impl<W: World, J: Naming> Shard<W, J> {
 }
 
 impl<W: World, J: Naming> ShardState<W, J> {
-    // Promise: A state tells whether it is a target on which nothing has happened, which has no entry on its slot, and gives its seat back
+    // Promise: A state returns whether it is a target on which nothing has happened, which has no entry on its slot, and gives its seat back
     // With: ShardState::into_seat
     /// Whether it is a target on which nothing has happened, in what its seat has seen.
     pub fn is_untouched(&self) -> bool

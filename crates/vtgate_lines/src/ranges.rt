@@ -48,7 +48,7 @@ pub(crate) fn named_ranges(alloc: Global, text: &str) -> Result<Option<Vec<KeyRa
     }
 }
 
-// Promise: A word tells ranges exactly when it has the names of at most 64 that cover each id once; they come in range order
+// Promise: A word names ranges exactly when it has the names of at most 64 that cover each id once; they come in range order
 /// The ranges that a comma list of names tells, as `-80,80-`, in the order of their begins. `None` if some part is no
 /// range's name, if there are more than 64, or if some id lies in none of them or in several.
 pub fn read_ranges(alloc: Global, text: &str) -> Result<Option<Vec<KeyRange>>, Refusal>

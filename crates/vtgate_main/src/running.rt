@@ -65,7 +65,7 @@ fn script_words(words: &[Word]) -> Option<&str>
 // database that the lines before it left, in its session's open transaction if one is; nobody but a line's session commits in it, and an
 // admin line commits nothing
 // Clauses: script
-// Promise: The status is 0, 1 or 2; 2 has its cause: words that run nothing, a word that tells no ranges, an input that declares no VSchema, or
+// Promise: The status is 0, 1 or 2; 2 has its cause: words that run nothing, a word that names no ranges, an input that declares no VSchema, or
 // more than 63 ranges with an unsharded keyspace
 // Clauses: wrong, plan_cause, script_cause, serve_cause, status
 /// Runs the program with the words of its command line, and gives its exit status. `plan`, with the word of the shards and a statement,

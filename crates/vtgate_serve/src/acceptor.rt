@@ -97,8 +97,8 @@ impl<'l, W: World, J: Naming, R: Wait + Clock + Log> ConnectionSource<Connection
     for Acceptor<'l, W, J> {
     ghost use Rattle.vtgate_serve.specs.Accepted.{Accepts, AcceptsNoMore};
 
-    // Promise: Connections are numbered in the order in which they are accepted, each with a number of its own, up to the one that the words
-    // tell
+    // Promise: Connections are numbered in the order in which they are accepted, each with a number of its own, up to the last that the words
+    // allow
     ghost gives = { λ a c b. Accepts a.accepted a.last c.number b.accepted b.last };
 
     ghost ends = { λ a b. AcceptsNoMore a.accepted a.last b.accepted b.last };

@@ -16,7 +16,7 @@ pub struct Admission<'w> {
     ghost stage2: { access.stage2 ≡ asked.now.stage2 },
 }
 
-// Promise: The server lets in the user and the password that its words tell, and greets by their nonce
+// Promise: The server lets in the user and the password of its words, and greets by their nonce
 // With: serve_connection
 /// The admission that the words ask for. Refuses only for want of memory.
 pub fn admission_of<'w>(alloc: Global, asked: &'w ServeArgs<'w>) -> Result<Admission<'w>, RunFault>

@@ -57,11 +57,11 @@ impl<W: World, J: Naming> Connection<W, J> {
     }
 }
 
-// Promise: A connection is greeted by the salt of its number and of the nonce that the words tell, lets in the user and the password that
-// they tell and nobody else, and its bytes are then the conversation, over any device
+// Promise: A connection is greeted by the salt of its number and of the words' nonce, lets in the user and the password of the words and
+// nobody else, and its bytes are then the conversation, over any device
 // Clauses: talk, alone, read, memory, write
 /// Serves the connection with the number over these devices until it ends: greets its client by the salt that the nonce of the words and the
-/// number make, and lets in whom the words tell.
+/// number make, and lets in whom the words name.
 pub fn serve_connection<
     W: World + Send + Sync,
     J: Naming + Send + Sync,
