@@ -2,8 +2,8 @@
 # Runs queries through the engine of this tree and of an earlier commit at the same time, and prints how long each takes. Both are built by
 # `rt try`: without proofs, without optimisation and with checks of memory, so compare the ratios alone. With --write the table is put into
 # docs/PERFORMANCE.md.
-# Usage: bench/before.sh [--write] [COMMIT]   (e1da63f, the last one before shards of any kind, where none is given; its program is query_bench)
-# ROWS: how many rows lie on each shard, "20 1000" where it is not set
+# Usage: bench/before.sh [--write] [COMMIT]   (e1da63f, the last one before shards of any kind, if none is given; its program is query_bench)
+# ROWS: how many rows lie on each shard, "20 1000" if it is not set
 set -euo pipefail
 top=$(cd "$(dirname "$0")/.." && pwd)
 document=() commit=e1da63f

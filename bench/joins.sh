@@ -2,7 +2,7 @@
 # Measures joins of the router's server and of MariaDB's on the same tables in one run: by key, of 1,000 rows with 100,000, and of 100,000 with
 # 100,000 over 4 shards. Prints the tables; with --write puts them into docs/PERFORMANCE.md.
 # Usage: bench/joins.sh [--write] [--rows N] [--rounds N] [PROGRAM]
-# PROGRAM is proved and built where none is given. Installs Debian's MariaDB server where there is none, and runs it in a
+# PROGRAM is proved and built if none is given. Installs Debian's MariaDB server if there is none, and runs it in a
 # folder of its own.
 set -euo pipefail
 top=$(cd "$(dirname "$0")/.." && pwd)

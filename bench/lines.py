@@ -63,7 +63,7 @@ def number(step, first, bound):
 
 
 def row(shards, shard, step, first):
-    """The row of a shard's number first + round * step. The shard of an id is told by its remainder, and c is scattered."""
+    """The row of a shard's number first + round * step. The remainder of an id decides its shard, and c is scattered."""
     id_step, id_first = shards * step, shards * first + shard
     scattered = number(2_654_435_761 * id_step, 2_654_435_761 * id_first, 1_000_003)
     return f"({number(id_step, id_first, NO_BOUND)}, {scattered}, {number(step, first, 10)}, {number(step, first, 10_000)})"

@@ -2,7 +2,7 @@
 # Measures what statements cost compared with others, as ratios of what is measured in one run: statements in a transaction with own
 # writes and outside, short reads of large tables and reads of one row while other clients are at work, and the bytes
 # that a write keeps. Prints the tables; with --write puts them into docs/PERFORMANCE.md.
-# Usage: bench/load.sh [--write] [--rows N] [--changes N] [--rounds N] [PROGRAM]   (proved and built where none is given)
+# Usage: bench/load.sh [--write] [--rows N] [--changes N] [--rounds N] [PROGRAM]   (proved and built if none is given)
 set -euo pipefail
 top=$(cd "$(dirname "$0")/.." && pwd)
 . "$top/scripts/program.sh"

@@ -1,10 +1,10 @@
 #!/usr/bin/env bash
 # Measures reading of texts, the journal, queries and writes, one after the other in one run, and writes docs/PERFORMANCE.md: what each
-# showed, with the ratio to the first of its kind. What is measured is in bench/lines.py; where there is a rustc, the maps of Rust's
+# showed, with the ratio to the first of its kind. What is measured is in bench/lines.py; if there is a rustc, the maps of Rust's
 # std are measured too (bench/lookup).
-# Usage: bench/measure.sh [PROGRAM]   (proved and built where none is given)
-# DOCUMENT: the page that is written, docs/PERFORMANCE.md where it is not set; the parts that other scripts write stay
-# TEXTS, COSTLY, ENTRIES, ROWS, STORE, WRITES: how often each is done, 20, 100000, 1000000, 1000, 1000000 and 4000 where they are not set
+# Usage: bench/measure.sh [PROGRAM]   (proved and built if none is given)
+# DOCUMENT: the page that is written, docs/PERFORMANCE.md if it is not set; the parts that other scripts write stay
+# TEXTS, COSTLY, ENTRIES, ROWS, STORE, WRITES: how often each is done, 20, 100000, 1000000, 1000, 1000000 and 4000 if they are not set
 set -euo pipefail
 top=$(cd "$(dirname "$0")/.." && pwd)
 . "$top/scripts/program.sh"

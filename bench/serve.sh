@@ -3,8 +3,8 @@
 # after the other in one run: point SELECTs, INSERTs, UPDATEs by key, a scatter over 4 shards, a mix, and transactions, by 1 to 32
 # connections. Prints the tables; with --write puts them into docs/PERFORMANCE.md.
 # Usage: bench/serve.sh [--quick] [--write] [--kinds KIND,..] [--connections N,..] [--rounds N] [--seconds S] [--rows N] [PROGRAM]
-# PROGRAM is proved and built where none is given. Each server has 3 rounds of 1 second a cell; with --quick one of
-# 0.3, with 1, 4 and 32 connections alone. Needs a C compiler; installs Debian's MariaDB server where there is none, and runs it in a
+# PROGRAM is proved and built if none is given. Each server has 3 rounds of 1 second a cell; with --quick one of
+# 0.3, with 1, 4 and 32 connections alone. Needs a C compiler; installs Debian's MariaDB server if there is none, and runs it in a
 # folder of its own.
 set -euo pipefail
 top=$(cd "$(dirname "$0")/.." && pwd)

@@ -3,7 +3,7 @@
 # copy, how soon targets are level with writers at full speed, and steps a second by entries. Prints the tables; with --write puts them into
 # docs/PERFORMANCE.md.
 # Usage: bench/split.sh [--write] [--rows N,..] [--rounds N] [--seconds S] [PROGRAM]
-# PROGRAM is proved and built where none is given. Needs a C compiler.
+# PROGRAM is proved and built if none is given. Needs a C compiler.
 set -euo pipefail
 top=$(cd "$(dirname "$0")/.." && pwd)
 . "$top/scripts/program.sh"

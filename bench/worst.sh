@@ -1,7 +1,7 @@
 #!/usr/bin/env bash
 # Measures the dearest statement of each kind through a socket: time, bytes of the reply, and the most memory that the router takes for it.
 # Prints the table; with --write puts it into docs/PERFORMANCE.md.
-# Usage: bench/worst.sh [--write] [--rows N] [--rounds N] [PROGRAM]   (proved and built where none is given)
+# Usage: bench/worst.sh [--write] [--rows N] [--rounds N] [PROGRAM]   (proved and built if none is given)
 set -euo pipefail
 top=$(cd "$(dirname "$0")/.." && pwd)
 . "$top/scripts/program.sh"

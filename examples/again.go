@@ -1,4 +1,4 @@
-// Moves an amount from one row to another of the same shard, and begins again where another session was faster.
+// Moves an amount from one row to another of the same shard, and begins again if another session was faster.
 //
 // Usage: GO111MODULE=off GOPATH=/usr/share/gocode go run examples/again.go [PORT]
 // It goes with examples/serve.sh, and needs go-sql-driver/mysql (Debian: golang-go, golang-github-go-sql-driver-mysql-dev).

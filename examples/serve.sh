@@ -3,7 +3,7 @@
 # Usage: examples/serve.sh [--unproved] [--password]
 #   --unproved   at once, for ten minutes: compiled with checks, and nothing of it is proved
 #   --password   asks for the password of the user app (the first line of standard input); else it is empty
-# PORT and ADMIN: the two ports, 3306 and 3307 where they are not set.
+# PORT and ADMIN: the two ports, 3306 and 3307 if they are not set.
 set -euo pipefail
 top=$(cd "$(dirname "$0")/.." && pwd)
 port=${PORT:-3306} admin=${ADMIN:-3307} unproved='' secret=- asks=''

@@ -6,7 +6,7 @@ is_as_its_sources() {
         && [ -z "$(find "$top"/crates/*/{src,specs,proofs} "$top/crates.txt" "$top/HANDLES" -type f -newer "$1" -print -quit 2> /dev/null)" ]
 }
 
-# program_of CRATE [PROGRAM]: prints the path of the crate's program: the one given, or else the crate's own, which is proved and built first where
+# program_of CRATE [PROGRAM]: prints the path of the crate's program: the one given, or else the crate's own, which is proved and built first if
 # it isn't as its sources.
 program_of() {
     local program=${2:-}
@@ -18,7 +18,7 @@ program_of() {
     echo "$program"
 }
 
-# have_packages NAME..: installs these packages of Debian where one isn't there.
+# have_packages NAME..: installs these packages of Debian if one isn't there.
 have_packages() {
     local as_root=()
     dpkg -s "$@" > /dev/null 2>&1 && return

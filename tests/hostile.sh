@@ -2,7 +2,7 @@
 # Does to a served router what a hostile client, web page or caller can do, and shows that others are served meanwhile: logins that trickle, lines to
 # the admin port that a browser sends, an end while an admin client goes on, words that are no text, too few threads; and groups, VSchemas and
 # items that were chosen to be dear. Takes some five minutes.
-# Usage: tests/hostile.sh [PROGRAM]   (proved and built where none is given)
+# Usage: tests/hostile.sh [PROGRAM]   (proved and built if none is given)
 set -euo pipefail
 top=$(cd "$(dirname "$0")/.." && pwd)
 . "$top/scripts/program.sh"

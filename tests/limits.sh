@@ -1,7 +1,7 @@
 #!/usr/bin/env bash
 # Merges two shards that have more rows together than a shard may: the step that would pass the limit is refused and copies nothing, a cutover is
 # given up before anything freezes for good, and both shards serve on. A million rows in one script: about a minute, and 2 GB of memory.
-# Usage: tests/limits.sh [PROGRAM]   (proved and built where none is given)
+# Usage: tests/limits.sh [PROGRAM]   (proved and built if none is given)
 set -euo pipefail
 top=$(cd "$(dirname "$0")/.." && pwd)
 . "$top/scripts/program.sh"

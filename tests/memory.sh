@@ -2,7 +2,7 @@
 # Runs scripts, with a split and a merge of shards, and a plan once for each growth of memory that they ask for, and has that one growth
 # refused. Then at most one line is refused for want of memory, and hasn't happened, or the program ends at once with status 1: nothing else
 # may come out.
-# Usage: tests/memory.sh [PROGRAM]   (proved and built where none is given; needs a C compiler)
+# Usage: tests/memory.sh [PROGRAM]   (proved and built if none is given; needs a C compiler)
 set -euo pipefail
 top=$(cd "$(dirname "$0")/.." && pwd)
 . "$top/scripts/program.sh"
@@ -10,7 +10,7 @@ program=$(program_of vtgate_main "${1:-}")
 work=$(mktemp -d)
 trap 'rm -rf "$work"' EXIT
 
-# Stands before the C library: refuses the program's growth number REFUSE, and makes the file REFUSED where it does.
+# Comes before the C library: refuses the program's growth number REFUSE, and makes the file REFUSED if it does.
 cat > "$work/refuse.c" <<'C'
 #define _GNU_SOURCE
 #include <fcntl.h>
@@ -80,7 +80,7 @@ in_turn() {
     echo "$name: $((growth - 1)) growths refused in turn: $ends runs ended with status 1, $refusals went on"
 }
 
-# refusal_of FILE: what is printed for the line of the file where it is refused for want of memory.
+# refusal_of FILE: what is printed for the line of the file if it is refused for want of memory.
 refusal_of() {
     case $(cat "$1") in
         '! '*) echo F1 ;;
@@ -89,7 +89,7 @@ refusal_of() {
 }
 
 # runs NAME WORD..: what the program may give that runs the lines of standard input after the VSchema. Without one of them it gives what
-# it gives where that one is refused, but for the refusal.
+# it gives if that one is refused, but for the refusal.
 runs() {
     local name=$1 count=0 at before line
     shift

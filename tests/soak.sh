@@ -1,8 +1,8 @@
 #!/usr/bin/env bash
 # Splits shards and merges them back again and again, while eight sessions in threads of one process write, transact and read all their
-# rows, and compares each answer, and the rows at the end, with those of the accepted commands. Status 1 where something differs, 124 where
+# rows, and compares each answer, and the rows at the end, with those of the accepted commands. Status 1 if something differs, 124 if
 # it hangs.
-# Usage: tests/soak.sh [SECONDS [SEED [PROGRAM]]]   (a minute, and any seed, where none is given; proved and built, where no program is)
+# Usage: tests/soak.sh [SECONDS [SEED [PROGRAM]]]   (a minute, and any seed, if none is given; proved and built, if no program is)
 set -euo pipefail
 top=$(cd "$(dirname "$0")/.." && pwd)
 . "$top/scripts/program.sh"

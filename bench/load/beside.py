@@ -1,4 +1,4 @@
-"""Measures what statements cost beside others, through sockets. Called by bench/load.sh."""
+"""Measures what statements cost while others run, through sockets. Called by bench/load.sh."""
 
 import argparse
 import datetime
@@ -116,7 +116,7 @@ def side_by_side(first, second, text, times, rounds):
 
 
 def transactions(program, rows, changes, rounds):
-    """Statements in a transaction that has inserted, updated and deleted so many rows in all, beside the same ones outside."""
+    """Statements in a transaction that has inserted, updated and deleted so many rows in all, and the same ones outside."""
     part = f"In a transaction with {changes} changed rows of a table of {rows} on one shard, and outside:\n\n"
     part += "| statement | milliseconds outside | in the transaction | ratio |\n|---|---|---|---|\n"
     shown = (
@@ -145,7 +145,7 @@ def transactions(program, rows, changes, rounds):
 
 
 def beside_others(program, rows, others, rounds):
-    """Short reads of a large table on four shards, beside a point read, while other clients read points."""
+    """Short reads of a large table on four shards, and a point read, while other clients read points."""
     part = f"Short reads of {rows} rows on 4 shards while {others} other clients read single rows, and a read of one row:\n\n"
     part += "| statement | microseconds | of one row | ratio |\n|---|---|---|---|\n"
     shown = ("SELECT c FROM t LIMIT 10", "SELECT c FROM t WHERE id IN (5, 6)", "SELECT COUNT(*) FROM t WHERE id IN (5, 6, 7, 8)")

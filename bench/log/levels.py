@@ -1,4 +1,4 @@
-"""Measures the server with a log beside the same one without. Called by bench/log.sh."""
+"""Measures the server with a log and without. Called by bench/log.sh."""
 
 import argparse
 import datetime

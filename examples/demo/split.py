@@ -15,7 +15,7 @@ sys.path.insert(0, str(TOP / "tests" / "clients"))
 import packets  # noqa: E402
 
 WRITERS = 4
-# the first id of each writer is so far behind that of the one before
+# the first id of each writer is so far after that of the one before
 APART = 1_000_000
 # rows of an INSERT of the loading, and steps that are sent at once
 ROWS_AT_ONCE, STEPS_AT_ONCE = 2000, 500

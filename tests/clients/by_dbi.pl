@@ -1,5 +1,5 @@
 # Runs the statements on standard input, one a line, by Perl's DBI and a driver, MariaDB or mysql, and prints the outcome of each, with an
-# empty line behind it.
+# empty line after it.
 # Usage: by_dbi.pl DRIVER PORT USER PASSWORD DATABASE
 use strict;
 use warnings;

@@ -121,7 +121,7 @@ def outcome_of(lines):
 
 
 def outputs_of(typed, output):
-    """What stands behind the echo of each statement, by the statement's number."""
+    """What follows the echo of each statement, by the statement's number."""
     rule, found, at = "-" * 14, {}, 0
     for number, text in enumerate(typed, 1):
         echo = [rule, text, rule, ""]

@@ -29,7 +29,7 @@ def native(password, salt):
 
 
 def number_at(data, at):
-    """A length-encoded number and the place behind it, None for NULL."""
+    """A length-encoded number and the position after it, None for NULL."""
     first = data[at]
     if first < 251:
         return first, at + 1

@@ -58,7 +58,7 @@ def runs_the_list(program, library, steps, password, database):
 
 
 def refused_line(library, outcomes):
-    """What a login that fails has to be shown as, beside what is shown."""
+    """What a login that fails has to be shown as, with what is shown."""
     text = outcomes[0][0] if outcomes else ""
     return text.replace(" at line 0", "")
 
@@ -228,7 +228,7 @@ def greets(program):
 
 
 def refuses_packets(program):
-    """Refusals that no library asks for: each ends the connection, or not, behind its packet."""
+    """Refusals that no library asks for: each ends the connection, or not, after its packet."""
     with Router(program) as router:
         with packets.Client(router.address) as client:
             client.greeting()

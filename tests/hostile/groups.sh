@@ -1,7 +1,7 @@
 #!/usr/bin/env bash
 # GROUP BY over 40,000 texts, and over 20,000 rows of three texts, that a client chose so that they would have one hash, and over as many ordinary
 # ones: at most 1.5 times as long.
-# Usage: tests/hostile/groups.sh [PROGRAM]   (proved and built where none is given)
+# Usage: tests/hostile/groups.sh [PROGRAM]   (proved and built if none is given)
 set -euo pipefail
 top=$(cd "$(dirname "$0")/../.." && pwd)
 . "$top/scripts/program.sh"

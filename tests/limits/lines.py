@@ -38,7 +38,7 @@ def main():
     for number in (1, 2):
         line(f"b: UPDATE t SET c = {number} WHERE id = {number}", "ok 1")
     line("b: SELECT COUNT(*), SUM(c) FROM t", f"{EVEN + ODD}|3\nrows 1")
-    # the writes are followed where their rows are copied, and there is still no room for the next rows
+    # the writes are followed if their rows are copied, and there is still no room for the next rows
     line("! step", "ok followed")
     line("! cancel", "ok")
     line("! status", "serving -80 80- none")

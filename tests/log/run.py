@@ -214,7 +214,7 @@ def a_split(program):
 
 @case
 def a_cutover(program):
-    """The times of a cutover that sessions write beside, in order, and the statements that waited for it."""
+    """The times of a cutover while sessions write, in order, and the statements that waited for it."""
     server = Served(program, "info", workers=4, shards="-")
     goes_on = threading.Event()
     goes_on.set()
@@ -344,7 +344,7 @@ def places(program):
 
 @case
 def filling(program):
-    """A shard with more than 80 % of its rows is told once, by the minute."""
+    """A shard with more than 80 % of its rows is logged once, by the minute."""
     server = Served(program, "info", shards="-")
     with Client(server.address) as client:
         client.login(USER.encode(), b"", database=b"shop")

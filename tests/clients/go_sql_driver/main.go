@@ -1,4 +1,4 @@
-// Runs the statements on standard input, one a line, by go-sql-driver, and prints the outcome of each, with an empty line behind it.
+// Runs the statements on standard input, one a line, by go-sql-driver, and prints the outcome of each, with an empty line after it.
 // Usage: PROGRAM PORT USER PASSWORD DATABASE [OPTIONS]
 package main
 
