@@ -1,4 +1,4 @@
-//! What each admin line does to the workflow, and the reply that tells it.
+//! What each admin line does to the workflow, and the reply that says so.
 ghost use Rattle.std.specs.Prelude.{◌≡◌, IsTrue};
 ghost use Rattle.std.specs.List.{AllByRecursion};
 ghost use Rattle.keyrange.specs.Names.{IsNamed};

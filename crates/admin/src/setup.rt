@@ -49,7 +49,7 @@ fn idle_administrator<W: World, J: Naming>(
 
 // Promise: A router is opened with the administrator of its sharded keyspace, which has no workflow and the slots that no shard has
 /// The engine over a VSchema and the ranges of its sharded keyspace, whose tables are empty, in the journal that was opened; the
-/// administrator of its sharded keyspace, which has no workflow and the slots that none of the shards stands on; the opener of its sessions,
+/// administrator of its sharded keyspace, which has no workflow and the slots that none of the shards is on; the opener of its sessions,
 /// and a first pass, which has seen nothing. Each shard has these limits, and so many statements may wait in its buffer. It refuses only for
 /// want of memory. The clauses tie the VSchema, the ranges, the limits and the journal to the world, so that they are handed over one by one.
 pub fn administered_router<W: World + Send + Sync, J: Naming + Send + Sync, G: Gate>(

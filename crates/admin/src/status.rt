@@ -25,7 +25,7 @@ fn put_range(alloc: Global, out: &mut Vec<u8>, range: &KeyRange) -> Result<(), R
     Ok(())
 }
 
-// The line that tells the ranges and the stage.
+// The line that has the ranges and the stage.
 fn status_line(alloc: Global, serving: &[KeyRange], stage: Stage) -> Result<Vec<u8>, Refusal>
     ensures ok { IfOk result (λ line. line.items ≡ status_text serving.now stage) }
     ensures err { IfErr result (λ e. e ≡ Refusal.OutOfMemory) }
@@ -111,7 +111,7 @@ fn keyspace_line<W: World, J: Naming>(
     Ok(Items::from_vec(line))
 }
 
-/// Tells the status of a keyspace. Takes memory for its line.
+/// Answers with the status of a keyspace. Takes memory for its line.
 pub(crate) fn status<W: World, J: Naming>(
     alloc: Global,
     workflow: &Workflow<W, J>,
@@ -126,7 +126,7 @@ pub(crate) fn status<W: World, J: Naming>(
     }
 }
 
-/// Tells the status if there is no sharded keyspace.
+/// Answers with the status if there is no sharded keyspace.
 pub(crate) fn empty_status(alloc: Global) -> AdminReply
     ensures { IsAnsweredWithout (codes "status") result }
 {

@@ -62,7 +62,7 @@ impl ColumnPart {
         }
     }
 
-    /// Joins the part that stands in a row. Refuses only for want of memory.
+    /// Joins the part that is in a row. Refuses only for want of memory.
     pub fn add(&mut self, alloc: Global, value: &Value) -> Result<(), Refusal>
         requires { CanHold (with_value self.old value.now) }
         ensures ok { OnOk result (self.new ≡ with_value self.old value.now) }
@@ -115,7 +115,7 @@ pub fn empty_parts(alloc: Global, aggregates: &[Item<usize>]) -> Result<Vec<Colu
     Ok(parts)
 }
 
-/// Joins the parts that stand in a row after its group's values. Refuses only for want of memory.
+/// Joins the parts that are in a row after its group's values. Refuses only for want of memory.
 pub fn add_values(
     alloc: Global,
     parts: &mut Vec<ColumnPart>,

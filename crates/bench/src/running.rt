@@ -1,4 +1,4 @@
-//! Runs lines over a router, and tells what each gave.
+//! Runs lines over a router, and prints what each gave.
 use crate::entries::run_entries;
 use crate::line::{Line, Measured};
 use crate::sessions::run_sessions;
@@ -25,7 +25,7 @@ pub struct Router<'r, W: World, J: Naming> {
     pub ranges: &'r [KeyRange],
 }
 
-// Tells what a line gave.
+// Prints what a line gave.
 fn put_given(told: &mut CaseAnswer, name: &str, given: Result<u64, Refusal>) {
     told.put(name);
     match given {
@@ -73,7 +73,7 @@ impl<W: World + Send + Sync, J: Naming + Send + Sync> Router<'_, W, J> {
         }
     }
 
-    // Tells what a line gives.
+    // Prints what a line gives.
     fn run_line<R: Threads + Wait + Clock + Eprint + Sync>(
         &mut self,
         rt: &R,
@@ -89,7 +89,7 @@ impl<W: World + Send + Sync, J: Naming + Send + Sync> Router<'_, W, J> {
         Ok(())
     }
 
-    /// Runs the lines of a text, between which tabs stand, one after the other.
+    /// Runs the lines of a text, with tabs between them, one after the other.
     pub fn run_lines<R: Threads + Wait + Clock + Eprint + Sync>(
         &mut self,
         rt: &R,

@@ -20,7 +20,7 @@ struct Session<'e, W: World, J: Naming> {
     ghost known: { IsSome pass.session },
 }
 
-// How many rows an answer gives or tells of.
+// How many rows an answer has or counts.
 fn amount(answer: &Answer) -> u64 {
     match answer {
         Answer::Rows(selected) => selected.rows.len() as u64,

@@ -90,7 +90,7 @@ modes_text_at ts = string_at ts >>= λ x. if are_held_modes x.0 then Some x.1 el
 abbrev pub is_session : List ℕ → Bool
 is_session name = same_in_any_case name (codes "session") || same_in_any_case name (codes "local")
 
--- the variable after its scope, if what stands before a dot is one
+-- the variable after its scope, if what comes before a dot is one
 unfoldable pub scoped_at : List ℕ → Lexemes → ReadOf (List ℕ)
 scoped_at first (mark Dot ∷ rest) = if is_session first then identifier_at rest else None
 scoped_at first ts = Some (first, ts)
@@ -249,7 +249,7 @@ from_at (bare (Some k.From) w ∷ rest) = identifier_at rest >>= λ x. Some (Som
 from_at (bare (Some k.In) w ∷ rest) = identifier_at rest >>= λ x. Some (Some x.0, x.1)
 from_at ts = Some (None, ts)
 
--- what stands after a name: the table, if the name is its keyspace's
+-- what comes after a name: the table, if the name is its keyspace's
 unfoldable pub qualified_at : List ℕ → Lexemes → ReadOf TableName
 qualified_at first (mark Dot ∷ rest) = identifier_at rest >>= λ x. Some (record { keyspace = Some first; table = x.0 }, x.1)
 qualified_at first ts = Some (record { keyspace = None; table = first }, ts)
@@ -368,7 +368,7 @@ abbrev pub token_end : Option Token → ℕ
 token_end None = 0
 token_end (Some t) = t.end
 
--- the text of the first tokens, so many, as it stands
+-- the text of the first tokens, so many, as it is
 unfoldable pub text_of_first : List ℕ → List Token → ℕ → List ℕ
 text_of_first whole tokens n = slice_range whole (start_of (slice_get tokens 0)) (token_end (slice_get tokens (n - 1)))
 
@@ -401,7 +401,7 @@ items_at (suc n) whole front tokens = elim (item_at whole tokens) [
 
 -- ---- statements
 
--- what was read, if nothing stands after it
+-- what was read, if nothing comes after it
 unfoldable pub finished : ReadOf ClientStatement → Option ClientStatement
 finished None = None
 finished (Some x) = elim x.1 [ [] ↦ Some x.0 | t ∷ ts ↦ None ]

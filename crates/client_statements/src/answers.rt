@@ -24,7 +24,7 @@ pub struct Facts {
     pub keyspace: Option<usize>,
     /// The number of the connection.
     pub connection: u32,
-    /// The user, as USER() tells it: `name@host`.
+    /// The user, as USER() shows it: `name@host`.
     pub user: Name,
     /// Whether a statement outside a transaction commits by itself.
     pub autocommit: bool,

@@ -27,7 +27,7 @@ fn varbinary(alloc: Global, most: u8) -> Result<Name, AllocError>
     Ok(Items::from_vec(name))
 }
 
-/// The type of a column, as MySQL tells it.
+/// The type of a column, as MySQL shows it.
 fn type_text(alloc: Global, kind: ColumnType) -> Result<Name, AllocError>
     ensures { IfOk result (λ n. n ≡ type_text kind) }
 {

@@ -48,7 +48,7 @@ fn push_byte(found: &mut Vec<Piece>, byte: u8, rest: &[u8]) -> Result<(), AllocE
     Ok(())
 }
 
-/// Puts the first part of a pattern, unless it is left out, and gives what stands after it.
+/// Puts the first part of a pattern, unless it is left out, and gives what comes after it.
 fn push_piece<'s>(found: &mut Vec<Piece>, pattern: &'s [u8]) -> Result<&'s [u8], AllocError>
     ensures same { IfOk result (λ rest. FitSame (found.new.items ++ pieces rest.now) (found.old.items ++ pieces pattern.now)) }
     ensures shorter { IfOk result (λ rest. 0 < length pattern.now → length rest.now < length pattern.now) }

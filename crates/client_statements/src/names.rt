@@ -46,7 +46,7 @@ pub fn string<'s>(
     }
 }
 
-/// What stands after a word, a name, a number or a text.
+/// What comes after a word, a name, a number or a text.
 #[tactic(auto, unfolding(crate::specs::Grammar::any_at))]
 pub fn any(tokens: &[Token]) -> Result<&[Token], Refusal>
     ensures { (text : List ℕ) → AgreesWith (λ x. lexemes_of text x.now) result (any_at (lexemes_of text tokens.now)) }
@@ -60,7 +60,7 @@ pub fn any(tokens: &[Token]) -> Result<&[Token], Refusal>
     }
 }
 
-/// What stands after a sign `=`.
+/// What comes after a sign `=`.
 #[tactic(auto, unfolding(crate::specs::Grammar::equals_at))]
 pub fn equals(tokens: &[Token]) -> Result<&[Token], Refusal>
     ensures { (text : List ℕ) → AgreesWith (λ x. lexemes_of text x.now) result (equals_at (lexemes_of text tokens.now)) }
@@ -71,7 +71,7 @@ pub fn equals(tokens: &[Token]) -> Result<&[Token], Refusal>
     }
 }
 
-/// What stands after a comma.
+/// What comes after a comma.
 #[tactic(auto, unfolding(crate::specs::Grammar::comma_at))]
 pub fn comma(tokens: &[Token]) -> Result<&[Token], Refusal>
     ensures { (text : List ℕ) → AgreesWith (λ x. lexemes_of text x.now) result (comma_at (lexemes_of text tokens.now)) }
@@ -82,7 +82,7 @@ pub fn comma(tokens: &[Token]) -> Result<&[Token], Refusal>
     }
 }
 
-/// What stands after an opening parenthesis.
+/// What comes after an opening parenthesis.
 #[tactic(auto, unfolding(crate::specs::Grammar::open_at))]
 pub fn open(tokens: &[Token]) -> Result<&[Token], Refusal>
     ensures { (text : List ℕ) → AgreesWith (λ x. lexemes_of text x.now) result (open_at (lexemes_of text tokens.now)) }
@@ -93,7 +93,7 @@ pub fn open(tokens: &[Token]) -> Result<&[Token], Refusal>
     }
 }
 
-/// What stands after a closing parenthesis.
+/// What comes after a closing parenthesis.
 #[tactic(auto, unfolding(crate::specs::Grammar::close_at))]
 pub fn close(tokens: &[Token]) -> Result<&[Token], Refusal>
     ensures { (text : List ℕ) → AgreesWith (λ x. lexemes_of text x.now) result (close_at (lexemes_of text tokens.now)) }
@@ -104,7 +104,7 @@ pub fn close(tokens: &[Token]) -> Result<&[Token], Refusal>
     }
 }
 
-/// LIKE and a pattern, if it stands there.
+/// LIKE and a pattern, if it is there.
 #[tactic(auto, unfolding(crate::specs::Grammar::like_at))]
 pub fn like<'s>(
     alloc: Global,

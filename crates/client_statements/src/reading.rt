@@ -16,7 +16,7 @@ use client_tokens::{Token, lex};
 use std::alloc::{AllocError, Global};
 use vt_value::Refusal;
 
-/// What was read, if nothing stands after it.
+/// What was read, if nothing comes after it.
 #[tactic(auto, unfolding(crate::specs::Grammar::finished))]
 fn finished(statement: ClientStatement, rest: &[Token]) -> Result<ClientStatement, Refusal>
     ensures { (text : List ℕ) → AgreesWith (λ x. x) result (finished (Some (statement, lexemes_of text rest.now))) }

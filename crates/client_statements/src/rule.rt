@@ -61,7 +61,7 @@ fn is_held_mode(mode: &[u8]) -> bool
     mode.is_empty() || is_mode(mode)
 }
 
-/// How many bytes stand before the first comma.
+/// How many bytes come before the first comma.
 fn part_len(text: &[u8]) -> usize
     ensures value { result ≡ run (λ b. not (b == 0x2C)) text.now }
     ensures within { result ≤ length text.now }

@@ -58,7 +58,7 @@ fn scoped(scope: Name, name: Name) -> Result<(NamedValue, usize), Refusal>
     }
 }
 
-/// A value that is asked for, and how many tokens tell it.
+/// A value that is asked for, and how many tokens it takes.
 #[tactic(auto, unfolding(crate::specs::Grammar::asked_at))]
 fn asked(alloc: Global, text: &[u8], tokens: &[Token]) -> Result<(NamedValue, usize), Refusal>
     ensures { AgreesWith (λ x. x) result (asked_at (lexemes_of text.now tokens.now)) }
@@ -114,7 +114,7 @@ fn alias_of(alloc: Global, text: &[u8], token: &Token) -> Result<Name, Refusal>
     }
 }
 
-/// An alias, if AS stands there, and how many tokens tell it.
+/// An alias, if AS is there, and how many tokens it takes.
 #[tactic(auto, unfolding(crate::specs::Grammar::alias_at))]
 fn alias(alloc: Global, text: &[u8], tokens: &[Token]) -> Result<(Option<Name>, usize), Refusal>
     ensures { AgreesWith (λ x. x) result (alias_at (lexemes_of text.now tokens.now)) }
@@ -137,7 +137,7 @@ fn after(tokens: &[Token], count: usize) -> &[Token]
     &tokens[count..]
 }
 
-/// The text of the first tokens, as it stands.
+/// The text of the first tokens, as it is.
 #[tactic(auto, unfolding(crate::specs::Grammar::text_of_first))]
 fn text_of_first<'s>(text: &'s [u8], tokens: &[Token], count: usize) -> &'s [u8]
     ensures { result.now ≡ text_of_first text.now tokens.now count }

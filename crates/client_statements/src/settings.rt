@@ -92,7 +92,7 @@ fn system<'s>(
     }
 }
 
-/// The variable after its scope, if what stands before a dot is one.
+/// The variable after its scope, if what comes before a dot is one.
 #[tactic(auto, unfolding(crate::specs::Grammar::scoped_at))]
 fn scoped<'s>(
     alloc: Global,

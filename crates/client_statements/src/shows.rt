@@ -107,7 +107,7 @@ fn from<'s>(
     }
 }
 
-/// The table after its keyspace, if what stands before a dot is one.
+/// The table after its keyspace, if what comes before a dot is one.
 #[tactic(auto, unfolding(crate::specs::Grammar::qualified_at))]
 fn qualified<'s>(
     alloc: Global,
@@ -268,7 +268,7 @@ fn variables<'s>(
     }
 }
 
-/// What stands after SHOW.
+/// What comes after SHOW.
 #[tactic(auto, unfolding(crate::specs::Grammar::show_at))]
 pub fn show<'s>(
     alloc: Global,

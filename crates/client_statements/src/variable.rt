@@ -129,7 +129,7 @@ pub fn variable_name(variable: Variable) -> &'static str
     }
 }
 
-/// What SELECT tells of a variable.
+/// What SELECT shows of a variable.
 pub fn variable_value(variable: Variable, autocommit: bool) -> &'static str
     ensures { result.now ≡ variable_value variable autocommit }
 {
@@ -169,7 +169,7 @@ pub fn variable_value(variable: Variable, autocommit: bool) -> &'static str
     }
 }
 
-/// What SHOW VARIABLES tells of a variable: a switch as ON or OFF.
+/// What SHOW VARIABLES shows of a variable: a switch as ON or OFF.
 pub fn shown_variable(variable: Variable, autocommit: bool) -> &'static str
     ensures { result.now ≡ shown_variable variable autocommit }
 {

@@ -66,7 +66,7 @@ pub data IsPiece : List ℕ → List ℕ → Option TokenKind → Type 0 where
   sign : {rest : List ℕ} (s : S.Sign) → IsPiece (sign_text s) rest (Some (Sign s))
   assigns : {rest : List ℕ} → IsPiece (codes ":=") rest (Some (Sign Equal))
 
--- what stands between the quotes: a pair of quotes says one
+-- what comes between the quotes: a pair of quotes says one
 abbrev pub unquoted : ℕ → List ℕ → List ℕ
 unquoted quote [] = []
 unquoted quote (b ∷ []) = b ∷ []

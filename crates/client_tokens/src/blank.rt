@@ -13,7 +13,7 @@ fn closes(byte: u8, after: &[u8]) -> bool
     byte == b'*' && begins_with(after, b'/')
 }
 
-/// How many bytes stand up to the first `*/`, it included.
+/// How many bytes there are up to the first `*/`, it included.
 #[tactic(auto, unfolding(crate::specs::inner::Scanning::remark_len))]
 fn remark_len(bytes: &[u8]) -> Option<usize>
     ensures value { result ≡ remark_len bytes.now }

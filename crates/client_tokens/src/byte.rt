@@ -39,7 +39,7 @@ fn is_word_byte(byte: u8) -> bool
     is_letter(byte) || is_digit(byte)
 }
 
-/// Whether this byte stands at the front.
+/// Whether this byte is at the front.
 pub fn begins_with(bytes: &[u8], wanted: u8) -> bool
     ensures { result ≡ first_passes (λ b. b == wanted) bytes.now }
 {
@@ -49,7 +49,7 @@ pub fn begins_with(bytes: &[u8], wanted: u8) -> bool
     }
 }
 
-/// Whether a letter or `_` stands at the front.
+/// Whether a letter or `_` is at the front.
 pub fn begins_letter(bytes: &[u8]) -> bool
     ensures { result ≡ first_passes is_letter bytes.now }
 {
@@ -59,7 +59,7 @@ pub fn begins_letter(bytes: &[u8]) -> bool
     }
 }
 
-/// Whether a byte of a word stands at the front.
+/// Whether a byte of a word is at the front.
 pub fn begins_word_byte(bytes: &[u8]) -> bool
     ensures { result ≡ first_passes is_word_byte bytes.now }
 {
@@ -69,7 +69,7 @@ pub fn begins_word_byte(bytes: &[u8]) -> bool
     }
 }
 
-/// Whether something other than a blank stands at the front.
+/// Whether something other than a blank is at the front.
 pub fn begins_no_blank(bytes: &[u8]) -> bool
     ensures { result ≡ first_passes (λ b. not (is_blank b)) bytes.now }
 {
@@ -79,7 +79,7 @@ pub fn begins_no_blank(bytes: &[u8]) -> bool
     }
 }
 
-/// How many bytes of a word stand at the front.
+/// How many bytes of a word are at the front.
 pub fn word_len(bytes: &[u8]) -> usize
     ensures value { result ≡ run is_word_byte bytes.now }
     ensures within { result ≤ length bytes.now }
@@ -94,7 +94,7 @@ pub fn word_len(bytes: &[u8]) -> usize
     count
 }
 
-/// How many digits stand at the front.
+/// How many digits are at the front.
 pub fn number_len(bytes: &[u8]) -> usize
     ensures value { result ≡ run is_digit bytes.now }
     ensures within { result ≤ length bytes.now }
@@ -109,7 +109,7 @@ pub fn number_len(bytes: &[u8]) -> usize
     count
 }
 
-/// How many bytes stand before the next backquote.
+/// How many bytes come before the next backquote.
 pub fn name_len(bytes: &[u8]) -> usize
     ensures value { result ≡ run in_name bytes.now }
     ensures within { result ≤ length bytes.now }
@@ -124,7 +124,7 @@ pub fn name_len(bytes: &[u8]) -> usize
     count
 }
 
-/// How many bytes stand before the end of the line.
+/// How many bytes come before the end of the line.
 pub fn line_len(bytes: &[u8]) -> usize
     ensures value { result ≡ run in_line bytes.now }
     ensures within { result ≤ length bytes.now }

@@ -1,4 +1,4 @@
-//! Cuts what a client says into tokens, one at a time from the front. Each kind of token has a function, which tells how many bytes it takes.
+//! Cuts what a client says into tokens, one at a time from the front. Each kind of token has a function, which returns how many bytes it takes.
 ghost use Rattle.std.specs.Prelude.{◌≡◌, ◌++◌, [], ℕ, List, OnOk, IfOk, IfSome, Some, length, option_map};
 ghost use Rattle.client_tokens.specs.declared.token.Token.{Token};
 ghost use Rattle.client_tokens.specs.Tokens.{HasTokens, onto_tokens};
@@ -42,7 +42,7 @@ fn text(quote: u8, after: &[u8]) -> Option<Front>
     Some((Some(TokenKind::Text), length + 1))
 }
 
-/// Whether a backquote stands at the front, and no second one after it.
+/// Whether a backquote is at the front, and no second one after it.
 fn is_name_before(rest: &[u8]) -> bool
     ensures { result ≡ is_name_before rest.now }
 {
@@ -134,7 +134,7 @@ fn word(rest: &[u8]) -> Option<Front>
     Some((Some(TokenKind::Word(keyword)), length))
 }
 
-/// What stands at the front.
+/// What is at the front.
 #[tactic(auto, unfolding(crate::specs::inner::Scanning::piece_at))]
 fn piece(rest: &[u8]) -> Option<Front>
     ensures { result ≡ piece_at rest.now }

@@ -56,7 +56,7 @@ fn push_escaped(said: &mut Vec<u8>, byte: u8) -> Result<(), AllocError>
     Ok(())
 }
 
-/// Puts what the first part of a body says, and gives what stands after it.
+/// Puts what the first part of a body says, and gives what comes after it.
 fn push_part<'s>(said: &mut Vec<u8>, quote: u8, body: &'s [u8]) -> Result<&'s [u8], AllocError>
     ensures same { IfOk result (λ rest. said.new.items ++ unquoted quote rest.now ≡ said.old.items ++ unquoted quote body.now) }
     ensures shorter { IfOk result (λ rest. 0 < length body.now → length rest.now < length body.now) }
@@ -101,7 +101,7 @@ fn text_said(alloc: Global, bytes: &[u8]) -> Result<Items<u8>, AllocError>
 }
 
 // Promise: What a token says is its bytes, without quotes and `@@`, and with the escapes of a text resolved
-/// What a token of the text says: a word's and a number's bytes, what stands between the quotes of a name and of a text, where a
+/// What a token of the text says: a word's and a number's bytes, what comes between the quotes of a name and of a text, where a
 /// backslash escapes, and the word after `@@`. A sign says nothing.
 pub fn said(alloc: Global, text: &[u8], token: &Token) -> Result<Items<u8>, AllocError>
     ensures { IfOk result (λ said. said ≡ said_by token.now.kind (slice_range text.now token.now.start token.now.end)) }

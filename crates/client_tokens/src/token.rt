@@ -1,6 +1,6 @@
 //! Tokens of what a client says. They borrow nothing: a token has its kind, and where it begins and ends.
 
-/// A word that the grammar of client statements names; it stands in a text in any case.
+/// A word that the grammar of client statements names; a text has it in any case.
 #[derive(Clone, Copy, Debug, PartialEq, Eq)]
 pub enum Keyword {
     As,
@@ -69,7 +69,7 @@ pub enum Sign {
     Semicolon,
 }
 
-/// What a token is; what it says stands in its bytes.
+/// What a token is; what it says is in its bytes.
 #[derive(Clone, Copy, Debug, PartialEq, Eq)]
 pub enum TokenKind {
     /// A bare word, and which keyword it is.
@@ -85,7 +85,7 @@ pub enum TokenKind {
     Sign(Sign),
 }
 
-/// A token, whose bytes stand in its text from `start` up to `end`.
+/// A token, whose bytes are in its text from `start` up to `end`.
 #[derive(Clone, Copy, Debug, PartialEq, Eq)]
 pub struct Token {
     pub kind: TokenKind,

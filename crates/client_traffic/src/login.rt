@@ -33,7 +33,7 @@ impl LoginBytes {
         }
     }
 
-    /// What the first packet tells, if it can be read.
+    /// What the first packet says, if it can be read.
     pub fn response(&self) -> Option<Response<'_>> {
         let kept = self.bytes.get(..self.len)?;
         let (head, payload) = kept.split_at_checked(HEAD)?;

@@ -14,7 +14,7 @@ const CODE: usize = 5;
 
 const MESSAGE: usize = 13;
 
-/// The error code that a packet tells, if it tells one.
+/// The error code that a packet has, if it has one.
 pub(crate) fn error_code(packet: &[u8]) -> Option<u64> {
     if packet.get(PAYLOAD) != Some(&0xFF) {
         return None;
@@ -24,12 +24,12 @@ pub(crate) fn error_code(packet: &[u8]) -> Option<u64> {
     Some(u64::from(high) * 256 + u64::from(low))
 }
 
-/// Whether a packet tells this refusal: several have one code, and each has a message of its own.
+/// Whether a packet has this refusal: several have one code, and each has a message of its own.
 fn tells(refusal: Refusal, code: u64, message: &[u8]) -> bool {
     u64::from(refusal.code()) == code && refusal.message().as_bytes() == message
 }
 
-/// The refusal that a packet tells, if it tells one.
+/// The refusal that a packet has, if it has one.
 pub(crate) fn told_refusal(packet: &[u8]) -> Option<Refusal> {
     let code = error_code(packet)?;
     let message = packet.get(MESSAGE..)?;

@@ -23,7 +23,7 @@ takes_commands Response = false
 takes_commands (Switch login) = false
 takes_commands (Commands settings) = true
 
--- and how the session stands so
+-- the session is in the phase of commands
 abbrev pub is_in_commands : ConnectionState → Bool
 is_in_commands New = false
 is_in_commands (At phase) = takes_commands phase

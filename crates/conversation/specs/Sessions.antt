@@ -31,7 +31,7 @@ pub record HasTalked {S : Type 0} (context : SessionContext S) (May : S → List
   pub read : HasFramed s.framing bytes payloads
   pub replies : Conversation context May begin first payloads out s.connection_state now
 
--- What is written for the payloads and the fault that a piece gave, and how the session then stands.
+-- What is written for the payloads and the fault that a piece gave, and the session's state after it.
 pub data AnswersFed {S : Type 0} (context : SessionContext S) (May : S → List ℕ → Outcome → S → Type 0) (begin : ConnectionState) (first : S) (fed : Fed) : List ℕ → ConnectionState → S → Type 0 where
   ended : {out : List ℕ} {end : End} {now : S} → Conversation context May begin first fed.payloads out (Ended end) now
       → AnswersFed context May begin first fed out (Ended end) now

@@ -28,7 +28,7 @@ use Rattle.conversation.specs.Logins.{LogsIn, keyspace_named}
 abbrev pub set_end_of : ℕ → SetEnd
 set_end_of bits = if is_set deprecate_eof bits then OkPacket else EofPackets
 
--- What is written for one payload in a phase, and how the session then stands. A payload whose first number is another than the phase
+-- What is written for one payload in a phase, and the session's state after it. A payload whose first number is another than the phase
 -- begins with is out of order, which ends the session, as COM_QUIT does. A client may use each keyspace, which changes no answer. A query has
 -- an outcome that its text may give, and that leads from what the session had seen to what it then has seen. COM_RESET_CONNECTION drops an
 -- open transaction and what was set. Texts of several statements are never taken.

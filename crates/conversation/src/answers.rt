@@ -64,7 +64,7 @@ fn write_reply<S: Sink>(
     }
 }
 
-/// Writes what is written for one payload, once it is known whole, and tells how the session then stands.
+/// Writes what is written for one payload, once it is known whole, and returns the session's state after it.
 fn answer<W: World + Send + Sync, J: Naming + Send + Sync, G: Gate, S: Sink>(
     rt: &(impl Threads + Wait + Sync),
     alloc: Global,
@@ -167,7 +167,7 @@ fn answer_fault<S: Sink>(
     sink.write(reply.as_slice())
 }
 
-/// Writes the greeting, if the session is new, and tells what the session awaits then.
+/// Writes the greeting, if the session is new, and returns what the session awaits then.
 fn greet<S: Sink>(
     handshake: &Handshake,
     begin: ConnectionState,

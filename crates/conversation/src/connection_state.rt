@@ -58,7 +58,7 @@ pub enum Phase {
     Commands(Settings),
 }
 
-/// How a session stands: nothing is written yet, it goes on, or it has ended.
+/// The session's state: nothing is written yet, it goes on, or it has ended.
 #[derive(Clone, Copy, Debug, PartialEq, Eq)]
 pub enum ConnectionState {
     New,

@@ -19,7 +19,7 @@ pub trait Source {
     // How often it has failed, modulo 2^64.
     ghost failures: { Self → ℕ };
 
-    /// Reads some of the next bytes to the front of the buffer, and tells how many: none only at the end of the input. If it
+    /// Reads some of the next bytes to the front of the buffer, and returns how many: none only at the end of the input. If it
     /// fails it has read none.
     fn read(&mut self, buffer: &mut [u8]) -> Result<usize, DeviceFailed>
         ensures bound { ReadsAtMost result buffer.new }
@@ -78,7 +78,7 @@ impl<W: io::Write> Writer<W> {
     }
 }
 
-/// Reads some of the next bytes to the front of the buffer, and tells how many. A read that was interrupted has read none, and is made
+/// Reads some of the next bytes to the front of the buffer, and returns how many. A read that was interrupted has read none, and is made
 /// again.
 #[tactic(auto, using(crate::proofs::Readings::kept_read))]
 fn read_some<R: io::Read>(reader: &mut R, buffer: &mut [u8]) -> Result<usize, DeviceFailed>
@@ -116,7 +116,7 @@ impl<R: io::Read> Source for Reader<R> {
     }
 }
 
-/// Writes some of the bytes, or none if the write was interrupted, and tells how many.
+/// Writes some of the bytes, or none if the write was interrupted, and returns how many.
 #[tactic(auto, using(crate::proofs::Written::none_appended, crate::proofs::Written::none_kept))]
 fn write_some<W: io::Write>(writer: &mut W, bytes: &[u8]) -> Result<usize, DeviceFailed>
     ensures bound { WritesAtMost result bytes.now }

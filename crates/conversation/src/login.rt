@@ -118,7 +118,7 @@ fn ask_again(number: u8, handshake: &Handshake, reply: &mut BytesMut)
     let _ = put_auth_switch(number, &handshake.salt, reply).unwrap();
 }
 
-/// What is written for the client's response to the greeting, and how the session then stands.
+/// What is written for the client's response to the greeting, and the session's state after it.
 pub fn put_response(
     handshake: &Handshake,
     schema: &VSchema,
@@ -150,7 +150,7 @@ pub fn put_response(
     }
 }
 
-/// What is written for the client's answer to the request to switch, and how the session then stands.
+/// What is written for the client's answer to the request to switch, and the session's state after it.
 pub fn put_answer(
     handshake: &Handshake,
     login: PendingLogin,

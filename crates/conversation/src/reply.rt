@@ -1,4 +1,4 @@
-//! The reply to a statement: what its text gives its client, and the packets that tell it.
+//! The reply to a statement: what its text gives its client, and the packets that carry it.
 ghost use Rattle.std.specs.Prelude.{◌≡◌, ℕ, ◌+◌, ◌≤◌, ◌⊎◌, true, false, [], length, Some, None, is_some, IsSome, IfOk, IfErr, Option};
 ghost use Rattle.std.specs.List.{concat};
 ghost use Rattle.shard_calls.specs.Pendings.{IsOf};
@@ -176,7 +176,7 @@ fn put_outcome(
     }
 }
 
-/// The reply to the name of a keyspace, and how the session then stands: an OK, and it is in use; or that there is none of that name.
+/// The reply to the name of a keyspace, and the session's state after it: an OK, and it is in use; or that there is none of that name.
 fn put_selected(
     schema: &VSchema,
     settings: Settings,
@@ -251,7 +251,7 @@ fn put_option(several: bool, end: SetEnd, number: u8, status: u16, reply: &mut B
     }
 }
 
-/// The reply to a query, and how the session then stands.
+/// The reply to a query, and the session's state after it.
 fn put_query<W: World + Send + Sync, J: Naming + Send + Sync, G: Gate>(
     rt: &(impl Threads + Wait + Sync),
     alloc: Global,
@@ -282,7 +282,7 @@ fn put_query<W: World + Send + Sync, J: Naming + Send + Sync, G: Gate>(
     (ConnectionState::At(Phase::Commands(then)), rows)
 }
 
-/// The reply to a command whose numbers are right, and how the session then stands. A reply of rows lies in chunks, each other in the buffer.
+/// The reply to a command whose numbers are right, and the session's state after it. A reply of rows lies in chunks, each other in the buffer.
 fn put_command<W: World + Send + Sync, J: Naming + Send + Sync, G: Gate>(
     rt: &(impl Threads + Wait + Sync),
     alloc: Global,
@@ -344,7 +344,7 @@ fn put_command<W: World + Send + Sync, J: Naming + Send + Sync, G: Gate>(
     }
 }
 
-/// What is written for one payload in the phase, and how the session then stands. A reply of rows lies in chunks, each other in the buffer.
+/// What is written for one payload in the phase, and the session's state after it. A reply of rows lies in chunks, each other in the buffer.
 pub fn put_reply<W: World + Send + Sync, J: Naming + Send + Sync, G: Gate>(
     rt: &(impl Threads + Wait + Sync),
     alloc: Global,

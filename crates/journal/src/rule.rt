@@ -1,11 +1,11 @@
-//! The rule of the shared words: what each step may do to them, and what it tells the seat that takes it. These types stand in proofs alone;
+//! The rule of the shared words: what each step may do to them, and what it tells the seat that takes it. These types are in proofs alone;
 //! they are what the kit's table of atomic words is proved with.
 use crate::law::Law;
 use atomic_table::{Join, Play, Split, TableRule};
 use std::collections::LinkedList;
 use std::marker::PhantomData;
 
-/// What a seat at the table knows. No value of it is made: it stands in the proofs alone.
+/// What a seat at the table knows. No value of it is made: it is in the proofs alone.
 pub struct View<E> {
     pub seen: LinkedList<E>,
     // A prefix of the run, which another seat has seen.

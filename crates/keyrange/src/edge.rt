@@ -45,7 +45,7 @@ impl Eq for Edge {
 }
 
 impl Edge {
-    /// The edge without bytes, which stands before every other.
+    /// The edge without bytes, which comes before every other.
     pub fn empty() -> Edge
         ensures { result ≡ [] }
     {

@@ -10,7 +10,7 @@ pub use edge::Edge;
 pub use names::one_range;
 pub use ranges::covers_once;
 
-/// A range of keyspace ids, from its begin to before its end. An empty begin stands before every id, and without an end
+/// A range of keyspace ids, from its begin to before its end. An empty begin comes before every id, and without an end
 /// the range has no bound above.
 #[derive(Clone, Copy, Debug, PartialEq, Eq)]
 pub struct KeyRange {

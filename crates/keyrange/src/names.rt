@@ -52,7 +52,7 @@ impl KeyRange {
     // Promise: A text names one range at most; it is read exactly when it names one, and what a range prints is its name
     // With: KeyRange::fmt, Edge::fmt, one_range
     /// The range that has this text as its name, as `40-80`, `-80` or `-`: an edge has up to 16 lower-case hexadecimal
-    /// digits, two a byte, and doesn't end in `00`; an end stands after the begin. `None` if no range has that name.
+    /// digits, two a byte, and doesn't end in `00`; an end comes after the begin. `None` if no range has that name.
     /// It takes no memory, and gives back the range of which `Display` wrote the name.
     pub fn read(text: &str) -> Option<KeyRange>
         ensures found { IfSome result (λ range. IsNameOf text.now range) }

@@ -21,7 +21,7 @@ const ERR: u8 = 0xFF;
 /// What answers COM_STATISTICS.
 const STATISTICS: &[u8] = b"8.0.0-router";
 
-/// What stands before the SQL state.
+/// What comes before the SQL state.
 const STATE_MARKER: u8 = b'#';
 
 /// More than the payload of an OK, an EOF or an ERR packet takes.

@@ -1,6 +1,6 @@
 //! Takes whole payloads off the front of some bytes. A payload of 2^24 - 1 bytes or more comes in several packets, which are joined.
 
-// What stands at the front of a stream: less than a payload, a header that is refused, or a whole payload.
+// What is at the front of a stream: less than a payload, a header that is refused, or a whole payload.
 ghost use Rattle.std.specs.Prelude.{◌≡◌, [], ◌∷◌, ◌+◌, ◌*◌, ◌%◌, ◌^◌, ◌<◌, ◌≤◌, length, take, drop, IfOk};
 ghost use Rattle.mysql_packet.specs.Frames.{full, header_fault};
 ghost use Rattle.mysql_packet.specs.Numbers.{little_endian};
@@ -11,7 +11,7 @@ use crate::payload::{FULL_PART, HEADER_LEN};
 use std::alloc::{AllocError, Global};
 use vt_value::{Items, Refusal};
 
-/// What stands at the front.
+/// What is at the front.
 #[derive(Drop)]
 pub(crate) enum Front {
     /// Less than a payload.

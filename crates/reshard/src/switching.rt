@@ -146,7 +146,7 @@ impl<W: World, J: Naming> Workflow<W, J> {
     // their sources, as a step does that finds all level, or at sources that are retired; and the others look nowhere. The first source
     // retires only if the workflow has frozen all, and the step found each target level, and then with no more rows than a shard that serves
     // may have
-    /// Takes the next step of the cutover, and tells which: the next source is frozen; once all are, the first target moves that isn't level,
+    /// Takes the next step of the cutover, and returns which: the next source is frozen; once all are, the first target moves that isn't level,
     /// else the next source is retired; then the targets serve, the next partition is published, and the statements that waited go on.
     /// Refuses if no targets follow and no cutover has begun. For want of memory, and if a shard would have more rows or entries than
     /// it may, the cutover is given up, of which no source is retired: each source serves again, the statements that waited go on, and the

@@ -45,7 +45,7 @@ pub(crate) fn stands<W: World, J: Naming>(
     !follows(state)
 }
 
-// Whether the shard of a part stands there, asked under its lock.
+// Whether the shard of a part is there, asked under its lock.
 fn stands_once<W: World, J: Naming>(
     rt: &impl Wait,
     pass: &mut ShardPass<W, J>,

@@ -49,7 +49,7 @@ pub(crate) fn sources_of<W: World, J: Naming>(
     Ok(Some(sources))
 }
 
-// Whether targets of these ranges may stand with the parts that stay.
+// Whether targets of these ranges fit the parts that stay.
 pub(crate) fn test_targets<W: World, J: Naming>(
     alloc: Global,
     rest: &[ShardReference<Shard<W, J>>],

@@ -32,7 +32,7 @@ pub(crate) struct FoundShard<W: World, J: Naming> {
     pub(crate) given_up: bool,
 }
 
-// What one look at a shard tells of it.
+// What one look at a shard shows of it.
 #[derive(Drop)]
 struct ShardSnapshot {
     which: shard_run::ShardRecord,
@@ -43,7 +43,7 @@ struct ShardSnapshot {
     given_up: bool,
 }
 
-// The mode that the run tells, which doesn't know whether rows are gone.
+// The mode by the run, which doesn't know whether rows are gone.
 fn mode_of<W: World, J: Naming>(state: &ShardState<W, J>) -> Mode
     ensures { result ≡ mode W.opening state.now.seen state.now.shard.slot }
 {

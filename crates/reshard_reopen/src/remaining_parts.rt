@@ -11,7 +11,7 @@ use serving::{Seated, ShardReference, copy_part};
 use std::alloc::Global;
 use vt_value::Refusal;
 
-/// Whether one of the parts stands on the slot.
+/// Whether one of the parts is on the slot.
 pub fn stands_on<S: Seated + Drop>(slot: usize, parts: &[ShardReference<S>]) -> bool
     ensures { result ≡ list_any (λ seat. seat.0 == slot) parts.now }
 {
@@ -29,7 +29,7 @@ fn is_other<S: Seated + Drop>(
     !stands_on(slot, from) && !stands_on(slot, into)
 }
 
-/// Of the parts those that stand on the slots of none of these.
+/// Of the parts those that are on the slots of none of these.
 pub(crate) fn others_of<S: Seated + Drop>(
     alloc: Global,
     parts: &[ShardReference<S>],

@@ -71,7 +71,7 @@ fn names_at(bytes: &[u8]) -> Result<(Names<'_>, &[u8]), Unread>
     Ok((names, rest))
 }
 
-/// The kind and the flags that the fixed fields of a column definition tell.
+/// The kind and the flags that the fixed fields of a column definition give.
 fn kind_at(fields: &[u8]) -> Result<(Kind, u16), Unread>
     ensures allowed { IfOk result (λ x. IsTrue (flags_fit x.0 x.1)) }
     ensures again { (kind : Kind) (flags : ℕ) → IsByteLong kind → IsTrue (flags_fit kind flags)

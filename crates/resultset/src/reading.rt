@@ -120,7 +120,7 @@ fn read_set(
     Ok(ResultSet { columns, rows })
 }
 
-/// How many packets stand after the definitions of a result set.
+/// How many packets come after the definitions of a result set.
 fn packets_after_definitions(end: SetEnd) -> usize
     ensures { result ≡ length (after_definitions end 0) }
 {

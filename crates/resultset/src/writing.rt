@@ -92,7 +92,7 @@ fn put_set(
     put_rows_end(number, status, end, out)
 }
 
-/// Appends what stands in front of the rows. The payload is scratch, for its memory, and empty.
+/// Appends what comes before the rows. The payload is scratch, for its memory, and empty.
 pub(crate) fn put_head(
     columns: &[Column],
     number: u8,

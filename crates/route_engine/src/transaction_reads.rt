@@ -30,7 +30,7 @@ use vschema::{Query, Table, Typed, VSchema};
 use vt_value::{Items, Refusal};
 
 impl<W: World + Send + Sync, J: Naming + Send + Sync, G: Gate> Engine<W, J, G> {
-    // The partition that tells which shards a statement on the table needs: on one of the bound shard's keyspace that by which it was bound.
+    // The partition that decides which shards a statement on the table needs: on one of the bound shard's keyspace that by which it was bound.
     fn partition_for<'e>(
         &'e self,
         here: &'e Bound<W, J>,

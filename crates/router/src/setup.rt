@@ -223,7 +223,7 @@ fn held_and_served<W: World, J: Naming>(
 }
 
 /// The shards of an opening without rows, in the journal that was opened, the partitions that each keyspace begins with, the opener of
-/// their sessions, a first pass, which has seen nothing, and the seats of the slots on which none of these shards stands.
+/// their sessions, a first pass, which has seen nothing, and the seats of the slots on which none of these shards is.
 pub fn opened_seats<W: World, J: Naming>(
     alloc: Global,
     schema: &VSchema,
@@ -275,7 +275,7 @@ pub fn opened_seats<W: World, J: Naming>(
 // of its sessions, a pass that has seen nothing, and the seats that no shard is on
 // With: opened_seats
 /// The engine over a VSchema and the ranges of its sharded keyspace, whose tables are empty, in the journal that was opened; the opener
-/// of its sessions, a first pass, which has seen nothing, and the seats of the slots on which none of its shards stands. Each shard has these
+/// of its sessions, a first pass, which has seen nothing, and the seats of the slots on which none of its shards is. Each shard has these
 /// limits, and so many statements may wait in its buffer. It refuses only for want of memory.
 pub fn empty_router<W: World + Send + Sync, J: Naming + Send + Sync, G: Gate>(
     alloc: Global,

@@ -53,7 +53,7 @@ impl LogLine {
 
 // Promise: A record's line has the instant, the level, the event and each field in order, each as one word, so that no value ends a word or a line
 /// The line of a record at an instant: its time in UTC, its level and its event, and as fields those of the spans around it and then its own. A
-/// text that isn't one word of visible bytes stands between quotes. Refuses for want of memory, and if a value can't be shown.
+/// text that isn't one word of visible bytes is between quotes. Refuses for want of memory, and if a value can't be shown.
 pub fn line_of<D: Display, K: Source, S: Spans>(
     alloc: Global,
     instant: Timestamp,

@@ -79,7 +79,7 @@ impl LineQueue {
         unreachable!()
     }
 
-    /// Tells that each line was tried, and that no more are.
+    /// Says that each line was tried, and that no more are.
     pub fn end(&self) {
         self.tried.store(1, Ordering::SeqCst);
     }

@@ -53,7 +53,7 @@ fn is_part(taken: usize, all: usize) -> bool
 }
 
 // Promise: The report of lost lines says how many there were
-/// The line that tells how many lines were lost.
+/// The line that says how many lines were lost.
 pub fn report_of(alloc: Global, instant: Timestamp, lost: u64) -> Result<LogLine, AllocError>
     ensures { IfOk result (λ line. IsReport instant lost line) }
 {
@@ -78,7 +78,7 @@ impl<W: Write> LineWriter<W> {
         }
     }
 
-    // Ends a part of a line that was written, and tells whether the device is at the beginning of a line then.
+    // Ends a part of a line that was written, and returns whether the device is at the start of a line then.
     fn mend(&mut self) -> bool
         ensures whole { result ≡ true → (self.new.is_torn ≡ false) × Appends (W.contents self.old.device) (W.contents self.new.device) (mended self.old.is_torn []) }
         ensures none { result ≡ false → (self.new.is_torn ≡ self.old.is_torn) × Appends (W.contents self.old.device) (W.contents self.new.device) [] }
@@ -94,7 +94,7 @@ impl<W: Write> LineWriter<W> {
     }
 
     // Promise: A line is written whole, after the break that ends a part of one before it, or a front of these is; then it counts as lost
-    /// Writes a line by one write, and tells whether it was written whole.
+    /// Writes a line by one write, and returns whether it was written whole.
     pub fn put(&mut self, line: &LogLine) -> bool
         ensures whole { result ≡ true → (self.new.is_torn ≡ false) × Appends (W.contents self.old.device) (W.contents self.new.device) (mended self.old.is_torn line.now) }
         ensures part { result ≡ false → (taken : List ℕ) × TakesPart self.old.is_torn line.now taken self.new.is_torn × Appends (W.contents self.old.device) (W.contents self.new.device) taken }
@@ -108,7 +108,7 @@ impl<W: Write> LineWriter<W> {
         taken == bytes.len()
     }
 
-    /// Tells how many lines were lost, if some were, and tells whether it did.
+    /// Reports how many lines were lost, if some were, and returns whether it did.
     pub fn report(&mut self, alloc: Global, instant: Timestamp, lost: u64) -> bool
         ensures none { lost ≡ 0 → (result ≡ true) × (self.new ≡ self.old) }
         ensures told { result ≡ true → 0 < lost → (bytes : List ℕ) × IsReport instant lost bytes

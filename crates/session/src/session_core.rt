@@ -46,7 +46,7 @@ pub fn begins_with<W: World + Send + Sync, J: Naming + Send + Sync, G: Gate>(
     let _ = pass.session();
 }
 
-/// The replies to a piece of the input, and how the session then stands.
+/// The replies to a piece of the input, and the session's state after it.
 fn feed_parts<W: World + Send + Sync, J: Naming + Send + Sync, G: Gate, S: Sink>(
     rt: &(impl Threads + Wait + Sync),
     alloc: Global,
@@ -90,7 +90,7 @@ fn feed_parts<W: World + Send + Sync, J: Naming + Send + Sync, G: Gate, S: Sink>
 }
 
 /// A session, without the devices that its bytes come from and go to. Its open transaction is dropped with it, and leaves no entry. Contracts
-/// see what it knows of its input, how it stands, and what it keeps of its transaction.
+/// see what it knows of its input, its state, and what it keeps of its transaction.
 #[derive(Drop)]
 pub struct Core<W: World, J: Naming> {
     framer: Framer,
@@ -138,7 +138,7 @@ impl<W: World, J: Naming> Core<W, J> {
     ghost use Rattle.conversation.specs.Talk.{Talk};
     ghost use Rattle.conversation.specs.Sessions.{HasTalked};
 
-    /// A session that is new: of the connection with this id. It greets its client by the salt, and lets in whom `access` tells.
+    /// A session that is new: of the connection with this id. It greets its client by the salt, and lets in whom `access` names.
     /// Makes room for the greeting and for a refusal, and refuses only if it can't.
     pub fn new(
         alloc: Global,
@@ -213,7 +213,7 @@ impl<W: World, J: Naming> Core<W, J> {
         self.handshake.id
     }
 
-    /// How the session stands.
+    /// The session's state.
     pub fn connection_state(&self) -> ConnectionState
         ensures { result ≡ self.now.connection_state }
     {

@@ -49,12 +49,12 @@ fn is_whole(schema: &VSchema, keyspace: usize, reached: usize, last: bool, n: us
 }
 
 impl<W: World, J: Naming> ShardState<W, J> {
-    // The last Copy from a source, which tells which tables are copied, since they are in the order of their names.
+    // The last Copy from a source, which determines which tables are copied, since they are in the order of their names.
     fn last_copy(&self, source: usize) -> Option<&TargetStep>
         requires lives { mode W.opening self.now.seen self.now.shard.slot ≡ Mode.Retired → ⊥ }
         ensures { IsLastCopy W.opening self.now.seen self.now.shard source (option_copied result) }
     {
-        // for what their types say: the run is legal, and the shard stands on its slot
+        // for what their types say: the run is legal, and the shard is on its slot
         let _slot = self.seat.slot();
         let _shard = self.shard();
         let steps = self.contents.steps.as_slice();
@@ -136,7 +136,7 @@ impl<W: World, J: Naming> ShardState<W, J> {
         }
     }
 
-    // The last row of the table that it copied from the source, which tells what is copied of it.
+    // The last row of the table that it copied from the source, which determines what is copied of it.
     fn last_copied(&self, source: usize, table: usize) -> Option<&Row>
         requires lives { mode W.opening self.now.seen self.now.shard.slot ≡ Mode.Retired → ⊥ }
         requires legal { IsLegal (MayFollow W.opening) self.now.seen }

@@ -178,7 +178,7 @@ impl<W: World, J: Naming> ShardState<W, J> {
         &self.contents.shard
     }
 
-    /// The slot that the shard stands on.
+    /// The slot that the shard is on.
     pub fn slot(&self) -> usize
         ensures slot { result ≡ self.now.shard.slot }
     {

@@ -42,7 +42,7 @@ pub struct ReadResult<W: World, J: Naming> {
     pub outcome: Result<ReadOutcome, Refusal>,
 }
 
-/// The rows that each shard gave, and what the reply tells of each.
+/// The rows that each shard gave, and what the reply says of each.
 #[derive(Drop)]
 pub struct Gathered {
     pub pieces: Vec<Rows>,

@@ -49,7 +49,7 @@ pub fn stays_open(closes: bool, given: &Result<Reply, Refusal>) -> bool
     }
 }
 
-// Where the items of a query stand in the rows that are read for it, and room for what the reply tells of a shard.
+// Where the items of a query are in the rows that are read for it, and room for what the reply says of a shard.
 fn prepared(
     alloc: Global,
     slot: usize,
@@ -64,7 +64,7 @@ fn prepared(
     Ok((ordinals, reads))
 }
 
-// What a query gives on a transaction's shard, and what the reply tells of that.
+// What a query gives on a transaction's shard, and what the reply says of that.
 pub fn read_at<W: World, J: Naming>(
     rt: &impl Wait,
     alloc: Global,

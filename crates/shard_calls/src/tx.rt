@@ -77,7 +77,7 @@ impl<W: World, J: Naming> Bound<W, J> {
         self.keyspace
     }
 
-    /// The slot that the shard stands on.
+    /// The slot that the shard is on.
     pub fn slot(&self) -> usize
         ensures { result ≡ self.now.seat.0 }
     {

@@ -44,7 +44,7 @@ impl TargetStep {
         }
     }
 
-    // Whether it tells all that an earlier step told.
+    // Whether it says all that an earlier step said.
     fn supersedes(&self, earlier: &TargetStep) -> bool
         ensures { result ≡ supersedes self.now earlier.now }
     {

@@ -21,7 +21,7 @@ fn is_vindex_column(table: &Table, ordinal: usize) -> bool
 }
 
 /// The ordinals of the columns by whose values a table's rows are stored: the vindex column first, so that the rows of one of its
-/// values stand together, and then the others of the primary key. Rows have the same values there if they have the same
+/// values are adjacent, and then the others of the primary key. Rows have the same values there if they have the same
 /// primary key. Refuses for want of memory.
 pub fn key_ordinals(alloc: Global, table: &Table) -> Result<Items<usize>, Refusal>
     ensures ok { IfOk result (λ ordinals. ordinals ≡ key_ordinals table.now) }

@@ -12,8 +12,8 @@ use std::cmp::Ordering;
 use std::marker::Model;
 use vt_value::{Boxed, Items, Refusal, Row, Value, copy_row, sort_order};
 
-// One number of 64 bits stands here itself, so that such keys are made and compared without memory of their own, and many of them
-// stand in one line of the processor's cache.
+// One number of 64 bits is here itself, so that such keys are made and compared without memory of their own, and many of them
+// are in one line of the processor's cache.
 #[derive(Drop)]
 enum Listing {
     Number(i64),

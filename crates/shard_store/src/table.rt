@@ -146,7 +146,7 @@ impl StoredTable {
         Ok(self.slots.rows_from(&key))
     }
 
-    /// Rows in slots among which are all after a row; all, if they don't stand in the order of primary keys.
+    /// Rows in slots among which are all after a row; all, if they aren't in the order of primary keys.
     pub(crate) fn rows_after(
         &self,
         alloc: Global,

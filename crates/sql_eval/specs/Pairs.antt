@@ -1,4 +1,4 @@
--- The values of a row, and of a pair of rows, as they stand.
+-- The values of a row, and of a pair of rows, as they are.
 use Rattle.std.specs.Prelude.{List, [], ◌∷◌, ◌++◌, map, filter}
 use Rattle.vt_value.specs.Values.{Row}
 use Rattle.vschema.specs.declared.schema.Join.{Join}

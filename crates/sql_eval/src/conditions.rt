@@ -10,7 +10,7 @@ use crate::rows::value_at;
 use sql_tree::{Condition, Operand};
 use vt_value::{Comparison, Row, Truth, Value, compare};
 
-/// The values that a condition is tested on, as they stand: those of a row, or those of a pair of rows.
+/// The values that a condition is tested on, as they are: those of a row, or those of a pair of rows.
 #[derive(Clone, Copy)]
 pub enum Seen<'r> {
     Row(&'r Row),

@@ -158,7 +158,7 @@ fn all_tests<'c>(alloc: Global, members: &'c [Condition<usize>]) -> Result<Items
     Ok(tests)
 }
 
-/// The tests of a condition in which an IN is long; `None` if it is tested as it stands.
+/// The tests of a condition in which an IN is long; `None` if it is tested as it is.
 fn tests_of_tree<'c>(
     alloc: Global,
     condition: &'c Condition<usize>,
@@ -230,7 +230,7 @@ impl<'c> Filter<'c> {
         Ok(Filter { condition, tests })
     }
 
-    /// A condition that is tested as it stands. It takes no memory.
+    /// A condition that is tested as it is. It takes no memory.
     pub fn plain(condition: &'c Option<Condition<usize>>) -> Filter<'c>
         ensures { result ≡ condition.now }
     {

@@ -22,7 +22,7 @@ use vt_value::{Items, Refusal, Row, Value, copy};
 pub struct Grouping {
     /// How many values stand for a group, at the beginning of a row of parts.
     pub width: usize,
-    /// The aggregates. Their parts stand after these values, one column each.
+    /// The aggregates. Their parts come after these values, one column each.
     pub aggregates: Items<Item<usize>>,
     /// The key by which the groups' values are hashed.
     pub hashing: Hashing,

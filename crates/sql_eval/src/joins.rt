@@ -1,4 +1,4 @@
-//! Queries over the pairs of a join. A pair is tested as it stands in its two rows, and only one that is kept is copied.
+//! Queries over the pairs of a join. A pair is tested as it is in its two rows, and only one that is kept is copied.
 ghost use Rattle.std.specs.Prelude.{◌≡◌, List, [], ◌∷◌, ◌++◌, false, MatchOption, IfOk, IfErr, filter};
 ghost use Rattle.vt_value.specs.declared.value.Value.{Value as V};
 ghost use Rattle.vschema.specs.Checks.{is_aggregated};

@@ -51,7 +51,7 @@ fn are_apart(items: &[Item<usize>]) -> bool
     true
 }
 
-/// The different items of a list so far, where each of the list stands among them, and where each is found by its number.
+/// The different items of a list so far, where each of the list is among them, and where each is found by its number.
 #[derive(Drop)]
 struct Seen {
     items: Items<Item<usize>>,
@@ -95,14 +95,14 @@ impl Seen {
     }
 }
 
-/// The items of a query that shows some of them again and again, and where each stands among the different ones.
+/// The items of a query that shows some of them again and again, and where each is among the different ones.
 #[derive(Drop)]
 pub struct Whole {
     pub items: Items<Item<usize>>,
     pub ordinals: Items<usize>,
 }
 
-/// The different items of a list, and where each of the list stands among them; `None` if all are different. Refuses only for want of
+/// The different items of a list, and where each of the list is among them; `None` if all are different. Refuses only for want of
 /// memory.
 fn different(
     alloc: Global,
@@ -210,7 +210,7 @@ impl Narrowed {
         &self.query
     }
 
-    /// Where the items of the whole query stand among those of the one that is run; `None` if they are the same. Refuses only for want of
+    /// Where the items of the whole query are among those of the one that is run; `None` if they are the same. Refuses only for want of
     /// memory.
     pub fn ordinals(&self, alloc: Global) -> Result<Option<Items<usize>>, Refusal>
         ensures ok { IfOk result (ShowsAt self.now) }

@@ -77,7 +77,7 @@ pub data IsBody : List ℕ → Type 0 where
   quotes : {bytes : List ℕ} → IsBody bytes → IsBody (0x27 ∷ 0x27 ∷ bytes)
   escape : {b : ℕ} {bytes : List ℕ} → IsBody bytes → IsBody (0x5C ∷ b ∷ bytes)
 
--- what stands between the quotes: a pair of quotes says one
+-- what comes between the quotes: a pair of quotes says one
 abbrev pub unescaped : List ℕ → List ℕ
 unescaped [] = []
 unescaped (b ∷ []) = b ∷ []

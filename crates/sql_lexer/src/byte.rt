@@ -31,7 +31,7 @@ pub fn is_word_byte(byte: u8) -> bool
     is_letter(byte) || is_digit(byte)
 }
 
-/// Whether a blank stands at the front.
+/// Whether a blank is at the front.
 pub fn begins_blank(bytes: &[u8]) -> bool
     ensures { result ≡ first_passes is_blank bytes.now }
 {
@@ -41,7 +41,7 @@ pub fn begins_blank(bytes: &[u8]) -> bool
     }
 }
 
-/// Whether a letter or `_` stands at the front.
+/// Whether a letter or `_` is at the front.
 pub fn begins_letter(bytes: &[u8]) -> bool
     ensures { result ≡ first_passes is_letter bytes.now }
 {
@@ -51,7 +51,7 @@ pub fn begins_letter(bytes: &[u8]) -> bool
     }
 }
 
-/// Whether a byte of a word stands at the front.
+/// Whether a byte of a word is at the front.
 pub fn begins_word_byte(bytes: &[u8]) -> bool
     ensures { result ≡ first_passes is_word_byte bytes.now }
 {
@@ -61,7 +61,7 @@ pub fn begins_word_byte(bytes: &[u8]) -> bool
     }
 }
 
-/// How many bytes of a word stand at the front.
+/// How many bytes of a word are at the front.
 pub fn word_len(bytes: &[u8]) -> usize
     ensures value { result ≡ run is_word_byte bytes.now }
     ensures within { result ≤ length bytes.now }
@@ -76,7 +76,7 @@ pub fn word_len(bytes: &[u8]) -> usize
     count
 }
 
-/// How many digits stand at the front.
+/// How many digits are at the front.
 pub fn number_len(bytes: &[u8]) -> usize
     ensures value { result ≡ run is_digit bytes.now }
     ensures within { result ≤ length bytes.now }

@@ -167,7 +167,7 @@ pub fn keyword_of(word: &[u8]) -> Option<Keyword>
 }
 
 // Promise: A word is a keyword exactly when it is one in some case
-/// Whether the word is a keyword in some case, so that as an identifier it stands in backquotes.
+/// Whether the word is a keyword in some case, so that as an identifier it is in backquotes.
 pub fn is_keyword(word: &[u8]) -> bool
     ensures { result ≡ is_keyword word.now }
 {

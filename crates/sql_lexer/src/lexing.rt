@@ -195,7 +195,7 @@ pub fn one_lexing()
     ensures { (text : List ℕ) (ts us : List Token) → Lexes text ts → Lexes text us → ts ≡ us }
 {}
 
-/// No token that stands at a text's front is longer than one that may end before what follows it.
+/// No token that is at a text's front is longer than one that may end before what follows it.
 pub fn longest()
     ensures { (bytes rest front back : List ℕ) (kind other : TokenKind)
         → Spells bytes kind → ends_token kind rest ≡ true → bytes ++ rest ≡ front ++ back → Spells front other

@@ -1,7 +1,7 @@
 //! Tokens of SQL. They borrow nothing: a token has its kind, and where it begins and ends.
 use vt_value::Comparison;
 
-/// A keyword, which stands in a text in any case.
+/// A keyword, which a text has in any case.
 #[derive(Clone, Copy, Debug, PartialEq, Eq)]
 pub enum Keyword {
     And,
@@ -53,7 +53,7 @@ pub enum Sign {
     Dot,
 }
 
-/// What a token is; what it says stands in its bytes.
+/// What a token is; what it says is in its bytes.
 #[derive(Clone, Copy, Debug, PartialEq, Eq)]
 pub enum TokenKind {
     Keyword(Keyword),
@@ -70,7 +70,7 @@ pub enum TokenKind {
     Operator(Comparison),
 }
 
-/// A token, whose bytes stand in its text from `start` up to `end`.
+/// A token, whose bytes are in its text from `start` up to `end`.
 #[derive(Clone, Copy, Debug, PartialEq, Eq)]
 pub struct Token {
     pub kind: TokenKind,

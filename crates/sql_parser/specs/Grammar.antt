@@ -38,7 +38,7 @@ use Rattle.sql_parser.specs.Qualifiers.{qualifies_outside_select}
 abbrev pub Lexemes : Type 0
 Lexemes = List Lexeme
 
--- how many open parentheses and NOTs may stand on one path, and how many literals in a statement
+-- how many open parentheses and NOTs may be on one path, and how many literals in a statement
 abbrev pub max_depth : ℕ
 max_depth = 64
 

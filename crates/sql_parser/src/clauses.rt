@@ -14,7 +14,7 @@ use sql_tree::{ColumnName, Condition, JoinOn, Key, LimitClause, Name};
 use std::alloc::Global;
 use vt_value::{Items, Refusal};
 
-/// How many open parentheses and NOTs may stand on one path.
+/// How many open parentheses and NOTs may be on one path.
 const MAX_DEPTH: usize = 64;
 
 /// FROM name

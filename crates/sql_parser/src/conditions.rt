@@ -87,7 +87,7 @@ fn is<'s>(
     }
 }
 
-/// What comes after an operand; a NOT only where one may stand.
+/// What comes after an operand; a NOT only if one may be there.
 #[tactic(auto, unfolding(crate::specs::inner::Reading::test_at))]
 fn test<'s>(
     alloc: Global,

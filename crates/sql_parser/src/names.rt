@@ -13,7 +13,7 @@ use sql_tree::{ColumnName, Name};
 use std::alloc::Global;
 use vt_value::{Items, Refusal};
 
-/// What comes after a comma, if one stands here.
+/// What comes after a comma, if one is here.
 pub fn after_comma(tokens: &[Token]) -> Option<&[Token]>
     ensures { (text : List ℕ)
         → option_map (lexemes_of text) (option_copied result) ≡ after_at is_comma (lexemes_of text tokens.now) }

@@ -15,7 +15,7 @@ fn operand_is_qualified(operand: &Operand<ColumnName>) -> bool
     }
 }
 
-/// Whether a column of a condition stands after the name of a table.
+/// Whether a column of a condition comes after the name of a table.
 #[cycle(qualified)]
 fn is_qualified(condition: &Condition<ColumnName>) -> bool
     ensures { result ≡ condition_is_qualified condition.now }

@@ -47,7 +47,7 @@ commas = joined (codes ", ")
 abbrev pub bracketed : Text → Text
 bracketed t = codes "(" ++ t ++ codes ")"
 
--- an identifier stands in backquotes if it is a keyword
+-- an identifier is in backquotes if it is a keyword
 unfoldable pub name_text : Name → Text
 name_text name = if is_keyword name then 0x60 ∷ name ++ 0x60 ∷ [] else name
 
@@ -85,13 +85,13 @@ text_of (an_and t) = t
 text_of (an_or t) = t
 text_of (other t) = t
 
--- a member of an AND, and what stands under a NOT: an AND and an OR stand in parentheses
+-- a member of an AND, and what stands under a NOT: an AND and an OR are in parentheses
 abbrev pub inside_and : Printed → Text
 inside_and (an_and t) = bracketed t
 inside_and (an_or t) = bracketed t
 inside_and (other t) = t
 
--- a member of an OR: an OR stands in parentheses
+-- a member of an OR: an OR is in parentheses
 abbrev pub inside_or : Printed → Text
 inside_or (an_and t) = t
 inside_or (an_or t) = bracketed t

@@ -53,7 +53,7 @@ pub fn put_condition(out: &mut Vec<u8>, condition: &Condition<ColumnName>) -> Re
     }
 }
 
-/// A member of an AND, or what stands under NOT: an AND and an OR stand in parentheses.
+/// A member of an AND, or what is under NOT: an AND and an OR are in parentheses.
 #[cycle(conditions)]
 fn put_inside_and(out: &mut Vec<u8>, condition: &Condition<ColumnName>) -> Result<(), Refusal>
     ensures ok { OnOk result (out.new.items ≡ out.old.items ++ inside_and (condition_printed condition.now)) }
@@ -74,7 +74,7 @@ fn put_inside_and(out: &mut Vec<u8>, condition: &Condition<ColumnName>) -> Resul
     }
 }
 
-/// A member of an OR: an OR stands in parentheses.
+/// A member of an OR: an OR is in parentheses.
 #[cycle(conditions)]
 fn put_inside_or(out: &mut Vec<u8>, condition: &Condition<ColumnName>) -> Result<(), Refusal>
     ensures ok { OnOk result (out.new.items ≡ out.old.items ++ inside_or (condition_printed condition.now)) }

@@ -12,7 +12,7 @@ use std::alloc::Global;
 use test_fields::{CaseAnswer, Unanswered};
 use vschema::joins_lie_in_place;
 
-/// Tells what a case of this area answers.
+/// Puts the answer of a case of this area.
 pub fn answer(
     alloc: Global,
     area: &str,
@@ -40,7 +40,7 @@ pub fn answer(
     }
 }
 
-// Tells what a case of ranges, ids, values or operators answers.
+// Puts the answer of a case of ranges, ids, values or operators.
 fn answer_values(
     alloc: Global,
     area: &str,
@@ -65,7 +65,7 @@ fn answer_values(
     }
 }
 
-// Tells what a case of packets, messages or results answers.
+// Puts the answer of a case of packets, messages or results.
 fn answer_bytes(
     alloc: Global,
     area: &str,

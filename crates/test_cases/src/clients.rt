@@ -134,7 +134,7 @@ pub(crate) fn said_by(alloc: Global, case: &str, told: &mut CaseAnswer) -> Resul
     Ok(())
 }
 
-/// Whether a pattern fits a name; a tab stands between them.
+/// Whether a pattern fits a name; a tab is between them.
 pub(crate) fn likes(alloc: Global, case: &str, told: &mut CaseAnswer) -> Result<(), Unanswered> {
     let mut fields = case.split('\t');
     let pattern = text_of(alloc, fields.next().unwrap_or(""))?;

@@ -15,7 +15,7 @@
 //! | `keyrange` | a name | begin and end |
 //! | `covers` | names with commas between them | whether each id lies in just one range, and whether some two overlap |
 //! | `contains` | a range's name, an id | whether the id lies in the range |
-//! | `ranges` | a word | the ranges that it tells, in their order |
+//! | `ranges` | a word | the ranges that it names, in their order |
 //! | `ksid` | a vindex, a value | the value's keyspace id |
 //! | `key` | a vindex, an id | the number that has this id |
 //! | `cost` | a vindex | its cost |
@@ -50,7 +50,7 @@
 //!
 //! Several tokens, payloads, pieces or values have blanks between them, rows semicolons. Bytes and ids are in hexadecimal, a run of 64 or
 //! more equal bytes as `(07*300)`; no bytes, and an open edge, are written `.`. In a text, each byte outside 20..7E and the backslash is
-//! `\x` and two digits; a VSchema and a word stand as they are. A value is `NULL`, a decimal number, or a text as `x` and hexadecimal. What
+//! `\x` and two digits; a VSchema and a word are as they are. A value is `NULL`, a decimal number, or a text as `x` and hexadecimal. What
 //! isn't there is written `none`, a syntax error as `refused`, another refusal as `refused` and its number. A line that is no case answers
 //! `unknown`.
 #![tactic(auto)]

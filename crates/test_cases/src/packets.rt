@@ -18,7 +18,7 @@ fn put_payloads(told: &mut CaseAnswer, payloads: &[Payload]) {
     }
 }
 
-// Feeds a piece and puts the payloads; tells the fault.
+// Feeds a piece and puts the payloads; returns the fault.
 fn feed_piece(
     alloc: Global,
     framer: &mut Framer,
@@ -33,7 +33,7 @@ fn feed_piece(
     Ok(fed.fault)
 }
 
-// Feeds the pieces; tells the fault of the last.
+// Feeds the pieces; returns the fault of the last.
 fn feed_all(
     alloc: Global,
     framer: &mut Framer,

@@ -3,7 +3,7 @@ use crate::{chunks, inputs};
 use std::alloc::Global;
 use test_fields::{CaseAnswer, Unanswered};
 
-/// Plays the scene of this name, and tells whether it went as it is to go.
+/// Plays the scene of this name, and returns whether it went as it is to go.
 pub fn answer_pulled(alloc: Global, name: &str, told: &mut CaseAnswer) -> Result<(), Unanswered> {
     match name {
         "a_limit_pulls_no_row_behind_its_last" => told.put_went(

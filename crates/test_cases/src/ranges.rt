@@ -88,7 +88,7 @@ pub(crate) fn contains(alloc: Global, case: &str, told: &mut CaseAnswer) -> Resu
     Ok(())
 }
 
-/// The ranges that a word tells.
+/// The ranges that a word names.
 pub(crate) fn partition(
     alloc: Global,
     case: &str,

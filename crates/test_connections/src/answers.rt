@@ -7,7 +7,7 @@ use std::thread::Threads;
 use std::time::Clock;
 use test_fields::{CaseAnswer, Unanswered};
 
-/// Tells what a case of this area answers.
+/// Puts the answer of a case of this area.
 pub fn answer<R: Threads + Wait + Sync + Clock + Net<Listener = TcpListener, Stream = TcpStream>>(
     rt: &R,
     alloc: Global,

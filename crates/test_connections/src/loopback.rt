@@ -98,7 +98,7 @@ const RESPONSE: &[u8] =
 
 const ONE_CHANGED: [u8; 11] = *b"\x07\x00\x00\x01\x00\x01\x00\x02\x00\x00\x00";
 
-/// What stands before the rows of the column id.
+/// What comes before the rows of the column id.
 const COLUMN: &[u8] = b"\x01\x00\x00\x01\x01\
     \x20\x00\x00\x02\x03def\x04shop\x01t\x01t\x02id\x02id\x0c\x3f\x00\x14\x00\x00\x00\x08\xa3\x00\x00\x00\x00\
     \x05\x00\x00\x03\xfe\x00\x00\x02\x00";
@@ -263,7 +263,7 @@ const ASKED: ServeArgs<'static> = ServeArgs {
     nonce: b"n",
 };
 
-// Serves two connections, and tells whether that went well, with what was answered.
+// Serves two connections, and returns whether that went well, with what was answered.
 fn is_served<W: World + Send + Sync, J: Naming + Send + Sync, R: Threads + Wait + Sync + Clock>(
     rt: &R,
     alloc: Global,

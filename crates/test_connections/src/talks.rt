@@ -20,14 +20,14 @@ fn name_of(ended: Ended) -> &'static str {
     }
 }
 
-// Tells how a session ends, and what is written.
+// Puts how a session ends, and what is written.
 fn put_end(told: &mut CaseAnswer, ended: Ended, sink: &Writer<Vec<u8>>) {
     told.put(name_of(ended));
     told.put(if sink.writer.is_empty() { "" } else { " " });
     told.put_text(&sink.writer);
 }
 
-// Tells how often a sink failed, and what is told to who deletes a row then.
+// Puts how often a sink failed, and what is answered to who deletes a row then.
 fn put_rest(told: &mut CaseAnswer, sink: &Writer<Vec<u8>>, reply: &Writer<Vec<u8>>) {
     told.put("; ");
     told.put_number(sink.failures);
@@ -35,7 +35,7 @@ fn put_rest(told: &mut CaseAnswer, sink: &Writer<Vec<u8>>, reply: &Writer<Vec<u8
     told.put_text(&reply.writer);
 }
 
-// Tells all of a session.
+// Puts all of a session.
 fn put_all(
     told: &mut CaseAnswer,
     ended: Result<Ended, Refusal>,
@@ -63,7 +63,7 @@ fn put_talk<R: Threads + Wait + Sync>(
     put_all(told, ended, &sink, &reply, is_served)
 }
 
-// Tells a conversation, and if another came byte by byte that one too.
+// Puts a conversation, and if another came byte by byte that one too.
 fn put_both<R: Threads + Wait + Sync>(
     rt: &R,
     alloc: Global,

@@ -29,7 +29,7 @@ impl CaseAnswer {
         }
     }
 
-    /// Puts a word as it stands.
+    /// Puts a word as it is.
     pub fn put(&mut self, word: &str) {
         let done = self.text.push_str(word);
         self.note(done);

@@ -52,7 +52,7 @@ fn narrow(alloc: Global, limits: &[usize]) -> Result<Narrow, Refusal> {
     })
 }
 
-/// A write that fails loses its line; before the next one stands how many were lost.
+/// A write that fails loses its line; the next one comes after a line that says how many were lost.
 pub(crate) fn failed_write_is_reported(alloc: Global) -> Result<bool, Refusal> {
     let mut writer = LineWriter::new(narrow(alloc, &[0])?);
     let lost = writer.tell(alloc, moment(), &login(alloc, "one")?, 2);

@@ -14,7 +14,7 @@ const WITH_EOF: &[u8] =
 const WITHOUT_EOF: &[u8] =
     b"\x01\0\0\x01\x01\x02\0\0\x02\x03d\x02\0\0\x03\x01a\x02\0\0\x04\x01b\x07\0\0\x05\xFE\0\0\x02\0\0\0";
 
-/// An OK packet that tells of 258 changed rows.
+/// An OK packet that counts 258 changed rows.
 const OK: &[u8] = b"\x09\0\0\x01\0\xFC\x02\x01\0\x02\0\0\0";
 
 /// Commands that come byte by byte are counted as those that come at once, and the statement's text is kept.

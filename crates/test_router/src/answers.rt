@@ -5,7 +5,7 @@ use std::sync::Wait;
 use std::thread::Threads;
 use test_fields::{CaseAnswer, Unanswered};
 
-/// Plays the scene of this name, and tells whether it went as it is to go.
+/// Plays the scene of this name, and returns whether it went as it is to go.
 pub fn answer<R: Threads + Wait + Sync>(
     rt: &R,
     alloc: Global,

@@ -101,7 +101,7 @@ impl<'e, W: World + Send + Sync, J: Naming + Send + Sync, R: Threads + Wait + Sy
         false
     }
 
-    // Gives or awaits a signal, and tells whether it came.
+    // Gives or awaits a signal, and returns whether it came.
     fn is_signalled(&self, act: Act<'_>) -> bool {
         let signals = self.signals;
         match act {

@@ -5,7 +5,7 @@ use std::alloc::Global;
 use std::sync::Wait;
 use test_fields::{CaseAnswer, Unanswered};
 
-/// Plays the scene of this name, and tells whether it went as it is to go.
+/// Plays the scene of this name, and returns whether it went as it is to go.
 pub fn answer<R: Wait>(
     rt: &R,
     alloc: Global,

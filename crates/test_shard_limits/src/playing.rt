@@ -104,7 +104,7 @@ fn act_in<J: Naming, R: Wait>(
     act_on(rt, alloc, first_seat(seats), &mut opener, &mut first, turn)
 }
 
-/// Acts on the small shard of a new journal, and tells whether all went as it is to go.
+/// Acts on the small shard of a new journal, and returns whether all went as it is to go.
 pub(crate) fn play<R: Wait>(rt: &R, alloc: Global, turn: Turn) -> Result<bool, Refusal> {
     let opened = Opened::<ShardLaw<Small>>::new(alloc)?;
     act_in::<Brand, R>(rt, alloc, opened, turn)

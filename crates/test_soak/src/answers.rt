@@ -58,7 +58,7 @@ fn play_all<R: Threads + Wait + Clock + Sync>(
     Ok(())
 }
 
-// Tells how a soak has ended.
+// Puts how a soak has ended.
 fn put_end(
     told: &mut CaseAnswer,
     ended: Result<(), SoakFault>,
@@ -76,7 +76,7 @@ fn put_end(
     Ok(())
 }
 
-/// Soaks for as long as asked, and tells whether what the sessions were answered, and the rows at the end, are those of the accepted commands.
+/// Soaks for as long as asked, and returns whether what the sessions were answered, and the rows at the end, are those of the accepted commands.
 pub fn answer<R: Threads + Wait + Clock + Sync>(
     rt: &R,
     alloc: Global,

@@ -128,7 +128,7 @@ impl Done {
         Next::Over
     }
 
-    /// Counts what a line did by its reply, and tells what is to be said then.
+    /// Counts what a line did by its reply, and returns what is to be said then.
     pub fn note(&mut self, words: &'static str, reply: &AdminReply) -> Result<Next, SoakFault> {
         match (words, reply) {
             ("step", AdminReply::Moved(_)) => Ok(self.moved(reply.line())),

@@ -103,7 +103,7 @@ fn run_with<W: World + Send + Sync, J: Naming + Send + Sync, R: Threads + Wait +
     )
 }
 
-// Adds what all sessions have counted, and tells how many entries they made, or a fault that one has found.
+// Adds what all sessions have counted, and returns how many entries they made, or a fault that one has found.
 fn sum(books: &[SessionModel], tally: &mut Tally) -> Result<u64, SoakFault> {
     let mut made = Ok(0);
     for book in books {

@@ -24,7 +24,7 @@ use std::thread::Threads;
 use std::time::Clock;
 use test_fields::{CaseAnswer, Unanswered, print_answer};
 
-// Tells what a case of this area answers.
+// Puts the answer of a case of this area.
 fn answer<
     R: Threads + Wait + Sync + Clock + Eprint + Net<Listener = TcpListener, Stream = TcpStream>,
 >(rt: &R, alloc: Global, area: &str, case: &str, told: &mut CaseAnswer) -> Result<(), Unanswered> {

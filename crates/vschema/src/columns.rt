@@ -45,7 +45,7 @@ impl Columns {
         }
     }
 
-    /// Adds a column after the others, unless one has its name, and tells whether it did. Refuses for want of memory; then nothing
+    /// Adds a column after the others, unless one has its name, and returns whether it did. Refuses for want of memory; then nothing
     /// has changed.
     pub fn insert(&mut self, column: Column) -> Result<bool, AllocError>
         ensures columns { OnOk result (self.new ≡ (if list_any (λ c. bytes_eq column.name c.name) self.old then self.old else self.old ++ column ∷ [])) }

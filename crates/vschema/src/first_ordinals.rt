@@ -6,7 +6,7 @@ ghost use Rattle.vschema.specs.FirstOrdinals.{first_ordinal};
 use std::alloc::{AllocError, Global};
 use std::collections::BTreeMap;
 
-/// Where the numbers of a list stand first, each found in time logarithmic in how many different ones there are.
+/// Where the numbers of a list come first, each found in time logarithmic in how many different ones there are.
 #[derive(Drop)]
 pub struct FirstOrdinals {
     by_number: BTreeMap<usize, usize>,
@@ -24,7 +24,7 @@ impl FirstOrdinals {
         Ok(FirstOrdinals { by_number })
     }
 
-    /// Where the number stands first, if it is there.
+    /// Where the number comes first, if it is there.
     pub fn get(&self, number: usize) -> Option<usize>
         ensures { result ≡ first_ordinal self.now number }
     {

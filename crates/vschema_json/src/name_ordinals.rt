@@ -10,7 +10,7 @@ use std::alloc::{AllocError, Global};
 use std::collections::BTreeMap;
 use std::marker::Model;
 
-/// Texts in their order, each found where it stands first. Contracts see the list of the texts.
+/// Texts in their order, each found where it comes first. Contracts see the list of the texts.
 #[derive(Drop)]
 pub struct NameOrdinals<'n> {
     texts: Vec<&'n [u8]>,
@@ -52,7 +52,7 @@ impl<'n> NameOrdinals<'n> {
         Ok(NameOrdinals { texts, by_name })
     }
 
-    /// Where the name stands first, if it is there.
+    /// Where the name comes first, if it is there.
     pub fn ordinal_of(&self, name: &'n Name) -> Option<usize>
         ensures { result ≡ ordinal_from (λ n. bytes_eq n name.now) 0 self.now }
     {

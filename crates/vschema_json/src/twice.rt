@@ -9,7 +9,7 @@ use sql_tree::Name;
 use std::alloc::{AllocError, Global};
 use std::collections::BTreeSet;
 
-/// Whether one of the texts stands twice. Refuses only for want of memory.
+/// Whether one of the texts comes twice. Refuses only for want of memory.
 pub fn is_one_twice(alloc: Global, names: &[&[u8]]) -> Result<bool, AllocError>
     ensures { IfOk result (λ twice. twice ≡ has_twice (map (λ n. n.now) names.now)) }
 {
@@ -68,7 +68,7 @@ fn names_of_tables(alloc: Global, keyspaces: &[DeclaredKeyspace]) -> Result<Vec<
     Ok(texts)
 }
 
-/// Whether a name stands twice. Refuses only for want of memory.
+/// Whether a name comes twice. Refuses only for want of memory.
 pub fn has_twice(alloc: Global, names: &[Name]) -> Result<bool, AllocError>
     ensures { IfOk result (λ twice. twice ≡ has_twice names.now) }
 {

@@ -11,7 +11,7 @@ use vt_value::Refusal;
 /// How many ranges a keyspace may have at most.
 pub const MOST_RANGES: usize = 64;
 
-/// Puts the range of this name after the others, and tells whether there is one.
+/// Puts the range of this name after the others, and returns whether there is one.
 fn push_named(ranges: &mut Vec<KeyRange>, name: &str) -> Result<bool, Refusal>
     ensures found { IfOk result (λ b. IsTrue b → (range : KeyRange) × IsNameOf name.now range × (ranges.new.items ≡ ranges.old.items ++ range ∷ [])) }
     ensures none { IfOk result (λ b. b ≡ false → (range : KeyRange) → IsNameOf name.now range → ⊥) }
@@ -49,7 +49,7 @@ pub(crate) fn named_ranges(alloc: Global, text: &str) -> Result<Option<Vec<KeyRa
 }
 
 // Promise: A word names ranges exactly when it has the names of at most 64 that cover each id once; they come in range order
-/// The ranges that a comma list of names tells, as `-80,80-`, in the order of their begins. `None` if some part is no
+/// The ranges that a comma list of names has, as `-80,80-`, in the order of their begins. `None` if some part is no
 /// range's name, if there are more than 64, or if some id lies in none of them or in several.
 pub fn read_ranges(alloc: Global, text: &str) -> Result<Option<Vec<KeyRange>>, Refusal>
     ensures found { IfOk result (λ o. IfSome o (λ v. NamesPartition text.now v.items)) }

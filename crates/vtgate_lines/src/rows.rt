@@ -115,7 +115,7 @@ fn put_row_lines(out: &mut Vec<u8>, rows: &[Row]) -> Result<(), Refusal>
     Ok(())
 }
 
-// Puts the line that tells how many rows there are.
+// Puts the line that says how many rows there are.
 fn put_row_count(out: &mut Vec<u8>, count: u64) -> Result<(), Refusal>
     ensures ok { OnOk result (out.new.items ≡ out.old.items ++ line (codes "rows " ++ decimal count)) }
     ensures err { IfErr result (λ e. e ≡ Refusal.OutOfMemory) }
@@ -154,8 +154,8 @@ pub fn put_shown_rows(alloc: Global, out: &mut Vec<u8>, rows: ShownRows) -> Resu
 
 // Promise: Results, counts and refusals have their one printed form
 // With: put_shown_rows, count_line, refusal_line
-/// Puts a result: a line for each row, its values with bars between them, and a line that tells how many rows there are,
-/// as `rows 2`. A number is in decimal, NULL is `NULL`, and a text stands in single quotes, with each byte outside 20..7E,
+/// Puts a result: a line for each row, its values with bars between them, and a line that says how many rows there are,
+/// as `rows 2`. A number is in decimal, NULL is `NULL`, and a text is in single quotes, with each byte outside 20..7E,
 /// each quote and each backslash as `\x` and two lower-case hexadecimal digits. Refuses only for want of memory.
 pub fn put_rows(out: &mut Vec<u8>, rows: &[Row]) -> Result<(), Refusal>
     ensures ok { OnOk result (out.new.items ≡ out.old.items ++ rows_text rows.now) }

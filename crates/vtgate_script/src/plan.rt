@@ -31,8 +31,8 @@ fn planned<I: Source>(
 }
 
 /// Prints the line of a statement's plan, under the VSchema that the whole input declares and over the ranges that the word
-/// of the shards tells, and gives the status 0. Without a plan it is 1 if the statement is refused, whose line is printed, if a device
-/// fails and if there is no memory; and 2 if the word tells no ranges, or more than 63 with an unsharded keyspace, and
+/// of the shards names, and gives the status 0. Without a plan it is 1 if the statement is refused, whose line is printed, if a device
+/// fails and if there is no memory; and 2 if the word names no ranges, or more than 63 with an unsharded keyspace, and
 /// if the input declares no VSchema.
 pub fn run_plan<I: Source, O: Sink, E: Sink>(
     alloc: Global,

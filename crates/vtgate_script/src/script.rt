@@ -179,9 +179,9 @@ fn scripted<R: Threads + Wait + Sync, I: Source, O: Sink>(
     run_over(rt, alloc, schema, &ranges, lines, output)
 }
 
-/// Runs the lines of an input, of which the first declares the VSchema, over the ranges that the word of the shards tells, and gives the
+/// Runs the lines of an input, of which the first declares the VSchema, over the ranges that the word of the shards names, and gives the
 /// status 0. What is printed for a line is written before the next is run. The status is 1 if a device fails or there is no memory for
-/// the input, for what it runs over or for a session; and 2 if the word tells no ranges, or more than 63 with an unsharded keyspace,
+/// the input, for what it runs over or for a session; and 2 if the word names no ranges, or more than 63 with an unsharded keyspace,
 /// and if the first line declares no VSchema. The word is tested before the input is read. Groups
 /// are hashed by the key.
 pub fn run_script<R: Threads + Wait + Sync, I: Source, O: Sink, E: Sink>(

@@ -76,7 +76,7 @@ impl<'l, W: World, J: Naming> Acceptor<'l, W, J> {
     }
 }
 
-/// Tells that the queue of connections is full, if it has become so.
+/// Logs that the queue of connections is full, if it has become so.
 fn tell_full<R: Clock + Log>(rt: &R, logins: &Logins, full_since: &mut Option<Instant>) {
     let waiting = logins.waiting();
     if full_since.is_none() && waiting > QUEUED as u64 {

@@ -146,7 +146,7 @@ fn answer_piece<W: World + Send + Sync, J: Naming + Send + Sync, G: Gate, O: Sin
     put(front, rest)
 }
 
-// Answers the lines that the next piece of the source ends, and tells whether there was one.
+// Answers the lines that the next piece of the source ends, and returns whether there was one.
 fn answer_next<W: World + Send + Sync, J: Naming + Send + Sync, G: Gate, I: Source, O: Sink>(
     rt: &(impl Wait + Clock + Log),
     alloc: Global,

@@ -98,7 +98,7 @@ struct Answers<'s> {
     failures: u64,
 }
 
-// Writes some of the bytes, unless all is served or the client takes nothing for too long, and tells how many.
+// Writes some of the bytes, unless all is served or the client takes nothing for too long, and returns how many.
 fn write_some(
     mut stream: &TcpStream,
     progress: &ServeProgress,

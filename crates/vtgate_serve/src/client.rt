@@ -117,7 +117,7 @@ impl<W: World, J: Naming, R: Clock + Log> RequestReader<'_, W, J, R> {
         }
     }
 
-    /// Tells the statements that were answered last.
+    /// Logs the statements that were answered last.
     pub fn tell_last(&mut self)
         ensures { self.new.failures ≡ self.old.failures }
     {

@@ -103,7 +103,7 @@ fn put_shown<V: VisitSource, D: Display>(
     visitor.visit_pair(key, Value::Display(shown))
 }
 
-// Tells an event that has these fields, if that is asked for.
+// Logs an event that has these fields, if that is asked for.
 fn tell<R: Log, K: Source>(rt: &R, level: Level, event: &str, fields: &K) {
     let metadata = Metadata::new(level, "");
     if rt.enabled(&metadata) {

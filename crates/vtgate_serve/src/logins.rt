@@ -53,7 +53,7 @@ impl Logins {
         self.under_way.fetch_sub(1, Ordering::SeqCst);
     }
 
-    // Ends a login if connections wait and more than half of the workers have one. Tells whether it did.
+    // Ends a login if connections wait and more than half of the workers have one. Returns whether it did.
     fn gives_way(&self) -> bool {
         for _ in 0..TRIES {
             let under_way = self.under_way.load(Ordering::SeqCst);

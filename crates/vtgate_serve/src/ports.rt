@@ -85,7 +85,7 @@ fn last_connection(asked: &ServeArgs<'_>) -> u32
     }
 }
 
-// Tells that it listens.
+// Prints that it listens.
 fn tell_listening<O: Sink>(output: &mut O) -> Result<(), RunFault>
     ensures told { OnOk result (Appends (O.taken output.old) (O.taken output.new) listening_text) }
     ensures fault { IfErr result (λ f. status_of f ≡ FAILURE) }
@@ -96,7 +96,7 @@ fn tell_listening<O: Sink>(output: &mut O) -> Result<(), RunFault>
     }
 }
 
-// Serves the connections that the acceptor accepts, and tells how that ended.
+// Serves the connections that the acceptor accepts, and returns how that ended.
 fn serve_clients<
     W: World + Send + Sync,
     J: Naming + Send + Sync,
@@ -128,7 +128,7 @@ fn serve_clients<
     progress.end(served.is_ok());
 }
 
-// Serves the admin port until the last connection is served, and tells whether it was.
+// Serves the admin port until the last connection is served, and returns whether it was.
 fn serve_operators<W: World + Send + Sync, J: Naming + Send + Sync, G: Gate, R: Wait + Clock + Log>(
     rt: &R,
     alloc: Global,
@@ -287,7 +287,7 @@ fn serve_opened_ports<
     )
 }
 
-// Tells that clients can connect, and to what.
+// Logs that clients can connect, and to what.
 fn tell_started<W: World + Send + Sync, J: Naming + Send + Sync, G: Gate, R: Log>(
     rt: &R,
     asked: &ServeArgs<'_>,

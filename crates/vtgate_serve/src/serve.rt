@@ -97,7 +97,7 @@ fn serve_router<
     }
 }
 
-/// Serves over the VSchema and the ranges in the journal that was opened. The gate stands round each shard's read.
+/// Serves over the VSchema and the ranges in the journal that was opened. The gate wraps each shard's read.
 pub fn serve_opened<
     W: World + Send + Sync,
     J: Naming + Send + Sync,
@@ -259,7 +259,7 @@ fn run_asked<
 
 /// Serves connections as the words of the command line ask, under the VSchema that the whole input declares, and gives the status 0 after the
 /// last one. The status is 1 if a port can't be bound, which is printed, if no thread could be started, if a device fails and if
-/// there is no memory for what it runs over; and 2 if the word of the shards tells no ranges, or more than 63 with an unsharded
+/// there is no memory for what it runs over; and 2 if the word of the shards names no ranges, or more than 63 with an unsharded
 /// keyspace, and if the input declares no VSchema. Words that aren't those of `serve` are wrong: the usage is printed, and the status is 2.
 /// Groups are hashed by the key.
 pub fn run_serve<

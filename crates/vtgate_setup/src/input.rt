@@ -20,7 +20,7 @@ fn zeroed(alloc: Global) -> Result<Vec<u8>, RunFault>
     }
 }
 
-// Puts the next piece of the input after the others, and tells whether there was one.
+// Puts the next piece of the input after the others, and returns whether there was one.
 fn read_piece<I: Source>(
     input: &mut I,
     buffer: &mut [u8],

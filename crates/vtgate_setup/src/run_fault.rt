@@ -69,7 +69,7 @@ pub fn refuse_plainly<O: Sink, E: Sink>(fault: RunFault, output: &mut O, errors:
 // Promise: A run that has failed has the status 2 if its words or its VSchema are wrong, and otherwise 1
 // With: ranges_of, schema_of, has_too_many
 // Clauses: status, fault, many
-/// Tells why a run has failed, and gives its status: 2 if the words or the VSchema are wrong, otherwise 1.
+/// Prints why a run has failed, and returns its status: 2 if the words or the VSchema are wrong, otherwise 1.
 pub fn refuse<O: Sink, E: Sink>(fault: RunFault, output: &mut O, errors: &mut E) -> u8
     ensures failed { result ≢ SUCCESS }
     ensures status { result ≡ status_of fault }

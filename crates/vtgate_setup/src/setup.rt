@@ -17,7 +17,7 @@ use std::str;
 use vschema::{Hashing, SchemaFault, VSchema};
 use vtgate_lines::{MOST_RANGES, read_ranges};
 
-/// The ranges that the word of the shards tells.
+/// The ranges that the word of the shards names.
 pub fn ranges_of(alloc: Global, shards: &str) -> Result<Vec<KeyRange>, RunFault>
     ensures told { IfOk result (λ ranges. NamesPartition shards.now ranges.items) }
     ensures fault { IfErr result (λ f. status_of f ≡ WRONG_WORDS → TellsNone shards.now) }

@@ -13,7 +13,7 @@ use Rattle.client_tokens.specs.Tokens.{onto_tokens}
 use Rattle.sql_lexer.specs.Lexemes.{is_blank, is_letter, is_digit, is_word_byte}
 use Rattle.sql_lexer.specs.inner.Scanning.{run, first_passes}
 
--- what stands at the front, and how many bytes it has
+-- what is at the front, and how many bytes it has
 abbrev pub Front : Type 0
 Front = Option TokenKind × ℕ
 
@@ -39,7 +39,7 @@ unfoldable pub text_len : ℕ → ℕ → TextState → List ℕ → Option ℕ
 text_len quote n place [] = closed n place
 text_len quote n place (b ∷ bytes) = elim (after_byte quote place b) [ Some next ↦ text_len quote (n + 1) next bytes | None ↦ Some n ]
 
--- what stands at the front, after its first byte
+-- what is at the front, after its first byte
 unfoldable pub number_at : List ℕ → Option Front
 number_at bytes = if first_passes is_word_byte (drop (run is_digit bytes) bytes) then None else Some (Some Number, suc (run is_digit bytes))
 

@@ -21,7 +21,7 @@ pub record IsNextHeader (len number : ℕ) (body rest : List ℕ) : Type 0 where
   pub len_small : len < 2 ^ 24
   pub number_small : number < 256
 
--- a payload of the limit stands at the front
+-- a payload of the limit is at the front
 pub record HasPayload (limit first come len : ℕ) (bytes : List ℕ) : Type 0 where
   pub whole : bytes ≡ frame first (payload_at come len bytes) ++ drop (size_of come len) bytes
   pub length_is : length (payload_at come len bytes) ≡ come * full + len
@@ -40,7 +40,7 @@ pub record HasFault (limit : ℕ) (fault : HeaderFault) (bytes : List ℕ) : Typ
   pub refused : header_fault limit first (length parts) len fault.number ≡ Some fault.refusal
   pub in_range : (first < 256) × (len < 2 ^ 24) × (fault.number < 256)
 
--- what stands at the front
+-- what is at the front
 abbrev pub IsFront : ℕ → List ℕ → Front → Type 0
 IsFront limit bytes Waits = IsPartial limit bytes
 IsFront limit bytes (Refused fault) = HasFault limit fault bytes

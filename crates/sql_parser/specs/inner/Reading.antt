@@ -57,7 +57,7 @@ abbrev pub after_at : (Lexeme → Bool) → Lexemes → Option Lexemes
 after_at sep [] = None
 after_at sep (x ∷ ts) = if sep x then Some ts else None
 
--- A separator and an item, as often as they stand there; n is at least the count of tokens
+-- A separator and an item, as often as they are there; n is at least the count of tokens
 unfoldable pub follows_at : {A : Type 0} → (Lexeme → Bool) → (Lexemes → Read A) → ℕ → Lexemes → Read (List A)
 follows_at sep item zero ts = Some ([], ts)
 follows_at sep item (suc n) [] = Some ([], [])
@@ -158,12 +158,12 @@ unfoldable pub null_at : Operand ColumnName → Lexemes → Read (Condition Colu
 null_at left (keyword k.Null ∷ rest) = Some (IsNull left, rest)
 null_at left _ = None
 
--- after an IS, with a NOT only where one may stand
+-- after an IS, with a NOT only if one may be there
 unfoldable pub is_at : Bool → Operand ColumnName → Lexemes → Read (Condition ColumnName)
 is_at true left (keyword k.Not ∷ rest) = null_at left rest >>= λ x. Some (Not x.0, x.1)
 is_at may left ts = null_at left ts
 
--- what comes after an operand, with a NOT only where one may stand
+-- what comes after an operand, with a NOT only if one may be there
 unfoldable pub test_at : Bool → Operand ColumnName → Lexemes → Read (Condition ColumnName)
 test_at may left (operator op ∷ rest) = operand_at rest >>= λ right. Some (Compare op left right.0, right.1)
 test_at may left (keyword k.Is ∷ rest) = is_at may left rest
