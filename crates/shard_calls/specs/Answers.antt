@@ -53,7 +53,7 @@ pub record HasGoneOn (o : Opening) (p : PassView Entry) (added : List (ℕ × �
 abbrev pub HasGone : Opening → PassView Entry → PassView Entry → Type 0
 HasGone o p now = (added : List (ℕ × ℕ)) × HasGoneOn o p added now
 
--- A shard was read if the part's run ends, by one of these looks: it serves then, in the part's range, and has so many entries.
+-- A shard was read at the end of the part's run, by one of these looks: it serves then, in the part's range, and has so many entries.
 pub record IsShardRead (o : Opening) (keyspace : ℕ) (looks : List (ℕ × ℕ)) (part : MixPart) (r : ShardRead) : Type 0 where
   pub looked : Contains looks (r.slot, length part.run)
   pub shard : ShardRecord
