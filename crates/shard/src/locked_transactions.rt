@@ -21,7 +21,7 @@ use vschema::{Query, VSchema, Write};
 use vt_value::Refusal;
 
 impl<W: World, J: Naming> Shard<W, J> {
-    /// Looks once under the shard's lock, as `ShardState::check`. Slot and place are tested as `read` tests them.
+    /// Looks once under the shard's lock, as `ShardState::check`.
     pub fn check(
         &self,
         rt: &impl Wait,
@@ -33,13 +33,8 @@ impl<W: World, J: Naming> Shard<W, J> {
             (IsStopped W.opening s pass.new.seen tx.now) }
         ensures past { mode W.opening pass.new.seen self.now.0 ≡ Mode.Following → ⊥ }
     {
-        for _ in rt.forever() {
-            let mut state = self.state.lock(rt);
-            if state.is_found_at(self.slot, &self.place) {
-                return state.check(pass, tx);
-            }
-        }
-        unreachable!()
+        let mut state = self.own_state(rt);
+        state.check(pass, tx)
     }
 
     /// What a query gives in a transaction under the shard's lock, as `ShardState::read_in`.
@@ -60,13 +55,8 @@ impl<W: World, J: Naming> Shard<W, J> {
             (λ e. IsReadRefusal W.opening s pass.new.seen tx.old e × (tx.new ≡ tx.old)) }
         ensures past { mode W.opening pass.new.seen self.now.0 ≡ Mode.Following → ⊥ }
     {
-        for _ in rt.forever() {
-            let mut state = self.state.lock(rt);
-            if state.is_found_at(self.slot, &self.place) {
-                return state.read_in(alloc, pass, tx, query);
-            }
-        }
-        unreachable!()
+        let mut state = self.own_state(rt);
+        state.read_in(alloc, pass, tx, query)
     }
 
     /// Makes the changes of a write in a transaction under the shard's lock, as `ShardState::write_in`.
@@ -86,13 +76,8 @@ impl<W: World, J: Naming> Shard<W, J> {
             (λ e. IsWriteRefusal W.opening s pass.new.seen tx.old write e × (tx.new ≡ tx.old)) }
         ensures past { mode W.opening pass.new.seen self.now.0 ≡ Mode.Following → ⊥ }
     {
-        for _ in rt.forever() {
-            let mut state = self.state.lock(rt);
-            if state.is_found_at(self.slot, &self.place) {
-                return state.write_in(alloc, pass, tx, schema, write);
-            }
-        }
-        unreachable!()
+        let mut state = self.own_state(rt);
+        state.write_in(alloc, pass, tx, schema, write)
     }
 
     /// Commits a transaction under the shard's lock, as `ShardState::commit_in`.
@@ -111,12 +96,7 @@ impl<W: World, J: Naming> Shard<W, J> {
             (λ e. HasLooked W.opening self.now.0 pass.old pass.new × IsCommitAllRefusal W.opening W.limits s pass.new.seen tx.old e × (tx.new ≡ tx.old)) }
         ensures past { mode W.opening pass.new.seen self.now.0 ≡ Mode.Following → ⊥ }
     {
-        for _ in rt.forever() {
-            let mut state = self.state.lock(rt);
-            if state.is_found_at(self.slot, &self.place) {
-                return state.commit_in(alloc, pass, tx);
-            }
-        }
-        unreachable!()
+        let mut state = self.own_state(rt);
+        state.commit_in(alloc, pass, tx)
     }
 }

@@ -1,13 +1,12 @@
-use Rattle.std.proofs.Common.{sym, ap, ◌∙◌}
+use Rattle.std.proofs.Common.{sym, ap}
+use Rattle.std.specs.Sync.Mutex.{mutex_guard_value}
 use Rattle.journal.specs.Views.{PassView}
 use Rattle.shard_run.specs.declared.Entry.{Entry}
-use Rattle.serving.specs.Partitions.{Seat}
 use Rattle.shard.proofs.Found.{found_past}
 use Rattle.shard.proofs.locked.Shard.write_in.Goals as goal
 
-pub returns-then-is_found_at-clause-past : goal.returns-then-is_found_at-clause-past
-returns-then-is_found_at-clause-past g c =
-    let at = c.is_found_at.ensures.at c.if-is_found_at.true in
-    found_past g.W.World.opening c.deref_mut.result.now c.deref.result.now (c.deref_mut.ensures.value ∙ sym c.deref.ensures)
-    (c.is_found_at.ensures.past c.if-is_found_at.true) c.args.self.now.0 (at.0 ∙ ap (λ (v : Seat). v.0) c.self.view_is) c.write_in.new.self.seen c.write_in.new.pass.seen
+pub returns-clause-past : goal.returns-clause-past
+returns-clause-past g c =
+    found_past g.W.World.opening c.deref_mut.result.now (mutex_guard_value c.own_state-state.result) c.deref_mut.ensures.value
+    c.own_state-state.ensures.past c.args.self.now.0 c.own_state-state.ensures.at.0 c.write_in.new.self.seen c.write_in.new.pass.seen
     c.write_in.ensures.seen.seat (sym (ap (λ (x : PassView Entry). x.seen) c.write_in.ensures.pass))
