@@ -3,6 +3,8 @@ ghost use Rattle.std.specs.Prelude.{◌≡◌, ◌&&◌, IsTrue, IfSome, IfOk, I
 ghost use Rattle.std.specs.List.{list_any};
 ghost use Rattle.vt_value.specs.declared.value.Value.{Value as V};
 ghost use Rattle.keyrange.specs.Ranges.{has_id};
+ghost use Rattle.keyrange.specs.declared.KeyRange.{KeyRange};
+ghost use Rattle.vschema.specs.declared.schema.Table.{Table};
 ghost use Rattle.planner.specs.Routes.{members_with, first_of, is_held, id_of};
 ghost use Rattle.planner.specs.Plans.{has_among, first_cut, cut_members, cut_in, cut_by, cut_of, is_member_of, shard_filter, piece_of};
 
@@ -242,9 +244,21 @@ fn shard_condition(
 }
 
 impl Plan {
+    /// The piece, if the shard of each range answers it as it is: under every route but IN. Nothing is copied.
+    pub fn whole_piece(&self) -> Option<&Query>
+        ensures { IfSome result (λ piece. (table : Table) (range : KeyRange) → piece.now ≡ piece_of table self.now range) }
+    {
+        match &self.route {
+            Route::In(_) => None,
+            Route::Unsharded | Route::None | Route::EqualUnique(_) | Route::Scatter => {
+                Some(&self.piece)
+            }
+        }
+    }
+
     // Promise: Each shard's piece, the finish of the pieces' answers, a write's route, the ordinals of a route among ranges, and whether a
     // route takes a range, also by an id that was made before, are as written
-    // With: Finish::{answer, answer_in_order}, write_route, shards, takes, single_id, takes_by, copy_items
+    // With: Finish::{answer, answer_in_order}, Plan::whole_piece, write_route, shards, takes, single_id, takes_by, copy_items
     /// The query that the shard of a range answers: the piece, under IN with the members of that conjunct cut to the shard's own.
     /// `table` is the query's table. Refuses only for want of memory.
     pub fn piece_for(

@@ -29,6 +29,8 @@ use Rattle.vschema.specs.contracts.schema.Query as query
 use Rattle.vschema.proofs.schema.Place.TheSendSync as place
 use Rattle.vt_value.proofs.refusal.Refusal.TheSendSync as refusal
 use Rattle.shard_contents.proofs.outcomes.ReadOutcome.TheSendSync as reading
+use Rattle.shard_calls.specs.contracts.pieces.Piece as piece
+use Rattle.shard_calls.specs.contracts.pieces.Piece.TheInside as piece_inside
 use Rattle.shard_calls.specs.contracts.scatter.ReadJob as job
 use Rattle.shard_calls.specs.contracts.scatter.ReadResult as done
 
@@ -38,6 +40,15 @@ captures_send n rs all = recorded_send (field_at n rs).row _ _ (type_at n rs).to
 
 pub query_send : IsSend query.the_field.row
 query_send = search (std.crosses, condition.crosses, sendable) depth 60 fits 20000
+
+query_sync : IsSync query.the_row
+query_sync = search (std.crosses, condition.crosses, sendable) depth 60 fits 20000
+
+piece_send : (ℓ : _) → IsSend (piece.the_row ℓ)
+piece_send ℓ =
+    view_send _ _ _ _ _
+    (recorded_send (piece_inside.the_field ℓ).row _ _ (piece_inside.the_type ℓ).to_one
+    (struct_send (shape (piece_inside.the_type ℓ)) (shr_send _ _ _ query_sync, (search (query_send, std.crosses, condition.crosses, sendable) depth 60 fits 20000, tt))))
 
 contents_send : IsSend contents.the_field.row
 contents_send = search (entry_send, store.the_send, std.crosses, sendable) depth 60 fits 20000
@@ -67,7 +78,7 @@ module _ (W J : RattleType) (w : world.Ghosts W.Denot) (j : naming.Ghosts J.Deno
   pub job_send : (ℓ : _) → IsSend (job.the_row ℓ W J w j)
   job_send ℓ =
       recorded_send (job.the_field ℓ W J w j).row _ _ (job.the_type ℓ W J w j).to_one
-      (struct_send (shape (job.the_type ℓ W J w j)) (search sendable, (shr_send _ _ _ shard_shared, (query_send, (search sendable, (pass_send, tt))))))
+      (struct_send (shape (job.the_type ℓ W J w j)) (search sendable, (shr_send _ _ _ shard_shared, (piece_send ℓ, (search sendable, (pass_send, tt))))))
 
   pub done_send : IsSend (done.the_row W J w j)
   done_send =

@@ -3,6 +3,7 @@
 
 mod gate;
 mod parts;
+mod pieces;
 mod reply;
 mod scatter;
 mod transactions;
@@ -10,6 +11,7 @@ mod tx;
 
 pub use gate::{Gate, Open};
 pub use parts::{look_at_each, only_needed, shard_of};
+pub use pieces::Piece;
 pub use reply::{Answer, Reply, Selected, ShardRead, Tried, counted};
 pub use scatter::{Gathered, ReadJob, ReadResult, gather, jobs, read_all};
 pub use transactions::{

@@ -9,6 +9,7 @@ ghost use Rattle.shard_calls.specs.Answers.{HasGone};
 ghost use Rattle.shard_calls.specs.inner.Scatter.{asked, all_asked, IsReadingOf, outcome_rows, entries_in, IsGathered, AreConsecutive, IsStalled};
 
 use crate::gate::Gate;
+use crate::pieces::{Piece, piece_for};
 use crate::reply::ShardRead;
 use journal::Naming;
 use operators::{Operator, Rows};
@@ -29,7 +30,7 @@ use vt_value::{Items, Refusal};
 pub struct ReadJob<'e, W: World, J: Naming> {
     pub turn: usize,
     pub shard: &'e Shard<W, J>,
-    pub query: Query,
+    pub query: Piece<'e>,
     pub most: usize,
     pub pass: ShardPass<W, J>,
 }
@@ -113,7 +114,7 @@ fn job_for<'e, W: World, J: Naming>(
     turn: usize,
     part: &'e ShardReference<Shard<W, J>>,
     table: &Table,
-    plan: &Plan,
+    plan: &'e Plan,
 ) -> Result<ReadJob<'e, W, J>, Refusal>
     requires keyspace { part.now.2 ≡ table.now.keyspace }
     ensures same { pass.new ≡ pass.old }
@@ -123,11 +124,11 @@ fn job_for<'e, W: World, J: Naming>(
 {
     let range = part.range();
     let pass = pass.split()?;
-    match plan.piece_for(alloc, table, &range) {
+    match piece_for(alloc, table, plan, &range) {
         Ok(query) => Ok(ReadJob {
             turn,
             shard: part.shard(),
-            most: most_rows(table, &query),
+            most: most_rows(table, query.get()),
             query,
             pass,
         }),
@@ -144,7 +145,7 @@ pub fn jobs<'e, W: World, J: Naming>(
     pass: &mut ShardPass<W, J>,
     parts: &'e [ShardReference<Shard<W, J>>],
     table: &Table,
-    plan: &Plan,
+    plan: &'e Plan,
 ) -> Result<Vec<ReadJob<'e, W, J>>, Refusal>
     requires keyspace { AreOf table.now.keyspace parts.now }
     ensures same { pass.new ≡ pass.old }
@@ -181,7 +182,7 @@ fn read_one<W: World, J: Naming, G: Gate>(
     } = job;
     let slot = shard.slot();
     gate.before(turn);
-    let outcome = shard.read(rt, alloc, &mut pass, &query);
+    let outcome = shard.read(rt, alloc, &mut pass, query.get());
     gate.after(turn);
     drop(query);
     ReadResult {
@@ -196,10 +197,11 @@ fn is_small<W: World, J: Naming>(job: &ReadJob<W, J>, most: usize) -> bool {
     if job.most <= most {
         return true;
     }
-    if !job.shard.is_small(job.query.table, most) {
+    let query = job.query.get();
+    if !job.shard.is_small(query.table, most) {
         return false;
     }
-    match job.query.join {
+    match query.join {
         Some(join) => job.shard.is_small(join.table, most),
         None => true,
     }

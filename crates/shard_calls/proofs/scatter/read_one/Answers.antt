@@ -13,6 +13,6 @@ returns g c =
       on_slot = is.2;
       in_place = is.3;
       looked = is.4;
-      read = is.5;
+      read = rw c.get.ensures at is.5;
       refused = c.read-outcome.ensures.err;
     }
