@@ -17,7 +17,6 @@ pub fn answer<R: Threads + Wait + Sync + Clock + Net<Listener = TcpListener, Str
 ) -> Result<(), Unanswered> {
     match area {
         "talk" => talks::whole_talk(rt, alloc, case, told),
-        "around" => talks::around(rt, alloc, case, told),
         "served" => talks::service(rt, alloc, case, told),
         "run" => runs::whole(rt, alloc, case, told),
         "failing_run" => runs::failing(rt, alloc, case, told),

@@ -3,7 +3,6 @@
 //! | Area | Fields | Answer |
 //! |---|---|---|
 //! | `talk` | how a session begins, a text | how it ends if its client sends the text, and what is written |
-//! | `around` | two texts | how a session in its command phase ends if its client sends the first text and, once another session has deleted the row of id 1, the second; and what is written |
 //! | `served` | a device, a text | how a session ends that is served by the device if its client sends the text, what is written, how often its sink failed, and what is answered to another session that deletes the row of id 1 then |
 //! | `run` | an input, the words of the command line | the status of the program's run, its output, and its standard error, in brackets |
 //! | `failing_run` | a device, an input, the words | the status, standard error, and how many writes are left: the `source` fails after the input, or the `sink` after two writes |

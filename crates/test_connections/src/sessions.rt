@@ -72,8 +72,6 @@ pub(crate) enum Talk<'a> {
     Fed(Fed<'a>),
     /// It serves the user u, who has no password and is greeted by twenty A, and who sends this.
     Served(Device, &'a [u8]),
-    /// In its command phase it is fed the first, and, once another session has deleted the first row, the second.
-    Around(&'a [u8], &'a [u8]),
 }
 
 /// How a session ends.
@@ -101,8 +99,7 @@ fn feed<W: World + Send + Sync, J: Naming + Send + Sync, R: Threads + Wait + Syn
 ) -> Ended
     requires session { IsSome pass.old.session }
     requires tx { IsOf W.opening core.old.tx pass.old }
-    ensures session { IsSome pass.new.session }
-    ensures tx { IsOf W.opening core.new.tx pass.new }
+    ensures { IsSome pass.new.session }
 {
     let piece_len = if talk.is_by_bytes { 1 } else { LARGE };
     core.feed(rt, alloc, engine, pass, &[], sink)?;
@@ -110,15 +107,6 @@ fn feed<W: World + Send + Sync, J: Naming + Send + Sync, R: Threads + Wait + Syn
         core.feed(rt, alloc, engine, pass, piece, sink)?;
     }
     Ok(core.end_of_input())
-}
-
-// A session that begins so and is fed with this in large pieces.
-fn in_large_pieces<'a>(beginning: &'a Beginning, input: &'a [u8]) -> Fed<'a> {
-    Fed {
-        beginning,
-        input,
-        is_by_bytes: false,
-    }
 }
 
 // Holds a conversation.
@@ -159,8 +147,12 @@ impl<W: World + Send + Sync, J: Naming + Send + Sync, R: Threads + Wait + Sync> 
 
     // Writes the replies to one command in the command phase.
     fn command(&mut self, packet: &[u8], reply: &mut Writer<Vec<u8>>) -> Result<(), Refusal> {
-        let beginning = Beginning::Commands;
-        match self.converse(&in_large_pieces(&beginning, packet), reply)? {
+        let talk = Fed {
+            beginning: &Beginning::Commands,
+            input: packet,
+            is_by_bytes: false,
+        };
+        match self.converse(&talk, reply)? {
             Ok(_) => Ok(()),
             Err(_) => Err(Refusal::OutOfMemory),
         }
@@ -217,38 +209,8 @@ impl<W: World + Send + Sync, J: Naming + Send + Sync, R: Threads + Wait + Sync> 
         self.serve(&mut source, sink)
     }
 
-    // Holds a conversation, in which another deletes the first row.
-    fn converse_around(
-        &mut self,
-        other: &mut Client<'_, W, J, R>,
-        before: &[u8],
-        after: &[u8],
-        sink: &mut Writer<Vec<u8>>,
-        reply: &mut Writer<Vec<u8>>,
-    ) -> Result<Ended, Refusal> {
-        let beginning = Beginning::Commands;
-        let (rt, alloc, engine) = (self.rt, self.alloc, self.engine);
-        let mut core = core_of(alloc, &beginning)?;
-        let first = in_large_pieces(&beginning, before);
-        let begun = feed(rt, alloc, engine, &mut self.pass, &mut core, &first, sink);
-        let deleted = other.command(DELETE_FIRST, reply);
-        let second = in_large_pieces(&beginning, after);
-        let ended = feed(rt, alloc, engine, &mut self.pass, &mut core, &second, sink);
-        deleted?;
-        Ok(begun.and(ended))
-    }
-
-    fn talk(
-        &mut self,
-        other: &mut Client<'_, W, J, R>,
-        talk: Talk<'_>,
-        sink: &mut Writer<Vec<u8>>,
-        reply: &mut Writer<Vec<u8>>,
-    ) -> Result<Ended, Refusal> {
+    fn talk(&mut self, talk: Talk<'_>, sink: &mut Writer<Vec<u8>>) -> Result<Ended, Refusal> {
         match talk {
-            Talk::Around(before, after) => {
-                self.converse_around(other, before, after, sink, reply)
-            }
             Talk::Fed(fed) => self.converse(&fed, sink),
             Talk::Served(Device::FailingSource, input) => {
                 Ok(self.serve_failing_source(input, sink))
@@ -265,47 +227,16 @@ impl<W: World + Send + Sync, J: Naming + Send + Sync, R: Threads + Wait + Sync> 
     // Talks, once the rows are in the table.
     fn talk_over_rows(
         &mut self,
-        other: &mut Client<'_, W, J, R>,
         talk: Talk<'_>,
         sink: &mut Writer<Vec<u8>>,
-        reply: &mut Writer<Vec<u8>>,
     ) -> Result<Ended, Refusal> {
         self.command(ROWS, sink)?;
         sink.writer.clear();
-        self.talk(other, talk, sink, reply)
+        self.talk(talk, sink)
     }
 }
 
-// A client with a session of its own.
-fn client_of<'e, W: World + Send + Sync, J: Naming + Send + Sync, R: Threads + Wait + Sync>(
-    rt: &'e R,
-    alloc: Global,
-    engine: &'e Engine<W, J, Open>,
-    opener: &mut Opener<ShardLaw<W>, J>,
-    seen: &mut ShardPass<W, J>,
-) -> Result<Client<'e, W, J, R>, Refusal> {
-    Ok(Client {
-        rt,
-        alloc,
-        engine,
-        pass: opener.open(seen)?,
-    })
-}
-
 // One session talks, and then another deletes the first row.
-fn talk_and_delete<W: World + Send + Sync, J: Naming + Send + Sync, R: Threads + Wait + Sync>(
-    first: &mut Client<'_, W, J, R>,
-    second: &mut Client<'_, W, J, R>,
-    talk: Talk<'_>,
-    sink: &mut Writer<Vec<u8>>,
-    reply: &mut Writer<Vec<u8>>,
-) -> Result<Ended, Refusal> {
-    let ended = first.talk_over_rows(second, talk, sink, reply);
-    second.command(DELETE_FIRST, reply)?;
-    ended
-}
-
-// The same of two clients that are opened for it.
 fn serve_two<W: World + Send + Sync, J: Naming + Send + Sync, R: Threads + Wait + Sync>(
     rt: &R,
     alloc: Global,
@@ -316,9 +247,24 @@ fn serve_two<W: World + Send + Sync, J: Naming + Send + Sync, R: Threads + Wait 
     sink: &mut Writer<Vec<u8>>,
     reply: &mut Writer<Vec<u8>>,
 ) -> Result<Ended, Refusal> {
-    let mut first = client_of(rt, alloc, engine, opener, seen)?;
-    let mut second = client_of(rt, alloc, engine, opener, seen)?;
-    talk_and_delete(&mut first, &mut second, talk, sink, reply)
+    let mut first = Client {
+        rt,
+        alloc,
+        engine,
+        pass: opener.open(seen)?,
+    };
+    let ended = first.talk_over_rows(talk, sink);
+    drop(first);
+    let mut second = Client {
+        rt,
+        alloc,
+        engine,
+        pass: opener.open(seen)?,
+    };
+    let deleted = second.command(DELETE_FIRST, reply);
+    drop(second);
+    deleted?;
+    ended
 }
 
 fn serve_opened<W: World + Send + Sync, J: Naming + Send + Sync, R: Threads + Wait + Sync>(

@@ -138,17 +138,3 @@ pub(crate) fn service<R: Threads + Wait + Sync>(
     let input = text_of(alloc, sent)?;
     put_talk(rt, alloc, Talk::Served(device, &input), told)
 }
-
-/// A session in its command phase, whose client sends one text and, once another session has deleted the first row, another: how it ends, and
-/// what is written.
-pub(crate) fn around<R: Threads + Wait + Sync>(
-    rt: &R,
-    alloc: Global,
-    case: &str,
-    told: &mut CaseAnswer,
-) -> Result<(), Unanswered> {
-    let (before, after) = fields(case)?;
-    let before = text_of(alloc, before)?;
-    let after = text_of(alloc, after)?;
-    put_talk(rt, alloc, Talk::Around(&before, &after), told)
-}

@@ -36,7 +36,7 @@ fn answer<
         "scene" => test_router::answer(rt, alloc, case, told),
         "soak" => test_soak::answer(rt, alloc, case, told),
         "measure" => bench::answer(rt, alloc, case, told),
-        "talk" | "around" | "served" | "run" | "failing_run" | "loopback" => {
+        "talk" | "served" | "run" | "failing_run" | "loopback" => {
             test_connections::answer(rt, alloc, area, case, told)
         }
         _ => test_cases::answer(alloc, area, case, told),
