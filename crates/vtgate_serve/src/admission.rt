@@ -16,6 +16,16 @@ pub struct Admission<'w> {
     ghost stage2: { access.stage2 ≡ asked.now.stage2 },
 }
 
+impl<'w> Admission<'w> {
+    /// What the salts of its greetings are made of, with the numbers of the connections.
+    pub fn nonce(&self) -> &'w [u8]
+        ensures { result.now ≡ self.now.asked.now.nonce }
+    {
+        let asked = self.asked;
+        asked.nonce
+    }
+}
+
 // Promise: The server lets in the user and the password of its words, and greets by their nonce
 // With: serve_connection
 /// The admission that the words ask for. Refuses only for want of memory.

@@ -107,8 +107,7 @@ pub fn serve_connection<
     ensures source_count { I.failures source.new ≡ read_failures_after result (I.failures source.old) }
     ensures sink_count { O.failures sink.new ≡ write_failures_after result (O.failures sink.old) }
 {
-    let asked = admission.asked;
-    let salt = salt_of(asked.nonce, u64::from(number));
+    let salt = salt_of(admission.nonce(), u64::from(number));
     let access = &admission.access;
     serve(rt, alloc, engine, pass, access, &salt, number, source, sink)
 }

@@ -1,0 +1,6 @@
+use Rattle.std.proofs.Common.{ap}
+use Rattle.vtgate_setup.specs.ServeArgs.{ServeArgsView}
+use Rattle.vtgate_serve.proofs.admission.Admission.nonce.Goals as goal
+
+pub returns : goal.returns
+returns c = ap (λ (a : ServeArgsView). a.nonce) c.asked.view_is
