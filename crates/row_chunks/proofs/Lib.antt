@@ -1,0 +1,4 @@
+mod Changes
+mod Copies
+mod Shelf
+mod Counts

@@ -1,0 +1,49 @@
+use crate::chunk::{Chunk, Same};
+use std::collections::btree_map::Range;
+use std::marker::Model;
+
+/// The entries of a map that are still to come, in the order of their keys. Contracts see them.
+#[derive(Drop)]
+pub struct Walk<'a, K: Ord, V> {
+    pub(crate) first: Option<Range<'a, K, V>>,
+    pub(crate) rest: &'a [Chunk<K, V>],
+}
+
+impl<'a, K: Ord, V> Model for Walk<'a, K, V> {
+    ghost use Rattle.std.specs.Prelude.{List};
+    ghost use Rattle.row_chunks.specs.Chunks.{left_of};
+
+    ghost Value = { List (K × V) };
+
+    ghost view = { λ w. left_of w.first w.rest.now };
+}
+
+impl<'a, K: Ord + Same, V: Same> Iterator for Walk<'a, K, V> {
+    ghost use Rattle.std.specs.Prelude.{length};
+    ghost use Rattle.std.specs.Iterator.{at_most};
+    ghost use Rattle.std.specs.Map.Iter.{TakesFirst, deref_pair};
+
+    type Item = (&'a K, &'a V);
+
+    ghost next_gives = { TakesFirst deref_pair };
+
+    ghost remaining = { λ s. at_most (length s) };
+
+    fn next(&mut self) -> Option<(&'a K, &'a V)> {
+        if let Some(mut first) = self.first.take() {
+            if let Some(entry) = first.next() {
+                self.first = Some(first);
+                return Some(entry);
+            }
+        }
+        while let Some((chunk, rest)) = self.rest.split_first() {
+            self.rest = rest;
+            let mut first = chunk.rows().range(..);
+            if let Some(entry) = first.next() {
+                self.first = Some(first);
+                return Some(entry);
+            }
+        }
+        None
+    }
+}
