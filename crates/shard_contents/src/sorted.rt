@@ -1,8 +1,9 @@
 //! Tables in the order of their primary keys, which a shard that stores them in another order keeps while they are copied to targets.
-ghost use Rattle.std.specs.Prelude.{◌≡◌, ◌<◌, ◌≤◌, ◌==◌, ◌++◌, ◌∷◌, [], IfOk, IfErr, IfSome, OnOk, IsPermutation, List, drop, option_copied, length, position};
+ghost use Rattle.std.specs.Prelude.{◌≡◌, ◌<◌, ◌≤◌, ◌==◌, ◌++◌, ◌∷◌, [], IsSome, IfOk, IfErr, IfSome, OnOk, IsPermutation, List, drop, option_copied, length, position};
 ghost use Rattle.vschema.specs.Database.{Database, rows_of, without, all_applied};
 ghost use Rattle.shard_run.specs.declared.Entry as entry;
 ghost use Rattle.shard_run.specs.Runs.{stored_changes};
+ghost use Rattle.shard_store.specs.Slots.{slot_at};
 ghost use Rattle.shard_store.specs.Tables.{key_at};
 ghost use Rattle.shard_contents.specs.Copying.{is_left_to_copy};
 ghost use Rattle.shard_contents.specs.inner.Placed.{AreFirst};
@@ -14,7 +15,7 @@ use crate::copying::{NextTable, stored_changes};
 use crate::next_rows::{COPY_STEP, first_wanted};
 use crate::store::changed_table;
 use shard_run::Entry;
-use shard_store::{AllRows, RowKey, RowSource, StoredTables, TableRows};
+use shard_store::{AllRows, RowKey, RowSource, SharedRow, StoredTables, TableRows};
 use std::alloc::Global;
 use std::marker::Model;
 use vschema::{Place, RowChange, Table};
@@ -37,11 +38,12 @@ impl Model for SortedTable {
     ghost view = { λ t. record { table = t.table; stored = t.stored; rows = t.rows.rows } };
 }
 
-// The key of a row, with memory for the row.
+// The key of a row, with memory to put the row in or to take it out.
 fn make_room(alloc: Global, rows: &mut TableRows, row: &Row) -> Result<RowKey, Refusal>
     ensures rows { rows.new.rows ≡ rows.old.rows }
     ensures key { IfOk result (λ key. key.values ≡ key_at rows.new.ordinals row.now) }
     ensures room { OnOk result (0 < rows.new.room) }
+    ensures ready { IfOk result (λ key. IsSome (slot_at rows.new.ready key)) }
     ensures err { IfErr result (λ e. e ≡ Refusal.OutOfMemory) }
 {
     let key = rows.key_of(alloc, row)?;
@@ -55,7 +57,7 @@ fn add_copy(alloc: Global, rows: &mut TableRows, row: &Row) -> Result<(), Refusa
     ensures err { IfErr result (λ e. e ≡ Refusal.OutOfMemory) }
 {
     let key = make_room(alloc, rows, row)?;
-    let row = copy_row(alloc, row)?;
+    let row = SharedRow::new(alloc, copy_row(alloc, row)?)?;
     rows.add(&key, row);
     Ok(())
 }
@@ -66,7 +68,7 @@ fn remove(alloc: Global, rows: &mut TableRows, row: &Row) -> Result<(), Refusal>
     ensures err { IfErr result (λ e. e ≡ Refusal.OutOfMemory) }
 {
     rows.reserve_freed(1)?;
-    let key = rows.key_of(alloc, row)?;
+    let key = make_room(alloc, rows, row)?;
     rows.remove(&key, row);
     rows.free(key);
     rows.sweep();

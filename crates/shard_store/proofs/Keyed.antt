@@ -1,5 +1,5 @@
 -- A table's rows, where each stands in the slot of its own key.
-use Rattle.std.proofs.Common.{◌≡◌, ◌≤◌, ℕ, Bool, true, false, cond, ◌||◌, List, [], ◌∷◌, ◌++◌, length, filter, option_to_list, Option, Some, None, is_some, option_copied, Bor, refl, sym, ap, ◌∙◌, subst, arith}
+use Rattle.std.proofs.Common.{◌≡◌, ◌≤◌, ℕ, Bool, true, false, cond, ◌||◌, List, [], ◌∷◌, ◌++◌, length, filter, option_to_list, Option, Some, None, Result, Ok, Err, is_some, option_copied, Bor, refl, sym, ap, ◌∙◌, subst, arith}
 use Rattle.std.proofs.lemmas.List.{append-nil, length-append}
 use Rattle.std.specs.List.{AllByRecursion, list_any}
 use Rattle.std.specs.List.Sorted.{IsStrictlySortedBy}
@@ -11,7 +11,7 @@ use Rattle.std.specs.Cmp.Lexicographic.{slice_cmp}
 use Rattle.std.specs.declared.cmp.Ordering.{Ordering}
 use Rattle.std.specs.declared.cmp.Ordering.TheVariants.{Less, Equal, Greater}
 use Rattle.vt_value.specs.declared.value.Value.{Value}
-use Rattle.std.specs.Prelude.{slice_index}
+use Rattle.std.specs.Prelude.{slice_index, OnOk, OnErr}
 use Rattle.vt_value.specs.Values.{Row, value_at, value_cmp}
 use Rattle.vschema.specs.Database.{same_row, without}
 use Rattle.shard_store.specs.declared.key.RowKey.{RowKey}
@@ -214,10 +214,15 @@ pub keyed_reserved : (ordinals : List ℕ) (key : RowKey) (old new : List Slot) 
 keyed_reserved ordinals key old new is h =
     subst (Keyed ordinals) (sym is) (keyed_either ordinals old (with_slot key old) h (keyed_slot ordinals key old h) (is_some (slot_at old key)))
 
-pub keyed_swept : (ordinals : List ℕ) (key : RowKey) (old new : List Slot) → new ≡ cond (is_some (row_at old key)) old (without_slot key old)
-    → Keyed ordinals old → Keyed ordinals new
-keyed_swept ordinals key old new is h =
-    subst (Keyed ordinals) (sym is) (keyed_either ordinals old (without_slot key old) h (keyed_less ordinals key old h) (is_some (row_at old key)))
+-- a slot that is made, unless memory is wanting
+pub keyed_tried : {X E : Type 0} (ordinals : List ℕ) (key : RowKey) (old new : List Slot) (result : Result X E)
+    → OnOk result (new ≡ cond (is_some (slot_at old key)) old (with_slot key old)) → OnErr result (new ≡ old) → Keyed ordinals old → Keyed ordinals new
+keyed_tried ordinals key old new (Ok x) is same h = keyed_reserved ordinals key old new is h
+keyed_tried ordinals key old new (Err e) is same h = subst (Keyed ordinals) (sym same) h
+
+pub keyed_swept : (ordinals : List ℕ) (key : RowKey) (old new : List Slot) (idle : Bool) → new ≡ cond idle (without_slot key old) old → Keyed ordinals old → Keyed ordinals new
+keyed_swept ordinals key old new idle is h =
+    subst (Keyed ordinals) (sym is) (keyed_either ordinals (without_slot key old) old (keyed_less ordinals key old h) h idle)
 
 pub keyed_added : (ordinals : List ℕ) (key : RowKey) (row : Row) (old new : List Slot) → new ≡ with_row key (Some row) old → key.values ≡ key_at ordinals row
     → Keyed ordinals old → Keyed ordinals new

@@ -1,5 +1,5 @@
 -- The rows of a table with changes that the table does not have.
-use Rattle.std.proofs.Common.{◌≡◌, ℕ, Bool, true, false, cond, ◌||◌, ◌&&◌, not, ◌<◌, zero, suc, List, [], ◌∷◌, ◌++◌, length, get_or, position, map, filter, option_to_list, Option, Some, None, Bor, refl, sym, ap, ◌∙◌, subst, arith}
+use Rattle.std.proofs.Common.{◌≡◌, ℕ, Bool, true, false, cond, ◌||◌, ◌&&◌, not, ◌<◌, zero, suc, List, [], ◌∷◌, ◌++◌, length, get_or, position, map, filter, option_to_list, Option, Some, Bor, refl, sym, ap, ◌∙◌, subst, arith}
 use Rattle.std.specs.Prelude.{nat_lt}
 use Rattle.std.specs.List.{list_any, remove, position_or_len}
 use Rattle.std.specs.Map.{keys_of}
@@ -22,7 +22,6 @@ use Rattle.shard_store.specs.inner.Joined.{rows_lent}
 use Rattle.shard_store.specs.inner.Overlays.{ColumnKeys, lent_key, lent_cmp, is_gone, left_of}
 use Rattle.shard_store.proofs.Rows.{row_is, nil_is, head_is, tail_is}
 use Rattle.shard_store.proofs.Bags.{same_self}
-use Rattle.shard_store.proofs.Keyed.{some_first}
 
 -- ---- rows that are found by their keys
 

@@ -9,8 +9,9 @@ use Rattle.vschema.specs.declared.changes.RowChange.TheVariants.{Added, Replaced
 use Rattle.vschema.specs.Database.{Database, without, changed_table, applied, all_applied}
 use Rattle.shard_store.specs.declared.key.KeyedChange.{KeyedChange}
 use Rattle.shard_store.specs.declared.key.KeyedChange.TheVariants.{Put, Take}
-use Rattle.shard_store.specs.Stores.{StoreView, room_of, change_in, changes_in, HasItsKey, puts_into, HasRoomFor}
+use Rattle.shard_store.specs.Stores.{StoreView, room_of, change_in, changes_in, IsByItsKey, HasReadySlot, puts_into, HasRoomFor}
 use Rattle.shard_store.specs.inner.Stores.{split, all_split}
+use Rattle.shard_store.proofs.Tabled.{StaysReady, ready_stays}
 
 -- a row is taken from a table, and another put in
 taken-put : (db : Database) (n : ℕ) (f g : List Row → List Row)
@@ -51,9 +52,9 @@ pub keyed_there : (n : ℕ) (changes : List RowChange) (keyed : List KeyedChange
 keyed_there n changes keyed is h =
     from_changes n keyed (subst (AllByRecursion (λ d. changed_table d < n)) (sym is) (all_split_there n changes h))
 
-pub keys_push : (s : StoreView) (keyed : List KeyedChange) (c : KeyedChange) → AllByRecursion (HasItsKey s) keyed → HasItsKey s c
-    → AllByRecursion (HasItsKey s) (keyed ++ c ∷ [])
-keys_push s keyed c h g = all_join (HasItsKey s) keyed (c ∷ []) h (g, tt)
+pub keys_push : (s : StoreView) (keyed : List KeyedChange) (c : KeyedChange) → AllByRecursion (IsByItsKey s) keyed → IsByItsKey s c
+    → AllByRecursion (IsByItsKey s) (keyed ++ c ∷ [])
+keys_push s keyed c h g = all_join (IsByItsKey s) keyed (c ∷ []) h (g, tt)
 
 pub changes_push : (keyed : List KeyedChange) (c : KeyedChange) → changes_in (keyed ++ c ∷ []) ≡ changes_in keyed ++ change_in c ∷ []
 changes_push [] c = refl
@@ -112,6 +113,14 @@ room_next old new changes n c within is more enough all =
     let next : AllByRecursion P (take (suc n) changes) = all_take_next P changes n c within kept (subst P is enough) in
     let same : suc n ≡ n + 1 = omega arith in
     subst (λ k. AllByRecursion P (take k changes)) same next
+
+pub ready_next : (old new : StoreView) (changes : List KeyedChange) (n : ℕ) (c : KeyedChange) → n < length changes → c ≡ get_or changes n c → StaysReady old new → HasReadySlot new c
+    → AllByRecursion (HasReadySlot old) (take n changes) → AllByRecursion (HasReadySlot new) (take (n + 1) changes)
+ready_next old new changes n c within is still one all =
+    let kept = all_weaker (HasReadySlot old) (HasReadySlot new) (λ d h. ready_stays old new still d h) (take n changes) all in
+    let next : AllByRecursion (HasReadySlot new) (take (suc n) changes) = all_take_next (HasReadySlot new) changes n c within kept (subst (HasReadySlot new) is one) in
+    let same : suc n ≡ n + 1 = omega arith in
+    subst (λ k. AllByRecursion (HasReadySlot new) (take k changes)) same next
 
 some_room : (s : StoreView) (least n : ℕ) (changes : List KeyedChange) → AllByRecursion (λ c. least ≤ room_of s (ordinal_of c)) changes
     → (count_by (puts_into n) changes ≡ 0) ⊎ (least ≤ room_of s n)

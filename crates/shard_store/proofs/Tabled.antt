@@ -1,16 +1,18 @@
 -- What a change of one table of a store does to the store: to its rows, the places of its key columns and its room.
-use Rattle.std.proofs.Common.{IsTrue, count_by, ◌≡◌, ℕ, zero, suc, ◌+◌, ◌<◌, ◌≤◌, cond, List, [], ◌∷◌, length, get_or, set, map, IsPermutation, refl, sym, ap, ◌∙◌, subst, arith}
+use Rattle.std.proofs.Common.{IsTrue, IsSome, count_by, ◌≡◌, ℕ, zero, suc, ◌+◌, ◌<◌, ◌≤◌, cond, List, [], ◌∷◌, ◌++◌, length, get_or, set, take, map, IsPermutation, refl, sym, ap, ◌∙◌, subst, arith}
 use Rattle.std.specs.List.{AllByRecursion}
 use Rattle.std.proofs.Math.Seq.{map-set_same}
 use Rattle.std.proofs.lemmas.List.{get_or-map, length-map}
 use Rattle.std.proofs.lemmas.List.Sorted.{IsPermutation-refl}
 use Rattle.std.proofs.lemmas.List.Sums.{sum_by-cons}
 use Rattle.vt_value.specs.Values.{Row}
-use Rattle.vschema.specs.Database.{Database, SameRows, applied, all_applied}
+use Rattle.vschema.specs.Database.{Database, SameRows, changed_table, applied, all_applied}
 use Rattle.shard_store.specs.declared.key.KeyedChange.{KeyedChange}
 use Rattle.shard_store.specs.declared.key.KeyedChange.TheVariants.{Put, Take}
+use Rattle.shard_store.specs.declared.key.RowKey.{RowKey}
+use Rattle.shard_store.specs.Slots.{Slot, slot_at}
 use Rattle.shard_store.specs.Tables.{key_at}
-use Rattle.shard_store.specs.Stores.{RowsView, StoreView, room_of, change_in, changes_in, HasItsKey, puts_into, HasRoomFor}
+use Rattle.shard_store.specs.Stores.{RowsView, StoreView, ready_of, room_of, key_in, change_in, changes_in, IsByItsKey, HasReadySlot, HasItsKey, puts_into, HasRoomFor}
 use Rattle.shard_store.proofs.Bags.{applied-same}
 use Rattle.shard_store.proofs.Done.{SameRows-refl, SameRows-trans}
 
@@ -136,18 +138,88 @@ reached_last rows left end none r =
     let ends = subst (λ (l : List KeyedChange). all_applied (changes_in l) r.so_far ≡ end) none r.ends in
     subst (SameRows rows) ends r.same
 
+-- ---- slots that are ready
+abbrev pub ready_in : List RowsView → List (List Slot)
+ready_in ts = map (λ t. t.ready) ts
+
+-- what was ready is ready still
+abbrev pub StaysReady : StoreView → StoreView → Type 0
+StaysReady s t = (n : ℕ) (k : RowKey) → IsSome (slot_at (ready_of s n) k) → IsSome (slot_at (ready_of t n) k)
+
+pub ready-at : (ts : List RowsView) (i : ℕ) (t : RowsView) → i < length ts → t ≡ get_or ts i t → get_or (ready_in ts) i [] ≡ t.ready
+ready-at ts i t l e = get_or-map (λ t. t.ready) ts i t [] l ∙ ap (λ (x : RowsView). x.ready) (sym e)
+
+pub ready-set_at : (ts : List RowsView) (i : ℕ) (t : RowsView) → i < length ts → get_or (ready_in (set ts i t)) i [] ≡ t.ready
+ready-set_at [] i t l = absurd (omega (arith, l))
+ready-set_at (u ∷ ts) zero t l = refl
+ready-set_at (u ∷ ts) (suc i) t l = ready-set_at ts i t (omega (arith, l))
+
+ready-set : (ts : List RowsView) (i : ℕ) (old new : RowsView) → i < length ts → old ≡ get_or ts i old → ((k : RowKey) → IsSome (slot_at old.ready k) → IsSome (slot_at new.ready k))
+    → (n : ℕ) (k : RowKey) → IsSome (slot_at (get_or (ready_in ts) n []) k) → IsSome (slot_at (get_or (ready_in (set ts i new)) n []) k)
+ready-set [] i old new l e f n k h = absurd (omega (arith, l))
+ready-set (u ∷ ts) zero old new l e f zero k h = f k (subst (λ (x : RowsView). IsSome (slot_at x.ready k)) (sym e) h)
+ready-set (u ∷ ts) zero old new l e f (suc n) k h = h
+ready-set (u ∷ ts) (suc i) old new l e f zero k h = h
+ready-set (u ∷ ts) (suc i) old new l e f (suc n) k h = ready-set ts i old new (omega (arith, l)) e f n k h
+
+-- one table's slots that were ready are so still
+pub ready-after : (ts : List RowsView) (s : StoreView) (i : ℕ) (old new : RowsView) → ready_in ts ≡ s.ready → i < length ts → old ≡ get_or ts i old
+    → ((k : RowKey) → IsSome (slot_at old.ready k) → IsSome (slot_at new.ready k))
+    → (n : ℕ) (k : RowKey) → IsSome (slot_at (ready_of s n) k) → IsSome (slot_at (get_or (ready_in (set ts i new)) n []) k)
+ready-after ts s i old new is l e f n k h = ready-set ts i old new l e f n k (subst (λ (r : List (List Slot)). IsSome (slot_at (get_or r n []) k)) (sym is) h)
+
+-- ---- tables that are made one after the other
+pub as_many : {X : Type 0} (f : RowsView → X) (ts us : List RowsView) → map f ts ≡ map f us → length ts ≡ length us
+as_many f ts us e = sym (length-map ts f) ∙ (ap length e ∙ length-map us f)
+
+one_more : {X : Type 0} (xs : List X) (i : ℕ) (d : X) → i < length xs → take i xs ++ get_or xs i d ∷ [] ≡ take (suc i) xs
+one_more [] i d l = absurd (omega (arith, l))
+one_more (x ∷ xs) zero d l = refl
+one_more (x ∷ xs) (suc i) d l = ap (λ (z : List _). x ∷ z) (one_more xs i d (omega (arith, l)))
+
+map_push : {X : Type 0} (f : RowsView → X) (ts : List RowsView) (t : RowsView) → map f (ts ++ t ∷ []) ≡ map f ts ++ f t ∷ []
+map_push f [] t = refl
+map_push f (u ∷ ts) t = ap (λ (z : List _). f u ∷ z) (map_push f ts t)
+
+-- a table more is made that shows what the one at its place does
+pub made_next : {X : Type 0} (f : RowsView → X) (all now list : List RowsView) (old made : RowsView) (i : ℕ) → i < length now → old ≡ get_or now i old → map f now ≡ map f all
+    → map f list ≡ take i (map f all) → f made ≡ f old → map f (list ++ made ∷ []) ≡ take (i + 1) (map f all)
+made_next f all now list old made i l at same so is =
+    let here : get_or (map f all) i (f old) ≡ f old = ap (λ (xs : List _). get_or xs i (f old)) (sym same) ∙ (get_or-map f now i old (f old) l ∙ ap f (sym at)) in
+    let within : i < length (map f all) = omega (arith, l, as_many f now all same, length-map all f) in
+    let next : suc i ≡ i + 1 = omega arith in
+    map_push f list made
+    ∙ (ap (λ (xs : List _). xs ++ f made ∷ []) so ∙ (ap (λ (x : _). take i (map f all) ++ x ∷ []) (is ∙ sym here) ∙ (one_more (map f all) i (f old) within ∙ ap (λ (n : ℕ). take n (map f all)) next)))
+
+pub all_made : {X : Type 0} (f : RowsView → X) (all list : List RowsView) (i : ℕ) → length all ≤ i → map f list ≡ take i (map f all) → map f list ≡ map f all
+all_made f all list i past so = so ∙ whole (map f all) i (omega (arith, past, length-map all f))
+  where
+    whole : {X : Type 0} (xs : List X) (i : ℕ) → length xs ≤ i → take i xs ≡ xs
+    whole [] zero h = refl
+    whole [] (suc i) h = refl
+    whole (x ∷ xs) zero h = absurd (omega (arith, h))
+    whole (x ∷ xs) (suc i) h = ap (λ (z : List _). x ∷ z) (whole xs i (omega (arith, h)))
+
 -- keys are by the places alone
-key_stays : (s t : StoreView) → t.ordinals ≡ s.ordinals → (c : KeyedChange) → HasItsKey s c → HasItsKey t c
+key_stays : (s t : StoreView) → t.ordinals ≡ s.ordinals → (c : KeyedChange) → IsByItsKey s c → IsByItsKey t c
 key_stays s t e (Put n k) h = h ∙ ap (λ (ps : List (List ℕ)). key_at (get_or ps n []) k.row) (sym e)
 key_stays s t e (Take n k) h = h ∙ ap (λ (ps : List (List ℕ)). key_at (get_or ps n []) k.row) (sym e)
 
-pub keys_stay : (s t : StoreView) → t.ordinals ≡ s.ordinals → (cs : List KeyedChange) → AllByRecursion (HasItsKey s) cs → AllByRecursion (HasItsKey t) cs
-keys_stay s t e [] h = tt
-keys_stay s t e (c ∷ cs) h = (key_stays s t e c h.0, keys_stay s t e cs h.1)
+pub ready_stays : (s t : StoreView) → StaysReady s t → (c : KeyedChange) → HasReadySlot s c → HasReadySlot t c
+ready_stays s t f c h = f (changed_table (change_in c)) (key_in c) h
+
+keys_stay : (s t : StoreView) → t.ordinals ≡ s.ordinals → StaysReady s t → (cs : List KeyedChange) → AllByRecursion (HasItsKey s) cs → AllByRecursion (HasItsKey t) cs
+keys_stay s t e f [] h = tt
+keys_stay s t e f (c ∷ cs) h = ((key_stays s t e c h.0.0, ready_stays s t f c h.0.1), keys_stay s t e f cs h.1)
+
+-- keys whose slots have been made ready
+pub keys_ready : (s t : StoreView) → t.ordinals ≡ s.ordinals → (cs : List KeyedChange) → AllByRecursion (IsByItsKey s) cs → AllByRecursion (HasReadySlot t) cs → AllByRecursion (HasItsKey t) cs
+keys_ready s t e [] h r = tt
+keys_ready s t e (c ∷ cs) h r = ((key_stays s t e c h.0, r.0), keys_ready s t e cs h.1 r.1)
 
 pub key_first : (s : StoreView) (all left : List KeyedChange) (c : KeyedChange) → all ≡ c ∷ left → AllByRecursion (HasItsKey s) all → HasItsKey s c
 key_first s all left c is h = (subst (AllByRecursion (HasItsKey s)) is h).0
 
-pub keys_others : (s t : StoreView) (all left : List KeyedChange) (c : KeyedChange) → all ≡ c ∷ left → t.ordinals ≡ s.ordinals → AllByRecursion (HasItsKey s) all
+pub keys_others : (s t : StoreView) (all left : List KeyedChange) (c : KeyedChange) → all ≡ c ∷ left → t.ordinals ≡ s.ordinals → StaysReady s t → AllByRecursion (HasItsKey s) all
     → AllByRecursion (HasItsKey t) left
-keys_others s t all left c is e h = keys_stay s t e left (subst (AllByRecursion (HasItsKey s)) is h).1
+keys_others s t all left c is e f h = keys_stay s t e f left (subst (AllByRecursion (HasItsKey s)) is h).1

@@ -142,5 +142,8 @@ held_there ordinals key slots row false h up at is =
     sym (none_if_whole row (rows_in slots) (not_there ordinals key slots row h up at (λ e. false≢true (is.1 e))))
 
 -- a key with a free slot
-pub free_parts : (a b c : Bool) → c ≡ (a && not b) → c ≡ true → (a ≡ true) × (b ≡ false)
-free_parts a b c is t = let p = and_parts a (not b) (sym is ∙ t) in (p.0, not-true b p.1)
+pub ready_parts : (r a b c : Bool) → c ≡ (r && (a && not b)) → c ≡ true → (r ≡ true) × (a ≡ true) × (b ≡ false)
+ready_parts r a b c is t =
+    let p = and_parts r (a && not b) (sym is ∙ t) in
+    let q = and_parts a (not b) p.1 in
+    (p.0, q.0, not-true b q.1)

@@ -8,9 +8,10 @@ use Rattle.vschema.specs.Database.{same_row}
 use Rattle.shard_store.specs.Slots.{Slot, rows_in, slot_at}
 use Rattle.shard_store.specs.declared.key.RowKey.{RowKey}
 
--- a table: its slots, and the ordinals of its key columns
+-- a table: its slots, those that can be changed without memory, and the ordinals of its key columns
 pub record TableView : Type 0 where
   pub slots : List Slot
+  pub ready : List Slot
   pub ordinals : List ℕ
 
 -- the values of a row's key columns
@@ -34,8 +35,9 @@ pub record IsStored (ordinals : List ℕ) (slots : List Slot) (count : ℕ) : Ty
   pub keyed : AllByRecursion (IsAtItsKey ordinals) slots
   pub counted : count ≡ length (rows_in slots)
 
--- a table that has a slot for the row can take it with these rows: no row of them has its key
+-- a table that has a slot for the row, which is ready, can take it with these rows: no row of them has its key
 pub record CanTake (t : TableView) (key : RowKey) (row : Row) (rows : List Row) : Type 0 where
   pub at : key.values ≡ key_at t.ordinals row
   pub slot : IsSome (slot_at t.slots key)
+  pub ready : IsSome (slot_at t.ready key)
   pub absent : list_any (has_key t.ordinals key.values) rows ≡ false

@@ -7,17 +7,19 @@ ghost use Rattle.shard_store.specs.Tables.{key_at};
 ghost use Rattle.shard_store.specs.inner.Listings.{listed};
 
 use crate::primary::value_at;
-use std::alloc::Global;
+use crate::shared_row::SharedRow;
+use row_chunks::Same;
+use std::alloc::{AllocError, Global};
 use std::cmp::Ordering;
 use std::marker::Model;
-use vt_value::{Boxed, Items, Refusal, Row, Value, copy_row, sort_order};
+use vt_value::{Items, Refusal, Row, Value, sort_order};
 
 // One number of 64 bits is here itself, so that such keys are made and compared without memory of their own, and many of them
 // are in one line of the processor's cache.
 #[derive(Drop)]
 enum Listing {
     Number(i64),
-    Values(Boxed<Row>),
+    Values(SharedRow),
 }
 
 /// The values of a key, of which most are one number. Contracts see their list.
@@ -94,7 +96,7 @@ fn listing_of(alloc: Global, values: Row) -> Result<Listing, Refusal>
     ensures ok { IfOk result (λ listing. listed listing ≡ values) }
     ensures err { IfErr result (λ e. e ≡ Refusal.OutOfMemory) }
 {
-    Ok(Listing::Values(Boxed::new(alloc, values)?))
+    Ok(Listing::Values(SharedRow::new(alloc, values)?))
 }
 
 fn listing_of_one(alloc: Global, value: Value) -> Result<Listing, Refusal>
@@ -127,18 +129,6 @@ impl KeyValues {
                 Err(_) => listing_of_one(alloc, value)?,
             },
             _ => listing_of_one(alloc, value)?,
-        };
-        Ok(KeyValues { listing })
-    }
-
-    /// Equal values. Refuses for want of memory.
-    pub fn copy(&self, alloc: Global) -> Result<KeyValues, Refusal>
-        ensures ok { IfOk result (λ values. values ≡ self.now) }
-        ensures err { IfErr result (λ e. e ≡ Refusal.OutOfMemory) }
-    {
-        let listing = match &self.listing {
-            Listing::Number(number) => Listing::Number(*number),
-            Listing::Values(values) => listing_of(alloc, copy_row(alloc, values.get())?)?,
         };
         Ok(KeyValues { listing })
     }
@@ -176,4 +166,23 @@ impl KeyValues {
             },
         }
     }
+}
+
+impl Clone for KeyValues {
+    ghost use Rattle.std.specs.Prelude.{◌≡◌};
+
+    ghost is_clone = { λ a b. b ≡ a };
+
+    /// Equal values; several are shared, so that they aren't copied.
+    fn clone(&self) -> Result<KeyValues, AllocError> {
+        let listing = match &self.listing {
+            Listing::Number(number) => Listing::Number(*number),
+            Listing::Values(values) => Listing::Values(values.clone()?),
+        };
+        Ok(KeyValues { listing })
+    }
+}
+
+impl Same for KeyValues {
+    ghost same = { λ a b is. is };
 }

@@ -12,19 +12,20 @@ ghost use Rattle.shard_store.specs.inner.Left.{rows_left, AreKeyed};
 
 use crate::key::RowKey;
 use crate::removed_rows::{Gap, RemovedRows};
+use crate::shared_row::SlotRow;
 use crate::table::StoredTable;
 use crate::walk::ChosenSlots;
+use row_chunks::Walk;
 use sql_eval::RowSource;
 use sql_tree::Condition;
 use std::alloc::Global;
-use std::collections::btree_map::Range;
 use vt_value::{Refusal, Row};
 
 /// Rows in slots that are still to come, in the order of their keys.
 #[derive(Drop)]
 pub enum SlotsLeft<'a> {
     /// All of a table, with their slots.
-    All(Range<'a, RowKey, Option<Row>>),
+    All(Walk<'a, RowKey, SlotRow>),
     /// Those of some values of the first key column.
     Chosen(ChosenSlots<'a>),
 }
@@ -68,7 +69,7 @@ fn is_gone<'a>(
 
 // The next row of all in slots that isn't gone.
 fn next_of_all<'a>(
-    slots: &mut Range<'a, RowKey, Option<Row>>,
+    slots: &mut Walk<'a, RowKey, SlotRow>,
     gone: &RemovedRows<'a>,
     gap: &mut Option<Gap<'a>>,
 ) -> Option<&'a Row>
@@ -81,7 +82,7 @@ fn next_of_all<'a>(
     ensures gap { IfSome gap.new (IsGapIn gone.now.keys) }
 {
     while let Some((key, slot)) = slots.next() {
-        if let Some(row) = slot {
+        if let Some(row) = slot.get() {
             if !is_gone(gone, gap, key, row) {
                 return Some(row);
             }

@@ -20,12 +20,11 @@ use crate::key::RowKey;
 use crate::left::{SlotsLeft, next_left, slots_left};
 use crate::primary::are_key_ordinals;
 use crate::removed_rows::{Gap, RemovedRows};
+use crate::shared_row::SharedRows;
 use crate::stored::StoredTables;
 use crate::table::StoredTable;
 use crate::table_rows::TableRows;
-use sql_eval::{
-    RowSource, SliceRows, all_kept, has_key_among, in_key_order, same_row, select_from,
-};
+use sql_eval::{RowSource, all_kept, has_key_among, in_key_order, same_row, select_from};
 use sql_tree::Condition;
 use std::alloc::Global;
 use std::marker::Model;
@@ -208,7 +207,7 @@ impl<'a> Overlay<'a> {
         ensures rows { IfOk result (λ overlay. overlay.rows ≡ table.now.rows) }
         ensures err { IfErr result (λ e. e ≡ Refusal.OutOfMemory) }
     {
-        let others = all_of(alloc, SliceRows::new(table.unslotted.as_slice()))?;
+        let others = all_of(alloc, SharedRows::new(table.unslotted.as_slice()))?;
         Ok(Overlay {
             stored: &table.stored,
             gone: RemovedRows::new(alloc, table.stored.key_columns()),

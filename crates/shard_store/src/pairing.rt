@@ -13,11 +13,12 @@ ghost use Rattle.shard_store.specs.Chosen.{fits, rows_chosen};
 use crate::by_value::RowsByValue;
 use crate::equalities::{Fixed, fixed_first};
 use crate::joined::select_by_value;
+use crate::shared_row::SharedRows;
 use crate::stored::StoredTables;
 use crate::table::StoredTable;
 use crate::table_rows::TableRows;
 use crate::walk::ChosenRows;
-use sql_eval::{SliceRows, select_local};
+use sql_eval::select_local;
 use std::alloc::Global;
 use vschema::{Join, Query};
 use vt_value::{Items, Refusal, Row};
@@ -55,7 +56,7 @@ impl TableRows {
         let slots = self.stored.chosen_by(alloc, values)?;
         Ok(ChosenRows {
             slots,
-            unslotted: SliceRows::new(self.unslotted.as_slice()),
+            unslotted: SharedRows::new(self.unslotted.as_slice()),
         })
     }
 
@@ -67,7 +68,7 @@ impl TableRows {
     {
         match self.stored.key_columns().first() {
             Some(first) if *first == column => {
-                let unslotted = SliceRows::new(self.unslotted.as_slice());
+                let unslotted = SharedRows::new(self.unslotted.as_slice());
                 RowsByValue::new(alloc, column, Some(&self.stored), unslotted)
             }
             _ => RowsByValue::new(alloc, column, None, self.all()),

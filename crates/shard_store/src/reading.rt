@@ -20,12 +20,13 @@ ghost use Rattle.shard_store.specs.inner.Joined.{may_have};
 
 use crate::equalities::{Fixed, fixed_values};
 use crate::primary::are_key_ordinals;
+use crate::shared_row::SharedRows;
 use crate::source::any_has_key;
 use crate::stored::StoredTables;
 use crate::table::StoredTable;
 use crate::table_rows::TableRows;
 use crate::walk::{AllRows, ChosenRows, ChosenSlots};
-use sql_eval::{SliceRows, all_kept, change_local, select_from, select_local};
+use sql_eval::{all_kept, change_local, select_from, select_local};
 use sql_tree::Condition;
 use std::alloc::Global;
 use vschema::{Query, RowChange, Table, Write};
@@ -104,7 +105,7 @@ impl TableRows {
         let slots = self.stored.chosen(alloc, condition)?;
         Ok(ChosenRows {
             slots,
-            unslotted: SliceRows::new(self.unslotted.as_slice()),
+            unslotted: SharedRows::new(self.unslotted.as_slice()),
         })
     }
 
@@ -141,7 +142,7 @@ impl TableRows {
             return Ok(any_has_key(table, row, self.all()));
         }
         let key = self.stored.key_of(alloc, row)?;
-        let unslotted = SliceRows::new(self.unslotted.as_slice());
+        let unslotted = SharedRows::new(self.unslotted.as_slice());
         Ok(self.stored.contains(&key) || any_has_key(table, row, unslotted))
     }
 

@@ -3,10 +3,10 @@ ghost use Rattle.std.specs.Prelude.{◌≡◌, ◌<◌, ◌++◌, IsTrue, IfOk, 
 ghost use Rattle.vschema.specs.Database.{rows_of};
 ghost use Rattle.shard_store.specs.RowsAfter.{comes_after, IsInOrder};
 
+use crate::shared_row::SharedRows;
 use crate::stored::StoredTables;
 use crate::table_rows::TableRows;
 use crate::walk::RowsInOrder;
-use sql_eval::SliceRows;
 use std::alloc::Global;
 use vschema::Table;
 use vt_value::{Refusal, Row};
@@ -16,7 +16,7 @@ use vt_value::{Refusal, Row};
 #[derive(Drop)]
 pub struct RowsAfter<'a> {
     pub slots: RowsInOrder<'a>,
-    pub unslotted: SliceRows<'a>,
+    pub unslotted: SharedRows<'a>,
     pub in_order: bool,
 }
 
@@ -36,7 +36,7 @@ impl TableRows {
         let slots = self.stored.rows_after(alloc, table, in_order, last)?;
         Ok(RowsAfter {
             slots,
-            unslotted: SliceRows::new(self.unslotted.as_slice()),
+            unslotted: SharedRows::new(self.unslotted.as_slice()),
             in_order,
         })
     }

@@ -1,15 +1,17 @@
 //! The tables of a shard. Changes are prepared with all their memory first, and then applied without any.
-ghost use Rattle.std.specs.Prelude.{◌≡◌, ◌==◌, ◌+◌, ◌<◌, ◌≤◌, ◌^◌, if◌then◌else◌, ◌++◌, ◌∷◌, [], ℕ, IsTrue, OnOk, OnErr, IfOk, IfErr, length, slice_set, count_by, IsPermutation, sum_by, nat_le};
+ghost use Rattle.std.specs.Prelude.{◌≡◌, ◌==◌, ◌+◌, ◌<◌, ◌≤◌, ◌^◌, if◌then◌else◌, ◌++◌, ◌∷◌, [], ℕ, IsTrue, IsSome, map, OnOk, OnErr, IfOk, IfErr, length, slice_set, count_by, IsPermutation, sum_by, nat_le};
 ghost use Rattle.std.specs.List.{AllByRecursion};
 ghost use Rattle.vschema.specs.declared.changes.RowChange.TheVariants.{Added, Removed};
 ghost use Rattle.vschema.specs.Database.{SameRows, rows_of, without, changed_table, applied, all_applied};
+ghost use Rattle.shard_store.specs.Slots.{slot_at};
 ghost use Rattle.shard_store.specs.Tables.{key_at};
-ghost use Rattle.shard_store.specs.Stores.{ordinals_of, room_of, change_in, changes_in, HasItsKey, puts_into, HasRoomFor, IsReadyFor};
+ghost use Rattle.shard_store.specs.Stores.{ordinals_of, ready_of, room_of, key_in, change_in, changes_in, IsByItsKey, HasReadySlot, HasItsKey, puts_into, HasRoomFor, IsReadyFor};
 ghost use Rattle.shard_store.specs.inner.Stores.{split, all_split};
 
 use crate::key::{KeyedChange, KeyedRow, RowKey};
 use crate::key_columns::key_ordinals;
 use crate::key_values::KeyValues;
+use crate::shared_row::SharedRow;
 use crate::table_rows::TableRows;
 use std::alloc::Global;
 use std::marker::Model;
@@ -28,7 +30,7 @@ impl Model for StoredTables {
 
     ghost Value = { StoreView };
 
-    ghost view = { λ s. record { rows = map (λ t. t.rows) s.tables.items; ordinals = map (λ t. t.ordinals) s.tables.items; room = map (λ t. t.room) s.tables.items } };
+    ghost view = { λ s. record { rows = map (λ t. t.rows) s.tables.items; ready = map (λ t. t.ready) s.tables.items; ordinals = map (λ t. t.ordinals) s.tables.items; room = map (λ t. t.room) s.tables.items } };
 }
 
 fn ordinal_in(change: &KeyedChange) -> usize
@@ -40,24 +42,38 @@ fn ordinal_in(change: &KeyedChange) -> usize
     }
 }
 
-fn key_in(change: &KeyedChange) -> &RowKey {
+fn key_in(change: &KeyedChange) -> &RowKey
+    ensures { result.now ≡ key_in change.now }
+{
     match change {
         KeyedChange::Put(_, keyed) => &keyed.key,
         KeyedChange::Take(_, keyed) => &keyed.key,
     }
 }
 
-fn is_removal(change: &KeyedChange) -> bool {
-    matches!(change, KeyedChange::Take(_, _))
-}
-
-// Gives up the slots of removed rows.
+// Gives up the slots of changed rows that have no row, and has the others no longer ready.
 fn sweep_tables(tables: &mut Vec<TableRows>)
-    ensures { tables.new.items ≡ tables.old.items }
+    ensures rows { map (λ t. t.rows) tables.new.items ≡ map (λ t. t.rows) tables.old.items }
+    ensures ordinals { map (λ t. t.ordinals) tables.new.items ≡ map (λ t. t.ordinals) tables.old.items }
 {
     for ordinal in 0..tables.len() {
         tables[ordinal].sweep();
     }
+}
+
+// A snapshot of each table.
+fn snapshots(alloc: Global, tables: &mut Vec<TableRows>) -> Result<Vec<TableRows>, Refusal>
+    ensures snapshot { IfOk result (λ list. map (λ t. t.rows) list.items ≡ map (λ t. t.rows) tables.old.items) }
+    ensures columns { IfOk result (λ list. map (λ t. t.ordinals) list.items ≡ map (λ t. t.ordinals) tables.old.items) }
+    ensures rows { map (λ t. t.rows) tables.new.items ≡ map (λ t. t.rows) tables.old.items }
+    ensures ordinals { map (λ t. t.ordinals) tables.new.items ≡ map (λ t. t.ordinals) tables.old.items }
+    ensures err { IfErr result (λ e. e ≡ Refusal.OutOfMemory) }
+{
+    let mut list = Vec::new(alloc);
+    for ordinal in 0..tables.len() {
+        list.push(tables[ordinal].snapshot(alloc)?)?;
+    }
+    Ok(list)
 }
 
 impl StoredTables {
@@ -134,8 +150,8 @@ impl StoredTables {
         ensures key { IfOk result (λ k. k.key.values ≡ key_at (ordinals_of self.now ordinal) row.now) }
         ensures err { IfErr result (λ e. e ≡ Refusal.OutOfMemory) }
     {
-        let row = copy_row(alloc, row)?;
-        match self.key_of(alloc, ordinal, &row) {
+        let row = SharedRow::new(alloc, copy_row(alloc, row)?)?;
+        match self.key_of(alloc, ordinal, row.get()) {
             Ok(key) => Ok(KeyedRow { key, row }),
             Err(e) => Err(e),
         }
@@ -149,8 +165,8 @@ impl StoredTables {
         row: &Row,
         keyed: &mut Vec<KeyedChange>,
     ) -> Result<(), Refusal>
-        requires { AllByRecursion (HasItsKey self.now) keyed.old.items }
-        ensures keys { OnOk result (AllByRecursion (HasItsKey self.now) keyed.new.items) }
+        requires { AllByRecursion (IsByItsKey self.now) keyed.old.items }
+        ensures keys { OnOk result (AllByRecursion (IsByItsKey self.now) keyed.new.items) }
         ensures changes { OnOk result (changes_in keyed.new.items ≡ changes_in keyed.old.items ++ Added ordinal row.now ∷ []) }
         ensures err { IfErr result (λ e. e ≡ Refusal.OutOfMemory) }
     {
@@ -167,8 +183,8 @@ impl StoredTables {
         row: &Row,
         keyed: &mut Vec<KeyedChange>,
     ) -> Result<(), Refusal>
-        requires { AllByRecursion (HasItsKey self.now) keyed.old.items }
-        ensures keys { OnOk result (AllByRecursion (HasItsKey self.now) keyed.new.items) }
+        requires { AllByRecursion (IsByItsKey self.now) keyed.old.items }
+        ensures keys { OnOk result (AllByRecursion (IsByItsKey self.now) keyed.new.items) }
         ensures changes { OnOk result (changes_in keyed.new.items ≡ changes_in keyed.old.items ++ Removed ordinal row.now ∷ []) }
         ensures err { IfErr result (λ e. e ≡ Refusal.OutOfMemory) }
     {
@@ -183,8 +199,8 @@ impl StoredTables {
         change: &RowChange,
         keyed: &mut Vec<KeyedChange>,
     ) -> Result<(), Refusal>
-        requires { AllByRecursion (HasItsKey self.now) keyed.old.items }
-        ensures keys { OnOk result (AllByRecursion (HasItsKey self.now) keyed.new.items) }
+        requires { AllByRecursion (IsByItsKey self.now) keyed.old.items }
+        ensures keys { OnOk result (AllByRecursion (IsByItsKey self.now) keyed.new.items) }
         ensures changes { OnOk result (changes_in keyed.new.items ≡ changes_in keyed.old.items ++ split change.now) }
         ensures err { IfErr result (λ e. e ≡ Refusal.OutOfMemory) }
     {
@@ -204,7 +220,7 @@ impl StoredTables {
         alloc: Global,
         changes: &[RowChange],
     ) -> Result<Vec<KeyedChange>, Refusal>
-        ensures keys { IfOk result (λ keyed. AllByRecursion (HasItsKey self.now) keyed.items) }
+        ensures keys { IfOk result (λ keyed. AllByRecursion (IsByItsKey self.now) keyed.items) }
         ensures changes { IfOk result (λ keyed. changes_in keyed.items ≡ all_split changes.now) }
         ensures err { IfErr result (λ e. e ≡ Refusal.OutOfMemory) }
     {
@@ -215,7 +231,7 @@ impl StoredTables {
         Ok(keyed)
     }
 
-    // Makes memory for so many more rows of the table at an ordinal, and a slot for a key.
+    // Makes memory for so many more rows of the table at an ordinal, and a slot for a key that is ready.
     fn reserve(
         &mut self,
         alloc: Global,
@@ -227,13 +243,15 @@ impl StoredTables {
         ensures rows { self.new.rows ≡ self.old.rows }
         ensures ordinals { self.new.ordinals ≡ self.old.ordinals }
         ensures ok { OnOk result (additional ≤ room_of self.new ordinal) }
+        ensures ready { OnOk result (IsSome (slot_at (ready_of self.new ordinal) key.now)) }
+        ensures still { (n : ℕ) (k : RowKey) → IsSome (slot_at (ready_of self.old n) k) → IsSome (slot_at (ready_of self.new n) k) }
         ensures room { (n : ℕ) → room_of self.old n ≤ room_of self.new n }
         ensures err { IfErr result (λ e. e ≡ Refusal.OutOfMemory) }
     {
         self.tables[ordinal].make_room(alloc, key, additional)
     }
 
-    // Makes memory to remember so many more keys of rows that are removed from the table at an ordinal.
+    // Makes memory to remember so many more keys of rows that are changed in the table at an ordinal.
     fn reserve_freed(&mut self, ordinal: usize, additional: usize) -> Result<(), Refusal>
         requires { ordinal < length self.old.rows }
         ensures unchanged { self.new ≡ self.old }
@@ -253,13 +271,13 @@ impl StoredTables {
         ensures rows { self.new.rows ≡ self.old.rows }
         ensures ordinals { self.new.ordinals ≡ self.old.ordinals }
         ensures ok { OnOk result (changes ≤ room_of self.new (changed_table (change_in change.now))) }
+        ensures ready { OnOk result (HasReadySlot self.new change.now) }
+        ensures still { (n : ℕ) (k : RowKey) → IsSome (slot_at (ready_of self.old n) k) → IsSome (slot_at (ready_of self.new n) k) }
         ensures room { (n : ℕ) → room_of self.old n ≤ room_of self.new n }
         ensures err { IfErr result (λ e. e ≡ Refusal.OutOfMemory) }
     {
         let ordinal = ordinal_in(change);
-        if is_removal(change) {
-            self.reserve_freed(ordinal, changes)?;
-        }
+        self.reserve_freed(ordinal, changes)?;
         self.reserve(alloc, ordinal, key_in(change), changes)
     }
 
@@ -269,6 +287,7 @@ impl StoredTables {
         ensures rows { self.new.rows ≡ self.old.rows }
         ensures ordinals { self.new.ordinals ≡ self.old.ordinals }
         ensures ok { OnOk result (HasRoomFor self.new keyed.now) }
+        ensures ready { OnOk result (AllByRecursion (HasReadySlot self.new) keyed.now) }
         ensures err { IfErr result (λ e. e ≡ Refusal.OutOfMemory) }
     {
         for change in keyed {
@@ -297,28 +316,31 @@ impl StoredTables {
         }
     }
 
-    fn put(&mut self, ordinal: usize, key: &RowKey, row: Row)
+    fn put(&mut self, ordinal: usize, key: &RowKey, row: SharedRow)
         requires key { key.now.values ≡ key_at (ordinals_of self.old ordinal) row }
         requires room { 0 < room_of self.old ordinal }
         ensures rows { SameRows self.new.rows (applied (Added ordinal row) self.old.rows) }
         ensures ordinals { self.new.ordinals ≡ self.old.ordinals }
         ensures room { (n : ℕ) → room_of self.old n ≤ room_of self.new n + (if ordinal == n then 1 else 0) }
+        ensures still { (n : ℕ) (k : RowKey) → IsSome (slot_at (ready_of self.old n) k) → IsSome (slot_at (ready_of self.new n) k) }
     {
         self.tables[ordinal].add(key, row);
     }
 
     fn take(&mut self, ordinal: usize, key: &RowKey, row: &Row)
-        requires { key.now.values ≡ key_at (ordinals_of self.old ordinal) row.now }
+        requires key { key.now.values ≡ key_at (ordinals_of self.old ordinal) row.now }
+        requires ready { IsSome (slot_at (ready_of self.old ordinal) key.now) }
         ensures rows { SameRows self.new.rows (applied (Removed ordinal row.now) self.old.rows) }
         ensures ordinals { self.new.ordinals ≡ self.old.ordinals }
         ensures room { (n : ℕ) → room_of self.old n ≤ room_of self.new n }
+        ensures still { (n : ℕ) (k : RowKey) → IsSome (slot_at (ready_of self.old n) k) → IsSome (slot_at (ready_of self.new n) k) }
     {
         if ordinal < self.tables.len() {
             self.tables[ordinal].remove(key, row);
         }
     }
 
-    // Remembers the key of a row that was removed from the table at an ordinal.
+    // Remembers the key of a row that was changed in the table at an ordinal.
     fn free(&mut self, ordinal: usize, key: RowKey)
         ensures { self.new ≡ self.old }
     {
@@ -327,9 +349,10 @@ impl StoredTables {
         }
     }
 
-    // Gives up the slots of removed rows.
+    // Gives up the slots of changed rows that have no row, and has the others no longer ready.
     fn sweep(&mut self)
-        ensures { self.new ≡ self.old }
+        ensures rows { self.new.rows ≡ self.old.rows }
+        ensures ordinals { self.new.ordinals ≡ self.old.ordinals }
     {
         sweep_tables(&mut self.tables);
     }
@@ -340,21 +363,24 @@ impl StoredTables {
         ensures rows { SameRows self.new.rows (applied (change_in change) self.old.rows) }
         ensures ordinals { self.new.ordinals ≡ self.old.ordinals }
         ensures room { (n : ℕ) → room_of self.old n ≤ room_of self.new n + count_by (puts_into n) (change ∷ []) }
+        ensures still { (n : ℕ) (k : RowKey) → IsSome (slot_at (ready_of self.old n) k) → IsSome (slot_at (ready_of self.new n) k) }
     {
         match change {
             KeyedChange::Put(ordinal, keyed) => {
                 let KeyedRow { key, row } = keyed;
                 self.put(ordinal, &key, row);
+                self.free(ordinal, key);
             }
             KeyedChange::Take(ordinal, keyed) => {
                 let KeyedRow { key, row } = keyed;
-                self.take(ordinal, &key, &row);
+                self.take(ordinal, &key, row.get());
                 self.free(ordinal, key);
             }
         }
     }
 
-    /// Does the changes, in order, and gives up the slots of the removed rows' keys that have none then. Takes no memory.
+    /// Does the changes, in order, gives up the slots of their keys that have no row then, and has the others no longer ready. Takes no
+    /// memory.
     pub fn apply(&mut self, changes: Vec<KeyedChange>)
         requires keys { AllByRecursion (HasItsKey self.old) changes.items }
         requires room { HasRoomFor self.old changes.items }
@@ -365,5 +391,18 @@ impl StoredTables {
             self.apply_one(change);
         }
         self.sweep();
+    }
+    // Promise: A snapshot has the rows of its moment
+    /// The tables as they are now, whatever is changed in either later. Takes time for each table, and not for each row. What was made
+    /// ready before has to be made ready again. Refuses for want of memory; the rows stay as they are.
+    pub fn snapshot(&mut self, alloc: Global) -> Result<StoredTables, Refusal>
+        ensures snapshot { IfOk result (λ s. s.rows ≡ self.old.rows) }
+        ensures columns { IfOk result (λ s. s.ordinals ≡ self.old.ordinals) }
+        ensures rows { self.new.rows ≡ self.old.rows }
+        ensures ordinals { self.new.ordinals ≡ self.old.ordinals }
+        ensures err { IfErr result (λ e. e ≡ Refusal.OutOfMemory) }
+    {
+        let tables = snapshots(alloc, &mut self.tables)?;
+        Ok(StoredTables { tables })
     }
 }

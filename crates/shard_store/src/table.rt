@@ -10,11 +10,12 @@ ghost use Rattle.shard_store.specs.RowsAfter.{comes_after, IsInOrder};
 
 use crate::key::RowKey;
 use crate::key_values::KeyValues;
+use crate::shared_row::{SharedRow, SlotRow};
 use crate::slots::Slots;
 use crate::sorted::sorted;
 use crate::walk::{RowsAmong, RowsInOrder, RowsWith};
+use row_chunks::Walk;
 use std::alloc::Global;
-use std::collections::btree_map::Range;
 use std::marker::Model;
 use vschema::Table;
 use vt_value::{Items, Refusal, Row, Value, copy};
@@ -33,9 +34,9 @@ impl Model for StoredTable {
 
     ghost Value = { TableView };
 
-    ghost view = { λ t. record { slots = t.slots; ordinals = t.ordinals } };
+    ghost view = { λ t. record { slots = t.slots.slots; ready = t.slots.ready; ordinals = t.ordinals } };
 
-    ghost invariant = { λ t. IsStored t.ordinals t.slots t.count };
+    ghost invariant = { λ t. IsStored t.ordinals t.slots.slots t.count };
 }
 
 /// A copy of the value of a row at an ordinal: NULL after its last one. Refuses for want of memory.
@@ -58,6 +59,18 @@ fn values_at(alloc: Global, ordinals: &[usize], row: &Row) -> Result<Row, Refusa
         values.push(copy_at(alloc, row, *ordinal)?)?;
     }
     Ok(values)
+}
+
+// An equal list. Refuses for want of memory.
+fn copied(alloc: Global, ordinals: &[usize]) -> Result<Items<usize>, Refusal>
+    ensures ok { IfOk result (λ list. list ≡ ordinals.now) }
+    ensures err { IfErr result (λ e. e ≡ Refusal.OutOfMemory) }
+{
+    let mut list = Items::new(alloc);
+    for ordinal in ordinals {
+        list.push(*ordinal)?;
+    }
+    Ok(list)
 }
 
 fn key_values(alloc: Global, ordinals: &[usize], row: &Row) -> Result<KeyValues, Refusal>
@@ -116,7 +129,7 @@ impl StoredTable {
     }
 
     /// All slots, in the order of their keys. The rows in them are at their keys.
-    pub(crate) fn slots(&self) -> Range<'_, RowKey, Option<Row>>
+    pub(crate) fn slots(&self) -> Walk<'_, RowKey, SlotRow>
         ensures slots { result ≡ self.now.slots }
         ensures keyed { AllByRecursion (IsAtItsKey self.now.ordinals) result }
     {
@@ -222,37 +235,76 @@ impl StoredTable {
         self.slots.holds(key, row)
     }
 
-    /// Makes a slot for a key, if it has none. Refuses for want of memory; the rows stay as they are.
+    /// Whether a key has a slot that can be changed without memory.
+    pub fn is_ready(&self, key: &RowKey) -> bool
+        ensures { result ≡ is_some (slot_at self.now.ready key.now) }
+    {
+        self.slots.is_ready(key)
+    }
+
+    /// Whether a key has a slot that is ready, and no row.
+    pub fn can_take(&self, key: &RowKey) -> bool
+        ensures { result ≡ (is_some (slot_at self.now.ready key.now) && (is_some (slot_at self.now.slots key.now) && not (list_any (has_key self.now.ordinals key.now.values) (rows_in self.now.slots)))) }
+    {
+        self.is_ready(key) && self.is_free(key)
+    }
+
+    /// Makes a slot for a key, if it has none, and has it ready. Refuses for want of memory; the slots stay as they are.
     pub fn reserve(&mut self, alloc: Global, key: &RowKey) -> Result<(), Refusal>
         ensures rows { rows_in self.new.slots ≡ rows_in self.old.slots }
         ensures ok { OnOk result (IsSome (slot_at self.new.slots key.now)) }
+        ensures ready { OnOk result (IsSome (slot_at self.new.ready key.now)) }
         ensures kept { (k : RowKey) → IsSome (slot_at self.old.slots k) → slot_at self.new.slots k ≡ slot_at self.old.slots k }
+        ensures still { (k : RowKey) → IsSome (slot_at self.old.ready k) → IsSome (slot_at self.new.ready k) }
         ensures slots { OnOk result (self.new.slots ≡ (if is_some (slot_at self.old.slots key.now) then self.old.slots else with_slot key.now self.old.slots)) }
         ensures ordinals { self.new.ordinals ≡ self.old.ordinals }
         ensures err { IfErr result (λ e. e ≡ Refusal.OutOfMemory) }
-        ensures unchanged { OnErr result (self.new ≡ self.old) }
+        ensures unchanged { OnErr result (self.new.slots ≡ self.old.slots) }
     {
-        if self.slots.has(key) {
-            return Ok(());
-        }
-        self.slots.reserve(key.copy(alloc)?)?;
-        Ok(())
+        self.slots.reserve(alloc, key)
     }
 
-    /// Gives up the slot of a key, unless it has a row. Takes no memory.
+    /// Gives up the slot of a key, if it is ready and has no row. Takes no memory.
     pub fn sweep(&mut self, key: &RowKey)
         ensures rows { rows_in self.new.slots ≡ rows_in self.old.slots }
-        ensures slots { self.new.slots ≡ (if is_some (row_at self.old.slots key.now) then self.old.slots else without_slot key.now self.old.slots) }
+        ensures slots { self.new.slots ≡ (if is_some (slot_at self.old.ready key.now) && not (is_some (row_at self.old.slots key.now)) then without_slot key.now self.old.slots else self.old.slots) }
         ensures ordinals { self.new.ordinals ≡ self.old.ordinals }
     {
         self.slots.sweep(key);
     }
 
-    /// Adds a row whose key has a slot and no row. Takes no memory.
-    pub fn add(&mut self, key: &RowKey, row: Row)
+    /// Has the slot of a key, and those about it, no longer ready, so that a snapshot can share them. Takes no memory.
+    pub fn close(&mut self, key: &RowKey)
+        ensures slots { self.new.slots ≡ self.old.slots }
+        ensures ordinals { self.new.ordinals ≡ self.old.ordinals }
+    {
+        self.slots.close(key);
+    }
+
+    /// The table as it is now, whatever is changed in either later. Takes the same time for any number of rows. No slot is ready then.
+    /// Refuses for want of memory; the slots stay as they are.
+    pub fn snapshot(&mut self, alloc: Global) -> Result<StoredTable, Refusal>
+        ensures snapshot { IfOk result (λ t. t.slots ≡ self.old.slots) }
+        ensures columns { IfOk result (λ t. t.ordinals ≡ self.old.ordinals) }
+        ensures slots { self.new.slots ≡ self.old.slots }
+        ensures ordinals { self.new.ordinals ≡ self.old.ordinals }
+        ensures err { IfErr result (λ e. e ≡ Refusal.OutOfMemory) }
+    {
+        let ordinals = copied(alloc, self.ordinals.as_slice())?;
+        let slots = self.slots.snapshot(alloc)?;
+        Ok(StoredTable {
+            slots,
+            ordinals,
+            count: self.count,
+        })
+    }
+
+    /// Adds a row whose key has a slot that is ready, and no row. Takes no memory.
+    pub fn add(&mut self, key: &RowKey, row: SharedRow)
         requires { CanTake self.old key.now row (rows_in self.old.slots) }
         ensures rows { IsPermutation (rows_in self.new.slots) (rows_in self.old.slots ++ row ∷ []) }
         ensures kept { (k : RowKey) → IsSome (slot_at self.old.slots k) → IsSome (slot_at self.new.slots k) }
+        ensures still { (k : RowKey) → IsSome (slot_at self.old.ready k) → IsSome (slot_at self.new.ready k) }
         ensures ordinals { self.new.ordinals ≡ self.old.ordinals }
     {
         let _before = self.slots.len();
@@ -261,11 +313,13 @@ impl StoredTable {
         self.count += 1;
     }
 
-    /// Removes a row, if it is there; the slot of its key stays. Takes no memory.
+    /// Removes a row, if it is there, whose key's slot is ready; the slot stays. Takes no memory.
     pub fn remove(&mut self, key: &RowKey, row: &Row)
-        requires { key.now.values ≡ key_at self.old.ordinals row.now }
+        requires key { key.now.values ≡ key_at self.old.ordinals row.now }
+        requires ready { IsSome (slot_at self.old.ready key.now) }
         ensures rows { IsPermutation (rows_in self.new.slots) (without row.now (rows_in self.old.slots)) }
         ensures kept { (k : RowKey) → IsSome (slot_at self.old.slots k) → IsSome (slot_at self.new.slots k) }
+        ensures still { (k : RowKey) → IsSome (slot_at self.old.ready k) → IsSome (slot_at self.new.ready k) }
         ensures ordinals { self.new.ordinals ≡ self.old.ordinals }
     {
         let _slots = self.slots.len();
@@ -276,11 +330,12 @@ impl StoredTable {
     }
 
     /// Puts a row in the place of another one, which has the same key. Takes no memory.
-    pub fn replace(&mut self, key: &RowKey, old: &Row, new: Row)
+    pub fn replace(&mut self, key: &RowKey, old: &Row, new: SharedRow)
         requires key { key.now.values ≡ key_at self.old.ordinals old.now }
         requires fits { CanTake self.old key.now new (without old.now (rows_in self.old.slots)) }
         ensures rows { IsPermutation (rows_in self.new.slots) (without old.now (rows_in self.old.slots) ++ new ∷ []) }
         ensures kept { (k : RowKey) → IsSome (slot_at self.old.slots k) → IsSome (slot_at self.new.slots k) }
+        ensures still { (k : RowKey) → IsSome (slot_at self.old.ready k) → IsSome (slot_at self.new.ready k) }
         ensures ordinals { self.new.ordinals ≡ self.old.ordinals }
     {
         self.remove(key, old);

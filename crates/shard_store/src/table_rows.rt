@@ -1,32 +1,55 @@
 //! The rows of a table, without a promise that their keys differ: a row lies in the slot of its key, or in a list if another row has that slot.
-ghost use Rattle.std.specs.Prelude.{◌≡◌, ◌+◌, ◌<◌, ◌≤◌, ◌++◌, ◌∷◌, [], IfOk, IfErr, OnOk, IsPermutation, length, position};
+ghost use Rattle.std.specs.Prelude.{◌≡◌, ◌+◌, ◌<◌, ◌≤◌, ◌++◌, ◌∷◌, [], IsSome, IfOk, IfErr, OnOk, IsPermutation, length, position};
 ghost use Rattle.vschema.specs.Database.{same_row, without};
-ghost use Rattle.shard_store.specs.Slots.{rows_in};
+ghost use Rattle.shard_store.specs.Slots.{rows_in, slot_at};
 ghost use Rattle.shard_store.specs.Tables.{key_at};
 
 use crate::key::RowKey;
+use crate::shared_row::{SharedRow, SharedRows};
 use crate::table::StoredTable;
 use crate::walk::AllRows;
-use sql_eval::{SliceRows, same_row};
+use sql_eval::same_row;
 use std::alloc::Global;
 use std::marker::Model;
 use vt_value::{Items, Refusal, Row};
 
 // The ordinal of the first row that is this one.
-fn ordinal_of(rows: &[Row], row: &Row) -> Option<usize>
+fn ordinal_of(rows: &[SharedRow], row: &Row) -> Option<usize>
     ensures { result ≡ position (λ r. same_row row.now r) rows.now }
 {
-    rows.iter().position(|r| same_row(row, r))
+    rows.iter().position(|r| same_row(row, r.get()))
 }
 
 // Gives up the slots of these keys that have no row.
-fn sweep_slots(stored: &mut StoredTable, keys: &mut Vec<RowKey>)
+fn sweep_slots(stored: &mut StoredTable, keys: &[RowKey])
     ensures rows { rows_in stored.new.slots ≡ rows_in stored.old.slots }
     ensures ordinals { stored.new.ordinals ≡ stored.old.ordinals }
 {
-    while let Some(key) = keys.pop() {
-        stored.sweep(&key);
+    for key in keys {
+        stored.sweep(key);
     }
+}
+
+// Has the slots of these keys no longer ready.
+fn close_slots(stored: &mut StoredTable, keys: &mut Vec<RowKey>)
+    ensures slots { stored.new.slots ≡ stored.old.slots }
+    ensures ordinals { stored.new.ordinals ≡ stored.old.ordinals }
+{
+    while let Some(key) = keys.pop() {
+        stored.close(&key);
+    }
+}
+
+// Other owners of the rows.
+fn shared(alloc: Global, rows: &[SharedRow]) -> Result<Vec<SharedRow>, Refusal>
+    ensures ok { IfOk result (λ list. list.items ≡ rows.now) }
+    ensures err { IfErr result (λ e. e ≡ Refusal.OutOfMemory) }
+{
+    let mut list = Vec::new(alloc);
+    for row in rows {
+        list.push(row.clone()?)?;
+    }
+    Ok(list)
 }
 
 /// The rows of a table in any number, also of one key: each in the slot of its key, or outside the slots if another row has its key
@@ -34,8 +57,8 @@ fn sweep_slots(stored: &mut StoredTable, keys: &mut Vec<RowKey>)
 #[derive(Drop)]
 pub struct TableRows {
     pub(crate) stored: StoredTable,
-    pub(crate) unslotted: Vec<Row>,
-    // keys of removed rows, whose slots are to be given up
+    pub(crate) unslotted: Vec<SharedRow>,
+    // keys of changed rows, whose slots are to be given up, if they have no row, and to be no longer ready
     pub(crate) freed: Vec<RowKey>,
 }
 
@@ -46,7 +69,7 @@ impl Model for TableRows {
 
     ghost Value = { RowsView };
 
-    ghost view = { λ t. record { rows = rows_in t.stored.slots ++ t.unslotted.items; ordinals = t.stored.ordinals; room = vec_capacity t.unslotted - vec_len t.unslotted } };
+    ghost view = { λ t. record { rows = rows_in t.stored.slots ++ t.unslotted.items; ready = t.stored.ready; ordinals = t.stored.ordinals; room = vec_capacity t.unslotted - vec_len t.unslotted } };
 }
 
 impl TableRows {
@@ -83,7 +106,7 @@ impl TableRows {
     {
         AllRows {
             slots: self.stored.rows(),
-            unslotted: SliceRows::new(self.unslotted.as_slice()),
+            unslotted: SharedRows::new(self.unslotted.as_slice()),
         }
     }
 
@@ -91,6 +114,7 @@ impl TableRows {
     fn reserve(&mut self, additional: usize) -> Result<(), Refusal>
         ensures rows { self.new.rows ≡ self.old.rows }
         ensures ordinals { self.new.ordinals ≡ self.old.ordinals }
+        ensures ready { self.new.ready ≡ self.old.ready }
         ensures room { self.old.room ≤ self.new.room }
         ensures ok { OnOk result (additional ≤ self.new.room) }
         ensures err { IfErr result (λ e. e ≡ Refusal.OutOfMemory) }
@@ -99,17 +123,19 @@ impl TableRows {
         Ok(())
     }
 
-    // Makes a slot for a key, if it has none.
+    // Makes a slot for a key, if it has none, and has it ready.
     fn reserve_slot(&mut self, alloc: Global, key: &RowKey) -> Result<(), Refusal>
         ensures rows { self.new.rows ≡ self.old.rows }
         ensures ordinals { self.new.ordinals ≡ self.old.ordinals }
         ensures room { self.new.room ≡ self.old.room }
+        ensures ready { OnOk result (IsSome (slot_at self.new.ready key.now)) }
+        ensures still { (k : RowKey) → IsSome (slot_at self.old.ready k) → IsSome (slot_at self.new.ready k) }
         ensures err { IfErr result (λ e. e ≡ Refusal.OutOfMemory) }
     {
         self.stored.reserve(alloc, key)
     }
 
-    /// Makes memory for so many more rows without slots, and a slot for a key. Refuses for want of memory; the rows stay as they are.
+    /// Makes memory for so many more rows without slots, and a slot for a key that is ready. Refuses for want of memory; the rows stay as they are.
     pub fn make_room(
         &mut self,
         alloc: Global,
@@ -120,6 +146,8 @@ impl TableRows {
         ensures ordinals { self.new.ordinals ≡ self.old.ordinals }
         ensures room { self.old.room ≤ self.new.room }
         ensures ok { OnOk result (additional ≤ self.new.room) }
+        ensures ready { OnOk result (IsSome (slot_at self.new.ready key.now)) }
+        ensures still { (k : RowKey) → IsSome (slot_at self.old.ready k) → IsSome (slot_at self.new.ready k) }
         ensures err { IfErr result (λ e. e ≡ Refusal.OutOfMemory) }
     {
         self.reserve(additional)?;
@@ -127,24 +155,27 @@ impl TableRows {
     }
 
     /// Adds a row. Takes no memory.
-    pub fn add(&mut self, key: &RowKey, row: Row)
+    pub fn add(&mut self, key: &RowKey, row: SharedRow)
         requires key { key.now.values ≡ key_at self.old.ordinals row }
         requires room { 0 < self.old.room }
         ensures rows { IsPermutation self.new.rows (self.old.rows ++ row ∷ []) }
+        ensures still { (k : RowKey) → IsSome (slot_at self.old.ready k) → IsSome (slot_at self.new.ready k) }
         ensures ordinals { self.new.ordinals ≡ self.old.ordinals }
         ensures room { self.old.room ≤ self.new.room + 1 }
     {
-        if self.stored.is_free(key) {
+        if self.stored.can_take(key) {
             self.stored.add(key, row);
         } else {
             self.unslotted.push_reserved(row);
         }
     }
 
-    /// Removes a row, if it is there; the slot of its key stays. Takes no memory.
+    /// Removes a row, if it is there, whose key's slot is ready; the slot stays. Takes no memory.
     pub fn remove(&mut self, key: &RowKey, row: &Row)
-        requires { key.now.values ≡ key_at self.old.ordinals row.now }
+        requires key { key.now.values ≡ key_at self.old.ordinals row.now }
+        requires ready { IsSome (slot_at self.old.ready key.now) }
         ensures rows { IsPermutation self.new.rows (without row.now self.old.rows) }
+        ensures still { (k : RowKey) → IsSome (slot_at self.old.ready k) → IsSome (slot_at self.new.ready k) }
         ensures ordinals { self.new.ordinals ≡ self.old.ordinals }
         ensures room { self.old.room ≤ self.new.room }
     {
@@ -155,7 +186,7 @@ impl TableRows {
         }
     }
 
-    /// Makes memory to remember so many more keys of removed rows. Refuses for want of memory; the rows stay as they are.
+    /// Makes memory to remember so many more keys of changed rows. Refuses for want of memory; the rows stay as they are.
     pub fn reserve_freed(&mut self, additional: usize) -> Result<(), Refusal>
         ensures unchanged { self.new ≡ self.old }
         ensures err { IfErr result (λ e. e ≡ Refusal.OutOfMemory) }
@@ -164,7 +195,7 @@ impl TableRows {
         Ok(())
     }
 
-    /// Remembers the key of a removed row, whose slot is to be given up by `sweep`, if there is memory for that. Takes no memory.
+    /// Remembers the key of a changed row, whose slot is looked at by `sweep`, if there is memory for that. Takes no memory.
     pub fn free(&mut self, key: RowKey)
         ensures { self.new ≡ self.old }
     {
@@ -173,10 +204,33 @@ impl TableRows {
         }
     }
 
-    /// Gives up the slots of removed rows if no other row has come into them. Takes no memory.
+    /// Gives up the slots of remembered keys that have no row, and has the others no longer ready, so that a snapshot can share them.
+    /// Takes no memory.
     pub fn sweep(&mut self)
-        ensures { self.new ≡ self.old }
+        ensures rows { self.new.rows ≡ self.old.rows }
+        ensures ordinals { self.new.ordinals ≡ self.old.ordinals }
+        ensures room { self.new.room ≡ self.old.room }
     {
-        sweep_slots(&mut self.stored, &mut self.freed);
+        sweep_slots(&mut self.stored, self.freed.as_slice());
+        close_slots(&mut self.stored, &mut self.freed);
+    }
+
+    /// The table as it is now, whatever is changed in either later. Takes the same time for any number of rows in slots. No slot is ready
+    /// then. Refuses for want of memory; the rows stay as they are.
+    pub fn snapshot(&mut self, alloc: Global) -> Result<TableRows, Refusal>
+        ensures snapshot { IfOk result (λ t. t.rows ≡ self.old.rows) }
+        ensures columns { IfOk result (λ t. t.ordinals ≡ self.old.ordinals) }
+        ensures rows { self.new.rows ≡ self.old.rows }
+        ensures ordinals { self.new.ordinals ≡ self.old.ordinals }
+        ensures room { self.new.room ≡ self.old.room }
+        ensures err { IfErr result (λ e. e ≡ Refusal.OutOfMemory) }
+    {
+        let unslotted = shared(alloc, self.unslotted.as_slice())?;
+        let stored = self.stored.snapshot(alloc)?;
+        Ok(TableRows {
+            stored,
+            unslotted,
+            freed: Vec::new(alloc),
+        })
     }
 }

@@ -1,9 +1,6 @@
-use Rattle.std.proofs.Common.{◌≡◌, vec_len}
+use Rattle.std.proofs.Common.{◌≡◌}
 use Rattle.shard_store.specs.Slots.{rows_in}
 use Rattle.shard_store.proofs.table_rows.sweep_slots.Given as goal
 
 abbrev pub invariant-loop-key : goal.invariant-loop-key
 invariant-loop-key l = (rows_in l.stored.slots ≡ rows_in l.fn.stored.slots) × (l.stored.ordinals ≡ l.fn.stored.ordinals)
-
-abbrev pub decreases-loop-key : goal.decreases-loop-key
-decreases-loop-key l = vec_len l.keys

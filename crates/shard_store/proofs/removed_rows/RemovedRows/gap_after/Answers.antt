@@ -1,4 +1,4 @@
-use Rattle.std.proofs.Common.{◌≡◌, ◌&&◌, Bool, true, List, ap, sym, subst}
+use Rattle.std.proofs.Common.{◌≡◌, true, subst}
 use Rattle.std.specs.Ordering.{is_lt}
 use Rattle.std.specs.Cmp.Lexicographic.{slice_cmp}
 use Rattle.vt_value.specs.Values.{Row, value_cmp}

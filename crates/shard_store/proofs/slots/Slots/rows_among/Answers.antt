@@ -4,4 +4,4 @@ use Rattle.shard_store.proofs.slots.Slots.rows_among.Goals as goal
 
 pub returns-clause-ok : goal.returns-clause-ok
 returns-clause-ok c =
-    c.in_ok-walks.ensures.ok ∙ walked (map (λ v. v.now) c.args.sorted.now) c.args.self.now c.requires c.len-slots.ensures.ascend
+    c.in_ok-walks.ensures.ok ∙ walked (map (λ v. v.now) c.args.sorted.now) c.args.self.now.slots c.requires c.len-slots.ensures.ascend

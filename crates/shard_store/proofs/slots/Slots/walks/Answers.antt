@@ -4,11 +4,11 @@ use Rattle.shard_store.proofs.slots.Slots.walks.Goals as goal
 
 pub loop-value-preserved : goal.loop-value-preserved
 loop-value-preserved c =
-    more_walked (λ v. rows_in (slots_with v c.args.self.now)) c.loop-value.last c.value-item.result c.args.sorted.now c.loop-value.value-index c.loop-value.walks.items
+    more_walked (λ v. rows_in (slots_with v c.args.self.now.slots)) c.loop-value.last c.value-item.result c.args.sorted.now c.loop-value.value-index c.loop-value.walks.items
     c.comes_after.result _ c.loop-value-test.true c.value-item.is c.comes_after.ensures c.loop-value.invariant _ _ c.if-not-comes_after.false c.in_ok-rows_with.ensures.ok
     c.in_ok-push.ensures.items
 
 pub loop-value-preserved-then-not-comes_after : goal.loop-value-preserved-then-not-comes_after
 loop-value-preserved-then-not-comes_after c =
-    none_walked (λ v. rows_in (slots_with v c.args.self.now)) c.loop-value.last c.value-item.result c.args.sorted.now c.loop-value.value-index c.loop-value.walks.items
+    none_walked (λ v. rows_in (slots_with v c.args.self.now.slots)) c.loop-value.last c.value-item.result c.args.sorted.now c.loop-value.value-index c.loop-value.walks.items
     c.comes_after.result _ c.loop-value-test.true c.value-item.is c.comes_after.ensures c.loop-value.invariant c.if-not-comes_after.true

@@ -1,9 +1,9 @@
-use Rattle.std.proofs.Common.{rules, ◌≡◌, ◌∙◌, List, [], refl, sym, ap, subst}
+use Rattle.std.proofs.Common.{rules, ◌≡◌, ◌∙◌, List, [], refl, sym, subst}
 use Rattle.std.specs.List.{AllByRecursion}
 use Rattle.std.specs.Vec.Iter.{into_iter_items}
-use Rattle.vschema.specs.Database.{SameRows, all_applied}
+use Rattle.vschema.specs.Database.{Database, SameRows, all_applied}
 use Rattle.shard_store.specs.declared.key.KeyedChange.{KeyedChange}
-use Rattle.shard_store.specs.Stores.{StoreView, changes_in, HasItsKey, HasRoomFor}
+use Rattle.shard_store.specs.Stores.{changes_in, HasItsKey, HasRoomFor}
 use Rattle.shard_store.proofs.Tabled.{Reached, reached_first, reached_next, reached_last, room-first, room-others, key_first, keys_others}
 use Rattle.shard_store.proofs.KeptRows.{nil_of}
 use Rattle.shard_store.proofs.stored.StoredTables.apply.Goals as goal
@@ -34,7 +34,7 @@ loop-change-preserved c = record {
   reached = reached_next c.loop-change.self.rows c.apply_one.new.self.rows c.in-Some.change (into_iter_items c.loop-change.change-iterator) (into_iter_items c.next.new.self)
       (all_applied (changes_in c.args.changes.items) c.args.self.now.rows) c.in-Some.ensures.steps.0 c.loop-change.invariant.reached c.apply_one.ensures.rows;
   keys = keys_others c.loop-change.self c.apply_one.new.self (into_iter_items c.loop-change.change-iterator) (into_iter_items c.next.new.self) c.in-Some.change
-      c.in-Some.ensures.steps.0 c.apply_one.ensures.ordinals c.loop-change.invariant.keys;
+      c.in-Some.ensures.steps.0 c.apply_one.ensures.ordinals c.apply_one.ensures.still c.loop-change.invariant.keys;
   room = room-others c.loop-change.self c.apply_one.new.self (into_iter_items c.loop-change.change-iterator) (into_iter_items c.next.new.self) c.in-Some.change
       c.in-Some.ensures.steps.0 c.loop-change.invariant.room c.apply_one.ensures.room;
   ordinals = c.apply_one.ensures.ordinals ∙ c.loop-change.invariant.ordinals;
@@ -45,8 +45,8 @@ returns c =
     let none : into_iter_items c.loop-change.change-iterator ≡ [] =
     nil_of (into_iter_items c.loop-change.change-iterator) _ c.loop-change.change-iterator.rest.ok.0 c.in-None.ensures.steps.0 in
     record {
-      rows = subst (λ (s : StoreView). SameRows s.rows (all_applied (changes_in c.args.changes.items) c.args.self.now.rows)) (sym c.sweep.ensures)
+      rows = subst (λ (db : Database). SameRows db (all_applied (changes_in c.args.changes.items) c.args.self.now.rows)) (sym c.sweep.ensures.rows)
           (reached_last c.loop-change.self.rows (into_iter_items c.loop-change.change-iterator) (all_applied (changes_in c.args.changes.items) c.args.self.now.rows) none
           c.loop-change.invariant.reached);
-      ordinals = ap (λ (s : StoreView). s.ordinals) c.sweep.ensures ∙ c.loop-change.invariant.ordinals;
+      ordinals = c.sweep.ensures.ordinals ∙ c.loop-change.invariant.ordinals;
     }

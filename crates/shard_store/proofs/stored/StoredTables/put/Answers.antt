@@ -3,7 +3,7 @@ use Rattle.vt_value.specs.Values.{Row}
 use Rattle.vschema.specs.Database.{Database, SameRows}
 use Rattle.shard_store.specs.Tables.{key_at}
 use Rattle.shard_store.specs.Stores.{RowsView, StoreView}
-use Rattle.shard_store.proofs.Tabled.{rows_of_all, changed, same_set, places-at, room-after, put-within, put-room}
+use Rattle.shard_store.proofs.Tabled.{rows_of_all, changed, same_set, places-at, room-after, put-within, put-room, ready-after}
 use Rattle.shard_store.proofs.stored.StoredTables.put.Goals as goal
 
 pub index_mut-requires : goal.index_mut-requires
@@ -40,3 +40,8 @@ returns-clause-room c =
     (ap (λ (s : StoreView). s.room) c.self.view_is)
     (put-within c.self.inside.tables.items c.args.self.now c.args.ordinal (ap (λ (s : StoreView). s.room) c.self.view_is) c.requires.room) c.index_mut.ensures.value
     (let k = ap (λ b. cond {A = ℕ} b 1 0) (eq-eqb c.args.ordinal c.args.ordinal refl) in omega (arith, k, c.add.ensures.room))
+
+pub returns-clause-still : goal.returns-clause-still
+returns-clause-still c =
+    let within = put-within c.self.inside.tables.items c.args.self.now c.args.ordinal (ap (λ (s : StoreView). s.room) c.self.view_is) c.requires.room in
+    ready-after c.self.inside.tables.items c.args.self.now c.args.ordinal c.index_mut.result.now c.add.new.self (ap (λ (s : StoreView). s.ready) c.self.view_is) within c.index_mut.ensures.value c.add.ensures.still

@@ -11,5 +11,5 @@ returns c =
     let at : c.args.key.now.values ≡ key_at c.self.inside.ordinals c.args.row.now =
     subst (λ (t : TableView). c.args.key.now.values ≡ key_at t.ordinals c.args.row.now) (sym c.self.view_is) c.requires in
     subst (λ (t : TableView). c.holds.result ≡ list_any (same_row c.args.row.now) (rows_in t.slots)) c.self.view_is
-    (held_there c.self.inside.ordinals c.args.key.now c.self.inside.slots c.args.row.now c.holds.result c.self.invariant.keyed c.len-slots.ensures.ascend at
+    (held_there c.self.inside.ordinals c.args.key.now c.self.inside.slots.slots c.args.row.now c.holds.result c.self.invariant.keyed c.len-slots.ensures.ascend at
     c.holds.ensures)

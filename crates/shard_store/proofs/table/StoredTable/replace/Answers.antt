@@ -13,6 +13,7 @@ add-requires c =
     record {
       at = subst (λ (ps : List ℕ). c.args.key.now.values ≡ key_at ps c.args.new) same c.requires.fits.at;
       slot = c.remove.ensures.kept c.args.key.now c.requires.fits.slot;
+      ready = c.remove.ensures.still c.args.key.now c.requires.fits.ready;
       absent = subst (λ (ps : List ℕ). list_any (has_key ps c.args.key.now.values) rows ≡ false) same
           (list_any-IsPermutation (has_key c.args.self.now.ordinals c.args.key.now.values) rows (without c.args.old.now (rows_in c.args.self.now.slots)) c.remove.ensures.rows
           ∙ c.requires.fits.absent);
