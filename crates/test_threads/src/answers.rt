@@ -1,5 +1,5 @@
 //! The answer of a case.
-use crate::{partitions, queues, runs, workers};
+use crate::{partitions, queues, runs, snapshots, workers};
 use std::alloc::Global;
 use std::sync::Wait;
 use std::thread::Threads;
@@ -31,6 +31,9 @@ pub fn answer<R: Threads + Wait + Sync>(
         }
         "four_threads_append_to_one_run" => {
             told.put_went(runs::four_threads_append_to_one_run(rt, alloc))
+        }
+        "snapshot_keeps_its_entries" => {
+            told.put_went(snapshots::snapshot_keeps_its_entries(rt, alloc))
         }
         "calls_answer" => told.put_went(runs::calls_answer(alloc)),
         _ => Err(Unanswered::BadLine),

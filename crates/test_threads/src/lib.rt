@@ -5,6 +5,7 @@ mod answers;
 mod partitions;
 mod queues;
 mod runs;
+mod snapshots;
 mod workers;
 
 pub use answers::answer;
