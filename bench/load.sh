@@ -1,7 +1,8 @@
 #!/usr/bin/env bash
 # Measures what statements cost compared with others, as ratios of what is measured in one run: statements in a transaction with own
-# writes and outside, short reads of large tables and reads of one row while other clients are at work, and the bytes
-# that a write keeps. Prints the tables; with --write puts them into docs/PERFORMANCE.md.
+# writes and outside, short reads of large tables and reads of one row while other clients are at work, points and UPDATEs by key while a
+# client asks for reports (the same of MariaDB's server), and the bytes that a write keeps. Prints the tables; with --write puts them into
+# docs/PERFORMANCE.md. Needs a C compiler; installs Debian's MariaDB server if there is none, and runs it in a folder of its own.
 # Usage: bench/load.sh [--write] [--rows N] [--changes N] [--rounds N] [PROGRAM]   (proved and built if none is given)
 set -euo pipefail
 top=$(cd "$(dirname "$0")/.." && pwd)
@@ -16,5 +17,9 @@ while [ $# -gt 0 ]; do
     esac
     shift
 done
+have_packages mariadb-server mariadb-client
 program=$(program_of vtgate_main "$program")
-python3 "$top/bench/load/beside.py" "$(realpath "$program")" "${choices[@]}"
+work=$(mktemp -d)
+trap 'rm -rf "$work"' EXIT
+"${CC:-cc}" -O2 -Wall -Wextra -D_GNU_SOURCE -o "$work/load" "$top/bench/serve/load.c" -lpthread
+python3 "$top/bench/load/beside.py" "$(realpath "$program")" "$work/load" "$work" "${choices[@]}"

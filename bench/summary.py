@@ -118,6 +118,13 @@ def splits(page):
         yield f"In a split {'; '.join(said)}."
 
 
+def reports(page):
+    for rows in page.get("Statements beside others", []):
+        if rows and "report beside it" in rows[0]:
+            keep = [span(numbers([it for it in rows if it["server"] == name and it["report beside it"] != "alone"], "of alone")) for name in ("router", "MariaDB")]
+            yield f"While a client asks for reports of all rows over and over, statements by key keep {keep[0]} of their rate (MariaDB's {keep[1]})."
+
+
 def memory(page):
     for rows in page.get("The dearest statement of each kind", [])[:1]:
         each = [it for it in rows if re.fullmatch(r"\d+", it["bytes a row beyond the reply"])]
@@ -130,7 +137,7 @@ def memory(page):
 
 def summary(text):
     page = sections(text)
-    lines = [line for part in (faster, slower, threads, splits, memory) for line in part(page)]
+    lines = [line for part in (faster, slower, threads, reports, splits, memory) for line in part(page)]
     return BEGIN + HEAD.lstrip("\n") + "".join(f"- {it}\n" for it in lines) + END + "\n" if lines else ""
 
 

@@ -17,6 +17,7 @@ sys.path[:0] = [str(TOP / "tests" / "clients"), str(TOP / "bench")]
 
 import packets  # noqa: E402
 import page  # noqa: E402
+import reports  # noqa: E402
 from router import free_ports  # noqa: E402
 
 NUMBER = {"type": "BIGINT UNSIGNED"}
@@ -188,6 +189,8 @@ def kept(program, rows):
 def main():
     asked = argparse.ArgumentParser()
     asked.add_argument("program")
+    asked.add_argument("load")
+    asked.add_argument("work", type=pathlib.Path)
     asked.add_argument("--rows", type=int, default=1_000_000)
     asked.add_argument("--changes", type=int, default=100)
     asked.add_argument("--rounds", type=int, default=5)
@@ -196,6 +199,7 @@ def main():
     part = HEAD.format(day=datetime.date.today(), cores=os.cpu_count())
     part += transactions(words.program, words.rows, words.changes, words.rounds)
     part += beside_others(words.program, 20_000, 3, words.rounds)
+    part += reports.table(words.program, words.load, words.work)
     part += kept(words.program, min(words.rows, 100_000))
     if words.document:
         page.put(words.document, "load.sh", part)

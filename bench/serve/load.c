@@ -5,7 +5,8 @@
    load reply PORT USER PASSWORD DATABASE ROWS KIND    writes the bytes of the reply to one statement of a kind
    load run PORT USER PASSWORD DATABASE ROWS KIND CONNECTIONS SECONDS
                                                        prints statements or transactions a second, the 50th and 99th of 100 latencies in
-                                                       nanoseconds, and how many of 1000 transactions were given up for a conflict
+                                                       nanoseconds, how many of 1000 transactions were given up for a conflict, the 999th
+                                                       of 1000 latencies and the longest
    load echo PORT POINT INSERT UPDATE SCATTER          answers requests with the bytes of these files, by their kind
    A USER of - is none: the connection begins with the first statement. */
 #include <arpa/inet.h>
@@ -22,8 +23,8 @@
 #include <unistd.h>
 
 enum { FIRST_ID = 100000, FIRST_INSERTED = 10000000, FEW = 100, SHARDS = 4, AT_ONCE = 500, BUFFER = 1 << 16 };
-enum kind { POINT, INSERT, UPDATE, SCATTER, MIX, TRANSACTION, KINDS };
-static const char *const names[KINDS] = {"point", "insert", "update", "scatter", "mix", "transaction"};
+enum kind { POINT, INSERT, UPDATE, SCATTER, MIX, TRANSACTION, SORTED, GROUPS, ROWS, KINDS };
+static const char *const names[KINDS] = {"point", "insert", "update", "scatter", "mix", "transaction", "sorted", "groups", "rows"};
 
 static void fail(const char *what) {
     perror(what);
@@ -263,6 +264,12 @@ static size_t put_text(char *out, size_t room, enum kind kind, uint64_t *state, 
         unsigned long long value = random_value(state);
         return snprintf(out, room, "UPDATE t SET c = %llu WHERE id = %llu", value, (unsigned long long)random_id(state));
     }
+    case SORTED:
+        return snprintf(out, room, "SELECT id, c FROM t ORDER BY c, id LIMIT 10");
+    case GROUPS:
+        return snprintf(out, room, "SELECT c, COUNT(*) FROM t GROUP BY c");
+    case ROWS:
+        return snprintf(out, room, "SELECT id, c FROM t");
     default:
         return snprintf(out, room, "SELECT id, c FROM few ORDER BY c, id LIMIT 10");
     }
@@ -391,7 +398,8 @@ static void print_results(struct asker *askers, unsigned count, double seconds) 
     qsort(all, total, sizeof *all, compare);
     if (total == 0)
         refuse("no statement was answered in time");
-    printf("%.0f %u %u %zu\n", total / seconds, all[total / 2], all[total * 99 / 100], conflicts * 1000 / (total + conflicts));
+    printf("%.0f %u %u %zu %u %u\n", total / seconds, all[total / 2], all[total * 99 / 100], conflicts * 1000 / (total + conflicts),
+        all[total * 999 / 1000], all[total - 1]);
     free(all);
 }
 

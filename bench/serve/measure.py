@@ -139,7 +139,7 @@ def measure_cells(words, servers, kind, count):
         for server, rounds in zip(servers, results):
             server.begin_cell(words.load)
             line = server.load(words.load, "run", kind, count, str(words.seconds)).decode()
-            rounds.append(tuple(map(int, line.split())))
+            rounds.append(tuple(map(int, line.split()))[:4])
     for server, rounds in zip(servers, results):
         print(kind, count, server.name, *sorted(rounds)[len(rounds) // 2], flush=True)
 
@@ -170,4 +170,5 @@ def main():
             server.stop()
 
 
-main()
+if __name__ == "__main__":
+    main()
