@@ -1,9 +1,8 @@
 -- A Follow takes only rows that are there, so that the target's rows after it are as many as counts tell.
-use Rattle.std.proofs.Common.{◌≡◌, ◌⊎◌, inl, inr, ℕ, zero, suc, ◌+◌, ◌-◌, ◌<◌, ◌≤◌, Bool, true, false, not, cond, ◌&&◌, ◌==◌, List, [], ◌∷◌, ◌++◌, length, get_or, map, filter, slice_get, Option, Some, None, IsPermutation, refl, sym, ap, ◌∙◌, subst, arith, length-append}
+use Rattle.std.proofs.Common.{◌≡◌, ◌⊎◌, inl, inr, ℕ, zero, suc, ◌+◌, ◌-◌, ◌<◌, ◌≤◌, Bool, true, false, not, cond, ◌&&◌, ◌==◌, List, [], ◌∷◌, ◌++◌, length, get_or, map, filter, slice_get, Option, Some, None, refl, sym, ap, ◌∙◌, subst, arith, length-append}
 use Rattle.std.specs.Prelude.{count_by, Contains}
 use Rattle.std.specs.List.{AllByRecursion, sum_by}
-use Rattle.std.proofs.lemmas.Bool.{true≢false, false≢true, and_parts, and_from, and_left, and_right, eq-eqb, eqb-true, not_from_false}
-use Rattle.std.proofs.lemmas.List.{append-nil, append_assoc}
+use Rattle.std.proofs.lemmas.Bool.{true≢false, false≢true, and_parts, and_from, eq-eqb, eqb-true, not_from_false}
 use Rattle.std.proofs.lemmas.List.Elements.{filter-append}
 use Rattle.std.proofs.lemmas.List.Sums.{sum_by-cons, sum_by-set}
 use Rattle.vt_value.specs.Values.{Row}
@@ -15,7 +14,7 @@ use Rattle.vschema.specs.declared.changes.Write.{Write}
 use Rattle.vschema.specs.declared.changes.RowChange.{RowChange}
 use Rattle.vschema.specs.declared.changes.RowChange.TheVariants.{Added, Replaced, Removed}
 use Rattle.vschema.specs.Schema.{no_table}
-use Rattle.vschema.specs.Database.{Database, SameRows, rows_of, same_row, without, applied, all_applied, changed_table, changed_row, lies_in, restrict, change_lies_in, restricted_changes}
+use Rattle.vschema.specs.Database.{Database, SameRows, rows_of, without, applied, all_applied, changed_table, lies_in, restrict, change_lies_in, restricted_changes}
 use Rattle.sql_eval.specs.Writes.{written_table}
 use Rattle.sql_eval.proofs.ChangeLemmas.{rows-same}
 use Rattle.shard_run.specs.declared.ShardRecord.{ShardRecord}
@@ -42,7 +41,7 @@ use Rattle.shard_law.proofs.Holds.{holds_its_part}
 use Rattle.shard_law.proofs.Copying.{copies_its_part, within_parts, held_long}
 use Rattle.shard_law.proofs.Stands.{is_shard, stands_where_it_served}
 use Rattle.shard_law.proofs.Law as law
-use Rattle.shard_law.proofs.Counts.{count, once, effect, tally, tally-cons, tally-append, tally-none, count_at, count-applied, count-all_applied, count-filter_in, count-permuted, Test, Keeps, passes, other_row, effect-away}
+use Rattle.shard_law.proofs.Counts.{count, once, effect, tally, tally-cons, tally-none, count_at, count-applied, count-all_applied, count-filter_in, count-permuted, Test, Keeps, passes, other_row, effect-away}
 use Rattle.shard_law.specs.declared.limits.Limits.{Limits}
 use Rattle.shard_contents.specs.Commits.{is_added, is_removed}
 use Rattle.shard_contents.specs.inner.Stores.{row_after}

@@ -100,7 +100,7 @@ module _ (o : Opening) (most : Limits) (seat : SeatView Entry) (c : Contents) (i
   held_is : shard_rows o seat.seen c.shard ≡ shard_rows o v.seen s
   held_is = ap (λ (u : ShardRecord). shard_rows o seat.seen u) shard_is ∙ ap (λ (r : Run). shard_rows o r s) seen_is
 
-  same_there : (changes : List RowChange) → SameRows (all_applied changes c.store.rows) (all_applied changes (shard_rows o v.seen s))
+  pub same_there : (changes : List RowChange) → SameRows (all_applied changes c.store.rows) (all_applied changes (shard_rows o v.seen s))
   same_there changes = subst (λ (db : Database). SameRows (all_applied changes c.store.rows) (all_applied changes db)) held_is (same_past changes)
 
   pub tables : length c.store.rows ≡ length o.schema.tables

@@ -37,7 +37,7 @@ impl<W: World, J: Naming> Shard<W, J> {
         state.check(pass, tx)
     }
 
-    /// What a query gives in a transaction under the shard's lock, as `ShardState::read_in`.
+    /// What a query gives in a transaction, as `ShardState::read_in`. The lock is given back before a query looks at many rows.
     pub fn read_in(
         &self,
         rt: &impl Wait,
@@ -55,8 +55,11 @@ impl<W: World, J: Naming> Shard<W, J> {
             (λ e. IsReadRefusal W.opening s pass.new.seen tx.old e × (tx.new ≡ tx.old)) }
         ensures past { mode W.opening pass.new.seen self.now.0 ≡ Mode.Following → ⊥ }
     {
-        let mut state = self.own_state(rt);
-        state.read_in(alloc, pass, tx, query)
+        let begun = {
+            let mut state = self.own_state(rt);
+            state.begin_read_in(alloc, pass, tx, query)
+        };
+        begun?.finish(alloc, tx, query)
     }
 
     /// Makes the changes of a write in a transaction under the shard's lock, as `ShardState::write_in`.

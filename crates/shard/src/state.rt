@@ -2,6 +2,9 @@
 //! that the run leaves on the shard.
 ghost use Rattle.std.specs.Prelude.{◌≡◌, ◌↔◌, IsTrue, ◌⊎◌, ◌+◌, ◌<◌, ◌≤◌, ◌^◌, ◌++◌, ◌∷◌, [], ℕ, true, false, List, Some, IsSome, IfOk, IfErr, MatchOption, None, OnOk, OnErr, Contains, length, vec_len};
 ghost use Rattle.vschema.specs.TypedWrites.{IsTypedWrite};
+ghost use Rattle.vschema.specs.declared.schema.Query as asked;
+ghost use Rattle.vschema.specs.Sources.{source_rows};
+ghost use Rattle.sql_eval.specs.Groups.{CanBeSummed};
 ghost use Rattle.sql_eval.specs.Queries.{Allowed};
 ghost use Rattle.journal.specs.Views.{IsLater};
 ghost use Rattle.shard_run.specs.declared.Entry.{Entry};
@@ -13,7 +16,9 @@ ghost use Rattle.journal.specs.Runs.{IsLegal};
 ghost use Rattle.shard_law.specs.Entries.{MayFollow, slot_of, commit_of};
 ghost use Rattle.shard_contents.specs.Shards.{beyond, IsAfter};
 ghost use Rattle.shard_contents.specs.inner.Shards.{is_plain};
+ghost use Rattle.shard.specs.inner.Snapshots.{IsSnapshotAt, HasBegun, IsSummable};
 
+use crate::snapshot::{BegunRead, MOST_ROWS_UNDER_LOCK, Snapshot};
 use crate::world::{ShardLaw, ShardPass, World};
 use journal::{Naming, ShardSeat};
 use shard_contents::{
@@ -295,6 +300,49 @@ impl<W: World, J: Naming> ShardState<W, J> {
         Ok(Reading { rows, entries })
     }
 
+    // The rows of a shard that serves, as they are at a look.
+    fn snapshot(&mut self, alloc: Global, pass: &mut ShardPass<W, J>) -> Result<Snapshot, Refusal>
+        requires serves { answers_queries (mode W.opening self.old.seen self.old.shard.slot) ≡ true }
+        ensures seen { IsLater slot_of commit_of (MayFollow W.opening) (seat_view self.old) pass.old self.new.seen }
+        ensures snapshot { IfOk result (IsSnapshotAt W.opening self.new.seen self.old.shard) }
+        ensures summed { IfOk result (λ t. (q : asked.Query) → CanBeSummed (source_rows q t.store.rows)) }
+        ensures err { IfErr result (λ e. e ≡ Refusal.OutOfMemory) }
+        ensures shard { self.new.shard ≡ self.old.shard }
+        ensures stands { IsOnItsSlot W.opening self.new.seen self.old.shard }
+        ensures pass { pass.new ≡ record pass.old { seen = self.new.seen; looks = pass.old.looks ++ (self.old.shard.slot, length self.new.seen) ∷ [] } }
+    {
+        let entries = self.seat.look(pass);
+        let store = self.contents.store.snapshot(alloc)?;
+        Ok(Snapshot { store, entries })
+    }
+
+    // The look of a read, with all that has to be done under the shard's lock.
+    pub(crate) fn begin_read(
+        &mut self,
+        alloc: Global,
+        pass: &mut ShardPass<W, J>,
+        query: &Query,
+    ) -> Result<BegunRead, Refusal>
+        ensures seen { IsLater slot_of commit_of (MayFollow W.opening) (seat_view self.old) pass.old self.new.seen }
+        ensures begun { IfOk result (HasBegun W.opening self.new.seen self.old.shard query.now) }
+        ensures summed { IfOk result (IsSummable query.now) }
+        ensures err { IfErr result (λ e. e ≡ Refusal.OutOfMemory) }
+        ensures shard { self.new.shard ≡ self.old.shard }
+        ensures stands { IsOnItsSlot W.opening self.new.seen self.old.shard }
+        ensures pass { pass.new ≡ record pass.old { seen = self.new.seen; looks = pass.old.looks ++ (self.old.shard.slot, length self.new.seen) ∷ [] } }
+    {
+        if !serves(self.contents.mode) {
+            let _ = self.look(pass);
+            return Ok(BegunRead::Answered(ReadOutcome::NotServing));
+        }
+        if self.contents.store.scans(query, MOST_ROWS_UNDER_LOCK) {
+            let snapshot = self.snapshot(alloc, pass)?;
+            return Ok(BegunRead::Begun(snapshot));
+        }
+        let reading = self.read_serving(alloc, pass, query)?;
+        Ok(BegunRead::Answered(ReadOutcome::Rows(reading)))
+    }
+
     // Promise: A read makes one look, which the pass keeps; its answer is one of the query's over what the run leaves on the shard at that
     // look, if it serves and has at most 2^20 rows, with the number of the shard's entries then; else it says that the shard doesn't
     // serve
@@ -313,13 +361,8 @@ impl<W: World, J: Naming> ShardState<W, J> {
         ensures stands { IsOnItsSlot W.opening self.new.seen self.old.shard }
         ensures pass { pass.new ≡ record pass.old { seen = self.new.seen; looks = pass.old.looks ++ (self.old.shard.slot, length self.new.seen) ∷ [] } }
     {
-        if serves(self.contents.mode) {
-            let reading = self.read_serving(alloc, pass, query)?;
-            Ok(ReadOutcome::Rows(reading))
-        } else {
-            let _ = self.look(pass);
-            Ok(ReadOutcome::NotServing)
-        }
+        let begun = self.begin_read(alloc, pass, query)?;
+        begun.finish(alloc, query)
     }
 
     // Commits the write on a shard that takes it.

@@ -4,6 +4,7 @@ ghost use Rattle.vschema.specs.Sources.{SourcesThere};
 ghost use Rattle.vschema.specs.TypedWrites.{IsTypedWrite};
 ghost use Rattle.sql_eval.specs.Writes.{written_table};
 
+use crate::snapshot::{BegunReadIn, rows_in};
 use crate::state::ShardState;
 use crate::world::{ShardPass, World};
 use journal::Naming;
@@ -28,6 +29,7 @@ impl<W: World, J: Naming> ShardState<W, J> {
     ghost use Rattle.shard_law.specs.Legal.{IsOnItsSlot};
     ghost use Rattle.shard_law.specs.Entries.{slot_of, commit_of, MayFollow, HasLooked, seat_view};
     ghost use Rattle.shard_contents.specs.Commits.{IsPlaced};
+    ghost use Rattle.shard.specs.inner.Snapshots.{HasBegunIn, IsToRead};
     ghost use Rattle.shard_contents.specs.Transactions.{IsClear, IsPendingOf, HasReadIn, HasWrittenIn, IsStopped, IsReadRefusal, IsWriteRefusal, HasCommittedAll, IsCommitAllRefusal};
 
     // Promise: A transaction on one shard, before its commit: each statement of it makes one look, if the shard serves, isn't frozen and
@@ -57,6 +59,41 @@ impl<W: World, J: Naming> ShardState<W, J> {
         Ok(entries)
     }
 
+    // The look of a read in a transaction, with all that has to be done under the shard's lock.
+    pub(crate) fn begin_read_in(
+        &mut self,
+        alloc: Global,
+        pass: &mut ShardPass<W, J>,
+        tx: &Pending,
+        query: &Query,
+    ) -> Result<BegunReadIn, Refusal>
+        requires there { SourcesThere (length W.opening.schema.tables) query.now }
+        requires tied { IsPendingOf W.opening self.old.shard tx.now pass.old }
+        requires session { IsSome pass.old.session }
+        requires above { (n : ℕ) → pass.old.session ≡ Some n → NumbersBelow commit_of n pass.old.statements pass.old.seen }
+        ensures seen { IsLater slot_of commit_of (MayFollow W.opening) (seat_view self.old) pass.old self.new.seen }
+        ensures begun { IfOk result (HasBegunIn W.opening self.old.shard tx.now self.new.seen query.now) }
+        ensures readable { IfOk result (λ b. IsToRead query.now tx.now.changes b.rows) }
+        ensures err { IfErr result (IsReadRefusal W.opening self.old.shard self.new.seen tx.now) }
+        ensures shard { self.new.shard ≡ self.old.shard }
+        ensures stands { IsOnItsSlot W.opening self.new.seen self.old.shard }
+        ensures pass { pass.new ≡ record pass.old { seen = self.new.seen; looks = pass.old.looks ++ (self.old.shard.slot, length self.new.seen) ∷ [] } }
+    {
+        let entries = self.check(pass, tx)?;
+        let stored = self.contents.stored.len();
+        let rows = rows_in(
+            &mut self.contents.store,
+            alloc,
+            query,
+            tx.changes.as_slice(),
+        )?;
+        Ok(BegunReadIn {
+            rows,
+            entries,
+            stored,
+        })
+    }
+
     /// What the query gives in a transaction, with the transaction's own changes, over the rows that the run leaves on the shard at one
     /// look, which the pass keeps. The tables that the query is over are touched then. It refuses as `check`, and for want of memory; then
     /// the look was made, and the transaction stays as it was.
@@ -79,13 +116,8 @@ impl<W: World, J: Naming> ShardState<W, J> {
         ensures stands { IsOnItsSlot W.opening self.new.seen self.old.shard }
         ensures pass { pass.new ≡ record pass.old { seen = self.new.seen; looks = pass.old.looks ++ (self.old.shard.slot, length self.new.seen) ∷ [] } }
     {
-        let entries = self.check(pass, tx)?;
-        let rows = self
-            .contents
-            .select_in_transaction(alloc, query, tx.changes.as_slice())?;
-        let stored = self.contents.stored.len();
-        tx.touch(query, stored)?;
-        Ok(Reading { rows, entries })
+        let begun = self.begin_read_in(alloc, pass, tx, query)?;
+        begun.finish(alloc, tx, query)
     }
 
     /// Makes the changes of a write in a transaction, over the rows that the run leaves on the shard at one look, which the pass keeps, and

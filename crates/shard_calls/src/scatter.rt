@@ -16,7 +16,7 @@ use operators::{Operator, Rows};
 use planner::{Plan, single_id, takes_by};
 use serving::{Seated, ShardReference};
 use shard::{ReadOutcome, Reading, Shard, ShardPass, World};
-use shard_store::{Fixed, fixed_values};
+use shard_store::{Fixed, fixed_values, rows_by_limit};
 use sql_tree::Condition;
 use std::alloc::Global;
 use std::sync::Wait;
@@ -83,16 +83,6 @@ fn rows_by_key(table: &Table, condition: &Condition<usize>) -> usize {
         Some(Fixed::One(_)) => 1,
         Some(Fixed::Among(values)) => values.len(),
         None => usize::MAX,
-    }
-}
-
-// How many rows a query without a condition reads at most: no more than its LIMIT lets through, if any rows will do.
-fn rows_by_limit(query: &Query) -> usize {
-    match query.limit {
-        Some(limit) if query.order_by.is_empty() && !query.is_aggregated() => {
-            limit.offset.saturating_add(limit.count) as usize
-        }
-        _ => usize::MAX,
     }
 }
 

@@ -27,4 +27,4 @@ pub use sorted::{SortedTable, SortedTables};
 pub use store::changed_table;
 pub use target_steps::TargetStep;
 pub use touched_table::Touch;
-pub use transaction_rows::changes_any;
+pub use transaction_rows::{changes_any, select_in_transaction};

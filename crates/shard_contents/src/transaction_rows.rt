@@ -213,73 +213,73 @@ fn rows_for<'a>(
     keyed_overlaid(alloc, store, ordinal, changes, table, new)
 }
 
+// What a query over one table gives over its rows with these changes done.
+fn select_one_in_transaction(
+    alloc: Global,
+    store: &StoredTables,
+    query: &Query,
+    changes: &[RowChange],
+) -> Result<Items<Row>, Refusal>
+    requires there { query.now.table < length store.now.rows }
+    requires few { length (rows_of store.now.rows query.now.table) ≤ 2 ^ 60 }
+    requires summed { is_aggregated query.now ≡ true → length (rows_of (all_applied changes.now store.now.rows) query.now.table) ≤ 2 ^ 60
+        → CanBeSummed (rows_of (all_applied changes.now store.now.rows) query.now.table) }
+    ensures ok { IfOk result (IsAnswer query.now (rows_of (all_applied changes.now store.now.rows) query.now.table)) }
+    ensures err { IfErr result (λ e. e ≡ Refusal.OutOfMemory) }
+{
+    if store.row_count_of(query.table) + changes.len() > MOST_ROWS {
+        return Err(Refusal::OutOfMemory);
+    }
+    let wanted = RowSelection::Kept(&query.filter);
+    let overlaid = overlaid_rows(alloc, store, query.table, changes, wanted)?;
+    overlaid.select(alloc, query)
+}
+
+// What a query over two tables gives over their rows with these changes done.
+fn select_pairs_in_transaction(
+    alloc: Global,
+    store: &StoredTables,
+    query: &Query,
+    join: Join,
+    changes: &[RowChange],
+) -> Result<Items<Row>, Refusal>
+    requires first { query.now.table < length store.now.rows }
+    requires second { join.table < length store.now.rows }
+    requires summed { is_aggregated query.now ≡ true
+        → length (pairs_of join (rows_of (all_applied changes.now store.now.rows) query.now.table) (rows_of (all_applied changes.now store.now.rows) join.table)) ≤ 2 ^ 60
+        → CanBeSummed (pairs_of join (rows_of (all_applied changes.now store.now.rows) query.now.table) (rows_of (all_applied changes.now store.now.rows) join.table)) }
+    ensures ok { IfOk result (IsAnswer query.now (pairs_of join (rows_of (all_applied changes.now store.now.rows) query.now.table) (rows_of (all_applied changes.now store.now.rows) join.table))) }
+    ensures err { IfErr result (λ e. e ≡ Refusal.OutOfMemory) }
+{
+    let firsts = overlaid_rows(alloc, store, query.table, changes, RowSelection::All)?;
+    let seconds = overlaid_rows(alloc, store, join.table, changes, RowSelection::All)?;
+    select_joined(alloc, query, join, firsts.all(), seconds.all())
+}
+
+/// What the query gives over the rows with these changes done. None of them is done if none is of a table that it is over.
+pub fn select_in_transaction(
+    alloc: Global,
+    store: &StoredTables,
+    query: &Query,
+    changes: &[RowChange],
+) -> Result<Items<Row>, Refusal>
+    requires there { SourcesThere (length store.now.rows) query.now }
+    requires few { length (source_rows query.now store.now.rows) ≤ 2 ^ 60 }
+    requires summed { is_aggregated query.now ≡ true → length (source_rows query.now (all_applied changes.now store.now.rows)) ≤ 2 ^ 60
+        → CanBeSummed (source_rows query.now (all_applied changes.now store.now.rows)) }
+    ensures ok { IfOk result (IsAnswer query.now (source_rows query.now (all_applied changes.now store.now.rows))) }
+    ensures err { IfErr result (λ e. e ≡ Refusal.OutOfMemory) }
+{
+    if !changes_source(query, changes) {
+        return store.select(alloc, query);
+    }
+    match query.join {
+        Some(join) => select_pairs_in_transaction(alloc, store, query, join, changes),
+        None => select_one_in_transaction(alloc, store, query, changes),
+    }
+}
+
 impl Contents {
-    // What a query over one table gives over its rows with these changes done.
-    fn select_one_in_transaction(
-        &self,
-        alloc: Global,
-        query: &Query,
-        changes: &[RowChange],
-    ) -> Result<Items<Row>, Refusal>
-        requires there { query.now.table < length self.now.store.rows }
-        requires few { length (rows_of self.now.store.rows query.now.table) ≤ 2 ^ 60 }
-        requires summed { is_aggregated query.now ≡ true → length (rows_of (all_applied changes.now self.now.store.rows) query.now.table) ≤ 2 ^ 60
-            → CanBeSummed (rows_of (all_applied changes.now self.now.store.rows) query.now.table) }
-        ensures ok { IfOk result (IsAnswer query.now (rows_of (all_applied changes.now self.now.store.rows) query.now.table)) }
-        ensures err { IfErr result (λ e. e ≡ Refusal.OutOfMemory) }
-    {
-        if self.store.row_count_of(query.table) + changes.len() > MOST_ROWS {
-            return Err(Refusal::OutOfMemory);
-        }
-        let wanted = RowSelection::Kept(&query.filter);
-        let overlaid = overlaid_rows(alloc, &self.store, query.table, changes, wanted)?;
-        overlaid.select(alloc, query)
-    }
-
-    // What a query over two tables gives over their rows with these changes done.
-    fn select_pairs_in_transaction(
-        &self,
-        alloc: Global,
-        query: &Query,
-        join: Join,
-        changes: &[RowChange],
-    ) -> Result<Items<Row>, Refusal>
-        requires first { query.now.table < length self.now.store.rows }
-        requires second { join.table < length self.now.store.rows }
-        requires summed { is_aggregated query.now ≡ true
-            → length (pairs_of join (rows_of (all_applied changes.now self.now.store.rows) query.now.table) (rows_of (all_applied changes.now self.now.store.rows) join.table)) ≤ 2 ^ 60
-            → CanBeSummed (pairs_of join (rows_of (all_applied changes.now self.now.store.rows) query.now.table) (rows_of (all_applied changes.now self.now.store.rows) join.table)) }
-        ensures ok { IfOk result (IsAnswer query.now (pairs_of join (rows_of (all_applied changes.now self.now.store.rows) query.now.table) (rows_of (all_applied changes.now self.now.store.rows) join.table))) }
-        ensures err { IfErr result (λ e. e ≡ Refusal.OutOfMemory) }
-    {
-        let firsts = overlaid_rows(alloc, &self.store, query.table, changes, RowSelection::All)?;
-        let seconds = overlaid_rows(alloc, &self.store, join.table, changes, RowSelection::All)?;
-        select_joined(alloc, query, join, firsts.all(), seconds.all())
-    }
-
-    /// What the query gives over the rows with these changes done. None of them is done if none is of a table that it is over.
-    pub fn select_in_transaction(
-        &self,
-        alloc: Global,
-        query: &Query,
-        changes: &[RowChange],
-    ) -> Result<Items<Row>, Refusal>
-        requires there { SourcesThere (length self.now.store.rows) query.now }
-        requires few { length (source_rows query.now self.now.store.rows) ≤ 2 ^ 60 }
-        requires summed { is_aggregated query.now ≡ true → length (source_rows query.now (all_applied changes.now self.now.store.rows)) ≤ 2 ^ 60
-            → CanBeSummed (source_rows query.now (all_applied changes.now self.now.store.rows)) }
-        ensures ok { IfOk result (IsAnswer query.now (source_rows query.now (all_applied changes.now self.now.store.rows))) }
-        ensures err { IfErr result (λ e. e ≡ Refusal.OutOfMemory) }
-    {
-        if !changes_source(query, changes) {
-            return self.store.select(alloc, query);
-        }
-        match query.join {
-            Some(join) => self.select_pairs_in_transaction(alloc, query, join, changes),
-            None => self.select_one_in_transaction(alloc, query, changes),
-        }
-    }
-
     // What a write without new rows does.
     fn changed_in_transaction(
         &self,

@@ -26,7 +26,7 @@ use vt_value::{Items, Refusal, Row};
 impl StoredTable {
     // Values of which the first key column has one in the first row of each pair that a query keeps: none for an aggregated one, which is
     // answered over all pairs.
-    fn first_pair_values<'a>(&self, query: &'a Query, join: Join) -> Option<Fixed<'a>>
+    pub(crate) fn first_pair_values<'a>(&self, query: &'a Query, join: Join) -> Option<Fixed<'a>>
         ensures some { IfSome result (λ f. 0 < length self.now.ordinals) }
         ensures plain { is_aggregated query.now ≡ true → result ≡ None }
         ensures values { IfSome result (λ f. (first second : List V) → is_pair join first second ≡ true → is_kept query.now.filter (paired join first second) ≡ true

@@ -34,7 +34,10 @@ use vt_value::{Items, Refusal, Row};
 
 impl StoredTable {
     // Values of which the first key column has one in each row whose condition is true.
-    fn first_values<'a>(&self, condition: &'a Option<Condition<usize>>) -> Option<Fixed<'a>>
+    pub(crate) fn first_values<'a>(
+        &self,
+        condition: &'a Option<Condition<usize>>,
+    ) -> Option<Fixed<'a>>
         ensures some { IfSome result (λ f. 0 < length self.now.ordinals) }
         ensures values { IfSome result (λ f. (row : List V) → is_kept condition.now row ≡ true → fits f (value_at row (slice_index self.now.ordinals 0)) ≡ true) }
     {

@@ -8,5 +8,5 @@ use Rattle.shard.proofs.locked.Shard.read.Goals as goal
 pub returns-clause-past : goal.returns-clause-past
 returns-clause-past g c =
     found_past g.W.World.opening c.deref_mut.result.now (mutex_guard_value c.own_state-state.result) c.deref_mut.ensures.value
-    c.own_state-state.ensures.past c.args.self.now.0 c.own_state-state.ensures.at.0 c.read.new.self.seen c.read.new.pass.seen
-    c.read.ensures.seen.seat (sym (ap (λ (x : PassView Entry). x.seen) c.read.ensures.pass))
+    c.own_state-state.ensures.past c.args.self.now.0 c.own_state-state.ensures.at.0 c.begin_read-begun.new.self.seen c.begin_read-begun.new.pass.seen
+    c.begin_read-begun.ensures.seen.seat (sym (ap (λ (x : PassView Entry). x.seen) c.begin_read-begun.ensures.pass))

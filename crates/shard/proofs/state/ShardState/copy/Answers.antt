@@ -1,5 +1,5 @@
 use denote.Param.Send.{sendable}
-use Rattle.std.proofs.Common.{◌≡◌, ℕ, true, false, List, [], ◌∷◌, ◌++◌, map, length, inr, rules, refl, sym, ap, subst, ◌∙◌, arith}
+use Rattle.std.proofs.Common.{◌≡◌, ℕ, true, false, List, [], ◌∷◌, ◌++◌, map, inr, rules, refl, sym, ap, subst, ◌∙◌, arith}
 use Rattle.vschema.specs.declared.changes.RowChange.{RowChange}
 use Rattle.vschema.specs.declared.changes.RowChange.TheVariants.{Added}
 use Rattle.vschema.specs.Database.{Database, SameRows, all_applied}

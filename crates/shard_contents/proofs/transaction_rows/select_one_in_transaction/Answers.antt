@@ -4,11 +4,11 @@ use Rattle.sql_eval.specs.Groups.{CanBeSummed}
 use Rattle.sql_eval.specs.Conditions.{is_kept}
 use Rattle.sql_eval.proofs.Sums.{filter_summed}
 use Rattle.shard_contents.proofs.Wanted.{longer}
-use Rattle.shard_contents.proofs.contents.Contents.select_one_in_transaction.Goals as goal
+use Rattle.shard_contents.proofs.transaction_rows.select_one_in_transaction.Goals as goal
 
 pub select-requires : goal.select-requires
 select-requires c =
-    let db = c.args.self.now.store.rows in
+    let db = c.args.store.now.rows in
     let n = c.args.query.now.table in
     let rows = rows_of (all_applied c.args.changes.now db) n in
     let most = longer c.args.changes.now db n c.requires.there in

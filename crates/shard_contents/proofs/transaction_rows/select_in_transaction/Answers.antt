@@ -6,11 +6,11 @@ use Rattle.vschema.specs.Sources.{source_rows}
 use Rattle.sql_eval.specs.Groups.{CanBeSummed}
 use Rattle.sql_eval.specs.Queries.{IsAnswer}
 use Rattle.shard_contents.proofs.SourceRows.{sources_kept}
-use Rattle.shard_contents.proofs.contents.Contents.select_in_transaction.Goals as goal
+use Rattle.shard_contents.proofs.transaction_rows.select_in_transaction.Goals as goal
 
 pub select-requires : goal.select-requires
 select-requires c =
-    let db = c.args.self.now.store.rows in
+    let db = c.args.store.now.rows in
     let same : source_rows c.args.query.now (all_applied c.args.changes.now db) ≡ source_rows c.args.query.now db =
     sources_kept c.args.changes.now db c.args.query.now (sym c.changes_source.ensures ∙ c.if-not-changes_source.true) in
     record {
@@ -20,6 +20,6 @@ select-requires c =
 
 pub returns-then-not-changes_source-clause-ok : goal.returns-then-not-changes_source-clause-ok
 returns-then-not-changes_source-clause-ok c =
-    let db = c.args.self.now.store.rows in
+    let db = c.args.store.now.rows in
     subst (λ (rows : List Row). IfOk c.select.result (IsAnswer c.args.query.now rows))
     (sym (sources_kept c.args.changes.now db c.args.query.now (sym c.changes_source.ensures ∙ c.if-not-changes_source.true))) c.select.ensures.ok

@@ -9,7 +9,7 @@ use Rattle.sql_eval.specs.Queries.{IsAnswer}
 use Rattle.sql_eval.proofs.DistinctRows.{filter_true}
 use Rattle.shard_contents.specs.inner.Stores.{is_selected}
 use Rattle.shard_contents.specs.declared.transaction_rows.RowSelection.TheVariants.{All}
-use Rattle.shard_contents.proofs.contents.Contents.select_pairs_in_transaction.Goals as goal
+use Rattle.shard_contents.proofs.transaction_rows.select_pairs_in_transaction.Goals as goal
 
 same : (xs ys zs : List Row) → zs ≡ xs → filter (is_selected All) xs ≡ filter (is_selected All) ys → zs ≡ ys
 same xs ys zs is e = is ∙ sym (filter_true xs) ∙ e ∙ filter_true ys
@@ -20,7 +20,7 @@ same_pairs j a b c d e f = ap (λ (rows : List Row). pairs_of j rows b) e ∙ ap
 
 pub select_joined-requires : goal.select_joined-requires
 select_joined-requires c κs =
-    let db = all_applied c.args.changes.now c.args.self.now.store.rows in
+    let db = all_applied c.args.changes.now c.args.store.now.rows in
     let firsts = same c.in_ok-firsts.firsts.rows (rows_of db c.args.query.now.table) c.all.result c.all.ensures c.in_ok-firsts.ensures.ok in
     let seconds = same c.in_ok-seconds.seconds.rows (rows_of db c.args.join.table) c.all-2.result c.all-2.ensures c.in_ok-seconds.ensures.ok in
     let pairs = same_pairs c.args.join c.all.result c.all-2.result (rows_of db c.args.query.now.table) (rows_of db c.args.join.table) firsts seconds in (
@@ -30,7 +30,7 @@ select_joined-requires c κs =
 
 pub returns-clause-ok : goal.returns-clause-ok
 returns-clause-ok c =
-    let db = all_applied c.args.changes.now c.args.self.now.store.rows in
+    let db = all_applied c.args.changes.now c.args.store.now.rows in
     let firsts = same c.in_ok-firsts.firsts.rows (rows_of db c.args.query.now.table) c.all.result c.all.ensures c.in_ok-firsts.ensures.ok in
     let seconds = same c.in_ok-seconds.seconds.rows (rows_of db c.args.join.table) c.all-2.result c.all-2.ensures c.in_ok-seconds.ensures.ok in
     let pairs = same_pairs c.args.join c.all.result c.all-2.result (rows_of db c.args.query.now.table) (rows_of db c.args.join.table) firsts seconds in

@@ -1,0 +1,144 @@
+//! A read of many rows: the look and a snapshot under the shard's lock, and the rows that the query gives once the lock is given back.
+ghost use Rattle.std.specs.Prelude.{◌≡◌, List, IfOk, IfErr, OnErr};
+ghost use Rattle.vschema.specs.Sources.{source_rows};
+ghost use Rattle.sql_eval.specs.Groups.{CanBeSummed};
+ghost use Rattle.sql_eval.specs.Queries.{Allowed};
+ghost use Rattle.shard_run.specs.declared.ShardRecord as which;
+ghost use Rattle.shard_run.specs.declared.Entry.{Entry};
+ghost use Rattle.shard_run.specs.Runs.{Opening};
+ghost use Rattle.shard_contents.specs.Shards.{AnswersQuery};
+ghost use Rattle.shard_contents.specs.Transactions.{HasReadIn};
+ghost use Rattle.shard.specs.inner.Snapshots.{HasBegun, HasBegunIn, HasRows, IsGivenBy, IsReadable, IsSummable, IsToRead};
+
+use shard_contents::{Pending, ReadOutcome, Reading, select_in_transaction};
+use shard_store::StoredTables;
+use std::alloc::Global;
+use vschema::{Query, RowChange};
+use vt_value::{Items, Refusal, Row};
+
+/// A read that looks at more rows of a table than so many has a snapshot of them, and the lock is given back before it looks.
+pub const MOST_ROWS_UNDER_LOCK: usize = 256;
+
+/// The rows of a shard that serves as they were at a look, and how many entries it had then.
+#[derive(Drop)]
+pub struct Snapshot {
+    pub store: StoredTables,
+    pub entries: u64,
+}
+
+/// What a read has after its look: all that it answers, or the rows over which it has to answer yet.
+#[derive(Drop)]
+pub enum BegunRead {
+    Answered(ReadOutcome),
+    Begun(Snapshot),
+}
+
+impl Snapshot {
+    // What the query gives over the rows.
+    fn select(&self, alloc: Global, query: &Query) -> Result<Reading, Refusal>
+        requires summed { CanBeSummed (source_rows query.now self.now.store.rows) }
+        ensures rows { IfOk result (λ r. Allowed query.now self.now.store.rows r.rows) }
+        ensures entries { IfOk result (λ r. r.entries ≡ self.now.entries) }
+        ensures err { IfErr result (λ e. e ≡ Refusal.OutOfMemory) }
+    {
+        let rows = self.store.select(alloc, query)?;
+        Ok(Reading {
+            rows,
+            entries: self.entries,
+        })
+    }
+}
+
+impl BegunRead {
+    /// What the shard answers to the query, as of its look. Refuses only for want of memory.
+    pub fn finish(self, alloc: Global, query: &Query) -> Result<ReadOutcome, Refusal>
+        requires summed { IsSummable query.now self }
+        ensures read { IfOk result (λ r. (o : Opening) (run : List Entry) (s : which.ShardRecord) → HasBegun o run s query.now self → AnswersQuery o run s query.now r) }
+        ensures err { IfErr result (λ e. e ≡ Refusal.OutOfMemory) }
+    {
+        match self {
+            BegunRead::Answered(outcome) => Ok(outcome),
+            BegunRead::Begun(snapshot) => {
+                let reading = snapshot.select(alloc, query)?;
+                Ok(ReadOutcome::Rows(reading))
+            }
+        }
+    }
+}
+
+/// What a read in a transaction has after its look: the rows that the query gives, or those over which it has to answer yet.
+#[derive(Drop)]
+pub enum RowsIn {
+    Selected(Items<Row>),
+    ToSelect(StoredTables),
+}
+
+/// The same, and how many entries the shard had then, and how many stored ones.
+#[derive(Drop)]
+pub struct BegunReadIn {
+    pub rows: RowsIn,
+    pub entries: u64,
+    pub stored: usize,
+}
+
+/// The rows that a query gives with these changes, or, if it looks at many, a snapshot of those over which it has to answer yet. Refuses only
+/// for want of memory.
+pub fn rows_in(
+    store: &mut StoredTables,
+    alloc: Global,
+    query: &Query,
+    changes: &[RowChange],
+) -> Result<RowsIn, Refusal>
+    requires { IsReadable query.now changes.now store.old.rows }
+    ensures rows { IfOk result (HasRows query.now changes.now store.old.rows) }
+    ensures readable { IfOk result (IsToRead query.now changes.now) }
+    ensures unchanged { store.new.rows ≡ store.old.rows }
+    ensures err { IfErr result (λ e. e ≡ Refusal.OutOfMemory) }
+{
+    if store.scans(query, MOST_ROWS_UNDER_LOCK) {
+        let snapshot = store.snapshot(alloc)?;
+        return Ok(RowsIn::ToSelect(snapshot));
+    }
+    let rows = select_in_transaction(alloc, store, query, changes)?;
+    Ok(RowsIn::Selected(rows))
+}
+
+impl RowsIn {
+    // What the query gives with these changes.
+    fn select(
+        self,
+        alloc: Global,
+        query: &Query,
+        changes: &[RowChange],
+    ) -> Result<Items<Row>, Refusal>
+        requires readable { IsToRead query.now changes.now self }
+        ensures ok { IfOk result (IsGivenBy query.now changes.now self) }
+        ensures err { IfErr result (λ e. e ≡ Refusal.OutOfMemory) }
+    {
+        match self {
+            RowsIn::Selected(rows) => Ok(rows),
+            RowsIn::ToSelect(store) => select_in_transaction(alloc, &store, query, changes),
+        }
+    }
+}
+
+impl BegunReadIn {
+    /// What the shard answers to the query in the transaction, as of its look. The tables that the query is over are touched then. Refuses
+    /// only for want of memory; then the transaction stays as it was.
+    pub fn finish(self, alloc: Global, tx: &mut Pending, query: &Query) -> Result<Reading, Refusal>
+        requires readable { IsToRead query.now tx.old.changes self.rows }
+        ensures read { IfOk result (λ r. (o : Opening) (run : List Entry) (s : which.ShardRecord) → HasBegunIn o s tx.old run query.now self
+            → HasReadIn o s tx.old run query.now r.rows r.entries tx.new) }
+        ensures unchanged { OnErr result (tx.new ≡ tx.old) }
+        ensures err { IfErr result (λ e. e ≡ Refusal.OutOfMemory) }
+    {
+        let BegunReadIn {
+            rows,
+            entries,
+            stored,
+        } = self;
+        let rows = rows.select(alloc, query, tx.changes.as_slice())?;
+        tx.touch(query, stored)?;
+        Ok(Reading { rows, entries })
+    }
+}

@@ -1,0 +1,62 @@
+//! Whether a query scans a table, or finds its rows by their keys.
+
+use crate::stored::StoredTables;
+use crate::table_rows::TableRows;
+use vschema::{Join, Query};
+
+/// How many rows a query without a condition reads at most: no more than its LIMIT lets through, if any rows will do.
+pub fn rows_by_limit(query: &Query) -> usize {
+    match query.limit {
+        Some(limit) if query.order_by.is_empty() && !query.is_aggregated() => {
+            limit.offset.saturating_add(limit.count) as usize
+        }
+        _ => usize::MAX,
+    }
+}
+
+impl TableRows {
+    // Whether its rows are found by the values of a column, without looking at all.
+    fn is_found_by(&self, column: usize) -> bool {
+        match self.stored.key_columns().first() {
+            Some(first) => *first == column,
+            None => false,
+        }
+    }
+
+    // Whether a query over these rows alone looks at more than so many.
+    fn is_scanned(&self, query: &Query, most: usize) -> bool {
+        if self.row_count() <= most {
+            return false;
+        }
+        match &query.filter {
+            Some(_) => self.stored.first_values(&query.filter).is_none(),
+            None => rows_by_limit(query) > most,
+        }
+    }
+
+    // Whether a join of these rows with those of another table looks at more than so many of either.
+    fn is_scanned_with(&self, query: &Query, join: Join, second: &TableRows, most: usize) -> bool {
+        if second.row_count() > most
+            && !second.is_found_by(join.second.saturating_sub(join.width))
+        {
+            return true;
+        }
+        self.row_count() > most && self.stored.first_pair_values(query, join).is_none()
+    }
+}
+
+impl StoredTables {
+    /// Whether a query looks at more than so many rows of a table. Nothing is promised of it, since a query gives the same either way.
+    pub fn scans(&self, query: &Query, most: usize) -> bool {
+        let Some(table) = self.table(query.table) else {
+            return false;
+        };
+        let Some(join) = query.join else {
+            return table.is_scanned(query, most);
+        };
+        match self.table(join.table) {
+            Some(second) => table.is_scanned_with(query, join, second, most),
+            None => false,
+        }
+    }
+}
