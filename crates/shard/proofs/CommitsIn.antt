@@ -77,7 +77,7 @@ module _ (o : Opening) (most : Limits) (seat : SeatView Entry) (c : Contents) (i
         ap (λ (l : Limits). has_room_for l entries stored' (row_count c.store.rows) tx.changes) is.limits
         ∙ ap (λ (n : ℕ). has_room_for most n stored' (row_count c.store.rows) tx.changes) (es ∙ ap length (sym here))
         ∙ ap (λ (n : ℕ). has_room_for most (length (entries_on s.slot run)) n (row_count c.store.rows) tx.changes)
-        (ss ∙ ap length (commits.stored_here o most seat c is clear.serving run legal alone))
+        (ss ∙ commits.count_here o most seat c is clear.serving run legal alone)
         ∙ ap (λ (n : ℕ). has_room_for most (length (entries_on s.slot run)) (length (stored_on s.slot run)) n tx.changes)
         (commits.counted o most seat c is clear.serving run legal alone)
 

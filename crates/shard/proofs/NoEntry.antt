@@ -1,5 +1,5 @@
 -- A target of which nothing is stored, and that has no step, has no entry.
-use Rattle.std.proofs.Common.{◌≡◌, ℕ, Bool, true, false, cond, List, [], ◌∷◌, ◌++◌, ◌&&◌, length, refl, sym, ap, subst, ◌∙◌}
+use Rattle.std.proofs.Common.{◌≡◌, ℕ, Bool, true, false, cond, List, [], ◌∷◌, ◌++◌, ◌&&◌, map, length, refl, sym, ap, subst, ◌∙◌}
 use Rattle.journal.specs.Views.{SeatView}
 use Rattle.shard_run.specs.declared.Mode.{Mode}
 use Rattle.shard_run.specs.declared.Mode.TheVariants.{Following, Serving, Frozen, Retired}
@@ -11,7 +11,9 @@ use Rattle.shard_law.specs.declared.limits.Limits.{Limits}
 use Rattle.shard_contents.specs.declared.contents.Contents.{Contents}
 use Rattle.shard_contents.specs.Progress.{steps_of, steps_on}
 use Rattle.shard_contents.specs.Kept.{kept_from}
+use Rattle.shard_contents.specs.KeptEntries.{kept_of}
 use Rattle.shard_contents.proofs.Kept.{kept_none}
+use Rattle.shard_contents.proofs.KeptStored.{none_kept}
 use Rattle.shard_law.specs.Entries.{ShardView}
 use Rattle.shard_contents.specs.Shards.{Holds, Keeps, holds, dropped, IsAfter}
 
@@ -85,7 +87,7 @@ module _ (o : Opening) (most : Limits) (seat : SeatView Entry) (c : Contents) (v
   fresh_here =
       let h = still_holds o most seat.seen c after.keeps follows in
       no_entry (cond (is_opening o c.shard.slot) Serving Following) c.shard.slot seat.seen (sym h.mode ∙ follows)
-      (kept_none (steps_on c.shard.slot seat.seen) (sym h.steps ∙ steps)) (sym h.stored ∙ stored)
+      (kept_none (steps_on c.shard.slot seat.seen) (sym h.steps ∙ steps)) (none_kept (stored_on c.shard.slot seat.seen) (sym h.stored ∙ stored))
 
   pub fresh : entries_on v.shard.slot v.seen ≡ []
   fresh = subst (λ (v : ShardView). entries_on v.shard.slot v.seen ≡ []) view fresh_here
@@ -129,7 +131,7 @@ module _ (o : Opening) (most : Limits) (seat : SeatView Entry) (c : Contents) (v
   follows = kept.mode ∙ follows_here
 
   pub nothing_stored : length c.stored.items ≡ 0
-  nothing_stored = ap length (kept.stored ∙ none_stored c.shard.slot seat.seen none_here)
+  nothing_stored = ap length (kept.stored ∙ ap (map kept_of) (none_stored c.shard.slot seat.seen none_here))
 
   pub no_step : length c.steps.items ≡ 0
   no_step = ap length (kept.steps ∙ ap (λ (l : Run). kept_from [] (Rattle.std.specs.Prelude.flat_map (λ e. steps_of e.event) l)) none_here)

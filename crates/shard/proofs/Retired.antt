@@ -1,4 +1,4 @@
--- What a shard keeps that is retired.
+-- What a shard keeps that is retired, and how many entries one has stored that isn't.
 use Rattle.std.proofs.Common.{◌≡◌, List, length, sym, ap, subst, ◌∙◌}
 use Rattle.std.specs.Prelude.{Contains}
 use Rattle.journal.specs.Views.{SeatView}
@@ -6,10 +6,12 @@ use Rattle.shard_run.specs.declared.ShardRecord.{ShardRecord}
 use Rattle.shard_run.specs.declared.Entry.{Entry}
 use Rattle.shard_run.specs.declared.Event.TheVariants as events
 use Rattle.shard_run.specs.declared.Mode.TheVariants.{Retired, Dropped}
-use Rattle.shard_run.specs.Runs.{Run, Opening, stored_on}
+use Rattle.shard_run.specs.Runs.{Run, Opening, stored_on, mode}
 use Rattle.shard_law.specs.declared.limits.Limits.{Limits}
 use Rattle.shard_contents.specs.declared.contents.Contents.{Contents}
 use Rattle.shard_law.specs.Entries.{ShardView}
+use Rattle.shard_contents.proofs.States.{holds_of}
+use Rattle.shard_contents.proofs.KeptStored.{length-kept}
 use Rattle.shard_contents.specs.Shards.{Holds, Keeps, holds, dropped, IsAfter, RetiredFor}
 
 still_holds : (o : Opening) (most : Limits) (run : Run) (c : Contents) → Keeps o most run c → c.mode ≡ Retired → Holds o most run c
@@ -25,4 +27,10 @@ module _ (o : Opening) (most : Limits) (seat : SeatView Entry) (c : Contents) (v
 
   pub stored_last : length c.stored.items ≡ length (stored_on v.shard.slot v.seen)
   stored_last =
-      ap length (still_holds o most seat.seen c after.keeps is).stored ∙ ap (λ (v : ShardView). length (stored_on v.shard.slot v.seen)) view
+      ap length (still_holds o most seat.seen c after.keeps is).stored ∙ length-kept c.shard.slot seat.seen ∙ ap (λ (v : ShardView). length (stored_on v.shard.slot v.seen)) view
+
+pub stored_told : (o : Opening) (most : Limits) (seat : SeatView Entry) (c : Contents) (v : ShardView) → IsAfter o most seat c
+    → record { seen = seat.seen; shard = c.shard } ≡ v → (mode o v.seen v.shard.slot ≡ Retired → ⊥) → length c.stored.items ≡ length (stored_on v.shard.slot v.seen)
+stored_told o most seat c v after view lives =
+    let has = holds_of o most seat.seen c after.keeps (λ retired. lives (ap (λ (x : ShardView). mode o x.seen x.shard.slot) (sym view) ∙ retired)) in
+    ap length has.stored ∙ length-kept c.shard.slot seat.seen ∙ ap (λ (x : ShardView). length (stored_on x.shard.slot x.seen)) view

@@ -17,6 +17,7 @@ use Rattle.shard_law.specs.declared.limits.Limits.{Limits}
 use Rattle.shard_contents.specs.declared.contents.Contents.{Contents}
 use Rattle.shard_law.specs.Entries.{MayFollow, HasLooked, ShardView, slot_of, commit_of}
 use Rattle.shard_contents.specs.Shards.{IsAfter}
+use Rattle.shard_contents.specs.KeptEntries.{kept_of}
 use Rattle.shard_contents.specs.Transactions.{PendingView, IsClear, IsPendingOf, entry_of, IsCommitAllRefusal, HasCommittedAll}
 use Rattle.shard_contents.specs.inner.Transactions.{has_room_for, IsAllUnprepared}
 use Rattle.shard_contents.proofs.Commits as commits
@@ -101,7 +102,7 @@ module _ (o : Opening) (most : Limits) (seat : SeatView Entry) (c : Contents) (i
         → (seat' : SeatView Entry) (now : PassView Entry) (c' : Contents) → seat'.seen ≡ run ++ e ∷ [] → seat' ≡ record seat { seen = seat'.seen }
         → now ≡ record looked { seen = seat'.seen } → IsLegal (MayFollow o) seat'.seen → (entries : ℕ) → entries ≡ length (entries_on s.slot v.seen)
         → has_room_for c.limits entries (vec_len c.stored) (row_count c.store.rows) tx.changes ≡ true → c'.shard ≡ c.shard
-        → SameRows c'.store.rows (all_applied tx.changes c.store.rows) → c'.stored.items ≡ c.stored.items ++ e ∷ [] → c'.steps.items ≡ c.steps.items
+        → SameRows c'.store.rows (all_applied tx.changes c.store.rows) → c'.stored.items ≡ c.stored.items ++ kept_of e ∷ [] → c'.steps.items ≡ c.steps.items
         → c'.mode ≡ c.mode → c'.limits ≡ c.limits → Left o most s seat' c' p tx now first
     left first before e e_is numbered seat' now c' seen seat_now now_is legal entries es fits shard_same rows stored came mode limits =
         let ends : seat'.seen ≡ run ++ entry_of c.shard session number tx.writes tx.changes ∷ [] = seen ∙ ap (λ (x : Entry). run ++ x ∷ []) e_is in
@@ -126,7 +127,7 @@ module _ (o : Opening) (most : Limits) (seat : SeatView Entry) (c : Contents) (i
               });
           is_now =
               commits.after o most seat c is clear.serving run next.legal next.alone seat' c' session number tx.writes tx.changes
-              (ap (λ (x : SeatView Entry). x.slot) seat_now) ends has shard_same rows (stored ∙ ap (λ (x : Entry). c.stored.items ++ x ∷ []) e_is) came mode limits;
+              (ap (λ (x : SeatView Entry). x.slot) seat_now) ends has shard_same rows (stored ∙ ap (λ (x : Entry). c.stored.items ++ kept_of x ∷ []) e_is) came mode limits;
           serves_now =
               commits.still_serves o most seat c is clear.serving run next.legal next.alone seat' c' session number tx.writes tx.changes ends shard_same;
           begins =

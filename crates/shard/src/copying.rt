@@ -23,7 +23,7 @@ use crate::world::{ShardPass, World};
 use journal::Naming;
 use shard_contents::{
     NextTable, SourceProgress, TargetStep, changed_row, changed_table, copied, copy_change,
-    first_named, is_reached, restricted_changes, stored_changes,
+    first_named, is_reached, restricted_changes,
 };
 use shard_run::{Copied, Entry, Follow, Mode};
 use std::alloc::Global;
@@ -277,7 +277,7 @@ impl<W: World, J: Naming> ShardState<W, J> {
             return Ok(None);
         }
         let entry = &stored[at as usize];
-        let changes = restricted_changes(alloc, schema, place, stored_changes(&entry.event))?;
+        let changes = restricted_changes(alloc, schema, place, entry.changes())?;
         Ok(Some(Follow {
             source: self.slot(),
             log_position: at,

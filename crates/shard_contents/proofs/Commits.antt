@@ -1,5 +1,5 @@
 -- A commit of one write is lawful, leaves the state as the run says, and is refused for its written causes.
-use Rattle.std.proofs.Common.{◌≡◌, ℕ, ◌+◌, ◌<◌, ◌≤◌, ◌^◌, Bool, true, false, not, cond, ◌&&◌, ◌==◌, List, [], ◌∷◌, ◌++◌, length, get_or, filter, flat_map, Some, Ok, refl, sym, ap, ◌∙◌, subst, arith, IsPermutation, length-append}
+use Rattle.std.proofs.Common.{◌≡◌, ℕ, ◌+◌, ◌<◌, ◌≤◌, ◌^◌, Bool, true, false, not, cond, ◌&&◌, ◌==◌, List, [], ◌∷◌, ◌++◌, map, length, get_or, filter, flat_map, Some, Ok, refl, sym, ap, ◌∙◌, subst, arith, IsPermutation, length-append}
 use Rattle.std.specs.Prelude.{nat_lt}
 use Rattle.std.specs.List.{AllByRecursion, list_all}
 use Rattle.std.proofs.lemmas.Bool.{eq-eqb, and_from, lt-ltb}
@@ -27,7 +27,7 @@ use Rattle.shard_run.specs.Runs.{Run, Opening, database, shard_rows, mode, answe
 use Rattle.shard_law.specs.Legal.{is_late, IsOnItsSlot}
 use Rattle.shard_run.specs.Openings.{row_count}
 use Rattle.shard_law.proofs.Databases.{length-all_applied}
-use Rattle.shard_law.proofs.Runs.{log, log-on, mode-on, stored_on-push}
+use Rattle.shard_law.proofs.Runs.{log, log-on, mode-on}
 use Rattle.shard_law.proofs.Typed.{keeps_keys-from_typed, table_there}
 use Rattle.shard_law.specs.declared.limits.Limits.{Limits}
 use Rattle.shard_contents.specs.declared.contents.Contents.{Contents}
@@ -42,6 +42,8 @@ use Rattle.shard_contents.specs.Progress.{steps_of, steps_on}
 use Rattle.shard_contents.specs.Kept.{kept_from, kept_on}
 use Rattle.shard_contents.proofs.Progress.{steps-push}
 use Rattle.shard_contents.proofs.Bags.{same_through, length-same, row_count-same, all_applied-same}
+use Rattle.shard_contents.specs.KeptEntries.{kept_of, entries_kept}
+use Rattle.shard_contents.proofs.KeptStored.{length-kept, kept_push}
 use Rattle.shard_contents.proofs.States.{held-same, mode-same, stored-same, holds_of, lives_if, entries-on}
 use Rattle.shard_contents.proofs.Legality.{stands-same, stands-next, part_held}
 use Rattle.shard_contents.proofs.Places.{rows_lie, changes_in}
@@ -152,15 +154,18 @@ module _ (o : Opening) (most : Limits) (seat : SeatView Entry) (c : Contents) (i
 
     -- ---- the limits
 
-    pub stored_here : c.stored.items ≡ stored_on s.slot run
-    stored_here = has.stored ∙ sym (stored-same o seat.seen run s here)
+    pub stored_here : c.stored.items ≡ entries_kept s.slot run
+    stored_here = has.stored ∙ ap (map kept_of) (sym (stored-same o seat.seen run s here))
+
+    pub count_here : length c.stored.items ≡ length (stored_on s.slot run)
+    count_here = ap length stored_here ∙ length-kept s.slot run
 
     tested : (entries stored : ℕ) (w : Write) → entries ≡ length (entries_on seat.slot seat.seen) → stored ≡ length c.stored.items
         → has_room c.limits entries stored (row_count c.store.rows) w
         ≡ has_room most (length (entries_on s.slot run)) (length (stored_on s.slot run)) (row_count (shard_rows o run s)) w
     tested entries stored w es ss =
         let e : entries ≡ length (entries_on s.slot run) = es ∙ ap length (ap (λ (i : ℕ). entries_on i seat.seen) is.slot) ∙ ap length (sym here) in
-        let k : stored ≡ length (stored_on s.slot run) = ss ∙ ap length stored_here in
+        let k : stored ≡ length (stored_on s.slot run) = ss ∙ count_here in
         ap (λ l. has_room l entries stored (row_count c.store.rows) w) is.limits ∙ ap (λ n. has_room most n stored (row_count c.store.rows) w) e
         ∙ ap (λ n. has_room most (length (entries_on s.slot run)) n (row_count c.store.rows) w) k
         ∙ ap (λ n. has_room most (length (entries_on s.slot run)) (length (stored_on s.slot run)) n w) counted
@@ -231,7 +236,7 @@ module _ (o : Opening) (most : Limits) (seat : SeatView Entry) (c : Contents) (i
     pub after : (seat' : SeatView Entry) (c' : Contents) (session number : ℕ) (writes : List Write) (changes : List RowChange)
         → seat'.slot ≡ seat.slot → seat'.seen ≡ run ++ entry_of s session number writes changes ∷ [] → HasRoom o most s run changes
         → c'.shard ≡ s → SameRows c'.store.rows (all_applied changes c.store.rows)
-        → c'.stored.items ≡ c.stored.items ++ entry_of s session number writes changes ∷ [] → c'.steps.items ≡ c.steps.items → c'.mode ≡ c.mode → c'.limits ≡ c.limits
+        → c'.stored.items ≡ c.stored.items ++ changes ∷ [] → c'.steps.items ≡ c.steps.items → c'.mode ≡ c.mode → c'.limits ≡ c.limits
         → IsAfter o most seat' c'
     after seat' c' session number writes changes slots seen room shard_is rows_are stored_are came mode_is limits_are =
         let e : Entry = entry_of s session number writes changes in
@@ -256,8 +261,8 @@ module _ (o : Opening) (most : Limits) (seat : SeatView Entry) (c : Contents) (i
                 mode_is ∙ has.mode ∙ serving ∙ sym still ∙ ap (λ (t : ShardRecord). mode o (run ++ e ∷ []) t.slot) (sym shard_is)
                 ∙ ap (λ r. mode o r c'.shard.slot) (sym seen);
             stored =
-                stored_are ∙ ap (λ l. l ++ e ∷ []) stored_here ∙ ap (λ l. stored_on s.slot run ++ l) (sym logged) ∙ sym (stored_on-push run e s.slot)
-                ∙ ap (λ (t : ShardRecord). stored_on t.slot (run ++ e ∷ [])) (sym shard_is) ∙ ap (λ r. stored_on c'.shard.slot r) (sym seen);
+                stored_are ∙ ap (λ (l : List (List RowChange)). l ++ changes ∷ []) stored_here ∙ sym (kept_push run e s.slot logged)
+                ∙ ap (λ (t : ShardRecord). entries_kept t.slot (run ++ e ∷ [])) (sym shard_is) ∙ ap (entries_kept c'.shard.slot) (sym seen);
             steps =
                 came ∙ has.steps ∙ ap (kept_from []) (ap (flat_map (λ (x : Entry). steps_of x.event)) (sym here) ∙ sym (steps-push run e s.slot on ∙ append-nil (steps_on s.slot run)))
                 ∙ ap (λ (t : ShardRecord). kept_on t.slot (run ++ e ∷ [])) (sym shard_is) ∙ ap (λ r. kept_on c'.shard.slot r) (sym seen);

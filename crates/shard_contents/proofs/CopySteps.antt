@@ -44,6 +44,7 @@ use Rattle.shard_contents.specs.declared.target_steps.TargetStep.{TargetStep}
 use Rattle.shard_contents.specs.declared.target_steps.TargetStep.TheVariants.{Copied}
 use Rattle.shard_contents.specs.Progress.{last_row, steps_of, steps_on}
 use Rattle.shard_contents.specs.Kept.{keep, kept_from, kept_on}
+use Rattle.shard_contents.specs.KeptEntries.{kept_of, entries_kept}
 use Rattle.shard_law.specs.Entries as entries_of
 use Rattle.shard_law.specs.Entries.{ShardView, slot_of, commit_of}
 use Rattle.shard_contents.specs.Shards.{Holds, holds, Keeps, IsAfter, RetiredFor, beyond}
@@ -62,6 +63,7 @@ use Rattle.shard_contents.proofs.Looks.{following_lives}
 use Rattle.shard_contents.proofs.Modes.{here, stands_there, mode_there}
 use Rattle.shard_contents.proofs.Positions.{position-same, copied_all-same, any_both}
 use Rattle.shard_contents.proofs.Kept.{kept-push}
+use Rattle.shard_contents.proofs.KeptStored.{kept_at}
 use Rattle.shard_contents.proofs.Progress.{steps-push}
 use Rattle.shard_contents.proofs.States.{held-same, stored-same, holds_of, entries-on, alone_here, lives_if}
 use Rattle.shard_contents.proofs.Tables.{stored_there, there_from}
@@ -187,11 +189,6 @@ pub all_added : (n k : ℕ) (rows : List Row) → n < k → AllByRecursion (λ c
 all_added n k [] l = tt
 all_added n k (row ∷ rows) l = (l, all_added n k rows l)
 
-get_at : {X : Type 0} (xs : List X) (n : ℕ) (x : X) → n < length xs → x ≡ get_or xs n x → slice_get xs n ≡ Some x
-get_at [] n x l e = absurd (omega (arith, l))
-get_at (y ∷ xs) zero x l e = ap Some (sym e)
-get_at (y ∷ xs) (suc n) x l e = get_at xs n x (omega (arith, l)) e
-
 -- one more item, which passes the test or doesn't
 pub kept_next : {X : Type 0} (p : X → Bool) (xs : List X) (i : ℕ) (x : X) → i < length xs → x ≡ get_or xs i x → p x ≡ true
     → filter p (take (i + 1) xs) ≡ filter p (take i xs) ++ x ∷ []
@@ -210,12 +207,14 @@ dropped_next p xs i x there is fails =
 
 -- what a state keeps of its stored entries
 pub entry_told : (o : Opening) (most : Limits) (seen : Run) (c : Contents) (v : ShardView) → Keeps o most seen c → record { seen = seen; shard = c.shard } ≡ v
-    → (mode o v.seen v.shard.slot ≡ Rattle.shard_run.specs.declared.Mode.TheVariants.Retired → ⊥) → (items : List Entry) → items ≡ c.stored.items
-    → (at : ℕ) (e : Entry) → at < length items → e ≡ get_or items at e → slice_get (stored_on v.shard.slot v.seen) at ≡ Some e
-entry_told o most seen c v keeps view lives items items_are at e there is =
+    → (mode o v.seen v.shard.slot ≡ Rattle.shard_run.specs.declared.Mode.TheVariants.Retired → ⊥) → (items : List (List RowChange)) → items ≡ c.stored.items
+    → (at : ℕ) (changes : List RowChange) → at < length items → changes ≡ get_or items at changes
+    → (e : Entry) × (slice_get (stored_on v.shard.slot v.seen) at ≡ Some e) × (kept_of e ≡ changes)
+entry_told o most seen c v keeps view lives items items_are at changes there is =
     let has = holds_of o most seen c keeps (λ retired. lives (ap (λ (x : ShardView). mode o x.seen x.shard.slot) (sym view) ∙ retired)) in
-    ap (λ (x : ShardView). slice_get (stored_on x.shard.slot x.seen) at) (sym view) ∙ ap (λ (l : List Entry). slice_get l at) (sym (items_are ∙ has.stored))
-    ∙ get_at items at e there is
+    let here : items ≡ entries_kept v.shard.slot v.seen = items_are ∙ has.stored ∙ ap (λ (x : ShardView). entries_kept x.shard.slot x.seen) view in
+    kept_at (stored_on v.shard.slot v.seen) at changes (subst (λ (l : List (List RowChange)). at < length l) here there)
+    (is ∙ ap (λ (l : List (List RowChange)). get_or l at changes) here)
 
 pub table_is : (schema : VSchema) (items : List Table) → items ≡ schema.tables → (n : ℕ) (t : Table) → n < length items → t ≡ get_or items n t
     → t ≡ table_at schema n
@@ -392,8 +391,8 @@ module _ (o : Opening) (most : Limits) (seat : SeatView Entry) (c : Contents) (i
               modes ∙ held_before.mode ∙ following ∙ sym mode_copies ∙ ap (λ (t : ShardRecord). mode o (run ++ e ∷ []) t.slot) (sym shard_is)
               ∙ ap (λ r. mode o r c'.shard.slot) (sym seen);
           stored =
-              stores ∙ held_before.stored ∙ sym stored_now ∙ ap (λ (t : ShardRecord). stored_on t.slot (run ++ e ∷ [])) (sym shard_is)
-              ∙ ap (stored_on c'.shard.slot) (sym seen);
+              stores ∙ held_before.stored ∙ ap (map kept_of) (sym stored_now) ∙ ap (λ (t : ShardRecord). entries_kept t.slot (run ++ e ∷ [])) (sym shard_is)
+              ∙ ap (entries_kept c'.shard.slot) (sym seen);
           steps =
               steps_are ∙ ap (keep came) (held_before.steps ∙ ap (λ (es : List Entry). kept_from [] (flat_map (λ (x : Entry). steps_of x.event) es)) (sym same_on))
               ∙ sym (kept-push [] (steps_on s.slot run) came) ∙ ap (kept_from []) (sym (steps-push run e s.slot on)) ∙ ap (λ (t : ShardRecord). kept_on t.slot (run ++ e ∷ [])) (sym shard_is)

@@ -12,8 +12,6 @@ use Rattle.vschema.specs.declared.schema.Table.{Table}
 use Rattle.vschema.specs.declared.changes.RowChange.{RowChange}
 use Rattle.vschema.specs.declared.changes.RowChange.TheVariants.{Added, Replaced, Removed}
 use Rattle.vschema.specs.Database.{Database, SameRows, rows_of, without, all_applied, changed_table}
-use Rattle.shard_run.specs.declared.Entry.{Entry}
-use Rattle.shard_run.specs.Runs.{stored_changes}
 use Rattle.shard_law.proofs.Databases.{length-all_applied}
 use Rattle.shard_contents.specs.inner.Placed.{AreFirst}
 use Rattle.shard_contents.specs.inner.Stores.{row_after}
@@ -64,55 +62,55 @@ pub changes_done : (changes : List RowChange) (i : ℕ) (db : Database) (n : ℕ
 changes_done changes i db n rows far h =
     subst (λ (l : List RowChange). IsPermutation rows (rows_of (all_applied l db) n)) (take-all changes i far) h
 
-pub entries_done : (entries : List Entry) (i : ℕ) (db : Database) (n : ℕ) (rows : List Row) → length entries ≤ i
+pub entries_done : (entries : List (List RowChange)) (i : ℕ) (db : Database) (n : ℕ) (rows : List Row) → length entries ≤ i
     → IsPermutation rows (rows_of (all_applied (changes_by (take i entries)) db) n) → IsPermutation rows (rows_of (all_applied (changes_by entries) db) n)
 entries_done entries i db n rows far h =
-    subst (λ (l : List Entry). IsPermutation rows (rows_of (all_applied (changes_by l) db) n)) (take-all entries i far) h
+    subst (λ (l : List (List RowChange)). IsPermutation rows (rows_of (all_applied (changes_by l) db) n)) (take-all entries i far) h
 
 -- one more entry
-pub entry_next : (entries : List Entry) (i : ℕ) (e : Entry) (db : Database) → i < length entries → e ≡ get_or entries i e
-    → all_applied (changes_by (take (i + 1) entries)) db ≡ all_applied (stored_changes e.event) (all_applied (changes_by (take i entries)) db)
+pub entry_next : (entries : List (List RowChange)) (i : ℕ) (e : List RowChange) (db : Database) → i < length entries → e ≡ get_or entries i e
+    → all_applied (changes_by (take (i + 1) entries)) db ≡ all_applied e (all_applied (changes_by (take i entries)) db)
 entry_next entries i e db within is =
-    ap (λ (l : List Entry). all_applied (changes_by l) db) (take_more entries i e within ∙ ap (λ (x : Entry). take i entries ++ x ∷ []) (sym is))
+    ap (λ (l : List (List RowChange)). all_applied (changes_by l) db) (take_more entries i e within ∙ ap (λ (x : List RowChange). take i entries ++ x ∷ []) (sym is))
     ∙ ap (λ (l : List RowChange). all_applied l db)
-    (flat_map-append (λ (x : Entry). stored_changes x.event) (take i entries) (e ∷ [])
-    ∙ ap (λ (l : List RowChange). changes_by (take i entries) ++ l) (append-nil (stored_changes e.event)))
-    ∙ applied-append (changes_by (take i entries)) (stored_changes e.event) db
+    (flat_map-append (λ (x : List RowChange). x) (take i entries) (e ∷ [])
+    ∙ ap (λ (l : List RowChange). changes_by (take i entries) ++ l) (append-nil e))
+    ∙ applied-append (changes_by (take i entries)) e db
 
 -- ---- kept tables, while entries are stored
 
-had_next : (stored : List Entry) (e : Entry) (now later : Database) (t : EarlierTable) → SameRows later (all_applied (stored_changes e.event) now)
+had_next : (stored : List (List RowChange)) (e : List RowChange) (now later : Database) (t : EarlierTable) → SameRows later (all_applied e now)
     → HadRows stored now t → HadRows (stored ++ e ∷ []) later t
 had_next stored e now later t after h =
     let since : List RowChange = changes_by (drop t.stored stored) in
     let front : drop t.stored (stored ++ e ∷ []) ≡ drop t.stored stored ++ e ∷ [] = drop-append-le t.stored stored (e ∷ []) h.within in
-    let all : all_applied (changes_by (drop t.stored (stored ++ e ∷ []))) h.db ≡ all_applied (stored_changes e.event) (all_applied since h.db) =
-    ap (λ (l : List Entry). all_applied (changes_by l) h.db) front
+    let all : all_applied (changes_by (drop t.stored (stored ++ e ∷ []))) h.db ≡ all_applied e (all_applied since h.db) =
+    ap (λ (l : List (List RowChange)). all_applied (changes_by l) h.db) front
     ∙ ap (λ (l : List RowChange). all_applied l h.db)
-    (flat_map-append (λ (x : Entry). stored_changes x.event) (drop t.stored stored) (e ∷ []) ∙ ap (λ (l : List RowChange). since ++ l) (append-nil (stored_changes e.event)))
-    ∙ applied-append since (stored_changes e.event) h.db in
+    (flat_map-append (λ (x : List RowChange). x) (drop t.stored stored) (e ∷ []) ∙ ap (λ (l : List RowChange). since ++ l) (append-nil e))
+    ∙ applied-append since e h.db in
     record {
       within = let k = h.within in let l = length-append stored (e ∷ []) in omega (arith, k, l);
       db = h.db;
       since =
           subst (λ (db : Database). SameRows db later) (sym all)
-          (same_through (all_applied (stored_changes e.event) (all_applied since h.db)) (all_applied (stored_changes e.event) now) later
-          (all_applied-same (stored_changes e.event) (all_applied since h.db) now h.since)
-          (same_back later (all_applied (stored_changes e.event) now) after));
+          (same_through (all_applied e (all_applied since h.db)) (all_applied e now) later
+          (all_applied-same e (all_applied since h.db) now h.since)
+          (same_back later (all_applied e now) after));
       rows = h.rows;
     }
 
 -- one more stored entry, with what it changes
-pub all_had_next : (stored : List Entry) (e : Entry) (now later : Database) (tables : List EarlierTable)
-    → SameRows later (all_applied (stored_changes e.event) now) → AllHadRows stored now tables → AllHadRows (stored ++ e ∷ []) later tables
+pub all_had_next : (stored : List (List RowChange)) (e : List RowChange) (now later : Database) (tables : List EarlierTable)
+    → SameRows later (all_applied e now) → AllHadRows stored now tables → AllHadRows (stored ++ e ∷ []) later tables
 all_had_next stored e now later [] after h = tt
 all_had_next stored e now later (t ∷ tables) after h = (had_next stored e now later t after h.0, all_had_next stored e now later tables after h.1)
 
 -- nothing stored, and no row changed
-pub all_had_same : (stored stored' : List Entry) (now now' : Database) (tables : List EarlierTable) → stored' ≡ stored → now' ≡ now → AllHadRows stored now tables
+pub all_had_same : (stored stored' : List (List RowChange)) (now now' : Database) (tables : List EarlierTable) → stored' ≡ stored → now' ≡ now → AllHadRows stored now tables
     → AllHadRows stored' now' tables
 all_had_same stored stored' now now' tables entries rows h =
-    subst (λ (l : List Entry). AllHadRows l now' tables) (sym entries) (subst (λ (db : Database). AllHadRows stored db tables) (sym rows) h)
+    subst (λ (l : List (List RowChange)). AllHadRows l now' tables) (sym entries) (subst (λ (db : Database). AllHadRows stored db tables) (sym rows) h)
 
 -- ---- a table that is taken out, brought forward and put back
 
@@ -135,18 +133,18 @@ drop_length : {X : Type 0} (xs : List X) → drop (length xs) xs ≡ []
 drop_length [] = refl
 drop_length (x ∷ xs) = drop_length xs
 
-pub had_now : (stored : List Entry) (now : Database) (n : ℕ) (t : EarlierTable) → IsCurrentTable n (length stored) now t → HadRows stored now t
+pub had_now : (stored : List (List RowChange)) (now : Database) (n : ℕ) (t : EarlierTable) → IsCurrentTable n (length stored) now t → HadRows stored now t
 had_now stored now n t h = record {
   within = let k = h.stored in omega (arith, k);
   db = now;
   since =
       subst (λ (k : ℕ). SameRows (all_applied (changes_by (drop k stored)) now) now) (sym h.stored)
-      (subst (λ (l : List Entry). SameRows (all_applied (changes_by l) now) now) (sym (drop_length stored)) (same_self now));
+      (subst (λ (l : List (List RowChange)). SameRows (all_applied (changes_by l) now) now) (sym (drop_length stored)) (same_self now));
   rows = subst (λ (k : ℕ). IsPermutation t.rows (rows_of now k)) (sym h.table) h.rows;
 }
 
-pub has_now : (stored : List Entry) (now : Database) (n : ℕ) (old t : EarlierTable) → n < length now → old.table ≡ n → HadRows stored now old
-    → (items : List Entry) → items ≡ stored → t.table ≡ old.table → t.stored ≡ length items
+pub has_now : (stored : List (List RowChange)) (now : Database) (n : ℕ) (old t : EarlierTable) → n < length now → old.table ≡ n → HadRows stored now old
+    → (items : List (List RowChange)) → items ≡ stored → t.table ≡ old.table → t.stored ≡ length items
     → ((db : Database) → old.table < length db → IsPermutation old.rows (rows_of db old.table)
     → IsPermutation t.rows (rows_of (all_applied (changes_by (drop old.stored items)) db) old.table))
     → IsCurrentTable n (length stored) now t
@@ -160,7 +158,7 @@ has_now stored now n old t there of h items items_are table entries forward =
       rows =
           subst (λ (k : ℕ). IsPermutation t.rows (rows_of now k)) of
           (IsPermutation-trans t.rows (rows_of (all_applied changes h.db) old.table) (rows_of now old.table)
-          (subst (λ (l : List Entry). IsPermutation t.rows (rows_of (all_applied (changes_by (drop old.stored l)) h.db) old.table)) items_are
+          (subst (λ (l : List (List RowChange)). IsPermutation t.rows (rows_of (all_applied (changes_by (drop old.stored l)) h.db) old.table)) items_are
           (forward h.db (omega (arith, there, of, same, long)) h.rows))
           (rows-same (all_applied changes h.db) now h.since old.table));
     }
@@ -175,5 +173,5 @@ first_permuted t test rows all first h f = record {
 }
 
 -- no table is kept
-pub all_had_none : (stored : List Entry) (now : Database) (tables : List EarlierTable) → tables ≡ [] → AllHadRows stored now tables
+pub all_had_none : (stored : List (List RowChange)) (now : Database) (tables : List EarlierTable) → tables ≡ [] → AllHadRows stored now tables
 all_had_none stored now tables none = subst (AllHadRows stored now) (sym none) tt

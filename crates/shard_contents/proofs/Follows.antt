@@ -1,5 +1,5 @@
 -- A following step: when it is lawful, also where the source goes on meanwhile, and when nothing is left to follow.
-use Rattle.std.proofs.Common.{flat_map, inl, inr, false, ◌≡◌, ℕ, zero, suc, ◌+◌, ◌<◌, ◌≤◌, ◌^◌, Bool, true, ◌&&◌, List, [], ◌∷◌, ◌++◌, length, filter, slice_get, Some, refl, sym, ap, ◌∙◌, subst, arith, length-append}
+use Rattle.std.proofs.Common.{flat_map, inl, inr, false, ◌≡◌, ℕ, zero, suc, ◌+◌, ◌<◌, ◌≤◌, ◌^◌, Bool, true, ◌&&◌, List, [], ◌∷◌, ◌++◌, map, length, filter, slice_get, Some, refl, sym, ap, ◌∙◌, subst, arith, length-append}
 use Rattle.std.specs.Prelude.{Contains, count_by}
 use Rattle.std.proofs.lemmas.List.Elements.{filter-append}
 use Rattle.std.specs.List.{AllByRecursion}
@@ -35,7 +35,10 @@ use Rattle.shard_contents.proofs.Looks.{following_lives}
 use Rattle.shard_contents.specs.declared.target_steps.TargetStep.TheVariants.{Followed}
 use Rattle.shard_contents.specs.Progress.{steps_of, steps_on}
 use Rattle.shard_contents.specs.Kept.{keep, kept_from, kept_on}
+use Rattle.shard_contents.specs.KeptEntries.{kept_of, entries_kept}
 use Rattle.shard_contents.proofs.Kept.{kept-push}
+use Rattle.shard_contents.proofs.KeptStored.{length-kept}
+use Rattle.std.proofs.lemmas.List.{map-append}
 use Rattle.shard_contents.proofs.Progress.{steps-push}
 use Rattle.shard_contents.specs.Commits.{is_added, is_removed}
 use Rattle.shard_contents.specs.Copying.{PassesLimit}
@@ -133,8 +136,11 @@ module _ (o : Opening) (most : Limits) (seat : SeatView Entry) (c : Contents) (i
       let one : filter (λ (x : Entry). is_on s.slot x && is_stored x.event) (e ∷ []) ≡ e ∷ [] = simp on in
       stored_on-push run e s.slot ∙ ap (λ (l : Run). stored_on s.slot run ++ l) one ∙ ap (λ (l : Run). l ++ e ∷ []) (stored-same o seat.seen run s same)
 
+  kept_now : entries_kept s.slot (run ++ e ∷ []) ≡ entries_kept s.slot seat.seen ++ f.changes ∷ []
+  kept_now = ap (map kept_of) stored_now ∙ map-append kept_of (stored_on s.slot seat.seen) (e ∷ [])
+
   pub after_follow : (seat' : SeatView Entry) (c' : Contents) → seat'.seen ≡ run ++ e ∷ [] → seat'.slot ≡ seat.slot → c'.shard ≡ s
-      → SameRows c'.store.rows (all_applied f.changes c.store.rows) → c'.mode ≡ c.mode → c'.stored.items ≡ c.stored.items ++ e ∷ [] → c'.steps.items ≡ keep (Followed f.source f.log_position) c.steps.items → c'.limits ≡ c.limits
+      → SameRows c'.store.rows (all_applied f.changes c.store.rows) → c'.mode ≡ c.mode → c'.stored.items ≡ c.stored.items ++ f.changes ∷ [] → c'.steps.items ≡ keep (Followed f.source f.log_position) c.steps.items → c'.limits ≡ c.limits
       → length (entries_on s.slot seat.seen) < 2 ^ 40 → IsAfter o most seat' c'
   after_follow seat' c' seen at shard_is rows modes stores came limits_are room =
       let now : SameRows c'.store.rows (shard_rows o (run ++ e ∷ []) s) =
@@ -154,8 +160,8 @@ module _ (o : Opening) (most : Limits) (seat : SeatView Entry) (c : Contents) (i
               modes ∙ has.mode ∙ following ∙ sym mode_follows ∙ ap (λ (t : ShardRecord). mode o (run ++ e ∷ []) t.slot) (sym shard_is)
               ∙ ap (λ r. mode o r c'.shard.slot) (sym seen);
           stored =
-              stores ∙ ap (λ (l : Run). l ++ e ∷ []) has.stored ∙ sym stored_now ∙ ap (λ (t : ShardRecord). stored_on t.slot (run ++ e ∷ [])) (sym shard_is)
-              ∙ ap (stored_on c'.shard.slot) (sym seen);
+              stores ∙ ap (λ (l : List (List RowChange)). l ++ f.changes ∷ []) has.stored ∙ sym kept_now
+              ∙ ap (λ (t : ShardRecord). entries_kept t.slot (run ++ e ∷ [])) (sym shard_is) ∙ ap (entries_kept c'.shard.slot) (sym seen);
           steps =
               came ∙ ap (keep (Followed f.source f.log_position)) (has.steps ∙ ap (λ (es : List Entry). kept_from [] (flat_map (λ (x : Entry). steps_of x.event) es)) (sym same))
               ∙ sym (kept-push [] (steps_on s.slot run) (Followed f.source f.log_position)) ∙ ap (kept_from []) (sym (steps-push run e s.slot on))
@@ -212,7 +218,7 @@ module _ {X : Type 0} (o : Opening) (most : Limits) (seat looked : SeatView Entr
 
   pub stored_told : length c.stored.items ≡ length (stored_on v.shard.slot q.seen)
   stored_told =
-      ap length has_now.stored ∙ ap (λ (s : ShardRecord). length (stored_on s.slot looked.seen)) (ap (λ (x : ShardView). x.shard) view)
+      ap length has_now.stored ∙ length-kept c.shard.slot looked.seen ∙ ap (λ (s : ShardRecord). length (stored_on s.slot looked.seen)) (ap (λ (x : ShardView). x.shard) view)
       ∙ ap (λ (r : Run). length (stored_on v.shard.slot r)) (sym seen_same)
 
   module _ (f : F.Follow) (next : IsNext o p.seen v f) where

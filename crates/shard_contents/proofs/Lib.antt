@@ -9,6 +9,7 @@ pub mod Places
 pub mod Commits
 pub mod Positions
 pub mod Kept
+pub mod KeptStored
 pub mod KeptFew
 pub mod Progress
 pub mod Tables

@@ -1,5 +1,5 @@
 -- The entries by which a shard's mode changes: when they are lawful, and what they leave.
-use Rattle.std.proofs.Common.{flat_map, ◌≡◌, ℕ, ◌+◌, ◌<◌, ◌≤◌, ◌^◌, Bool, true, false, ◌&&◌, List, [], ◌∷◌, ◌++◌, length, filter, zip, IsTrue, Some, None, refl, sym, ap, ◌∙◌, subst, arith, length-append}
+use Rattle.std.proofs.Common.{flat_map, ◌≡◌, ℕ, ◌+◌, ◌<◌, ◌≤◌, ◌^◌, Bool, true, false, ◌&&◌, List, [], ◌∷◌, ◌++◌, map, length, filter, zip, IsTrue, Some, None, refl, sym, ap, ◌∙◌, subst, arith, length-append}
 use Rattle.std.proofs.lemmas.Bool.{false≢true, eq-eqb, eqb-true}
 use Rattle.std.proofs.lemmas.List.{append-nil, append_assoc}
 use mathlib.Core.List.{IsPrefix}
@@ -31,6 +31,7 @@ use Rattle.shard_contents.proofs.Legality.{stands-same, stands-next}
 use Rattle.shard_contents.specs.declared.target_steps.TargetStep.{TargetStep}
 use Rattle.shard_contents.specs.Progress.{steps_of, steps_on}
 use Rattle.shard_contents.specs.Kept.{kept_from, kept_on}
+use Rattle.shard_contents.specs.KeptEntries.{kept_of, entries_kept}
 use Rattle.shard_contents.proofs.Progress.{steps-push, no_steps}
 use Rattle.shard_contents.proofs.States.{held-same, mode-same, stored-same, holds_of, lives_if, entries-on, entries-off, contains_later}
 
@@ -141,8 +142,8 @@ module _ (o : Opening) (most : Limits) (seat : SeatView Entry) (c : Contents) (i
           tables = ap length rows ∙ has.tables;
           mode = modes ∙ sym mode_now ∙ ap (λ (t : ShardRecord). mode o (run ++ e ∷ []) t.slot) (sym shard_is) ∙ ap (λ r. mode o r c'.shard.slot) (sym seen);
           stored =
-              stores ∙ has.stored ∙ sym stored_now ∙ ap (λ (t : ShardRecord). stored_on t.slot (run ++ e ∷ [])) (sym shard_is)
-              ∙ ap (stored_on c'.shard.slot) (sym seen);
+              stores ∙ has.stored ∙ ap (map kept_of) (sym stored_now) ∙ ap (λ (t : ShardRecord). entries_kept t.slot (run ++ e ∷ [])) (sym shard_is)
+              ∙ ap (entries_kept c'.shard.slot) (sym seen);
           steps =
               came ∙ has.steps ∙ ap (kept_from []) (sym steps_now) ∙ ap (λ (t : ShardRecord). kept_on t.slot (run ++ e ∷ [])) (sym shard_is)
               ∙ ap (kept_on c'.shard.slot) (sym seen);

@@ -1,5 +1,5 @@
 -- What a run leaves on a shard depends on the entries on its slot alone.
-use Rattle.std.proofs.Common.{◌≡◌, ℕ, Bool, true, false, ◌&&◌, List, [], ◌∷◌, ◌++◌, sym, ap, subst, ◌∙◌, refl, if◌then◌else◌, arith}
+use Rattle.std.proofs.Common.{◌≡◌, ℕ, Bool, true, false, ◌&&◌, List, [], ◌∷◌, ◌++◌, map, sym, ap, subst, ◌∙◌, refl, if◌then◌else◌, arith}
 use Rattle.std.specs.Prelude.{flat_map, filter, length, ◌+◌, ◌≤◌, ◌^◌, Contains}
 use Rattle.std.proofs.lemmas.Bool.{false≢true}
 use Rattle.shard_run.specs.Openings.{row_count}
@@ -20,6 +20,7 @@ use Rattle.shard_law.specs.declared.limits.Limits.{Limits}
 use Rattle.shard_contents.specs.declared.contents.Contents.{Contents}
 use Rattle.shard_contents.specs.Progress.{steps_of}
 use Rattle.shard_contents.specs.Kept.{kept_from, kept_on}
+use Rattle.shard_contents.specs.KeptEntries.{kept_of, entries_kept}
 use Rattle.shard_law.specs.Entries.{ShardView, slot_of, commit_of, MayFollow}
 use Rattle.shard_contents.specs.Shards.{RetiredFor, Holds, Keeps, holds, dropped, IsAfter, beyond}
 use Rattle.shard_contents.proofs.Legality.{stands-same}
@@ -53,7 +54,7 @@ module _ (o : Opening) (limits : Limits) (old new : Run) (c : Contents) (same : 
     rows = subst (SameRows c.store.rows) (sym (held-same o old new c.shard same)) is.rows;
     tables = is.tables;
     mode = is.mode ∙ sym (mode-same o old new c.shard same);
-    stored = is.stored ∙ sym (stored-same o old new c.shard same);
+    stored = is.stored ∙ ap (map kept_of) (sym (stored-same o old new c.shard same));
     steps = is.steps ∙ ap (λ (es : List Entry). kept_from [] (flat_map (λ (e : Entry). steps_of e.event) es)) (sym same);
     within = λ serves. is.within (ap answers_queries (sym (mode-same o old new c.shard same)) ∙ serves);
   }
@@ -102,7 +103,7 @@ same_contents o limits seat c d is shards rows modes stores came most =
           (subst (λ (db : Database). SameRows db (shard_rows o seat.seen c.shard)) (sym rows) h.rows);
       tables = ap length rows ∙ h.tables;
       mode = modes ∙ h.mode ∙ ap (λ (s : ShardRecord). mode o seat.seen s.slot) (sym shards);
-      stored = stores ∙ h.stored ∙ ap (λ (s : ShardRecord). stored_on s.slot seat.seen) (sym shards);
+      stored = stores ∙ h.stored ∙ ap (λ (s : ShardRecord). entries_kept s.slot seat.seen) (sym shards);
       steps = came ∙ h.steps ∙ ap (λ (s : ShardRecord). kept_on s.slot seat.seen) (sym shards);
       within = λ serves.
           subst (λ (db : Database). row_count db ≤ limits.rows) (sym rows)

@@ -1,5 +1,6 @@
 pub mod Progress
 pub mod Kept
+pub mod KeptEntries
 pub mod Shards
 pub mod Commits
 pub mod inner

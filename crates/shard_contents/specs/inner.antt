@@ -7,3 +7,4 @@ pub mod Shards
 pub mod Stores
 pub mod Transactions
 pub mod Earlier
+pub mod KeptConflicts

@@ -9,10 +9,12 @@ ghost use Rattle.shard_run.specs.Openings.{row_count};
 ghost use Rattle.shard_run.specs.Runs.{held_changes};
 ghost use Rattle.shard_store.specs.Stores.{IsReadyFor};
 ghost use Rattle.shard_contents.specs.Kept.{keep};
+ghost use Rattle.shard_contents.specs.KeptEntries.{kept_of};
 ghost use Rattle.shard_contents.specs.Commits.{inserted_rows, commit_entry};
 ghost use Rattle.shard_contents.specs.inner.Commits.{has_room, IsUnprepared};
 
 use crate::copies::{copy_shard, one, with_owned};
+use crate::kept_entry::KeptEntry;
 use crate::target_steps::{TargetStep, keep};
 use shard_law::{Limits, MOST_ENTRIES};
 use shard_run::{Commit, Entry, Event, Follow, Mode, ShardRecord};
@@ -27,7 +29,7 @@ pub struct Contents {
     pub shard: ShardRecord,
     pub store: StoredTables,
     pub mode: Mode,
-    pub stored: Vec<Entry>,
+    pub stored: Vec<KeptEntry>,
     // how far a target has come with its sources
     pub steps: Vec<TargetStep>,
     pub limits: Limits,
@@ -40,10 +42,11 @@ pub struct StatementId {
     pub number: u64,
 }
 
-/// A commit for which all memory is made: its entry, its changes once more by keys, and how many rows it changes.
+/// A commit for which all memory is made: its entry, what is kept of that, its changes once more by keys, and how many rows it changes.
 #[derive(Drop)]
 pub struct Prepared {
     pub entry: Entry,
+    pub kept: KeptEntry,
     pub changes: Vec<KeyedChange>,
     pub count: u64,
 }
@@ -125,19 +128,20 @@ impl Contents {
         Ok(changes)
     }
 
-    // The changes of the write, and once more by keys, with room for them in the store and for an entry.
-    fn changes_twice(
+    // The changes of the write, as they are kept, and by keys, with room for them in the store and for an entry.
+    fn changes_ready(
         &mut self,
         alloc: Global,
         entries: u64,
         schema: &VSchema,
         write: &Write,
-    ) -> Result<(Items<RowChange>, Vec<KeyedChange>), Refusal>
+    ) -> Result<(Items<RowChange>, (KeptEntry, Vec<KeyedChange>)), Refusal>
         requires there { written_table write.now < length schema.now.tables }
         requires tables { length self.old.store.rows ≡ length schema.now.tables }
         requires within { row_count self.old.store.rows ≤ self.old.limits.rows }
         ensures changes { IfOk result (λ r. changes_of schema.now write.now self.old.store.rows ≡ Ok r.0) }
-        ensures ready { IfOk result (λ r. IsReadyFor self.new.store r.0 r.1.items) }
+        ensures kept { IfOk result (λ r. r.1.0 ≡ r.0) }
+        ensures ready { IfOk result (λ r. IsReadyFor self.new.store r.0 r.1.1.items) }
         ensures one_more { OnOk result (vec_len self.new.stored < vec_capacity self.new.stored) }
         ensures limits { OnOk result (IsTrue (has_room self.old.limits entries (vec_len self.old.stored) (row_count self.old.store.rows) write.now)) }
         ensures err { IfErr result (IsUnprepared schema.now self.old.limits entries (vec_len self.old.stored) self.old.store.rows write.now) }
@@ -149,9 +153,8 @@ impl Contents {
         ensures same_limits { self.new.limits ≡ self.old.limits }
     {
         let changes = self.changes(alloc, entries, schema, write)?;
-        let keyed = self.store.prepare(alloc, changes.as_slice())?;
-        self.stored.reserve(1)?;
-        Ok((changes, keyed))
+        let room = self.make_room(alloc, changes.as_slice())?;
+        Ok((changes, room))
     }
 
     /// Makes all memory of a commit of the write, once the shard has so many entries. It refuses a primary key that is there
@@ -170,6 +173,7 @@ impl Contents {
         ensures changes { IfOk result (λ p. changes_of schema.now write self.old.store.rows ≡ Ok (held_changes p.entry.event)) }
         ensures entry { IfOk result (λ p. p.entry ≡ commit_entry self.old.shard statement_id.session statement_id.number write (held_changes p.entry.event)) }
         ensures count { IfOk result (λ p. p.count ≡ length (held_changes p.entry.event)) }
+        ensures kept { IfOk result (λ p. p.kept ≡ kept_of p.entry) }
         ensures ready { IfOk result (λ p. IsReadyFor self.new.store (held_changes p.entry.event) p.changes.items) }
         ensures one_more { OnOk result (vec_len self.new.stored < vec_capacity self.new.stored) }
         ensures limits { OnOk result (IsTrue (has_room self.old.limits entries (vec_len self.old.stored) (row_count self.old.store.rows) write)) }
@@ -181,12 +185,13 @@ impl Contents {
         ensures steps { self.new.steps.items ≡ self.old.steps.items }
         ensures same_limits { self.new.limits ≡ self.old.limits }
     {
-        let twice = self.changes_twice(alloc, entries, schema, &write);
-        let ((changes, keyed), write) = with_owned(twice, write)?;
+        let ready = self.changes_ready(alloc, entries, schema, &write);
+        let ((changes, (kept, keyed)), write) = with_owned(ready, write)?;
         let count = changes.len() as u64;
         let entry = commit_entry(alloc, &self.shard, statement_id, write, changes)?;
         Ok(Prepared {
             entry,
+            kept,
             changes: keyed,
             count,
         })
@@ -197,6 +202,7 @@ impl Contents {
         requires { AllByRecursion (λ c. changed_table c < length self.old.store.rows) taken.changes }
         ensures changes { IfOk result (λ p. held_changes p.entry.event ≡ taken.changes) }
         ensures entry { IfOk result (λ p. p.entry ≡ record { shard = self.old.shard; event = Event.Follow taken }) }
+        ensures kept { IfOk result (λ p. p.kept ≡ kept_of p.entry) }
         ensures ready { IfOk result (λ p. IsReadyFor self.new.store (held_changes p.entry.event) p.changes.items) }
         ensures one_more { OnOk result (vec_len self.new.stored < vec_capacity self.new.stored) }
         ensures one_step { OnOk result (vec_len self.new.steps < vec_capacity self.new.steps) }
@@ -208,8 +214,7 @@ impl Contents {
         ensures steps { self.new.steps.items ≡ self.old.steps.items }
         ensures same_limits { self.new.limits ≡ self.old.limits }
     {
-        let keyed = self.store.prepare(alloc, taken.changes.as_slice())?;
-        self.stored.reserve(1)?;
+        let (kept, keyed) = self.make_room(alloc, taken.changes.as_slice())?;
         self.steps.reserve(1)?;
         let shard = copy_shard(alloc, &self.shard)?;
         let count = taken.changes.len() as u64;
@@ -218,6 +223,7 @@ impl Contents {
                 shard,
                 event: Event::Follow(taken),
             },
+            kept,
             changes: keyed,
             count,
         })
@@ -226,31 +232,34 @@ impl Contents {
     /// Takes over a commit for which memory was made, and answers how many rows it changes. Takes no memory.
     pub fn take(&mut self, prepared: Prepared) -> u64
         requires ready { IsReadyFor self.old.store (held_changes prepared.entry.event) prepared.changes.items }
+        requires kept { prepared.kept ≡ kept_of prepared.entry }
         requires one_more { vec_len self.old.stored < vec_capacity self.old.stored }
         ensures count { result ≡ prepared.count }
         ensures rows { SameRows self.new.store.rows (all_applied (held_changes prepared.entry.event) self.old.store.rows) }
-        ensures stored { self.new.stored.items ≡ self.old.stored.items ++ prepared.entry ∷ [] }
+        ensures stored { self.new.stored.items ≡ self.old.stored.items ++ kept_of prepared.entry ∷ [] }
         ensures steps { self.new.steps ≡ self.old.steps }
         ensures shard { self.new.shard ≡ self.old.shard }
         ensures mode { self.new.mode ≡ self.old.mode }
         ensures limits { self.new.limits ≡ self.old.limits }
     {
         let Prepared {
-            entry,
+            entry: _,
+            kept,
             changes: keyed,
             count,
         } = prepared;
         self.store.apply(keyed);
-        self.stored.push_reserved(entry);
+        self.stored.push_reserved(kept);
         count
     }
     /// Takes over a step with a source for which memory was made. Takes no memory.
     pub fn take_step(&mut self, prepared: Prepared, step: TargetStep)
         requires ready { IsReadyFor self.old.store (held_changes prepared.entry.event) prepared.changes.items }
+        requires kept { prepared.kept ≡ kept_of prepared.entry }
         requires one_more { vec_len self.old.stored < vec_capacity self.old.stored }
         requires one_step { vec_len self.old.steps < vec_capacity self.old.steps }
         ensures rows { SameRows self.new.store.rows (all_applied (held_changes prepared.entry.event) self.old.store.rows) }
-        ensures stored { self.new.stored.items ≡ self.old.stored.items ++ prepared.entry ∷ [] }
+        ensures stored { self.new.stored.items ≡ self.old.stored.items ++ kept_of prepared.entry ∷ [] }
         ensures steps { self.new.steps.items ≡ keep step self.old.steps.items }
         ensures shard { self.new.shard ≡ self.old.shard }
         ensures mode { self.new.mode ≡ self.old.mode }

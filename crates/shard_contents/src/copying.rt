@@ -5,7 +5,7 @@ ghost use Rattle.vschema.specs.declared.changes.RowChange as row;
 ghost use Rattle.vschema.specs.Database.{SameRows, all_applied, changed_table, changed_row, change_lies_in, restricted_changes};
 ghost use Rattle.shard_run.specs.declared.Entry.{Entry};
 ghost use Rattle.shard_run.specs.declared.Event.{Event};
-ghost use Rattle.shard_run.specs.Runs.{mode, stored_changes, held_changes};
+ghost use Rattle.shard_run.specs.Runs.{mode, held_changes};
 ghost use Rattle.shard_run.specs.Copies.{is_last};
 ghost use Rattle.shard_store.specs.Stores.{IsReadyFor};
 ghost use Rattle.shard_contents.specs.Progress.{step_position, last_row};
@@ -15,13 +15,12 @@ ghost use Rattle.shard_contents.specs.inner.Rowed.{row_of, first_named};
 ghost use Rattle.shard_contents.specs.inner.Copying.{has_room_to_copy};
 
 use crate::contents::Contents;
-use crate::copies::{copy_change, copy_shard};
+use crate::copies::copy_shard;
 use crate::next_rows::{COPY_STEP, lies_in};
-use crate::store::changed_table;
 use crate::target_steps::{TargetStep, keep};
 use shard_law::MOST_ENTRIES;
 use shard_run::{Copied, Entry, Event};
-use shard_store::{KeyedChange, StoredTables};
+use shard_store::{KeyedChange, SharedChange, SharedRow, StoredTables};
 use std::alloc::Global;
 use vschema::{Place, RowChange, VSchema};
 use vt_value::{Items, Refusal, Row, copy_row};
@@ -85,12 +84,12 @@ pub fn changed_row(change: &RowChange) -> &Row
     }
 }
 
-fn change_lies_in(schema: &VSchema, place: &Place, change: &RowChange) -> bool
+fn change_lies_in(schema: &VSchema, place: &Place, change: &SharedChange) -> bool
     requires { changed_table change.now < length schema.now.tables }
     ensures { result ≡ change_lies_in schema.now place.now change.now }
 {
-    let table = &schema.tables.as_slice()[changed_table(change)];
-    lies_in(place, table, changed_row(change))
+    let table = &schema.tables.as_slice()[change.table()];
+    lies_in(place, table, change.row())
 }
 
 // Equal changes, of the rows that lie in the place.
@@ -98,7 +97,7 @@ pub fn restricted_changes(
     alloc: Global,
     schema: &VSchema,
     place: &Place,
-    changes: &[RowChange],
+    changes: &[SharedChange],
 ) -> Result<Items<RowChange>, Refusal>
     requires { AllByRecursion (λ c. changed_table c < length schema.now.tables) changes.now }
     ensures ok { IfOk result (λ kept. kept ≡ restricted_changes schema.now place.now changes.now) }
@@ -107,21 +106,10 @@ pub fn restricted_changes(
     let mut kept = Items::new(alloc);
     for change in changes {
         if change_lies_in(schema, place, change) {
-            kept.push(copy_change(alloc, change)?)?;
+            kept.push(change.copy(alloc)?)?;
         }
     }
     Ok(kept)
-}
-
-// The changes that an event stores.
-pub fn stored_changes(event: &Event) -> &[RowChange]
-    ensures { result.now ≡ stored_changes event.now }
-{
-    match event {
-        Event::Commit(commit) => commit.changes.as_slice(),
-        Event::Follow(follow) => follow.changes.as_slice(),
-        _ => &[],
-    }
 }
 
 // The first by name of two tables, if the other was found.
@@ -161,13 +149,14 @@ fn last_row(alloc: Global, rows: &[Row]) -> Result<Option<Row>, Refusal>
 }
 
 // The rows as changes that add them to a table.
-fn added(alloc: Global, table: usize, rows: &[Row]) -> Result<Vec<RowChange>, Refusal>
+fn added(alloc: Global, table: usize, rows: &[Row]) -> Result<Vec<SharedChange>, Refusal>
     ensures ok { IfOk result (λ changes. changes.items ≡ map (row.RowChange.Added table) rows.now) }
     ensures err { IfErr result (λ e. e ≡ Refusal.OutOfMemory) }
 {
     let mut changes = Vec::new(alloc);
     for row in rows {
-        changes.push(RowChange::Added(table, copy_row(alloc, row)?))?;
+        let row = SharedRow::new(alloc, copy_row(alloc, row)?)?;
+        changes.push(SharedChange::added(table, row))?;
     }
     Ok(changes)
 }

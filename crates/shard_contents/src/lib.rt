@@ -4,6 +4,7 @@
 mod contents;
 mod copies;
 mod copying;
+mod kept_entry;
 mod next_rows;
 mod outcomes;
 mod pending;
@@ -18,8 +19,8 @@ pub use contents::{Contents, Prepared, StatementId, written_table};
 pub use copies::{copy_change, copy_changes, copy_shard, one, with_owned};
 pub use copying::{
     NextTable, PreparedCopy, SourceProgress, changed_row, copied, first_named, restricted_changes,
-    stored_changes,
 };
+pub use kept_entry::KeptEntry;
 pub use next_rows::{COPY_STEP, is_key_before, is_reached, lies_in};
 pub use outcomes::{CommitOutcome, ReadOutcome, Reading};
 pub use pending::Pending;

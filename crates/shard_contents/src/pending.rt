@@ -1,12 +1,12 @@
 //! A transaction that isn't committed: what it has touched, for conflicts, and what it has written.
 ghost use Rattle.std.specs.Prelude.{◌≡◌, false, ◌↔◌, ◌++◌, ◌+◌, ◌<◌, ◌≤◌, ◌∷◌, [], IfOk, IfErr, OnOk, OnErr, length, vec_len, vec_capacity};
-ghost use Rattle.shard_contents.specs.Transactions.{nothing_done, changes_table, is_changed, is_conflict, is_touched, touched_with, touched_all};
+ghost use Rattle.shard_contents.specs.Transactions.{nothing_done, is_touched, touched_with, touched_all};
+ghost use Rattle.shard_contents.specs.inner.KeptConflicts.{keeps_table, is_changed_since, is_conflict_since};
 ghost use Rattle.vschema.specs.Sources.{source_tables};
 
 use crate::copies::{copy_changes, with_owned};
+use crate::kept_entry::KeptEntry;
 use crate::touched_table::Touch;
-use crate::transaction_rows::changes_any;
-use shard_run::{Entry, Event};
 use std::alloc::Global;
 use std::marker::Model;
 use vschema::{Query, RowChange, Write};
@@ -34,23 +34,22 @@ impl Model for Pending {
 }
 
 // Whether the entry changes a row of the table at an ordinal.
-fn changes_table(ordinal: usize, entry: &Entry) -> bool
-    ensures { result ≡ changes_table ordinal entry.now }
+fn keeps_table(ordinal: usize, entry: &KeptEntry) -> bool
+    ensures { result ≡ keeps_table ordinal entry.now }
 {
-    match &entry.event {
-        Event::Commit(commit) => changes_any(ordinal, commit.changes.as_slice()),
-        Event::Follow(follow) => changes_any(ordinal, follow.changes.as_slice()),
-        _ => false,
-    }
+    entry
+        .changes()
+        .iter()
+        .any(|change| change.table() == ordinal)
 }
 
-fn is_changed(stored: &[Entry], touch: &Touch) -> bool
-    ensures { result ≡ is_changed stored.now touch.now }
+fn is_changed_since(stored: &[KeptEntry], touch: &Touch) -> bool
+    ensures { result ≡ is_changed_since stored.now touch.now }
 {
     stored
         .iter()
         .skip(touch.stored)
-        .any(|entry| changes_table(touch.table, entry))
+        .any(|entry| keeps_table(touch.table, entry))
 }
 
 fn is_touched(touched: &[Touch], ordinal: usize) -> bool
@@ -112,10 +111,12 @@ impl Pending {
     }
 
     /// Whether an entry that the shard has stored since a touch changes a row of the touched table.
-    pub fn is_conflict(&self, stored: &[Entry]) -> bool
-        ensures { result ≡ is_conflict stored.now self.now.touched }
+    pub fn is_conflict(&self, stored: &[KeptEntry]) -> bool
+        ensures { result ≡ is_conflict_since stored.now self.now.touched }
     {
-        self.touched.iter().any(|touch| is_changed(stored, touch))
+        self.touched
+            .iter()
+            .any(|touch| is_changed_since(stored, touch))
     }
 
     /// Touches the tables that a query is over, when the shard has stored so many entries. Refuses for want of memory; then nothing has

@@ -5,12 +5,14 @@ ghost use Rattle.vschema.specs.Database.{changed_table};
 ghost use Rattle.shard_run.specs.Openings.{row_count};
 ghost use Rattle.shard_run.specs.Runs.{held_changes};
 ghost use Rattle.shard_store.specs.Stores.{IsReadyFor};
+ghost use Rattle.shard_contents.specs.KeptEntries.{kept_of};
 ghost use Rattle.shard_contents.specs.Transactions.{entry_of};
 ghost use Rattle.shard_contents.specs.Commits.{is_added, is_removed};
 ghost use Rattle.shard_contents.specs.inner.Transactions.{has_room_for, IsAllUnprepared};
 
 use crate::contents::{Contents, Prepared, StatementId};
 use crate::copies::copy_shard;
+use crate::kept_entry::KeptEntry;
 use crate::pending::Pending;
 use shard_law::MOST_ENTRIES;
 use shard_run::{Commit, Entry, Event};
@@ -89,14 +91,15 @@ impl Contents {
             && self.has_rows_for(changes)
     }
 
-    // The changes once more by keys, with room for them in the store and for an entry.
-    fn make_room(
+    // The changes as they are kept, and by keys, with room for them in the store and for an entry.
+    pub(crate) fn make_room(
         &mut self,
         alloc: Global,
         changes: &[RowChange],
-    ) -> Result<Vec<KeyedChange>, Refusal>
+    ) -> Result<(KeptEntry, Vec<KeyedChange>), Refusal>
         requires { AllByRecursion (λ c. changed_table c < length self.old.store.rows) changes.now }
-        ensures ready { IfOk result (λ keyed. IsReadyFor self.new.store changes.now keyed.items) }
+        ensures kept { IfOk result (λ r. r.0 ≡ changes.now) }
+        ensures ready { IfOk result (λ r. IsReadyFor self.new.store changes.now r.1.items) }
         ensures one_more { OnOk result (vec_len self.new.stored < vec_capacity self.new.stored) }
         ensures err { IfErr result (λ e. e ≡ Refusal.OutOfMemory) }
         ensures shard { self.new.shard ≡ self.old.shard }
@@ -107,7 +110,9 @@ impl Contents {
         ensures same_limits { self.new.limits ≡ self.old.limits }
     {
         self.stored.reserve(1)?;
-        self.store.prepare(alloc, changes)
+        let kept = KeptEntry::new(alloc, changes)?;
+        let keyed = self.store.prepare(alloc, kept.changes())?;
+        Ok((kept, keyed))
     }
 
     /// Makes all memory of a transaction's commit, once the shard has so many entries, and takes over its writes and changes. It refuses
@@ -123,6 +128,7 @@ impl Contents {
         requires within { row_count self.old.store.rows ≤ self.old.limits.rows }
         requires most { self.old.limits.rows ≤ 2 ^ 20 }
         ensures changes { IfOk result (λ p. held_changes p.entry.event ≡ tx.old.changes) }
+        ensures kept { IfOk result (λ p. p.kept ≡ kept_of p.entry) }
         ensures entry { IfOk result (λ p. p.entry ≡ entry_of self.old.shard statement_id.session statement_id.number tx.old.writes tx.old.changes) }
         ensures ready { IfOk result (λ p. IsReadyFor self.new.store (held_changes p.entry.event) p.changes.items) }
         ensures one_more { OnOk result (vec_len self.new.stored < vec_capacity self.new.stored) }
@@ -140,7 +146,7 @@ impl Contents {
             return Err(Refusal::ShardFull);
         }
         let count = tx.changes.len() as u64;
-        let keyed = self.make_room(alloc, tx.changes.as_slice())?;
+        let (kept, keyed) = self.make_room(alloc, tx.changes.as_slice())?;
         let shard = match copy_shard(alloc, &self.shard) {
             Ok(shard) => shard,
             Err(e) => return Err(e),
@@ -151,6 +157,7 @@ impl Contents {
         };
         Ok(Prepared {
             entry,
+            kept,
             changes: keyed,
             count,
         })

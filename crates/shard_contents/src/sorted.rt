@@ -1,8 +1,7 @@
 //! Tables in the order of their primary keys, which a shard that stores them in another order keeps while they are copied to targets.
 ghost use Rattle.std.specs.Prelude.{◌≡◌, ◌<◌, ◌≤◌, ◌==◌, ◌++◌, ◌∷◌, [], IsSome, IfOk, IfErr, IfSome, OnOk, IsPermutation, List, drop, option_copied, length, position};
+ghost use Rattle.vschema.specs.declared.changes.RowChange as row;
 ghost use Rattle.vschema.specs.Database.{Database, rows_of, without, all_applied};
-ghost use Rattle.shard_run.specs.declared.Entry as entry;
-ghost use Rattle.shard_run.specs.Runs.{stored_changes};
 ghost use Rattle.shard_store.specs.Slots.{slot_at};
 ghost use Rattle.shard_store.specs.Tables.{key_at};
 ghost use Rattle.shard_contents.specs.Copying.{is_left_to_copy};
@@ -11,14 +10,15 @@ ghost use Rattle.shard_contents.specs.inner.Stores.{row_after};
 ghost use Rattle.shard_contents.specs.inner.Earlier.{changes_by, HadRows, AllHadRows, IsCurrentTable};
 
 use crate::contents::Contents;
-use crate::copying::{NextTable, stored_changes};
+use crate::copying::NextTable;
+use crate::kept_entry::KeptEntry;
 use crate::next_rows::{COPY_STEP, first_wanted};
-use crate::store::changed_table;
-use shard_run::Entry;
-use shard_store::{AllRows, RowKey, RowSource, SharedRow, StoredTables, TableRows};
+use shard_store::{
+    AllRows, ChangedRows, RowKey, RowSource, SharedChange, SharedRow, StoredTables, TableRows,
+};
 use std::alloc::Global;
 use std::marker::Model;
-use vschema::{Place, RowChange, Table};
+use vschema::{Place, Table};
 use vt_value::{Items, Refusal, Row, copy_row};
 
 /// The rows of a table in the order of its primary key, as they were when the shard had stored so many entries. Contracts see an
@@ -76,17 +76,17 @@ fn remove(alloc: Global, rows: &mut TableRows, row: &Row) -> Result<(), Refusal>
 }
 
 // Does a change of one of these rows, with a copy of the row that it puts in.
-fn change(alloc: Global, rows: &mut TableRows, change: &RowChange) -> Result<(), Refusal>
+fn change(alloc: Global, rows: &mut TableRows, change: &SharedChange) -> Result<(), Refusal>
     ensures ok { OnOk result (IsPermutation rows.new.rows (row_after change.now rows.old.rows)) }
     ensures err { IfErr result (λ e. e ≡ Refusal.OutOfMemory) }
 {
-    match change {
-        RowChange::Added(_, row) => add_copy(alloc, rows, row),
-        RowChange::Replaced(_, old, new) => {
-            remove(alloc, rows, old)?;
-            add_copy(alloc, rows, new)
+    match change.rows() {
+        ChangedRows::Added(_, row) => add_copy(alloc, rows, row.get()),
+        ChangedRows::Replaced(_, old, new) => {
+            remove(alloc, rows, old.get())?;
+            add_copy(alloc, rows, new.get())
         }
-        RowChange::Removed(_, row) => remove(alloc, rows, row),
+        ChangedRows::Removed(_, row) => remove(alloc, rows, row.get()),
     }
 }
 
@@ -95,14 +95,14 @@ fn change_all(
     alloc: Global,
     table: usize,
     rows: &mut TableRows,
-    changes: &[RowChange],
+    changes: &[SharedChange],
 ) -> Result<(), Refusal>
     ensures ok { OnOk result ((db : Database) → table < length db → IsPermutation rows.old.rows (rows_of db table)
         → IsPermutation rows.new.rows (rows_of (all_applied changes.now db) table)) }
     ensures err { IfErr result (λ e. e ≡ Refusal.OutOfMemory) }
 {
     for done in changes {
-        if changed_table(done) == table {
+        if done.table() == table {
             change(alloc, rows, done)?;
         }
     }
@@ -114,14 +114,14 @@ fn change_by(
     alloc: Global,
     table: usize,
     rows: &mut TableRows,
-    entries: &[Entry],
+    entries: &[KeptEntry],
 ) -> Result<(), Refusal>
     ensures ok { OnOk result ((db : Database) → table < length db → IsPermutation rows.old.rows (rows_of db table)
         → IsPermutation rows.new.rows (rows_of (all_applied (changes_by entries.now) db) table)) }
     ensures err { IfErr result (λ e. e ≡ Refusal.OutOfMemory) }
 {
     for entry in entries {
-        change_all(alloc, table, rows, stored_changes(&entry.event))?;
+        change_all(alloc, table, rows, entry.changes())?;
     }
     Ok(())
 }
@@ -163,7 +163,7 @@ impl SortedTable {
     }
 
     // Brings the rows forward by the entries that were stored since.
-    fn bring_forward(&mut self, alloc: Global, stored: &[Entry]) -> Result<(), Refusal>
+    fn bring_forward(&mut self, alloc: Global, stored: &[KeptEntry]) -> Result<(), Refusal>
         requires { self.old.stored ≤ length stored.now }
         ensures table { self.new.table ≡ self.old.table }
         ensures stored { OnOk result (self.new.stored ≡ length stored.now) }
@@ -234,8 +234,8 @@ impl SortedTables {
 
     // Takes out the table at an ordinal of the VSchema, if it is there.
     fn take(&mut self, place: usize) -> Option<SortedTable>
-        ensures had { (stored : List entry.Entry) (now : Database) → AllHadRows stored now self.old → AllHadRows stored now self.new }
-        ensures taken { IfSome result (λ t. (t.table ≡ place) × ((stored : List entry.Entry) (now : Database) → AllHadRows stored now self.old → HadRows stored now t)) }
+        ensures had { (stored : List (List row.RowChange)) (now : Database) → AllHadRows stored now self.old → AllHadRows stored now self.new }
+        ensures taken { IfSome result (λ t. (t.table ≡ place) × ((stored : List (List row.RowChange)) (now : Database) → AllHadRows stored now self.old → HadRows stored now t)) }
     {
         let at = ordinal_of(self.tables.as_slice(), place)?;
         Some(self.tables.remove(at))
@@ -266,7 +266,7 @@ impl SortedTables {
 
     // Keeps a table of which so many rows were copied last, unless these were the last of all.
     fn keep(&mut self, sorted: SortedTable, copied: usize) -> Result<(), Refusal>
-        ensures had { (stored : List entry.Entry) (now : Database) → HadRows stored now sorted → AllHadRows stored now self.old → AllHadRows stored now self.new }
+        ensures had { (stored : List (List row.RowChange)) (now : Database) → HadRows stored now sorted → AllHadRows stored now self.old → AllHadRows stored now self.new }
         ensures err { IfErr result (λ e. e ≡ Refusal.OutOfMemory) }
     {
         if copied < COPY_STEP {

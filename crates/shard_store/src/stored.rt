@@ -11,12 +11,13 @@ ghost use Rattle.shard_store.specs.inner.Stores.{split, all_split};
 use crate::key::{KeyedChange, KeyedRow, RowKey};
 use crate::key_columns::key_ordinals;
 use crate::key_values::KeyValues;
+use crate::shared_change::{ChangedRows, SharedChange};
 use crate::shared_row::SharedRow;
 use crate::table_rows::TableRows;
 use std::alloc::Global;
 use std::marker::Model;
-use vschema::{RowChange, Table};
-use vt_value::{Items, Refusal, Row, copy_row};
+use vschema::Table;
+use vt_value::{Items, Refusal, Row};
 
 /// The rows of a shard's tables, in the order of the VSchema. Contracts see a `StoreView`.
 #[derive(Drop)]
@@ -144,13 +145,13 @@ impl StoredTables {
         }
     }
 
-    // An equal row, with its key.
-    fn keyed_row(&self, alloc: Global, ordinal: usize, row: &Row) -> Result<KeyedRow, Refusal>
+    // The row, of which another owner is made, with its key.
+    fn keyed_row(&self, alloc: Global, ordinal: usize, row: &SharedRow) -> Result<KeyedRow, Refusal>
         ensures row { IfOk result (λ k. k.row ≡ row.now) }
         ensures key { IfOk result (λ k. k.key.values ≡ key_at (ordinals_of self.now ordinal) row.now) }
         ensures err { IfErr result (λ e. e ≡ Refusal.OutOfMemory) }
     {
-        let row = SharedRow::new(alloc, copy_row(alloc, row)?)?;
+        let row = row.clone()?;
         match self.key_of(alloc, ordinal, row.get()) {
             Ok(key) => Ok(KeyedRow { key, row }),
             Err(e) => Err(e),
@@ -162,7 +163,7 @@ impl StoredTables {
         &self,
         alloc: Global,
         ordinal: usize,
-        row: &Row,
+        row: &SharedRow,
         keyed: &mut Vec<KeyedChange>,
     ) -> Result<(), Refusal>
         requires { AllByRecursion (IsByItsKey self.now) keyed.old.items }
@@ -180,7 +181,7 @@ impl StoredTables {
         &self,
         alloc: Global,
         ordinal: usize,
-        row: &Row,
+        row: &SharedRow,
         keyed: &mut Vec<KeyedChange>,
     ) -> Result<(), Refusal>
         requires { AllByRecursion (IsByItsKey self.now) keyed.old.items }
@@ -196,7 +197,7 @@ impl StoredTables {
     fn push_change(
         &self,
         alloc: Global,
-        change: &RowChange,
+        change: &SharedChange,
         keyed: &mut Vec<KeyedChange>,
     ) -> Result<(), Refusal>
         requires { AllByRecursion (IsByItsKey self.now) keyed.old.items }
@@ -204,13 +205,13 @@ impl StoredTables {
         ensures changes { OnOk result (changes_in keyed.new.items ≡ changes_in keyed.old.items ++ split change.now) }
         ensures err { IfErr result (λ e. e ≡ Refusal.OutOfMemory) }
     {
-        match change {
-            RowChange::Added(ordinal, row) => self.push_put(alloc, *ordinal, row, keyed),
-            RowChange::Replaced(ordinal, old, new) => {
+        match change.rows() {
+            ChangedRows::Added(ordinal, row) => self.push_put(alloc, *ordinal, row, keyed),
+            ChangedRows::Replaced(ordinal, old, new) => {
                 self.push_take(alloc, *ordinal, old, keyed)?;
                 self.push_put(alloc, *ordinal, new, keyed)
             }
-            RowChange::Removed(ordinal, row) => self.push_take(alloc, *ordinal, row, keyed),
+            ChangedRows::Removed(ordinal, row) => self.push_take(alloc, *ordinal, row, keyed),
         }
     }
 
@@ -218,7 +219,7 @@ impl StoredTables {
     fn keyed_changes(
         &self,
         alloc: Global,
-        changes: &[RowChange],
+        changes: &[SharedChange],
     ) -> Result<Vec<KeyedChange>, Refusal>
         ensures keys { IfOk result (λ keyed. AllByRecursion (IsByItsKey self.now) keyed.items) }
         ensures changes { IfOk result (λ keyed. changes_in keyed.items ≡ all_split changes.now) }
@@ -301,7 +302,7 @@ impl StoredTables {
     pub fn prepare(
         &mut self,
         alloc: Global,
-        changes: &[RowChange],
+        changes: &[SharedChange],
     ) -> Result<Vec<KeyedChange>, Refusal>
         requires { AllByRecursion (λ c. changed_table c < length self.old.rows) changes.now }
         ensures ready { IfOk result (λ keyed. IsReadyFor self.new changes.now keyed.items) }

@@ -10,7 +10,7 @@ pub loop-entry-preserved : goal.loop-entry-preserved
 loop-entry-preserved c db there was =
     let so_far : Database = all_applied (changes_by (take c.loop-entry.entry-index c.args.entries.now)) db in
     subst (λ (d : Database). IsPermutation c.change_all.new.rows.rows (rows_of d c.args.table))
-    (ap (λ (l : List RowChange). all_applied l so_far) c.stored_changes.ensures
+    (ap (λ (l : List RowChange). all_applied l so_far) c.changes.ensures
     ∙ sym (entry_next c.args.entries.now c.loop-entry.entry-index c.entry-item.result db c.loop-entry-test.true c.entry-item.is))
     (c.in_ok-change_all.ensures.ok so_far
     (subst (λ (k : ℕ). c.args.table < k) (sym (length-all_applied (changes_by (take c.loop-entry.entry-index c.args.entries.now)) db)) there)

@@ -9,6 +9,7 @@ use Rattle.shard_run.specs.Runs.{mode, answers_queries, stored_changes}
 use Rattle.shard_law.specs.declared.limits.Limits.{Limits}
 use Rattle.shard_law.specs.Entries.{commit_of, seat_view}
 use Rattle.shard_contents.specs.Transactions as t
+use Rattle.shard_contents.specs.KeptEntries.{kept_of}
 use Rattle.shard_contents.proofs.States.{same_contents, names_none, lives_if}
 use Rattle.shard_contents.proofs.Earlier.{all_had_next, all_had_same}
 use Rattle.shard.proofs.StepsIn as steps
@@ -71,7 +72,7 @@ left g c =
     a.seen.2 a.seat a.pass a.legal c.in_ok-entries.entries l.entries ok.limits (t.shard ∙ ok.shard)
     (subst (λ (db : Database). SameRows c.take.new.self.store.rows (all_applied c.args.tx.now.changes db)) ok.rows
     (subst (λ (x : List RowChange). SameRows c.take.new.self.store.rows (all_applied x c.prepare_in.new.self.store.rows)) ok.changes t.rows))
-    (t.stored ∙ ap (λ (x : List Entry). x ++ c.in_ok-prepared.prepared.entry ∷ []) ok.stored) (ap (λ v. v.items) t.steps ∙ ok.steps) (t.mode ∙ ok.mode) (t.limits ∙ ok.same_limits)
+    (t.stored ∙ ap (λ (x : List (List RowChange)). x ++ kept_of c.in_ok-prepared.prepared.entry ∷ []) ok.stored) (ap (λ v. v.items) t.steps ∙ ok.steps) (t.mode ∙ ok.mode) (t.limits ∙ ok.same_limits)
 
 pub invariant_of-self : goal.invariant_of-self
 invariant_of-self g c =
@@ -90,8 +91,8 @@ invariant_of-self-2 g c =
       is.is_now,
       names_none g.W.World.opening c.append.new.self.seen c.take.new.self.shard c.self.inside.targets
           (lives_if (mode g.W.World.opening c.append.new.self.seen c.take.new.self.shard.slot) (ap answers_queries is.serves_now)),
-      all_had_same _ _ _ _ c.self.inside.sorted (t.stored ∙ ap (λ (x : List Entry). x ++ e ∷ []) ok.stored) refl
-          (all_had_next c.self.inside.contents.stored.items e c.self.inside.contents.store.rows c.take.new.self.store.rows c.self.inside.sorted
+      all_had_same _ _ _ _ c.self.inside.sorted (t.stored ∙ ap (λ (x : List (List RowChange)). x ++ kept_of e ∷ []) ok.stored) refl
+          (all_had_next c.self.inside.contents.stored.items (kept_of e) c.self.inside.contents.store.rows c.take.new.self.store.rows c.self.inside.sorted
           (subst (λ (x : List RowChange). SameRows c.take.new.self.store.rows (all_applied x c.self.inside.contents.store.rows))
           (sym (ap (λ (x : Entry). stored_changes x.event) ok.entry))
           (subst (λ (db : Database). SameRows c.take.new.self.store.rows (all_applied c.args.tx.now.changes db)) ok.rows

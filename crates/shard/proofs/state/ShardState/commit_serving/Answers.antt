@@ -8,6 +8,7 @@ use Rattle.shard_run.specs.declared.Mode.TheVariants.{Serving}
 use Rattle.shard_law.proofs.Typed.{table_there}
 use Rattle.shard_contents.proofs.States.{after_look, names_after_look, same_contents, holds_of, lives_if, names_none}
 use Rattle.shard_contents.specs.Commits.{IsPlaced}
+use Rattle.shard_contents.specs.KeptEntries.{kept_of}
 use Rattle.shard_law.specs.Entries.{ShardView, commit_of}
 use Rattle.shard_contents.specs.Shards.{Holds, IsAfter, RetiredFor}
 use Rattle.shard_contents.specs.declared.contents.Contents.{Contents}
@@ -130,7 +131,7 @@ left g c =
     c.take.new.self c.take.result a.seen.2 a.seat a.pass c.statements.ensures a.legal c.look-entries.result l.count ok.limits (t.count ∙ ok.count)
     (t.shard ∙ ok.shard)
     (subst (λ (db : Database). SameRows c.take.new.self.store.rows (all_applied (held_changes c.in_ok-prepared.prepared.entry.event) db)) ok.rows t.rows)
-    (t.stored ∙ ap (λ (l : List Entry). l ++ c.in_ok-prepared.prepared.entry ∷ []) ok.stored) (ap (λ v. v.items) t.steps ∙ ok.steps) (t.mode ∙ ok.mode) (t.limits ∙ ok.same_limits)
+    (t.stored ∙ ap (λ (l : List (List RowChange)). l ++ kept_of c.in_ok-prepared.prepared.entry ∷ []) ok.stored) (ap (λ v. v.items) t.steps ∙ ok.steps) (t.mode ∙ ok.mode) (t.limits ∙ ok.same_limits)
 
 pub invariant_of-self-2 : goal.invariant_of-self-2
 invariant_of-self-2 g c =
@@ -140,8 +141,8 @@ invariant_of-self-2 g c =
     let e = c.in_ok-prepared.prepared.entry in (
       is.is_now,
       names_none g.W.World.opening c.append.new.self.seen c.take.new.self.shard c.self.inside.targets (lives_if (mode g.W.World.opening c.append.new.self.seen c.take.new.self.shard.slot) (ap answers_queries is.serves_now)),
-      all_had_same _ _ _ _ c.self.inside.sorted (t.stored ∙ ap (λ (l : List Entry). l ++ e ∷ []) ok.stored) refl
-          (all_had_next c.self.inside.contents.stored.items e c.self.inside.contents.store.rows c.take.new.self.store.rows c.self.inside.sorted
+      all_had_same _ _ _ _ c.self.inside.sorted (t.stored ∙ ap (λ (l : List (List RowChange)). l ++ kept_of e ∷ []) ok.stored) refl
+          (all_had_next c.self.inside.contents.stored.items (kept_of e) c.self.inside.contents.store.rows c.take.new.self.store.rows c.self.inside.sorted
           (subst (λ (l : List RowChange). SameRows c.take.new.self.store.rows (all_applied l c.self.inside.contents.store.rows))
           (sym (ap (λ (x : Entry). stored_changes x.event) ok.entry))
           (subst (λ (db : Database). SameRows c.take.new.self.store.rows (all_applied (held_changes e.event) db)) ok.rows t.rows)) c.self.invariant.2),

@@ -10,6 +10,7 @@ use Rattle.shard_run.specs.declared.Event.TheVariants.{Follow}
 use Rattle.shard_run.specs.Runs.{mode, shard_rows}
 use Rattle.shard_law.specs.declared.limits.Limits.{Limits}
 use Rattle.shard_contents.specs.Kept.{keep}
+use Rattle.shard_contents.specs.KeptEntries.{kept_of}
 use Rattle.shard_contents.specs.declared.target_steps.TargetStep.TheVariants.{Followed}
 use Rattle.shard_law.specs.Entries.{ShardView, MayFollow}
 use Rattle.shard_contents.specs.Shards.{RetiredFor}
@@ -88,7 +89,7 @@ invariant_of-self-2 g c =
           (subst (λ (db : Database). SameRows c.take_step.new.self.store.rows (all_applied c.args.taken.changes db)) ok.rows
           (subst (λ (l : List RowChange). SameRows c.take_step.new.self.store.rows (all_applied l c.prepare_follow.new.self.store.rows)) changes t.rows))
           (t.mode ∙ ok.mode)
-          (t.stored ∙ ap (λ (l : List Entry). l ++ c.in_ok-step.step.entry ∷ []) ok.stored ∙ ap (λ (e : Entry). had.stored.items ++ e ∷ []) ok.entry)
+          (t.stored ∙ ap (λ (l : List (List RowChange)). l ++ kept_of c.in_ok-step.step.entry ∷ []) ok.stored ∙ ap (λ (e : Entry). had.stored.items ++ kept_of e ∷ []) ok.entry)
           (t.steps ∙ ap (keep (Followed c.args.taken.source c.args.taken.log_position)) ok.steps)
           (t.limits ∙ ok.same_limits) (omega (arith, count, few)),
       names_none o c.append.new.self.seen c.take_step.new.self.shard c.self.inside.targets

@@ -1,12 +1,12 @@
 use Rattle.std.proofs.Common.{◌≤◌, List, length, sym, subst}
-use Rattle.shard_run.specs.declared.Entry.{Entry}
+use Rattle.vschema.specs.declared.changes.RowChange.{RowChange}
 use Rattle.shard_contents.proofs.Earlier.{has_now}
 use Rattle.shard_contents.proofs.sorted.SortedTables.take_current.Goals as goal
 
 pub bring_forward-requires : goal.bring_forward-requires
 bring_forward-requires c =
     let had = c.in-Some.ensures.taken.1 c.args.contents.now.stored.items c.args.contents.now.store.rows c.requires.had in
-    subst (λ (l : List Entry). c.in-Some.sorted.stored ≤ length l) (sym c.as_slice.ensures.value) had.within
+    subst (λ (l : List (List RowChange)). c.in-Some.sorted.stored ≤ length l) (sym c.as_slice.ensures.value) had.within
 
 pub returns-in_err-bring_forward-in-Some-clause-had : goal.returns-in_err-bring_forward-in-Some-clause-had
 returns-in_err-bring_forward-in-Some-clause-had c = c.take.ensures.had c.args.contents.now.stored.items c.args.contents.now.store.rows c.requires.had

@@ -8,25 +8,20 @@ use Rattle.sql_eval.specs.Writes.{written_table}
 use Rattle.shard_store.specs.Stores.{IsReadyFor}
 use Rattle.shard_contents.specs.inner.Commits.{no_memory}
 use Rattle.shard_contents.proofs.Changes.{of_table, there_all}
-use Rattle.shard_contents.proofs.contents.Contents.changes_twice.Goals as goal
+use Rattle.shard_contents.proofs.contents.Contents.changes_ready.Goals as goal
 
 pub returns-in_err-changes-clause-err : goal.returns-in_err-changes-clause-err
 returns-in_err-changes-clause-err c =
     let p = err_from_is_err_and c.from_residual.result c.from_residual.ensures.1 in
     rw (p.1, p.2) c.in_err-changes.ensures.err
 
-pub returns-in_err-keyed-clause-err : goal.returns-in_err-keyed-clause-err
-returns-in_err-keyed-clause-err c =
-    let p = err_from_is_err_and c.from_residual-in_err-keyed.result c.from_residual-in_err-keyed.ensures.1 in
-    rw (p.1, p.2, c.in_err-keyed.ensures.err) no_memory
+pub returns-in_err-room-clause-err : goal.returns-in_err-room-clause-err
+returns-in_err-room-clause-err c =
+    let p = err_from_is_err_and c.from_residual-in_err-room.result c.from_residual-in_err-room.ensures.1 in
+    rw (p.1, p.2, c.in_err-room.ensures.err) no_memory
 
-pub returns-in_err-reserve-clause-err : goal.returns-in_err-reserve-clause-err
-returns-in_err-reserve-clause-err c =
-    let p = err_from_is_err_and c.from_residual-in_err-reserve.result c.from_residual-in_err-reserve.ensures.1 in
-    rw (p.1, p.2) no_memory
-
-pub prepare-requires : goal.prepare-requires
-prepare-requires c =
+pub make_room-requires : goal.make_room-requires
+make_room-requires c =
     let schema = c.args.schema.now in
     let w = c.args.write.now in
     let rows = c.args.self.now.store.rows in
@@ -38,4 +33,4 @@ prepare-requires c =
 
 pub returns-clause-ready : goal.returns-clause-ready
 returns-clause-ready c =
-    subst (λ (l : List RowChange). IsReadyFor c.prepare.new.self l c.in_ok-keyed.keyed.items) c.as_slice.ensures c.in_ok-keyed.ensures.ready
+    subst (λ (l : List RowChange). IsReadyFor c.make_room.new.self.store l c.in_ok-room.room.1.items) c.as_slice.ensures c.in_ok-room.ensures.ready

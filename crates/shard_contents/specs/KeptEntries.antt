@@ -1,0 +1,12 @@
+-- What a shard keeps of the entries that it has stored: what each of them changes.
+use Rattle.std.specs.Prelude.{ℕ, List, map}
+use Rattle.vschema.specs.declared.changes.RowChange.{RowChange}
+use Rattle.shard_run.specs.declared.Entry.{Entry}
+use Rattle.shard_run.specs.Runs.{Run, stored_changes, stored_on}
+
+abbrev pub kept_of : Entry → List RowChange
+kept_of e = stored_changes e.event
+
+-- what is kept of the entries that a run has stored on a slot
+abbrev pub entries_kept : ℕ → Run → List (List RowChange)
+entries_kept slot run = map kept_of (stored_on slot run)
