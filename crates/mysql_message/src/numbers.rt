@@ -75,6 +75,11 @@ pub fn put_length_encoded(n: u64, out: &mut Vec<u8>) -> Result<(), AllocError>
 pub fn put_length_encoded_string(text: &[u8], out: &mut Vec<u8>) -> Result<(), AllocError>
     ensures { OnOk result (out.new.items ≡ out.old.items ++ length_encoded_string text.now) }
 {
+    if text.len() < 251 {
+        // most texts are short: their length is one byte
+        out.push(text.len() as u8)?;
+        return out.extend_from_slice(text);
+    }
     put_length_encoded(text.len() as u64, out)?;
     out.extend_from_slice(text)
 }
