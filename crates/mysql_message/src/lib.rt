@@ -6,4 +6,6 @@ pub mod numbers;
 mod reply;
 
 pub use command::{Command, read_command};
-pub use reply::{put_eof, put_err, put_ok, put_set_end, put_statistics};
+pub use reply::{
+    eof_payload, put_eof, put_err, put_ok, put_set_end, put_statistics, set_end_payload,
+};

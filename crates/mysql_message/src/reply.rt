@@ -27,8 +27,25 @@ const STATE_MARKER: u8 = b'#';
 /// More than the payload of an OK, an EOF or an ERR packet takes.
 const MAX_PAYLOAD: usize = 60;
 
+/// The payload of an EOF packet: no warnings, the status.
+pub fn eof_payload(status: u16) -> [u8; 5]
+    ensures { result ≡ eof_payload status }
+{
+    let [low, high, ..] = little_endian(u64::from(status));
+    [EOF, 0x00, 0x00, low, high]
+}
+
+/// The payload of the packet that ends a result set if client and server set CLIENT_DEPRECATE_EOF: no affected rows, 0 as the last insert
+/// id, the status, no warnings.
+pub fn set_end_payload(status: u16) -> [u8; 7]
+    ensures { result ≡ set_end_payload status }
+{
+    let [low, high, ..] = little_endian(u64::from(status));
+    [EOF, 0x00, 0x00, low, high, 0x00, 0x00]
+}
+
 // Promise: OK, EOF and ERR packets, and the OK packet that ends a result set, have their one layout; with 64 bytes of room they can't fail
-// With: put_eof, put_err, put_set_end, put_statistics
+// With: put_eof, put_err, put_set_end, put_statistics, eof_payload, set_end_payload
 /// Appends an OK packet: so many affected rows, 0 as the last insert id, the status, no warnings. It gives the
 /// sequence number after it. It refuses only for want of memory, and then leaves the buffer as it was.
 pub fn put_ok(number: u8, affected: u64, status: u16, out: &mut BytesMut) -> Result<u8, Refusal>
@@ -57,8 +74,7 @@ pub fn put_eof(number: u8, status: u16, out: &mut BytesMut) -> Result<u8, Refusa
     // No room is ever lost.
     ensures capacity { length out.old.items + out.old.spare ≤ length out.new.items + out.new.spare }
 {
-    let [low, high, ..] = little_endian(u64::from(status));
-    put_short(number, &[EOF, 0x00, 0x00, low, high], out)
+    put_short(number, &eof_payload(status), out)
 }
 
 /// Appends the packet that ends a result set if client and server set CLIENT_DEPRECATE_EOF: no affected rows, 0 as
@@ -74,8 +90,7 @@ pub fn put_set_end(number: u8, status: u16, out: &mut BytesMut) -> Result<u8, Re
     // No room is ever lost.
     ensures capacity { length out.old.items + out.old.spare ≤ length out.new.items + out.new.spare }
 {
-    let [low, high, ..] = little_endian(u64::from(status));
-    put_short(number, &[EOF, 0x00, 0x00, low, high, 0x00, 0x00], out)
+    put_short(number, &set_end_payload(status), out)
 }
 
 /// Appends an ERR packet: the error code, `#` and the SQL state, and the message of the refusal. It gives the sequence

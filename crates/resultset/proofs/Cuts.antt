@@ -1,9 +1,12 @@
 -- Streams that are cut into chunks.
-use Rattle.std.proofs.Common.{◌≡◌, ℕ, ◌<◌, ◌≤◌, List, [], ◌∷◌, ◌++◌, length, ◌+◌, append_assoc, append-nil, ap, sym, subst, ◌∙◌, arith, add_comm}
+use Rattle.std.proofs.Common.{◌≡◌, ℕ, ◌<◌, ◌≤◌, ◌/◌, ◌%◌, List, [], ◌∷◌, ◌++◌, length, ◌+◌, ◌-◌, append_assoc, append-nil, ap, sym, subst, refl, ◌∙◌, arith, add_comm}
 use Rattle.std.specs.List.{concat}
-use Rattle.std.proofs.lemmas.List.{length-append}
+use Rattle.std.proofs.lemmas.List.{length-append, set_at}
+use Rattle.mysql_packet.specs.Frames.{packet}
 use Rattle.std.proofs.lemmas.List.Folds.{concat-append}
 use Rattle.resultset.specs.Chunks.{IsChunk, AreChunks}
+use Rattle.std.proofs.Math.ListN.{set}
+use Rattle.resultset.specs.inner.Parts.{open_packet}
 use Rattle.resultset.proofs.Lists.{all_push}
 
 pub one_more : (full : List (List ℕ)) (last : List ℕ) → AreChunks full → 0 < length last → length last ≤ 16384 → AreChunks (full ++ last ∷ [])
@@ -46,3 +49,31 @@ without_last full last is = sym (append-nil (concat full)) ∙ ap (λ (l : List 
 
 pub joined : (old more all : List (List ℕ)) (bytes : List ℕ) → all ≡ old ++ more → concat more ≡ bytes → concat all ≡ concat old ++ bytes
 joined old more all bytes e is = ap concat e ∙ concat-append old more ∙ ap (λ (l : List ℕ). concat old ++ l) is
+
+-- The length of a payload is written into the header in front of it.
+closed : (front payload : List ℕ) (number low high n m : ℕ) → length front ≡ n → m ≡ n + 1
+    → set (set (front ++ open_packet number payload) n low) m high ≡ front ++ low ∷ high ∷ 0 ∷ number ∷ payload
+closed front payload number low high n m len is =
+    let first : set (front ++ 0 ∷ 0 ∷ 0 ∷ number ∷ payload) n low ≡ front ++ low ∷ 0 ∷ 0 ∷ number ∷ payload = set_at front 0 (0 ∷ 0 ∷ number ∷ payload) low n len in
+    let size : length (front ++ low ∷ []) ≡ m = length-append front (low ∷ []) ∙ ap (λ k. k + 1) len ∙ sym is in
+    let second : set ((front ++ low ∷ []) ++ 0 ∷ 0 ∷ number ∷ payload) m high ≡ (front ++ low ∷ []) ++ high ∷ 0 ∷ number ∷ payload = set_at (front ++ low ∷ []) 0 (0 ∷ number ∷ payload) high m size in
+    ap (λ (l : List ℕ). set l m high) (first ∙ sym (append_assoc front (low ∷ []) (0 ∷ 0 ∷ number ∷ payload))) ∙ second
+    ∙ append_assoc front (low ∷ []) (high ∷ 0 ∷ number ∷ payload)
+
+pub closed_packet : (old opened new payload : List ℕ) (number start size : ℕ) → opened ≡ old ++ open_packet number payload → length old ≡ start
+    → size ≡ length payload → size < 16384 → new ≡ set (set opened start (size % 256)) (start + 1) (size / 256) → new ≡ old ++ packet number payload
+closed_packet old opened new payload number start size is_open len is short is_new =
+    let middle : size / 256 ≡ length payload / 256 % 256 = omega arith in
+    let high : 0 ≡ length payload / 256 / 256 % 256 = omega arith in
+    is_new ∙ ap (λ (l : List ℕ). set (set l start (size % 256)) (start + 1) (size / 256)) is_open
+    ∙ closed old payload number (size % 256) (size / 256) start (start + 1) len refl
+    ∙ ap (λ (x : ℕ). old ++ x % 256 ∷ size / 256 ∷ 0 ∷ number ∷ payload) is
+    ∙ ap (λ (x : ℕ). old ++ length payload % 256 ∷ x ∷ 0 ∷ number ∷ payload) middle
+    ∙ ap (λ (x : ℕ). old ++ length payload % 256 ∷ length payload / 256 % 256 ∷ x ∷ number ∷ payload) high
+
+-- The size of what stands behind a header.
+pub payload_size : (old opened payload : List ℕ) (number start end : ℕ) → opened ≡ old ++ open_packet number payload → length old ≡ start → end ≡ length opened
+    → end - start - 4 ≡ length payload
+payload_size old opened payload number start end is_open len is =
+    let whole : length opened ≡ length old + length (open_packet number payload) = ap length is_open ∙ length-append old (open_packet number payload) in
+    omega (arith, whole)

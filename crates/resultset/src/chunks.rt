@@ -1,9 +1,11 @@
 //! Streams of bytes in chunks.
-ghost use Rattle.std.specs.Prelude.{◌≡◌, ◌<◌, [], ◌++◌, length, if◌then◌else◌, IsTrue, IfErr, IfOk, OnErr, OnOk};
+ghost use Rattle.std.specs.Prelude.{◌≡◌, ◌+◌, ◌<◌, ◌≤◌, ◌/◌, ◌%◌, [], ◌∷◌, ◌++◌, length, slice_set, if◌then◌else◌, IsTrue, IfErr, IfOk, OnErr, OnOk};
 ghost use Rattle.mysql_packet.specs.Frames.{packet};
 ghost use Rattle.std.specs.List.{concat};
 ghost use Rattle.resultset.specs.Chunks.{AreChunks};
+ghost use Rattle.resultset.specs.inner.Parts.{part_payload, open_packet};
 
+use crate::parts::Part;
 use std::alloc::Global;
 use std::marker::Model;
 use std::mem;
@@ -58,6 +60,10 @@ impl Chunks {
         ensures memory { IfErr result (λ e. e ≡ Refusal.OutOfMemory) }
     {
         let Chunks { chunks: mut more } = filling.into_chunks()?;
+        if self.chunks.is_empty() {
+            self.chunks = more;
+            return Ok(());
+        }
         self.chunks.append(&mut more)?;
         Ok(())
     }
@@ -113,22 +119,18 @@ impl Filling {
         Ok(())
     }
 
-    /// Appends the packet of a short payload if the present chunk has room for all of it. Tells whether it has. Refuses only for want of
-    /// memory.
-    pub(crate) fn put_packet(&mut self, number: u8, payload: &[u8]) -> Result<bool, Refusal>
-        ensures put { IfOk result (λ put. self.new ≡ (if put then self.old ++ packet number payload.now else self.old)) }
-        ensures short { IfOk result (λ put. IsTrue put → length payload.now < 16384) }
+    /// Appends the packet of a part, encoded straight into the present chunk, if this has room for all of it. Tells whether it has. Refuses
+    /// only for want of memory.
+    pub(crate) fn put_part(&mut self, number: u8, part: &Part) -> Result<bool, Refusal>
+        ensures put { IfOk result (λ put. self.new ≡ (if put then self.old ++ packet number (part_payload part.now) else self.old)) }
+        ensures short { IfOk result (λ put. IsTrue put → length (part_payload part.now) < 16384) }
         ensures err { IfErr result (λ e. e ≡ Refusal.OutOfMemory) }
     {
-        let room = CHUNK_LIMIT - self.last.len();
-        let length = payload.len();
-        if room < 4 || length > room - 4 {
+        // what is longer than this tells is taken back, but the chunk has then grown past its limit
+        if part.room() > CHUNK_LIMIT - self.last.len() {
             return Ok(false);
         }
-        let header = [(length % 256) as u8, (length / 256) as u8, 0, number];
-        self.last.extend_from_slice(&header)?;
-        self.last.extend_from_slice(payload)?;
-        Ok(true)
+        put_within(number, part, &mut self.last)
     }
 
     /// Its chunks. Refuses only for want of memory.
@@ -143,5 +145,51 @@ impl Filling {
         let mut chunks = full;
         chunks.push(Items::from_vec(last))?;
         Ok(Chunks { chunks })
+    }
+}
+
+/// Appends a part's packet with 0 as its length.
+fn put_open(number: u8, part: &Part, out: &mut Vec<u8>) -> Result<(), Refusal>
+    ensures ok { OnOk result (out.new.items ≡ out.old.items ++ open_packet number (part_payload part.now)) }
+    ensures err { IfErr result (λ e. e ≡ Refusal.OutOfMemory) }
+{
+    out.extend_from_slice(&[0, 0, 0, number])?;
+    part.put(out)
+}
+
+/// Writes the length of a payload into the header that begins at this place.
+fn set_length(at: usize, size: usize, out: &mut Vec<u8>)
+    requires room { at + 4 ≤ length out.old.items }
+    requires short { size < 16384 }
+    ensures { out.new.items ≡ slice_set (slice_set out.old.items at (size % 256)) (at + 1) (size / 256) }
+{
+    out[at] = (size % 256) as u8;
+    out[at + 1] = (size / 256) as u8;
+}
+
+/// Appends a part's packet, if the bytes are then no more than a chunk may have; else they stay as they were. Tells whether it did.
+fn put_within(number: u8, part: &Part, out: &mut Vec<u8>) -> Result<bool, Refusal>
+    requires { length out.old.items ≤ 16384 }
+    ensures put { IfOk result (λ put. out.new.items ≡ (if put then out.old.items ++ packet number (part_payload part.now) else out.old.items)) }
+    ensures short { IfOk result (λ put. IsTrue put → length (part_payload part.now) < 16384) }
+    ensures within { length out.new.items ≤ 16384 }
+    ensures err { IfErr result (λ e. e ≡ Refusal.OutOfMemory) }
+{
+    let start = out.len();
+    let opened = put_open(number, part, out);
+    let end = out.len();
+    match opened {
+        Ok(()) => {
+            if end > CHUNK_LIMIT {
+                out.truncate(start);
+                return Ok(false);
+            }
+            set_length(start, end - start - 4, out);
+            Ok(true)
+        }
+        Err(refusal) => {
+            out.truncate(start);
+            Err(refusal)
+        }
     }
 }

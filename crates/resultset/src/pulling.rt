@@ -3,10 +3,12 @@ ghost use Rattle.std.specs.Prelude.{◌≡◌, ◌++◌, map, IfErr, IfOk, OnErr
 ghost use Rattle.std.specs.List.{concat};
 ghost use Rattle.mysql_packet.specs.Frames.{frame, frames_from, number_after, number_after_all};
 ghost use Rattle.resultset.specs.Chunks.{AreChunks};
-ghost use Rattle.resultset.specs.Encoding.{row_payload, set_payloads, payloads_of, encoded};
+ghost use Rattle.resultset.specs.Encoding.{row_payload, definition_payload, after_definitions, after_rows, set_payloads, payloads_of, encoded};
+ghost use Rattle.resultset.specs.inner.Heads.{head_payloads};
+ghost use Rattle.resultset.specs.inner.Parts.{part_payload};
 
 use crate::chunks::{Chunks, Filling};
-use crate::writing::{PAYLOAD_ROOM, put_head, put_row, put_rows_end};
+use crate::parts::Part;
 use crate::{Column, Outcome, SetEnd};
 use bytes::BytesMut;
 use mysql_packet::put_payload;
@@ -60,45 +62,114 @@ fn fill<R: Operator>(
         ≡ number_after_all number (set_payloads end (record { columns = columns.now; rows = R.to_come rows.old }) status)) }
     ensures err { IfErr result (λ e. e ≡ Refusal.OutOfMemory) }
 {
-    let mut payload = Vec::with_capacity(alloc, PAYLOAD_ROOM)?;
-    let mut packets = BytesMut::with_capacity(alloc, PAYLOAD_ROOM)?;
-    let number = put_head(columns, number, status, end, &mut payload, &mut packets)?;
-    filling.append(alloc, packets.as_slice())?;
-    let number = fill_rows(alloc, rows, number, &mut payload, &mut packets, filling)?;
-    packets.clear();
-    let number = put_rows_end(number, status, end, &mut packets)?;
-    filling.append(alloc, packets.as_slice())?;
-    Ok(number)
+    let number = fill_head(alloc, columns, number, status, end, filling)?;
+    let number = fill_rows(alloc, rows, number, filling)?;
+    fill_rows_end(alloc, number, status, end, filling)
 }
 
-/// Appends the packets of one payload: straight to the present chunk if they fit it. The packets are scratch, for their memory.
-fn fill_payload(
-    alloc: Global,
-    payload: &[u8],
-    number: u8,
-    packets: &mut BytesMut,
-    filling: &mut Filling,
-) -> Result<u8, Refusal>
-    ensures ok { OnOk result (filling.new ≡ filling.old ++ frame number payload.now) }
-    ensures next { IfOk result (λ n. n ≡ number_after number payload.now) }
+/// Appends the packets of a part that the present chunk has no room for.
+fn fill_long(alloc: Global, part: &Part, number: u8, filling: &mut Filling) -> Result<u8, Refusal>
+    ensures ok { OnOk result (filling.new ≡ filling.old ++ frame number (part_payload part.now)) }
+    ensures next { IfOk result (λ n. n ≡ number_after number (part_payload part.now)) }
     ensures err { IfErr result (λ e. e ≡ Refusal.OutOfMemory) }
 {
-    if filling.put_packet(number, payload)? {
-        return Ok(number.wrapping_add(1));
-    }
-    packets.clear();
-    let next = put_payload(number, payload, packets)?;
+    let mut payload = Vec::new(alloc);
+    part.put(&mut payload)?;
+    let mut packets = BytesMut::new(alloc);
+    let next = put_payload(number, &payload, &mut packets)?;
     filling.append(alloc, packets.as_slice())?;
     Ok(next)
 }
 
-/// Appends a packet for each row that is still to come. The payload and the packets are scratch, for their memory.
+/// Appends the packets of a part: straight to the present chunk if this has room for them.
+fn fill_part(alloc: Global, part: &Part, number: u8, filling: &mut Filling) -> Result<u8, Refusal>
+    ensures ok { OnOk result (filling.new ≡ filling.old ++ frame number (part_payload part.now)) }
+    ensures next { IfOk result (λ n. n ≡ number_after number (part_payload part.now)) }
+    ensures err { IfErr result (λ e. e ≡ Refusal.OutOfMemory) }
+{
+    if filling.put_part(number, part)? {
+        return Ok(number.wrapping_add(1));
+    }
+    fill_long(alloc, part, number, filling)
+}
+
+/// Appends a packet for each definition.
+fn fill_definitions(
+    alloc: Global,
+    columns: &[Column],
+    number: u8,
+    filling: &mut Filling,
+) -> Result<u8, Refusal>
+    ensures ok { OnOk result (filling.new ≡ filling.old ++ frames_from number (map definition_payload columns.now)) }
+    ensures next { IfOk result (λ n. n ≡ number_after_all number (map definition_payload columns.now)) }
+    ensures err { IfErr result (λ e. e ≡ Refusal.OutOfMemory) }
+{
+    let mut next = number;
+    for column in columns {
+        next = fill_part(alloc, &Part::Definition(column), next, filling)?;
+    }
+    Ok(next)
+}
+
+/// Appends what comes after the definitions.
+fn fill_definitions_end(
+    alloc: Global,
+    number: u8,
+    status: u16,
+    end: SetEnd,
+    filling: &mut Filling,
+) -> Result<u8, Refusal>
+    ensures ok { OnOk result (filling.new ≡ filling.old ++ frames_from number (after_definitions end status)) }
+    ensures next { IfOk result (λ n. n ≡ number_after_all number (after_definitions end status)) }
+    ensures err { IfErr result (λ e. e ≡ Refusal.OutOfMemory) }
+{
+    match end {
+        SetEnd::EofPackets => fill_part(alloc, &Part::Eof(status), number, filling),
+        SetEnd::OkPacket => Ok(number),
+    }
+}
+
+/// Appends what comes after the rows.
+fn fill_rows_end(
+    alloc: Global,
+    number: u8,
+    status: u16,
+    end: SetEnd,
+    filling: &mut Filling,
+) -> Result<u8, Refusal>
+    ensures ok { OnOk result (filling.new ≡ filling.old ++ frame number (after_rows end status)) }
+    ensures next { IfOk result (λ n. n ≡ number_after number (after_rows end status)) }
+    ensures err { IfErr result (λ e. e ≡ Refusal.OutOfMemory) }
+{
+    match end {
+        SetEnd::EofPackets => fill_part(alloc, &Part::Eof(status), number, filling),
+        SetEnd::OkPacket => fill_part(alloc, &Part::SetEnd(status), number, filling),
+    }
+}
+
+/// Appends what stands in front of the rows.
+fn fill_head(
+    alloc: Global,
+    columns: &[Column],
+    number: u8,
+    status: u16,
+    end: SetEnd,
+    filling: &mut Filling,
+) -> Result<u8, Refusal>
+    ensures ok { OnOk result (filling.new ≡ filling.old ++ frames_from number (head_payloads end columns.now status)) }
+    ensures next { IfOk result (λ n. n ≡ number_after_all number (head_payloads end columns.now status)) }
+    ensures err { IfErr result (λ e. e ≡ Refusal.OutOfMemory) }
+{
+    let number = fill_part(alloc, &Part::Count(columns.len()), number, filling)?;
+    let number = fill_definitions(alloc, columns, number, filling)?;
+    fill_definitions_end(alloc, number, status, end, filling)
+}
+
+/// Appends a packet for each row that is still to come.
 fn fill_rows<R: Operator>(
     alloc: Global,
     rows: &mut R,
     number: u8,
-    payload: &mut Vec<u8>,
-    packets: &mut BytesMut,
     filling: &mut Filling,
 ) -> Result<u8, Refusal>
     ensures ok { OnOk result (filling.new ≡ filling.old ++ frames_from number (map row_payload (R.to_come rows.old))) }
@@ -107,9 +178,7 @@ fn fill_rows<R: Operator>(
 {
     let mut next = number;
     while let Some(row) = rows.next(alloc)? {
-        payload.clear();
-        put_row(row.as_slice(), payload)?;
-        next = fill_payload(alloc, payload, next, packets, filling)?;
+        next = fill_part(alloc, &Part::Row(row.as_slice()), next, filling)?;
     }
     Ok(next)
 }

@@ -197,7 +197,7 @@ fn put_rows(
     Ok(next)
 }
 
-fn put_definition(column: &Column, payload: &mut Vec<u8>) -> Result<(), Refusal>
+pub(crate) fn put_definition(column: &Column, payload: &mut Vec<u8>) -> Result<(), Refusal>
     ensures ok { OnOk result (payload.new.items ≡ payload.old.items ++ definition_payload column.now) }
     ensures memory { IfErr result (λ e. e ≡ Refusal.OutOfMemory) }
 {

@@ -1,0 +1,95 @@
+//! What the packets of a result set carry, one each.
+ghost use Rattle.std.specs.Prelude.{◌≡◌, ◌++◌, IfErr, OnOk};
+ghost use Rattle.resultset.specs.inner.Parts.{part_payload};
+
+use crate::Column;
+use crate::writing::{put_definition, put_row};
+use mysql_message::numbers::put_length_encoded;
+use mysql_message::{eof_payload, set_end_payload};
+use vt_value::{Refusal, Value};
+
+/// What one packet of a result set carries.
+#[derive(Clone, Copy)]
+pub(crate) enum Part<'a> {
+    /// How many columns there are.
+    Count(usize),
+    Definition(&'a Column),
+    Row(&'a [Value]),
+    /// What comes after the definitions, or after the rows: the status.
+    Eof(u16),
+    /// What comes after the rows if there are no EOF packets: the status.
+    SetEnd(u16),
+}
+
+/// The room that is made for a header, a number of columns or an end.
+const SHORT_ROOM: usize = 16;
+
+/// The room that is made for a header, the fixed fields of a definition and the lengths of its names.
+const DEFINITION_ROOM: usize = 72;
+
+/// The bytes that a number takes at most, with its length: its sign and 39 digits.
+const NUMBER_ROOM: usize = 41;
+
+/// The bytes that the length of a text takes at most.
+const LENGTH_ROOM: usize = 9;
+
+// How many bytes a row takes at most, with its header.
+fn row_room(row: &[Value]) -> usize {
+    let mut room = SHORT_ROOM;
+    for value in row {
+        let more = match value {
+            Value::Null => 1,
+            Value::Int(_) => NUMBER_ROOM,
+            Value::Bytes(text) => text.len().saturating_add(LENGTH_ROOM),
+        };
+        room = room.saturating_add(more);
+    }
+    room
+}
+
+// How many bytes a definition takes at most, with its header.
+fn definition_room(column: &Column) -> usize {
+    let schema = column.schema.as_slice().len();
+    let table = column.table.as_slice().len().saturating_mul(2);
+    let name = column.name.as_slice().len();
+    let org_name = column.org_name.as_slice().len();
+    let names = schema.saturating_add(table);
+    let of_column = name.saturating_add(org_name);
+    names
+        .saturating_add(of_column)
+        .saturating_add(DEFINITION_ROOM)
+}
+
+impl<'a> Part<'a> {
+    /// How many bytes its packet takes at most.
+    pub(crate) fn room(&self) -> usize {
+        match self {
+            Part::Row(row) => row_room(row),
+            Part::Definition(column) => definition_room(column),
+            _ => SHORT_ROOM,
+        }
+    }
+
+    /// Appends its payload.
+    pub(crate) fn put(&self, out: &mut Vec<u8>) -> Result<(), Refusal>
+        ensures ok { OnOk result (out.new.items ≡ out.old.items ++ part_payload self.now) }
+        ensures err { IfErr result (λ e. e ≡ Refusal.OutOfMemory) }
+    {
+        match self {
+            Part::Row(row) => put_row(row, out),
+            Part::Definition(column) => put_definition(column, out),
+            Part::Count(count) => {
+                put_length_encoded(*count as u64, out)?;
+                Ok(())
+            }
+            Part::Eof(status) => {
+                out.extend_from_slice(&eof_payload(*status))?;
+                Ok(())
+            }
+            Part::SetEnd(status) => {
+                out.extend_from_slice(&set_end_payload(*status))?;
+                Ok(())
+            }
+        }
+    }
+}
