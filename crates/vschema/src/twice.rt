@@ -16,10 +16,19 @@ fn columns_of(alloc: Global, assignments: &[Assignment<Name>]) -> Result<Vec<&[u
     Ok(texts)
 }
 
-/// Whether SET names a column twice. Refuses only for want of memory.
-pub fn sets_twice(alloc: Global, assignments: &[Assignment<Name>]) -> Result<bool, AllocError>
+fn is_column_twice(alloc: Global, assignments: &[Assignment<Name>]) -> Result<bool, AllocError>
     ensures { IfOk result (λ twice. twice ≡ sets_twice assignments.now) }
 {
     let texts = columns_of(alloc, assignments)?;
     is_one_twice(alloc, &texts)
+}
+
+/// Whether SET names a column twice. Refuses only for want of memory, and takes none for one column.
+pub fn sets_twice(alloc: Global, assignments: &[Assignment<Name>]) -> Result<bool, AllocError>
+    ensures { IfOk result (λ twice. twice ≡ sets_twice assignments.now) }
+{
+    match assignments {
+        [_] => Ok(false),
+        _ => is_column_twice(alloc, assignments),
+    }
 }
