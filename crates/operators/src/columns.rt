@@ -42,8 +42,8 @@ fn are_in_turn(ordinals: &[usize]) -> bool
     true
 }
 
-// Whether all values of a row are at these ordinals, in their order.
-fn shows_whole(ordinals: &[usize], row: &Row) -> bool
+/// Whether all values of a row are at these ordinals, in their order, so that the row can be passed on as it is.
+pub fn shows_whole(ordinals: &[usize], row: &Row) -> bool
     ensures { result ≡ true → columns_of ordinals.now row.now ≡ row.now }
 {
     ordinals.len() == row.len() && are_in_turn(ordinals)

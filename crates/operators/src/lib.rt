@@ -10,7 +10,7 @@ mod slicing;
 mod sorting;
 mod stored;
 
-pub use columns::{Project, project_row};
+pub use columns::{Project, project_row, shows_whole};
 pub use concatenation::Concat;
 pub use merging::MergeSort;
 pub use pulling::{Operator, collect};

@@ -1,12 +1,12 @@
 //! The finish of a query, over the rows that its pieces gave.
-ghost use Rattle.std.specs.Prelude.{◌≡◌, All, None, IsSorted, IfOk, IfErr, map, flat_map};
+ghost use Rattle.std.specs.Prelude.{◌≡◌, All, None, IsSorted, IsTrue, IfOk, IfErr, map, flat_map};
 ghost use Rattle.operators.specs.Orders.{row_cmp};
 ghost use Rattle.operators.specs.Slices.{sliced, columns_of};
 ghost use Rattle.planner.specs.Plans.{joined_by, CanJoin, Finishes};
 
 use crate::copies::copy_ordinals;
 use crate::plans::Finish;
-use operators::{Concat, Limit, MergeSort, Operator, Project, collect};
+use operators::{Concat, Limit, MergeSort, Operator, Project, Rows, collect, shows_whole};
 use sql_eval::show;
 use std::alloc::Global;
 use vt_value::{Items, Refusal, Row};
@@ -60,6 +60,37 @@ impl Finish {
         let columns = copy_ordinals(alloc, self.columns.as_slice())?;
         let merge = MergeSort::new(alloc, pieces, self.order_by.as_slice())?;
         slice(alloc, merge, self.limit, columns)
+    }
+
+    /// Whether the answer of these rows, of which there is one at most, is these rows as they are.
+    fn shows_as_they_are(&self, rows: &[Row]) -> bool
+        ensures plain { IsTrue result → self.now.grouping ≡ None }
+        ensures unsliced { IsTrue result → self.now.limit ≡ None }
+        ensures whole { IsTrue result → map (columns_of self.now.columns) rows.now ≡ rows.now }
+    {
+        if self.grouping.is_some() || self.limit.is_some() {
+            return false;
+        }
+        match rows {
+            [] => true,
+            [row] => shows_whole(self.columns.as_slice(), row),
+            _ => false,
+        }
+    }
+
+    /// What `answer_in_order` gives of one piece with these rows. One row that is shown as it is isn't copied. Refuses only for want of memory.
+    pub fn answer_alone(&self, alloc: Global, rows: Items<Row>) -> Result<Items<Row>, Refusal>
+        requires fit { CanJoin self.now.grouping rows }
+        requires order { self.now.grouping ≡ None → IsSorted (row_cmp self.now.order_by) rows }
+        ensures ok { IfOk result (Finishes self.now rows) }
+        ensures err { IfErr result (λ e. e ≡ Refusal.OutOfMemory) }
+    {
+        if self.shows_as_they_are(rows.as_slice()) {
+            return Ok(rows);
+        }
+        let mut pieces = Vec::with_capacity(alloc, 1)?;
+        pieces.push(Rows::new(alloc, rows)?)?;
+        self.answer_in_order(alloc, pieces)
     }
 
     /// The rows of the pieces, or their groups.
