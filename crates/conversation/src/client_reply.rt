@@ -7,12 +7,12 @@ use vt_value::{Items, Refusal};
 
 /// A result set whose rows are still to be shown. Contracts see the result set.
 #[derive(Drop)]
-pub struct ShownSet {
-    pub columns: Items<Column>,
+pub struct ShownSet<'e> {
+    pub columns: Items<Column<'e>>,
     pub rows: ShownRows,
 }
 
-impl Model for ShownSet {
+impl<'e> Model for ShownSet<'e> {
     ghost use Rattle.resultset.specs.declared.ResultSet.{ResultSet};
 
     ghost Value = { ResultSet };
@@ -22,19 +22,19 @@ impl Model for ShownSet {
 
 /// An outcome whose rows are still to be shown.
 #[derive(Drop)]
-pub enum ClientReplyKind {
-    Rows(ShownSet),
+pub enum ClientReplyKind<'e> {
+    Rows(ShownSet<'e>),
     Count(u64),
     Refused(Refusal),
 }
 
 /// What a statement gives its client. Contracts see the outcome.
 #[derive(Drop)]
-pub struct ClientReply {
-    pub reply_kind: ClientReplyKind,
+pub struct ClientReply<'e> {
+    pub reply_kind: ClientReplyKind<'e>,
 }
 
-impl Model for ClientReply {
+impl<'e> Model for ClientReply<'e> {
     ghost use Rattle.resultset.specs.declared.Outcome.{Outcome};
     ghost use Rattle.conversation.specs.inner.Tellings.{outcome_of_reply};
 

@@ -3,9 +3,9 @@ ghost use Rattle.std.specs.Prelude.{◌≡◌, ◌==◌, IfOk, IfErr, Some, None
 ghost use Rattle.std.specs.List.{list_any};
 ghost use Rattle.vschema.specs.Schema.{no_table};
 ghost use Rattle.sql_tree.specs.Printing.{item_text};
-ghost use Rattle.conversation.specs.Columns.{shown_kind, base_flags, flags_of, no_keyspace, no_column, column_at, Defines, DefinesAt, name_at, named_item, item_kind, item_flags, DefinesAggregate, owner_of, DefinesItem, AllDefined, AreColumns};
+ghost use Rattle.conversation.specs.Columns.{shown_kind, base_flags, flags_of, no_keyspace, no_column, column_at, Defines, DefinesAt, name_at, named_item, item_kind, item_flags, DefinesAggregate, owner_of, DefinesItem, AreColumns};
 
-use resultset::{Column as ResultColumn, Kind};
+use resultset::{Column as ResultColumn, ColumnText, Kind};
 use sql_tree::{ColumnName, Item, Name, print_item};
 use std::alloc::Global;
 use vschema::{Column, ColumnType, Columns, Join, Table, VSchema};
@@ -66,24 +66,22 @@ fn copy_name(alloc: Global, name: &[u8]) -> Result<Name, Refusal>
     Ok(copied)
 }
 
-fn define(
-    alloc: Global,
-    schema: &VSchema,
-    table: &Table,
+fn define<'e>(
+    schema: &'e VSchema,
+    table: &'e Table,
     ordinal: usize,
-    column: &Column,
-) -> Result<ResultColumn, Refusal>
-    ensures ok { IfOk result (Defines schema.now table.now ordinal column.now) }
-    ensures err { IfErr result (λ e. e ≡ Refusal.OutOfMemory) }
+    column: &'e Column,
+) -> ResultColumn<'e>
+    ensures { Defines schema.now table.now ordinal column.now result }
 {
-    Ok(ResultColumn {
-        schema: copy_name(alloc, keyspace_name(schema, table))?,
-        table: copy_name(alloc, table.name.as_slice())?,
-        name: copy_name(alloc, column.name.as_slice())?,
-        org_name: copy_name(alloc, column.name.as_slice())?,
+    ResultColumn {
+        schema: ColumnText::lent(keyspace_name(schema, table)),
+        table: ColumnText::lent(table.name.as_slice()),
+        name: ColumnText::lent(column.name.as_slice()),
+        org_name: ColumnText::lent(column.name.as_slice()),
         kind: kind_of(column.kind),
         flags: flags_of(table, ordinal, column),
-    })
+    }
 }
 
 fn missing_column(alloc: Global) -> Column
@@ -108,18 +106,39 @@ fn missing_table(alloc: Global) -> Table
     }
 }
 
-fn define_at(
+// The definition of a column that isn't there.
+fn define_missing<'e>(
     alloc: Global,
-    schema: &VSchema,
+    schema: &'e VSchema,
     table: &Table,
+    name: &'e [u8],
     ordinal: usize,
-) -> Result<ResultColumn, Refusal>
-    ensures ok { IfOk result (DefinesAt schema.now table.now ordinal) }
-    ensures err { IfErr result (λ e. e ≡ Refusal.OutOfMemory) }
+) -> ResultColumn<'e>
+    requires { name.now ≡ table.now.name }
+    ensures { Defines schema.now table.now ordinal no_column result }
+{
+    let column = missing_column(alloc);
+    ResultColumn {
+        schema: ColumnText::lent(keyspace_name(schema, table)),
+        table: ColumnText::lent(name),
+        name: ColumnText::lent(&[]),
+        org_name: ColumnText::lent(&[]),
+        kind: kind_of(column.kind),
+        flags: flags_of(table, ordinal, &column),
+    }
+}
+
+fn define_at<'e>(
+    alloc: Global,
+    schema: &'e VSchema,
+    table: &'e Table,
+    ordinal: usize,
+) -> ResultColumn<'e>
+    ensures { DefinesAt schema.now table.now ordinal result }
 {
     match table.columns.as_slice().get(ordinal) {
-        Some(column) => define(alloc, schema, table, ordinal, column),
-        None => define(alloc, schema, table, ordinal, &missing_column(alloc)),
+        Some(column) => define(schema, table, ordinal, column),
+        None => define_missing(alloc, schema, table, table.name.as_slice(), ordinal),
     }
 }
 
@@ -243,73 +262,90 @@ fn define_aggregate(
     table: &Table,
     qualified: bool,
     item: &Item<usize>,
-) -> Result<ResultColumn, Refusal>
+) -> Result<ResultColumn<'static>, Refusal>
     ensures ok { IfOk result (DefinesAggregate table.now qualified item.now) }
     ensures err { IfErr result (λ e. e ≡ Refusal.OutOfMemory) }
 {
     let printed = printed_item(alloc, table, qualified, item)?;
     Ok(ResultColumn {
-        schema: Items::new(alloc),
-        table: Items::new(alloc),
-        name: Items::from_vec(printed),
-        org_name: Items::new(alloc),
+        schema: ColumnText::lent(&[]),
+        table: ColumnText::lent(&[]),
+        name: ColumnText::own(Items::from_vec(printed)),
+        org_name: ColumnText::lent(&[]),
         kind: item_kind(table, item),
         flags: item_flags(table, item),
     })
 }
 
-fn define_second(
+// `define_aggregate` over the table with an ordinal in the VSchema.
+fn define_aggregate_of(
     alloc: Global,
     schema: &VSchema,
     table: usize,
-    ordinal: usize,
-) -> Result<ResultColumn, Refusal>
-    ensures ok { IfOk result (DefinesAt schema.now (slice_index_or schema.now.tables table no_table) ordinal) }
+    qualified: bool,
+    item: &Item<usize>,
+) -> Result<ResultColumn<'static>, Refusal>
+    ensures ok { IfOk result (DefinesAggregate (slice_index_or schema.now.tables table no_table) qualified item.now) }
     ensures err { IfErr result (λ e. e ≡ Refusal.OutOfMemory) }
 {
     match schema.tables.as_slice().get(table) {
+        Some(table) => define_aggregate(alloc, table, qualified, item),
+        None => define_aggregate(alloc, &missing_table(alloc), qualified, item),
+    }
+}
+
+// The definition of the column at an ordinal of the table with an ordinal in the VSchema.
+fn define_of<'e>(
+    alloc: Global,
+    schema: &'e VSchema,
+    table: usize,
+    ordinal: usize,
+) -> ResultColumn<'e>
+    ensures { DefinesAt schema.now (slice_index_or schema.now.tables table no_table) ordinal result }
+{
+    match schema.tables.as_slice().get(table) {
         Some(table) => define_at(alloc, schema, table, ordinal),
-        None => define_at(alloc, schema, &missing_table(alloc), ordinal),
+        None => define_missing(alloc, schema, &missing_table(alloc), &[], ordinal),
     }
 }
 
 // The definition of the column at an ordinal of the rows of a table, or of its pairs with another's.
-fn define_shown(
+fn define_shown<'e>(
     alloc: Global,
-    schema: &VSchema,
-    table: &Table,
+    schema: &'e VSchema,
+    table: usize,
     join: Option<Join>,
     ordinal: usize,
-) -> Result<ResultColumn, Refusal>
-    ensures ok { IfOk result (DefinesAt schema.now (owner_of schema.now table.now join ordinal).0 (owner_of schema.now table.now join ordinal).1) }
-    ensures err { IfErr result (λ e. e ≡ Refusal.OutOfMemory) }
+) -> ResultColumn<'e>
+    ensures { DefinesAt schema.now (owner_of schema.now (slice_index_or schema.now.tables table no_table) join ordinal).0
+        (owner_of schema.now (slice_index_or schema.now.tables table no_table) join ordinal).1 result }
 {
     match join {
-        None => define_at(alloc, schema, table, ordinal),
+        None => define_of(alloc, schema, table, ordinal),
         Some(join) => {
             if ordinal < join.width {
-                define_at(alloc, schema, table, ordinal)
+                define_of(alloc, schema, table, ordinal)
             } else {
-                define_second(alloc, schema, join.table, ordinal - join.width)
+                define_of(alloc, schema, join.table, ordinal - join.width)
             }
         }
     }
 }
 
-fn define_item(
+fn define_item<'e>(
     alloc: Global,
-    schema: &VSchema,
-    table: &Table,
+    schema: &'e VSchema,
+    table: usize,
     join: Option<Join>,
     qualified: bool,
     item: &Item<usize>,
-) -> Result<ResultColumn, Refusal>
-    ensures ok { IfOk result (DefinesItem schema.now table.now join qualified item.now) }
+) -> Result<ResultColumn<'e>, Refusal>
+    ensures ok { IfOk result (DefinesItem schema.now (slice_index_or schema.now.tables table no_table) join qualified item.now) }
     ensures err { IfErr result (λ e. e ≡ Refusal.OutOfMemory) }
 {
     match item {
-        Item::Column(ordinal) => define_shown(alloc, schema, table, join, *ordinal),
-        _ => define_aggregate(alloc, table, qualified, item),
+        Item::Column(ordinal) => Ok(define_shown(alloc, schema, table, join, *ordinal)),
+        _ => define_aggregate_of(alloc, schema, table, qualified, item),
     }
 }
 
@@ -322,41 +358,24 @@ fn flag_at(flags: &[bool], ordinal: usize) -> bool
     }
 }
 
-fn define_all(
+/// The definitions of the columns that these items are, of the table with an ordinal in the VSchema or of its pairs with another. `qualified` tells
+/// for each whether it was written with its table's name. Names of the VSchema are lent.
+pub fn columns_of<'e>(
     alloc: Global,
-    schema: &VSchema,
-    table: &Table,
+    schema: &'e VSchema,
+    table: usize,
     join: Option<Join>,
-    wanted: &[Item<usize>],
+    items: &[Item<usize>],
     qualified: &[bool],
-) -> Result<Items<ResultColumn>, Refusal>
-    ensures ok { IfOk result (AllDefined schema.now table.now join qualified.now 0 wanted.now) }
+) -> Result<Items<ResultColumn<'e>>, Refusal>
+    ensures ok { IfOk result (AreColumns schema.now table join items.now qualified.now) }
     ensures err { IfErr result (λ e. e ≡ Refusal.OutOfMemory) }
 {
-    let mut columns = Items::new(alloc);
-    for item in wanted {
+    let mut columns = Items::from_vec(Vec::with_capacity(alloc, items.len())?);
+    for item in items {
         let named_whole = flag_at(qualified, columns.len());
         let column = define_item(alloc, schema, table, join, named_whole, item)?;
         columns.push(column)?;
     }
     Ok(columns)
-}
-
-/// The definitions of the columns that these items are, of the table at an ordinal of the VSchema or of its pairs with another. `qualified` tells
-/// for each whether it was written with its table's name.
-pub fn columns_of(
-    alloc: Global,
-    schema: &VSchema,
-    table: usize,
-    join: Option<Join>,
-    items: &[Item<usize>],
-    qualified: &[bool],
-) -> Result<Items<ResultColumn>, Refusal>
-    ensures ok { IfOk result (AreColumns schema.now table join items.now qualified.now) }
-    ensures err { IfErr result (λ e. e ≡ Refusal.OutOfMemory) }
-{
-    match schema.tables.as_slice().get(table) {
-        Some(table) => define_all(alloc, schema, table, join, items, qualified),
-        None => define_all(alloc, schema, &missing_table(alloc), join, items, qualified),
-    }
 }

@@ -13,7 +13,7 @@ use crate::connection_state::Settings;
 use crate::login::keyspace_named;
 use client_statements::{ClientAnswer, ClientStatement, Facts, answer};
 use operators::ShownRows;
-use resultset::{Column, Kind};
+use resultset::{Column, ColumnText, Kind};
 use sql_tree::Name;
 use std::alloc::{AllocError, Global};
 use vschema::VSchema;
@@ -44,7 +44,7 @@ pub fn turns_on(settings: Settings, statement: &ClientStatement) -> bool
 }
 
 /// A refusal as a client's reply.
-pub fn refused(refusal: Refusal) -> ClientReply
+pub fn refused(refusal: Refusal) -> ClientReply<'static>
     ensures { result ≡ Outcome.Refused refusal }
 {
     ClientReply {
@@ -53,7 +53,7 @@ pub fn refused(refusal: Refusal) -> ClientReply
 }
 
 /// That it is done.
-pub fn done() -> ClientReply
+pub fn done() -> ClientReply<'static>
     ensures { result ≡ Outcome.Count 0 }
 {
     ClientReply {
@@ -61,33 +61,33 @@ pub fn done() -> ClientReply
     }
 }
 
-fn text_column(alloc: Global, name: Name) -> Column
+fn text_column(name: Name) -> Column<'static>
     ensures { DefinesText name result }
 {
     Column {
-        schema: Items::new(alloc),
-        table: Items::new(alloc),
-        name,
-        org_name: Items::new(alloc),
+        schema: ColumnText::lent(&[]),
+        table: ColumnText::lent(&[]),
+        name: ColumnText::own(name),
+        org_name: ColumnText::lent(&[]),
         kind: Kind::VarBinary(255),
         flags: 128,
     }
 }
 
 /// The columns of texts that have these names.
-fn text_columns(alloc: Global, names: &[Name]) -> Result<Items<Column>, AllocError>
+fn text_columns(alloc: Global, names: &[Name]) -> Result<Items<Column<'static>>, AllocError>
     ensures { IfOk result (λ columns. AllTexts names.now columns) }
 {
     let mut columns = Items::new(alloc);
     for name in names {
         let name = Items::from_slice(alloc, name.as_slice())?;
-        columns.push(text_column(alloc, name))?;
+        columns.push(text_column(name))?;
     }
     Ok(columns)
 }
 
 /// Rows of texts as a client's reply.
-fn rows_reply(alloc: Global, names: &[Name], rows: Items<Row>) -> ClientReply
+fn rows_reply(alloc: Global, names: &[Name], rows: Items<Row>) -> ClientReply<'static>
     ensures { TellsAnswer (ClientAnswer.Rows names.now rows) result }
 {
     match text_columns(alloc, names) {
@@ -101,7 +101,7 @@ fn rows_reply(alloc: Global, names: &[Name], rows: Items<Row>) -> ClientReply
     }
 }
 
-fn reply_of_answer(alloc: Global, answer: ClientAnswer) -> ClientReply
+fn reply_of_answer(alloc: Global, answer: ClientAnswer) -> ClientReply<'static>
     ensures { TellsAnswer answer result }
 {
     match answer {
@@ -145,7 +145,7 @@ fn rows_answer(
     handshake: &Handshake,
     settings: Settings,
     statement: &ClientStatement,
-) -> ClientReply
+) -> ClientReply<'static>
     requires rows { has_client_answer statement.now ≡ true }
     ensures { TellsClient schema.now handshake.now settings statement.now result settings }
 {
@@ -157,7 +157,7 @@ fn rows_answer(
 }
 
 /// What SET gives, and what then holds for commands.
-fn set(settings: Settings, autocommit: Option<bool>) -> (ClientReply, Settings)
+fn set(settings: Settings, autocommit: Option<bool>) -> (ClientReply<'static>, Settings)
     requires { turns_on settings (ClientStatement.Set autocommit) ≡ false }
     ensures { (schema : VSchema) (handshake : Handshake) → TellsClient schema handshake settings (ClientStatement.Set autocommit) result.0 result.1 }
 {
@@ -168,7 +168,7 @@ fn set(settings: Settings, autocommit: Option<bool>) -> (ClientReply, Settings)
 }
 
 /// What USE gives, and what then holds for commands.
-fn used(schema: &VSchema, settings: Settings, name: &[u8]) -> (ClientReply, Settings)
+fn used(schema: &VSchema, settings: Settings, name: &[u8]) -> (ClientReply<'static>, Settings)
     ensures { (handshake : Handshake) → TellsClient schema.now handshake settings (ClientStatement.Use name.now) result.0 result.1 }
 {
     match keyspace_named(schema, name) {
@@ -191,7 +191,7 @@ pub fn local_answer(
     handshake: &Handshake,
     settings: Settings,
     statement: &ClientStatement,
-) -> (ClientReply, Settings)
+) -> (ClientReply<'static>, Settings)
     requires begins { statement.now ≢ ClientStatement.Begin }
     requires turns_on { turns_on settings statement.now ≡ false }
     ensures { TellsClient schema.now handshake.now settings statement.now result.0 result.1 }

@@ -105,7 +105,7 @@ fn chunks_of(
     number: u8,
     status: u16,
 ) -> Result<Chunks, Refusal>
-    ensures ok { IfOk result (λ chunks. concat chunks ≡ encoded end (Outcome.Rows set) number status) }
+    ensures ok { IfOk result (λ chunks. concat chunks ≡ encoded end (Outcome.Rows set.entry) number status) }
     ensures err { IfErr result (λ e. e ≡ Refusal.OutOfMemory) }
 {
     let ShownSet { columns, rows } = set;
@@ -134,7 +134,7 @@ fn put_rows(
 ) -> Option<Chunks>
     requires empty { reply.old.items ≡ [] }
     requires room { REPLY_ROOM ≤ reply.old.spare }
-    ensures bytes { (reply_bytes result reply.new.items ≡ encoded end (Outcome.Rows set) number status)
+    ensures bytes { (reply_bytes result reply.new.items ≡ encoded end (Outcome.Rows set.entry) number status)
         ⊎ (reply_bytes result reply.new.items ≡ encoded end (Outcome.Refused Refusal.OutOfMemory) number status) }
     ensures room { REPLY_ROOM ≤ length reply.new.items + reply.new.spare }
 {
@@ -159,8 +159,8 @@ fn put_outcome(
 ) -> Option<Chunks>
     requires empty { reply.old.items ≡ [] }
     requires room { REPLY_ROOM ≤ reply.old.spare }
-    ensures bytes { (reply_bytes result reply.new.items ≡ encoded end outcome number status)
-        ⊎ (IsRows outcome × (reply_bytes result reply.new.items ≡ encoded end (Outcome.Refused Refusal.OutOfMemory) number status)) }
+    ensures bytes { (reply_bytes result reply.new.items ≡ encoded end outcome.entry number status)
+        ⊎ (IsRows outcome.entry × (reply_bytes result reply.new.items ≡ encoded end (Outcome.Refused Refusal.OutOfMemory) number status)) }
     ensures room { REPLY_ROOM ≤ length reply.new.items + reply.new.spare }
 {
     match outcome.reply_kind {

@@ -29,7 +29,11 @@ use std::thread::Threads;
 use vschema::VSchema;
 use vt_value::Refusal;
 
-fn result_set(alloc: Global, schema: &VSchema, selected: Selected) -> Result<ShownSet, Refusal>
+fn result_set<'e>(
+    alloc: Global,
+    schema: &'e VSchema,
+    selected: Selected,
+) -> Result<ShownSet<'e>, Refusal>
     ensures columns { IfOk result (λ set. AreColumns schema.now selected.table selected.join selected.items selected.qualified set.columns) }
     ensures rows { IfOk result (λ set. set.rows ≡ selected.rows) }
     ensures err { IfErr result (λ e. e ≡ Refusal.OutOfMemory) }
@@ -49,7 +53,7 @@ fn result_set(alloc: Global, schema: &VSchema, selected: Selected) -> Result<Sho
 }
 
 /// An answer as a client's reply, or, if there is no memory for rows, the refusal that says so.
-fn shown(alloc: Global, schema: &VSchema, answer: Answer) -> ClientReply
+fn shown<'e>(alloc: Global, schema: &'e VSchema, answer: Answer) -> ClientReply<'e>
     ensures { Shows schema.now answer result ⊎ (HasRows answer × (result ≡ Outcome.Refused Refusal.OutOfMemory)) }
 {
     match answer {
@@ -68,14 +72,14 @@ fn shown(alloc: Global, schema: &VSchema, answer: Answer) -> ClientReply
 }
 
 /// What the text of a statement gives its client.
-fn outcome_of<W: World + Send + Sync, J: Naming + Send + Sync, G: Gate>(
+fn outcome_of<'e, W: World + Send + Sync, J: Naming + Send + Sync, G: Gate>(
     rt: &(impl Threads + Wait + Sync),
     alloc: Global,
-    engine: &Engine<W, J, G>,
+    engine: &'e Engine<W, J, G>,
     pass: &mut ShardPass<W, J>,
     tx: &mut Tx<W, J>,
     text: &[u8],
-) -> ClientReply
+) -> ClientReply<'e>
     requires session { IsSome pass.old.session }
     requires tx { IsOf W.opening tx.old pass.old }
     ensures means { LeadsKept W.opening pass.old tx.old pass.new tx.new (λ s now. Means W.opening W.limits s text.now result now) }
@@ -117,14 +121,14 @@ fn run_command<W: World + Send + Sync, J: Naming + Send + Sync, G: Gate>(
 }
 
 /// What a text gives after BEGIN, or BEGIN's refusal.
-fn after_begin<W: World + Send + Sync, J: Naming + Send + Sync, G: Gate>(
+fn after_begin<'e, W: World + Send + Sync, J: Naming + Send + Sync, G: Gate>(
     rt: &(impl Threads + Wait + Sync),
     alloc: Global,
-    engine: &Engine<W, J, G>,
+    engine: &'e Engine<W, J, G>,
     pass: &mut ShardPass<W, J>,
     tx: &mut Tx<W, J>,
     text: &[u8],
-) -> ClientReply
+) -> ClientReply<'e>
     requires session { IsSome pass.old.session }
     requires tx { IsOf W.opening tx.old pass.old }
     requires closed { tx.old ≡ None }
@@ -135,7 +139,9 @@ fn after_begin<W: World + Send + Sync, J: Naming + Send + Sync, G: Gate>(
 {
     match run_command(rt, alloc, engine, pass, tx, b"BEGIN") {
         Ok(()) => outcome_of(rt, alloc, engine, pass, tx, text),
-        Err(why) => refused(why),
+        Err(why) => ClientReply {
+            reply_kind: ClientReplyKind::Refused(why),
+        },
     }
 }
 
@@ -188,15 +194,15 @@ fn opens_first<W: World, J: Naming>(
 }
 
 /// What a text gives that is run over the tables.
-fn run_text<W: World + Send + Sync, J: Naming + Send + Sync, G: Gate>(
+fn run_text<'e, W: World + Send + Sync, J: Naming + Send + Sync, G: Gate>(
     rt: &(impl Threads + Wait + Sync),
     alloc: Global,
-    engine: &Engine<W, J, G>,
+    engine: &'e Engine<W, J, G>,
     pass: &mut ShardPass<W, J>,
     tx: &mut Tx<W, J>,
     settings: Settings,
     text: &[u8],
-) -> ClientReply
+) -> ClientReply<'e>
     requires session { IsSome pass.old.session }
     requires tx { IsOf W.opening tx.old pass.old }
     ensures runs { (handshake : Handshake) → LeadsKept W.opening pass.old tx.old pass.new tx.new
@@ -207,19 +213,21 @@ fn run_text<W: World + Send + Sync, J: Naming + Send + Sync, G: Gate>(
     match opens_first(alloc, settings.autocommit, tx, text) {
         Ok(true) => after_begin(rt, alloc, engine, pass, tx, text),
         Ok(false) => outcome_of(rt, alloc, engine, pass, tx, text),
-        Err(why) => refused(why),
+        Err(why) => ClientReply {
+            reply_kind: ClientReplyKind::Refused(why),
+        },
     }
 }
 
 /// What turning autocommit on gives, and what then holds for commands. It commits an open transaction, and stays off if that is refused.
-fn turned_on<W: World + Send + Sync, J: Naming + Send + Sync, G: Gate>(
+fn turned_on<'e, W: World + Send + Sync, J: Naming + Send + Sync, G: Gate>(
     rt: &(impl Threads + Wait + Sync),
     alloc: Global,
-    engine: &Engine<W, J, G>,
+    engine: &'e Engine<W, J, G>,
     pass: &mut ShardPass<W, J>,
     tx: &mut Tx<W, J>,
     settings: Settings,
-) -> (ClientReply, Settings)
+) -> (ClientReply<'e>, Settings)
     requires session { IsSome pass.old.session }
     requires tx { IsOf W.opening tx.old pass.old }
     requires off { settings.autocommit ≡ false }
@@ -238,16 +246,16 @@ fn turned_on<W: World + Send + Sync, J: Naming + Send + Sync, G: Gate>(
 }
 
 /// What a statement gives that asks something of the server, and what then holds for commands.
-fn statement_outcome<W: World + Send + Sync, J: Naming + Send + Sync, G: Gate>(
+fn statement_outcome<'e, W: World + Send + Sync, J: Naming + Send + Sync, G: Gate>(
     rt: &(impl Threads + Wait + Sync),
     alloc: Global,
-    engine: &Engine<W, J, G>,
+    engine: &'e Engine<W, J, G>,
     pass: &mut ShardPass<W, J>,
     tx: &mut Tx<W, J>,
     handshake: &Handshake,
     settings: Settings,
     statement: &ClientStatement,
-) -> (ClientReply, Settings)
+) -> (ClientReply<'e>, Settings)
     requires session { IsSome pass.old.session }
     requires tx { IsOf W.opening tx.old pass.old }
     ensures gives { LeadsKept W.opening pass.old tx.old pass.new tx.new
@@ -256,29 +264,39 @@ fn statement_outcome<W: World + Send + Sync, J: Naming + Send + Sync, G: Gate>(
     ensures session { pass.new.session ≡ pass.old.session }
 {
     if turns_on(settings, statement) {
-        return turned_on(rt, alloc, engine, pass, tx, settings);
+        let (reply, then) = turned_on(rt, alloc, engine, pass, tx, settings);
+        return (reply, then);
     }
     match statement {
         ClientStatement::Begin => {
             let begun = outcome_of(rt, alloc, engine, pass, tx, b"BEGIN");
             (begun, settings)
         }
-        _ => local_answer(alloc, engine.schema(), handshake, settings, statement),
+        _ => {
+            let (reply, then) = local_answer(
+                alloc,
+                engine.schema(),
+                handshake,
+                settings,
+                statement,
+            );
+            (reply, then)
+        }
     }
 }
 
 /// What is given by what a text asks of the server, and what then holds for commands; if that is nothing, it is refused for why it wasn't run.
-fn answer_read<W: World + Send + Sync, J: Naming + Send + Sync, G: Gate>(
+fn answer_read<'e, W: World + Send + Sync, J: Naming + Send + Sync, G: Gate>(
     rt: &(impl Threads + Wait + Sync),
     alloc: Global,
-    engine: &Engine<W, J, G>,
+    engine: &'e Engine<W, J, G>,
     pass: &mut ShardPass<W, J>,
     tx: &mut Tx<W, J>,
     handshake: &Handshake,
     settings: Settings,
     why: Refusal,
     asks: &Option<ClientStatement>,
-) -> (ClientReply, Settings)
+) -> (ClientReply<'e>, Settings)
     requires session { IsSome pass.old.session }
     requires tx { IsOf W.opening tx.old pass.old }
     ensures gives { (text : List ℕ) → IsReading text asks.now → LeadsKept W.opening pass.old tx.old pass.new tx.new
@@ -295,17 +313,17 @@ fn answer_read<W: World + Send + Sync, J: Naming + Send + Sync, G: Gate>(
 }
 
 /// What a text gives that isn't run, and what then holds for commands: what it asks of the server, or its refusal.
-fn asked<W: World + Send + Sync, J: Naming + Send + Sync, G: Gate>(
+fn asked<'e, W: World + Send + Sync, J: Naming + Send + Sync, G: Gate>(
     rt: &(impl Threads + Wait + Sync),
     alloc: Global,
-    engine: &Engine<W, J, G>,
+    engine: &'e Engine<W, J, G>,
     pass: &mut ShardPass<W, J>,
     tx: &mut Tx<W, J>,
     handshake: &Handshake,
     settings: Settings,
     text: &[u8],
     why: Refusal,
-) -> (ClientReply, Settings)
+) -> (ClientReply<'e>, Settings)
     requires session { IsSome pass.old.session }
     requires tx { IsOf W.opening tx.old pass.old }
     ensures gives { LeadsKept W.opening pass.old tx.old pass.new tx.new
@@ -326,16 +344,16 @@ fn asked<W: World + Send + Sync, J: Naming + Send + Sync, G: Gate>(
 }
 
 /// What a text gives its client, and what then holds for commands.
-pub fn given<W: World + Send + Sync, J: Naming + Send + Sync, G: Gate>(
+pub fn given<'e, W: World + Send + Sync, J: Naming + Send + Sync, G: Gate>(
     rt: &(impl Threads + Wait + Sync),
     alloc: Global,
-    engine: &Engine<W, J, G>,
+    engine: &'e Engine<W, J, G>,
     pass: &mut ShardPass<W, J>,
     tx: &mut Tx<W, J>,
     handshake: &Handshake,
     settings: Settings,
     text: &[u8],
-) -> (ClientReply, Settings)
+) -> (ClientReply<'e>, Settings)
     requires session { IsSome pass.old.session }
     requires tx { IsOf W.opening tx.old pass.old }
     ensures gives { LeadsKept W.opening pass.old tx.old pass.new tx.new

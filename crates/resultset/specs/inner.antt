@@ -2,3 +2,4 @@ pub mod Flags
 pub mod Heads
 pub mod Reading
 pub mod Parts
+pub mod Texts

@@ -10,12 +10,15 @@ ghost use Rattle.resultset.specs.Encoding.{definition_payload, name_fields, fixe
 ghost use Rattle.resultset.specs.inner.Reading.{OnceRead};
 
 use crate::unread::Unread;
-use crate::{Column, Kind};
+use crate::{Column, ColumnText, Kind};
 use mysql_message::numbers::read_length_encoded_string;
 use std::alloc::Global;
 use vt_value::Items;
 
-pub(crate) fn columns(alloc: Global, payloads: &[Items<u8>]) -> Result<Items<Column>, Unread>
+pub(crate) fn columns(
+    alloc: Global,
+    payloads: &[Items<u8>],
+) -> Result<Items<Column<'static>>, Unread>
     ensures len { IfOk result (λ x. length x ≡ length payloads.now) }
     ensures again { (cs : List Column) → AllByRecursion (λ c. IsByteLong c.kind) cs
         → payloads.now ≡ map definition_payload cs → OnceRead result (λ x. x ≡ cs) }
@@ -27,19 +30,26 @@ pub(crate) fn columns(alloc: Global, payloads: &[Items<u8>]) -> Result<Items<Col
     Ok(columns)
 }
 
-fn column(alloc: Global, payload: &[u8]) -> Result<Column, Unread>
+fn column(alloc: Global, payload: &[u8]) -> Result<Column<'static>, Unread>
     ensures { (c : Column) → IsByteLong c.kind → payload.now ≡ definition_payload c → OnceRead result (λ x. x ≡ c) }
 {
     let (names, rest) = names_at(payload)?;
     let (kind, flags) = kind_at(rest)?;
     Ok(Column {
-        schema: Items::from_slice(alloc, names.schema)?,
-        table: Items::from_slice(alloc, names.table)?,
-        name: Items::from_slice(alloc, names.name)?,
-        org_name: Items::from_slice(alloc, names.org_name)?,
+        schema: owned(alloc, names.schema)?,
+        table: owned(alloc, names.table)?,
+        name: owned(alloc, names.name)?,
+        org_name: owned(alloc, names.org_name)?,
         kind,
         flags,
     })
+}
+
+/// A copy of a name.
+fn owned(alloc: Global, name: &[u8]) -> Result<ColumnText<'static>, Unread>
+    ensures { OnceRead result (λ x. x ≡ name.now) }
+{
+    Ok(ColumnText::own(Items::from_slice(alloc, name)?))
 }
 
 /// The names of a column definition.

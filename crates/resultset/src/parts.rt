@@ -13,7 +13,7 @@ use vt_value::{Refusal, Value};
 pub(crate) enum Part<'a> {
     /// How many columns there are.
     Count(usize),
-    Definition(&'a Column),
+    Definition(&'a Column<'a>),
     Row(&'a [Value]),
     /// What comes after the definitions, or after the rows: the status.
     Eof(u16),

@@ -31,7 +31,7 @@ pub fn decode(
     status: u16,
     end: SetEnd,
     bytes: &[u8],
-) -> Result<Option<Outcome>, Refusal>
+) -> Result<Option<Outcome<'static>>, Refusal>
     ensures found { IfOk result (λ o. IfSome o (λ x. IsResult x × Encodes end x number status bytes.now)) }
     ensures only { IfOk result (λ o. (x : Outcome) → IsResult x → IsTyped x → Encodes end x number status bytes.now
         → o ≡ Some x) }
@@ -52,7 +52,7 @@ pub fn decode(
 }
 
 /// The only result that the bytes may spell.
-fn read(alloc: Global, end: SetEnd, bytes: &[u8]) -> Result<Outcome, Unread>
+fn read(alloc: Global, end: SetEnd, bytes: &[u8]) -> Result<Outcome<'static>, Unread>
     ensures fits { IfOk result IsResult }
     ensures again { (x : Outcome) (number status : ℕ) → IsResult x → IsTyped x → Encodes end x number status bytes.now
         → OnceRead result (λ y. y ≡ x) }
@@ -69,7 +69,7 @@ fn read(alloc: Global, end: SetEnd, bytes: &[u8]) -> Result<Outcome, Unread>
     }
 }
 
-fn read_count(bytes: &[u8]) -> Result<Outcome, Unread>
+fn read_count(bytes: &[u8]) -> Result<Outcome<'static>, Unread>
     ensures fits { IfOk result IsResult }
     ensures again { (n : ℕ) (rest : List ℕ) → n < 2 ^ 64 → bytes.now ≡ length_encoded n ++ rest
         → OnceRead result (λ y. y ≡ Outcome.Count n) }
@@ -80,7 +80,7 @@ fn read_count(bytes: &[u8]) -> Result<Outcome, Unread>
     }
 }
 
-fn read_refusal(message: &[u8]) -> Result<Outcome, Unread>
+fn read_refusal(message: &[u8]) -> Result<Outcome<'static>, Unread>
     ensures fits { IfOk result IsResult }
     ensures again { (r : Refusal) → message.now ≡ message_of r → OnceRead result (λ y. y ≡ Outcome.Refused r) }
 {
@@ -96,7 +96,7 @@ fn read_set(
     end: SetEnd,
     head: &[u8],
     payloads: &[Items<u8>],
-) -> Result<ResultSet, Unread>
+) -> Result<ResultSet<'static>, Unread>
     ensures fits { IfOk result (λ set. IsResult (Outcome.Rows set)) }
     ensures again { (set : ResultSet) (status : ℕ) → IsResult (Outcome.Rows set) → IsTyped (Outcome.Rows set)
         → head.now ≡ length_encoded (length set.columns) → payloads.now ≡ set_payloads end set status

@@ -3,7 +3,7 @@ use crate::failing::Failing;
 use bytes::BytesMut;
 use operators::Rows;
 use resultset::{
-    CHUNK_LIMIT, Chunks, Column, Kind, Outcome, ResultSet, SetEnd, encode, encode_rows,
+    CHUNK_LIMIT, Chunks, Column, ColumnText, Kind, Outcome, ResultSet, SetEnd, encode, encode_rows,
 };
 use std::alloc::Global;
 use vt_value::{Items, Refusal, Row, Value};
@@ -12,13 +12,13 @@ use vt_value::{Items, Refusal, Row, Value};
 const STATUS: u16 = 2;
 
 /// One column of texts.
-fn columns(alloc: Global) -> Result<Items<Column>, Refusal> {
+fn columns(alloc: Global) -> Result<Items<Column<'static>>, Refusal> {
     let mut columns = Items::new(alloc);
     columns.push(Column {
-        schema: Items::from_slice(alloc, b"shop")?,
-        table: Items::from_slice(alloc, b"b")?,
-        name: Items::from_slice(alloc, b"v")?,
-        org_name: Items::from_slice(alloc, b"v")?,
+        schema: ColumnText::lent(b"shop"),
+        table: ColumnText::lent(b"b"),
+        name: ColumnText::lent(b"v"),
+        org_name: ColumnText::lent(b"v"),
         kind: Kind::VarBinary(255),
         flags: 128,
     })?;

@@ -9,4 +9,4 @@ returns-in-Ok-clause-runs g c = λ handshake set off opens.
 pub returns-in-Err-clause-runs : goal.returns-in-Err-clause-runs
 returns-in-Err-clause-runs g c = λ handshake set off opens s held.
     let next = c.in-Err.ensures.err s held in
-    (next.0, next.1, rw c.refused.ensures (x.not_begun (needs_one _ handshake set _ _ s c.requires.closed off held) opens next.2))
+    (next.0, next.1, x.not_begun (needs_one _ handshake set _ _ s c.requires.closed off held) opens next.2)

@@ -14,4 +14,4 @@ returns-in-Ok-false-clause-runs g c = λ handshake s held.
 pub returns-in-Err-clause-runs : goal.returns-in-Err-clause-runs
 returns-in-Err-clause-runs g c = λ handshake s held.
     let said = c.in-Err.ensures.err in
-    (s, held, rw (c.refused.ensures, said.0) (x.not_read (needs_one _ handshake c.args.settings _ _ s said.2 said.1 held)))
+    (s, held, rw said.0 (x.not_read (needs_one _ handshake c.args.settings _ _ s said.2 said.1 held)))

@@ -6,7 +6,7 @@ use Rattle.conversation.proofs.texts.statement_outcome.Goals as goal
 pub returns-then-turns_on-clause-gives : goal.returns-then-turns_on-clause-gives
 returns-then-turns_on-clause-gives g c =
     let is = turning c.args.settings c.args.statement.now (sym c.turns_on.ensures ∙ c.if-turns_on.true) in
-    rw is.0 (c.turned_on.ensures.gives c.args.handshake.now)
+    rw is.0 (c.turned_on-reply.ensures.gives c.args.handshake.now)
 
 pub returns-in-Begin-clause-gives : goal.returns-in-Begin-clause-gives
 returns-in-Begin-clause-gives g c = λ s held.
@@ -15,5 +15,5 @@ returns-in-Begin-clause-gives g c = λ s held.
 
 pub returns-in_default-clause-gives : goal.returns-in_default-clause-gives
 returns-in_default-clause-gives g c = λ s held.
-    let tells = rw (c.schema.ensures.schema, c.schema.ensures.opening) at c.local_answer.ensures in
+    let tells = rw (c.schema.ensures.schema, c.schema.ensures.opening) at c.local_answer-reply.ensures in
     (s, held, x.by_itself tells)

@@ -2,18 +2,19 @@ use Rattle.std.proofs.Common.{◌≡◌, ℕ, ◌+◌, Bool, false, ◌∙◌, a
 use Rattle.std.proofs.lemmas.List.{take_more}
 use Rattle.sql_tree.specs.declared.Item.{Item}
 use Rattle.sql_tree.specs.declared.Item.TheVariants.{Column}
+use Rattle.vschema.specs.Schema.{no_table}
 use Rattle.conversation.specs.Columns.{DefinesItem}
 use Rattle.conversation.proofs.ColumnLemmas.{AllDefined-push}
-use Rattle.conversation.proofs.columns.define_all.Goals as goal
+use Rattle.conversation.proofs.columns.columns_of.Goals as goal
 
 pub loop-item-preserved : goal.loop-item-preserved
 loop-item-preserved c =
-    let item : Item ℕ = slice_index_or c.args.wanted.now c.loop-item.item-index (Column 0) in
-    let more = take_more c.args.wanted.now c.loop-item.item-index (Column 0) c.loop-item-test.true in
+    let item : Item ℕ = slice_index_or c.args.items.now c.loop-item.item-index (Column 0) in
+    let more = take_more c.args.items.now c.loop-item.item-index (Column 0) c.loop-item-test.true in
     let at : 0 + length c.loop-item.columns ≡ length c.loop-item.columns = omega arith in
     let defined =
-    subst (λ (k : Bool). DefinesItem c.args.schema.now c.args.table.now c.args.join k item c.in_ok-column.column)
+    subst (λ (k : Bool). DefinesItem c.args.schema.now (slice_index_or c.args.schema.now.tables c.args.table no_table) c.args.join k item c.in_ok-column.column)
     (c.flag_at-named_whole.ensures ∙ ap (λ (n : ℕ). slice_index_or c.args.qualified.now n false) (c.len.ensures ∙ sym at)) c.in_ok-column.ensures.ok in
     rw (more, c.in_ok-push.ensures.ok)
-    (AllDefined-push c.args.schema.now c.args.table.now c.args.join c.args.qualified.now 0 (take c.loop-item.item-index c.args.wanted.now) c.loop-item.columns
+    (AllDefined-push c.args.schema.now (slice_index_or c.args.schema.now.tables c.args.table no_table) c.args.join c.args.qualified.now 0 (take c.loop-item.item-index c.args.items.now) c.loop-item.columns
     item c.in_ok-column.column c.loop-item.invariant defined)
