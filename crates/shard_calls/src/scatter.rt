@@ -22,7 +22,7 @@ use std::alloc::Global;
 use std::sync::Wait;
 use std::thread::{self, Threads};
 use vschema::{Query, Table};
-use vt_value::{Items, Refusal};
+use vt_value::{Items, Refusal, Row};
 
 /// What a shard is asked: its number among those that a query needs, itself, its piece of the query, how many rows that reads at most as far
 /// as it tells by itself, and a pass.
@@ -97,8 +97,8 @@ fn most_rows(table: &Table, query: &Query) -> usize {
     }
 }
 
-// What the part's shard is asked under this number, by a pass of its own.
-fn job_for<'e, W: World, J: Naming>(
+/// What the part's shard is asked under this number, by a pass of its own.
+pub fn job_for<'e, W: World, J: Naming>(
     alloc: Global,
     pass: &mut ShardPass<W, J>,
     turn: usize,
@@ -155,7 +155,8 @@ pub fn jobs<'e, W: World, J: Naming>(
     Ok(jobs)
 }
 
-fn read_one<W: World, J: Naming, G: Gate>(
+/// A shard's answer, read by this thread.
+pub fn read_one<W: World, J: Naming, G: Gate>(
     rt: &impl Wait,
     alloc: Global,
     gate: &G,
@@ -282,4 +283,44 @@ pub fn gather<W: World, J: Naming>(
         }
     }
     Ok(Some(gathered))
+}
+
+/// The rows that a shard gave alone, and what the reply says of it.
+#[derive(Drop)]
+pub struct GatheredAlone {
+    pub rows: Items<Row>,
+    pub reads: Items<ShardRead>,
+}
+
+/// What `gather` gives of one shard: it makes no list of pieces.
+pub fn gather_alone<W: World, J: Naming>(
+    alloc: Global,
+    pass: &mut ShardPass<W, J>,
+    done: ReadResult<W, J>,
+) -> Result<Option<GatheredAlone>, Refusal>
+    requires legal { IsLegal (MayFollow W.opening) pass.old.seen }
+    requires refused { IfErr done.outcome (λ e. e ≡ Refusal.OutOfMemory) }
+    ensures gone { HasGone W.opening pass.old pass.new }
+    ensures all { IfOk result (λ r. IfSome r (λ g. IsGathered W.opening (record { slot = done.slot; pass = done.pass; outcome = done.outcome } ∷ []) pass.old pass.new)) }
+    ensures rows { IfOk result (λ r. IfSome r (λ g. g.rows ≡ outcome_rows done.outcome)) }
+    ensures reads { IfOk result (λ r. IfSome r (λ g. g.reads ≡ record { slot = done.slot; entries = entries_in done.outcome } ∷ [])) }
+    ensures stalled { IfOk result (λ r. IfNone r (IsStalled (record { slot = done.slot; pass = done.pass; outcome = done.outcome } ∷ []) pass.new)) }
+    ensures err { IfErr result (λ e. e ≡ Refusal.OutOfMemory) }
+{
+    let ReadResult {
+        slot,
+        pass: other,
+        outcome,
+    } = done;
+    pass.join(other);
+    match outcome {
+        Ok(ReadOutcome::Rows(reading)) => {
+            let Reading { rows, entries } = reading;
+            let mut reads = Items::from_vec(Vec::with_capacity(alloc, 1)?);
+            reads.push(ShardRead { slot, entries })?;
+            Ok(Some(GatheredAlone { rows, reads }))
+        }
+        Ok(ReadOutcome::NotServing) => Ok(None),
+        Err(refusal) => Err(refusal),
+    }
 }

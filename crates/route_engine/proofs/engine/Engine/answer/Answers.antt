@@ -1,33 +1,40 @@
-use Rattle.std.proofs.Common.{ℕ, ◌<◌, List, reverse, map, sym, subst}
-use Rattle.std.specs.Prelude.{All, IsSorted}
-use Rattle.std.proofs.lemmas.List.{get_or-map, length-map}
-use Rattle.operators.specs.Orders.{row_cmp}
-use Rattle.vt_value.specs.Values.{Row}
-use Rattle.planner.specs.Plans.{Finishes, CanJoin}
-use Rattle.route_engine.proofs.Selecting.{flat_mapped}
+use Rattle.std.proofs.Common.{[]}
+use Rattle.shard_calls.proofs.Gathers.{stays}
+use Rattle.route_engine.proofs.Selecting.{gone_on}
+use Rattle.route_engine.proofs.Scattering.{scattered_after}
 use Rattle.route_engine.proofs.engine.Engine.answer.Goals as goal
 
--- what holds of the rows that each piece gives, of the pieces
-given_back : {X Y : Type 0} (P : Y → Type 0) (f : X → Y) (xs : List X) → All P (map f xs) → All (λ x. P (f x)) xs
-given_back P f xs all k d within = subst P (get_or-map f xs k d (f d) within) (all k (f d) (subst (λ (n : ℕ). k < n) (sym (length-map xs f)) within))
+pub loop-init : goal.loop-init
+loop-init g c = record { next = tt; finite = tt; gone = ([], stays _ _ c.requires.legal) }
 
-pub answer_in_order-requires : goal.answer_in_order-requires
-answer_in_order-requires g c = record {
-  order = λ plain.
-      given_back (λ piece. IsSorted (row_cmp c.args.plan.now.finish.order_by) piece) (λ r. reverse r.reversed) c.in_ok-pieces.field-0.pieces.items
-      (c.requires.order (map (λ r. reverse r.reversed) c.in_ok-pieces.field-0.pieces.items) c.in_ok-pieces.field-0.reads c.scatter_until.new.pass
-      c.in_ok-pieces.ensures.ok plain);
-  fit =
-      subst (CanJoin c.args.plan.now.finish.grouping) (sym (flat_mapped (λ r. reverse r.reversed) c.in_ok-pieces.field-0.pieces.items))
-      (c.requires.fit (map (λ r. reverse r.reversed) c.in_ok-pieces.field-0.pieces.items) c.in_ok-pieces.field-0.reads c.scatter_until.new.pass
-      c.in_ok-pieces.ensures.ok);
-}
+pub answer_by-requires-clause-legal : goal.answer_by-requires-clause-legal
+answer_by-requires-clause-legal g c κs within = c.loop.invariant.gone.1.legal
 
-pub returns-in-Ok-clause-ok : goal.returns-in-Ok-clause-ok
-returns-in-Ok-clause-ok g c = record {
-  pieces = map (λ r. reverse r.reversed) c.in_ok-pieces.field-0.pieces.items;
-  scattered = c.in_ok-pieces.ensures.ok;
-  finished =
-      subst (λ (l : List Row). Finishes c.args.plan.now.finish l c.in-Ok.rows)
-      (flat_mapped (λ r. reverse r.reversed) c.in_ok-pieces.field-0.pieces.items) c.in-Ok.ensures.ok;
-}
+pub answer_by-requires-clause-fit : goal.answer_by-requires-clause-fit
+answer_by-requires-clause-fit g c κs within = λ pieces reads now is.
+    c.requires.fit pieces reads now (scattered_after _ _ _ _ _ _ c.loop.invariant.gone pieces reads is)
+
+pub answer_by-requires-clause-order : goal.answer_by-requires-clause-order
+answer_by-requires-clause-order g c κs within = λ pieces reads now is plain.
+    c.requires.order pieces reads now (scattered_after _ _ _ _ _ _ c.loop.invariant.gone pieces reads is) plain
+
+pub returns-in_err-answered-clause-gone : goal.returns-in_err-answered-clause-gone
+returns-in_err-answered-clause-gone g c = gone_on _ _ _ _ c.loop.invariant.gone c.answer_by.ensures.gone
+
+pub returns-in-Some-2-clause-gone : goal.returns-in-Some-2-clause-gone
+returns-in-Some-2-clause-gone g c = gone_on _ _ _ _ c.loop.invariant.gone c.answer_by.ensures.gone
+
+pub returns-in-Some-2-clause-ok : goal.returns-in-Some-2-clause-ok
+returns-in-Some-2-clause-ok g c =
+    let is = rw c.in-Some-2.is at c.in_ok-answered.ensures.ok in
+    record {
+      pieces = is.pieces;
+      scattered = scattered_after _ _ _ _ _ _ c.loop.invariant.gone _ _ is.scattered;
+      finished = is.finished;
+    }
+
+pub loop-preserved : goal.loop-preserved
+loop-preserved g c = record { next = tt; finite = tt; gone = gone_on _ _ _ _ c.loop.invariant.gone c.answer_by.ensures.gone }
+
+pub returns-in_err-wait-clause-gone : goal.returns-in_err-wait-clause-gone
+returns-in_err-wait-clause-gone g c = gone_on _ _ _ _ c.loop.invariant.gone c.answer_by.ensures.gone
