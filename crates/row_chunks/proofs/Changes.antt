@@ -10,7 +10,8 @@ use Rattle.std.specs.declared.cmp.Ordering.TheVariants.{Less, Equal, Greater}
 use Rattle.std.specs.Map.{keys_of, lookup, set_value, remove_entry}
 use Rattle.std.specs.BTreeMap.{insert_entry, is_at}
 use Rattle.std.specs.BTreeMap.Range.{entries_below, entries_from}
-use Rattle.row_chunks.specs.Chunks.{ChunkView, all_of, open_of, changeable, AreBelow, AreAbove, AreFrom, IsBefore, IsSplit, AreParted, IsShelf, begun, span, spans}
+use Rattle.row_chunks.specs.Chunks.{ChunkView, all_of, open_of, changeable, AreBelow, AreFrom, IsBefore, AreParted, IsShelf, span, spans}
+use Rattle.row_chunks.specs.inner.Splits.{AreAbove, IsSplit, begun}
 use Rattle.std.proofs.lemmas.Map.{keys-set_value}
 use Rattle.row_chunks.proofs.Shelf.{itself, found_there, empty_shelf, below_all, from_all, IsLocal, insert_local, set_local, remove_local, lookup_none, lookup_front, lookup_back, both, all_above, all_below, below_at_most, none_begun, first_alone, first_begun, not_first, done_there}
 

@@ -12,7 +12,8 @@ use Rattle.std.specs.Map.{lookup, set_value, remove_entry}
 use Rattle.std.specs.BTreeMap.{insert_entry, is_at}
 use Rattle.std.specs.BTreeMap.Range.{entries_below, entries_from, entries_between}
 use Rattle.std.specs.declared.ops.Bound.TheVariants.{Included, Unbounded}
-use Rattle.row_chunks.specs.Chunks.{ChunkView, all_of, AreBelow, AreAbove, AreFrom, IsBefore, AreParted, IsShelf, begun, span, spans}
+use Rattle.row_chunks.specs.Chunks.{ChunkView, all_of, AreBelow, AreFrom, IsBefore, AreParted, IsShelf, span, spans}
+use Rattle.row_chunks.specs.inner.Splits.{AreAbove, begun}
 
 module _ {K : Type 0} {cmp : K → K → Ordering} (o : IsTotalOrder cmp) where
   -- ---- the order

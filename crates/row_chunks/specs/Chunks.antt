@@ -1,13 +1,12 @@
 -- A sorted map as a list of chunks.
-use Rattle.std.specs.Prelude.{◌≡◌, ◌+◌, ℕ, Bool, false, List, [], ◌∷◌, ◌++◌, IsSome, if◌then◌else◌, flat_map, map, Option, Some, None}
+use Rattle.std.specs.Prelude.{◌≡◌, Bool, false, List, [], ◌∷◌, ◌++◌, if◌then◌else◌, flat_map, map, Option, Some, None}
 use Rattle.std.specs.List.{AllByRecursion}
 use Rattle.std.specs.Ordering.{is_gt}
 use Rattle.std.specs.declared.cmp.Ordering.{Ordering}
 use Rattle.std.specs.declared.cmp.Ordering.TheVariants.{Less}
 use Rattle.std.specs.Arc.{arc_value}
 use Rattle.std.specs.declared.sync.Arc.{Arc}
-use Rattle.std.specs.Map.{keys_of, lookup}
-use Rattle.std.specs.BTreeMap.{is_at}
+use Rattle.std.specs.Map.{keys_of}
 use Rattle.std.specs.List.Sorted.{IsStrictlySortedBy}
 
 -- a chunk: a key that none of its keys is below, its entries, and whether they can be changed without memory
@@ -41,10 +40,6 @@ module _ {K X : Type 0} where
     abbrev pub AreBelow : K → List (K × X) → Type 0
     AreBelow k es = AllByRecursion (λ e. cmp e.0 k ≡ Less) es
 
-    -- each is above it
-    abbrev pub AreAbove : K → List (K × X) → Type 0
-    AreAbove k es = AllByRecursion (λ e. cmp k e.0 ≡ Less) es
-
     -- none is below it
     abbrev pub AreFrom : K → List (K × X) → Type 0
     AreFrom k es = AllByRecursion (λ e. is_gt (cmp k e.0) ≡ false) es
@@ -57,23 +52,10 @@ module _ {K X : Type 0} where
     AreParted [] = Unit {0}
     AreParted (c ∷ chunks) = AreFrom c.0 c.1 × AllByRecursion (IsBefore c) chunks × AreParted chunks
 
-    -- a chunk's upper entries are taken out, as a chunk that begins at one of its keys
-    pub record IsSplit (c lower upper : ChunkView K X) : Type 0 where
-      pub parts : c.entries ≡ lower.entries ++ upper.entries
-      pub rises : cmp c.from upper.from ≡ Less
-      pub below : AreBelow upper.from lower.entries
-      pub above : AreFrom upper.from upper.entries
-      pub there : IsSome (lookup (is_at (cmp upper.from)) c.entries)
-
     -- chunks of a sorted map
     pub record IsShelf (chunks : List (ChunkView K X)) : Type 0 where
       pub parted : AreParted (spans chunks)
       pub sorted : IsStrictlySortedBy cmp (keys_of (all_of chunks))
-
-  -- how many chunks, from the first on, begin at a key or before it: the key belongs into the last of them
-  abbrev pub begun : (K → K → Ordering) → K → List (ChunkView K X) → ℕ
-  begun cmp k [] = 0
-  begun cmp k (c ∷ chunks) = if is_gt (cmp c.from k) then 0 else begun cmp k chunks + 1
 
   -- what is left of a walk: of a chunk's entries, and of the chunks behind it
   abbrev pub left_of : Option (List (K × X)) → List (ChunkView K X) → List (K × X)

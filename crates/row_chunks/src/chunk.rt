@@ -4,7 +4,8 @@ ghost use Rattle.std.specs.BTreeMap.{insert_entry, is_at};
 ghost use Rattle.std.specs.List.Sorted.{IsStrictlySortedBy};
 ghost use Rattle.std.specs.Arc.{arc_value};
 ghost use Rattle.std.specs.declared.cmp.Ordering.TheVariants.{Less};
-ghost use Rattle.row_chunks.specs.Chunks.{IsSplit, changeable};
+ghost use Rattle.row_chunks.specs.Chunks.{changeable};
+ghost use Rattle.row_chunks.specs.inner.Splits.{IsSplit};
 
 use std::alloc::{AllocError, Global};
 use std::collections::BTreeMap;

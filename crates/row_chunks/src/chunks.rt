@@ -4,7 +4,8 @@ ghost use Rattle.std.specs.BTreeMap.{insert_entry, is_at};
 ghost use Rattle.std.specs.BTreeMap.Range.{entries_between};
 ghost use Rattle.std.specs.declared.ops.Bound.TheVariants.{Included, Unbounded};
 ghost use Rattle.std.specs.List.Sorted.{IsStrictlySortedBy};
-ghost use Rattle.row_chunks.specs.Chunks.{ChunkView, AreParted, all_of, open_of, begun, spans};
+ghost use Rattle.row_chunks.specs.Chunks.{ChunkView, AreParted, all_of, open_of, spans};
+ghost use Rattle.row_chunks.specs.inner.Splits.{begun};
 
 use crate::chunk::{Chunk, Same, copy_key};
 use crate::walk::Walk;

@@ -1,5 +1,5 @@
 use Rattle.std.proofs.Common.{◌≡◌, suc, rules, get_or}
-use Rattle.row_chunks.specs.Chunks.{begun}
+use Rattle.row_chunks.specs.inner.Splits.{begun}
 use Rattle.row_chunks.proofs.Shelf.{found_there, found_nowhere}
 use Rattle.row_chunks.proofs.chunks.Chunks.get.Goals as goal
 

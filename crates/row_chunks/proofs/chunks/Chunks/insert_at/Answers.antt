@@ -1,7 +1,8 @@
 use Rattle.std.proofs.Common.{◌≡◌, suc, true, get_or, rules, sym, ap, subst, List, IsSome}
 use Rattle.std.specs.Map.{lookup}
 use Rattle.std.specs.BTreeMap.{insert_entry, is_at}
-use Rattle.row_chunks.specs.Chunks.{ChunkView, open_of, begun}
+use Rattle.row_chunks.specs.Chunks.{ChunkView, open_of}
+use Rattle.row_chunks.specs.inner.Splits.{begun}
 use Rattle.row_chunks.proofs.Copies.{on_ok, on_err, ok_or_err}
 use Rattle.row_chunks.proofs.Shelf.{done_there, insert_local}
 use Rattle.row_chunks.proofs.Changes.{shelf_maybe, still_maybe, still_open, open_grows, open_entries, open_set, inserted_found}

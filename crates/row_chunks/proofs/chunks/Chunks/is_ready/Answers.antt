@@ -1,5 +1,5 @@
 use Rattle.std.proofs.Common.{◌≡◌, suc, rules, get_or}
-use Rattle.row_chunks.specs.Chunks.{begun}
+use Rattle.row_chunks.specs.inner.Splits.{begun}
 use Rattle.row_chunks.proofs.Changes.{found_open, none_open}
 use Rattle.row_chunks.proofs.chunks.Chunks.is_ready.Goals as goal
 

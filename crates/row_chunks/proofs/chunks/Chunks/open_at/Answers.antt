@@ -1,7 +1,8 @@
 use Rattle.std.proofs.Common.{◌≡◌, suc, get_or, set, rules, subst, List, IsSome}
 use Rattle.std.specs.Map.{lookup}
 use Rattle.std.specs.BTreeMap.{is_at}
-use Rattle.row_chunks.specs.Chunks.{ChunkView, span, begun, open_of, all_of}
+use Rattle.row_chunks.specs.Chunks.{ChunkView, span, open_of, all_of}
+use Rattle.row_chunks.specs.inner.Splits.{begun}
 use Rattle.row_chunks.proofs.Copies.{on_ok, ok_or_err}
 use Rattle.row_chunks.proofs.Changes.{shelf_same, span_set, still_open, open_more, opened, begun_same, all_same}
 use Rattle.row_chunks.proofs.chunks.Chunks.open_at.Goals as goal

@@ -1,6 +1,7 @@
 use Rattle.std.proofs.Common.{◌≡◌, ◌+◌, ◌∙◌, List, get_or, set, rules, sym, ap, true}
 use Rattle.std.specs.List.{insert}
-use Rattle.row_chunks.specs.Chunks.{ChunkView, IsSplit, all_of, open_of}
+use Rattle.row_chunks.specs.Chunks.{ChunkView, all_of, open_of}
+use Rattle.row_chunks.specs.inner.Splits.{IsSplit}
 use Rattle.row_chunks.proofs.Changes.{shelf_parted, all_parted, open_parted}
 use Rattle.row_chunks.proofs.chunks.Chunks.part.Goals as goal
 

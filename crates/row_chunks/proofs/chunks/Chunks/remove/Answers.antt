@@ -1,7 +1,7 @@
 use Rattle.std.proofs.Common.{◌≡◌, suc, get_or, rules}
 use Rattle.std.specs.Map.{remove_entry}
 use Rattle.std.specs.BTreeMap.{is_at}
-use Rattle.row_chunks.specs.Chunks.{begun}
+use Rattle.row_chunks.specs.inner.Splits.{begun}
 use Rattle.row_chunks.proofs.Shelf.{done_there, remove_local}
 use Rattle.row_chunks.proofs.Changes.{shelf_changed, remove_kind}
 use Rattle.row_chunks.proofs.chunks.Chunks.remove.Goals as goal

@@ -1,7 +1,8 @@
 use Rattle.std.proofs.Common.{◌≡◌, suc, true, get_or, rules, sym, subst, List, IsSome}
 use Rattle.std.specs.Map.{lookup, set_value}
 use Rattle.std.specs.BTreeMap.{is_at}
-use Rattle.row_chunks.specs.Chunks.{ChunkView, open_of, begun}
+use Rattle.row_chunks.specs.Chunks.{ChunkView, open_of}
+use Rattle.row_chunks.specs.inner.Splits.{begun}
 use Rattle.row_chunks.proofs.Shelf.{done_there, set_local}
 use Rattle.row_chunks.proofs.Changes.{shelf_changed, set_kind, still_open, open_grows, still_set}
 use Rattle.row_chunks.proofs.chunks.Chunks.set.Goals as goal

@@ -1,5 +1,6 @@
 use Rattle.std.proofs.Common.{◌≡◌, ◌+◌, ◌-◌, ◌++◌, take, drop, length, suc, get_or, rules, sym, ap, ◌∙◌, List}
-use Rattle.row_chunks.specs.Chunks.{ChunkView, all_of, begun}
+use Rattle.row_chunks.specs.Chunks.{ChunkView, all_of}
+use Rattle.row_chunks.specs.inner.Splits.{begun}
 use Rattle.std.specs.BTreeMap.Range.{entries_between}
 use Rattle.std.specs.declared.ops.Bound.TheVariants.{Included, Unbounded}
 use Rattle.row_chunks.proofs.Shelf.{walked_there, walked_all, left_after}
