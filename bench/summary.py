@@ -20,6 +20,8 @@ KINDS = {
     "Scatter": "a query of all shards",
     "Mix": "a mix of these",
     "Transaction": "a transaction",
+    "First": "the first 10 rows",
+    "Among": "two rows by IN",
 }
 
 

@@ -23,8 +23,8 @@
 #include <unistd.h>
 
 enum { FIRST_ID = 100000, FIRST_INSERTED = 10000000, FEW = 100, SHARDS = 4, AT_ONCE = 500, BUFFER = 1 << 16 };
-enum kind { POINT, INSERT, UPDATE, SCATTER, MIX, TRANSACTION, SORTED, GROUPS, ROWS, KINDS };
-static const char *const names[KINDS] = {"point", "insert", "update", "scatter", "mix", "transaction", "sorted", "groups", "rows"};
+enum kind { POINT, INSERT, UPDATE, SCATTER, MIX, TRANSACTION, FIRST, AMONG, SORTED, GROUPS, ROWS, KINDS };
+static const char *const names[KINDS] = {"point", "insert", "update", "scatter", "mix", "transaction", "first", "among", "sorted", "groups", "rows"};
 
 static void fail(const char *what) {
     perror(what);
@@ -263,6 +263,12 @@ static size_t put_text(char *out, size_t room, enum kind kind, uint64_t *state, 
     case UPDATE: {
         unsigned long long value = random_value(state);
         return snprintf(out, room, "UPDATE t SET c = %llu WHERE id = %llu", value, (unsigned long long)random_id(state));
+    }
+    case FIRST:
+        return snprintf(out, room, "SELECT id, c FROM t LIMIT 10");
+    case AMONG: {
+        unsigned long long one = random_id(state), other = random_id(state);
+        return snprintf(out, room, "SELECT id, c FROM t WHERE id IN (%llu, %llu)", one, other);
     }
     case SORTED:
         return snprintf(out, room, "SELECT id, c FROM t ORDER BY c, id LIMIT 10");

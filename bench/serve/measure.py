@@ -12,7 +12,9 @@ import time
 
 HERE = pathlib.Path(__file__).resolve().parent
 USER, PASSWORD, DATABASE = "bench", "some password", "shop"
-KINDS = ("point", "insert", "update", "scatter", "mix", "transaction")
+KINDS = ("point", "insert", "update", "scatter", "mix", "transaction", "first", "among")
+# what the echo answers, of which the last is made of the others
+ECHOED = KINDS[:5]
 SHARDS = "-40,40-80,80-c0,c0-"
 NEW_TABLE = "DROP TABLE IF EXISTS {0}; CREATE TABLE {0} (id BIGINT UNSIGNED PRIMARY KEY, c BIGINT UNSIGNED);"
 TABLES = NEW_TABLE.format("t") + NEW_TABLE.format("few")
@@ -120,7 +122,7 @@ class Echo(Server):
         super().__init__(rows)
         router.begin_cell(load)
         replies = []
-        for kind in KINDS[:4]:
+        for kind in ECHOED[:-1]:
             replies.append(work / f"reply.{kind}")
             replies[-1].write_bytes(router.load(load, "reply", kind))
         self.place[1] = "-"
@@ -132,8 +134,8 @@ class Echo(Server):
 
 
 def measure_cells(words, servers, kind, count):
-    """Asks each server in turn, some rounds long, and prints for each the round of the middle rate. The echo knows no transactions."""
-    servers = [it for it in servers if kind != "transaction" or it.name != "echo"]
+    """Asks each server in turn, some rounds long, and prints for each the round of the middle rate."""
+    servers = [it for it in servers if kind in ECHOED or it.name != "echo"]
     results = [[] for _ in servers]
     for _ in range(words.rounds):
         for server, rounds in zip(servers, results):

@@ -18,6 +18,8 @@ KINDS = {
     "scatter": "`SELECT id, c FROM few ORDER BY c, id LIMIT 10`, of 100 rows on 4 shards",
     "mix": "of 20 statements 16 points, 2 updates, 1 insert, 1 scatter",
     "transaction": "`BEGIN`, `SELECT c FROM t WHERE id = N`, `UPDATE t SET c = M WHERE id = N`, `COMMIT`, of {rows} rows",
+    "first": "`SELECT id, c FROM t LIMIT 10`, of {rows} rows on 4 shards",
+    "among": "`SELECT id, c FROM t WHERE id IN (N, M)`, of {rows} rows on 4 shards",
 }
 HEAD = """## The server
 
@@ -29,6 +31,7 @@ answers each request with the bytes of the router's reply, and knows nothing els
 client and servers share the processors, so compare ratios, not figures.
 """
 COLUMNS = ("connections", "router", "50th", "99th", "MariaDB", "50th", "99th", "echo", "50th", "99th", "router : MariaDB", "router : echo")
+WITHOUT_ECHO = ("connections", "router", "50th", "99th", "MariaDB", "50th", "99th", "router : MariaDB")
 OF_TRANSACTIONS = ("connections", "router", "50th", "99th", "conflicts", "MariaDB", "50th", "99th", "conflicts", "router : MariaDB")
 
 
@@ -46,10 +49,13 @@ def ratio(servers, name):
 
 def row_of(count, servers):
     row = [count]
-    for name in ("router", "MariaDB", "echo"):
-        rate, half, most, _ = servers[name]
+    for rate, half, most, _ in servers.values():
         row += [rate, f"{half / 1000:.0f}", f"{most / 1000:.0f}"]
-    return row + [ratio(servers, "MariaDB"), ratio(servers, "echo")]
+    return row + [ratio(servers, name) for name in servers if name != "router"]
+
+
+def columns_of(counts):
+    return COLUMNS if all("echo" in servers for servers in counts.values()) else WITHOUT_ECHO
 
 
 def row_of_transactions(count, servers):
@@ -67,7 +73,7 @@ def section(cells, how, rows, version):
         lines += [f"### {kind[0].upper()}{kind[1:]}", "", f"{text[0].upper()}{text[1:]}.", ""]
         if kind == "transaction":
             lines += ["Rates and latencies are of whole transactions that committed; a conflict (1213) gives one up, of as many in a hundred.", ""]
-        columns, row = (OF_TRANSACTIONS, row_of_transactions) if kind == "transaction" else (COLUMNS, row_of)
+        columns, row = (OF_TRANSACTIONS, row_of_transactions) if kind == "transaction" else (columns_of(counts), row_of)
         lines += ["| " + " | ".join(columns) + " |", "|" + "---|" * len(columns)]
         lines += ["| " + " | ".join(map(str, row(count, servers))) + " |" for count, servers in counts.items()]
         lines.append("")

@@ -1,5 +1,5 @@
 -- What a change of one chunk leaves of the others.
-use Rattle.std.proofs.Common.{◌≡◌, ◌⊎◌, inl, inr, ℕ, zero, suc, ◌+◌, ◌<◌, ◌||◌, length, Bool, true, false, cond, List, [], ◌∷◌, ◌++◌, Option, Some, None, is_some, IsSome, refl, sym, ap, ◌∙◌, subst, set, get_or, flat_map, append_assoc, arith}
+use Rattle.std.proofs.Common.{◌≡◌, ◌⊎◌, inl, inr, ℕ, zero, suc, ◌+◌, ◌<◌, ◌||◌, length, Bool, true, false, cond, List, [], ◌∷◌, ◌++◌, Option, Some, None, is_some, IsSome, IfSome, option_copied, Bor, refl, sym, ap, ◌∙◌, subst, set, get_or, flat_map, append_assoc, arith}
 use Rattle.std.proofs.lemmas.Bool.{false≢true}
 use Rattle.std.specs.Cmp.{IsTotalOrder}
 use Rattle.std.specs.List.{AllByRecursion, insert}
@@ -32,6 +32,10 @@ or_more false b false b' f g h = g h
 each : {Y : Type 0} {P Q : Y → Type 0} → ((y : Y) → P y → Q y) → (ys : List Y) → AllByRecursion P ys → AllByRecursion Q ys
 each f [] h = tt
 each f (y ∷ ys) h = (f y h.0, each f ys h.1)
+
+pub copied_some : {T : Type 0} (o : Option (Bor T)) → is_some (option_copied o) ≡ is_some o
+copied_some None = refl
+copied_some (Some x) = refl
 
 module _ {K X : Type 0} where
   -- ---- chunks that begin where others do, with the same entries
@@ -396,6 +400,16 @@ module _ {K X : Type 0} where
         let t = open_is (is_at (cmp k)) c found in
         let g : IsSome (lookup (is_at (cmp k)) c.entries) = rw t at found in
         (t, g)
+
+    -- the value of an entry that can be changed is the entry's
+    pub value_ready : (o : Option (Bor X)) (test : K → Bool) (c : ChunkView K X) (all : Option X) → option_copied o ≡ lookup test (changeable c) → all ≡ lookup test c.entries
+        → IfSome o (λ v. all ≡ Some v.now)
+    value_ready None test c all is at = tt
+    value_ready (Some v) test c all is at = by c.is_open refl
+      where
+        by : (b : Bool) → c.is_open ≡ b → all ≡ Some v.now
+        by true t = let g : Some v.now ≡ lookup test c.entries = rw t at is in at ∙ sym g
+        by false t = let g : ◌≡◌ {A = Option X} (Some v.now) None = rw t at is in absurd (cc g)
 
     -- an entry at the head is found
     head_found : (k : K) (v : X) (es : List (K × X)) → IsSome (lookup (is_at (cmp k)) ((k, v) ∷ es))

@@ -1,4 +1,4 @@
-ghost use Rattle.std.specs.Prelude.{◌≡◌, [], IfOk, OnOk, OnErr, IfSome, IfNone, IsTrue, IsSome, is_some, true, false};
+ghost use Rattle.std.specs.Prelude.{◌≡◌, [], IfOk, OnOk, OnErr, IfSome, IfNone, IsTrue, IsSome, is_some, option_copied, true, false};
 ghost use Rattle.std.specs.Map.{keys_of, lookup, set_value, remove_entry};
 ghost use Rattle.std.specs.BTreeMap.{insert_entry, is_at};
 ghost use Rattle.std.specs.List.Sorted.{IsStrictlySortedBy};
@@ -178,11 +178,15 @@ impl<K: Ord + Same, V: Same> Chunk<K, V> {
         self.rows().len()
     }
 
-    /// Whether it has an entry of a key, and that can be changed.
-    pub fn is_ready(&self, key: &K) -> bool
-        ensures { result ≡ is_some (lookup (is_at (K.cmp key.now)) (changeable self.now)) }
+    /// The value of a key, if it has one that can be changed.
+    pub fn ready(&self, key: &K) -> Option<&V>
+        ensures { option_copied result ≡ lookup (is_at (K.cmp key.now)) (changeable self.now) }
     {
-        self.is_open && self.own.contains_key(key)
+        if self.is_open {
+            self.own.get(key)
+        } else {
+            None
+        }
     }
 
     // A key of its own in the middle, with half of its keys below it, unless it has too few.

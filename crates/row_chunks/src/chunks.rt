@@ -1,4 +1,4 @@
-ghost use Rattle.std.specs.Prelude.{true, ◌≡◌, ◌+◌, ◌<◌, ◌≤◌, [], IfOk, OnOk, OnErr, IfSome, MatchOption, IsTrue, IsSome, is_some, option_copied, slice_index_or, length};
+ghost use Rattle.std.specs.Prelude.{true, ◌≡◌, ◌+◌, ◌<◌, ◌≤◌, [], IfOk, OnOk, OnErr, IfSome, MatchOption, IsTrue, IsSome, Some, is_some, option_copied, slice_index_or, length};
 ghost use Rattle.std.specs.Map.{keys_of, lookup, set_value, remove_entry};
 ghost use Rattle.std.specs.BTreeMap.{insert_entry, is_at};
 ghost use Rattle.std.specs.BTreeMap.Range.{entries_between};
@@ -198,25 +198,28 @@ impl<K: Ord + Same, V: Same> Chunks<K, V> {
         }
     }
 
-    /// Makes the entry of a key changeable, if it is there. Refuses for want of memory; then the entries are as they were.
-    pub fn open(&mut self, alloc: Global, key: &K) -> Result<(), AllocError>
+    /// Makes the entry of a key changeable, and tells whether it is there. Refuses for want of memory; then the entries are as they were.
+    pub fn open(&mut self, alloc: Global, key: &K) -> Result<bool, AllocError>
         ensures all { all_of self.new ≡ all_of self.old }
+        ensures there { IfOk result (λ there. there ≡ is_some (lookup (is_at (K.cmp key.now)) (all_of self.old))) }
         ensures ok { OnOk result (IsSome (lookup (is_at (K.cmp key.now)) (all_of self.old)) → IsSome (lookup (is_at (K.cmp key.now)) (open_of self.new))) }
         ensures kept { (k : K) → IsSome (lookup (is_at (K.cmp k)) (open_of self.old)) → IsSome (lookup (is_at (K.cmp k)) (open_of self.new)) }
     {
-        match self.place_of(key) {
-            Some(place) => self.open_at(alloc, place),
-            None => Ok(()),
-        }
+        let Some(place) = self.place_of(key) else {
+            return Ok(false);
+        };
+        self.open_at(alloc, place)?;
+        Ok(self.list[place].rows().contains_key(key))
     }
 
-    /// Whether a key has an entry, and that can be changed.
-    pub fn is_ready(&self, key: &K) -> bool
-        ensures { result ≡ is_some (lookup (is_at (K.cmp key.now)) (open_of self.now)) }
+    /// The value of a key, if it has one that can be changed.
+    pub fn ready(&self, key: &K) -> Option<&V>
+        ensures ready { is_some result ≡ is_some (lookup (is_at (K.cmp key.now)) (open_of self.now)) }
+        ensures value { IfSome result (λ v. lookup (is_at (K.cmp key.now)) (all_of self.now) ≡ Some v.now) }
     {
         match self.place_of(key) {
-            Some(place) => self.list[place].is_ready(key),
-            None => false,
+            Some(place) => self.list[place].ready(key),
+            None => None,
         }
     }
 

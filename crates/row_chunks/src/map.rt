@@ -1,4 +1,4 @@
-ghost use Rattle.std.specs.Prelude.{◌≡◌, ◌<◌, ◌^◌, [], None, IfOk, IfErr, OnOk, OnErr, IsSome, option_copied, is_some, length};
+ghost use Rattle.std.specs.Prelude.{◌≡◌, ◌<◌, ◌^◌, [], None, Some, IfOk, IfErr, IfSome, OnOk, OnErr, IsSome, option_copied, is_some, length};
 ghost use Rattle.std.specs.Map.{keys_of, lookup, set_value, remove_entry};
 ghost use Rattle.std.specs.BTreeMap.{insert_entry, is_at};
 ghost use Rattle.std.specs.BTreeMap.Range.{entries_between};
@@ -86,13 +86,14 @@ impl<K: Ord + Same, V: Same> ChunkMap<K, V> {
         self.get(key).is_some()
     }
 
-    /// Whether a key has a value that can be changed without memory.
-    pub fn is_ready(&self, key: &K) -> bool
-        ensures { result ≡ is_some (lookup (is_at (K.cmp key.now)) self.now.ready) }
+    /// The value of a key, if it has one that can be changed without memory.
+    pub fn ready(&self, key: &K) -> Option<&V>
+        ensures ready { is_some result ≡ is_some (lookup (is_at (K.cmp key.now)) self.now.ready) }
+        ensures value { IfSome result (λ v. lookup (is_at (K.cmp key.now)) self.now.entries ≡ Some v.now) }
     {
         match &self.shared {
-            Some(_) => false,
-            None => self.own.is_ready(key),
+            Some(_) => None,
+            None => self.own.ready(key),
         }
     }
 
@@ -127,9 +128,10 @@ impl<K: Ord + Same, V: Same> ChunkMap<K, V> {
         Ok(())
     }
 
-    /// Makes the entry of a key changeable, if it is there. Refuses for want of memory; then the entries are as they were.
-    pub fn open(&mut self, alloc: Global, key: &K) -> Result<(), AllocError>
+    /// Makes the entry of a key changeable, and tells whether it is there. Refuses for want of memory; then the entries are as they were.
+    pub fn open(&mut self, alloc: Global, key: &K) -> Result<bool, AllocError>
         ensures entries { self.new.entries ≡ self.old.entries }
+        ensures there { IfOk result (λ there. there ≡ is_some (lookup (is_at (K.cmp key.now)) self.old.entries)) }
         ensures ok { OnOk result (IsSome (lookup (is_at (K.cmp key.now)) self.old.entries) → IsSome (lookup (is_at (K.cmp key.now)) self.new.ready)) }
         ensures kept { (k : K) → IsSome (lookup (is_at (K.cmp k)) self.old.ready) → IsSome (lookup (is_at (K.cmp k)) self.new.ready) }
     {

@@ -30,12 +30,12 @@ impl<'a, K: Ord + Same, V: Same> Iterator for Walk<'a, K, V> {
     ghost remaining = { λ s. at_most (length s) };
 
     fn next(&mut self) -> Option<(&'a K, &'a V)> {
-        if let Some(mut first) = self.first.take() {
+        if let Some(first) = &mut self.first {
             if let Some(entry) = first.next() {
-                self.first = Some(first);
                 return Some(entry);
             }
         }
+        self.first = None;
         while let Some((chunk, rest)) = self.rest.split_first() {
             self.rest = rest;
             let mut first = chunk.rows().range(..);

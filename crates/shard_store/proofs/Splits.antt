@@ -8,9 +8,9 @@ use Rattle.vschema.specs.declared.changes.RowChange.{RowChange}
 use Rattle.vschema.specs.declared.changes.RowChange.TheVariants.{Added, Replaced, Removed}
 use Rattle.vschema.specs.Database.{Database, without, changed_table, applied, all_applied}
 use Rattle.shard_store.specs.declared.key.KeyedChange.{KeyedChange}
-use Rattle.shard_store.specs.declared.key.KeyedChange.TheVariants.{Put, Take}
+use Rattle.shard_store.specs.declared.key.KeyedChange.TheVariants.{Put, Take, Swap}
 use Rattle.shard_store.specs.Stores.{StoreView, room_of, change_in, changes_in, IsByItsKey, HasReadySlot, puts_into, HasRoomFor}
-use Rattle.shard_store.specs.inner.Stores.{split, all_split}
+use Rattle.shard_store.specs.inner.Stores.{DoTheSame}
 use Rattle.shard_store.proofs.Tabled.{StaysReady, ready_stays}
 
 -- a row is taken from a table, and another put in
@@ -20,37 +20,69 @@ taken-put [] n f g = refl
 taken-put (rows ∷ db) zero f g = refl
 taken-put (rows ∷ db) (suc n) f g = ap (λ z. rows ∷ z) (taken-put db n f g)
 
-pub same_split : (changes : List RowChange) (db : Database) → all_applied (all_split changes) db ≡ all_applied changes db
-same_split [] db = refl
-same_split (Added n row ∷ changes) db = same_split changes (applied (Added n row) db)
-same_split (Replaced n old new ∷ changes) db =
-    same_split changes (applied (Added n new) (applied (Removed n old) db))
-    ∙ ap (all_applied changes) (taken-put db n (without old) (λ rows. rows ++ new ∷ []))
-same_split (Removed n row ∷ changes) db = same_split changes (applied (Removed n row) db)
-
 all_join : {X : Type 0} (P : X → Type 0) (xs ys : List X) → AllByRecursion P xs → AllByRecursion P ys → AllByRecursion P (xs ++ ys)
 all_join P [] ys a b = b
 all_join P (x ∷ xs) ys a b = (a.0, all_join P xs ys a.1 b)
 
-split_there : (n : ℕ) (c : RowChange) → changed_table c < n → AllByRecursion (λ d. changed_table d < n) (split c)
-split_there n (Added m row) h = (h, tt)
-split_there n (Replaced m old new) h = (h, (h, tt))
-split_there n (Removed m row) h = (h, tt)
+all_parts : {X : Type 0} (P : X → Type 0) (xs ys : List X) → AllByRecursion P (xs ++ ys) → AllByRecursion P xs × AllByRecursion P ys
+all_parts P [] ys h = (tt, h)
+all_parts P (x ∷ xs) ys h = let r = all_parts P xs ys h.1 in ((h.0, r.0), r.1)
 
-all_split_there : (n : ℕ) (changes : List RowChange) → AllByRecursion (λ d. changed_table d < n) changes → AllByRecursion (λ d. changed_table d < n) (all_split changes)
-all_split_there n [] h = tt
-all_split_there n (c ∷ changes) h =
-    all_join (λ d. changed_table d < n) (split c) (all_split changes) (split_there n c h.0) (all_split_there n changes h.1)
+-- ---- changes that do the same
+applied_after : (xs ys : List RowChange) (db : Database) → all_applied (xs ++ ys) db ≡ all_applied ys (all_applied xs db)
+applied_after [] ys db = refl
+applied_after (c ∷ xs) ys db = applied_after xs ys (applied c db)
+
+pub the_same : (xs ys : List RowChange) → xs ≡ ys → DoTheSame xs ys
+the_same xs ys e = record { same = λ db. ap (λ (l : List RowChange). all_applied l db) e; there = λ n h. subst (AllByRecursion (λ c. changed_table c < n)) (sym e) h }
+
+-- a row in another's place is its removal, and then the other's addition
+pub same_two : (xs ys zs : List RowChange) (n : ℕ) (old new : Row) → ys ≡ xs ++ Removed n old ∷ [] → zs ≡ ys ++ Added n new ∷ [] → DoTheSame zs (xs ++ Replaced n old new ∷ [])
+same_two xs ys zs n old new e f =
+    let is : zs ≡ (xs ++ Removed n old ∷ []) ++ Added n new ∷ [] = f ∙ ap (λ (l : List RowChange). l ++ Added n new ∷ []) e in
+    record {
+      same = λ db.
+          ap (λ (l : List RowChange). all_applied l db) is
+          ∙ (applied_after (xs ++ Removed n old ∷ []) (Added n new ∷ []) db
+          ∙ (ap (applied (Added n new)) (applied_after xs (Removed n old ∷ []) db)
+          ∙ (taken-put (all_applied xs db) n (without old) (λ rows. rows ++ new ∷ [])
+          ∙ sym (applied_after xs (Replaced n old new ∷ []) db))));
+      there = λ m h.
+          let parts = all_parts (λ c. changed_table c < m) xs (Replaced n old new ∷ []) h in
+          subst (AllByRecursion (λ c. changed_table c < m)) (sym is)
+          (all_join (λ c. changed_table c < m) (xs ++ Removed n old ∷ []) (Added n new ∷ []) (all_join (λ c. changed_table c < m) xs (Removed n old ∷ []) parts.0 (parts.1.0, tt)) (parts.1.0, tt));
+    }
+
+take_next : {X : Type 0} (xs : List X) (i : ℕ) (c : X) → i < length xs → c ≡ get_or xs i c → take i xs ++ c ∷ [] ≡ take (i + 1) xs
+take_next [] i c l is = absurd (omega (arith, l))
+take_next (x ∷ xs) zero c l is = ap (λ (y : _). y ∷ []) is
+take_next (x ∷ xs) (suc i) c l is =
+    let same : suc i + 1 ≡ suc (i + 1) = omega arith in
+    ap (λ (z : List _). x ∷ z) (take_next xs i c (omega (arith, l)) is) ∙ ap (λ k. take k (x ∷ xs)) (sym same)
+
+-- one change more
+pub same_next : (all xs ys : List RowChange) (i : ℕ) (c : RowChange) → i < length all → c ≡ get_or all i c → DoTheSame xs (take i all) → DoTheSame ys (xs ++ c ∷ []) → DoTheSame ys (take (i + 1) all)
+same_next all xs ys i c l is h g =
+    let next = take_next all i c l is in
+    record {
+      same = λ db.
+          g.same db
+          ∙ (applied_after xs (c ∷ []) db
+          ∙ (ap (applied c) (h.same db)
+          ∙ (sym (applied_after (take i all) (c ∷ []) db) ∙ ap (λ (r : List RowChange). all_applied r db) next)));
+      there = λ n a.
+          let parts = all_parts (λ d. changed_table d < n) (take i all) (c ∷ []) (subst (AllByRecursion (λ d. changed_table d < n)) (sym next) a) in
+          g.there n (all_join (λ d. changed_table d < n) xs (c ∷ []) (h.there n parts.0) parts.1);
+    }
 
 from_changes : (n : ℕ) (keyed : List KeyedChange) → AllByRecursion (λ d. changed_table d < n) (changes_in keyed)
     → AllByRecursion (λ c. changed_table (change_in c) < n) keyed
 from_changes n [] h = tt
 from_changes n (c ∷ keyed) h = (h.0, from_changes n keyed h.1)
 
-pub keyed_there : (n : ℕ) (changes : List RowChange) (keyed : List KeyedChange) → changes_in keyed ≡ all_split changes
+pub keyed_there : (n : ℕ) (changes : List RowChange) (keyed : List KeyedChange) → DoTheSame (changes_in keyed) changes
     → AllByRecursion (λ d. changed_table d < n) changes → AllByRecursion (λ c. changed_table (change_in c) < n) keyed
-keyed_there n changes keyed is h =
-    from_changes n keyed (subst (AllByRecursion (λ d. changed_table d < n)) (sym is) (all_split_there n changes h))
+keyed_there n changes keyed same h = from_changes n keyed (same.there n h)
 
 pub keys_push : (s : StoreView) (keyed : List KeyedChange) (c : KeyedChange) → AllByRecursion (IsByItsKey s) keyed → IsByItsKey s c
     → AllByRecursion (IsByItsKey s) (keyed ++ c ∷ [])
@@ -60,26 +92,6 @@ pub changes_push : (keyed : List KeyedChange) (c : KeyedChange) → changes_in (
 changes_push [] c = refl
 changes_push (d ∷ keyed) c = ap (λ z. change_in d ∷ z) (changes_push keyed c)
 
-append_after : {X : Type 0} (xs ys zs : List X) → (xs ++ ys) ++ zs ≡ xs ++ (ys ++ zs)
-append_after [] ys zs = refl
-append_after (x ∷ xs) ys zs = ap (λ z. x ∷ z) (append_after xs ys zs)
-
-pub two_after : {X : Type 0} (xs : List X) (x y : X) → (xs ++ x ∷ []) ++ y ∷ [] ≡ xs ++ x ∷ y ∷ []
-two_after xs x y = append_after xs (x ∷ []) (y ∷ [])
-
--- one change more
-pub split_next : (changes : List RowChange) (i : ℕ) (c : RowChange) → i < length changes → c ≡ get_or changes i c
-    → all_split (take (i + 1) changes) ≡ all_split (take i changes) ++ split c
-split_next [] i c l is = absurd (omega (arith, l))
-split_next (d ∷ changes) zero c l is = nil_after (split d) ∙ ap split (sym is)
-  where
-    nil_after : {X : Type 0} (xs : List X) → xs ++ [] ≡ xs
-    nil_after [] = refl
-    nil_after (x ∷ xs) = ap (λ z. x ∷ z) (nil_after xs)
-split_next (d ∷ changes) (suc i) c l is =
-    let same : suc i + 1 ≡ suc (i + 1) = omega arith in
-    ap (λ k. all_split (take k (d ∷ changes))) same ∙ ap (λ z. split d ++ z) (split_next changes i c (omega (arith, l)) is) ∙ sym (append_after (split d) (all_split (take i changes)) (split c))
-
 -- ---- room
 
 abbrev ordinal_of : KeyedChange → ℕ
@@ -88,6 +100,7 @@ ordinal_of c = changed_table (change_in c)
 puts-own : (n m : ℕ) (c : KeyedChange) → ordinal_of c ≡ n → puts_into m c ≡ true → n ≡ m
 puts-own n m (Put k row) is e = sym is ∙ eqb-true k m e
 puts-own n m (Take k row) is e = absurd (cc e)
+puts-own n m (Swap k swap) is e = sym is ∙ eqb-true k m e
 
 all_weaker : {X : Type 0} (P Q : X → Type 0) → ((x : X) → P x → Q x) → (xs : List X) → AllByRecursion P xs → AllByRecursion Q xs
 all_weaker P Q f [] h = tt

@@ -8,7 +8,7 @@ use Rattle.std.proofs.lemmas.List.Sums.{sum_by-cons}
 use Rattle.vt_value.specs.Values.{Row}
 use Rattle.vschema.specs.Database.{Database, SameRows, changed_table, applied, all_applied}
 use Rattle.shard_store.specs.declared.key.KeyedChange.{KeyedChange}
-use Rattle.shard_store.specs.declared.key.KeyedChange.TheVariants.{Put, Take}
+use Rattle.shard_store.specs.declared.key.KeyedChange.TheVariants.{Put, Take, Swap}
 use Rattle.shard_store.specs.declared.key.RowKey.{RowKey}
 use Rattle.shard_store.specs.Slots.{Slot, slot_at}
 use Rattle.shard_store.specs.Tables.{key_at}
@@ -204,6 +204,8 @@ all_made f all list i past so = so ∙ whole (map f all) i (omega (arith, past, 
 key_stays : (s t : StoreView) → t.ordinals ≡ s.ordinals → (c : KeyedChange) → IsByItsKey s c → IsByItsKey t c
 key_stays s t e (Put n k) h = h ∙ ap (λ (ps : List (List ℕ)). key_at (get_or ps n []) k.row) (sym e)
 key_stays s t e (Take n k) h = h ∙ ap (λ (ps : List (List ℕ)). key_at (get_or ps n []) k.row) (sym e)
+key_stays s t e (Swap n k) h =
+    (h.0 ∙ ap (λ (ps : List (List ℕ)). key_at (get_or ps n []) k.old) (sym e), h.1 ∙ ap (λ (ps : List (List ℕ)). key_at (get_or ps n []) k.new) (sym e))
 
 pub ready_stays : (s t : StoreView) → StaysReady s t → (c : KeyedChange) → HasReadySlot s c → HasReadySlot t c
 ready_stays s t f c h = f (changed_table (change_in c)) (key_in c) h

@@ -1,9 +1,10 @@
 -- Rows in slots and outside them.
-use Rattle.std.proofs.Common.{◌≡◌, ◌↔◌, IsTrue, ℕ, zero, suc, ◌<◌, Bool, true, false, ◌&&◌, not, List, [], ◌∷◌, ◌++◌, length, get_or, filter, position, option_to_list, Option, Some, IsPermutation, refl, sym, ap, ◌∙◌, subst, arith}
+use Rattle.std.proofs.Common.{◌≡◌, ◌↔◌, IsTrue, ℕ, zero, suc, ◌<◌, Bool, true, false, cond, ◌||◌, ◌&&◌, not, List, [], ◌∷◌, ◌++◌, length, get_or, filter, position, option_to_list, Option, Some, None, IsPermutation, refl, sym, ap, ◌∙◌, subst, arith}
 use Rattle.std.specs.Prelude.{nat_lt}
 use Rattle.std.specs.List.{position_or_len, remove, list_any}
 use Rattle.std.specs.List.Sorted.{IsStrictlySortedBy}
 use Rattle.std.specs.Map.{keys_of}
+use Rattle.std.specs.Ordering.{is_eq}
 use Rattle.std.proofs.lemmas.Bool.{ltb-false, false≢true, true≢false, and_parts, not-true}
 use Rattle.std.proofs.lemmas.List.Quantifiers.{position-Some}
 use Rattle.std.proofs.lemmas.List.Sums.{fails_before_first}
@@ -12,10 +13,11 @@ use Rattle.vt_value.specs.Values.{Row}
 use Rattle.vschema.specs.Database.{same_row, without}
 use Rattle.shard_store.specs.declared.key.RowKey.{RowKey}
 use Rattle.shard_store.specs.Keys.{row_key_cmp}
-use Rattle.shard_store.specs.Slots.{Slot, rows_in, row_at}
+use Rattle.shard_store.specs.Slots.{Slot, rows_in, slot_at, row_at}
 use Rattle.shard_store.specs.Tables.{key_at, has_key}
 use Rattle.shard_store.proofs.Rows.{row_is}
-use Rattle.shard_store.proofs.Bags.{same_self}
+use Rattle.shard_store.proofs.Bags.{same_self, without-same}
+use Rattle.shard_store.proofs.SlotLemmas.{some_is}
 use Rattle.shard_store.proofs.Keyed.{Keyed, found, not_there}
 
 -- ---- a row of two lists
@@ -58,6 +60,48 @@ added_before r xs ys zs h =
     (IsPermutation-trans ((xs ++ r ∷ []) ++ ys) (r ∷ (xs ++ ys)) ((xs ++ ys) ++ r ∷ [])
     (IsPermutation-append_left ys (xs ++ r ∷ []) (r ∷ xs) (IsPermutation-to_front xs r))
     (IsPermutation-sym ((xs ++ ys) ++ r ∷ []) (r ∷ (xs ++ ys)) (IsPermutation-to_front (xs ++ ys) r)))
+
+-- and a row in another's place, where that was before the others
+pub replaced_before : (old new : Row) (xs ys zs : List Row) → list_any (same_row old) xs ≡ true → IsPermutation zs (without old xs ++ new ∷ [])
+    → IsPermutation (zs ++ ys) (without old (xs ++ ys) ++ new ∷ [])
+replaced_before old new xs ys zs any h =
+    subst (λ (l : List Row). IsPermutation (zs ++ ys) (l ++ new ∷ [])) (sym (without_left old xs ys any)) (added_before new (without old xs) ys zs h)
+
+-- ---- a slot with another row
+any_after : (p : Row → Bool) (o : Option Row) (ys : List Row) → list_any p ys ≡ true → list_any p (option_to_list o ++ ys) ≡ true
+any_after p None ys h = h
+any_after p (Some r) ys h = by (p r) refl
+  where
+    by : (b : Bool) → p r ≡ b → (p r || list_any p ys) ≡ true
+    by true t = simp t
+    by false t = simp (t, h)
+
+row_there : (k : RowKey) (slots : List Slot) (row : Row) → slot_at slots k ≡ Some (Some row) → list_any (same_row row) (rows_in slots) ≡ true
+row_there k [] row h = absurd (cc h)
+row_there k (e ∷ slots) row h = by (row_there k slots row) (is_eq (row_key_cmp k e.0)) refl
+  where
+    by : (slot_at slots k ≡ Some (Some row) → list_any (same_row row) (rows_in slots) ≡ true) → (b : Bool) → is_eq (row_key_cmp k e.0) ≡ b
+        → list_any (same_row row) (option_to_list e.1 ++ rows_in slots) ≡ true
+    by ih true t =
+        let g : Some e.1 ≡ Some (Some row) = rw t at h in
+        let own = same_self row in
+        subst (λ (o : Option Row). list_any (same_row row) (option_to_list o ++ rows_in slots) ≡ true) (sym (some_is g)) (simp own)
+    by ih false t =
+        let g : slot_at slots k ≡ Some (Some row) = rw t at h in
+        any_after (same_row row) e.1 (rows_in slots) (ih g)
+
+pub row_exchanged : (k : RowKey) (before after : List Slot) (old new : Row) → slot_at before k ≡ Some (Some old) → IsPermutation (old ∷ rows_in after) (new ∷ rows_in before)
+    → IsPermutation (rows_in after) (without old (rows_in before) ++ new ∷ [])
+row_exchanged k before after old new there h =
+    let turned : IsPermutation (old ∷ rows_in after) (rows_in before ++ new ∷ []) =
+    IsPermutation-trans _ _ _ h (IsPermutation-sym (rows_in before ++ new ∷ []) (new ∷ rows_in before) (IsPermutation-to_front (rows_in before) new)) in
+    subst (IsPermutation (rows_in after)) (without_left old (rows_in before) (new ∷ []) (row_there k before old there))
+    (subst (λ (l : List Row). IsPermutation l (without old (rows_in before ++ new ∷ []))) (first (same_row old old) (same_self old))
+    (without-same old (old ∷ rows_in after) (rows_in before ++ new ∷ []) turned))
+  where
+    first : (b : Bool) → b ≡ true → cond b (rows_in after) (old ∷ without old (rows_in after)) ≡ rows_in after
+    first true e = refl
+    first false e = cc
 
 -- ---- the first row that is this one
 
@@ -141,9 +185,8 @@ held_there ordinals key slots row true h up at is =
 held_there ordinals key slots row false h up at is =
     sym (none_if_whole row (rows_in slots) (not_there ordinals key slots row h up at (λ e. false≢true (is.1 e))))
 
--- a key with a free slot
-pub ready_parts : (r a b c : Bool) → c ≡ (r && (a && not b)) → c ≡ true → (r ≡ true) × (a ≡ true) × (b ≡ false)
-ready_parts r a b c is t =
-    let p = and_parts r (a && not b) (sym is ∙ t) in
-    let q = and_parts a (not b) p.1 in
-    (p.0, q.0, not-true b q.1)
+-- a key with a slot that is ready and no row
+pub ready_parts : (r b c : Bool) → c ≡ (r && not b) → c ≡ true → (r ≡ true) × (b ≡ false)
+ready_parts r b c is t =
+    let p = and_parts r (not b) (sym is ∙ t) in
+    (p.0, not-true b p.1)

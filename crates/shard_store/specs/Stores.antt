@@ -3,11 +3,11 @@ use Rattle.std.specs.Prelude.{◌≡◌, ℕ, Bool, false, ◌==◌, ◌≤◌, 
 use Rattle.std.specs.List.{AllByRecursion}
 use Rattle.vt_value.specs.Values.{Row}
 use Rattle.vschema.specs.declared.changes.RowChange.{RowChange}
-use Rattle.vschema.specs.declared.changes.RowChange.TheVariants.{Added, Removed}
+use Rattle.vschema.specs.declared.changes.RowChange.TheVariants.{Added, Replaced, Removed}
 use Rattle.vschema.specs.Database.{Database, changed_table, all_applied}
 use Rattle.shard_store.specs.declared.key.RowKey.{RowKey}
 use Rattle.shard_store.specs.declared.key.KeyedChange.{KeyedChange}
-use Rattle.shard_store.specs.declared.key.KeyedChange.TheVariants.{Put, Take}
+use Rattle.shard_store.specs.declared.key.KeyedChange.TheVariants.{Put, Take, Swap}
 use Rattle.shard_store.specs.Tables.{key_at}
 use Rattle.shard_store.specs.Slots.{Slot, slot_at}
 
@@ -46,18 +46,21 @@ room_of s n = slice_index s.room n
 abbrev pub change_in : KeyedChange → RowChange
 change_in (Put n k) = Added n k.row
 change_in (Take n k) = Removed n k.row
+change_in (Swap n k) = Replaced n k.old k.new
 
 abbrev pub changes_in : List KeyedChange → List RowChange
 changes_in changes = map change_in changes
 
--- the key is that of the row
+-- the key is that of the row, or of both rows
 abbrev pub IsByItsKey : StoreView → KeyedChange → Type 0
 IsByItsKey s (Put n k) = k.key.values ≡ key_at (ordinals_of s n) k.row
 IsByItsKey s (Take n k) = k.key.values ≡ key_at (ordinals_of s n) k.row
+IsByItsKey s (Swap n k) = (k.key.values ≡ key_at (ordinals_of s n) k.old) × (k.key.values ≡ key_at (ordinals_of s n) k.new)
 
 abbrev pub key_in : KeyedChange → RowKey
 key_in (Put n k) = k.key
 key_in (Take n k) = k.key
+key_in (Swap n k) = k.key
 
 -- the key has a slot that can be changed without memory
 abbrev pub HasReadySlot : StoreView → KeyedChange → Type 0
@@ -71,6 +74,7 @@ HasItsKey s change = IsByItsKey s change × HasReadySlot s change
 abbrev pub puts_into : ℕ → KeyedChange → Bool
 puts_into n (Put m k) = m == n
 puts_into n (Take m k) = false
+puts_into n (Swap m k) = m == n
 
 -- each table has room for all rows that the changes put into it
 abbrev pub HasRoomFor : StoreView → List KeyedChange → Type 0

@@ -75,6 +75,28 @@ fn compare_values_to_row(values: &[Value], row: &Row, columns: &[usize]) -> Orde
     }
 }
 
+// Compares a number with the value of a row in a column.
+fn compare_number(number: i64, row: &Row, ordinal: usize) -> Ordering
+    ensures { result ≡ value_cmp (Value.Int number) (value_at row.now ordinal) }
+{
+    let null = Value::Null;
+    let value = value_at(row, ordinal, &null);
+    match value {
+        Value::Int(other) => i128::from(number).cmp(other),
+        _ => sort_order(&Value::Int(i128::from(number)), value),
+    }
+}
+
+// Compares a number with the values of a row in columns.
+fn compare_number_to_row(number: i64, row: &Row, columns: &[usize]) -> Ordering
+    ensures { result ≡ slice_cmp value_cmp (Value.Int number ∷ []) (key_at columns.now row.now) }
+{
+    match columns {
+        [ordinal] => compare_number(number, row, *ordinal),
+        _ => compare_values_to_row(&[Value::Int(i128::from(number))], row, columns),
+    }
+}
+
 fn compare_listings(a: &Listing, b: &Listing) -> Ordering
     ensures { result ≡ slice_cmp value_cmp (listed a.now) (listed b.now) }
 {
@@ -145,9 +167,7 @@ impl KeyValues {
         ensures { result ≡ slice_cmp value_cmp self.now (key_at columns.now row.now) }
     {
         match &self.listing {
-            Listing::Number(number) => {
-                compare_values_to_row(&[Value::Int(i128::from(*number))], row, columns)
-            }
+            Listing::Number(number) => compare_number_to_row(*number, row, columns),
             Listing::Values(values) => {
                 compare_values_to_row(values.get().as_slice(), row, columns)
             }

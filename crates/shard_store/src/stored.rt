@@ -1,14 +1,14 @@
 //! The tables of a shard. Changes are prepared with all their memory first, and then applied without any.
 ghost use Rattle.std.specs.Prelude.{◌≡◌, ◌==◌, ◌+◌, ◌<◌, ◌≤◌, ◌^◌, if◌then◌else◌, ◌++◌, ◌∷◌, [], ℕ, IsTrue, IsSome, map, OnOk, OnErr, IfOk, IfErr, length, slice_set, count_by, IsPermutation, sum_by, nat_le};
 ghost use Rattle.std.specs.List.{AllByRecursion};
-ghost use Rattle.vschema.specs.declared.changes.RowChange.TheVariants.{Added, Removed};
+ghost use Rattle.vschema.specs.declared.changes.RowChange.TheVariants.{Added, Replaced, Removed};
 ghost use Rattle.vschema.specs.Database.{SameRows, rows_of, without, changed_table, applied, all_applied};
 ghost use Rattle.shard_store.specs.Slots.{slot_at};
 ghost use Rattle.shard_store.specs.Tables.{key_at};
 ghost use Rattle.shard_store.specs.Stores.{ordinals_of, ready_of, room_of, key_in, change_in, changes_in, IsByItsKey, HasReadySlot, HasItsKey, puts_into, HasRoomFor, IsReadyFor};
-ghost use Rattle.shard_store.specs.inner.Stores.{split, all_split};
+ghost use Rattle.shard_store.specs.inner.Stores.{DoTheSame};
 
-use crate::key::{KeyedChange, KeyedRow, RowKey};
+use crate::key::{KeyedChange, KeyedRow, KeyedSwap, RowKey};
 use crate::key_columns::key_ordinals;
 use crate::key_values::KeyValues;
 use crate::shared_change::{ChangedRows, SharedChange};
@@ -40,6 +40,7 @@ fn ordinal_in(change: &KeyedChange) -> usize
     match change {
         KeyedChange::Put(ordinal, _) => *ordinal,
         KeyedChange::Take(ordinal, _) => *ordinal,
+        KeyedChange::Swap(ordinal, _) => *ordinal,
     }
 }
 
@@ -49,7 +50,26 @@ fn key_in(change: &KeyedChange) -> &RowKey
     match change {
         KeyedChange::Put(_, keyed) => &keyed.key,
         KeyedChange::Take(_, keyed) => &keyed.key,
+        KeyedChange::Swap(_, swap) => &swap.key,
     }
+}
+
+fn are_same(a: &RowKey, b: &RowKey) -> bool
+    ensures { IsTrue result → a.now.values ≡ b.now.values }
+{
+    a == b
+}
+
+// A row in another's place, of both of which another owner is made.
+fn swap_of(key: RowKey, old: &SharedRow, new: &SharedRow) -> Result<KeyedSwap, Refusal>
+    ensures key { IfOk result (λ s. s.key ≡ key) }
+    ensures old { IfOk result (λ s. s.old ≡ old.now) }
+    ensures new { IfOk result (λ s. s.new ≡ new.now) }
+    ensures err { IfErr result (λ e. e ≡ Refusal.OutOfMemory) }
+{
+    let old = old.clone()?;
+    let new = new.clone()?;
+    Ok(KeyedSwap { key, old, new })
 }
 
 // Gives up the slots of changed rows that have no row, and has the others no longer ready.
@@ -194,6 +214,31 @@ impl StoredTables {
         Ok(())
     }
 
+    // Puts a row in another's place after the changes, if both have the same key; tells whether they have.
+    fn push_swap(
+        &self,
+        alloc: Global,
+        ordinal: usize,
+        old: &SharedRow,
+        new: &SharedRow,
+        keyed: &mut Vec<KeyedChange>,
+    ) -> Result<bool, Refusal>
+        requires { AllByRecursion (IsByItsKey self.now) keyed.old.items }
+        ensures keys { OnOk result (AllByRecursion (IsByItsKey self.now) keyed.new.items) }
+        ensures changes { IfOk result (λ same. changes_in keyed.new.items ≡ (if same then changes_in keyed.old.items ++ Replaced ordinal old.now new.now ∷ [] else changes_in keyed.old.items)) }
+        ensures err { IfErr result (λ e. e ≡ Refusal.OutOfMemory) }
+    {
+        let old_key = self.key_of(alloc, ordinal, old.get())?;
+        let key = self.key_of(alloc, ordinal, new.get())?;
+        if !are_same(&old_key, &key) {
+            return Ok(false);
+        }
+        let swap = swap_of(key, old, new)?;
+        keyed.push(KeyedChange::Swap(ordinal, swap))?;
+        Ok(true)
+    }
+
+    // Puts a change after the changes: a row in another's place is its removal and then the other's addition, if their keys differ.
     fn push_change(
         &self,
         alloc: Global,
@@ -202,12 +247,15 @@ impl StoredTables {
     ) -> Result<(), Refusal>
         requires { AllByRecursion (IsByItsKey self.now) keyed.old.items }
         ensures keys { OnOk result (AllByRecursion (IsByItsKey self.now) keyed.new.items) }
-        ensures changes { OnOk result (changes_in keyed.new.items ≡ changes_in keyed.old.items ++ split change.now) }
+        ensures changes { OnOk result (DoTheSame (changes_in keyed.new.items) (changes_in keyed.old.items ++ change.now ∷ [])) }
         ensures err { IfErr result (λ e. e ≡ Refusal.OutOfMemory) }
     {
         match change.rows() {
             ChangedRows::Added(ordinal, row) => self.push_put(alloc, *ordinal, row, keyed),
             ChangedRows::Replaced(ordinal, old, new) => {
+                if self.push_swap(alloc, *ordinal, old, new, keyed)? {
+                    return Ok(());
+                }
                 self.push_take(alloc, *ordinal, old, keyed)?;
                 self.push_put(alloc, *ordinal, new, keyed)
             }
@@ -222,7 +270,7 @@ impl StoredTables {
         changes: &[SharedChange],
     ) -> Result<Vec<KeyedChange>, Refusal>
         ensures keys { IfOk result (λ keyed. AllByRecursion (IsByItsKey self.now) keyed.items) }
-        ensures changes { IfOk result (λ keyed. changes_in keyed.items ≡ all_split changes.now) }
+        ensures changes { IfOk result (λ keyed. DoTheSame (changes_in keyed.items) changes.now) }
         ensures err { IfErr result (λ e. e ≡ Refusal.OutOfMemory) }
     {
         let mut keyed = Vec::new(alloc);
@@ -297,8 +345,7 @@ impl StoredTables {
         Ok(())
     }
 
-    /// The changes by keys, with all memory that they need; the rows stay as they are. A row in another's place is its removal, and then
-    /// the other's addition. Refuses for want of memory.
+    /// The changes by keys, with all memory that they need; the rows stay as they are. Refuses for want of memory.
     pub fn prepare(
         &mut self,
         alloc: Global,
@@ -341,12 +388,34 @@ impl StoredTables {
         }
     }
 
-    // Remembers the key of a row that was changed in the table at an ordinal.
+    fn swap(&mut self, ordinal: usize, key: &RowKey, old: &Row, new: SharedRow)
+        requires old_key { key.now.values ≡ key_at (ordinals_of self.old ordinal) old.now }
+        requires new_key { key.now.values ≡ key_at (ordinals_of self.old ordinal) new }
+        requires ready { IsSome (slot_at (ready_of self.old ordinal) key.now) }
+        requires room { 0 < room_of self.old ordinal }
+        ensures rows { SameRows self.new.rows (applied (Replaced ordinal old.now new) self.old.rows) }
+        ensures ordinals { self.new.ordinals ≡ self.old.ordinals }
+        ensures room { (n : ℕ) → room_of self.old n ≤ room_of self.new n + (if ordinal == n then 1 else 0) }
+        ensures still { (n : ℕ) (k : RowKey) → IsSome (slot_at (ready_of self.old n) k) → IsSome (slot_at (ready_of self.new n) k) }
+    {
+        self.tables[ordinal].replace(key, old, new);
+    }
+
+    // Remembers the key of a row that was taken from the table at an ordinal.
     fn free(&mut self, ordinal: usize, key: RowKey)
         ensures { self.new ≡ self.old }
     {
         if ordinal < self.tables.len() {
             self.tables[ordinal].free(key);
+        }
+    }
+
+    // Remembers the key of a row that was put into the table at an ordinal.
+    fn fill(&mut self, ordinal: usize, key: RowKey)
+        ensures { self.new ≡ self.old }
+    {
+        if ordinal < self.tables.len() {
+            self.tables[ordinal].fill(key);
         }
     }
 
@@ -370,12 +439,17 @@ impl StoredTables {
             KeyedChange::Put(ordinal, keyed) => {
                 let KeyedRow { key, row } = keyed;
                 self.put(ordinal, &key, row);
-                self.free(ordinal, key);
+                self.fill(ordinal, key);
             }
             KeyedChange::Take(ordinal, keyed) => {
                 let KeyedRow { key, row } = keyed;
                 self.take(ordinal, &key, row.get());
                 self.free(ordinal, key);
+            }
+            KeyedChange::Swap(ordinal, swap) => {
+                let KeyedSwap { key, old, new } = swap;
+                self.swap(ordinal, &key, old.get(), new);
+                self.fill(ordinal, key);
             }
         }
     }

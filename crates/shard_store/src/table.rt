@@ -1,6 +1,7 @@
 //! The rows of a table whose keys differ, each in the slot of its key.
-ghost use Rattle.std.specs.Prelude.{◌≡◌, ◌<◌, ◌^◌, ◌&&◌, not, ◌++◌, ◌∷◌, [], IsSome, IsTrue, IfOk, IfErr, OnOk, OnErr, IsPermutation, option_to_list, option_copied, filter, length, slice_index, is_some, if◌then◌else◌};
+ghost use Rattle.std.specs.Prelude.{◌≡◌, ◌<◌, ◌^◌, ◌&&◌, not, ◌++◌, ◌∷◌, [], IsSome, IsTrue, IfOk, IfErr, OnOk, OnErr, IsPermutation, Some, List, option_to_list, option_copied, filter, length, slice_index, is_some, if◌then◌else◌};
 ghost use Rattle.std.specs.List.{AllByRecursion, list_any};
+ghost use Rattle.vt_value.specs.declared.value.Value.{Value as V};
 ghost use Rattle.vt_value.specs.Values.{value_at};
 ghost use Rattle.vschema.specs.Database.{same_row, without};
 ghost use Rattle.shard_store.specs.Slots.{rows_in, slot_at, row_at, slots_from, with_slot, without_slot};
@@ -219,34 +220,23 @@ impl StoredTable {
         self.get(key).is_some()
     }
 
-    /// Whether a key has a slot, and no row.
-    pub fn is_free(&self, key: &RowKey) -> bool
-        ensures { result ≡ (is_some (slot_at self.now.slots key.now) && not (list_any (has_key self.now.ordinals key.now.values) (rows_in self.now.slots))) }
-    {
-        self.slots.has(key) && !self.contains(key)
-    }
-
     /// Whether this row, whose key is given, is there.
     pub fn holds(&self, key: &RowKey, row: &Row) -> bool
         requires { key.now.values ≡ key_at self.now.ordinals row.now }
-        ensures { result ≡ list_any (same_row row.now) (rows_in self.now.slots) }
+        ensures is { result ≡ list_any (same_row row.now) (rows_in self.now.slots) }
+        ensures at { IsTrue result → row_at self.now.slots key.now ≡ Some row.now }
     {
         let _slots = self.slots.len();
         self.slots.holds(key, row)
     }
 
-    /// Whether a key has a slot that can be changed without memory.
-    pub fn is_ready(&self, key: &RowKey) -> bool
-        ensures { result ≡ is_some (slot_at self.now.ready key.now) }
-    {
-        self.slots.is_ready(key)
-    }
-
     /// Whether a key has a slot that is ready, and no row.
     pub fn can_take(&self, key: &RowKey) -> bool
-        ensures { result ≡ (is_some (slot_at self.now.ready key.now) && (is_some (slot_at self.now.slots key.now) && not (list_any (has_key self.now.ordinals key.now.values) (rows_in self.now.slots)))) }
+        ensures is { result ≡ (is_some (slot_at self.now.ready key.now) && not (list_any (has_key self.now.ordinals key.now.values) (rows_in self.now.slots))) }
+        ensures slot { IsTrue result → IsSome (slot_at self.now.slots key.now) }
     {
-        self.is_ready(key) && self.is_free(key)
+        let _slots = self.slots.len();
+        self.slots.is_idle(key)
     }
 
     /// Makes a slot for a key, if it has none, and has it ready. Refuses for want of memory; the slots stay as they are.
@@ -329,16 +319,15 @@ impl StoredTable {
         }
     }
 
-    /// Puts a row in the place of another one, which has the same key. Takes no memory.
-    pub fn replace(&mut self, key: &RowKey, old: &Row, new: SharedRow)
-        requires key { key.now.values ≡ key_at self.old.ordinals old.now }
-        requires fits { CanTake self.old key.now new (without old.now (rows_in self.old.slots)) }
-        ensures rows { IsPermutation (rows_in self.new.slots) (without old.now (rows_in self.old.slots) ++ new ∷ []) }
-        ensures kept { (k : RowKey) → IsSome (slot_at self.old.slots k) → IsSome (slot_at self.new.slots k) }
+    /// Puts a row in the place of the one that the ready slot of its key has. Takes no memory.
+    pub fn replace(&mut self, key: &RowKey, row: SharedRow)
+        requires key { key.now.values ≡ key_at self.old.ordinals row }
+        requires ready { IsSome (slot_at self.old.ready key.now) }
+        requires there { IsSome (row_at self.old.slots key.now) }
+        ensures rows { (old : List V) → row_at self.old.slots key.now ≡ Some old → IsPermutation (rows_in self.new.slots) (without old (rows_in self.old.slots) ++ row ∷ []) }
         ensures still { (k : RowKey) → IsSome (slot_at self.old.ready k) → IsSome (slot_at self.new.ready k) }
         ensures ordinals { self.new.ordinals ≡ self.old.ordinals }
     {
-        self.remove(key, old);
-        self.add(key, new);
+        self.slots.exchange(key, row);
     }
 }

@@ -20,23 +20,32 @@ fn ordinal_of(rows: &[SharedRow], row: &Row) -> Option<usize>
     rows.iter().position(|r| same_row(row, r.get()))
 }
 
-// Gives up the slots of these keys that have no row.
-fn sweep_slots(stored: &mut StoredTable, keys: &[RowKey])
+/// The key of a changed row, and whether the change took that from its slot.
+#[derive(Drop)]
+pub(crate) struct ChangedKey {
+    key: RowKey,
+    is_taken: bool,
+}
+
+// Gives up the slots from which a row was taken that have none.
+fn sweep_slots(stored: &mut StoredTable, keys: &[ChangedKey])
     ensures rows { rows_in stored.new.slots ≡ rows_in stored.old.slots }
     ensures ordinals { stored.new.ordinals ≡ stored.old.ordinals }
 {
-    for key in keys {
-        stored.sweep(key);
+    for changed in keys {
+        if changed.is_taken {
+            stored.sweep(&changed.key);
+        }
     }
 }
 
 // Has the slots of these keys no longer ready.
-fn close_slots(stored: &mut StoredTable, keys: &mut Vec<RowKey>)
+fn close_slots(stored: &mut StoredTable, keys: &mut Vec<ChangedKey>)
     ensures slots { stored.new.slots ≡ stored.old.slots }
     ensures ordinals { stored.new.ordinals ≡ stored.old.ordinals }
 {
-    while let Some(key) = keys.pop() {
-        stored.close(&key);
+    while let Some(changed) = keys.pop() {
+        stored.close(&changed.key);
     }
 }
 
@@ -58,8 +67,8 @@ fn shared(alloc: Global, rows: &[SharedRow]) -> Result<Vec<SharedRow>, Refusal>
 pub struct TableRows {
     pub(crate) stored: StoredTable,
     pub(crate) unslotted: Vec<SharedRow>,
-    // keys of changed rows, whose slots are to be given up, if they have no row, and to be no longer ready
-    pub(crate) freed: Vec<RowKey>,
+    // whose slots are to be no longer ready, and to be given up if they have no row
+    pub(crate) changed: Vec<ChangedKey>,
 }
 
 impl Model for TableRows {
@@ -81,7 +90,7 @@ impl TableRows {
         TableRows {
             stored: StoredTable::new(alloc, ordinals),
             unslotted: Vec::new(alloc),
-            freed: Vec::new(alloc),
+            changed: Vec::new(alloc),
         }
     }
 
@@ -186,33 +195,65 @@ impl TableRows {
         }
     }
 
+    /// Puts a row in the place of another one, whose key is the same; adds it, if the other isn't there. Takes no memory.
+    pub fn replace(&mut self, key: &RowKey, old: &Row, new: SharedRow)
+        requires old_key { key.now.values ≡ key_at self.old.ordinals old.now }
+        requires new_key { key.now.values ≡ key_at self.old.ordinals new }
+        requires ready { IsSome (slot_at self.old.ready key.now) }
+        requires room { 0 < self.old.room }
+        ensures rows { IsPermutation self.new.rows (without old.now self.old.rows ++ new ∷ []) }
+        ensures still { (k : RowKey) → IsSome (slot_at self.old.ready k) → IsSome (slot_at self.new.ready k) }
+        ensures ordinals { self.new.ordinals ≡ self.old.ordinals }
+        ensures room { self.old.room ≤ self.new.room + 1 }
+    {
+        if self.stored.holds(key, old) {
+            self.stored.replace(key, new);
+        } else {
+            self.remove(key, old);
+            self.add(key, new);
+        }
+    }
+
     /// Makes memory to remember so many more keys of changed rows. Refuses for want of memory; the rows stay as they are.
     pub fn reserve_freed(&mut self, additional: usize) -> Result<(), Refusal>
         ensures unchanged { self.new ≡ self.old }
         ensures err { IfErr result (λ e. e ≡ Refusal.OutOfMemory) }
     {
-        self.freed.reserve(additional)?;
+        self.changed.reserve(additional)?;
         Ok(())
     }
 
-    /// Remembers the key of a changed row, whose slot is looked at by `sweep`, if there is memory for that. Takes no memory.
-    pub fn free(&mut self, key: RowKey)
+    fn remember(&mut self, key: RowKey, is_taken: bool)
         ensures { self.new ≡ self.old }
     {
-        if self.freed.len() < self.freed.capacity() {
-            self.freed.push_reserved(key);
+        if self.changed.len() < self.changed.capacity() {
+            self.changed.push_reserved(ChangedKey { key, is_taken });
         }
     }
 
-    /// Gives up the slots of remembered keys that have no row, and has the others no longer ready, so that a snapshot can share them.
+    /// Remembers the key of a row that was taken from its slot, which is looked at by `sweep`, if there is memory for that. Takes no memory.
+    pub fn free(&mut self, key: RowKey)
+        ensures { self.new ≡ self.old }
+    {
+        self.remember(key, true);
+    }
+
+    /// Remembers the key of a row that was put into its slot, which `sweep` has no longer ready, if there is memory for that. Takes no memory.
+    pub fn fill(&mut self, key: RowKey)
+        ensures { self.new ≡ self.old }
+    {
+        self.remember(key, false);
+    }
+
+    /// Gives up the slots of remembered keys whose rows were taken, if they have none, and has the others no longer ready, so that a snapshot can share them.
     /// Takes no memory.
     pub fn sweep(&mut self)
         ensures rows { self.new.rows ≡ self.old.rows }
         ensures ordinals { self.new.ordinals ≡ self.old.ordinals }
         ensures room { self.new.room ≡ self.old.room }
     {
-        sweep_slots(&mut self.stored, self.freed.as_slice());
-        close_slots(&mut self.stored, &mut self.freed);
+        sweep_slots(&mut self.stored, self.changed.as_slice());
+        close_slots(&mut self.stored, &mut self.changed);
     }
 
     /// The table as it is now, whatever is changed in either later. Takes the same time for any number of rows in slots. No slot is ready
@@ -230,7 +271,7 @@ impl TableRows {
         Ok(TableRows {
             stored,
             unslotted,
-            freed: Vec::new(alloc),
+            changed: Vec::new(alloc),
         })
     }
 }

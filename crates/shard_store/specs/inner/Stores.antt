@@ -1,19 +1,16 @@
--- Changes as removals and additions.
-use Rattle.std.specs.Prelude.{◌≡◌, ℕ, List, [], ◌∷◌, flat_map}
+-- Changes that do the same.
+use Rattle.std.specs.Prelude.{◌≡◌, ◌<◌, ℕ, List}
+use Rattle.std.specs.List.{AllByRecursion}
 use Rattle.vt_value.specs.Values.{Row}
 use Rattle.vschema.specs.declared.changes.RowChange.{RowChange}
-use Rattle.vschema.specs.declared.changes.RowChange.TheVariants.{Added, Replaced, Removed}
 use Rattle.vschema.specs.declared.changes.Write.{Write}
 use Rattle.vschema.specs.declared.changes.Write.TheVariants.{Insert}
+use Rattle.vschema.specs.Database.{Database, changed_table, all_applied}
 
--- a row in another's place is its removal, and then the other's addition
-abbrev pub split : RowChange → List RowChange
-split (Added n row) = Added n row ∷ []
-split (Replaced n old new) = Removed n old ∷ Added n new ∷ []
-split (Removed n row) = Removed n row ∷ []
-
-abbrev pub all_split : List RowChange → List RowChange
-all_split changes = flat_map split changes
+-- changes that do in any database what others do, in no table beyond those of the others
+pub record DoTheSame (changes others : List RowChange) : Type 0 where
+  pub same : (db : Database) → all_applied changes db ≡ all_applied others db
+  pub there : (n : ℕ) → AllByRecursion (λ c. changed_table c < n) others → AllByRecursion (λ c. changed_table c < n) changes
 
 -- a write that adds these rows
 abbrev pub IsInsertOf : ℕ → List Row → Write → Type 0

@@ -1,10 +1,9 @@
-use Rattle.std.proofs.Common.{◌<◌, ◌∙◌, List, length, sym, ap, subst}
+use Rattle.std.proofs.Common.{◌<◌, length, sym, subst}
 use Rattle.std.specs.List.{AllByRecursion}
-use Rattle.vschema.specs.declared.changes.RowChange.{RowChange}
-use Rattle.vschema.specs.Database.{changed_table, all_applied}
+use Rattle.vschema.specs.Database.{changed_table}
 use Rattle.shard_store.specs.declared.key.KeyedChange.{KeyedChange}
 use Rattle.shard_store.specs.Stores.{change_in, HasReadySlot, HasRoomFor}
-use Rattle.shard_store.proofs.Splits.{keyed_there, same_split}
+use Rattle.shard_store.proofs.Splits.{keyed_there}
 use Rattle.shard_store.proofs.Tabled.{keys_ready}
 use Rattle.shard_store.proofs.stored.StoredTables.prepare.Goals as goal
 
@@ -15,7 +14,7 @@ reserve_all-requires c =
 
 pub returns-in-Ok-clause-ready : goal.returns-in-Ok-clause-ready
 returns-in-Ok-clause-ready c = record {
-  same = λ db. ap (λ (l : List RowChange). all_applied l db) c.in_ok-keyed.ensures.changes ∙ same_split c.args.changes.now db;
+  same = c.in_ok-keyed.ensures.changes.same;
   keys = keys_ready c.args.self.now c.reserve_all.new.self c.in-Ok.ensures.ordinals c.in_ok-keyed.keyed.items c.in_ok-keyed.ensures.keys
       (subst (AllByRecursion (HasReadySlot c.reserve_all.new.self)) c.as_slice.ensures.value c.in-Ok.ensures.ready);
   room = subst (HasRoomFor c.reserve_all.new.self) c.as_slice.ensures.value c.in-Ok.ensures.ok;

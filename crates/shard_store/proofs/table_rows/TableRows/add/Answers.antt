@@ -9,13 +9,13 @@ use Rattle.shard_store.proofs.table_rows.TableRows.add.Goals as goal
 
 pub add-requires : goal.add-requires
 add-requires c =
-    let p = ready_parts (is_some (slot_at c.self.inside.stored.ready c.args.key.now)) (is_some (slot_at c.self.inside.stored.slots c.args.key.now))
-    (list_any (has_key c.self.inside.stored.ordinals c.args.key.now.values) (rows_in c.self.inside.stored.slots)) c.can_take.result c.can_take.ensures c.if-can_take.true in
+    let p = ready_parts (is_some (slot_at c.self.inside.stored.ready c.args.key.now))
+    (list_any (has_key c.self.inside.stored.ordinals c.args.key.now.values) (rows_in c.self.inside.stored.slots)) c.can_take.result c.can_take.ensures.is c.if-can_take.true in
     record {
       at = subst (λ (t : RowsView). c.args.key.now.values ≡ key_at t.ordinals c.args.row) (sym c.self.view_is) c.requires.key;
-      slot = p.1;
+      slot = c.can_take.ensures.slot c.if-can_take.true;
       ready = p.0;
-      absent = p.2;
+      absent = p.1;
     }
 
 pub returns-then-can_take-clause-rows : goal.returns-then-can_take-clause-rows

@@ -12,14 +12,14 @@ returns-then-holds-clause-rows c =
     let s = rows_in c.self.inside.stored.slots in
     let b = c.self.inside.unslotted.items in
     subst (λ (rows : List Row). IsPermutation (rows_in c.remove.new.self.slots ++ b) (without c.args.row.now rows)) (ap (λ (t : RowsView). t.rows) c.self.view_is)
-    (any_of_perm_left c.args.row.now s b (rows_in c.remove.new.self.slots) c.remove.ensures.rows (sym c.holds.ensures ∙ c.if-holds.true))
+    (any_of_perm_left c.args.row.now s b (rows_in c.remove.new.self.slots) c.remove.ensures.rows (sym c.holds.ensures.is ∙ c.if-holds.true))
 
 pub returns-in-Some-clause-rows : goal.returns-in-Some-clause-rows
 returns-in-Some-clause-rows c =
     let s = rows_in c.self.inside.stored.slots in
     let b = c.self.inside.unslotted.items in
     let is = rw c.as_slice.ensures.value at c.ordinal_of.ensures in
-    let right : without c.args.row.now (s ++ b) ≡ s ++ without c.args.row.now b = without_right c.args.row.now s b (sym c.holds.ensures ∙ c.if-holds.false) in
+    let right : without c.args.row.now (s ++ b) ≡ s ++ without c.args.row.now b = without_right c.args.row.now s b (sym c.holds.ensures.is ∙ c.if-holds.false) in
     let now : c.remove-in-Some.new.self.items ≡ without c.args.row.now b =
     c.remove-in-Some.ensures.items ∙ without-found c.args.row.now b _ c.in-Some.ordinal is c.in-Some.is in
     subst (λ (rows : List Row). IsPermutation (s ++ c.remove-in-Some.new.self.items) (without c.args.row.now rows)) (ap (λ (t : RowsView). t.rows) c.self.view_is)
@@ -30,6 +30,6 @@ returns-in_default-clause-rows c =
     let s = rows_in c.self.inside.stored.slots in
     let b = c.self.inside.unslotted.items in
     let is = rw c.as_slice.ensures.value at c.ordinal_of.ensures in
-    let right : without c.args.row.now (s ++ b) ≡ s ++ without c.args.row.now b = without_right c.args.row.now s b (sym c.holds.ensures ∙ c.if-holds.false) in
+    let right : without c.args.row.now (s ++ b) ≡ s ++ without c.args.row.now b = without_right c.args.row.now s b (sym c.holds.ensures.is ∙ c.if-holds.false) in
     subst (λ (rows : List Row). IsPermutation rows (without c.args.row.now rows)) (ap (λ (t : RowsView). t.rows) c.self.view_is)
     (subst (IsPermutation (s ++ b)) (ap (λ (z : List Row). s ++ z) (without-unfound c.args.row.now b _ is c.in_default.not-Some) ∙ sym right) (IsPermutation-refl (s ++ b)))
