@@ -2,3 +2,4 @@ mod Changes
 mod Copies
 mod Shelf
 mod Counts
+pub mod Dropped

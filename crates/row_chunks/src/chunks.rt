@@ -245,13 +245,34 @@ impl<K: Ord + Same, V: Same> Chunks<K, V> {
         self.list[place].set(key, value);
     }
 
-    /// Takes the changeable entry of a key out. Takes no memory.
+    // Takes the changeable entry of a key out of its chunk, and tells which chunk that is.
+    fn remove_from_chunk(&mut self, key: &K) -> usize
+        requires { IsSome (lookup (is_at (K.cmp key.now)) (open_of self.old)) }
+        ensures all { all_of self.new ≡ remove_entry (is_at (K.cmp key.now)) (all_of self.old) }
+        ensures fits { result < length self.new }
+    {
+        let place = self.open_place(key);
+        self.list[place].remove(key);
+        place
+    }
+
+    // Gives a chunk up that has no entries.
+    fn give_up_if_empty(&mut self, place: usize)
+        requires { place < length self.old }
+        ensures { all_of self.new ≡ all_of self.old }
+    {
+        if self.list[place].rows().is_empty() {
+            self.list.remove(place);
+        }
+    }
+
+    /// Takes the changeable entry of a key out, and gives its chunk up if that was the last one there. Takes no memory.
     pub fn remove(&mut self, key: &K)
         requires { IsSome (lookup (is_at (K.cmp key.now)) (open_of self.old)) }
         ensures { all_of self.new ≡ remove_entry (is_at (K.cmp key.now)) (all_of self.old) }
     {
-        let place = self.open_place(key);
-        self.list[place].remove(key);
+        let place = self.remove_from_chunk(key);
+        self.give_up_if_empty(place);
     }
 
     // Makes a chunk shareable.
