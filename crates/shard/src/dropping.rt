@@ -5,7 +5,7 @@ ghost use Rattle.shard_run.specs.Runs.{mode};
 use crate::state::ShardState;
 use crate::world::World;
 use journal::Naming;
-use shard_contents::Contents;
+use shard_contents::{Contents, StoredEntries};
 use shard_run::Mode;
 use shard_store::StoredTables;
 
@@ -17,9 +17,9 @@ fn empty(contents: &mut Contents)
     ensures shard { contents.new.shard ≡ contents.old.shard }
     ensures limits { contents.new.limits ≡ contents.old.limits }
 {
-    let alloc = *contents.stored.allocator();
+    let alloc = *contents.steps.allocator();
     contents.store = StoredTables::new(alloc);
-    contents.stored = Vec::new(alloc);
+    contents.stored = StoredEntries::new(alloc);
     contents.steps = Vec::new(alloc);
     contents.mode = Mode::Dropped;
 }

@@ -22,7 +22,8 @@ use crate::snapshot::{BegunRead, MOST_ROWS_UNDER_LOCK, Snapshot};
 use crate::world::{ShardLaw, ShardPass, World};
 use journal::{Naming, ShardSeat};
 use shard_contents::{
-    CommitOutcome, Contents, ReadOutcome, Reading, SortedTables, StatementId, TargetStep,
+    CommitOutcome, Contents, ReadOutcome, Reading, SortedTables, StatementId, StoredEntries,
+    TargetStep,
 };
 use shard_law::Limits;
 use shard_run::{Entry, Event, Follow, Mode, ShardRecord};
@@ -104,7 +105,7 @@ pub(crate) fn append_event<W: World, J: Naming>(
             keyspace: contents.shard.place.keyspace,
             range: contents.shard.place.range,
         },
-        sources: Items::new(*contents.stored.allocator()),
+        sources: Items::new(*contents.steps.allocator()),
     };
     let shard = replace(&mut contents.shard, none);
     let entry = Entry { shard, event };
@@ -162,7 +163,7 @@ impl<W: World, J: Naming> ShardState<W, J> {
             shard,
             store,
             mode: first_mode,
-            stored: Vec::new(alloc),
+            stored: StoredEntries::new(alloc),
             steps: Vec::new(alloc),
             limits,
         };

@@ -53,7 +53,7 @@ impl<W: World, J: Naming> ShardState<W, J> {
         if !takes(self.contents.mode) {
             return Err(Refusal::ShardMoved);
         }
-        if tx.is_conflict(self.contents.stored.as_slice()) {
+        if tx.is_conflict(&self.contents.stored) {
             return Err(Refusal::Conflict);
         }
         Ok(entries)

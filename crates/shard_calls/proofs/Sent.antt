@@ -19,7 +19,7 @@ use Rattle.shard.specs.contracts.state.ShardState.TheInside as state_inside
 use Rattle.shard.specs.contracts.world.ShardLaw as law
 use Rattle.shard.specs.contracts.world.ShardLawLaw.TheImpl as laws
 use Rattle.shard_store.proofs.stored.StoredTables.TheSendSync as store
-use Rattle.shard_contents.proofs.kept_entry.KeptEntry.TheSendSync as kept
+use Rattle.shard_contents.proofs.stored_entries.StoredEntries.TheSendSync as stored
 use Rattle.shard_contents.proofs.sorted.SortedTables.TheSendSync as sorted
 use Rattle.shard_run.specs.contracts.Entry as entry
 use Rattle.shard_run.specs.contracts.ShardRecord as which
@@ -52,7 +52,7 @@ piece_send ℓ =
     (struct_send (shape (piece_inside.the_type ℓ)) (shr_send _ _ _ query_sync, (search (query_send, std.crosses, condition.crosses, sendable) depth 60 fits 20000, tt))))
 
 contents_send : IsSend contents.the_field.row
-contents_send = search (kept.the_send, store.the_send, std.crosses, sendable) depth 60 fits 20000
+contents_send = search (stored.the_send, store.the_send, std.crosses, sendable) depth 60 fits 20000
 
 targets_send : IsSend (items.the_field which.the_row).row
 targets_send = search (std.crosses, sendable) depth 60 fits 20000

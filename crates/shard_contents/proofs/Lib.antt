@@ -1,3 +1,4 @@
+mod ChangesSince
 pub mod Bags
 pub mod States
 pub mod Stores

@@ -8,3 +8,4 @@ pub mod Stores
 pub mod Transactions
 pub mod Earlier
 pub mod KeptConflicts
+pub mod LastChanges

@@ -12,9 +12,11 @@ ghost use Rattle.shard_contents.specs.Kept.{keep};
 ghost use Rattle.shard_contents.specs.KeptEntries.{kept_of};
 ghost use Rattle.shard_contents.specs.Commits.{inserted_rows, commit_entry};
 ghost use Rattle.shard_contents.specs.inner.Commits.{has_room, IsUnprepared};
+ghost use Rattle.shard_contents.specs.inner.LastChanges.{HasPlaceFor};
 
 use crate::copies::{copy_shard, one, with_owned};
 use crate::kept_entry::KeptEntry;
+use crate::stored_entries::StoredEntries;
 use crate::target_steps::{TargetStep, keep};
 use shard_law::{Limits, MOST_ENTRIES};
 use shard_run::{Commit, Entry, Event, Follow, Mode, ShardRecord};
@@ -29,7 +31,7 @@ pub struct Contents {
     pub shard: ShardRecord,
     pub store: StoredTables,
     pub mode: Mode,
-    pub stored: Vec<KeptEntry>,
+    pub stored: StoredEntries,
     // how far a target has come with its sources
     pub steps: Vec<TargetStep>,
     pub limits: Limits,
@@ -97,7 +99,7 @@ impl Contents {
     // Whether one more stored entry with this write passes no limit.
     fn has_room(&self, entries: u64, write: &Write) -> bool
         requires { row_count self.now.store.rows ≤ self.now.limits.rows }
-        ensures { result ≡ has_room self.now.limits entries (vec_len self.now.stored) (row_count self.now.store.rows) write.now }
+        ensures { result ≡ has_room self.now.limits entries (length self.now.stored.items) (row_count self.now.store.rows) write.now }
     {
         let left = self.limits.rows - self.store.row_count() as u64;
         entries < MOST_ENTRIES
@@ -116,8 +118,8 @@ impl Contents {
         requires there { written_table write.now < length schema.now.tables }
         requires within { row_count self.now.store.rows ≤ self.now.limits.rows }
         ensures changes { IfOk result (λ changes. changes_of schema.now write.now self.now.store.rows ≡ Ok changes) }
-        ensures limits { OnOk result (IsTrue (has_room self.now.limits entries (vec_len self.now.stored) (row_count self.now.store.rows) write.now)) }
-        ensures err { IfErr result (IsUnprepared schema.now self.now.limits entries (vec_len self.now.stored) self.now.store.rows write.now) }
+        ensures limits { OnOk result (IsTrue (has_room self.now.limits entries (length self.now.stored.items) (row_count self.now.store.rows) write.now)) }
+        ensures err { IfErr result (IsUnprepared schema.now self.now.limits entries (length self.now.stored.items) self.now.store.rows write.now) }
     {
         let ordinal = written_table(write);
         let table = &schema.tables.as_slice()[ordinal];
@@ -142,9 +144,9 @@ impl Contents {
         ensures changes { IfOk result (λ r. changes_of schema.now write.now self.old.store.rows ≡ Ok r.0) }
         ensures kept { IfOk result (λ r. r.1.0 ≡ r.0) }
         ensures ready { IfOk result (λ r. IsReadyFor self.new.store r.0 r.1.1.items) }
-        ensures one_more { OnOk result (vec_len self.new.stored < vec_capacity self.new.stored) }
-        ensures limits { OnOk result (IsTrue (has_room self.old.limits entries (vec_len self.old.stored) (row_count self.old.store.rows) write.now)) }
-        ensures err { IfErr result (IsUnprepared schema.now self.old.limits entries (vec_len self.old.stored) self.old.store.rows write.now) }
+        ensures one_more { IfOk result (λ r. HasPlaceFor self.new.stored r.1.0) }
+        ensures limits { OnOk result (IsTrue (has_room self.old.limits entries (length self.old.stored.items) (row_count self.old.store.rows) write.now)) }
+        ensures err { IfErr result (IsUnprepared schema.now self.old.limits entries (length self.old.stored.items) self.old.store.rows write.now) }
         ensures shard { self.new.shard ≡ self.old.shard }
         ensures rows { self.new.store.rows ≡ self.old.store.rows }
         ensures mode { self.new.mode ≡ self.old.mode }
@@ -175,9 +177,9 @@ impl Contents {
         ensures count { IfOk result (λ p. p.count ≡ length (held_changes p.entry.event)) }
         ensures kept { IfOk result (λ p. p.kept ≡ kept_of p.entry) }
         ensures ready { IfOk result (λ p. IsReadyFor self.new.store (held_changes p.entry.event) p.changes.items) }
-        ensures one_more { OnOk result (vec_len self.new.stored < vec_capacity self.new.stored) }
-        ensures limits { OnOk result (IsTrue (has_room self.old.limits entries (vec_len self.old.stored) (row_count self.old.store.rows) write)) }
-        ensures err { IfErr result (IsUnprepared schema.now self.old.limits entries (vec_len self.old.stored) self.old.store.rows write) }
+        ensures one_more { IfOk result (λ p. HasPlaceFor self.new.stored p.kept) }
+        ensures limits { OnOk result (IsTrue (has_room self.old.limits entries (length self.old.stored.items) (row_count self.old.store.rows) write)) }
+        ensures err { IfErr result (IsUnprepared schema.now self.old.limits entries (length self.old.stored.items) self.old.store.rows write) }
         ensures shard { self.new.shard ≡ self.old.shard }
         ensures rows { self.new.store.rows ≡ self.old.store.rows }
         ensures mode { self.new.mode ≡ self.old.mode }
@@ -204,7 +206,7 @@ impl Contents {
         ensures entry { IfOk result (λ p. p.entry ≡ record { shard = self.old.shard; event = Event.Follow taken }) }
         ensures kept { IfOk result (λ p. p.kept ≡ kept_of p.entry) }
         ensures ready { IfOk result (λ p. IsReadyFor self.new.store (held_changes p.entry.event) p.changes.items) }
-        ensures one_more { OnOk result (vec_len self.new.stored < vec_capacity self.new.stored) }
+        ensures one_more { IfOk result (λ p. HasPlaceFor self.new.stored p.kept) }
         ensures one_step { OnOk result (vec_len self.new.steps < vec_capacity self.new.steps) }
         ensures err { IfErr result (λ e. e ≡ Refusal.OutOfMemory) }
         ensures shard { self.new.shard ≡ self.old.shard }
@@ -233,7 +235,7 @@ impl Contents {
     pub fn take(&mut self, prepared: Prepared) -> u64
         requires ready { IsReadyFor self.old.store (held_changes prepared.entry.event) prepared.changes.items }
         requires kept { prepared.kept ≡ kept_of prepared.entry }
-        requires one_more { vec_len self.old.stored < vec_capacity self.old.stored }
+        requires one_more { HasPlaceFor self.old.stored prepared.kept }
         ensures count { result ≡ prepared.count }
         ensures rows { SameRows self.new.store.rows (all_applied (held_changes prepared.entry.event) self.old.store.rows) }
         ensures stored { self.new.stored.items ≡ self.old.stored.items ++ kept_of prepared.entry ∷ [] }
@@ -256,7 +258,7 @@ impl Contents {
     pub fn take_step(&mut self, prepared: Prepared, step: TargetStep)
         requires ready { IsReadyFor self.old.store (held_changes prepared.entry.event) prepared.changes.items }
         requires kept { prepared.kept ≡ kept_of prepared.entry }
-        requires one_more { vec_len self.old.stored < vec_capacity self.old.stored }
+        requires one_more { HasPlaceFor self.old.stored prepared.kept }
         requires one_step { vec_len self.old.steps < vec_capacity self.old.steps }
         ensures rows { SameRows self.new.store.rows (all_applied (held_changes prepared.entry.event) self.old.store.rows) }
         ensures stored { self.new.stored.items ≡ self.old.stored.items ++ kept_of prepared.entry ∷ [] }

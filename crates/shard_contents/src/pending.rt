@@ -1,11 +1,11 @@
 //! A transaction that isn't committed: what it has touched, for conflicts, and what it has written.
 ghost use Rattle.std.specs.Prelude.{◌≡◌, false, ◌↔◌, ◌++◌, ◌+◌, ◌<◌, ◌≤◌, ◌∷◌, [], IfOk, IfErr, OnOk, OnErr, length, vec_len, vec_capacity};
 ghost use Rattle.shard_contents.specs.Transactions.{nothing_done, is_touched, touched_with, touched_all};
-ghost use Rattle.shard_contents.specs.inner.KeptConflicts.{keeps_table, is_changed_since, is_conflict_since};
+ghost use Rattle.shard_contents.specs.inner.KeptConflicts.{is_changed_since, is_conflict_since};
 ghost use Rattle.vschema.specs.Sources.{source_tables};
 
 use crate::copies::{copy_changes, with_owned};
-use crate::kept_entry::KeptEntry;
+use crate::stored_entries::StoredEntries;
 use crate::touched_table::Touch;
 use std::alloc::Global;
 use std::marker::Model;
@@ -31,25 +31,6 @@ impl Model for Pending {
     ghost coded = { Prim.hlevel (codes, write.the_row.coded) };
 
     ghost view = { λ p. record { touched = p.touched.items; writes = p.writes.items; changes = p.changes.items } };
-}
-
-// Whether the entry changes a row of the table at an ordinal.
-fn keeps_table(ordinal: usize, entry: &KeptEntry) -> bool
-    ensures { result ≡ keeps_table ordinal entry.now }
-{
-    entry
-        .changes()
-        .iter()
-        .any(|change| change.table() == ordinal)
-}
-
-fn is_changed_since(stored: &[KeptEntry], touch: &Touch) -> bool
-    ensures { result ≡ is_changed_since stored.now touch.now }
-{
-    stored
-        .iter()
-        .skip(touch.stored)
-        .any(|entry| keeps_table(touch.table, entry))
 }
 
 fn is_touched(touched: &[Touch], ordinal: usize) -> bool
@@ -111,12 +92,12 @@ impl Pending {
     }
 
     /// Whether an entry that the shard has stored since a touch changes a row of the touched table.
-    pub fn is_conflict(&self, stored: &[KeptEntry]) -> bool
-        ensures { result ≡ is_conflict_since stored.now self.now.touched }
+    pub fn is_conflict(&self, stored: &StoredEntries) -> bool
+        ensures { result ≡ is_conflict_since stored.now.items self.now.touched }
     {
         self.touched
             .iter()
-            .any(|touch| is_changed_since(stored, touch))
+            .any(|touch| stored.is_changed_since(touch))
     }
 
     /// Touches the tables that a query is over, when the shard has stored so many entries. Refuses for want of memory; then nothing has

@@ -1,5 +1,5 @@
 //! What a transaction's commit needs before its entry is appended.
-ghost use Rattle.std.specs.Prelude.{◌≡◌, ◌+◌, ◌<◌, ◌≤◌, nat_le, ◌^◌, ◌++◌, ◌∷◌, [], true, IfOk, IfErr, OnOk, OnErr, length, vec_len, vec_capacity, count_by};
+ghost use Rattle.std.specs.Prelude.{◌≡◌, ◌+◌, ◌<◌, ◌≤◌, nat_le, ◌^◌, ◌++◌, ◌∷◌, [], true, IfOk, IfErr, OnOk, OnErr, length, count_by};
 ghost use Rattle.std.specs.List.{AllByRecursion};
 ghost use Rattle.vschema.specs.Database.{changed_table};
 ghost use Rattle.shard_run.specs.Openings.{row_count};
@@ -9,6 +9,7 @@ ghost use Rattle.shard_contents.specs.KeptEntries.{kept_of};
 ghost use Rattle.shard_contents.specs.Transactions.{entry_of};
 ghost use Rattle.shard_contents.specs.Commits.{is_added, is_removed};
 ghost use Rattle.shard_contents.specs.inner.Transactions.{has_room_for, IsAllUnprepared};
+ghost use Rattle.shard_contents.specs.inner.LastChanges.{HasPlaceFor};
 
 use crate::contents::{Contents, Prepared, StatementId};
 use crate::copies::copy_shard;
@@ -84,7 +85,7 @@ impl Contents {
     /// Whether one more stored entry with these changes passes no limit, once the shard has so many entries.
     pub fn has_room_for(&self, entries: u64, changes: &[RowChange]) -> bool
         requires most { self.now.limits.rows ≤ 2 ^ 20 }
-        ensures { result ≡ has_room_for self.now.limits entries (vec_len self.now.stored) (row_count self.now.store.rows) changes.now }
+        ensures { result ≡ has_room_for self.now.limits entries (length self.now.stored.items) (row_count self.now.store.rows) changes.now }
     {
         entries < MOST_ENTRIES
             && (self.stored.len() as u64) < self.limits.stored
@@ -100,7 +101,7 @@ impl Contents {
         requires { AllByRecursion (λ c. changed_table c < length self.old.store.rows) changes.now }
         ensures kept { IfOk result (λ r. r.0 ≡ changes.now) }
         ensures ready { IfOk result (λ r. IsReadyFor self.new.store changes.now r.1.items) }
-        ensures one_more { OnOk result (vec_len self.new.stored < vec_capacity self.new.stored) }
+        ensures one_more { IfOk result (λ r. HasPlaceFor self.new.stored r.0) }
         ensures err { IfErr result (λ e. e ≡ Refusal.OutOfMemory) }
         ensures shard { self.new.shard ≡ self.old.shard }
         ensures rows { self.new.store.rows ≡ self.old.store.rows }
@@ -109,8 +110,8 @@ impl Contents {
         ensures steps { self.new.steps.items ≡ self.old.steps.items }
         ensures same_limits { self.new.limits ≡ self.old.limits }
     {
-        self.stored.reserve(1)?;
         let kept = KeptEntry::new(alloc, changes)?;
+        self.stored.reserve(&kept)?;
         let keyed = self.store.prepare(alloc, kept.changes())?;
         Ok((kept, keyed))
     }
@@ -131,9 +132,9 @@ impl Contents {
         ensures kept { IfOk result (λ p. p.kept ≡ kept_of p.entry) }
         ensures entry { IfOk result (λ p. p.entry ≡ entry_of self.old.shard statement_id.session statement_id.number tx.old.writes tx.old.changes) }
         ensures ready { IfOk result (λ p. IsReadyFor self.new.store (held_changes p.entry.event) p.changes.items) }
-        ensures one_more { OnOk result (vec_len self.new.stored < vec_capacity self.new.stored) }
-        ensures limits { OnOk result (has_room_for self.old.limits entries (vec_len self.old.stored) (row_count self.old.store.rows) tx.old.changes ≡ true) }
-        ensures err { IfErr result (IsAllUnprepared self.old.limits entries (vec_len self.old.stored) (row_count self.old.store.rows) tx.old.changes) }
+        ensures one_more { IfOk result (λ p. HasPlaceFor self.new.stored p.kept) }
+        ensures limits { OnOk result (has_room_for self.old.limits entries (length self.old.stored.items) (row_count self.old.store.rows) tx.old.changes ≡ true) }
+        ensures err { IfErr result (IsAllUnprepared self.old.limits entries (length self.old.stored.items) (row_count self.old.store.rows) tx.old.changes) }
         ensures unchanged { OnErr result (tx.new ≡ tx.old) }
         ensures shard { self.new.shard ≡ self.old.shard }
         ensures rows { self.new.store.rows ≡ self.old.store.rows }

@@ -59,7 +59,7 @@ returns-clause-begun g c =
     let o = g.W.World.opening in
     let same = l.same_there o g.W.World.limits c.self.inside.seat inside c.self.invariant.0 _ c.self.view_is c.args.self.now.shard e.shard tx e.clear e.seen.legal [] in
     let stored : c.len-stored.result ≡ length (stored_on c.args.self.now.shard.slot c.check.new.self.seen) =
-    c.len-stored.ensures ∙ inside.stored.ok.0
+    c.len-stored.ensures
     ∙ l.stored_is o g.W.World.limits c.self.inside.seat inside c.self.invariant.0 _ c.self.view_is c.args.self.now.shard e.shard
     tx e.clear e.seen.legal in
     let begun : BegunReadIn = record { rows = c.in_ok-rows.rows; entries = c.in_ok-entries.entries; stored = c.len-stored.result } in

@@ -1,5 +1,5 @@
 use denote.Param.Send.{sendable}
-use Rattle.std.proofs.Common.{◌≡◌, ◌<◌, ◌≤◌, true, false, List, [], ◌∷◌, ◌++◌, length, vec_len, inr, refl, sym, ap, subst, ◌∙◌, arith, rules}
+use Rattle.std.proofs.Common.{◌≡◌, ◌<◌, ◌≤◌, true, false, List, [], ◌∷◌, ◌++◌, length, inr, refl, sym, ap, subst, ◌∙◌, arith, rules}
 use Rattle.std.specs.List.{AllByRecursion}
 use Rattle.vschema.specs.declared.changes.RowChange.{RowChange}
 use Rattle.vschema.specs.Database.{SameRows, Database, changed_table, all_applied}
@@ -79,7 +79,7 @@ invariant_of-self-2 g c =
     c.args.self.now c.self.view_is c.requires.following in
     let count = f.count_is o most c.self.inside.seat seat had c.self.inside.targets c.args.pass.now c.look-entries.new.pass c.self.invariant l.seen l.seat l.pass
     c.args.self.now c.self.view_is c.requires.following c.look-entries.result l.count in
-    let few = room_by_entries had.limits c.look-entries.result (vec_len had.stored) (row_count had.store.rows) c.as_slice-changes.result.now
+    let few = room_by_entries had.limits c.look-entries.result (length had.stored.items) (row_count had.store.rows) c.as_slice-changes.result.now
     (sym c.has_room_for.ensures ∙ c.if-not-has_room_for.false) in
     let ends = a.seen.2 ∙ ap (λ (e : Entry). a.seen.0 ++ e ∷ []) ok.entry in
     let shard_is = t.shard ∙ ok.shard in
@@ -114,9 +114,9 @@ returns-then-not-has_room_for-clause-err g c =
     inr (
       refl,
       f.passes g.W.World.opening g.W.World.limits c.self.inside.seat c.look-entries.new.self had c.self.inside.targets c.args.pass.now c.look-entries.new.pass
-          c.self.invariant l.seen l.seat l.pass c.args.self.now c.self.view_is c.requires.following c.args.taken c.requires.next c.look-entries.result (vec_len had.stored)
-          l.count had.stored.ok.0
-          (subst (λ (x : List RowChange). has_room_for had.limits c.look-entries.result (vec_len had.stored) (row_count had.store.rows) x ≡ false)
+          c.self.invariant l.seen l.seat l.pass c.args.self.now c.self.view_is c.requires.following c.args.taken c.requires.next c.look-entries.result (length had.stored.items)
+          l.count refl
+          (subst (λ (x : List RowChange). has_room_for had.limits c.look-entries.result (length had.stored.items) (row_count had.store.rows) x ≡ false)
           c.as_slice-changes.ensures no),
     )
 
@@ -152,8 +152,8 @@ returns-clause-rows g c apart =
     let count = f.held_then o most c.self.inside.seat c.look-entries.new.self had c.self.inside.targets c.args.pass.now c.look-entries.new.pass c.self.invariant l.seen
     l.seat l.pass c.args.self.now c.self.view_is c.requires.following taken c.requires.next run a.seen.1 in
     let fits = f.fits o most c.self.inside.seat c.look-entries.new.self had c.self.inside.targets c.args.pass.now c.look-entries.new.pass c.self.invariant l.seen
-    l.seat l.pass c.args.self.now c.self.view_is c.requires.following taken c.requires.next c.look-entries.result (vec_len had.stored)
-    (subst (λ (x : List RowChange). has_room_for had.limits c.look-entries.result (vec_len had.stored) (row_count had.store.rows) x ≡ true)
+    l.seat l.pass c.args.self.now c.self.view_is c.requires.following taken c.requires.next c.look-entries.result (length had.stored.items)
+    (subst (λ (x : List RowChange). has_room_for had.limits c.look-entries.result (length had.stored.items) (row_count had.store.rows) x ≡ true)
     c.as_slice-changes.ensures (sym c.has_room_for.ensures ∙ c.if-not-has_room_for.false)) in
     subst (λ (s : ShardRecord). row_count (shard_rows o c.append.new.pass.seen s) ≤ most.rows) shard_is
     (follow_within o most c.self.invariant.0.opens run (legal_is o run a.seen.1.legal) had.shard taken may c.append.new.pass.seen ends

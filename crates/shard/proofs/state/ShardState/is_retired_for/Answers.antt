@@ -11,6 +11,6 @@ returns g c e =
       s.targets,
       retired g.W.World.opening g.W.World.limits s.seat s.contents c.args.self.now c.self.invariant.0 c.self.view_is end s.targets c.self.invariant.1,
       subst (λ (l : List ShardRecord). Contains l c.args.target.now) c.as_slice.ensures (c.is_among.ensures e),
-      sym c.if-len-stored.false ∙ c.len.ensures ∙ s.contents.stored.ok.0
+      sym c.if-len-stored.false ∙ c.len.ensures
           ∙ stored_last g.W.World.opening g.W.World.limits s.seat s.contents c.args.self.now c.self.invariant.0 c.self.view_is end,
     )

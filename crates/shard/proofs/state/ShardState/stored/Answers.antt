@@ -4,5 +4,5 @@ use Rattle.shard.proofs.state.ShardState.stored.Goals as goal
 
 pub returns : goal.returns
 returns g c =
-    c.len.ensures ∙ c.self.inside.contents.stored.ok.0
+    c.len.ensures
     ∙ stored_told g.W.World.opening g.W.World.limits c.self.inside.seat c.self.inside.contents c.args.self.now c.self.invariant.0 c.self.view_is c.requires.lives

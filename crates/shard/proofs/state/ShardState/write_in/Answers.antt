@@ -51,4 +51,4 @@ returns-clause-written g c =
     c.as_slice-2.result.now c.as_slice-2.ensures
     (ap (λ (w : Write). changes_of c.args.schema.now w (all_applied c.as_slice.result.now c.self.inside.contents.store.rows)) made.1 ∙ over)
     c.written_table.result c.len.result c.len-2.result c.add.new.self (c.written_table.ensures ∙ ap written_table (sym made.1))
-    (c.len.ensures ∙ c.self.inside.contents.stored.ok.0) c.len-2.ensures c.in_ok-add.ensures.ok)
+    c.len.ensures c.len-2.ensures c.in_ok-add.ensures.ok)

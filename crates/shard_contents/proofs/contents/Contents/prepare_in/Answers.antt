@@ -1,4 +1,4 @@
-use Rattle.std.proofs.Common.{◌≡◌, List, vec_len, ap, sym, ◌∙◌}
+use Rattle.std.proofs.Common.{◌≡◌, List, length, ap, sym, ◌∙◌}
 use Rattle.std.proofs.lemmas.Result.{err_from_is_err_and}
 use Rattle.vschema.specs.declared.changes.RowChange.{RowChange}
 use Rattle.shard_run.specs.Openings.{row_count}
@@ -17,5 +17,5 @@ returns-in-Err-clause-err c = rw c.in-Err.ensures.err no_memory
 pub returns-then-not-has_room_for-clause-err : goal.returns-then-not-has_room_for-clause-err
 returns-then-not-has_room_for-clause-err c =
     let changes : c.as_slice.result.now ≡ c.args.tx.now.changes = c.as_slice.ensures.value ∙ ap (λ (x : PendingView). x.changes) c.tx.view_is in
-    full (ap (λ (l : List RowChange). has_room_for c.args.self.now.limits c.args.entries (vec_len c.args.self.now.stored) (row_count c.args.self.now.store.rows) l)
+    full (ap (λ (l : List RowChange). has_room_for c.args.self.now.limits c.args.entries (length c.args.self.now.stored.items) (row_count c.args.self.now.store.rows) l)
     (sym changes) ∙ sym c.if-not-has_room_for.ensures)

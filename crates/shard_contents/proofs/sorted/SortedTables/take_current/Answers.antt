@@ -6,7 +6,7 @@ use Rattle.shard_contents.proofs.sorted.SortedTables.take_current.Goals as goal
 pub bring_forward-requires : goal.bring_forward-requires
 bring_forward-requires c =
     let had = c.in-Some.ensures.taken.1 c.args.contents.now.stored.items c.args.contents.now.store.rows c.requires.had in
-    subst (λ (l : List (List RowChange)). c.in-Some.sorted.stored ≤ length l) (sym c.as_slice.ensures.value) had.within
+    subst (λ (l : List (List RowChange)). c.in-Some.sorted.stored ≤ length l) (sym c.as_slice.ensures) had.within
 
 pub returns-in_err-bring_forward-in-Some-clause-had : goal.returns-in_err-bring_forward-in-Some-clause-had
 returns-in_err-bring_forward-in-Some-clause-had c = c.take.ensures.had c.args.contents.now.stored.items c.args.contents.now.store.rows c.requires.had
@@ -20,7 +20,7 @@ returns-in_ok-bring_forward-in-Some-clause-ok c =
     let taken = c.in-Some.ensures.taken in
     let ok = c.in_ok-bring_forward-in-Some.ensures in
     has_now stored c.args.contents.now.store.rows c.args.place c.in-Some.sorted c.bring_forward.new.self c.requires.there taken.0
-    (taken.1 stored c.args.contents.now.store.rows c.requires.had) c.as_slice.result.now c.as_slice.ensures.value ok.table ok.stored ok.rows
+    (taken.1 stored c.args.contents.now.store.rows c.requires.had) c.as_slice.result.now c.as_slice.ensures ok.table ok.stored ok.rows
 
 pub returns-in-None-clause-had : goal.returns-in-None-clause-had
 returns-in-None-clause-had c = c.take.ensures.had c.args.contents.now.stored.items c.args.contents.now.store.rows c.requires.had
