@@ -225,8 +225,65 @@ fn read_in_turn<W: World, J: Naming, G: Gate>(
     Ok(done)
 }
 
-/// Each shard's answer: of one shard, or of few rows each, read by this thread; else each in a thread of its own where one can be started.
-/// Refuses only for want of memory.
+// Each shard's answer, each read in a thread of its own where one can be started.
+fn read_at_once<R: Threads + Wait + Sync, W: World + Send + Sync, J: Naming + Send + Sync, G: Gate>(
+    rt: &R,
+    alloc: Global,
+    gate: &G,
+    jobs: Vec<ReadJob<W, J>>,
+) -> Result<Vec<ReadResult<W, J>>, Refusal>
+    ensures ok { IfOk result (λ done. AllZip (λ job d. IsReadingOf W.opening (record { slot = job.shard.now.0; place = place_at job.shard.now; query = job.query; pass = job.pass }) (record { slot = d.slot; pass = d.pass; outcome = d.outcome })) jobs.entry.items done.items) }
+    ensures err { IfErr result (λ e. e ≡ Refusal.OutOfMemory) }
+{
+    let done = thread::map_vec(
+        rt,
+        jobs,
+        &|job: ReadJob<W, J>| -> ReadResult<W, J>
+            ensures { IsReadingOf W.opening (record { slot = job.entry.shard.now.0; place = place_at job.entry.shard.now; query = job.entry.query; pass = job.entry.pass }) (record { slot = result.slot; pass = result.pass; outcome = result.outcome }) }
+        { read_one(rt, alloc, gate, job) },
+    )?;
+    Ok(done)
+}
+
+// Each shard's answer, of which so many are read at once, then the next ones.
+fn read_some_at_once<
+    R: Threads + Wait + Sync,
+    W: World + Send + Sync,
+    J: Naming + Send + Sync,
+    G: Gate,
+>(
+    rt: &R,
+    alloc: Global,
+    gate: &G,
+    jobs: Vec<ReadJob<W, J>>,
+    most: usize,
+) -> Result<Vec<ReadResult<W, J>>, Refusal>
+    ensures ok { IfOk result (λ done. AllZip (λ job d. IsReadingOf W.opening (record { slot = job.shard.now.0; place = place_at job.shard.now; query = job.query; pass = job.pass }) (record { slot = d.slot; pass = d.pass; outcome = d.outcome })) jobs.entry.items done.items) }
+    ensures err { IfErr result (λ e. e ≡ Refusal.OutOfMemory) }
+{
+    let mut done = Vec::with_capacity(alloc, jobs.len())?;
+    let mut next = Vec::new(alloc);
+    for job in jobs {
+        next.push(job)?;
+        if next.len() >= most {
+            done.append(&mut read_at_once(rt, alloc, gate, next)?)?;
+            next = Vec::new(alloc);
+        }
+    }
+    done.append(&mut read_at_once(rt, alloc, gate, next)?)?;
+    Ok(done)
+}
+
+// How many processors there are; 1 where the system doesn't say.
+fn processors(rt: &impl Threads) -> usize {
+    match thread::available_parallelism(rt) {
+        Ok(count) => count.get(),
+        Err(_) => 1,
+    }
+}
+
+/// Each shard's answer: of one shard, or of few rows each, read by this thread; else as many at once as the gate says, each in a thread of
+/// its own where one can be started. Refuses only for want of memory.
 pub fn read_all<R: Threads + Wait + Sync, W: World + Send + Sync, J: Naming + Send + Sync, G: Gate>(
     rt: &R,
     alloc: Global,
@@ -239,14 +296,11 @@ pub fn read_all<R: Threads + Wait + Sync, W: World + Send + Sync, J: Naming + Se
     if jobs.len() < 2 || are_small(jobs.as_slice(), gate.few_rows()) {
         return read_in_turn(rt, alloc, gate, jobs);
     }
-    let done = thread::map_vec(
-        rt,
-        jobs,
-        &|job: ReadJob<W, J>| -> ReadResult<W, J>
-            ensures { IsReadingOf W.opening (record { slot = job.entry.shard.now.0; place = place_at job.entry.shard.now; query = job.entry.query; pass = job.entry.pass }) (record { slot = result.slot; pass = result.pass; outcome = result.outcome }) }
-        { read_one(rt, alloc, gate, job) },
-    )?;
-    Ok(done)
+    let most = gate.most_at_once(processors(rt));
+    if most < 2 {
+        return read_in_turn(rt, alloc, gate, jobs);
+    }
+    read_some_at_once(rt, alloc, gate, jobs, most)
 }
 
 /// What the shards gave, with all that their passes have seen and their looks joined into the session's pass; nothing where one of them

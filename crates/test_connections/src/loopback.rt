@@ -86,9 +86,13 @@ impl Gate for HoldsFirst<'_> {
 
     fn after(&self, _turn: usize) {}
 
-    // Each read is made in a thread of its own.
+    // Each read is made in a thread of its own, all at once.
     fn few_rows(&self) -> usize {
         0
+    }
+
+    fn most_at_once(&self, _processors: usize) -> usize {
+        usize::MAX
     }
 }
 

@@ -90,8 +90,12 @@ impl Gate for HoldsFirst {
         }
     }
 
-    // Each read is made in a thread of its own.
+    // Each read is made in a thread of its own, all at once.
     fn few_rows(&self) -> usize {
         0
+    }
+
+    fn most_at_once(&self, _processors: usize) -> usize {
+        usize::MAX
     }
 }

@@ -6,7 +6,7 @@ use Rattle.shard_calls.specs.contracts.scatter.ReadResult as done
 use Rattle.std.proofs.Common.{◌∙◌, sym}
 use Rattle.shard_calls.proofs.Sent.{job_send, done_send}
 use Rattle.shard_calls.proofs.Workers.{pairs}
-use Rattle.shard_calls.proofs.scatter.read_all.Goals as goal
+use Rattle.shard_calls.proofs.scatter.read_at_once.Goals as goal
 
 pub map_vec-requires-send-J : goal.map_vec-requires-send-J
 map_vec-requires-send-J g c κs within = param_send 1 _ (arg_send _ no (job.the_row _ (param 1 g.row.W) (param 2 g.row.J) g.W.World g.J.Naming) (job_send (param 1 g.row.W) (param 2 g.row.J) g.W.World g.J.Naming _))
